@@ -13,7 +13,11 @@
  * the stretch isn't the whole heap, they are not built with this chunk, so that no walk follows the packing. A
  * chunk that is to be larger than it and the free chunks behind it goes where a new one would go; else its
  * stretch is packed, and what is behind it is lifted in one move; else another stretch is packed. No chunk here is
- * fixed, so that a name of no slot names nothing.
+ * fixed but further tables, so that a name of no slot names nothing.
+ *
+ * Further tables are remembered by their places, so that a slot of theirs is found without a walk along the chain. The
+ * search for an empty slot begins with the table of the slot that was given last, unless one before it may be empty. The
+ * last slot of a further table that was freed is given first.
  */
 #ifndef HEAP_H
 #define HEAP_H
@@ -31,10 +35,17 @@ enum { MAX_SIZE = 16777208, HEADER = 8, DATABASE = 15, FIXED = 15 };
 /* How many classes of sizes free chunks have. */
 enum { CLASSES = 21 };
 
+/* What the word `next` of a table takes, and how many slots a table has that is made. */
+enum { NEXT = 4, TABLE_SLOTS = 15 };
+
+/* How many tables are remembered at most, each by the block of so many bytes in which its body begins. */
+enum { KNOWN = 8192, BLOCK = 64 };
+
 /* How many chunks of a list are looked at, at most, for one that a chunk grows over; and more than any list has. */
 enum { FEW_PROBES = 64, ALL_PROBES = 0x200000 };
 
 static const uint32_t MAGIC = 0x50484931;
+static const uint32_t CHAINED_MAGIC = 0x50484932;
 static const uint32_t FREE_BIT = 0x80000000;
 
 /* Why a call was refused, by the numbers of heap_model's Refusal. */
@@ -61,13 +72,20 @@ enum refusal {
     RESOURCE_NOT_FOUND = 23,
 };
 
-/* An image that is an accepted heap. The slots of all numbers below `lowest` are in use. A list begins at
- * each head that isn't 0; all free chunks were in their lists when they were `built`. A stretch was `packed`
- * for the next chunk that is made. */
+/* The slots of a table: where it is, 0 for the first one, and how many slots are before its own. */
+struct row {
+    uint32_t table, before;
+};
+
+/* An image that is an accepted heap. The slots of all numbers below `lowest` are in use. The last slot was given in
+ * the `row`. The slot `freed` is a further table's that was freed last, or 0. A list begins at each head that isn't 0; all free chunks were in their lists when they were `built`. A
+ * stretch was `packed` for the next chunk that is made. */
 struct heap {
     uint8_t *image;
     uint32_t len;
-    uint32_t lowest;
+    uint32_t lowest, freed;
+    struct row row;
+    uint32_t known[KNOWN];
     uint32_t heads[CLASSES];
     bool built, packed;
 };
@@ -103,9 +121,19 @@ static uint32_t slot_count(const struct heap *heap)
     return u16_at(heap->image, 8);
 }
 
-static uint32_t area_start(uint32_t slots)
+static bool is_chained(const struct heap *heap)
 {
-    return (16 + 4 * slots + 7) / 8 * 8;
+    return u32_at(heap->image, 0) == CHAINED_MAGIC;
+}
+
+static uint32_t start_behind(uint32_t slots, bool chained)
+{
+    return (16 + 4 * slots + (chained ? NEXT : 0) + 7) / 8 * 8;
+}
+
+static uint32_t area_start(const struct heap *heap)
+{
+    return start_behind(slot_count(heap), is_chained(heap));
 }
 
 /* What a chunk with a body of `length` bytes takes, or 0 where no image has so much. */
@@ -129,6 +157,55 @@ static void put_free(struct heap *heap, uint32_t at, uint32_t size)
     put_u32(heap->image, at, FREE_BIT | size);
 }
 
+/* The word `next` behind the first table, 0 where there is none. */
+static uint32_t first_next(const struct heap *heap)
+{
+    return is_chained(heap) ? u32_at(heap->image, 16 + 4 * slot_count(heap)) : 0;
+}
+
+/* How many slots the further table at a place has. */
+static uint32_t slots_at(const struct heap *heap, uint32_t place)
+{
+    uint32_t word1 = u32_at(heap->image, place - 8);
+    return ((word1 & 0xFFFFFF) - HEADER - (word1 >> 24) - NEXT) / 4;
+}
+
+static bool is_slot_of(const struct heap *heap, uint32_t place, uint32_t name)
+{
+    return place != 0 && name > place && name % 4 == 0 &&
+           name < place + NEXT + 4 * slots_at(heap, place);
+}
+
+/* Remembers a table of 15 slots at least, unless another one stands in its entry. */
+static void remember(struct heap *heap, uint32_t place)
+{
+    uint32_t *entry = &heap->known[place / BLOCK % KNOWN];
+    if (*entry == 0 && slots_at(heap, place) >= TABLE_SLOTS)
+        *entry = place;
+}
+
+/* Whether one of the first slots of a table that is remembered is at an offset. Its body begins in the same block or
+ * in the one before. */
+static bool is_known_slot(const struct heap *heap, uint32_t name)
+{
+    uint32_t here = heap->known[name / BLOCK % KNOWN];
+    uint32_t before = heap->known[(name / BLOCK - 1) % KNOWN];
+    uint32_t place = here != 0 && here < name ? here : before;
+    uint32_t behind = name - place;
+    return place != 0 && behind < BLOCK && behind % 4 == 0 && behind != 0;
+}
+
+/* Whether a further table has a slot at an offset. */
+static bool is_further_slot(const struct heap *heap, uint32_t name)
+{
+    if (is_known_slot(heap, name))
+        return true;
+    for (uint32_t place = first_next(heap); place != 0; place = u32_at(heap->image, place))
+        if (is_slot_of(heap, place, name))
+            return true;
+    return false;
+}
+
 /* A movable chunk: where its body is, and its numbers. */
 struct found {
     uint32_t place, length, lock, owner;
@@ -137,7 +214,8 @@ struct found {
 /* The chunk that a name stands for, whoever owns it: the name is the offset of a slot that isn't empty. */
 static bool find_chunk(const struct heap *heap, uint32_t name, struct found *found)
 {
-    if (name < 16 || name >= 16 + 4 * slot_count(heap) || name % 4 != 0)
+    bool in_first = name >= 16 && name < 16 + 4 * slot_count(heap) && name % 4 == 0;
+    if (!in_first && (first_next(heap) == 0 || !is_further_slot(heap, name)))
         return false;
     uint32_t place = u32_at(heap->image, name);
     if (place < HEADER || place > heap->len)
@@ -155,7 +233,7 @@ static bool find_chunk(const struct heap *heap, uint32_t name, struct found *fou
 static bool find_run(const struct heap *heap, uint32_t size, uint32_t *run_at, uint32_t *run_size)
 {
     uint32_t run = 0;
-    uint32_t at = area_start(slot_count(heap));
+    uint32_t at = area_start(heap);
     while (at < heap->len) {
         uint32_t word1 = u32_at(heap->image, at);
         uint32_t chunk = word1 & 0xFFFFFF;
@@ -259,7 +337,7 @@ static void build(struct heap *heap)
     if (heap->built)
         return;
     drop_lists(heap);
-    for (uint32_t at = area_start(slot_count(heap)); at < heap->len;) {
+    for (uint32_t at = area_start(heap); at < heap->len;) {
         uint32_t size = free_run(heap, at);
         if (size == 0) {
             at += size_of_chunk(heap, at);
@@ -280,7 +358,7 @@ static bool stays(const struct heap *heap, uint32_t at)
 /* Finds the first stretch whose room has `size` bytes. */
 static bool find_stretch(const struct heap *heap, uint32_t size, uint32_t *start, uint32_t *end)
 {
-    uint32_t at = area_start(slot_count(heap));
+    uint32_t at = area_start(heap);
     uint32_t room = 0;
     for (*start = at; at < heap->len; at += size_of_chunk(heap, at)) {
         if (stays(heap, at)) {
@@ -326,7 +404,7 @@ static uint32_t pack(struct heap *heap, uint32_t start, uint32_t end, uint32_t *
     uint32_t moved = 0;
     *room = 0;
     drop_lists(heap);
-    heap->built = start == area_start(slot_count(heap)) && end == heap->len;
+    heap->built = start == area_start(heap) && end == heap->len;
     for (uint32_t at = start; at < end;) {
         uint32_t size = size_of_chunk(heap, at);
         if (is_free(heap, at)) {
@@ -370,34 +448,97 @@ static bool make_room(struct heap *heap, uint32_t size, uint32_t *run_at, uint32
     return find_run(heap, size, run_at, run_size);
 }
 
-/* Makes a chunk of zeros under the first empty slot, for any owner. */
-static enum refusal make_chunk(struct heap *heap, uint32_t length, uint32_t owner, uint32_t *name)
+/* The first empty slot of a table from a number on, which is raised, or 0 where none is empty. */
+static uint32_t empty_in_row(const struct heap *heap, struct row row, uint32_t *number)
 {
-    uint32_t slots = slot_count(heap);
-    uint32_t number = heap->lowest;
-    while (number < slots && u32_at(heap->image, 16 + 4 * number) != 0)
-        number++;
-    uint32_t size = chunk_size(length);
-    uint32_t at, run;
-    if (number >= slots || size == 0 || !make_room(heap, size, &at, &run))
-        return NOT_ENOUGH_SPACE;
+    uint32_t first = row.table == 0 ? 16 : row.table + NEXT;
+    uint32_t count = row.table == 0 ? slot_count(heap) : slots_at(heap, row.table);
+    for (; *number < row.before + count; (*number)++) {
+        uint32_t slot = first + 4 * (*number - row.before);
+        if (u32_at(heap->image, slot) == 0)
+            return slot;
+    }
+    return 0;
+}
+
+/* Finds an empty slot. All slots before the number are in use; the table is that of the slot, or one before it. */
+static uint32_t find_empty(const struct heap *heap, uint32_t *number, struct row *row)
+{
+    *number = heap->lowest;
+    *row = heap->row;
+    if (heap->freed != 0 && u32_at(heap->image, heap->freed) == 0)
+        return heap->freed;
+    *row = heap->row.before <= heap->lowest ? heap->row : (struct row){0, 0};
+    for (;;) {
+        uint32_t slot = empty_in_row(heap, *row, number);
+        if (slot != 0)
+            return slot;
+        uint32_t count = row->table == 0 ? slot_count(heap) : slots_at(heap, row->table);
+        uint32_t next = row->table == 0 ? first_next(heap) : u32_at(heap->image, row->table);
+        if (next == 0)
+            return 0;
+        *row = (struct row){next, row->before + count};
+    }
+}
+
+/* Takes the front of a run of free chunks. What is left becomes a free chunk. */
+static void take_front(struct heap *heap, uint32_t at, uint32_t run, uint32_t size)
+{
     unlink_run(heap, at, run, ALL_PROBES);
     if (run > size) {
         put_free(heap, at + size, run - size);
         push(heap, at + size, run - size);
     }
-    uint32_t slot = 16 + 4 * number;
+}
+
+/* Builds the lists after a chunk was made, unless a stretch was packed for it. */
+static void build_after_new(struct heap *heap)
+{
+    if (heap->packed)
+        heap->packed = false;
+    else
+        build(heap);
+}
+
+/* Makes a chunk of zeros under the first empty slot, for any owner. */
+static enum refusal make_chunk(struct heap *heap, uint32_t length, uint32_t owner, uint32_t *name)
+{
+    uint32_t number, at, run;
+    struct row row;
+    uint32_t slot = find_empty(heap, &number, &row);
+    uint32_t size = chunk_size(length);
+    if (slot == 0 || size == 0 || !make_room(heap, size, &at, &run))
+        return NOT_ENOUGH_SPACE;
+    take_front(heap, at, run, size);
     uint32_t h_offset = (uint32_t)(((int32_t)slot - (int32_t)at) / 2) & 0xFFFFFF;
     put_u32(heap->image, at, (size - HEADER - length) << 24 | size);
     put_u32(heap->image, at + 4, owner << 24 | h_offset);
     memset(heap->image + at + HEADER, 0, length);
     put_u32(heap->image, slot, at + HEADER);
-    if (heap->packed)
-        heap->packed = false;
-    else
-        build(heap);
+    build_after_new(heap);
     heap->lowest = number;
+    heap->row = row;
     *name = slot;
+    return DONE;
+}
+
+/* Adds a table of empty slots at the end of the chain. */
+static enum refusal more_slots(struct heap *heap)
+{
+    uint32_t length = NEXT + 4 * TABLE_SLOTS, size = chunk_size(length);
+    uint32_t at, run;
+    if (!is_chained(heap) || !make_room(heap, size, &at, &run))
+        return NOT_ENOUGH_SPACE;
+    take_front(heap, at, run, size);
+    put_u32(heap->image, at, (size - HEADER - length) << 24 | size);
+    put_u32(heap->image, at + 4, (uint32_t)FIXED << 28);
+    memset(heap->image + at + HEADER, 0, length);
+    uint32_t last = 16 + 4 * slot_count(heap);
+    for (uint32_t next = first_next(heap); next != 0; next = u32_at(heap->image, next))
+        last = next;
+    put_u32(heap->image, last, at + HEADER);
+    remember(heap, at + HEADER);
+    build_after_new(heap);
     return DONE;
 }
 
@@ -405,6 +546,10 @@ static enum refusal make_chunk(struct heap *heap, uint32_t length, uint32_t owne
 static void free_chunk(struct heap *heap, uint32_t name, const struct found *found)
 {
     uint32_t number = (name - 16) / 4;
+    if (number >= slot_count(heap)) {
+        number = slot_count(heap);
+        heap->freed = name;
+    }
     if (number < heap->lowest)
         heap->lowest = number;
     build(heap);
@@ -446,7 +591,7 @@ static bool resize_in_place(struct heap *heap, const struct found *found, uint32
 /* Where the stretch of a chunk begins and ends, and its room. */
 static uint32_t stretch_around(const struct heap *heap, uint32_t place, uint32_t *start, uint32_t *end)
 {
-    uint32_t at = area_start(slot_count(heap));
+    uint32_t at = area_start(heap);
     for (*start = at; at < heap->len; at += size_of_chunk(heap, at)) {
         if (!stays(heap, at))
             continue;
@@ -468,11 +613,7 @@ static void relocate(struct heap *heap, uint32_t name, uint32_t length, uint32_t
     find_chunk(heap, name, &found);
     uint32_t size = chunk_size(length);
     uint32_t kept = length < found.length ? length : found.length;
-    unlink_run(heap, at, run, ALL_PROBES);
-    if (run > size) {
-        put_free(heap, at + size, run - size);
-        push(heap, at + size, run - size);
-    }
+    take_front(heap, at, run, size);
     put_u32(heap->image, at, (size - HEADER - length) << 24 | size);
     put_u32(heap->image, at + 4, u32_at(heap->image, found.place - 4));
     memset(heap->image + at + HEADER, 0, length);
@@ -529,7 +670,7 @@ static enum refusal resize_chunk(struct heap *heap, uint32_t name, const struct 
 /* Makes an image with nothing in it. */
 static bool make_blank(struct heap *heap, uint32_t size, uint32_t slots)
 {
-    uint32_t start = area_start(slots);
+    uint32_t start = start_behind(slots, false);
     if (size < 64 || size > MAX_SIZE || size % 8 != 0 || slots == 0 || slots > 65535 ||
         size < start + 8)
         return false;
@@ -540,6 +681,18 @@ static bool make_blank(struct heap *heap, uint32_t size, uint32_t slots)
     put_u32(heap->image, 4, size);
     put_u16(heap->image, 8, slots);
     put_free(heap, start, size - start);
+    return true;
+}
+
+/* Makes an image with one slot, and then so many further tables. */
+static bool make_chained(struct heap *heap, uint32_t size, uint32_t tables)
+{
+    if (!make_blank(heap, size, 1))
+        return false;
+    put_u32(heap->image, 0, CHAINED_MAGIC);
+    for (uint32_t i = 0; i < tables; i++)
+        if (more_slots(heap) != DONE)
+            return false;
     return true;
 }
 

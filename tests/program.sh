@@ -46,6 +46,7 @@ printf 'no heap, and as long as one must be: 64 bytes at the least......' >bad.i
 says 'check of a refused image' 1 'bad BadMagic' '' check bad.img
 says 'run of a refused image' 1 'bad BadMagic' '' run bad.img calls.txt b.img
 says 'run of a refused script' 1 'line 1 UnknownCommand' '' run a.img faulty.txt b.img
+says 'migration of a refused image' 1 'bad BadMagic' '' migrate bad.img b.img
 says 'a size that no image has' 2 'bad BadSize' '' new 127 4 b.img
 is 'nothing is written' 'a.img bad.img calls.txt faulty.txt' "$(echo *)"
 
@@ -58,6 +59,14 @@ is 'the image is written' '' "$(cmp a.img b.img 2>&1)"
 is 'the old file is as it was' frob "$(cat old.img)"
 is 'the permissions are kept' -rw-r----- "$(ls -l b.img | cut -c1-10)"
 rm old.img
+
+# IMAGE may be OUT, and an image with a chain of tables is written as it is
+cp a.img c.img
+says 'a migration to its own file' 0 ok '' migrate c.img c.img
+says 'its check' 0 "$(printf 'ok size 136 slots 4 movable 0 fixed 0 free 96\ndatabases 0')" '' check c.img
+says 'a second migration' 0 ok '' migrate c.img d.img
+is 'it changes nothing' '' "$(cmp c.img d.img 2>&1)"
+rm c.img d.img
 
 # a link is followed, and a pipe gets the bytes
 cp faulty.txt target.img

@@ -2,7 +2,7 @@
 
 ghost use Rattle.std.specs.Prelude.{◌≡◌, ◌+◌, ◌++◌, ◌∷◌, [], IfOk, IfSome, OnOk, OnErr, replicate, string_bytes};
 ghost use Rattle.std.specs.Prelude.{if◌then◌else◌, vec_len, vec_capacity};
-ghost use Rattle.std.specs.BTreeMap.{Updates, get, btree_map_len};
+ghost use Rattle.std.specs.BTreeMap.{Updates, IsUnchanged, get, btree_map_len};
 ghost use Rattle.std.specs.Option.{is_some};
 
 use crate::{Allowance, Failure};
@@ -92,6 +92,7 @@ pub fn insert<A: Allowance, K: Ord + Drop, V: Drop>(
     ensures updates { OnOk result (Updates K.cmp map.old map.new key (Some value)) }
     ensures len { IfOk result (λ old.
         btree_map_len map.new ≡ btree_map_len map.old + (if is_some old then 0 else 1)) }
+    ensures same { OnErr result (IsUnchanged map.old map.new) }
     ensures short { OnErr result (A.is_short memory.now) }
 {
     memory.grant()?;

@@ -1,7 +1,8 @@
 //! Where memory comes from, and growths that may be refused.
 //!
-//! Every growth of the project is a function of this crate. It asks an `Allowance` first, so that a test can refuse
-//! each growth in turn, and its contract says that it fails only if it was refused.
+//! A library of the project that takes memory takes it by a function of this crate, but for a region's block. Each
+//! function asks an `Allowance` first, so that a test can refuse each growth in turn, and its contract says that it
+//! fails only if it was refused.
 #![tactic(auto)]
 
 mod growth;

@@ -5,6 +5,7 @@
 //! benchmarks check IMAGE REPEATS
 //! benchmarks stores REPEATS
 //! benchmarks memory SIZE SLOTS PASSES ROUNDS
+//! benchmarks tables SIZE SLOTS PASSES ROUNDS
 //! benchmarks records SIZE SLOTS RECORDS CALLS PASSES ROUNDS
 //! benchmarks files SIZE SLOTS RECORDS BYTES ROUNDS
 //! ```
@@ -32,7 +33,7 @@ use work::{Field, Work};
 
 /// What is said of wrong words.
 const USAGE: &str = "usage: benchmarks [check [IMAGE REPEATS] | stores [REPEATS] \
-    | memory [SIZE SLOTS PASSES ROUNDS] | records [SIZE SLOTS RECORDS CALLS PASSES ROUNDS] \
+    | memory [SIZE SLOTS PASSES ROUNDS] | tables [SIZE SLOTS PASSES ROUNDS] | records [SIZE SLOTS RECORDS CALLS PASSES ROUNDS] \
     | files [SIZE SLOTS RECORDS BYTES ROUNDS]]";
 
 /// A benchmark.
@@ -41,15 +42,17 @@ enum Benchmark {
     Check,
     Stores,
     Memory,
+    Tables,
     Records,
     Files,
 }
 
 /// The benchmarks by their names, each with what the words behind it say, and with its least work.
-static BENCHMARKS: [(&str, Benchmark, &[Field], Work<'static>); 5] = [
+static BENCHMARKS: [(&str, Benchmark, &[Field], Work<'static>); 6] = [
     ("check", Benchmark::Check, &check::FIELDS, check::LEAST),
     ("stores", Benchmark::Stores, &stores::FIELDS, stores::LEAST),
     ("memory", Benchmark::Memory, &memory::FIELDS, memory::LEAST),
+    ("tables", Benchmark::Tables, &memory::FIELDS, memory::LEAST),
     (
         "records",
         Benchmark::Records,
@@ -110,6 +113,7 @@ impl Benchmark {
             Benchmark::Check => check::run(rt, work),
             Benchmark::Stores => stores::run(rt, work),
             Benchmark::Memory => memory::run(rt, work),
+            Benchmark::Tables => memory::run_chained(rt, work),
             Benchmark::Records => records::run(rt, work),
             Benchmark::Files => files::run(rt, work),
         }

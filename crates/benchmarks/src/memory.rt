@@ -1,6 +1,7 @@
 //! The calls of the memory manager. `memory SIZE SLOTS PASSES ROUNDS` makes a heap of SIZE
 //! bytes with SLOTS slots, and a chunk under each slot. It frees and makes chunks, and then does the
-//! calls whose time doesn't depend on the heap, PASSES times at each handle. Calls that walk through all
+//! calls whose time doesn't depend on the heap, PASSES times at each handle. `tables`, with the same words, does so on a
+//! heap whose slots stand in further tables of 15. Calls that walk through all
 //! chunks or move them are done on another heap: one that chunks fill, of which every second is freed. And calls
 //! are done on a third in orders for which lists of free chunks help least.
 //! For each kind of call it prints the calls of a round, and the best and the median processor time of a round in
@@ -18,7 +19,7 @@ use crate::timing::{Sum, Sums, Times};
 use crate::work::{Field, NONE, Work};
 use anyhow::Result;
 use chunk_format::blank;
-use heaps::{Original, full, one_class};
+use heaps::{Original, TABLE_SLOTS, chained_heap, full, one_class};
 use load::{Call, Load};
 use mem_manager::Heap;
 use std::alloc::Global;
@@ -79,9 +80,22 @@ const ANYWHERE: (&str, &str) = ("free_anywhere", "handle_new_anywhere");
 #[inline(never)]
 pub(crate) fn run(rt: &(impl CpuClock + Print + AllocGlobal), work: Work<'_>) -> Result<()> {
     let mut sums = Sums::new();
-    time_load(rt, work, &mut sums)?;
+    time_load(rt, work, blank_heap(rt.alloc(), work)?, &mut sums)?;
     time_full(rt, work, &mut sums)?;
     time_one_class(rt, work, &mut sums)?;
+    sums.print(rt)?;
+    Ok(())
+}
+
+/// Times the calls on a heap under load whose slots stand in further tables.
+#[inline(never)]
+pub(crate) fn run_chained(
+    rt: &(impl CpuClock + Print + AllocGlobal),
+    work: Work<'_>,
+) -> Result<()> {
+    let mut sums = Sums::new();
+    let heap = chained_heap(rt.alloc(), work.size, work.slots / TABLE_SLOTS)?;
+    time_load(rt, work, heap, &mut sums)?;
     sums.print(rt)?;
     Ok(())
 }
@@ -90,9 +104,10 @@ pub(crate) fn run(rt: &(impl CpuClock + Print + AllocGlobal), work: Work<'_>) ->
 fn time_load(
     rt: &(impl CpuClock + Print + AllocGlobal),
     work: Work<'_>,
+    heap: Heap,
     sums: &mut Sums,
 ) -> Result<()> {
-    let mut load = Load::new(rt.alloc(), blank_heap(rt.alloc(), work)?, MOST_BYTES);
+    let mut load = Load::new(rt.alloc(), heap, MOST_BYTES);
     time_kinds(rt, &mut load, work)?;
     load.add_to(sums);
     Ok(())

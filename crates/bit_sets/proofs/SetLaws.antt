@@ -1,13 +1,13 @@
 -- The bits of sets, and the first that is missing.
-use Rattle.std.proofs.Common.{◌≡◌, ◌≢◌, ℕ, zero, suc, ◌+◌, ◌*◌, ◌/◌, ◌%◌, ◌^◌, ◌<◌, ◌≤◌, true, List, length, get_or, set, replicate, bit_and, bit_or, refl, sym, ap, ◌∙◌, arith, inl, inr, w8}
+use Rattle.std.proofs.Common.{◌≡◌, ◌≢◌, ℕ, zero, suc, ◌+◌, ◌*◌, ◌/◌, ◌%◌, ◌^◌, ◌<◌, ◌≤◌, true, List, length, get_or, set, replicate, bit_and, bit_or, bit_xor, refl, sym, ap, ◌∙◌, arith, inl, inr, w8}
 use Rattle.std.proofs.lemmas.Bool.{cases_eq, cases_lt, eqb-false, ne_eqb, not-true, not_from_false}
 use Rattle.std.proofs.lemmas.Nat.{pow_below}
 use Rattle.std.proofs.Math.Nat.{mod-eq_of_lt, one-le-pow}
 use Rattle.std.proofs.lemmas.List.{get_or-set_same, get_or-set_other, get_or_past, get_or-replicate, length-replicate}
-use Rattle.std.proofs.lemmas.Nat.Bits.{and_pow, bit_at_set_same, bit_at_set_other, bit_at-lt, bit_at-zero, bit_at_ones, bit_at-trailing_ones}
+use Rattle.std.proofs.lemmas.Nat.Bits.{and_pow, bit_at_set_same, bit_at_set_other, bit_at-lt, bit_at-zero, bit_at_xor, bit_at-pow_same, bit_at-pow_other, bit_at_ones, bit_at-trailing_ones}
 use Rattle.std.specs.Prelude.{◌↔◌, not, nat_eq}
 use Rattle.std.specs.Int.{bit_at, trailing_ones}
-use Rattle.bit_sets.specs.Sets.{HasNumber, HasNone, AddsNumber, IsFirstMissing}
+use Rattle.bit_sets.specs.Sets.{HasNumber, HasNone, AddsNumber, RemovesNumber, IsFirstMissing}
 
 -- ---- one bit
 
@@ -56,6 +56,40 @@ number_added seen new number inside e = rw e (record {
   kept other apart = elim (cases_eq (other / 8) (number / 8)) [
     | inl same ↦
         own_byte seen (number / 8) byte other inside same ∙ bit_at_set_other w8 (get_or seen (number / 8) 0) (number % 8) (omega arith) (other % 8) (λ f. apart (omega arith))
+        ∙ ap (λ (b : ℕ). bit_at (get_or seen b 0) (other % 8)) (sym same)
+    | inr ne ↦ other_byte seen (number / 8) byte other ne
+  ]
+
+-- ---- one number fewer
+
+flip_mask : (k : ℕ) → k < 8 → 1 * 2 ^ k % 2 ^ 8 ≡ 2 ^ k
+flip_mask k small = let less : 2 ^ k < 2 ^ 8 = pow_below k 8 small in ap (λ (m : ℕ). m % 2 ^ 8) (one_times (2 ^ k)) ∙ mod-eq_of_lt less
+
+flip_same : (n k : ℕ) → k < 8 → bit_at n k ≡ 1 → bit_at (bit_xor n (1 * 2 ^ k % 2 ^ 8)) k ≡ 0
+flip_same n k small one =
+    let bits = bit_at_xor n (2 ^ k) k in
+    let own = bit_at-pow_same k in
+    ap (λ (m : ℕ). bit_at (bit_xor n m) k) (flip_mask k small) ∙ bits ∙ ap (λ (x : ℕ). (x + bit_at (2 ^ k) k) % 2) one ∙ ap (λ (y : ℕ). (1 + y) % 2) own
+
+flip_other : (n k i : ℕ) → k < 8 → i ≢ k → bit_at (bit_xor n (1 * 2 ^ k % 2 ^ 8)) i ≡ bit_at n i
+flip_other n k i small apart =
+    let bits = bit_at_xor n (2 ^ k) i in
+    let none = bit_at-pow_other k i apart in
+    let low = bit_at-lt n i in
+    ap (λ (m : ℕ). bit_at (bit_xor n m) i) (flip_mask k small) ∙ bits ∙ ap (λ (y : ℕ). (bit_at n i + y) % 2) none ∙ omega (arith, low)
+
+pub number_removed : (seen new : List ℕ) (number : ℕ) → number / 8 < length seen → HasNumber seen number → new ≡ set seen (number / 8) (bit_xor (get_or seen (number / 8) 0) (1 * 2 ^ (number % 8) % 2 ^ 8)) → RemovesNumber seen new number
+number_removed seen new number inside has e = rw e (record {
+  gone = λ one. let none = own_byte seen (number / 8) byte number inside refl ∙ flip_same (get_or seen (number / 8) 0) (number % 8) (omega arith) has in absurd (omega (arith, none, one));
+  others = λ other apart. let same = kept other apart in (λ one. sym same ∙ one, λ one. same ∙ one);
+}) where
+  byte : ℕ
+  byte = bit_xor (get_or seen (number / 8) 0) (1 * 2 ^ (number % 8) % 2 ^ 8)
+
+  kept : (other : ℕ) → other ≢ number → bit_at (get_or (set seen (number / 8) byte) (other / 8) 0) (other % 8) ≡ bit_at (get_or seen (other / 8) 0) (other % 8)
+  kept other apart = elim (cases_eq (other / 8) (number / 8)) [
+    | inl same ↦
+        own_byte seen (number / 8) byte other inside same ∙ flip_other (get_or seen (number / 8) 0) (number % 8) (other % 8) (omega arith) (λ f. apart (omega arith))
         ∙ ap (λ (b : ℕ). bit_at (get_or seen b 0) (other % 8)) (sym same)
     | inr ne ↦ other_byte seen (number / 8) byte other ne
   ]

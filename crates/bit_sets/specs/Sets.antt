@@ -17,6 +17,11 @@ pub record AddsNumber (old new : List ℕ) (number : ℕ) : Type 0 where
   pub here : HasNumber new number
   pub others : (other : ℕ) → other ≢ number → (HasNumber new other ↔ HasNumber old other)
 
+-- a number is taken out of a set, and each other is in it if it was before
+pub record RemovesNumber (old new : List ℕ) (number : ℕ) : Type 0 where
+  pub gone : HasNumber new number → ⊥
+  pub others : (other : ℕ) → other ≢ number → (HasNumber new other ↔ HasNumber old other)
+
 -- each number is still in the set that has its bit in another byte than this one
 abbrev pub KeepsOtherBytes : List ℕ → List ℕ → ℕ → Type 0
 KeepsOtherBytes old new number = (other : ℕ) → other / 8 ≢ number / 8 → HasNumber old other → HasNumber new other

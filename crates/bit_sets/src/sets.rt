@@ -1,7 +1,7 @@
 //! Numbers put into a set, and asked of it.
 
 ghost use Rattle.std.specs.Prelude.{◌<◌, ◌/◌, ◌^◌, ◌≡◌, ◌↔◌, ℕ, length, IsTrue};
-ghost use Rattle.bit_sets.specs.Sets.{HasNumber, AddsNumber, KeepsOtherBytes, IsFirstMissing};
+ghost use Rattle.bit_sets.specs.Sets.{HasNumber, AddsNumber, RemovesNumber, KeepsOtherBytes, IsFirstMissing};
 
 /// Whether a number is in the set.
 #[inline]
@@ -19,6 +19,16 @@ pub fn add(set: &mut [u8], number: u32)
     ensures { AddsNumber set.old set.new number }
 {
     set[(number / 8) as usize] |= 1u8 << (number % 8);
+}
+
+/// Takes a number out of the set, which has it.
+#[inline]
+pub fn remove(set: &mut [u8], number: u32)
+    requires room { number / 8 < length set.old }
+    requires there { HasNumber set.old number }
+    ensures { RemovesNumber set.old set.new number }
+{
+    set[(number / 8) as usize] ^= 1u8 << (number % 8);
 }
 
 /// Takes a number out of the set, and with it those that have their bits in the same byte.

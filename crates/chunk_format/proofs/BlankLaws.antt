@@ -1,13 +1,15 @@
 -- A blank image is an accepted heap that holds nothing.
-use Rattle.std.proofs.Common.{◌≡◌, ℕ, ◌+◌, ◌-◌, ◌^◌, ◌≤◌, List, [], ◌∷◌, length, replicate, refl, sym, ap, subst, ◌∙◌, arith, inl, inr, lit<}
+use Rattle.std.proofs.Common.{false, ◌≡◌, ℕ, ◌+◌, ◌-◌, ◌^◌, ◌≤◌, List, [], ◌∷◌, length, replicate, refl, sym, ap, subst, ◌∙◌, arith, inl, inr, lit<}
 use Rattle.std.proofs.lemmas.List.{length-replicate}
+use Rattle.std.specs.Prelude.{◌==◌}
 use Rattle.heap_model.specs.Memory.{Memory}
 use Rattle.heap_model.specs.Bytes.{u16_at, u32_at, u16_bytes, u32_bytes, overwritten}
 use Rattle.heap_model.specs.Chunk.{free, IsFree}
-use Rattle.heap_model.specs.Slots.{slot_count, head_end, area_start, start_behind}
+use Rattle.heap_model.specs.Slots.{slot_count, is_chained, behind_table, head_end, area_start, start_behind}
 use Rattle.heap_model.specs.Frame.{magic}
 use Rattle.heap_model.specs.Heap.{IsHead, Tiles, IsHeap, IsBody}
 use Rattle.laws_heap.proofs.Slots.{slot_facts, slot_beside, start_counted}
+use Rattle.laws_heap.proofs.Tables.{no_chain, none_behind}
 use Rattle.laws_heap.proofs.Plain.{plain_word}
 use Rattle.laws_heap.proofs.Frames.{SameBetween, SameBetween-within, SameBetween-then, u32_at-same, u16_at-same, length-overwritten, overwritten-below, overwritten-above, u32_at-written, u16_at-written, length-u32_bytes, length-u16_bytes, u32_at-below, u32_at-zeros, u16_at-zeros, slice_index-zeros, u16_at-below}
 use Rattle.laws_heap.proofs.Meanings.{held-is}
@@ -90,22 +92,24 @@ blank_heap size slots start word image plan word_is r =
     let size_whole = plan.size_right.whole in
     let len = r.len in
     let slots_are : slot_count image ≡ slots = r.slots_are in
-    let area : area_start image ≡ start = start_counted image slots slots_are ∙ sym start_is in
+    let plain : is_chained image ≡ false = ap (λ (m : ℕ). m == 0x50484932) r.magic_is in
+    let none : behind_table image ≡ 0 = none_behind image plain in
+    let area : area_start image ≡ start = start_counted image slots plain slots_are ∙ sym start_is in
     let zeros : List ℕ = replicate size 0 in
     let chunk = r.chunk in
     let head : IsHead image = record {
-      magic_is = r.magic_is;
+      magic_is = inl r.magic_is;
       size_is = r.size_is ∙ sym len;
       least = omega (arith, plan.size_right.least);
       most = omega arith;
       whole = rw len plan.size_right.whole;
-      some_slot = omega arith;
-      a_chunk_fits = omega arith;
+      some_slot = omega (arith, slots_are, some_slot);
+      a_chunk_fits = omega (arith, area, len, fits, start_is);
       reserved = sym (u16_at-same 10 zeros image 10 start r.front (omega arith) (omega arith)) ∙ u16_at-zeros 10 size;
-      padding = λ ne. sym (u32_at-same (head_end image) zeros image 10 start r.front (omega arith) (omega arith)) ∙ u32_at-zeros (head_end image) size;
+      padding = λ ne. sym (u32_at-same (head_end image) zeros image 10 start r.front (omega arith) (omega (arith, none, area))) ∙ u32_at-zeros (head_end image) size;
     } in
     let spelled : IsFree image (area_start image) (size - start) = rw area record { free_bit = omega arith; size_field = omega arith; header_fits = omega arith; whole = omega arith; inside = omega arith } in
-    let tiles : Tiles image (free (size - start) ∷ []) = record { head = head; area = (spelled, omega arith) } in
+    let tiles : Tiles image (free (size - start) ∷ []) = record { head = head; area = (spelled, omega arith); chain = no_chain image (free (size - start) ∷ []) plain } in
     record {
       tiles = tiles;
       tied = λ slot place positive. (
@@ -119,7 +123,7 @@ blank_heap size slots start word image plan word_is r =
             absurd (omega arith),
         λ h. absurd (no_body (area_start image) (size - start) slot place h),
       );
-      fixed_are_callers = (tt, tt);
+      fixed_are_known = (tt, tt);
       directory = inl (sym (u32_at-same 12 zeros image 10 start r.front (omega arith) (omega arith)) ∙ u32_at-zeros 12 size);
     }
 

@@ -3,7 +3,8 @@ use Rattle.std.proofs.Common.{◌≡◌, ℕ, ◌+◌, ◌-◌, ◌*◌, ◌%◌
 use Rattle.std.specs.Prelude.{slice_range}
 use Rattle.heap_model.specs.Memory.{Memory}
 use Rattle.heap_model.specs.Bytes.{u32_at, u32_bytes, overwritten}
-use Rattle.heap_model.specs.Chunk.{free, movable, fixed, need, slot_named, IsFree, IsLive}
+use Rattle.heap_model.specs.Chunk.{free, movable, fixed, need, slot_named, seen, IsFree, IsLive}
+use Rattle.laws_heap.proofs.Chunks.{length-seen}
 use Rattle.laws_heap.proofs.Frames.{length-u32_bytes, length-overwritten, overwritten-behind, u32_at-written, u32_at-below}
 use Rattle.chunk_format.specs.declared.header.Header.{Header}
 use Rattle.chunk_format.specs.declared.header.Header.TheVariants as headers
@@ -37,16 +38,21 @@ words_read old at first second inside fits_first fits_second =
       second_is = u32_at-written second (at + 4) one (omega arith) fits_second;
     }
 
+-- the value of the body of so many bytes that stands behind those words
+abbrev behind_words : List ℕ → ℕ → ℕ → ℕ → ℕ → ℕ → List ℕ
+behind_words old at count lock owner h_offset = seen lock owner (slice_range (overwritten old at (live_words count lock owner h_offset)) (at + 8) (at + 8 + count))
+
 -- the chunk of so many bytes that stands behind those words
 live_written : (old : List ℕ) (at count lock owner h_offset : ℕ) → at + need count ≤ length old → need count < 2 ^ 24 → lock < 16 → owner < 16 → h_offset < 2 ^ 24
-    → IsLive (overwritten old at (live_words count lock owner h_offset)) at (slice_range (overwritten old at (live_words count lock owner h_offset)) (at + 8) (at + 8 + count)) lock owner h_offset
-    × (length (slice_range (overwritten old at (live_words count lock owner h_offset)) (at + 8) (at + 8 + count)) ≡ count)
+    → IsLive (overwritten old at (live_words count lock owner h_offset)) at (behind_words old at count lock owner h_offset) lock owner h_offset
+    × (length (behind_words old at count lock owner h_offset) ≡ count)
 live_written old at count lock owner h_offset inside fits lock_fits owner_fits way_fits =
     let image : List ℕ = overwritten old at (live_words count lock owner h_offset) in
     let r = words_read old at ((need count - 8 - count) * 2 ^ 24 + need count) (lock * 2 ^ 28 + owner * 2 ^ 24 + h_offset) (omega arith) (omega arith) (omega arith) in
     let total = r.len in
-    let len : length (slice_range image (at + 8) (at + 8 + count)) ≡ count = simp (length-take, length-drop) (omega arith) in
-    let same_need : need (length (slice_range image (at + 8) (at + 8 + count))) ≡ need count = ap need len in (
+    let raw : length (slice_range image (at + 8) (at + 8 + count)) ≡ count = simp (length-take, length-drop) (omega arith) in
+    let len : length (behind_words old at count lock owner h_offset) ≡ count = length-seen lock owner (slice_range image (at + 8) (at + 8 + count)) ∙ raw in
+    let same_need : need (length (behind_words old at count lock owner h_offset)) ≡ need count = ap need len in (
       record {
         first_word = r.first_is ∙ ap (λ (n : ℕ). (need n - 8 - n) * 2 ^ 24 + need n) (sym len);
         size_fits = omega arith;
@@ -54,7 +60,7 @@ live_written old at count lock owner h_offset inside fits lock_fits owner_fits w
         lock_fits = lock_fits;
         owner_fits = owner_fits;
         h_offset_fits = way_fits;
-        body = ap (λ (n : ℕ). slice_range image (at + 8) (at + 8 + n)) len;
+        body = ap (λ (n : ℕ). seen lock owner (slice_range image (at + 8) (at + 8 + n))) len;
         inside = omega arith;
       },
       len,
@@ -82,7 +88,7 @@ header_written old new at (headers.Movable count lock owner slot) inside small w
     let live = live_written old at count lock owner h inside w.0 (omega arith) (omega arith) (omega arith) in
     let image : List ℕ = overwritten old at (live_words count lock owner h) in
     subst (λ (image : List ℕ). HasHeader image at (headers.Movable count lock owner slot)) (sym is) record {
-      chunk = movable (slice_range image (at + 8) (at + 8 + count)) lock owner slot;
+      chunk = movable (behind_words old at count lock owner h) lock owner slot;
       spelled = (h, live.0, w.1, w.3, slot_named-h_offset_to at slot (omega arith) w.4 w.5);
       header_is = ap (λ (n : ℕ). headers.Movable n lock owner slot) (sym live.1);
     }
@@ -91,7 +97,7 @@ header_written old new at (headers.Fixed count owner) inside small w is =
     let live = live_written old at count 15 owner 0 inside w.0 (omega arith) (omega arith) (omega arith) in
     let image : List ℕ = overwritten old at (live_words count 15 owner 0) in
     subst (λ (image : List ℕ). HasHeader image at (headers.Fixed count owner)) (sym is) record {
-      chunk = fixed (slice_range image (at + 8) (at + 8 + count)) owner;
+      chunk = fixed (behind_words old at count 15 owner 0) owner;
       spelled = live.0;
       header_is = ap (λ (n : ℕ). headers.Fixed n owner) (sym live.1);
     }

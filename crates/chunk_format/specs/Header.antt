@@ -1,7 +1,7 @@
 -- The header of a chunk: what its two words say.
 use Rattle.std.specs.Prelude.{◌≡◌, ◌≤◌, ◌<◌, ◌+◌, ◌-◌, ◌*◌, ◌/◌, ◌%◌, ◌^◌, ◌++◌, ◌⊎◌, ◌==◌, if◌then◌else◌, ℕ, List, [], ◌∷◌, length, slice_range}
 use Rattle.heap_model.specs.Bytes.{u32_at, u32_bytes, overwritten}
-use Rattle.heap_model.specs.Chunk.{Chunk, free, movable, fixed, fixed_lock, data_owner, need, size_of, slot_named, IsLive, Spelled}
+use Rattle.heap_model.specs.Chunk.{Chunk, free, movable, fixed, fixed_lock, data_owner, need, size_of, slot_named, managers_owner, seen, IsLive, Spelled}
 use Rattle.heap_model.specs.Reading.{lock_field, owner_field, h_offset_field}
 use Rattle.heap_model.specs.declared.names.Place.{Place}
 use Rattle.chunk_format.specs.declared.header.Header.{Header}
@@ -25,11 +25,11 @@ live_header_by at length word =
     if lock_field word == fixed_lock then headers.Fixed length (owner_field word)
     else headers.Movable length (lock_field word) (owner_field word) (slot_named at (h_offset_field word))
 
--- the chunk with this header whose bytes are those behind it
+-- the chunk with this header whose bytes are those behind it, as its value has them
 abbrev pub chunk_with : List ℕ → ℕ → Header → Chunk
 chunk_with image at (headers.Free size) = free size
 chunk_with image at (headers.Movable length lock owner slot) = movable (slice_range image (at + 8) (at + 8 + length)) lock owner slot
-chunk_with image at (headers.Fixed length owner) = fixed (slice_range image (at + 8) (at + 8 + length)) owner
+chunk_with image at (headers.Fixed length owner) = fixed (seen fixed_lock owner (slice_range image (at + 8) (at + 8 + length))) owner
 
 -- a chunk with this header is spelled at this offset
 pub record HasHeader (image : List ℕ) (at : ℕ) (header : Header) : Type 0 where
@@ -83,10 +83,10 @@ abbrev pub Relocks : List ℕ → List ℕ → ℕ → ℕ → Type 0
 Relocks old new at lock = (bytes : List ℕ) (was owner slot : ℕ) → MayStand lock owner → Spelled old at (movable bytes was owner slot) → Spelled new at (movable bytes lock owner slot)
 
 -- The live chunk that was spelled at this offset is spelled there with another owner, and is else as it
--- was.
+-- was. No fixed chunk of the manager's becomes a caller's, nor the other way round.
 pub record Reowns (old new : List ℕ) (at owner : ℕ) : Type 0 where
   pub movable_too : (bytes : List ℕ) (lock was slot : ℕ) → MayStand lock owner → Spelled old at (movable bytes lock was slot) → Spelled new at (movable bytes lock owner slot)
-  pub fixed_too : (bytes : List ℕ) (was : ℕ) → Spelled old at (fixed bytes was) → Spelled new at (fixed bytes owner)
+  pub fixed_too : (bytes : List ℕ) (was : ℕ) → managers_owner < was → managers_owner < owner → Spelled old at (fixed bytes was) → Spelled new at (fixed bytes owner)
 
 -- the two words of a live chunk of so many bytes: sizeAdj above the size, and the lock above the
 -- owner above hOffset

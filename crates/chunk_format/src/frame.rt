@@ -1,11 +1,12 @@
 //! The frame of an image: the 16 bytes in front of the master pointer table, what stands in them, and
 //! how small and how large an image may be. Where the table ends and the chunks begin follows from it.
 
-ghost use Rattle.std.specs.Prelude.{◌≡◌, ◌↔◌, ◌<◌, length, IsTrue};
+ghost use Rattle.std.specs.Prelude.{◌≡◌, ◌↔◌, ◌⊎◌, ◌<◌, ◌≤◌, ◌+◌, ◌^◌, if◌then◌else◌, length, IsTrue};
 ghost use Rattle.heap_model.specs.Memory.{IsWithin};
 ghost use Rattle.heap_model.specs.Bytes.{u16_at, u32_at, u32_bytes, overwritten};
-ghost use Rattle.heap_model.specs.Frame.{magic, magic_at, size_at, reserved_at, directory_at, HasFrame};
-ghost use Rattle.heap_model.specs.Slots.{slot_count as model_count, head_end as model_end, area_start as model_start, start_behind as model_behind};
+ghost use Rattle.heap_model.specs.Frame.{magic, chained_magic, magic_at, size_at, reserved_at, directory_at, HasFrame};
+ghost use Rattle.heap_model.specs.Slots.{slot_count as model_count, is_chained as model_chained, first_next as model_next, table_end as model_table, head_end as model_end, area_start as model_start, start_behind as model_behind, end_behind as model_behind_end};
+ghost use Rattle.heap_model.specs.Chunk.{next_size};
 ghost use Rattle.heap_model.specs.Heap.{directory_of};
 ghost use Rattle.chunk_format.specs.Blank.{IsRegionSize, framed};
 
@@ -13,6 +14,9 @@ use raw_region::Region;
 
 /// The first four bytes of an image of profile PHI1, as a number.
 const MAGIC: u32 = 0x5048_4931;
+
+/// Those of an image of profile PHI2, whose tables are a chain.
+const CHAINED_MAGIC: u32 = 0x5048_4932;
 
 /// Where the magic stands, in bytes from the image's start.
 const MAGIC_AT: usize = 0;
@@ -35,6 +39,12 @@ pub const FRAME_SIZE: u32 = 16;
 /// What a slot takes in bytes.
 pub const SLOT_SIZE: u32 = 4;
 
+/// What the word `next` of a table takes in bytes.
+pub const NEXT_SIZE: u32 = 4;
+
+/// How many bytes the body of a further table has that is made: its word `next` and 15 slots.
+pub const TABLE_LENGTH: u32 = 64;
+
 /// The least size of an image, in bytes.
 const LEAST_SIZE: usize = 64;
 
@@ -48,12 +58,23 @@ pub fn is_image_size(size: usize) -> bool
     size >= LEAST_SIZE && size <= MOST_SIZE as usize && size % 8 == 0
 }
 
-/// Whether the first four bytes are the magic.
+/// Whether the first four bytes are a magic.
 pub fn has_magic(region: &Region) -> bool
     requires { IsWithin region.now magic_at 4 }
-    ensures { IsTrue result ↔ (u32_at region.now.bytes magic_at ≡ magic) }
+    ensures { IsTrue result ↔ ((u32_at region.now.bytes magic_at ≡ magic)
+        ⊎ (u32_at region.now.bytes magic_at ≡ chained_magic)) }
 {
-    region.get_u32(MAGIC_AT) == MAGIC
+    let word = region.get_u32(MAGIC_AT);
+    word == MAGIC || word == CHAINED_MAGIC
+}
+
+/// Whether the image has a chain of tables: a word `next` stands behind the first.
+#[inline]
+pub fn is_chained(region: &Region) -> bool
+    requires { HasFrame region.now }
+    ensures { result ≡ model_chained region.now.bytes }
+{
+    region.get_u32(MAGIC_AT) == CHAINED_MAGIC
 }
 
 /// The size that the image says it has, in bytes.
@@ -104,7 +125,41 @@ pub fn head_end(region: &Region) -> u32
     requires { HasFrame region.now }
     ensures { result ≡ model_end region.now.bytes }
 {
-    FRAME_SIZE + SLOT_SIZE * slot_count(region) as u32
+    end_with(slot_count(region), is_chained(region))
+}
+
+/// Where a head ends with a first table of so many slots, and a word `next` behind it if it is a chain's.
+#[inline]
+fn end_with(slots: u16, chained: bool) -> u32
+    ensures is { result ≡ model_behind_end slots + (if chained then next_size else 0) }
+    ensures small { result < 2 ^ 19 }
+{
+    let end = FRAME_SIZE + SLOT_SIZE * slots as u32;
+    if chained { end + NEXT_SIZE } else { end }
+}
+
+/// The word `next` behind the first table, or 0 where the image isn't chained.
+#[inline]
+pub fn first_next(region: &Region) -> u32
+    requires frame { HasFrame region.now }
+    requires inside { model_end region.now.bytes ≤ length region.now.bytes }
+    ensures { result ≡ model_next region.now.bytes }
+{
+    if is_chained(region) {
+        word_behind(region)
+    } else {
+        0
+    }
+}
+
+/// The word behind the first table.
+#[inline]
+fn word_behind(region: &Region) -> u32
+    requires frame { HasFrame region.now }
+    requires inside { model_table region.now.bytes + 4 ≤ length region.now.bytes }
+    ensures { result ≡ u32_at region.now.bytes (model_table region.now.bytes) }
+{
+    region.get_u32(FRAME_SIZE as usize + SLOT_SIZE as usize * slot_count(region) as usize)
 }
 
 /// Where the first chunk begins, in bytes from the image's start.
@@ -113,7 +168,7 @@ pub fn area_start(region: &Region) -> u32
     requires { HasFrame region.now }
     ensures { result ≡ model_start region.now.bytes }
 {
-    start_behind(slot_count(region))
+    8 * ((end_with(slot_count(region), is_chained(region)) + 7) / 8)
 }
 
 /// Where the first chunk begins behind one table of so many slots.

@@ -22,8 +22,8 @@ mod laws;
 mod walk;
 
 pub use frame::{
-    FRAME_SIZE, SLOT_SIZE, area_start, directory, has_magic, head_end, is_image_size,
-    put_directory, reserved, size_field, slot_count,
+    FRAME_SIZE, NEXT_SIZE, SLOT_SIZE, TABLE_LENGTH, area_start, directory, first_next, has_magic,
+    head_end, is_chained, is_image_size, put_directory, reserved, size_field, slot_count,
 };
 pub use header::{
     DATA_OWNER, FIXED_LOCK, HEADER_SIZE, Header, LiveFields, MANAGERS_OWNER, chunk_size,

@@ -3,3 +3,13 @@ pub mod SlotLaws
 pub mod OwnerLaws
 pub mod DirectoryLaws
 pub mod CheckLaws
+pub mod ChainedLaws
+pub mod TableLaws
+pub mod WalkLaws
+pub mod BodyLaws
+pub mod LeadsLaws
+pub mod FollowLaws
+pub mod StrayLaws
+pub mod NameLaws
+pub mod NotingLaws
+pub mod MarkLaws

@@ -7,11 +7,12 @@ use Rattle.std.proofs.lemmas.Bool.Decides.{Decides-and, Decides-eqb}
 use Rattle.std.proofs.lemmas.List.{get_or-map, get_or-set_same, get_or-set_other, map-set, length-map}
 use Rattle.heap_model.specs.Bytes.{u32_at}
 use Rattle.heap_model.specs.Chunk.{Chunk}
-use Rattle.heap_model.specs.Slots.{IsSlot, StandsBehind, slots_of, slots_total, first_slots}
+use Rattle.heap_model.specs.Slots.{is_chained, IsSlot, StandsBehind, slots_of, slots_total, first_slots}
 use Rattle.heap_model.specs.Placed.{EveryOne, FirstOne}
 use Rattle.heap_model.specs.Pairing.{HoldsBody}
 use Rattle.laws_heap.proofs.Tests.{true_or_false}
-use Rattle.laws_heap.proofs.Slots.{Decides-slot, slot_stands, stands_slot, stands_below, same_number, same_slot, every_slot, first_slots-front}
+use Rattle.laws_heap.proofs.Slots.{Decides-slot, slot_stands, stands_slot, stands_below, same_slot, every_slot, first_slots-front}
+use Rattle.laws_heap.proofs.OneTable.{one_same}
 use Rattle.laws_heap.proofs.Placed.{EveryOne-like, FirstOne-like}
 use Rattle.heap_check.specs.Owners.{NoneMarked}
 use Rattle.heap_check.specs.Survey.{holds_place, AreMarks, AddsMark, MarkedAt, IsHolder, IsMarked}
@@ -30,29 +31,32 @@ holds_false image slot at none = elim (true_or_false (holds_place image slot at)
   | inr apart ↦ sym apart
 ]
 
-mark_set_in : (image : List ℕ) (old : List ℕ) (named at mark number : ℕ) → StandsBehind image named number → u32_at image named ≡ at + 8 → number < length old → AddsMark image (IsHolder image named at) mark old (set old number mark)
-mark_set_in image old named at mark number there here room slot k s = elim (cases_eq k number) [
-  | inl same ↦
-      let one : named ≡ slot = same_slot image named slot number there (subst (λ (n : ℕ). StandsBehind image slot n) same s) in
-      let marked : slice_index (set old number mark) k ≡ mark = ap (λ (n : ℕ). slice_index (set old number mark) n) same ∙ get_or-set_same old number mark 0 room in
-      inl ((one, sym here ∙ ap (u32_at image) one), marked)
-  | inr apart ↦
-      inr (λ holder. apart (same_number image slot k number s (subst (λ (t : ℕ). StandsBehind image t number) holder.0 there)), get_or-set_other old number k mark 0 apart)
-]
+mark_set_in : (image : List ℕ) (old : List ℕ) (named at mark number : ℕ) → is_chained image ≡ false → StandsBehind image named number → u32_at image named ≡ at + 8 → number < length old → AddsMark image (IsHolder image named at) mark old (set old number mark)
+mark_set_in image old named at mark number plain there here room = record {
+  each = λ slot k s. elim (cases_eq k number) [
+    | inl same ↦
+        let one : named ≡ slot = same_slot image named slot number there (subst (λ (n : ℕ). StandsBehind image slot n) same s) in
+        let marked : slice_index (set old number mark) k ≡ mark = ap (λ (n : ℕ). slice_index (set old number mark) n) same ∙ get_or-set_same old number mark 0 room in
+        inl ((one, sym here ∙ ap (u32_at image) one), marked)
+    | inr apart ↦
+        inr (λ holder. apart (one_same image slot k number plain s (subst (λ (t : ℕ). StandsBehind image t number) holder.0 there)), get_or-set_other old number k mark 0 apart)
+  ];
+  beyond = λ k far. let below = stands_below image named number there in get_or-set_other old number k mark 0 (λ same. omega arith);
+}
 
 -- the same of what marks say
-pub mark_set : {Mark : Type 0} (says : Mark → ℕ) (image : List ℕ) (old : List Mark) (named at : ℕ) (mark : Mark) (number : ℕ) → StandsBehind image named number → u32_at image named ≡ at + 8 → number < length old
+pub mark_set : {Mark : Type 0} (says : Mark → ℕ) (image : List ℕ) (old : List Mark) (named at : ℕ) (mark : Mark) (number : ℕ) → is_chained image ≡ false → StandsBehind image named number → u32_at image named ≡ at + 8 → number < length old
     → AddsMark image (IsHolder image named at) (says mark) (map says old) (map says (set old number mark))
-mark_set says image old named at mark number there here room =
+mark_set says image old named at mark number plain there here room =
     subst (AddsMark image (IsHolder image named at) (says mark) (map says old)) (sym (map-set says old number mark))
-    (mark_set_in image (map says old) named at (says mark) number there here (subst (λ (n : ℕ). number < n) (sym (length-map old says)) room))
+    (mark_set_in image (map says old) named at (says mark) number plain there here (subst (λ (n : ℕ). number < n) (sym (length-map old says)) room))
 
 pub mark_none : (image marks : List ℕ) (P : ℕ → Type 0) (mark : ℕ) → ((slot : ℕ) → IsSlot image slot → P slot → ⊥) → AddsMark image P mark marks marks
-mark_none image marks P mark none slot k s = inr (λ holds. none slot (stands_slot image slot k s) holds, refl)
+mark_none image marks P mark none = record { each = λ slot k s. inr (λ holds. none slot (stands_slot image slot k s) holds, refl); beyond = λ k far. refl }
 
 -- which slots are marked then
 pub marks_more : (image : List ℕ) (P : ℕ → Type 0) (mark : ℕ) (old new : List ℕ) → mark < 16 → AddsMark image P mark old new → (slot number : ℕ) → StandsBehind image slot number → (MarkedAt new number ↔ (MarkedAt old number ⊎ P slot))
-marks_more image P mark old new low adds slot number s = elim (adds slot number s) [
+marks_more image P mark old new low adds slot number s = elim (adds.each slot number s) [
   | inl here ↦ (λ m. inr here.0, λ m e. (let is = here.1 in omega arith))
   | inr apart ↦ (
     λ m. inl (λ e. m (apart.1 ∙ e)),

@@ -3,16 +3,17 @@ use Rattle.std.proofs.Common.{◌≡◌, ℕ, ◌+◌, ◌<◌, ◌≤◌, Bool,
 use Rattle.std.specs.Prelude.{◌↔◌, ◌⊎◌, count_by}
 use Rattle.std.specs.Bool.{Decides}
 use Rattle.std.proofs.lemmas.Bool.{false≢true}
+use Rattle.std.proofs.lemmas.Bool.Decides.{Decides-and, Decides-ltb}
 use Rattle.std.proofs.lemmas.List.Sums.{sum_by_push}
 use Rattle.heap_model.specs.Bytes.{u32_at}
 use Rattle.heap_model.specs.Chunk.{Chunk, free, movable, fixed, Spelled, size_of, total, is_movable, is_fixed, free_size, SpelledAll}
 use Rattle.heap_model.specs.Slots.{slots_total, area_start}
-use Rattle.heap_model.specs.Heap.{BodyHere, IsCallersIfFixed}
+use Rattle.heap_model.specs.Heap.{BodyHere, IsKnownIfFixed}
 use Rattle.heap_model.specs.Pairing.{NamesItsSlot}
-use Rattle.heap_model.specs.Reading.{chunks_of, names_its_slot, is_callers_if_fixed}
+use Rattle.heap_model.specs.Reading.{chunks_of, names_its_slot}
 use Rattle.laws_heap.proofs.Chunks.{Spelled-size, SpelledAll-end, SpelledAll-push}
 use Rattle.laws_heap.proofs.Runs.{chunks_from-tiled}
-use Rattle.laws_heap.proofs.Accepted.{Decides-names, Decides-callers}
+use Rattle.laws_heap.proofs.Accepted.{Decides-names}
 use Rattle.laws_heap.proofs.Placed.{AnyPlaced-left, AnyPlaced-right, AnyPlaced-split, EveryPlaced-push, FirstWithout-first, FirstWithout-kept}
 use Rattle.chunk_format.specs.declared.header.Header.{Header}
 use Rattle.chunk_format.specs.Header.{header_of, size_by, HasHeader}
@@ -24,17 +25,17 @@ use Rattle.heap_check.proofs.SlotLaws.{marks_more, none_at}
 
 -- ---- what is read off a header is so of its chunk
 
-movable_of : (c : Chunk) → movable_by (header_of c) ≡ count_by is_movable (c ∷ [])
+pub movable_of : (c : Chunk) → movable_by (header_of c) ≡ count_by is_movable (c ∷ [])
 movable_of (free size) = refl
 movable_of (movable bytes lock owner slot) = refl
 movable_of (fixed bytes owner) = refl
 
-fixed_of : (c : Chunk) → fixed_by (header_of c) ≡ count_by is_fixed (c ∷ [])
+pub fixed_of : (c : Chunk) → fixed_by (header_of c) ≡ count_by is_fixed (c ∷ [])
 fixed_of (free size) = refl
 fixed_of (movable bytes lock owner slot) = refl
 fixed_of (fixed bytes owner) = refl
 
-free_of : (c : Chunk) → free_by (header_of c) ≡ free_size c
+pub free_of : (c : Chunk) → free_by (header_of c) ≡ free_size c
 free_of (free size) = refl
 free_of (movable bytes lock owner slot) = refl
 free_of (fixed bytes owner) = refl
@@ -44,12 +45,14 @@ names_of image at (free size) = refl
 names_of image at (movable bytes lock owner slot) = refl
 names_of image at (fixed bytes owner) = refl
 
-callers_of : (at : ℕ) (c : Chunk) → callers_by (header_of c) ≡ is_callers_if_fixed at c
-callers_of at (free size) = refl
-callers_of at (movable bytes lock owner slot) = refl
-callers_of at (fixed bytes owner) = refl
+Decides-known_alone : (at : ℕ) (c : Chunk) → Decides (callers_by (header_of c)) (IsKnownIfFixed [] at c)
+Decides-known_alone at (free size) = (λ e. tt, λ h. refl)
+Decides-known_alone at (movable bytes lock owner slot) = (λ e. tt, λ h. refl)
+Decides-known_alone at (fixed bytes owner) =
+    let d = Decides-and _ _ (Decides-ltb 0 owner) (Decides-ltb owner 15) in
+    (λ e. (let both = d.0 e in (both.1, inl both.0)), λ h. d.1 (elim h.1 [ inl some ↦ some | inr none ↦ absurd none ], h.0))
 
-body_of : (slot place at : ℕ) (c : Chunk) → BodyBy slot place at (header_of c) ≡ BodyHere slot place at c
+pub body_of : (slot place at : ℕ) (c : Chunk) → BodyBy slot place at (header_of c) ≡ BodyHere slot place at c
 body_of slot place at (free size) = refl
 body_of slot place at (movable bytes lock owner named) = refl
 body_of slot place at (fixed bytes owner) = refl
@@ -78,7 +81,7 @@ owner_here image slot at (movable bytes lock owner named) s b = record { at = at
 owner_here image slot at (fixed bytes owner) s b = absurd b
 
 pub owners_more : (notes : Bool) (image : List ℕ) (at : ℕ) (header : Header) (old new : List ℕ) → HasHeader image at header → MarksBody notes image at header old new → AreNoted notes image old → AreNoted notes image new
-owners_more notes image at header old new found adds was slot number s marked = elim (adds slot number s) [
+owners_more notes image at header old new found adds was slot number s marked = elim (adds.each slot number s) [
   | inl here ↦
       let place : ℕ = u32_at image slot in
       let body : BodyHere slot place at found.chunk = subst (λ (X : Type 0). X) (ap (BodyBy slot place at) found.header_is ∙ body_of slot place at found.chunk) here.0 in
@@ -88,10 +91,10 @@ owners_more notes image at header old new found adds was slot number s marked = 
 
 -- ---- one chunk more
 
-count_push : (test : Chunk → Bool) (cs : List Chunk) (c : Chunk) → count_by test (cs ++ c ∷ []) ≡ count_by test cs + count_by test (c ∷ [])
+pub count_push : (test : Chunk → Bool) (cs : List Chunk) (c : Chunk) → count_by test (cs ++ c ∷ []) ≡ count_by test cs + count_by test (c ∷ [])
 count_push test cs c = let e : cond (test c) 1 0 ≡ 0 + cond (test c) 1 0 = omega arith in sum_by_push (λ (x : Chunk). cond (test x) 1 0) cs c ∙ ap (λ (n : ℕ). count_by test cs + n) e
 
-noted_more : (P : ℕ → Chunk → Type 0) (start : ℕ) (before : List Chunk) (c : Chunk) (at : ℕ) (found : Option ℕ) (right : Bool) → at ≡ start + total before → Decides right (P at c)
+pub noted_more : (P : ℕ → Chunk → Type 0) (start : ℕ) (before : List Chunk) (c : Chunk) (at : ℕ) (found : Option ℕ) (right : Bool) → at ≡ start + total before → Decides right (P at c)
     → IsFirstWithout P start before found → IsFirstWithout P start (before ++ c ∷ []) (noted found at right)
 noted_more P start before c at (Some first) right e decides was = FirstWithout-kept P start before c first was
 noted_more P start before c at None true e decides was = EveryPlaced-push P start before c at e was (decides.0 refl)
@@ -128,9 +131,9 @@ surveys_more notes image before c at header old new before_marks after_marks e i
   without_slot = subst (λ (found : Option ℕ). IsFirstWithout (NamesItsSlot image) (area_start image) (before ++ c ∷ []) found) (sym adds.without_slot)
       (noted_more (NamesItsSlot image) (area_start image) before c at old.without_slot (names_by image at header) e
       (subst (λ (b : Bool). Decides b (NamesItsSlot image at c)) (sym (ap (names_by image at) is ∙ names_of image at c)) (Decides-names image at c)) was.without_slot);
-  bad_owner = subst (λ (found : Option ℕ). IsFirstWithout IsCallersIfFixed (area_start image) (before ++ c ∷ []) found) (sym adds.bad_owner)
-      (noted_more IsCallersIfFixed (area_start image) before c at old.bad_owner (callers_by header) e
-      (subst (λ (b : Bool). Decides b (IsCallersIfFixed at c)) (sym (ap callers_by is ∙ callers_of at c)) (Decides-callers at c)) was.bad_owner);
+  bad_owner = subst (λ (found : Option ℕ). IsFirstWithout (IsKnownIfFixed []) (area_start image) (before ++ c ∷ []) found) (sym adds.bad_owner)
+      (noted_more (IsKnownIfFixed []) (area_start image) before c at old.bad_owner (callers_by header) e
+      (subst (λ (b : Bool). Decides b (IsKnownIfFixed [] at c)) (sym (ap callers_by is)) (Decides-known_alone at c)) was.bad_owner);
 } where
   coe_to : {A B : Type 0} → A ≡ B → A → B
   coe_to e x = subst (λ (X : Type 0). X) e x
@@ -145,7 +148,7 @@ surveys_none image survey marks room none no_movable no_fixed no_free without_sl
   free = no_free;
   marked = λ slot k s. (λ m. absurd (none_at image marks room none slot k s m), λ body. absurd body);
   without_slot = subst (λ (found : Option ℕ). IsFirstWithout (NamesItsSlot image) (area_start image) [] found) (sym without_slot) tt;
-  bad_owner = subst (λ (found : Option ℕ). IsFirstWithout IsCallersIfFixed (area_start image) [] found) (sym bad_owner) tt;
+  bad_owner = subst (λ (found : Option ℕ). IsFirstWithout (IsKnownIfFixed []) (area_start image) [] found) (sym bad_owner) tt;
 }
 
 pub walked_more : (notes : Bool) (image : List ℕ) (at : ℕ) (header : Header) (old new : Survey) (before_marks after_marks : List ℕ) → HasSurveyed image at old before_marks → HasHeader image at header

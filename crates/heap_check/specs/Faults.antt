@@ -2,25 +2,29 @@
 use Rattle.std.specs.Prelude.{◌≡◌, ◌≢◌, ◌<◌, ◌+◌, ◌⊎◌, ℕ, List, [], ◌∷◌, length}
 use Rattle.heap_model.specs.Bytes.{u16_at, u32_at}
 use Rattle.heap_model.specs.Chunk.{Chunk, Spelled, SpelledAll}
-use Rattle.heap_model.specs.Placed.{FirstWithout, FirstOne}
-use Rattle.heap_model.specs.Slots.{slot_count, head_end, slots_of, area_start}
-use Rattle.heap_model.specs.Frame.{magic, magic_at, size_at, reserved_at, frame_size}
-use Rattle.heap_model.specs.Heap.{Tiles, IsCallersIfFixed, HasDirectory}
+use Rattle.heap_model.specs.Placed.{AnyPlaced, FirstWithout, FirstOne}
+use Rattle.heap_model.specs.Slots.{Table, slot_count, head_end, slots_of, area_start, first_next, further_tables}
+use Rattle.heap_model.specs.Frame.{magic, chained_magic, magic_at, size_at, reserved_at, frame_size}
+use Rattle.heap_model.specs.Heap.{TableHere, IsTablePlace, Tiles, IsKnownIfFixed, HasDirectory}
 use Rattle.heap_model.specs.Pairing.{HoldsBody, NamesItsSlot}
 use Rattle.heap_model.specs.Reading.{chunks_of}
 use Rattle.chunk_format.specs.Blank.{IsRegionSize}
 use Rattle.heap_check.specs.declared.fault.HeapFault.{HeapFault}
-use Rattle.heap_check.specs.declared.fault.HeapFault.TheVariants.{TooShort, BadMagic, BadSize, BadSlotCount, BadReserved, BadPadding, BadChunk, SlotMismatch, ChunkWithoutSlot, BadFixedOwner, BadDirectory}
+use Rattle.heap_check.specs.declared.fault.HeapFault.TheVariants.{TooShort, BadMagic, BadSize, BadSlotCount, BadReserved, BadPadding, BadChunk, BadTable, SlotMismatch, ChunkWithoutSlot, BadFixedOwner, BadDirectory}
 
 -- ---- what each fault says
 
+-- the first four bytes are those of one of the two layouts
+abbrev pub HasMagic : List ℕ → Type 0
+HasMagic image = (u32_at image magic_at ≡ magic) ⊎ (u32_at image magic_at ≡ chained_magic)
+
 -- too short for a frame, or the magic is there and the size field is above the length
 abbrev pub IsTooShort : List ℕ → Type 0
-IsTooShort image = (length image < frame_size) ⊎ ((u32_at image magic_at ≡ magic) × (length image < u32_at image size_at))
+IsTooShort image = (length image < frame_size) ⊎ (HasMagic image × (length image < u32_at image size_at))
 
 -- the first four bytes are others
 abbrev pub HasBadMagic : List ℕ → Type 0
-HasBadMagic image = u32_at image magic_at ≢ magic
+HasBadMagic image = HasMagic image → ⊥
 
 -- the size field isn't the length, or no image may have this length
 abbrev pub HasBadSize : List ℕ → Type 0
@@ -45,6 +49,23 @@ pub record IsBadChunk (image : List ℕ) (at : ℕ) : Type 0 where
   pub inside : at < length image
   pub nothing : (chunk : Chunk) → Spelled image at chunk → ⊥
 
+-- these tables stand one behind the other from one word `next` to another, and none of them twice
+abbrev pub Leads : List ℕ → List Chunk → ℕ → List Table → ℕ → Type 0
+Leads image chunks next [] last = next ≡ last
+Leads image chunks next (table ∷ tables) last =
+    (next ≡ table.place) × AnyPlaced (TableHere table) (area_start image) chunks × (IsTablePlace tables table.place → ⊥) × Leads image chunks (u32_at image table.place) tables last
+
+-- The chunks reach the end. So many further tables stand along the chain, and the word `next` behind them is not
+-- 0, and not the place of a table that isn't among them.
+pub record IsBadTable (image : List ℕ) (number : ℕ) : Type 0 where
+  pub area : SpelledAll image (area_start image) (chunks_of image) (length image)
+  pub tables : List Table
+  pub count : length tables ≡ number
+  pub next : ℕ
+  pub leads : Leads image (chunks_of image) (first_next image) tables next
+  pub more : next ≢ 0
+  pub no_other : (table : Table) → AnyPlaced (TableHere table) (area_start image) (chunks_of image) → table.place ≡ next → IsTablePlace tables next
+
 -- the first slot in use that isn't the place of a movable chunk which names it
 abbrev pub IsSlotMismatch : List ℕ → ℕ → Type 0
 IsSlotMismatch image slot = Tiles image (chunks_of image) × FirstOne (HoldsBody image (chunks_of image)) (slots_of image) slot
@@ -53,9 +74,9 @@ IsSlotMismatch image slot = Tiles image (chunks_of image) × FirstOne (HoldsBody
 abbrev pub IsChunkWithoutSlot : List ℕ → ℕ → Type 0
 IsChunkWithoutSlot image at = Tiles image (chunks_of image) × FirstWithout (NamesItsSlot image) (area_start image) (chunks_of image) at
 
--- the first fixed chunk, by its offset, with owner 0 or 15
+-- the first fixed chunk, by its offset, with owner 15, or with owner 0 and no table
 abbrev pub IsBadFixedOwner : List ℕ → ℕ → Type 0
-IsBadFixedOwner image at = Tiles image (chunks_of image) × FirstWithout IsCallersIfFixed (area_start image) (chunks_of image) at
+IsBadFixedOwner image at = Tiles image (chunks_of image) × FirstWithout (IsKnownIfFixed (further_tables image)) (area_start image) (chunks_of image) at
 
 -- the directory word is neither 0 nor a slot whose chunk is the manager's
 abbrev pub HasBadDirectory : List ℕ → Type 0
@@ -82,9 +103,9 @@ slot_faults image =
     ∷ (HasBadDirectory image brings BadDirectory)
     ∷ []
 
--- of the chunks, and then those
+-- of the chunks and of the chain of tables, and then those
 abbrev pub area_faults : List ℕ → List (HeapFault → Type 0)
-area_faults image = (IsBadChunk image locates BadChunk) ∷ slot_faults image
+area_faults image = (IsBadChunk image locates BadChunk) ∷ (IsBadTable image locates BadTable) ∷ slot_faults image
 
 -- of what stands in front of the chunks, and then those
 abbrev pub faults : List ℕ → List (HeapFault → Type 0)

@@ -2,3 +2,4 @@ pub mod Faults
 pub mod Owners
 pub mod Summary
 pub mod Survey
+pub mod Chained

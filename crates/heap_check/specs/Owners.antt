@@ -1,12 +1,24 @@
--- The owners of the chunks of slots, as marks.
-use Rattle.std.specs.Prelude.{◌≡◌, ◌<◌, ◌≤◌, ℕ, Bool, true, false, List, length, slice_index}
+-- The owners of the chunks of slots, as marks. A mark belongs to a word of the image, whatever the word is: its number
+-- counts the words between the frame and it. In an image without a chain as many slots stand before a slot.
+use Rattle.std.specs.Prelude.{◌≡◌, ◌<◌, ◌+◌, ◌*◌, ◌/◌, if◌then◌else◌, ℕ, Bool, true, false, List, length, slice_index}
 use Rattle.heap_model.specs.Chunk.{managers_owner}
-use Rattle.heap_model.specs.Slots.{StandsBehind, slots_total}
+use Rattle.heap_model.specs.Frame.{frame_size}
+use Rattle.heap_model.specs.Slots.{slot_size, is_chained, IsSlot}
 use Rattle.heap_model.specs.Store.{owner_under}
+use Rattle.chunk_format.specs.declared.header.Header.{Header}
+use Rattle.chunk_format.specs.declared.header.Header.TheVariants as headers
 
--- so many slots an image has at most, as two bytes count them
+-- so many slots an image without a chain has at most, as two bytes count them
 abbrev pub most_slots : ℕ
 most_slots = 65535
+
+-- the offset of the word that the mark of this number belongs to
+abbrev pub marked_word : ℕ → ℕ
+marked_word number = frame_size + slot_size * number
+
+-- so many marks are enough for the slots of an image
+abbrev pub marks_needed : List ℕ → ℕ
+marks_needed image = if is_chained image then length image / slot_size else most_slots
 
 -- the mark of a slot that has no chunk
 abbrev pub no_owner : ℕ
@@ -26,7 +38,25 @@ met_owner false = no_owner
 abbrev pub NoneMarked : List ℕ → Type 0
 NoneMarked marks = (number : ℕ) → number < length marks → slice_index marks number ≡ no_owner
 
--- each slot is marked with the owner of its chunk, if it has one
+-- each slot has a mark, the owner of its chunk if it has one, and no other word is marked
 pub record HasOwners (image owners : List ℕ) : Type 0 where
-  pub room : slots_total image ≤ length owners
-  pub each : (slot number : ℕ) → StandsBehind image slot number → slice_index owners number ≡ owner_under image slot
+  pub room : (number : ℕ) → IsSlot image (marked_word number) → number < length owners
+  pub each : (number : ℕ) → IsSlot image (marked_word number) → slice_index owners number ≡ owner_under image (marked_word number)
+  pub others : (number : ℕ) → number < length owners → (IsSlot image (marked_word number) → ⊥) → slice_index owners number ≡ no_owner
+
+-- the chunk, where it is movable, names a word that has one of so many marks
+abbrev pub IsRoomFor : Header → ℕ → Type 0
+IsRoomFor (headers.Free size) count = Unit {0}
+IsRoomFor (headers.Movable length lock owner slot) count = (number : ℕ) × (slot ≡ marked_word number) × (number < count)
+IsRoomFor (headers.Fixed length owner) count = Unit {0}
+
+-- the chunk is movable, names this word and has this owner
+abbrev pub NamesBy : ℕ → ℕ → Header → Type 0
+NamesBy word owner (headers.Free size) = ⊥
+NamesBy word owner (headers.Movable length lock own slot) = (slot ≡ word) × (own ≡ owner)
+NamesBy word owner (headers.Fixed length own) = ⊥
+
+-- the word that the chunk names, where it is movable, is marked with its owner, and each other is marked as it was
+pub record NotesOwner (header : Header) (old new : List ℕ) : Type 0 where
+  pub own : (number owner : ℕ) → NamesBy (marked_word number) owner header → slice_index new number ≡ owner
+  pub others : (number : ℕ) → ((owner : ℕ) → NamesBy (marked_word number) owner header → ⊥) → slice_index new number ≡ slice_index old number

@@ -1,10 +1,10 @@
 -- What a walk over chunks has found, and what one header adds to it.
-use Rattle.std.specs.Prelude.{◌≡◌, ◌≢◌, ◌+◌, ◌-◌, ◌==◌, ◌&&◌, ◌↔◌, ◌⊎◌, ◌≤◌, nat_lt, ℕ, Bool, true, false, List, length, slice_index, count_by, sum_by, Option, Some, None, MatchOption}
+use Rattle.std.specs.Prelude.{◌≡◌, ◌≢◌, ◌+◌, ◌-◌, ◌==◌, ◌&&◌, ◌↔◌, ◌⊎◌, ◌≤◌, nat_lt, ℕ, Bool, true, false, List, [], length, slice_index, count_by, sum_by, Option, Some, None, MatchOption}
 use Rattle.heap_model.specs.Bytes.{u32_at}
 use Rattle.heap_model.specs.Chunk.{Chunk, free, movable, fixed, Spelled, SpelledAll, is_movable, is_fixed, free_size, managers_owner, data_owner}
 use Rattle.heap_model.specs.Placed.{EveryPlaced, FirstWithout, EveryOne, FirstOne}
-use Rattle.heap_model.specs.Slots.{area_start, is_slot, slots_of, StandsBehind}
-use Rattle.heap_model.specs.Heap.{Tiles, IsBody, IsCallersIfFixed}
+use Rattle.heap_model.specs.Slots.{area_start, is_slot, slots_of, slots_total, StandsBehind}
+use Rattle.heap_model.specs.Heap.{Tiles, IsBody, IsKnownIfFixed}
 use Rattle.heap_model.specs.Pairing.{HoldsBody, NamesItsSlot}
 use Rattle.heap_model.specs.Reading.{chunk_at, chunks_of}
 use Rattle.chunk_format.specs.declared.header.Header.{Header}
@@ -86,10 +86,15 @@ abbrev pub AreNoted : Bool → List ℕ → List ℕ → Type 0
 AreNoted notes image marks = (slot number : ℕ) → StandsBehind image slot number → MarkedAt marks number
     → ((owner : ℕ) × (slice_index marks number ≡ noted_owner notes owner) × IsOwnerOf image slot owner)
 
--- the slots of which this holds have this mark, and the others have the one that they had
-abbrev pub AddsMark : List ℕ → (ℕ → Type 0) → ℕ → List ℕ → List ℕ → Type 0
-AddsMark image P mark old new = (slot number : ℕ) → StandsBehind image slot number
-    → ((P slot × (slice_index new number ≡ mark)) ⊎ ((P slot → ⊥) × (slice_index new number ≡ slice_index old number)))
+-- the marks that stand for no slot are what they were
+abbrev pub KeepsBeyond : List ℕ → List ℕ → List ℕ → Type 0
+KeepsBeyond image old new = (number : ℕ) → slots_total image ≤ number → slice_index new number ≡ slice_index old number
+
+-- the slots of which this holds have this mark, and all other marks are what they were
+pub record AddsMark (image : List ℕ) (P : ℕ → Type 0) (mark : ℕ) (old new : List ℕ) : Type 0 where
+  pub each : (slot number : ℕ) → StandsBehind image slot number
+      → ((P slot × (slice_index new number ≡ mark)) ⊎ ((P slot → ⊥) × (slice_index new number ≡ slice_index old number)))
+  pub beyond : KeepsBeyond image old new
 
 -- the slot is this one and holds the place of the chunk at this offset
 abbrev pub IsHolder : List ℕ → ℕ → ℕ → ℕ → Type 0
@@ -111,7 +116,7 @@ pub record Surveys (image : List ℕ) (chunks : List Chunk) (survey : Survey) (m
   pub free : survey.free ≡ sum_by free_size chunks
   pub marked : AreMarks image chunks marks
   pub without_slot : IsFirstWithout (NamesItsSlot image) (area_start image) chunks survey.without_slot
-  pub bad_owner : IsFirstWithout IsCallersIfFixed (area_start image) chunks survey.bad_owner
+  pub bad_owner : IsFirstWithout (IsKnownIfFixed []) (area_start image) chunks survey.bad_owner
 
 -- a slot in use is marked
 abbrev pub IsMarked : List ℕ → List ℕ → ℕ → Type 0

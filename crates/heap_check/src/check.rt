@@ -1,19 +1,23 @@
 //! The check of a whole image.
 
-ghost use Rattle.std.specs.Prelude.{◌≡◌, ◌≤◌, true, length, map, IfOk, IfErr, OnOk, OnErr};
+ghost use Rattle.std.specs.Prelude.{◌≡◌, ◌≤◌, true, false, length, map, IfOk, IfErr, OnOk, OnErr};
+ghost use Rattle.heap_model.specs.Slots.{is_chained as model_chained};
 ghost use Rattle.heap_model.specs.Heap.{IsHead, HeapAccepted};
 ghost use Rattle.heap_check.specs.Faults.{IsFirstFault};
-ghost use Rattle.heap_check.specs.Owners.{most_slots, NoneMarked, HasOwners};
+ghost use Rattle.heap_check.specs.Owners.{most_slots, marks_needed, NoneMarked, HasOwners};
 ghost use Rattle.heap_check.specs.Summary.{Summarizes};
 
+use crate::chained::check_chained;
 use crate::directory::has_directory;
 use crate::fault::HeapFault;
 use crate::head::check_head;
 use crate::marks::{MOST_MARKS, Mark};
+use crate::owners::note_owners;
 use crate::slots::find_unmarked;
 use crate::summary::Summary;
 use crate::survey::survey_chunks;
-use master_table::Table;
+use chunk_format::is_chained;
+use master_table::OneTable;
 use raw_region::Region;
 
 /// Whether the bytes of a region are an accepted heap: its counts, or else its first fault. It takes
@@ -25,31 +29,66 @@ pub fn check_heap(region: &Region) -> Result<Summary, HeapFault>
     ensures refused { OnErr result (HeapAccepted region.now.bytes → ⊥) }
 {
     match check_head(region) {
-        Ok(()) => check_with_marks(region),
+        Ok(()) => {
+            if is_chained(region) {
+                check_chained(region)
+            } else {
+                check_with_marks(region)
+            }
+        }
         Err(fault) => Err(fault),
     }
 }
 
-/// `check_heap`, which marks each slot with the owner of its chunk on the way. Where the heap is accepted,
-/// all slots are so marked, and where it isn't, some of them may be.
+/// `check_heap`, which also marks each slot with the owner of its chunk, in marks that the caller lends:
+/// `marks_needed` says how many. Where the heap is accepted, all slots are so marked and no other word is,
+/// and where it isn't, some of them may be.
 pub fn check_heap_noting(region: &Region, owners: &mut [u8]) -> Result<Summary, HeapFault>
-    requires room { most_slots ≤ length owners.old }
+    requires room { marks_needed region.now.bytes ≤ length owners.old }
     requires clear { NoneMarked owners.old }
     ensures accepted { OnOk result (HeapAccepted region.now.bytes) }
     ensures summary { IfOk result (Summarizes region.now.bytes) }
     ensures fault { IfErr result (IsFirstFault region.now.bytes) }
     ensures refused { OnErr result (HeapAccepted region.now.bytes → ⊥) }
     ensures owners { OnOk result (HasOwners region.now.bytes owners.new) }
+    ensures len { length owners.new ≡ length owners.old }
 {
     match check_head(region) {
-        Ok(()) => check_area(region, owners),
+        Ok(()) => {
+            if is_chained(region) {
+                check_chained_noting(region, owners)
+            } else {
+                check_area(region, owners)
+            }
+        }
         Err(fault) => Err(fault),
     }
+}
+
+/// Checks an image with a chain behind a right head, and then notes owners.
+fn check_chained_noting(region: &Region, owners: &mut [u8]) -> Result<Summary, HeapFault>
+    requires head { IsHead region.now.bytes }
+    requires chained { model_chained region.now.bytes ≡ true }
+    requires room { marks_needed region.now.bytes ≤ length owners.old }
+    requires clear { NoneMarked owners.old }
+    ensures accepted { OnOk result (HeapAccepted region.now.bytes) }
+    ensures summary { IfOk result (Summarizes region.now.bytes) }
+    ensures fault { IfErr result (IsFirstFault region.now.bytes) }
+    ensures owners { OnOk result (HasOwners region.now.bytes owners.new) }
+    ensures len { length owners.new ≡ length owners.old }
+{
+    let summary = match check_chained(region) {
+        Ok(summary) => summary,
+        Err(fault) => return Err(fault),
+    };
+    note_owners(region, owners);
+    Ok(summary)
 }
 
 /// Checks the chunks and the slots behind a right head, with marks of its own.
 fn check_with_marks(region: &Region) -> Result<Summary, HeapFault>
     requires head { IsHead region.now.bytes }
+    requires plain { model_chained region.now.bytes ≡ false }
     ensures accepted { OnOk result (HeapAccepted region.now.bytes) }
     ensures summary { IfOk result (Summarizes region.now.bytes) }
     ensures fault { IfErr result (IsFirstFault region.now.bytes) }
@@ -61,6 +100,7 @@ fn check_with_marks(region: &Region) -> Result<Summary, HeapFault>
 /// Checks the chunks and the slots behind a right head, with a mark for the slot of each number.
 fn check_area<M: Mark>(region: &Region, marks: &mut [M]) -> Result<Summary, HeapFault>
     requires head { IsHead region.now.bytes }
+    requires plain { model_chained region.now.bytes ≡ false }
     requires room { most_slots ≤ length marks.old }
     requires clear { NoneMarked (map M.says marks.old) }
     ensures accepted { OnOk result (HeapAccepted region.now.bytes) }
@@ -68,8 +108,9 @@ fn check_area<M: Mark>(region: &Region, marks: &mut [M]) -> Result<Summary, Heap
     ensures fault { IfErr result (IsFirstFault region.now.bytes) }
     ensures owners { M.notes ≡ true
         → OnOk result (HasOwners region.now.bytes (map M.says marks.new)) }
+    ensures len { length marks.new ≡ length marks.old }
 {
-    let table = Table::of(region);
+    let table = OneTable::of(region);
     let survey = match survey_chunks(region, table, marks) {
         Ok(survey) => survey,
         Err(at) => return Err(HeapFault::BadChunk(at)),

@@ -4,18 +4,18 @@ ghost use Rattle.std.specs.Prelude.{◌<◌, ◌^◌, ◌↔◌, length, IsTrue}
 ghost use Rattle.heap_model.specs.Slots.{HasTable};
 ghost use Rattle.heap_model.specs.Heap.{HasDirectory};
 ghost use Rattle.heap_model.specs.Reading.{chunks_of};
-ghost use Rattle.master_table.specs.Table.{IsTable};
+ghost use Rattle.master_table.specs.Table.{IsOneTable};
 ghost use Rattle.heap_check.specs.Survey.{IsPaired, IsManagersBody};
 
 use chunk_format::{HEADER_SIZE, Header, MANAGERS_OWNER, directory};
-use master_table::Table;
+use master_table::OneTable;
 use raw_region::Region;
 
 /// Whether the directory word is 0, or the offset of a slot whose chunk is the manager's.
-pub(crate) fn has_directory(region: &Region, table: Table) -> bool
+pub(crate) fn has_directory(region: &Region, table: OneTable) -> bool
     requires small { length region.now.bytes < 2 ^ 24 }
     requires has_table { HasTable region.now }
-    requires table { IsTable region.now.bytes table }
+    requires table { IsOneTable region.now.bytes table }
     requires paired { IsPaired region.now.bytes }
     ensures { IsTrue result ↔ HasDirectory region.now.bytes (chunks_of region.now.bytes) }
 {

@@ -9,7 +9,7 @@ pub enum HeapFault {
     /// Under 16 bytes, or the magic is there and the size field is above the length.
     #[error("TooShort")]
     TooShort,
-    /// The first four bytes aren't `PHI1`.
+    /// The first four bytes are neither `PHI1` nor `PHI2`.
     #[error("BadMagic")]
     BadMagic,
     /// The size field isn't the length, isn't a multiple of 8, or isn't 64 to 16,777,208.
@@ -27,13 +27,17 @@ pub enum HeapFault {
     /// The first chunk out of shape, by its offset.
     #[error("BadChunk {0}")]
     BadChunk(u32),
+    /// The first word `next` along the chain of tables, by the number of further tables in front of it, that is
+    /// not 0 and leads to no table, or to one for the second time.
+    #[error("BadTable {0}")]
+    BadTable(u32),
     /// The first slot in use whose word isn't the place of a movable chunk which names it, by its offset.
     #[error("SlotMismatch {0}")]
     SlotMismatch(u32),
     /// The first movable chunk that names no slot which holds its place, by its offset.
     #[error("ChunkWithoutSlot {0}")]
     ChunkWithoutSlot(u32),
-    /// The first fixed chunk with owner 0 or 15, by its offset.
+    /// The first fixed chunk with owner 15, or with owner 0 and no table, by its offset.
     #[error("BadFixedOwner {0}")]
     BadFixedOwner(u32),
     /// The directory word is neither 0 nor the offset of a slot in use whose chunk has owner 0.

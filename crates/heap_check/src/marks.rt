@@ -1,13 +1,42 @@
-//! Marks for the slots of a table: that the chunk of a slot was met, and for who asks, of which owner it is.
+//! Marks for slots: that the chunk of a slot was met, and for who asks, of which owner it is.
 
-ghost use Rattle.std.specs.Prelude.{◌≡◌, ◌≢◌, ◌↔◌, ℕ, Bool, true, false, IsTrue};
-ghost use Rattle.heap_check.specs.Owners.{no_owner, noted_owner, met_owner};
+ghost use Rattle.std.specs.Prelude.{◌≡◌, ◌≢◌, ◌≤◌, ◌↔◌, ℕ, Bool, true, false, List, IsTrue, IfSome, IfNone};
+ghost use Rattle.heap_model.specs.Frame.{HasFrame};
+ghost use Rattle.heap_check.specs.Owners.{no_owner, noted_owner, met_owner, marked_word, marks_needed as model_needed};
 
-/// How many marks a table can need: the most slots that one can have, and one mark more.
+use chunk_format::{FRAME_SIZE, SLOT_SIZE, is_chained};
+use raw_region::Region;
+
+/// How many marks an image without a chain can need: the most slots that it can have, and one mark more.
 pub const MOST_MARKS: usize = 65_536;
 
 /// The mark of a slot that has no chunk, where marks are owners. No chunk has this owner.
 pub const NO_OWNER: u8 = 16;
+
+/// How many marks are enough for the slots of an image. Without a chain `MOST_MARKS` are; with one it is
+/// a mark for each word.
+pub fn marks_needed(region: &Region) -> usize
+    ensures enough { model_needed region.now.bytes ≤ result }
+    ensures exact { HasFrame region.now → result ≡ model_needed region.now.bytes }
+{
+    if region.len() >= FRAME_SIZE as usize && is_chained(region) {
+        region.len() / SLOT_SIZE as usize
+    } else {
+        MOST_MARKS - 1
+    }
+}
+
+/// The number of the mark for the word at an offset, if one of the words behind the frame begins there.
+#[inline]
+pub fn mark_number(slot: u32) -> Option<u32>
+    ensures some { IfSome result (λ number. marked_word number ≡ slot) }
+    ensures none { IfNone result ((number : ℕ) → marked_word number ≡ slot → ⊥) }
+{
+    if slot < FRAME_SIZE || slot % SLOT_SIZE != 0 {
+        return None;
+    }
+    Some((slot - FRAME_SIZE) / SLOT_SIZE)
+}
 
 /// What a walk over the chunks marks slots with.
 pub(crate) trait Mark: Copy {

@@ -4,13 +4,13 @@ ghost use Rattle.std.specs.Prelude.{◌≡◌, ◌≢◌, ◌≤◌, ◌<◌, �
 ghost use Rattle.heap_model.specs.Bytes.{u32_at};
 ghost use Rattle.heap_model.specs.Slots.{HasTable, IsSlot, StandsBehind, slots_total, area_start as model_start};
 ghost use Rattle.heap_check.specs.Faults.{IsBadChunk};
-ghost use Rattle.master_table.specs.Table.{IsTable};
+ghost use Rattle.master_table.specs.Table.{IsOneTable};
 ghost use Rattle.heap_check.specs.Owners.{NoneMarked};
-ghost use Rattle.heap_check.specs.Survey.{noted, holds_place, AddsMark, IsHolder, AreNoted, IsSurvey};
+ghost use Rattle.heap_check.specs.Survey.{noted, holds_place, AddsMark, IsHolder, AreNoted, KeepsBeyond, IsSurvey};
 
 use crate::marks::Mark;
 use chunk_format::{DATA_OWNER, HEADER_SIZE, Header, MANAGERS_OWNER, area_start};
-use master_table::Table;
+use master_table::OneTable;
 use raw_region::Region;
 
 /// What a walk has found so far: how many chunks there are of each kind, the free bytes, and the
@@ -26,7 +26,7 @@ pub(crate) struct Survey {
 
 /// The first offset that failed a test, once the test of the chunk at `at` is known.
 #[inline]
-fn note(first: Option<u32>, at: u32, right: bool) -> Option<u32>
+pub(crate) fn note(first: Option<u32>, at: u32, right: bool) -> Option<u32>
     ensures { result ≡ noted first at right }
 {
     if right { first } else { note_wrong(first, at) }
@@ -48,9 +48,9 @@ fn note_wrong(first: Option<u32>, at: u32) -> Option<u32>
 /// The number of the slot at this offset, if one stands there and holds the place of the chunk at
 /// `at`.
 #[inline]
-fn holder_of(region: &Region, table: Table, slot: u32, at: u32) -> Option<u32>
+fn holder_of(region: &Region, table: OneTable, slot: u32, at: u32) -> Option<u32>
     requires has_table { HasTable region.now }
-    requires table { IsTable region.now.bytes table }
+    requires table { IsOneTable region.now.bytes table }
     requires small { at < 2 ^ 24 }
     ensures below { IfSome result (λ number. number < slots_total region.now.bytes) }
     ensures number { IfSome result (StandsBehind region.now.bytes slot) }
@@ -70,14 +70,14 @@ fn holder_of(region: &Region, table: Table, slot: u32, at: u32) -> Option<u32>
 #[inline]
 fn mark_holder<M: Mark>(
     region: &Region,
-    table: Table,
+    table: OneTable,
     slot: u32,
     at: u32,
     mark: M,
     marks: &mut [M],
 ) -> bool
     requires has_table { HasTable region.now }
-    requires table { IsTable region.now.bytes table }
+    requires table { IsOneTable region.now.bytes table }
     requires small { at < 2 ^ 24 }
     requires room { slots_total region.now.bytes ≤ length marks.old }
     ensures holds { result ≡ holds_place region.now.bytes slot at }
@@ -122,11 +122,11 @@ impl Survey {
         region: &Region,
         at: u32,
         header: Header,
-        table: Table,
+        table: OneTable,
         marks: &mut [M],
     )
         requires has_table { HasTable region.now }
-        requires table { IsTable region.now.bytes table }
+        requires table { IsOneTable region.now.bytes table }
         requires small { at < 2 ^ 24 }
         requires counts { self.old.movable + self.old.fixed + self.old.free + free_by header
             < 2 ^ 25 }
@@ -164,16 +164,19 @@ impl Survey {
 /// at the end where that is less than a header.
 pub(crate) fn survey_chunks<M: Mark>(
     region: &Region,
-    table: Table,
+    table: OneTable,
     marks: &mut [M],
 ) -> Result<Survey, u32>
     requires small { length region.now.bytes < 2 ^ 24 }
-    requires table { IsTable region.now.bytes table }
+    requires has_table { HasTable region.now }
+    requires table { IsOneTable region.now.bytes table }
     requires inside { model_start region.now.bytes ≤ length region.now.bytes }
     requires room { slots_total region.now.bytes ≤ length marks.old }
     requires clear { NoneMarked (map M.says marks.old) }
     ensures surveyed { IfOk result (λ survey. IsSurvey region.now.bytes survey (map M.says marks.new)) }
     ensures noted { OnOk result (AreNoted M.notes region.now.bytes (map M.says marks.new)) }
+    ensures beyond { KeepsBeyond region.now.bytes (map M.says marks.old) (map M.says marks.new) }
+    ensures len { length marks.new ≡ length marks.old }
     ensures stuck { IfErr result (IsBadChunk region.now.bytes) }
 {
     let mut survey = Survey::new();

@@ -1,5 +1,5 @@
 -- Chunks: what each is, how it is spelled in an image, and runs of them without a gap.
-use Rattle.std.specs.Prelude.{◌≡◌, ◌≤◌, ◌<◌, ◌+◌, ◌-◌, ◌*◌, ◌/◌, ◌%◌, ◌^◌, ◌⊎◌, ◌==◌, ℕ, Bool, true, false, List, [], ◌∷◌, length, slice_range}
+use Rattle.std.specs.Prelude.{◌≡◌, ◌≤◌, ◌<◌, ◌+◌, ◌-◌, ◌*◌, ◌/◌, ◌%◌, ◌^◌, ◌⊎◌, ◌==◌, ◌&&◌, ◌++◌, if◌then◌else◌, ℕ, Bool, true, false, List, [], ◌∷◌, length, take, replicate, slice_range}
 use Rattle.heap_model.specs.Bytes.{u32_at}
 
 -- A chunk is free, and has a size; or movable, with bytes, a lock count below 15, an owner and the
@@ -17,7 +17,7 @@ fixed_lock = 15
 abbrev pub most_locks : ℕ
 most_locks = 14
 
--- the owner of the manager's own chunks: the directory and the headers of databases
+-- the owner of the manager's own chunks: the directory, the headers of databases and, fixed, the tables
 abbrev pub managers_owner : ℕ
 managers_owner = 0
 
@@ -42,6 +42,19 @@ size_of (fixed bytes owner) = need (length bytes)
 abbrev pub slot_named : ℕ → ℕ → ℕ
 slot_named at h_offset = (at + 2 * h_offset) % 2 ^ 25
 
+-- what the word `next` of a table takes
+abbrev pub next_size : ℕ
+next_size = 4
+
+-- The chunk is a table: a fixed one of the manager's. Its body is a word `next` and slots.
+abbrev pub is_table_by : ℕ → ℕ → Bool
+is_table_by lock owner = (lock == fixed_lock) && (owner == managers_owner)
+
+-- The bytes that a chunk's value has, by those of its body: the same, but of a table the word `next`
+-- alone, with zeros for its slots. What slots hold is no part of a chunk.
+unfoldable pub seen : ℕ → ℕ → List ℕ → List ℕ
+seen lock owner body = if is_table_by lock owner then take next_size body ++ replicate (length body - next_size) 0 else body
+
 -- At this offset stands the header of a free chunk of this size: the highest bit, and the size in
 -- the low 24. Its other bits and bytes may be any.
 pub record IsFree (image : List ℕ) (at size : ℕ) : Type 0 where
@@ -61,7 +74,7 @@ pub record IsLive (image : List ℕ) (at : ℕ) (bytes : List ℕ) (lock owner h
   pub lock_fits : lock < 16
   pub owner_fits : owner < 16
   pub h_offset_fits : h_offset < 2 ^ 24
-  pub body : slice_range image (at + 8) (at + 8 + length bytes) ≡ bytes
+  pub body : seen lock owner (slice_range image (at + 8) (at + 8 + length bytes)) ≡ bytes
   pub inside : at + need (length bytes) ≤ length image
 
 -- The chunk is spelled in the image at this offset. A fixed chunk's hOffset is 0; a movable chunk
@@ -110,3 +123,7 @@ abbrev pub is_owned_by : ℕ → Chunk → Bool
 is_owned_by owner (free size) = false
 is_owned_by owner (movable bytes lock own slot) = own == owner
 is_owned_by owner (fixed bytes own) = own == owner
+
+-- how many bytes the body of a live chunk has, by its first word
+abbrev pub body_length : ℕ → ℕ
+body_length word = word % 2 ^ 24 - 8 - word / 2 ^ 24

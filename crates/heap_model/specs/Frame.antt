@@ -3,9 +3,13 @@
 use Rattle.std.specs.Prelude.{ℕ}
 use Rattle.heap_model.specs.Memory.{Memory, IsWithin}
 
--- the first four bytes of an image, as a number: `PHI1`
+-- the first four bytes of an image, as a number: `PHI1`, an image with one table of slots
 abbrev pub magic : ℕ
 magic = 0x50484931
+
+-- or `PHI2`, an image whose tables are a chain
+abbrev pub chained_magic : ℕ
+chained_magic = 0x50484932
 
 -- where the magic stands
 abbrev pub magic_at : ℕ

@@ -1,15 +1,15 @@
 -- The accepted heap.
-use Rattle.std.specs.Prelude.{◌≡◌, ◌≢◌, ◌≤◌, ◌<◌, ◌+◌, ◌%◌, ◌⊎◌, ◌↔◌, ℕ, List, length}
+use Rattle.std.specs.Prelude.{◌≡◌, ◌≢◌, ◌≤◌, ◌<◌, ◌+◌, ◌*◌, ◌%◌, ◌⊎◌, ◌↔◌, ℕ, List, [], ◌∷◌, length}
 use Rattle.heap_model.specs.Bytes.{u16_at, u32_at}
-use Rattle.heap_model.specs.Chunk.{Chunk, free, movable, fixed, SpelledAll, managers_owner, data_owner}
+use Rattle.heap_model.specs.Chunk.{Chunk, free, movable, fixed, SpelledAll, managers_owner, data_owner, next_size}
 use Rattle.heap_model.specs.Placed.{EveryPlaced, AnyPlaced}
-use Rattle.heap_model.specs.Frame.{magic, magic_at, size_at, reserved_at, directory_at, least_size, most_size}
-use Rattle.heap_model.specs.Slots.{IsSlot, slot_count, head_end, area_start}
+use Rattle.heap_model.specs.Frame.{magic, chained_magic, magic_at, size_at, reserved_at, directory_at, least_size, most_size}
+use Rattle.heap_model.specs.Slots.{Table, IsSlot, slot_size, slot_count, head_end, area_start, first_next, further_tables}
 
 -- What stands in front of the chunks is right: the magic, the size of the whole image, the slot
 -- count, two zero bytes, and zeros behind the table. There is room for one chunk at least.
 pub record IsHead (image : List ℕ) : Type 0 where
-  pub magic_is : u32_at image magic_at ≡ magic
+  pub magic_is : (u32_at image magic_at ≡ magic) ⊎ (u32_at image magic_at ≡ chained_magic)
   pub size_is : u32_at image size_at ≡ length image
   pub least : least_size ≤ length image
   pub most : length image ≤ most_size
@@ -19,10 +19,25 @@ pub record IsHead (image : List ℕ) : Type 0 where
   pub reserved : u16_at image reserved_at ≡ 0
   pub padding : head_end image ≢ area_start image → u32_at image (head_end image) ≡ 0
 
--- the image is a head and then these chunks, without gap or rest
+-- the chunk at an offset is this table
+abbrev pub TableHere : Table → ℕ → Chunk → Type 0
+TableHere table at (free size) = ⊥
+TableHere table at (movable bytes lock owner slot) = ⊥
+TableHere table at (fixed bytes owner) = (owner ≡ managers_owner) × (at + 8 ≡ table.place) × (length bytes ≡ next_size + slot_size * table.count) × (0 < table.count)
+
+-- The tables are those of the chain that a word `next` begins: it is 0, or the place of the first, which
+-- is a fixed chunk of the manager's with one slot at least, and whose own word `next` begins the others.
+-- So no table stands twice in it.
+abbrev pub IsChain : List ℕ → List Chunk → ℕ → List Table → Type 0
+IsChain image chunks next [] = next ≡ 0
+IsChain image chunks next (table ∷ tables) =
+    (next ≡ table.place) × AnyPlaced (TableHere table) (area_start image) chunks × IsChain image chunks (u32_at image table.place) tables
+
+-- The image is a head and then these chunks, without gap or rest, and its further tables are among them.
 pub record Tiles (image : List ℕ) (chunks : List Chunk) : Type 0 where
   pub head : IsHead image
   pub area : SpelledAll image (area_start image) chunks (length image)
+  pub chain : IsChain image chunks (first_next image) (further_tables image)
 
 -- the chunk at an offset is a movable one that names this slot and has its body at this place
 abbrev pub BodyHere : ℕ → ℕ → ℕ → Chunk → Type 0
@@ -45,6 +60,17 @@ IsCallersIfFixed at (free size) = Unit {0}
 IsCallersIfFixed at (movable bytes lock owner slot) = Unit {0}
 IsCallersIfFixed at (fixed bytes owner) = (managers_owner < owner) × (owner < data_owner)
 
+-- one of the tables has its body there
+abbrev pub IsTablePlace : List Table → ℕ → Type 0
+IsTablePlace [] place = ⊥
+IsTablePlace (table ∷ tables) place = (table.place ≡ place) ⊎ IsTablePlace tables place
+
+-- the chunk, where it is fixed, is a caller's, or one of the tables
+abbrev pub IsKnownIfFixed : List Table → ℕ → Chunk → Type 0
+IsKnownIfFixed tables at (free size) = Unit {0}
+IsKnownIfFixed tables at (movable bytes lock owner slot) = Unit {0}
+IsKnownIfFixed tables at (fixed bytes owner) = (owner < data_owner) × ((managers_owner < owner) ⊎ IsTablePlace tables (at + 8))
+
 -- the chunk is a movable one of the manager's, and names this slot
 abbrev pub ManagersHere : ℕ → ℕ → Chunk → Type 0
 ManagersHere slot at (free size) = ⊥
@@ -63,7 +89,7 @@ HasDirectory image chunks = (directory_of image ≡ 0) ⊎ AnyPlaced (ManagersHe
 pub record IsHeap (image : List ℕ) (chunks : List Chunk) : Type 0 where
   pub tiles : Tiles image chunks
   pub tied : Tied image chunks
-  pub fixed_are_callers : EveryPlaced IsCallersIfFixed (area_start image) chunks
+  pub fixed_are_known : EveryPlaced (IsKnownIfFixed (further_tables image)) (area_start image) chunks
   pub directory : HasDirectory image chunks
 
 -- the image is an accepted heap

@@ -2,7 +2,7 @@
 -- its own chunks and databases of.
 use Rattle.std.specs.Prelude.{◌≡◌, ℕ, List, length}
 use Rattle.heap_model.specs.Chunk.{managers_owner}
-use Rattle.heap_model.specs.Slots.{slots_of}
+use Rattle.heap_model.specs.Slots.{slots_of, tables_of}
 use Rattle.heap_model.specs.Heap.{HeapAccepted, directory_of}
 use Rattle.heap_model.specs.Meaning.{ChunkMap}
 use Rattle.heap_model.specs.Reading.{chunks_of, held}
@@ -20,10 +20,11 @@ pub record Leaves (old new : List ℕ) (others : ChunkMap) : Type 0 where
   pub still : Still old new
 
 -- The new image is an accepted heap with this directory word. It is as long as the old one, has the same
--- slots and chunks, and each name stands for what it stood for.
+-- tables, slots and chunks, and each name stands for what it stood for.
 pub record NamesDirectory (old new : List ℕ) (name : ℕ) : Type 0 where
   pub accepted : HeapAccepted new
   pub len : length new ≡ length old
+  pub tables : tables_of new ≡ tables_of old
   pub slots : slots_of new ≡ slots_of old
   pub directory : directory_of new ≡ name
   pub map : (other : ℕ) → held new other ≡ held old other

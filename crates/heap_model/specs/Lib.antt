@@ -23,6 +23,8 @@ pub mod Files
 pub mod Counts
 pub mod Rooms
 pub mod Leaving
+pub mod MoreTables
+pub mod Migration
 pub mod Numbers
 pub mod Refusals
 pub mod Steps

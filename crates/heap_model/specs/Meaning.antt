@@ -1,6 +1,6 @@
 -- What an accepted heap holds: a map from names to live chunks.
-use Rattle.std.specs.Prelude.{◌≡◌, ◌+◌, ◌↔◌, ℕ, List, Option, Some}
-use Rattle.heap_model.specs.Chunk.{Chunk, free, movable, fixed, fixed_lock}
+use Rattle.std.specs.Prelude.{◌≡◌, ◌<◌, ◌+◌, ◌↔◌, ℕ, List, Option, Some}
+use Rattle.heap_model.specs.Chunk.{Chunk, free, movable, fixed, fixed_lock, managers_owner}
 use Rattle.heap_model.specs.Placed.{AnyPlaced}
 use Rattle.heap_model.specs.Slots.{area_start}
 use Rattle.heap_model.specs.Heap.{IsHeap}
@@ -16,11 +16,11 @@ abbrev pub ChunkMap : Type 0
 ChunkMap = ℕ → Option LiveChunk
 
 -- The chunk at an offset is a live one of this name. A movable chunk's name is the slot that it
--- names, and a fixed chunk's is its place.
+-- names, and a fixed chunk's is its place. A table has no name.
 abbrev pub NamedHere : ℕ → LiveChunk → ℕ → Chunk → Type 0
 NamedHere name live at (free size) = ⊥
 NamedHere name live at (movable bytes lock owner slot) = (slot ≡ name) × (record { bytes = bytes; lock = lock; owner = owner } ≡ live)
-NamedHere name live at (fixed bytes owner) = (at + 8 ≡ name) × (record { bytes = bytes; lock = fixed_lock; owner = owner } ≡ live)
+NamedHere name live at (fixed bytes owner) = (at + 8 ≡ name) × (record { bytes = bytes; lock = fixed_lock; owner = owner } ≡ live) × (managers_owner < owner)
 
 -- the image is an accepted heap, and the map has its live chunks, each under its name
 pub record Holds (image : List ℕ) (map : ChunkMap) : Type 0 where

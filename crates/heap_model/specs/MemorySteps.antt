@@ -10,13 +10,14 @@ use Rattle.heap_model.specs.Reading.{chunks_of, held}
 use Rattle.heap_model.specs.Maps.{made, gone, put, sized, relocked, reowned, without_owner, callers_map}
 use Rattle.heap_model.specs.Space.{free_total, free_slots, Short, ShortFor, free_behind, rooms, greatest, place_of, Still, moved_bytes}
 use Rattle.heap_model.specs.Placing.{SameFrame}
+use Rattle.heap_model.specs.MoreTables.{gained_count, HasNoMore, GainsTable}
 use Rattle.heap_model.specs.Refusals.{Check, ◌brings◌, ◌may_bring◌}
 use Rattle.heap_model.specs.Steps.{Row, StepBy, done, number, named, locked, data_of, becomes, becomes_named, stays}
 use Rattle.heap_model.specs.declared.names.Name.{Name}
 use Rattle.heap_model.specs.declared.call.MemoryCall as given
-use Rattle.heap_model.specs.declared.call.MemoryCall.TheVariants.{HandleNew, PtrNew, Free, Lock, Unlock, Size, Owner, Locks, Read, Write, Set, StrCopy, Resize, SetOwner, Recover, FreeByOwner, FreeBytes, LargestStretch, Compact}
+use Rattle.heap_model.specs.declared.call.MemoryCall.TheVariants.{HandleNew, PtrNew, Free, Lock, Unlock, Size, Owner, Locks, Read, Write, Set, StrCopy, Resize, SetOwner, Recover, FreeByOwner, FreeBytes, LargestStretch, Compact, MoreSlots}
 use Rattle.heap_model.specs.declared.call.Reply.{Reply}
-use Rattle.heap_model.specs.declared.call.Reply.TheVariants.{Refused}
+use Rattle.heap_model.specs.declared.call.Reply.TheVariants.{Refused, Done}
 use Rattle.heap_model.specs.declared.refusal.Refusal.{Refusal}
 use Rattle.heap_model.specs.declared.refusal.Refusal.TheVariants.{InvalidHandle, OwnedByDatabase, ChunkLocked, ChunkNotLocked, LockOverflow, ChunkFixed, InvalidOwner, NotEnoughSpace, OutOfBounds, OutOfMemory}
 
@@ -47,6 +48,7 @@ memory_call chunk bytes (FreeByOwner owner) = FreeByOwner owner
 memory_call chunk bytes FreeBytes = FreeBytes
 memory_call chunk bytes LargestStretch = LargestStretch
 memory_call chunk bytes Compact = Compact
+memory_call chunk bytes MoreSlots = MoreSlots
 
 -- ---- words of the rows
 
@@ -253,6 +255,12 @@ row old map Compact = record {
   answers = λ reply new. number (λ count. count ≡ moved_bytes old.bytes new.bytes) reply new;
   effect = stays;
 }
+row old map MoreSlots = record {
+  only_asks = false;
+  refusals = (HasNoMore old.bytes brings NotEnoughSpace) ∷ [];
+  answers = λ reply new. done reply new × (free_slots new.bytes ≡ free_slots old.bytes + gained_count);
+  effect = stays;
+}
 
 -- ---- the step
 
@@ -277,16 +285,23 @@ may_slide (HandleNew size owner) = true
 may_slide (PtrNew size owner) = true
 may_slide (Resize name size) = true
 may_slide Compact = true
+may_slide MoreSlots = true
 may_slide call = false
 
--- From an accepted heap the call does its step to an accepted heap of the same size, with as many
--- slots and the same directory, where nothing locked has moved; also where it is refused. Of the
--- region's value its bytes alone may change, and the count of slid ones where the call may slide
--- chunks; a call that only asks leaves all of it.
+-- What a call leaves of the frame: all of it. Only an accepted `MoreSlots` adds a table of empty slots at the end of
+-- the chain.
+abbrev pub Frames : MemoryCall → Reply → List ℕ → List ℕ → Type 0
+Frames MoreSlots Done old new = (place : ℕ) × GainsTable old new place
+Frames call reply old new = SameFrame old new
+
+-- From an accepted heap the call does its step to an accepted heap of the same size, with the same tables
+-- and the same directory, where nothing locked has moved; also where it is refused. `MoreSlots` alone adds a
+-- table. Of the region's value its bytes alone may change, and the count of slid ones where the
+-- call may slide chunks; a call that only asks leaves all of it.
 pub record Does (old : Memory) (call : MemoryCall) (reply : Reply) (new : Memory) : Type 0 where
   pub before : HeapAccepted old.bytes
   pub step : MemoryStep old call reply new
-  pub frame : SameFrame old.bytes new.bytes
+  pub frame : Frames call reply old.bytes new.bytes
   pub still : Still old.bytes new.bytes
   pub asks : OnTrue (row_of old call).only_asks (new ≡ old)
   pub rest : new ≡ record old { bytes = new.bytes; slid = if may_slide call then new.slid else old.slid }

@@ -2,13 +2,13 @@
 -- it. They answer for every list of bytes, and what they answer means something where the image is
 -- accepted. Contracts are written with these functions; the relations of `Chunk`, `Heap` and
 -- `Meaning` say what they are to be, and `laws_heap` proves that the two agree.
-use Rattle.std.specs.Prelude.{◌+◌, ◌-◌, ◌/◌, ◌%◌, ◌^◌, ◌==◌, ◌&&◌, ◌||◌, ◌++◌, not, nat_le, nat_lt, if◌then◌else◌, ℕ, zero, suc, Bool, true, false, List, [], ◌∷◌, length, slice_range, Option, Some, None}
+use Rattle.std.specs.Prelude.{◌+◌, ◌-◌, ◌*◌, ◌/◌, ◌%◌, ◌^◌, ◌==◌, ◌&&◌, ◌||◌, ◌++◌, not, nat_le, nat_lt, if◌then◌else◌, ℕ, zero, suc, Bool, true, false, List, [], ◌∷◌, length, slice_range, Option, Some, None}
 use Rattle.std.specs.List.{list_all}
 use Rattle.heap_model.specs.Bytes.{u16_at, u32_at}
-use Rattle.heap_model.specs.Chunk.{Chunk, free, movable, fixed, fixed_lock, need, size_of, total, slot_named, managers_owner, data_owner}
+use Rattle.heap_model.specs.Chunk.{Chunk, free, movable, fixed, fixed_lock, need, size_of, total, slot_named, managers_owner, data_owner, next_size, seen}
 use Rattle.heap_model.specs.Placed.{every_placed, any_placed}
-use Rattle.heap_model.specs.Slots.{slot_count, head_end, area_start, slots_of, is_slot}
-use Rattle.heap_model.specs.Frame.{magic, magic_at, size_at, reserved_at, least_size, most_size}
+use Rattle.heap_model.specs.Slots.{Table, slot_size, slot_count, head_end, area_start, first_next, further_tables, slots_of, is_slot}
+use Rattle.heap_model.specs.Frame.{magic, chained_magic, magic_at, size_at, reserved_at, least_size, most_size}
 use Rattle.heap_model.specs.Heap.{directory_of}
 use Rattle.heap_model.specs.Meaning.{ChunkMap}
 
@@ -51,7 +51,7 @@ abbrev pub chunk_by_words : List ℕ → ℕ → ℕ → ℕ → Chunk
 chunk_by_words image at first second =
     let bytes : List ℕ = slice_range image (at + 8) (at + 8 + (size_field first - 8 - above_size first)) in
     if nat_le (2 ^ 31) first then free (size_field first)
-    else if lock_field second == fixed_lock then fixed bytes (owner_field second)
+    else if lock_field second == fixed_lock then fixed (seen fixed_lock (owner_field second) bytes) (owner_field second)
     else movable bytes (lock_field second) (owner_field second) (slot_named at (h_offset_field second))
 
 -- the chunk that is spelled at an offset, if one is
@@ -79,6 +79,10 @@ chunks_of image = chunks_from image (area_start image)
 
 -- ---- the map
 
+-- whether a fixed chunk at an offset, of this owner, has this name; a table has none
+abbrev pub is_fixed_name : ℕ → ℕ → ℕ → Bool
+is_fixed_name at owner name = ((at + 8) == name) && nat_lt managers_owner owner
+
 -- what a name stands for, among chunks that begin at an offset
 abbrev pub live_under : ℕ → List Chunk → ChunkMap
 live_under at [] name = None
@@ -86,7 +90,7 @@ live_under at (free size ∷ chunks) name = live_under (at + size) chunks name
 live_under at (movable bytes lock owner slot ∷ chunks) name =
     if slot == name then Some (record { bytes = bytes; lock = lock; owner = owner }) else live_under (at + need (length bytes)) chunks name
 live_under at (fixed bytes owner ∷ chunks) name =
-    if (at + 8) == name then Some (record { bytes = bytes; lock = fixed_lock; owner = owner }) else live_under (at + need (length bytes)) chunks name
+    if is_fixed_name at owner name then Some (record { bytes = bytes; lock = fixed_lock; owner = owner }) else live_under (at + need (length bytes)) chunks name
 
 -- what an image holds under a name
 unfoldable pub held : List ℕ → ChunkMap
@@ -97,7 +101,7 @@ held image name = live_under (area_start image) (chunks_of image) name
 -- what stands in front of the chunks is right, test by test
 abbrev pub head_tests : List ℕ → List Bool
 head_tests image =
-    (u32_at image magic_at == magic)
+    ((u32_at image magic_at == magic) || (u32_at image magic_at == chained_magic))
     ∷ (u32_at image size_at == length image)
     ∷ nat_le least_size (length image)
     ∷ nat_le (length image) most_size
@@ -128,11 +132,27 @@ names_its_slot image at (free size) = true
 names_its_slot image at (movable bytes lock owner slot) = is_slot image slot && (u32_at image slot == at + 8)
 names_its_slot image at (fixed bytes owner) = true
 
--- the chunk, where it is fixed, is a caller's
-abbrev pub is_callers_if_fixed : ℕ → Chunk → Bool
-is_callers_if_fixed at (free size) = true
-is_callers_if_fixed at (movable bytes lock owner slot) = true
-is_callers_if_fixed at (fixed bytes owner) = nat_lt managers_owner owner && nat_lt owner data_owner
+-- the chunk at an offset is this table
+abbrev pub is_table_here : Table → ℕ → Chunk → Bool
+is_table_here table at (free size) = false
+is_table_here table at (movable bytes lock owner slot) = false
+is_table_here table at (fixed bytes owner) = (owner == managers_owner) && (at + 8 == table.place) && (length bytes == next_size + slot_size * table.count) && nat_lt 0 table.count
+
+-- the tables are those of the chain that a word `next` begins
+abbrev pub is_chain : List ℕ → List Chunk → ℕ → List Table → Bool
+is_chain image chunks next [] = next == 0
+is_chain image chunks next (table ∷ tables) = (next == table.place) && any_placed (is_table_here table) (area_start image) chunks && is_chain image chunks (u32_at image table.place) tables
+
+-- one of the tables has its body there
+abbrev pub is_table_place : List Table → ℕ → Bool
+is_table_place [] place = false
+is_table_place (table ∷ tables) place = (table.place == place) || is_table_place tables place
+
+-- the chunk, where it is fixed, is a caller's or one of the tables
+abbrev pub is_known_if_fixed : List Table → ℕ → Chunk → Bool
+is_known_if_fixed tables at (free size) = true
+is_known_if_fixed tables at (movable bytes lock owner slot) = true
+is_known_if_fixed tables at (fixed bytes owner) = nat_lt owner data_owner && (nat_lt managers_owner owner || is_table_place tables (at + 8))
 
 -- the chunk is a movable one of the manager's, and names this slot
 abbrev pub is_managers_here : ℕ → ℕ → Chunk → Bool
@@ -147,9 +167,10 @@ has_directory image = (directory_of image == 0) || any_placed (is_managers_here 
 abbrev pub area_tests : List ℕ → List Bool
 area_tests image =
     is_tiled image
+    ∷ is_chain image (chunks_of image) (first_next image) (further_tables image)
     ∷ list_all (holds_body image) (slots_of image)
     ∷ every_placed (names_its_slot image) (area_start image) (chunks_of image)
-    ∷ every_placed is_callers_if_fixed (area_start image) (chunks_of image)
+    ∷ every_placed (is_known_if_fixed (further_tables image)) (area_start image) (chunks_of image)
     ∷ has_directory image
     ∷ []
 

@@ -1,17 +1,18 @@
--- The master pointer table: where the slots of an image are, and where its chunks begin.
--- Other files speak of slots by `slots_of`, `IsSlot`, `is_slot` and `StandsBehind`, and of the bytes in
--- front of the chunks by `head_end` and `area_start`: an image with more tables, or with more words
--- behind the first one, changes this file and the padding of the head.
-use Rattle.std.specs.Prelude.{◌≡◌, ◌≤◌, ◌<◌, ◌+◌, ◌*◌, ◌/◌, ◌%◌, ◌==◌, ◌&&◌, ◌++◌, nat_le, nat_lt, ℕ, zero, suc, Bool, List, [], ◌∷◌, length, take}
+-- The master pointer tables: where the slots of an image are, and where its chunks begin.
+-- Other files speak of slots by `slots_of`, `IsSlot`, `is_slot` and `StandsBehind`, of the tables as a whole by
+-- `tables_of`, and of the bytes in front of the chunks by `head_end` and `area_start`.
+use Rattle.std.specs.Prelude.{◌≡◌, ◌≤◌, ◌+◌, ◌-◌, ◌*◌, ◌/◌, ◌==◌, ◌||◌, ◌⊎◌, ◌++◌, if◌then◌else◌, ℕ, zero, suc, Bool, false, List, [], ◌∷◌, length, take}
 use Rattle.heap_model.specs.Memory.{Memory}
-use Rattle.heap_model.specs.Bytes.{u16_at}
-use Rattle.heap_model.specs.Frame.{slot_count_at, frame_size}
+use Rattle.heap_model.specs.Bytes.{u16_at, u32_at}
+use Rattle.heap_model.specs.Chunk.{next_size, body_length}
+use Rattle.heap_model.specs.Placed.{EveryOne}
+use Rattle.heap_model.specs.Frame.{magic_at, chained_magic, slot_count_at, frame_size}
 
 -- what a slot takes
 abbrev pub slot_size : ℕ
 slot_size = 4
 
--- how many slots the table has, as the head says
+-- how many slots the first table has, as the head says
 abbrev pub slot_count : List ℕ → ℕ
 slot_count image = u16_at image slot_count_at
 
@@ -23,34 +24,96 @@ end_behind count = frame_size + slot_size * count
 abbrev pub aligned : ℕ → ℕ
 aligned end = 8 * ((end + 7) / 8)
 
--- where the chunks begin behind one table of so many slots
+-- where the chunks begin behind one table of so many slots, which is no chain
 abbrev pub start_behind : ℕ → ℕ
 start_behind count = aligned (end_behind count)
 
--- where the table ends
+-- where the first table ends
 abbrev pub table_end : List ℕ → ℕ
 table_end image = end_behind (slot_count image)
 
+-- the image has a chain of tables: a word `next` stands behind the first
+abbrev pub is_chained : List ℕ → Bool
+is_chained image = u32_at image magic_at == chained_magic
+
+-- what stands between the first table and the padding
+abbrev pub behind_table : List ℕ → ℕ
+behind_table image = if is_chained image then next_size else 0
+
 -- where the padding in front of the chunks begins
 abbrev pub head_end : List ℕ → ℕ
-head_end image = table_end image
+head_end image = table_end image + behind_table image
 
 -- where the first chunk begins
 abbrev pub area_start : List ℕ → ℕ
 area_start image = aligned (head_end image)
 
--- the table lies within a memory
-abbrev pub HasTable : Memory → Type 0
-HasTable memory = table_end memory.bytes ≤ length memory.bytes
+-- ---- tables
+
+-- a further table: where its body is, and how many slots it has
+pub record Table : Type 0 where
+  pub place : ℕ
+  pub count : ℕ
+
+-- the table whose body is at a place, by the header in front of it
+abbrev pub table_at : List ℕ → ℕ → Table
+table_at image place = record { place = place; count = (body_length (u32_at image (place - 8)) - next_size) / slot_size }
+
+-- a table, where a word `next` isn't 0, and then the others
+abbrev pub table_then : (ℕ → List Table) → List ℕ → ℕ → List Table
+table_then others image zero = []
+table_then others image (suc before) = table_at image (suc before) ∷ others (u32_at image (suc before))
+
+-- at most so many tables, from a word `next` on
+abbrev pub tables_within : ℕ → List ℕ → ℕ → List Table
+tables_within zero image next = []
+tables_within (suc count) image next = table_then (tables_within count image) image next
+
+-- the first word `next`; 0 where there is none
+abbrev pub first_next : List ℕ → ℕ
+first_next image = if is_chained image then u32_at image (table_end image) else 0
+
+-- the further tables of an image, along the chain
+unfoldable pub further_tables : List ℕ → List Table
+further_tables image = tables_within (length image) image (first_next image)
+
+-- The tables of an image: whether they are a chain, how many slots the first has, and the further ones.
+pub record Tables : Type 0 where
+  pub chained : Bool
+  pub count : ℕ
+  pub further : List Table
+
+abbrev pub tables_of : List ℕ → Tables
+tables_of image = record { chained = is_chained image; count = slot_count image; further = further_tables image }
+
+-- ---- slots
 
 -- the offsets of so many slots in a row, the first of them given
 abbrev pub slots_in_row : ℕ → ℕ → List ℕ
 slots_in_row first zero = []
 slots_in_row first (suc count) = first ∷ slots_in_row (first + slot_size) count
 
--- the offsets of the slots of an image, in their order
+-- the offsets of the slots of further tables
+abbrev pub slots_further : List Table → List ℕ
+slots_further [] = []
+slots_further (table ∷ tables) = slots_in_row (table.place + next_size) table.count ++ slots_further tables
+
+-- the offsets of the slots of all tables
+abbrev pub slots_in : Tables → List ℕ
+slots_in tables = slots_in_row frame_size tables.count ++ slots_further tables.further
+
+-- the offsets of the slots of an image, in their order: of the first table, then along the chain
 unfoldable pub slots_of : List ℕ → List ℕ
-slots_of image = slots_in_row frame_size (slot_count image)
+slots_of image = slots_in (tables_of image)
+
+-- the first table lies within an image, and so does each slot
+pub record TablesLie (image : List ℕ) : Type 0 where
+  pub first : head_end image ≤ length image
+  pub slots : EveryOne (λ slot. slot + slot_size ≤ length image) (slots_of image)
+
+-- the tables lie within a memory
+abbrev pub HasTable : Memory → Type 0
+HasTable memory = TablesLie memory.bytes
 
 -- how many there are
 abbrev pub slots_total : List ℕ → ℕ
@@ -67,12 +130,20 @@ pub record StandsBehind (image : List ℕ) (slot count : ℕ) : Type 0 where
   pub parts : slots_of image ≡ front ++ slot ∷ rest
   pub before : length front ≡ count
 
+-- a number stands in a list
+abbrev pub StandsIn : List ℕ → ℕ → Type 0
+StandsIn [] number = ⊥
+StandsIn (first ∷ others) number = (first ≡ number) ⊎ StandsIn others number
+
 -- this is the offset of a slot
 pub record IsSlot (image : List ℕ) (slot : ℕ) : Type 0 where
-  pub behind_head : frame_size ≤ slot
-  pub in_table : slot < table_end image
-  pub whole : slot % slot_size ≡ 0
+  pub listed : StandsIn (slots_of image) slot
 
--- the same by a test
+-- a number stands in a list, by a test
+abbrev pub stands_in : List ℕ → ℕ → Bool
+stands_in [] number = false
+stands_in (first ∷ others) number = (first == number) || stands_in others number
+
+-- this is the offset of a slot, by a test
 abbrev pub is_slot : List ℕ → ℕ → Bool
-is_slot image slot = nat_le frame_size slot && nat_lt slot (table_end image) && (slot % slot_size == 0)
+is_slot image slot = stands_in (slots_of image) slot

@@ -4,7 +4,7 @@ use Rattle.heap_model.specs.Bytes.{u32_at}
 use Rattle.heap_model.specs.Chunk.{Chunk, free, movable, fixed, need, total, free_size}
 use Rattle.heap_model.specs.Slots.{slots_of, area_start}
 use Rattle.heap_model.specs.Meaning.{LiveChunk}
-use Rattle.heap_model.specs.Reading.{chunks_of, live_under, held}
+use Rattle.heap_model.specs.Reading.{chunks_of, is_fixed_name, live_under, held}
 
 -- ---- how much is free
 
@@ -122,7 +122,7 @@ abbrev pub place_under : ℕ → List Chunk → ℕ → Option ℕ
 place_under at [] name = None
 place_under at (free size ∷ chunks) name = place_under (at + size) chunks name
 place_under at (movable bytes lock owner slot ∷ chunks) name = if slot == name then Some (at + 8) else place_under (at + need (length bytes)) chunks name
-place_under at (fixed bytes owner ∷ chunks) name = if (at + 8) == name then Some (at + 8) else place_under (at + need (length bytes)) chunks name
+place_under at (fixed bytes owner ∷ chunks) name = if is_fixed_name at owner name then Some (at + 8) else place_under (at + need (length bytes)) chunks name
 
 -- the place of a name's chunk
 abbrev pub place_of : List ℕ → ℕ → Option ℕ

@@ -132,7 +132,7 @@ names_of stored = map (λ one. one.database.header.name) stored
 
 -- The image is an accepted heap. Its directory lists slots, each once, and under each a database with a
 -- name of its own; where the directory word is 0, it lists none. Each chunk for data is named by
--- exactly one entry or info block, and each of the manager's is the directory or listed in it.
+-- exactly one entry or info block, and each movable chunk of the manager's is the directory or listed in it.
 pub record Accepted (image : List ℕ) : Type 0 where
   pub heap : HeapAccepted image
   pub whole : length (directory_bytes image) % listed_size ≡ 0

@@ -1,9 +1,9 @@
 -- What each call on a store refuses, answers and does: the rows of the managers' calls together, those of
 -- the memory manager as calls on a store, and the step that a call makes.
-use Rattle.std.specs.Prelude.{◌≡◌, ◌⊎◌, if◌then◌else◌, Bool, true, false, length, ℕ, List}
+use Rattle.std.specs.Prelude.{◌≡◌, ◌⊎◌, ◌++◌, if◌then◌else◌, Bool, true, false, length, ℕ, List}
 use Rattle.std.specs.Bool.{OnTrue}
 use Rattle.heap_model.specs.Memory.{Memory}
-use Rattle.heap_model.specs.Slots.{slots_total}
+use Rattle.heap_model.specs.Slots.{slots_of}
 use Rattle.heap_model.specs.Heap.{directory_of}
 use Rattle.heap_model.specs.Meaning.{ChunkMap}
 use Rattle.heap_model.specs.Space.{free_total, free_slots, Still}
@@ -15,6 +15,8 @@ use Rattle.heap_model.specs.DatabaseSteps.{database_call, database_row}
 use Rattle.heap_model.specs.RecordSteps.{record_call, record_row}
 use Rattle.heap_model.specs.ResourceSteps.{resource_call, resource_row}
 use Rattle.heap_model.specs.FileSteps.{file_call, file_row}
+use Rattle.heap_model.specs.MoreTables.{gained_slots}
+use Rattle.heap_model.specs.declared.call.MemoryCall.TheVariants.{MoreSlots}
 use Rattle.heap_model.specs.declared.call.DatabaseCall.TheVariants.{Create, Delete}
 use Rattle.heap_model.specs.declared.call.RecordCall.TheVariants as records
 use Rattle.heap_model.specs.declared.call.ResourceCall.TheVariants as resources
@@ -102,8 +104,13 @@ may_slide (calls.Resource call) = false
 may_slide (calls.File (Import file)) = true
 may_slide (calls.File (Export db)) = false
 
--- From an accepted image the call does its step to an accepted image of the same size with as many slots,
--- where nothing locked has moved; also where it is refused. The directory is the same chunk, but where a
+-- The slots after a call are those before it, in the same order. An accepted `MoreSlots` adds those of its table at the end.
+abbrev pub LeavesSlots : Call → Reply → List ℕ → List ℕ → Type 0
+LeavesSlots (calls.Memory MoreSlots) replies.Done before after = (place : ℕ) × (after ≡ before ++ gained_slots place)
+LeavesSlots call reply before after = after ≡ before
+
+-- From an accepted image the call does its step to an accepted image of the same size with the same slots, to which
+-- `MoreSlots` alone adds some, and where nothing locked has moved; also where it is refused. The directory is the same chunk, but where a
 -- database was made and there was none. Of the region's value its bytes alone may change, and the count of
 -- slid ones where the call may slide bytes; a call that only asks leaves all of it.
 pub record DoesInStore (old : Memory) (call : Call) (reply : Reply) (new : Memory) : Type 0 where
@@ -111,7 +118,7 @@ pub record DoesInStore (old : Memory) (call : Call) (reply : Reply) (new : Memor
   pub step : StoreStep old call reply new
   pub accepted : Accepted new.bytes
   pub len : length new.bytes ≡ length old.bytes
-  pub count : slots_total new.bytes ≡ slots_total old.bytes
+  pub slots : LeavesSlots call reply (slots_of old.bytes) (slots_of new.bytes)
   pub directory : (directory_of new.bytes ≡ directory_of old.bytes) ⊎ ((directory_of old.bytes ≡ 0) × HasMade call reply)
   pub still : Still old.bytes new.bytes
   pub asks : OnTrue (row_of old call).only_asks (new ≡ old)

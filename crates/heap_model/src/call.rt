@@ -59,6 +59,8 @@ pub enum MemoryCall<C = Name, B = Bytes> {
     FreeBytes,
     LargestStretch,
     Compact,
+    /// A further master pointer table of 15 slots.
+    MoreSlots,
 }
 
 /// A call on the databases of a store (Palm OS Programmer's API Reference, "Data Manager"), by how it

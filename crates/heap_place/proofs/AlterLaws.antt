@@ -11,7 +11,7 @@ use Rattle.heap_model.specs.Placing.{Finds}
 use Rattle.heap_model.specs.Layout.{Becomes, Alters, with_lock, with_owner, with_bytes, WritesPlain}
 use Rattle.laws_heap.proofs.Frames.{overwritten-behind}
 use Rattle.laws_heap.proofs.Writes.{WroteWithin, wrote_word, wrote_wider}
-use Rattle.laws_heap.proofs.FixedNames.{fixed_live_is}
+use Rattle.laws_heap.proofs.FixedNames.{fixed_live_is, fixed_owned}
 use Rattle.laws_heap.proofs.FoundChunks.{finds_spelled}
 use Rattle.laws_heap.proofs.Exchanges.{exchanges_parts}
 use Rattle.laws_heap.proofs.ExchangedNames.{named_live_chunk}
@@ -67,7 +67,7 @@ reowns old new name at owner found live (movable bytes count holder slot) h f k 
 reowns old new name at owner found live (fixed bytes holder) h f k can re w =
     let s : Spelled old at (fixed bytes holder) = finds_spelled old name live (fixed bytes holder) at h f in
     let is : found.lock ≡ fixed_lock = k.lock_is ∙ ap (λ (x : LiveChunk). x.lock) (sym (fixed_live_is at bytes holder f.named)) in
-    fixed_relabelled old new name at live bytes bytes holder owner h f (can.locked (omega arith)) (can.fixed is) w (re.fixed_too bytes holder s) refl
+    fixed_relabelled old new name at live bytes bytes holder owner h f (can.locked (omega arith)) (can.fixed is) w (re.fixed_too bytes holder (fixed_owned at bytes holder f.named) (can.locked (omega arith)) s) refl
 
 pub reowned_there : (old new : List ℕ) (found : Found) (owner word : ℕ) → HeapAccepted old → IsOne old found → CanGoTo old found owner → Reowns old new (found.place.0 - 8) owner → new ≡ overwritten old (found.place.0 - 8 + 4) (u32_bytes word) → Alters old new (found.place.0 - 8) (with_owner owner) × WritesPlain old new
 reowned_there old new found owner word h f can re is =

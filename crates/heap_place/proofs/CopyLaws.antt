@@ -7,8 +7,8 @@ use Rattle.heap_model.specs.Slots.{area_start}
 use Rattle.heap_model.specs.Heap.{IsHeap, HeapAccepted}
 use Rattle.laws_heap.proofs.Frames.{SameBetween, SameBetween-within, u32_at-written}
 use Rattle.laws_heap.proofs.Chunks.{total-append, SpelledAll-split, SameWords}
-use Rattle.laws_heap.proofs.Slots.{heap_hold_none}
-use Rattle.laws_heap.proofs.Replacements.{head_slots, same_directory, replaced_tiles}
+use Rattle.laws_heap.proofs.Slots.{loose_hold_none, both_hold_none}
+use Rattle.laws_heap.proofs.Replacements.{head_tables, head_slots, same_directory, replaced_tiles}
 use Rattle.laws_heap.proofs.Writes.{WroteWithin, wrote_part, wrote_word, wrote_wider, wrote_then, WroteArea, area_replaces, wrote_slot}
 use Rattle.chunk_format.specs.Header.{HasHeader}
 use Rattle.chunk_format.specs.declared.header.Header.TheVariants as headers
@@ -75,14 +75,15 @@ carried_up old mid new before moved after start end gap h b mid_is new_is header
       there = starts;
       fits = omega (arith, sizes, least);
     } in
-    let r = area_replaces old new before (moved ++ free gap ∷ []) (free gap ∷ all_carried gap moved) after start f.heap_in_two.tiles there inside w all in
+    let none = both_hold_none moved (free gap ∷ []) (loose_hold_none moved b.loose) tt in
+    let r = area_replaces old new before (moved ++ free gap ∷ []) (free gap ∷ all_carried gap moved) after start f.heap_in_two.tiles none there inside w all in
     let whole : WroteWithin old new start (start + total (moved ++ free gap ∷ [])) = wrote_then old mid new start (start + total (moved ++ free gap ∷ [])) w.area (wrote_wider mid new start (start + 4) start (start + total (moved ++ free gap ∷ [])) word (omega arith) (omega (arith, sizes, least))) in
-    let none = heap_hold_none old before (moved ++ free gap ∷ []) after f.heap_in_two in
     record {
       heap = f.heap;
       there = omega (arith, there);
       tiles = replaced_tiles old new before (moved ++ free gap ∷ []) (free gap ∷ all_carried gap moved) after start f.heap_in_two.tiles r;
       len = r.head.len;
+      tables = head_tables old new r.head;
       slots = head_slots old new r.head;
       directory = same_directory old new r.head;
       lifted = λ slot s low high. absurd (omega (arith, low, high, there));

@@ -4,17 +4,17 @@ use Rattle.std.specs.Prelude.{slice_range}
 use Rattle.std.proofs.lemmas.List.{length-replicate, drop_all, append-nil}
 use Rattle.heap_model.specs.Bytes.{u32_at, u32_bytes, overwritten}
 use Rattle.heap_model.specs.Chunk.{Chunk, free, movable, fixed, fixed_lock, need, total, IsFree, IsLive, Spelled, SpelledAll}
-use Rattle.heap_model.specs.Slots.{IsSlot, area_start, table_end, head_end}
+use Rattle.heap_model.specs.Slots.{IsSlot, TablesLie, area_start}
 use Rattle.heap_model.specs.Heap.{HeapAccepted}
 use Rattle.heap_model.specs.Reading.{chunks_of}
 use Rattle.heap_model.specs.Placed.{AnyPlaced}
 use Rattle.heap_model.specs.Layout.{merged, Becomes, gap, IsSpot, IsPlain, IsFreeAt, WritesPlain}
 use Rattle.laws_heap.proofs.Frames.{u32_at-written, slice-same, slice-overwritten, length-u32_bytes}
-use Rattle.laws_heap.proofs.Chunks.{Spelled-same}
+use Rattle.laws_heap.proofs.Chunks.{Spelled-same, seen-movable, plain-callers}
 use Rattle.laws_heap.proofs.Runs.{chunks_of-tiled}
-use Rattle.laws_heap.proofs.Slots.{head_table, slot_facts, free_hold_none, slot_beside}
+use Rattle.laws_heap.proofs.Slots.{slot_facts, free_hold_none, slot_beside}
 use Rattle.laws_heap.proofs.Replacements.{SameHead, head_same, slot_there, Replaces, replaced_total, same_start}
-use Rattle.laws_heap.proofs.Writes.{WroteWithin, wrote_none, wrote_part, wrote_word, wrote_wider, wrote_then, wrote_apart, wrote_word_apart, WroteArea, area_replaces, wrote_slots, area_slots, beside_same, beside_word}
+use Rattle.laws_heap.proofs.Writes.{WroteWithin, wrote_none, wrote_part, wrote_word, wrote_wider, wrote_then, wrote_apart, wrote_word_apart, WroteArea, area_replaces, wrote_slots, area_slots, beside_same, beside_word, table_kept}
 use Rattle.laws_heap.proofs.FreeChunks.{free_replaced, OtherSlots, claimed}
 use Rattle.laws_heap.proofs.Layouts.{merged-left, merged-right, runs-merged}
 use Rattle.laws_heap.proofs.SameLayouts.{becomes_heap, becomes_alike}
@@ -91,7 +91,7 @@ was_cut old mid new at room size accepted r least whole within wrote is header =
     let area : WroteArea old new at (at + room) = record { mid = new; slot = at; area = all; word = wrote_none new at (at + 4); is_slot = inl refl; there = omega arith; fits = omega arith } in
     let others : List Chunk = free size ∷ gap rest in
     let spelled : SpelledAll new at others (at + total r.run) = (has_free new at size header, gap_spelled old mid new at size (at + size) rest (at + total r.run) refl (omega arith) least (omega arith) (second.len) (wrote_wider mid new at (at + 4) at (at + 8) second (omega arith) (omega arith)) wrote) in
-    let replaces = area_replaces old new r.before r.run others r.after at heap.tiles r.there m.inside (subst (λ (n : ℕ). WroteArea old new at (at + n)) sums area) spelled in
+    let replaces = area_replaces old new r.before r.run others r.after at heap.tiles (free_hold_none r.run r.all_free) r.there m.inside (subst (λ (n : ℕ). WroteArea old new at (at + n)) sums area) spelled in
     let slots = wrote_slots old new r.before r.run r.after at heap.tiles (free_hold_none r.run r.all_free) r.there (subst (λ (n : ℕ). WroteWithin old new at (at + n)) sums all) in
     let new_heap = free_replaced old new r.before r.run others r.after at heap replaces slots r.all_free (gap_free rest) in
     let sizes = replaced_total old new r.before r.run others r.after at replaces in
@@ -156,7 +156,7 @@ zeroed h new at count lock owner slot found len first second body =
         lock_fits = s.1.lock_fits;
         owner_fits = s.1.owner_fits;
         h_offset_fits = s.1.h_offset_fits;
-        body = ap (λ (n : ℕ). slice_range new (at + 8) (at + 8 + n)) zeros ∙ body;
+        body = seen-movable lock owner _ s.2 ∙ ap (λ (n : ℕ). slice_range new (at + 8) (at + 8 + n)) zeros ∙ body;
         inside = omega arith;
       },
       s.2,
@@ -181,18 +181,14 @@ claimed_area old h z at count owner slot inside h_is z_is =
     let body : WroteWithin h z (at + 8) (at + 8 + length (replicate {A = ℕ} count 0)) = wrote_part h z (at + 8) (replicate count 0) z_is (omega arith) in
     wrote_then old h z at (at + need count) header (wrote_wider h z (at + 8) (at + 8 + length (replicate {A = ℕ} count 0)) at (at + need count) body (omega arith) (omega arith))
 
--- what is written among the chunks leaves the table where it is
-pub wrote_head : (old new : List ℕ) (low high : ℕ) → WroteWithin old new low high → area_start old ≤ low → low ≤ length old → SameHead old new
-wrote_head old new low high w there inside = record {
-  len = w.len;
-  words = wrote_apart old new low high 0 16 w (inl (omega arith));
-  padding = wrote_apart old new low high (head_end old) (area_start old) w (inl there);
-}
-
-pub table_kept : (old new : List ℕ) (low high slot : ℕ) → HeapAccepted old → WroteWithin old new low high → area_start old ≤ low → low ≤ length old → IsSlot old slot → (table_end new ≤ length new) × IsSlot new slot
-table_kept old new low high slot accepted w there inside s =
-    let same = wrote_head old new low high w there inside in
-    (head_table new (head_same old new same accepted.1.tiles.head), slot_there old new slot same s)
+-- what is written among the chunks leaves the tables where they are
+pub claimed_table : (old h z : List ℕ) (at count owner slot : ℕ) → HeapAccepted old → (r : IsFreeChunk old at (need count)) → IsSlot old slot → h ≡ overwritten old at (live_words count 0 owner (h_offset_to at slot)) → z ≡ overwritten h (at + 8) (replicate count 0) → TablesLie z × IsSlot z slot
+claimed_table old h z at count owner slot accepted r s h_is z_is =
+    let size : ℕ = need count in
+    let heap = heap_in_parts old (r.before ++ free size ∷ r.after) accepted r.chunks in
+    let facts = cut_facts old size at accepted r in
+    let e : size ≡ size + 0 = omega arith in
+    table_kept old z r.before (free size ∷ []) r.after at slot heap.tiles tt r.there (subst (λ (n : ℕ). WroteWithin old z at (at + n)) e (claimed_area old h z at count owner slot facts.0 h_is z_is)) s
 
 pub claimed_write : (old h z new : List ℕ) (at count owner slot : ℕ) → HeapAccepted old → (r : IsFreeChunk old at (need count)) → IsSlot old slot → u32_at old slot ≡ 0
     → h ≡ overwritten old at (live_words count 0 owner (h_offset_to at slot)) → HasHeader h at (headers.Movable count 0 owner slot) → z ≡ overwritten h (at + 8) (replicate count 0) → new ≡ overwritten z slot (u32_bytes (at + 8))
@@ -227,7 +223,7 @@ claimed_write old h z new at count owner slot accepted r s empty h_is header z_i
     let is : at ≡ area_start old + total r.before = r.there in
     let wrote : WroteArea old new at (at + (size + 0)) = subst (λ (n : ℕ). WroteArea old new at (at + n)) (let e : size ≡ size + 0 = omega arith in e)
     record { mid = z; slot = slot; area = area; word = word; is_slot = inr s; there = omega arith; fits = omega arith } in
-    let replaces : Replaces old new r.before (free size ∷ []) (movable (replicate count 0) 0 owner slot ∷ []) r.after at = area_replaces old new r.before (free size ∷ []) (movable (replicate count 0) 0 owner slot ∷ []) r.after at heap.tiles is (omega arith) wrote (spelled, omega arith) in
+    let replaces : Replaces old new r.before (free size ∷ []) (movable (replicate count 0) 0 owner slot ∷ []) r.after at = area_replaces old new r.before (free size ∷ []) (movable (replicate count 0) 0 owner slot ∷ []) r.after at heap.tiles tt is (omega arith) wrote (spelled, omega arith) in
     let now : u32_at new slot ≡ at + 8 = ap (λ (x : List ℕ). u32_at x slot) new_is ∙ u32_at-written (at + 8) slot z (omega arith) (omega arith) in
     let others : OtherSlots old new slot = record { same = λ t ts ne. area_slots old new r.before (free size ∷ []) r.after at t heap.tiles tt is wrote ts (λ e. ne (sym (slot_of e))) } in
     let c = claimed old new r.before r.after at (free size) (replicate count 0) owner slot tt heap replaces s empty now others in (
@@ -269,7 +265,7 @@ fixed_claimed old mid new at count owner h r some most mid_is header new_is =
     let s : Spelled mid at (fixed m.0 owner) = subst (λ (c : Chunk). Spelled mid at c) m.1.0 header.spelled in
     let len : length m.0 ≡ count = m.1.1 in
     let front : at + 8 ≡ at + 8 + 0 = omega arith in
-    let b = overwritten_body mid new at 0 m.0 (replicate count 0) fixed_lock owner 0 s (omega arith) (new_is ∙ ap (λ (n : ℕ). overwritten mid n (replicate count 0)) front) in
+    let b = overwritten_body mid new at 0 m.0 (replicate count 0) fixed_lock owner 0 (plain-callers fixed_lock owner some) s (omega arith) (new_is ∙ ap (λ (n : ℕ). overwritten mid n (replicate count 0)) front) in
     let spelled : Spelled new at (fixed (replicate count 0) owner) = subst (λ (x : List ℕ). IsLive new at x fixed_lock owner 0) (overwritten_whole m.0 (replicate count 0) (zeros ∙ sym len)) b.0 in
     let first : WroteWithin old mid at (at + need count) = wrote_wider old mid at (at + 8) at (at + need count) (wrote_words old mid at count fixed_lock owner 0 inside mid_is) (omega arith) (omega arith) in
     let both : WroteWithin old new at (at + need count) = wrote_then old mid new at (at + need count) first (subst (λ (n : ℕ). WroteWithin mid new at (at + need n)) len b.1) in
@@ -277,7 +273,7 @@ fixed_claimed old mid new at count owner h r some most mid_is header new_is =
     let takes : need (length (replicate {A = ℕ} count 0)) ≡ need count = ap need zeros in
     let there = r.there in
     let area : WroteArea old new at (at + (need count + 0)) = subst (λ (n : ℕ). WroteArea old new at (at + n)) (sym size) record { mid = new; slot = at; area = both; word = wrote_none new at (at + 4); is_slot = inl refl; there = omega arith; fits = omega arith } in
-    let replaces = area_replaces old new r.before (free (need count) ∷ []) (fixed (replicate count 0) owner ∷ []) r.after at heap.tiles r.there (omega arith) area (spelled, omega arith) in
+    let replaces = area_replaces old new r.before (free (need count) ∷ []) (fixed (replicate count 0) owner ∷ []) r.after at heap.tiles tt r.there (omega arith) area (spelled, omega arith) in
     let c =
     claimed_fixed old new r.before r.after at (need count) (replicate count 0) owner heap replaces
     (wrote_slots old new r.before (free (need count) ∷ []) r.after at heap.tiles tt r.there (subst (λ (n : ℕ). WroteWithin old new at (at + n)) (sym size) both)) some most in (

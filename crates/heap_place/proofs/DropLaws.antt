@@ -9,7 +9,7 @@ use Rattle.heap_model.specs.Heap.{BodyHere, IsBody, IsHeap, HeapAccepted}
 use Rattle.heap_model.specs.Reading.{chunks_of}
 use Rattle.heap_model.specs.Layout.{gap}
 use Rattle.laws_heap.proofs.Frames.{slice-same, u32_at-written}
-use Rattle.laws_heap.proofs.Chunks.{total-append, Spelled-same, SpelledAll-split}
+use Rattle.laws_heap.proofs.Chunks.{total-append, movable_body, Spelled-same, SpelledAll-split}
 use Rattle.laws_heap.proofs.Bodies.{IsBody-low, IsBody-high}
 use Rattle.laws_heap.proofs.Placed.{AnyPlaced-mid, AnyPlaced-split, AnyPlaced-left, AnyPlaced-right}
 use Rattle.laws_heap.proofs.Slots.{SlotFacts, slot_facts, free_hold_none, IsBeside, slot_beside}
@@ -169,16 +169,16 @@ dropped old slid head hole new before bytes lock owner slot after at room to siz
     let down : Carries room to (to + size) slid old = subst (λ (xs : List ℕ). Carries room to (to + size) xs old) (sym slid_2) (slid_down old to room size (omega (arith, inside, size_is))) in
     let moved = slice-carried (to + 8) (length bytes) room slid old to (to + size) down (omega arith) (omega (arith, size_is)) (omega (arith, inside, len_1)) (omega (arith, inside)) in
     let e : at + 8 ≡ to + 8 + room = omega (arith, at_is) in
-    let same : h.0 ≡ bytes = sym t.1.body ∙ ap (λ (n : ℕ). slice_range head (to + 8) (to + 8 + n)) count
+    let same : h.0 ≡ bytes = sym (movable_body head to h.0 lock owner t.0 t.1 t.2) ∙ ap (λ (n : ℕ). slice_range head (to + 8) (to + 8 + n)) count
     ∙ sym (slice-same (to + 8) (to + 8 + length bytes) slid head (wrote_apart slid head to (to + 8) (to + 8) (to + 8 + length bytes) two (inr (omega arith, omega (arith, inside, len_1)))) (omega (arith, inside, len_1)) (omega (arith, inside, len_1, len_2)))
-    ∙ sym moved ∙ sym (ap (λ (n : ℕ). take (n + length bytes - n) (drop n old)) e) ∙ s.1.body in
+    ∙ sym moved ∙ sym (ap (λ (n : ℕ). take (n + length bytes - n) (drop n old)) e) ∙ movable_body old at bytes lock owner s.0 s.1 s.2 in
     let c_head : Spelled head to c = subst (λ (b : List ℕ). Spelled head to (movable b lock owner slot)) same t in
     let c_hole : Spelled hole to c = Spelled-same head hole to c (wrote_apart head hole (to + size) (to + size + 4) to (to + need (length bytes)) three (inl (omega (arith, size_is)))) len_3 c_head in
     let c_new : Spelled new to c = Spelled-same hole new to c (beside_same hole new slot to end to (to + need (length bytes)) four f.beside (omega arith) (omega arith) (omega (arith, inside, len_1, len_2, len_3))) four.len c_hole in
     let f_hole : IsFree hole (to + size) room = has_free hole (to + size) room rest in
     let f_new : Spelled new (to + size) (free room) = Spelled-same hole new (to + size) (free room) (beside_same hole new slot to end (to + size) (to + size + room) four f.beside (omega arith) (omega (arith, size_is)) (omega (arith, inside, size_is, len_1, len_2, len_3))) four.len f_hole in
     let spelled : SpelledAll new to (c ∷ free room ∷ []) end = (c_new, (subst (λ (n : ℕ). Spelled new (to + n) (free room)) size_is f_new, omega arith)) in
-    let r = area_replaces old new before (free room ∷ c ∷ []) (c ∷ free room ∷ []) after to f.heap.tiles to_is f.middle.inside w spelled in
+    let r = area_replaces old new before (free room ∷ c ∷ []) (c ∷ free room ∷ []) after to f.heap.tiles tt to_is f.middle.inside w spelled in
     let others : (other : ℕ) → IsSlot old other → other ≢ slot → u32_at new other ≡ u32_at old other = λ other o ne. area_slots old new before (free room ∷ c ∷ []) after to other f.heap.tiles tt to_is w o (λ e. ne (sym e)) in
     let own : u32_at new slot ≡ to + 8 = ap (λ (bs : List ℕ). u32_at bs slot) new_is ∙ u32_at-written (to + 8) slot hole (omega (arith, slot_inside, len_1, len_2, len_3)) (omega (arith, inside, most)) in
     let heap : IsHeap new (before ++ ((c ∷ free room ∷ []) ++ after)) = replaced_heap old new before (free room ∷ c ∷ []) (c ∷ free room ∷ []) after to f.heap r record {
@@ -236,8 +236,9 @@ joined old new before size after at room to f is header =
     let all : WroteWithin old new to (to + total mid) = wrote_wider old new to (to + 4) to (to + total mid) word (omega arith) (omega (arith, sizes, least)) in
     let w : WroteArea old new to (to + total mid) = record { mid = new; slot = to; area = all; word = wrote_none new to (to + 4); is_slot = inl refl; there = omega (arith, to_is); fits = omega (arith, sizes, least) } in
     let spelled : SpelledAll new to (free (room + size) ∷ []) (to + total mid) = (has_free new to (room + size) header, omega (arith, sizes)) in
-    let r = area_replaces old new before mid (free (room + size) ∷ []) after to f.heap.tiles to_is inside w spelled in
-    let slots = wrote_slots old new before mid after to f.heap.tiles (free_hold_none mid (free_push (gap room) size (gap_free room))) to_is all in
+    let none = free_hold_none mid (free_push (gap room) size (gap_free room)) in
+    let r = area_replaces old new before mid (free (room + size) ∷ []) after to f.heap.tiles none to_is inside w spelled in
+    let slots = wrote_slots old new before mid after to f.heap.tiles none to_is all in
     let heap = free_replaced old new before mid (free (room + size) ∷ []) after to f.heap r slots (free_push (gap room) size (gap_free room)) tt in
     let g : free (room + size) ∷ [] ≡ gap (room + size) = sym (gap_some (room + size) (omega (arith, least))) in
     let most = f.middle.most in

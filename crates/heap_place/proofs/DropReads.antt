@@ -1,19 +1,17 @@
 -- What a chunk that goes down is read as, and what may be written.
-use Rattle.std.proofs.Common.{◌≡◌, ℕ, ◌+◌, ◌-◌, ◌^◌, ◌<◌, ◌≤◌, Some, List, ◌∷◌, ◌++◌, length, take, drop, sym, ap, subst, ◌∙◌, arith, length-take, length-drop}
+use Rattle.std.proofs.Common.{◌≡◌, ℕ, ◌+◌, ◌-◌, ◌^◌, ◌<◌, ◌≤◌, Some, List, [], ◌∷◌, ◌++◌, length, take, drop, sym, ap, subst, ◌∙◌, arith, length-take, length-drop}
 use Rattle.heap_model.specs.Bytes.{u32_bytes, overwritten}
-use Rattle.heap_model.specs.Chunk.{Chunk, free, movable, need}
-use Rattle.heap_model.specs.Slots.{IsSlot, table_end}
+use Rattle.heap_model.specs.Chunk.{Chunk, free, movable, need, total}
+use Rattle.heap_model.specs.Slots.{IsSlot, TablesLie}
 use Rattle.heap_model.specs.Heap.{HeapAccepted}
-use Rattle.laws_heap.proofs.Slots.{head_table}
-use Rattle.laws_heap.proofs.Replacements.{head_same, slot_there}
-use Rattle.laws_heap.proofs.Writes.{WroteWithin, wrote_part, wrote_word, wrote_wider, wrote_then}
+use Rattle.laws_heap.proofs.Writes.{WroteWithin, wrote_part, wrote_word, wrote_wider, wrote_then, table_kept}
 use Rattle.chunk_format.specs.Header.{size_by, HasHeader, IsWritable, live_words, h_offset_to, header_bytes}
 use Rattle.chunk_format.specs.declared.header.Header.{Header}
 use Rattle.chunk_format.specs.declared.header.Header.TheVariants as headers
 use Rattle.heap_place.specs.Lists.{KeepsFree}
 use Rattle.heap_place.specs.Gathers.{Before}
 use Rattle.heap_place.specs.Packs.{BecomesExactly, IsDroppable, slot_by}
-use Rattle.heap_place.proofs.CutLaws.{wrote_words, wrote_head}
+use Rattle.heap_place.proofs.CutLaws.{wrote_words}
 use Rattle.heap_place.proofs.MendLaws.{header_there}
 use Rattle.heap_place.proofs.DropLaws.{DropFacts, drop_facts, dropped}
 
@@ -54,14 +52,14 @@ wrote_down old slid head hole before bytes lock owner slot after at room to size
     (wrote_then slid head hole to (to + room + size) (wrote_wider slid head to (to + 8) to (to + room + size) two (omega arith) (omega (arith, size_is))) (wrote_wider head hole (to + size) (to + size + 4) to (to + room + size) three (omega arith) (omega (arith, least))))
 
 pub drop_table : (old slid head hole : List ℕ) (before : List Chunk) (bytes : List ℕ) (lock owner slot : ℕ) (after : List Chunk) (at room to size : ℕ) (header : Header) → DropFacts old before bytes lock owner slot after at room to → HasHeader old at header → size ≡ size_by header
-    → slid ≡ overwritten old to (take (at + size - at) (drop at old)) → head ≡ overwritten slid to (header_bytes to header) → hole ≡ overwritten head (to + size) (u32_bytes (2 ^ 31 + room)) → (table_end hole ≤ length hole) × IsSlot hole slot
+    → slid ≡ overwritten old to (take (at + size - at) (drop at old)) → head ≡ overwritten slid to (header_bytes to header) → hole ≡ overwritten head (to + size) (u32_bytes (2 ^ 31 + room)) → TablesLie hole × IsSlot hole slot
 drop_table old slid head hole before bytes lock owner slot after at room to size header f found size_is slid_is head_is hole_is =
     let e = same_header old before bytes lock owner slot after at room to header f found in
     let w = wrote_down old slid head hole before bytes lock owner slot after at room to size f (size_is ∙ ap size_by e) slid_is (head_is ∙ ap (λ (h : Header). overwritten slid to (header_bytes to h)) e) hole_is in
     let to_is = f.to_is in
     let inside = f.inside in
-    let same = wrote_head old hole to (to + room + size) w (omega (arith, to_is)) (omega (arith, inside)) in
-    (head_table hole (head_same old hole same f.heap.tiles.head), slot_there old hole slot same f.own)
+    let end : to + room + size ≡ to + total (free room ∷ movable bytes lock owner slot ∷ []) = let own = size_is ∙ ap size_by e in omega (arith, own) in
+    table_kept old hole before (free room ∷ movable bytes lock owner slot ∷ []) after to slot f.heap.tiles tt to_is (subst (λ (n : ℕ). WroteWithin old hole to n) end w) f.own
 
 pub dropped_read : (old slid head hole new : List ℕ) (before : List Chunk) (bytes : List ℕ) (lock owner slot : ℕ) (after : List Chunk) (at room to size named : ℕ) (header : Header) → DropFacts old before bytes lock owner slot after at room to → HasHeader old at header → size ≡ size_by header → slot_by header ≡ Some named
     → slid ≡ overwritten old to (take (at + size - at) (drop at old)) → head ≡ overwritten slid to (header_bytes to header) → HasHeader head to header → hole ≡ overwritten head (to + size) (u32_bytes (2 ^ 31 + room)) → HasHeader hole (to + size) (headers.Free room)

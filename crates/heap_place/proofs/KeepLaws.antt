@@ -5,7 +5,7 @@ use Rattle.std.specs.Prelude.{◌⊎◌, slice_index, slice_set}
 use Rattle.heap_model.specs.Bytes.{u32_at, u32_bytes, overwritten}
 use Rattle.heap_model.specs.Chunk.{Chunk, free, movable, fixed, total, IsFree}
 use Rattle.heap_model.specs.Slots.{area_start}
-use Rattle.heap_model.specs.Heap.{HeapAccepted, IsHeap}
+use Rattle.heap_model.specs.Heap.{HeapAccepted, Tiles, IsHeap}
 use Rattle.heap_model.specs.Reading.{chunks_of}
 use Rattle.heap_model.specs.Placed.{EveryPlaced, AnyPlaced}
 use Rattle.heap_model.specs.Layout.{IsFreeAt, BeginsFree, WritesPlain}
@@ -26,9 +26,9 @@ use Rattle.heap_place.proofs.FoundLaws.{heap_in_parts, middle_of}
 abbrev pub NotAmong : ℕ → List Chunk → ℕ → Type 0
 NotAmong at mid there = AnyPlaced (IsFreeAt there) at mid → ⊥
 
-pub keeps_replaced : (old new : List ℕ) (before mid others after : List Chunk) (at : ℕ) → HeapAccepted old → chunks_of old ≡ before ++ (mid ++ after) → IsHeap new (before ++ (others ++ after)) → Replaces old new before mid others after at
+pub keeps_tiled : (old new : List ℕ) (before mid others after : List Chunk) (at : ℕ) → chunks_of old ≡ before ++ (mid ++ after) → Tiles new (before ++ (others ++ after)) → Replaces old new before mid others after at
     → KeepsFree (NotAmong at mid) old new
-keeps_replaced old new before mid others after at h was now r there apart b = elim (AnyPlaced-split (IsFreeAt there) start before (mid ++ after) found) [
+keeps_tiled old new before mid others after at was now r there apart b = elim (AnyPlaced-split (IsFreeAt there) start before (mid ++ after) found) [
   | inl front ↦ record {
     begins = is (AnyPlaced-left (IsFreeAt there) start before (others ++ after) front);
     first = free_word old new there start before r.front.words front;
@@ -59,7 +59,11 @@ keeps_replaced old new before mid others after at h was now r there apart b = el
   found = subst (λ (cs : List Chunk). AnyPlaced (IsFreeAt there) (area_start old) cs) was b
 
   is : AnyPlaced (IsFreeAt there) (area_start old) (before ++ (others ++ after)) → BeginsFree new there
-  is a = subst (λ (n : ℕ). AnyPlaced (IsFreeAt there) n (chunks_of new)) (sym (same_start old new r.head)) (subst (λ (cs : List Chunk). AnyPlaced (IsFreeAt there) (area_start old) cs) (sym (chunks_of-tiled new (before ++ (others ++ after)) now.tiles)) a)
+  is a = subst (λ (n : ℕ). AnyPlaced (IsFreeAt there) n (chunks_of new)) (sym (same_start old new r.head)) (subst (λ (cs : List Chunk). AnyPlaced (IsFreeAt there) (area_start old) cs) (sym (chunks_of-tiled new (before ++ (others ++ after)) now)) a)
+
+pub keeps_replaced : (old new : List ℕ) (before mid others after : List Chunk) (at : ℕ) → HeapAccepted old → chunks_of old ≡ before ++ (mid ++ after) → IsHeap new (before ++ (others ++ after)) → Replaces old new before mid others after at
+    → KeepsFree (NotAmong at mid) old new
+keeps_replaced old new before mid others after at h was now r = keeps_tiled old new before mid others after at was now.tiles r
 
 -- what lies outside of them is not among them
 pub outside_apart : (image : List ℕ) (before mid after : List Chunk) (at there : ℕ) → IsHeap image (before ++ (mid ++ after)) → at ≡ area_start image + total before → Outside at (total mid) there → NotAmong at mid there
@@ -126,7 +130,7 @@ linked old new at size word h f small is =
       inside = subst (λ (n : ℕ). at + size ≤ n) (sym len) was.inside;
     } in
     let area : WroteArea old new at (at + (size + 0)) = record { mid = new; slot = at; area = all; word = wrote_none new at (at + 4); is_slot = inl refl; there = omega arith; fits = omega arith } in
-    let replaces = area_replaces old new f.before (free size ∷ []) (free size ∷ []) f.after at heap.tiles f.there m.inside area (spelled, omega arith) in
+    let replaces = area_replaces old new f.before (free size ∷ []) (free size ∷ []) f.after at heap.tiles tt f.there m.inside area (spelled, omega arith) in
     let slots = wrote_slots old new f.before (free size ∷ []) f.after at heap.tiles tt f.there all in
     let now : IsHeap new (f.before ++ ((free size ∷ []) ++ f.after)) = free_replaced old new f.before (free size ∷ []) (free size ∷ []) f.after at heap replaces slots tt tt in
     let keeps : KeepsFree (ButAt at) old new = λ x apart b. keeps_replaced old new f.before (free size ∷ []) (free size ∷ []) f.after at h f.chunks now replaces x (λ these. elim these [ inl here ↦ apart (sym here) | inr none ↦ none ]) b in

@@ -36,3 +36,5 @@ pub mod SpliceLaws
 pub mod AlikeLaws
 pub mod RegrownLaws
 pub mod ByteLaws
+pub mod NewTables
+pub mod KeptLaws

@@ -1,13 +1,14 @@
 -- Chunks are lifted over the free chunk behind them.
-use Rattle.std.proofs.Common.{◌≡◌, ℕ, ◌+◌, ◌-◌, ◌^◌, ◌<◌, List, [], ◌∷◌, ◌++◌, length, refl, sym, ap, subst, ◌∙◌, append_assoc, arith, inl, inr}
+use Rattle.std.proofs.Common.{◌≡◌, ℕ, zero, suc, ◌+◌, ◌-◌, ◌^◌, ◌<◌, List, [], ◌∷◌, ◌++◌, length, refl, sym, ap, subst, ◌∙◌, append_assoc, arith, inl, inr}
 use Rattle.std.specs.Prelude.{◌⊎◌, ◌↔◌}
 use Rattle.std.proofs.lemmas.Bool.{cases_eq}
 use Rattle.heap_model.specs.Bytes.{u32_at}
 use Rattle.heap_model.specs.Chunk.{Chunk, free, movable, fixed, need, size_of, total}
-use Rattle.heap_model.specs.Slots.{IsSlot, area_start}
-use Rattle.heap_model.specs.Heap.{BodyHere, IsBody, IsCallersIfFixed, ManagersHere, directory_of, HasDirectory, IsHeap}
+use Rattle.heap_model.specs.Slots.{Table, Tables, IsSlot, area_start, further_tables}
+use Rattle.heap_model.specs.Heap.{BodyHere, IsBody, IsKnownIfFixed, ManagersHere, directory_of, HasDirectory, IsHeap}
 use Rattle.heap_model.specs.Placed.{EveryPlaced, AnyPlaced}
 use Rattle.heap_model.specs.Reading.{chunks_of}
+use Rattle.heap_model.specs.Space.{NoneStays}
 use Rattle.heap_model.specs.Layout.{WritesPlain}
 use Rattle.heap_model.specs.Packing.{lives}
 use Rattle.laws_heap.proofs.Bodies.{IsBody-low, IsBody-high}
@@ -23,11 +24,12 @@ use Rattle.heap_place.proofs.ExactLaws.{exactly_start}
 
 -- ---- what does not depend on where a chunk stands
 
-callers_anywhere : (m n : ℕ) (cs : List Chunk) → EveryPlaced IsCallersIfFixed m cs → EveryPlaced IsCallersIfFixed n cs
-callers_anywhere m n [] h = tt
-callers_anywhere m n (free size ∷ cs) h = (tt, callers_anywhere (m + size) (n + size) cs h.1)
-callers_anywhere m n (movable bytes lock owner slot ∷ cs) h = (tt, callers_anywhere (m + need (length bytes)) (n + need (length bytes)) cs h.1)
-callers_anywhere m n (fixed bytes owner ∷ cs) h = (h.0, callers_anywhere (m + need (length bytes)) (n + need (length bytes)) cs h.1)
+loose_known : (tables : List Table) (at : ℕ) (cs : List Chunk) → NoneStays cs → EveryPlaced (IsKnownIfFixed tables) at cs
+loose_known tables at [] n = tt
+loose_known tables at (free size ∷ cs) n = (tt, loose_known tables (at + size) cs n)
+loose_known tables at (movable bytes zero owner slot ∷ cs) n = (tt, loose_known tables (at + need (length bytes)) cs n)
+loose_known tables at (movable bytes (suc count) owner slot ∷ cs) n = absurd n
+loose_known tables at (fixed bytes owner ∷ cs) n = absurd n
 
 managers_here : (slot m n : ℕ) (c : Chunk) → ManagersHere slot m c → ManagersHere slot n c
 managers_here slot m n (free size) h = h
@@ -148,7 +150,7 @@ module _ (old image : List ℕ) (before moved after : List Chunk) (gap at : ℕ)
   ]
 
   new_start : area_start image ≡ area_start old
-  new_start = start_listed old image l.slots
+  new_start = start_listed old image l.tables
 
   slot_new : (slot : ℕ) → IsSlot old slot → IsSlot image slot
   slot_new slot s = slot_alike old image slot l.slots s
@@ -168,13 +170,17 @@ module _ (old image : List ℕ) (before moved after : List Chunk) (gap at : ℕ)
     λ b. let s = to_old slot place (subst (λ (n : ℕ). IsBody n (before ++ free gap ∷ (moved ++ after)) slot place) new_start b) in (slot_new slot s.0, s.1),
   )
 
-  callers_again : EveryPlaced IsCallersIfFixed (area_start image) (before ++ free gap ∷ (moved ++ after))
-  callers_again =
-      let first = EveryPlaced-split IsCallersIfFixed (area_start old) before (moved ++ free gap ∷ after) l.heap.fixed_are_callers in
-      let second = EveryPlaced-split IsCallersIfFixed (area_start old + total before) moved (free gap ∷ after) first.1 in
-      let here : ℕ = area_start image + total before in
-      EveryPlaced-append IsCallersIfFixed (area_start image) before (free gap ∷ (moved ++ after)) (callers_anywhere (area_start old) (area_start image) before first.0)
-      (tt, EveryPlaced-append IsCallersIfFixed (here + gap) moved after (callers_anywhere (area_start old + total before) (here + gap) moved second.0) (callers_anywhere (area_start old + total before + total moved + gap) (here + gap + total moved) after second.1.1))
+  known_again : NoneStays moved → EveryPlaced (IsKnownIfFixed (further_tables image)) (area_start image) (before ++ free gap ∷ (moved ++ after))
+  known_again loose =
+      let known : ℕ → Chunk → Type 0 = IsKnownIfFixed (further_tables old) in
+      let first = EveryPlaced-split known (area_start old) before (moved ++ free gap ∷ after) l.heap.fixed_are_known in
+      let second = EveryPlaced-split known (area_start old + total before) moved (free gap ∷ after) first.1 in
+      let here : ℕ = area_start old + total before in
+      let e : here + total moved + gap ≡ here + gap + total moved = omega arith in
+      subst (λ (ts : List Table). EveryPlaced (IsKnownIfFixed ts) (area_start image) (before ++ free gap ∷ (moved ++ after))) (sym (ap (λ (t : Tables). t.further) l.tables))
+      (subst (λ (n : ℕ). EveryPlaced known n (before ++ free gap ∷ (moved ++ after))) (sym new_start)
+      (EveryPlaced-append known (area_start old) before (free gap ∷ (moved ++ after)) first.0
+      (tt, EveryPlaced-append known (here + gap) moved after (loose_known (further_tables old) (here + gap) moved loose) (subst (λ (n : ℕ). EveryPlaced known n after) e second.1.1))))
 
   managers_again : (slot : ℕ) → AnyPlaced (ManagersHere slot) (area_start old) (before ++ (moved ++ free gap ∷ after)) → AnyPlaced (ManagersHere slot) (area_start image) (before ++ free gap ∷ (moved ++ after))
   managers_again slot h =
@@ -197,8 +203,8 @@ module _ (old image : List ℕ) (before moved after : List Chunk) (gap at : ℕ)
     | inr m ↦ inr (subst (λ (d : ℕ). AnyPlaced (ManagersHere d) (area_start image) (before ++ free gap ∷ (moved ++ after))) (sym l.directory) (managers_again (directory_of old) m))
   ]
 
-  heap_again : IsHeap image (before ++ free gap ∷ (moved ++ after))
-  heap_again = record { tiles = l.tiles; tied = tied_again; fixed_are_callers = callers_again; directory = directory_again }
+  heap_again : NoneStays moved → IsHeap image (before ++ free gap ∷ (moved ++ after))
+  heap_again loose = record { tiles = l.tiles; tied = tied_again; fixed_are_known = known_again loose; directory = directory_again }
 
   lift_plain : gap < 2 ^ 24 → lives moved ≡ moved → WritesPlain old image
   lift_plain small live =
@@ -210,9 +216,9 @@ module _ (old image : List ℕ) (before moved after : List Chunk) (gap at : ℕ)
       (subst (λ (k : ℕ). SameWords old image k after) (let same : at + total [] ≡ start + total (moved ++ free gap ∷ []) = omega (arith, sizes, end) in same) l.back)
       (free_plain image start gap moved word small (lives_plain image (start + gap) moved live))
 
-  pub lift_done : gap < 2 ^ 24 → lives moved ≡ moved → BecomesExactly old image (before ++ free gap ∷ (moved ++ after))
-  lift_done small live = record {
-    frame = record { accepted = (before ++ free gap ∷ (moved ++ after), heap_again); len = l.len; slots = l.slots; directory = l.directory };
+  pub lift_done : gap < 2 ^ 24 → lives moved ≡ moved → NoneStays moved → BecomesExactly old image (before ++ free gap ∷ (moved ++ after))
+  lift_done small live loose = record {
+    frame = record { accepted = (before ++ free gap ∷ (moved ++ after), heap_again loose); len = l.len; tables = l.tables; slots = l.slots; directory = l.directory };
     exact = chunks_of-tiled image (before ++ free gap ∷ (moved ++ after)) l.tiles;
     plain = lift_plain small live;
   }

@@ -1,8 +1,9 @@
 -- Live chunks by their names and by their places.
 use Rattle.std.proofs.Common.{◌≡◌, ◌≢◌, ℕ, ◌+◌, ◌-◌, ◌<◌, ◌≤◌, List, [], ◌∷◌, ◌++◌, length, Option, Some, None, MatchOption, refl, sym, ap, subst, ◌∙◌, arith, inl, inr}
 use Rattle.std.proofs.lemmas.Bool.{cases_eq, eq-eqb}
-use Rattle.std.proofs.lemmas.Bool.Decides.{nat_tests}
-use Rattle.std.specs.Prelude.{◌==◌, IsSome, IfNone}
+use Rattle.std.proofs.lemmas.Bool.Decides.{Decides-and, Decides-eqb, Decides-ltb, nat_tests}
+use Rattle.std.specs.Bool.{Decides}
+use Rattle.std.specs.Prelude.{◌==◌, ◌&&◌, nat_lt, IsSome, IfNone}
 use Rattle.std.specs.Option.{option_map}
 use Rattle.heap_model.specs.Bytes.{u32_at}
 use Rattle.heap_model.specs.Chunk.{Chunk, free, movable, fixed, fixed_lock, total, IsLive, HasChunk}
@@ -15,10 +16,9 @@ use Rattle.heap_model.specs.Space.{place_of}
 use Rattle.heap_model.specs.Placing.{Finds, NotFixedAs}
 use Rattle.heap_model.specs.declared.names.Name.{Name}
 use Rattle.heap_model.specs.declared.names.Place.{Place}
-use Rattle.laws_heap.proofs.Tests.{cond-true, cond-false}
+use Rattle.laws_heap.proofs.Tests.{cond-true, cond-false, true_or_false}
 use Rattle.laws_heap.proofs.Placed.{EveryPlaced-push, EveryPlaced-split, AnyPlaced-mid}
-use Rattle.laws_heap.proofs.Slots.{heap_hold_none}
-use Rattle.laws_heap.proofs.FixedNames.{fixed_name, fixed_live, fixed_live_is, fixed_has_name, fixed_name_is, fixed_place, fixed_not, not_fixed_as}
+use Rattle.laws_heap.proofs.FixedNames.{fixed_name, fixed_live, fixed_live_is, fixed_has_name, fixed_name_is, fixed_place, fixed_not, not_fixed_as, fixed_owned}
 use Rattle.laws_heap.proofs.FoundChunks.{finds_spelled, InSlot, in_slot, finds_read, held_finds, none_held, read_heap}
 use Rattle.laws_heap.proofs.Shapes.{chunk_at-spelled}
 use Rattle.laws_heap.proofs.Lives.{live_placed}
@@ -51,13 +51,19 @@ record FixedAs (at : ℕ) (name : Name) (c : Chunk) (found : Found) : Type 0 whe
   chunk : c ≡ fixed bytes owner
   is : found ≡ as_found at name (length bytes) owner
   there : fixed_name at ≡ name.0
+  some : 0 < owner
+
+Decides-fixed_by : (at owner : ℕ) (name : Name) → Decides (((placed (at + 8)).0 == name.0) && nat_lt 0 owner) ((at + 8 ≡ name.0) × (0 < owner))
+Decides-fixed_by at owner name = Decides-and _ _ (Decides-eqb (at + 8) name.0) (Decides-ltb 0 owner)
 
 fixed_named : (at : ℕ) (name : Name) (header : Header) (c : Chunk) (found : Found) → header ≡ header_of c → fixed_by header (placed (at + 8)) name ≡ Some found → FixedAs at name c found
 fixed_named at name header (free size) found e f = let g : fixed_by (headers.Free size) (placed (at + 8)) name ≡ Some found = subst (λ (h : Header). fixed_by h (placed (at + 8)) name ≡ Some found) e f in absurd cc
 fixed_named at name header (movable bytes lock owner slot) found e f = let g : fixed_by (headers.Movable (length bytes) lock owner slot) (placed (at + 8)) name ≡ Some found = subst (λ (h : Header). fixed_by h (placed (at + 8)) name ≡ Some found) e f in absurd cc
-fixed_named at name header (fixed bytes owner) found e f = elim (cases_eq (at + 8) name.0) [
-  | inl same ↦ record { bytes = bytes; owner = owner; chunk = refl; is = one (sym (cond-true ((placed (at + 8)).0 == name.0) _ _ (eq-eqb (at + 8) name.0 same)) ∙ g); there = fixed_place at ∙ same }
-  | inr apart ↦ let none : fixed_by (headers.Fixed (length bytes) owner) (placed (at + 8)) name ≡ None = cond-false ((placed (at + 8)).0 == name.0) _ _ (grind (arith, nat_tests)) in absurd cc
+fixed_named at name header (fixed bytes owner) found e f = elim (true_or_false (((placed (at + 8)).0 == name.0) && nat_lt 0 owner)) [
+  | inl is ↦
+      let both = (Decides-fixed_by at owner name).0 is in
+      record { bytes = bytes; owner = owner; chunk = refl; is = one (sym (cond-true (((placed (at + 8)).0 == name.0) && nat_lt 0 owner) _ _ is) ∙ g); there = fixed_place at ∙ both.0; some = both.1 }
+  | inr isnt ↦ let none : fixed_by (headers.Fixed (length bytes) owner) (placed (at + 8)) name ≡ None = cond-false (((placed (at + 8)).0 == name.0) && nat_lt 0 owner) _ _ isnt in absurd cc
 ] where
   g : fixed_by (headers.Fixed (length bytes) owner) (placed (at + 8)) name ≡ Some found
   g = subst (λ (h : Header). fixed_by h (placed (at + 8)) name ≡ Some found) e f
@@ -71,7 +77,6 @@ fixed_found image P at name header found h p has f =
     let live : LiveChunk = fixed_live n.bytes n.owner in
     let parts = passed_parts image P at header h p has in
     let chunks : chunks_of image ≡ p.front ++ fixed n.bytes n.owner ∷ parts.0 = subst (λ (c : Chunk). chunks_of image ≡ p.front ++ c ∷ parts.0) n.chunk parts.1 in
-    let some = (heap_hold_none image p.front (fixed n.bytes n.owner ∷ []) parts.0 (subst (λ (cs : List Chunk). IsHeap image cs) chunks (read_heap image h))).0 in
     let there = passed_at image P at p in
     let place : at + 8 - 8 ≡ at = omega arith in
     let finds : Finds image name.0 live (fixed n.bytes n.owner) at = record {
@@ -79,7 +84,7 @@ fixed_found image P at name header found h p has f =
       after = parts.0;
       chunks = chunks;
       there = omega arith;
-      named = subst (λ (k : ℕ). NamedHere k live at (fixed n.bytes n.owner)) n.there (fixed_has_name at n.bytes n.owner some);
+      named = subst (λ (k : ℕ). NamedHere k live at (fixed n.bytes n.owner)) n.there (fixed_has_name at n.bytes n.owner n.some);
     } in
     subst (λ (x : Found). IsFound image name.0 x) (sym n.is) record {
       live = live;
@@ -99,7 +104,7 @@ fixed_there at name header found image has f = let n = fixed_named at name heade
 not_fixed : (at : ℕ) (name : Name) (c : Chunk) → fixed_by (header_of c) (placed (at + 8)) name ≡ None → NotFixedAs name.0 at c
 not_fixed at name (free size) f = tt
 not_fixed at name (movable bytes lock owner slot) f = tt
-not_fixed at name (fixed bytes owner) f = not_fixed_as name.0 at bytes owner (λ same. let some = sym (cond-true ((placed (at + 8)).0 == name.0) _ _ (eq-eqb (at + 8) name.0 (sym (fixed_place at) ∙ same))) ∙ f in absurd cc)
+not_fixed at name (fixed bytes owner) f = λ some same. let there = sym (cond-true (((placed (at + 8)).0 == name.0) && nat_lt 0 owner) _ _ ((Decides-fixed_by at owner name).1 (same, some))) ∙ f in absurd cc
 
 pub fixed_passed : (image : List ℕ) (at : ℕ) (name : Name) (header : Header) → Passed image (NoneFixedAs image name.0) at → HasHeader image at header → fixed_by header (placed (at + 8)) name ≡ None → Passed image (NoneFixedAs image name.0) (at + size_by header)
 fixed_passed image at name header p has f = passed_more image (NoneFixedAs image name.0) (NoneFixedAs image name.0) at header p has
@@ -138,7 +143,7 @@ fixed_has_chunk image name h i = record { chunk = fixed i.bytes i.owner; spelled
 pub fixed_header : (image : List ℕ) (name : Name) (header : Header) → HeapAccepted image → (i : IsFixed image name.0) → Some header ≡ option_map header_of (chunk_at image (name.0 - 8)) → fixed_by header (placed name.0) name ≡ Some (as_found_at name (length i.bytes) i.owner)
 fixed_header image name header h i read =
     let is : header ≡ headers.Fixed (length i.bytes) i.owner = same (read ∙ ap (option_map header_of) (finds_read image name.0 i.live (fixed i.bytes i.owner) (name.0 - 8) h i.finds)) in
-    ap (λ (x : Header). fixed_by x (placed name.0) name) is ∙ cond-true (name.0 == name.0) _ _ (eq-eqb name.0 name.0 refl) where
+    ap (λ (x : Header). fixed_by x (placed name.0) name) is ∙ cond-true ((name.0 == name.0) && nat_lt 0 i.owner) _ _ ((Decides-and _ _ (Decides-eqb name.0 name.0) (Decides-ltb 0 i.owner)).1 (refl, fixed_owned (name.0 - 8) i.bytes i.owner i.finds.named)) where
       same : {x y : Header} → Some x ≡ Some y → x ≡ y
       same e = cc
 

@@ -3,15 +3,15 @@ use Rattle.std.proofs.Common.{◌≡◌, ◌≢◌, ℕ, ◌+◌, ◌-◌, ◌%�
 use Rattle.std.proofs.lemmas.Bool.{cases_eq, cases_lt}
 use Rattle.heap_model.specs.Bytes.{u32_at, u32_bytes, overwritten}
 use Rattle.heap_model.specs.Chunk.{Chunk, free, movable, fixed, need, size_of, total, Spelled, SpelledAll}
-use Rattle.heap_model.specs.Slots.{IsSlot, table_end, area_start}
+use Rattle.heap_model.specs.Slots.{IsSlot, TablesLie, area_start}
 use Rattle.heap_model.specs.Heap.{Tiles, BodyHere, IsBody, IsHeap}
 use Rattle.laws_heap.proofs.Frames.{u32_at-written}
-use Rattle.laws_heap.proofs.Chunks.{total-append, Spelled-size, Spelled-same, SameWords, words_then, Spelled-unique, SpelledAll-split}
-use Rattle.laws_heap.proofs.Slots.{SlotFacts, slot_facts, IsBeside, slot_beside, slot_alike, start_listed}
+use Rattle.laws_heap.proofs.Chunks.{total-append, Spelled-size, Spelled-same, plain-movable, SameWords, words_then, Spelled-unique, SpelledAll-split}
+use Rattle.laws_heap.proofs.Slots.{SlotFacts, slot_facts, HoldNoSlots, IsBeside, slot_beside, slot_alike, start_listed}
 use Rattle.laws_heap.proofs.Bodies.{IsBody-low, IsBody-high}
 use Rattle.laws_heap.proofs.Placed.{EveryPlaced-split, AnyPlaced-mid, AnyPlaced-split}
-use Rattle.laws_heap.proofs.Replacements.{same_count, head_slots, same_directory, slot_there, Replaces, replaced_tiles}
-use Rattle.laws_heap.proofs.Writes.{WroteWithin, wrote_word, wrote_wider, WroteArea, area_replaces, area_slots, beside_same}
+use Rattle.laws_heap.proofs.Replacements.{head_tables, head_slots, same_directory, Replaces, replaced_tiles}
+use Rattle.laws_heap.proofs.Writes.{WroteWithin, wrote_word, wrote_wider, WroteArea, area_replaces, area_slots, beside_same, table_kept}
 use Rattle.chunk_format.specs.Header.{header_of, size_by, HasHeader, IsWritable, live_words, h_offset_to}
 use Rattle.chunk_format.specs.declared.header.Header.{Header}
 use Rattle.chunk_format.specs.declared.header.Header.TheVariants as headers
@@ -19,7 +19,7 @@ use Rattle.heap_place.specs.Lifting.{carried, all_carried, Lifting}
 use Rattle.laws_heap.proofs.AlteredChunks.{body_stays}
 use Rattle.heap_place.proofs.CarriedLaws.{carried_total}
 use Rattle.heap_place.proofs.FoundLaws.{total_whole}
-use Rattle.heap_place.proofs.CutLaws.{header_movable, wrote_words, wrote_head}
+use Rattle.heap_place.proofs.CutLaws.{header_movable, wrote_words}
 
 -- ---- whose body lies in some bytes
 
@@ -62,7 +62,7 @@ next_of old image before done c rest after gap at l =
     let both = total-append before done in
     let more = total-append before (free gap ∷ done) in
     let there = l.there in
-    let starts = start_listed old image l.slots in
+    let starts = start_listed old image l.tables in
     let at_is : at ≡ area_start image + total front = omega (arith, there, more, starts) in
     let tiles : Tiles image (front ++ carried gap c ∷ others) = subst (λ (cs : List Chunk). Tiles image cs) (sym (append_assoc before (free gap ∷ done) (carried gap c ∷ others))) l.tiles in
     let parts = SpelledAll-split image (area_start image) front (carried gap c ∷ others) (length image) tiles.area in
@@ -108,6 +108,7 @@ step_kept old image before done c rest after gap at same no_body l =
       there = grown_there old before done c gap at l.there;
       tiles = grown_tiles image before done c (all_carried gap rest ++ after) gap (subst (λ (d : Chunk). Tiles image ((before ++ free gap ∷ done) ++ d ∷ (all_carried gap rest ++ after))) same n.tiles);
       len = l.len;
+      tables = l.tables;
       slots = l.slots;
       directory = l.directory;
       lifted = λ slot s low high. elim (cases_lt at (u32_at old slot + gap)) [
@@ -202,10 +203,10 @@ step_mended old image mid new before done bytes lock owner slot rest after gap a
     let h = header_movable (length bytes) lock owner slot header.chunk header.header_is in
     let t : Spelled mid at (movable h.0 lock owner slot) = subst (λ (d : Chunk). Spelled mid at d) h.1.0 header.spelled in
     let s : Spelled image at (carried gap c) = n.spelled in
-    let same : h.0 ≡ bytes = body_stays image mid at bytes h.0 lock owner s.0 lock owner t.0 s.1 t.1 h.1.1 head in
+    let same : h.0 ≡ bytes = body_stays image mid at bytes h.0 lock owner s.0 lock owner t.0 (plain-movable lock owner s.2) (plain-movable lock owner t.2) s.1 t.1 h.1.1 head in
     let spelled_mid : Spelled mid at c = subst (λ (b : List ℕ). Spelled mid at (movable b lock owner slot)) same t in
     let spelled_new : Spelled new at c = Spelled-same mid new at c (beside_same mid new slot at (at + need (length bytes)) at (at + need (length bytes)) word m.beside (omega arith) (omega arith) (omega (arith, inside, len))) word.len spelled_mid in
-    let r : Replaces image new front (carried gap c ∷ []) (c ∷ []) others at = area_replaces image new front (carried gap c ∷ []) (c ∷ []) others at n.tiles there (omega (arith, inside)) w (spelled_new, omega arith) in
+    let r : Replaces image new front (carried gap c ∷ []) (c ∷ []) others at = area_replaces image new front (carried gap c ∷ []) (c ∷ []) others at n.tiles tt there (omega (arith, inside)) w (spelled_new, omega arith) in
     let tiles = replaced_tiles image new front (carried gap c ∷ []) (c ∷ []) others at n.tiles r in
     let slots : (other : ℕ) → IsSlot old other → other ≢ slot → u32_at new other ≡ u32_at image other =
     λ other o ne. area_slots image new front (carried gap c ∷ []) others at other n.tiles tt there w (slot_alike old image other l.slots o) (λ e. ne (sym e)) in
@@ -220,6 +221,7 @@ step_mended old image mid new before done bytes lock owner slot rest after gap a
       there = grown_there old before done c gap at l.there;
       tiles = grown_tiles new before done c others gap tiles;
       len = r.head.len ∙ l.len;
+      tables = head_tables image new r.head ∙ l.tables;
       slots = head_slots image new r.head ∙ l.slots;
       directory = same_directory image new r.head ∙ l.directory;
       lifted = λ other o low high. elim (cases_eq other slot) [
@@ -279,7 +281,13 @@ pub record CanMend (old image : List ℕ) (at count lock owner slot : ℕ) : Typ
   pub inside : at + need count ≤ length image
   pub small : length image < 2 ^ 24
   pub is_slot : IsSlot image slot
-  pub table : table_end image ≤ at
+  pub front : List Chunk
+  pub chunk : Chunk
+  pub behind : List Chunk
+  pub tiles : Tiles image (front ++ ((chunk ∷ []) ++ behind))
+  pub none : HoldNoSlots (chunk ∷ [])
+  pub there : at ≡ area_start image + total front
+  pub takes : 8 ≤ size_of chunk
 
 pub can_mend : (old image : List ℕ) (before done : List Chunk) (c : Chunk) (rest after : List Chunk) (gap at count lock owner named : ℕ) → ReadsMovable old image before done c rest after gap at count lock owner named
     → (gap ≤ named) × CanMend old image at count lock owner (named - gap)
@@ -305,20 +313,22 @@ can_mend old image before done c rest after gap at count lock owner named r =
         inside = omega (arith, size, inside);
         small = omega (arith, most);
         is_slot = subst (λ (x : ℕ). IsSlot image x) (sym back) m.is_slot;
-        table = omega arith;
+        front = before ++ free gap ∷ done;
+        chunk = carried gap (movable r.bytes lock owner r.slot);
+        behind = all_carried gap rest ++ after;
+        tiles = m.next.tiles;
+        none = tt;
+        there = m.next.there;
+        takes = omega arith;
       },
     )
 
 -- the header leaves the table where it is
-pub table_there : (old image mid : List ℕ) (at count lock owner slot : ℕ) → CanMend old image at count lock owner slot → mid ≡ overwritten image at (live_words count lock owner (h_offset_to at slot)) → area_start image ≤ at → (table_end mid ≤ length mid) × IsSlot mid slot
+pub table_there : (old image mid : List ℕ) (at count lock owner slot : ℕ) → CanMend old image at count lock owner slot → mid ≡ overwritten image at (live_words count lock owner (h_offset_to at slot)) → area_start image ≤ at → TablesLie mid × IsSlot mid slot
 table_there old image mid at count lock owner slot can is area =
-    let inside = can.inside in
-    let table = can.table in
+    let takes = can.takes in
     let w = wrote_words image mid at count lock owner (h_offset_to at slot) can.inside is in
-    let same = wrote_head image mid at (at + 8) w area (omega (arith, inside)) in
-    let ends = same_count image mid same in
-    let len = w.len in
-    (omega (arith, ends, len, table, inside), slot_there image mid slot same can.is_slot)
+    table_kept image mid can.front (can.chunk ∷ []) can.behind at slot can.tiles can.none can.there (wrote_wider image mid at (at + 8) at (at + total (can.chunk ∷ [])) w (omega arith) (omega arith)) can.is_slot
 
 -- ---- the chunk, by its header
 

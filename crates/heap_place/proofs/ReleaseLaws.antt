@@ -2,7 +2,7 @@
 use Rattle.std.proofs.Common.{◌≡◌, ◌≢◌, ℕ, ◌+◌, ◌-◌, ◌%◌, ◌^◌, ◌<◌, ◌≤◌, List, [], ◌∷◌, ◌++◌, length, refl, sym, ap, subst, ◌∙◌, arith, inl, inr}
 use Rattle.heap_model.specs.Bytes.{u32_at, u32_bytes, overwritten}
 use Rattle.heap_model.specs.Chunk.{Chunk, need, free, movable, fixed, fixed_lock, size_of, total, Spelled, SpelledAll}
-use Rattle.heap_model.specs.Slots.{IsSlot, area_start, table_end}
+use Rattle.heap_model.specs.Slots.{IsSlot, TablesLie, area_start}
 use Rattle.heap_model.specs.Heap.{ManagersHere, directory_of, IsHeap, HeapAccepted}
 use Rattle.heap_model.specs.Meaning.{LiveChunk, NamedHere}
 use Rattle.heap_model.specs.Reading.{chunks_of}
@@ -25,7 +25,7 @@ use Rattle.laws_heap.proofs.SameLayouts.{becomes_heap, becomes_alike}
 use Rattle.laws_heap.proofs.FoundChunks.{finds_spelled}
 use Rattle.laws_heap.proofs.Exchanges.{exchanges_parts}
 use Rattle.laws_heap.proofs.ExchangedNames.{named_live_chunk}
-use Rattle.laws_heap.proofs.Writes.{WroteWithin, wrote_none, wrote_word, wrote_wider, WroteArea, area_replaces, wrote_slot, area_slots, beside_same, beside_word}
+use Rattle.laws_heap.proofs.Writes.{WroteWithin, wrote_none, wrote_word, wrote_wider, WroteArea, area_replaces, wrote_slot, area_slots, beside_same, beside_word, table_kept}
 use Rattle.laws_heap.proofs.Plain.{free_plain, replaced_plain}
 use Rattle.laws_heap.proofs.FreeChunks.{OtherSlots, ClearsSlot, released}
 use Rattle.laws_heap.proofs.FixedNames.{fixed_live_is}
@@ -35,7 +35,7 @@ use Rattle.heap_place.specs.declared.found.Found.{Found}
 use Rattle.heap_place.specs.Found.{IsOne}
 use Rattle.heap_place.specs.Search.{size_if_free, free_size_at, Emptied}
 use Rattle.heap_place.proofs.FoundLaws.{heap_in_parts, Middle, middle_of, own_slot, found_size}
-use Rattle.heap_place.proofs.CutLaws.{has_free, table_kept}
+use Rattle.heap_place.proofs.CutLaws.{has_free}
 
 -- ---- the free chunk behind
 
@@ -89,14 +89,14 @@ first_word old mid at all chunk g is =
     let least = (Spelled-size old at chunk g.spelled).0 in
     wrote_wider old mid at (at + 4) at (at + total (chunk ∷ g.run)) (wrote_word old mid at (2 ^ 31 + all) is (omega arith)) (omega arith) (omega arith)
 
-slot_stays : (old mid : List ℕ) (at all name : ℕ) (live : LiveChunk) (chunk : Chunk) → HeapAccepted old → Finds old name live chunk at → live.lock ≢ fixed_lock → mid ≡ overwritten old at (u32_bytes (2 ^ 31 + all)) → (table_end mid ≤ length mid) × IsSlot mid name
+slot_stays : (old mid : List ℕ) (at all name : ℕ) (live : LiveChunk) (chunk : Chunk) → HeapAccepted old → Finds old name live chunk at → live.lock ≢ fixed_lock → mid ≡ overwritten old at (u32_bytes (2 ^ 31 + all)) → TablesLie mid × IsSlot mid name
 slot_stays old mid at all name live (free size) accepted f loose is = absurd f.named
 slot_stays old mid at all name live (fixed bytes o) accepted f loose is = absurd (loose (ap (λ (x : LiveChunk). x.lock) (sym (fixed_live_is at bytes o f.named))))
 slot_stays old mid at all name live (movable bytes l o s) accepted f loose is =
     let g = alone old at name live (movable bytes l o s) accepted f in
     let inside = g.middle.inside in
     let there = g.middle.there in
-    table_kept old mid at (at + total (movable bytes l o s ∷ g.run)) name accepted (first_word old mid at all (movable bytes l o s) g is) (omega arith) (omega arith) (subst (λ (n : ℕ). IsSlot old n) f.named.0 (own_slot old name at live bytes l o s accepted f))
+    table_kept old mid g.before (movable bytes l o s ∷ g.run) g.rest at name g.heap.tiles (free_hold_none g.run g.all_free) g.middle.there (first_word old mid at all (movable bytes l o s) g is) (subst (λ (n : ℕ). IsSlot old n) f.named.0 (own_slot old name at live bytes l o s accepted f))
 
 -- the word that is written for the free chunk
 first_is : (old mid : List ℕ) (at all : ℕ) → mid ≡ overwritten old at (u32_bytes (2 ^ 31 + all)) → at + 4 ≤ length old → all < 2 ^ 24 → u32_at mid at ≡ 2 ^ 31 + all
@@ -160,7 +160,8 @@ pub gave_back : (old mid new : List ℕ) (at all name : ℕ) (live : LiveChunk) 
 gave_back old mid new at all name live chunk accepted own f g sums is header emptied =
     let least = (Spelled-size old at chunk g.spelled).0 in
     let w = given old mid new at all name live chunk accepted g f (omega arith) is header emptied in
-    let replaces : Replaces old new g.before (chunk ∷ g.run) (free all ∷ []) g.rest at = area_replaces old new g.before (chunk ∷ g.run) (free all ∷ []) g.rest at g.heap.tiles g.middle.there g.middle.inside w.area (w.spelled, omega arith) in
+    let none = named_hold_none old g.before chunk g.run g.rest name live g.heap (subst (λ (n : ℕ). NamedHere name live n chunk) g.middle.there f.named) g.all_free in
+    let replaces : Replaces old new g.before (chunk ∷ g.run) (free all ∷ []) g.rest at = area_replaces old new g.before (chunk ∷ g.run) (free all ∷ []) g.rest at g.heap.tiles none g.middle.there g.middle.inside w.area (w.spelled, omega arith) in
     let heap = released old new g.before chunk g.run g.rest at all name live g.heap replaces g.all_free f.named (not_directory old at name live chunk own f.named) w.clears w.others in
     let there = g.middle.there in
     let start : area_start new ≡ area_start old = same_start old new replaces.head in
@@ -207,7 +208,7 @@ alone_size image found size h f size_is =
     let inside = t.1 in
     (omega arith, omega arith, subst (λ (n : ℕ). n % 8 ≡ 0) (sym is) t.2, h.1.tiles.head.most)
 
-pub own_slot_stays : (old mid : List ℕ) (found : Found) (all : ℕ) → HeapAccepted old → (f : IsOne old found) → found.lock ≢ fixed_lock → mid ≡ overwritten old (found.place.0 - 8) (u32_bytes (2 ^ 31 + all)) → (table_end mid ≤ length mid) × IsSlot mid found.name.0
+pub own_slot_stays : (old mid : List ℕ) (found : Found) (all : ℕ) → HeapAccepted old → (f : IsOne old found) → found.lock ≢ fixed_lock → mid ≡ overwritten old (found.place.0 - 8) (u32_bytes (2 ^ 31 + all)) → TablesLie mid × IsSlot mid found.name.0
 own_slot_stays old mid found all h f loose is = slot_stays old mid (found.place.0 - 8) all found.name.0 f.live f.chunk h f.finds (λ e. loose (f.lock_is ∙ e)) is
 
 -- the slot of a movable chunk is emptied, and a fixed one has none

@@ -5,9 +5,9 @@ use Rattle.std.proofs.lemmas.Bool.{cases_lt, OnTrue_at, OnTrue_from}
 use Rattle.std.specs.Bool.{OnTrue}
 use Rattle.std.specs.Prelude.{slice_range, min}
 use Rattle.heap_model.specs.Bytes.{u32_at, u32_bytes, overwritten, sized_to}
-use Rattle.heap_model.specs.Chunk.{Chunk, free, movable, fixed, fixed_lock, need, size_of, Spelled, data_owner}
-use Rattle.heap_model.specs.Slots.{IsSlot, table_end}
-use Rattle.heap_model.specs.Heap.{HeapAccepted}
+use Rattle.heap_model.specs.Chunk.{Chunk, free, movable, fixed, fixed_lock, need, size_of, Spelled, data_owner, total}
+use Rattle.heap_model.specs.Slots.{IsSlot, TablesLie}
+use Rattle.heap_model.specs.Heap.{IsHeap, HeapAccepted}
 use Rattle.heap_model.specs.Meaning.{LiveChunk, NamedHere}
 use Rattle.heap_model.specs.Reading.{chunks_of, held}
 use Rattle.heap_model.specs.Space.{NoRun, place_of}
@@ -17,16 +17,16 @@ use Rattle.heap_model.specs.Resizing.{with_length, Relocates}
 use Rattle.laws_heap.proofs.FoundChunks.{held_finds, finds_spelled, finds_body}
 use Rattle.laws_heap.proofs.AlteredChunks.{finds_place, body_stays}
 use Rattle.laws_heap.proofs.Exchanges.{ChangesName}
-use Rattle.laws_heap.proofs.FixedNames.{fixed_name, fixed_live, fixed_has_name, fixed_live_is}
+use Rattle.laws_heap.proofs.FixedNames.{fixed_name, fixed_live, fixed_has_name, fixed_live_is, fixed_owned}
 use Rattle.laws_heap.proofs.ExchangedNames.{bytes_changes, freed_changes}
 use Rattle.laws_heap.proofs.Spots.{claims_change, spot_unheld, spot_is_run}
 use Rattle.laws_heap.proofs.Resizings.{length-sized_to}
 use Rattle.laws_heap.proofs.Relocation.{relocates}
 use Rattle.laws_heap.proofs.SlidImages.{slot_unheld}
-use Rattle.laws_heap.proofs.Chunks.{Spelled-same}
+use Rattle.laws_heap.proofs.Chunks.{Spelled-size, Spelled-same, plain-callers, plain-movable}
 use Rattle.laws_heap.proofs.Frames.{u32_at-written, length-overwritten}
 use Rattle.laws_heap.proofs.Slots.{slot_facts, named_hold_none, slot_beside}
-use Rattle.laws_heap.proofs.Writes.{WroteWithin, wrote_wider, wrote_word, WroteArea, area_replaces, area_slots, beside_same}
+use Rattle.laws_heap.proofs.Writes.{WroteWithin, wrote_wider, wrote_word, WroteArea, area_replaces, area_slots, beside_same, table_kept}
 use Rattle.laws_heap.proofs.FreeChunks.{OtherSlots, claimed}
 use Rattle.laws_heap.proofs.SameLayouts.{becomes_heap, slot_kept}
 use Rattle.laws_heap.proofs.Plain.{lives_plain, replaced_plain}
@@ -39,7 +39,7 @@ use Rattle.heap_place.specs.Lists.{Any, KeepsFree}
 use Rattle.heap_place.proofs.FoundLaws.{heap_in_parts, middle_of, found_inside, bytes_inside, own_slot, one_held, when_movable}
 use Rattle.heap_place.proofs.KeepLaws.{keeps_replaced, live_apart}
 use Rattle.heap_place.proofs.WithinLaws.{keeps_body}
-use Rattle.heap_place.proofs.CutLaws.{header_movable, wrote_words, table_kept}
+use Rattle.heap_place.proofs.CutLaws.{header_movable, wrote_words}
 use Rattle.heap_place.proofs.AlterLaws.{changed_there, written_there}
 
 -- ---- what is held is found
@@ -123,12 +123,12 @@ named_write old mid new at name live bytes holder owner slot h f s empty mid_is 
     let was : Spelled old at c = finds_spelled old name live c at h f in
     let k = header_movable (length bytes) 0 owner slot header.chunk header.header_is in
     let now : Spelled mid at (movable k.0 0 owner slot) = subst (λ (x : Chunk). Spelled mid at x) k.1.0 header.spelled in
-    let same : k.0 ≡ bytes = body_stays old mid at bytes k.0 fixed_lock holder 0 0 owner now.0 was now.1 k.1.1 first in
+    let same : k.0 ≡ bytes = body_stays old mid at bytes k.0 fixed_lock holder 0 0 owner now.0 (plain-callers fixed_lock holder (fixed_owned at bytes holder f.named)) (plain-movable 0 owner now.2) was now.1 k.1.1 first in
     let spelled_mid : Spelled mid at d = subst (λ (x : List ℕ). Spelled mid at (movable x 0 owner slot)) same now in
     let spelled : Spelled new at d = Spelled-same mid new at d (beside_same mid new slot at (at + (need (length bytes) + 0)) at (at + need (length bytes)) word beside (omega arith) (omega arith) (omega arith)) word.len spelled_mid in
     let all : WroteWithin old mid at (at + (need (length bytes) + 0)) = wrote_wider old mid at (at + 8) at (at + (need (length bytes) + 0)) first (omega arith) (omega arith) in
     let area : WroteArea old new at (at + (need (length bytes) + 0)) = record { mid = mid; slot = slot; area = all; word = word; is_slot = inr s; there = omega arith; fits = omega arith } in
-    let replaces = area_replaces old new f.before (c ∷ []) (d ∷ []) f.after at heap.tiles f.there m.inside area (spelled, omega arith) in
+    let replaces = area_replaces old new f.before (c ∷ []) (d ∷ []) f.after at heap.tiles none f.there m.inside area (spelled, omega arith) in
     let holds : u32_at new slot ≡ at + 8 = ap (λ (x : List ℕ). u32_at x slot) new_is ∙ u32_at-written (at + 8) slot mid (omega arith) (omega arith) in
     let others : OtherSlots old new slot = record { same = λ t ts ne. area_slots old new f.before (c ∷ []) f.after at t heap.tiles none f.there area ts (λ e. ne (sym e)) } in
     let done = claimed old new f.before f.after at c bytes owner slot tt heap replaces s empty holds others in (
@@ -173,11 +173,16 @@ named_writable image there slot h one s =
     (omega arith, omega arith, omega arith)
 
 -- the header leaves the table where it is
-pub header_table : (old mid : List ℕ) (there : Found) (owner slot : ℕ) → HeapAccepted old → IsOne old there → IsSlot old slot → mid ≡ overwritten old (there.place.0 - 8) (live_words there.length 0 owner (h_offset_to (there.place.0 - 8) slot)) → (table_end mid ≤ length mid) × IsSlot mid slot
+pub header_table : (old mid : List ℕ) (there : Found) (owner slot : ℕ) → HeapAccepted old → IsOne old there → IsSlot old slot → mid ≡ overwritten old (there.place.0 - 8) (live_words there.length 0 owner (h_offset_to (there.place.0 - 8) slot)) → TablesLie mid × IsSlot mid slot
 header_table old mid there owner slot h one s mid_is =
     let inside = found_inside old there h one in
-    let at = one.finds.there in
-    table_kept old mid (there.place.0 - 8) (there.place.0 - 8 + 8) slot h (wrote_words old mid (there.place.0 - 8) there.length 0 owner (h_offset_to (there.place.0 - 8) slot) inside mid_is) (omega arith) (omega arith) s
+    let f = one.finds in
+    let at : ℕ = there.place.0 - 8 in
+    let heap : IsHeap old (f.before ++ ((one.chunk ∷ []) ++ f.after)) = heap_in_parts old (f.before ++ one.chunk ∷ f.after) h f.chunks in
+    let none = named_hold_none old f.before one.chunk [] f.after there.name.0 one.live heap (subst (λ (n : ℕ). NamedHere there.name.0 one.live n one.chunk) f.there f.named) tt in
+    let least = (Spelled-size old at one.chunk (finds_spelled old there.name.0 one.live one.chunk at h f)).0 in
+    let w = wrote_words old mid at there.length 0 owner (h_offset_to at slot) inside mid_is in
+    table_kept old mid f.before (one.chunk ∷ []) f.after at slot heap.tiles none f.there (wrote_wider old mid at (at + 8) at (at + total (one.chunk ∷ [])) w (omega arith) (omega arith)) s
 
 -- ---- bytes are copied
 

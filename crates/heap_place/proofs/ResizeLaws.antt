@@ -16,7 +16,7 @@ use Rattle.heap_model.specs.Resizing.{with_length, shrunk, Shrinks}
 use Rattle.laws_heap.proofs.Tests.{cond-true, cond-false}
 use Rattle.laws_heap.proofs.Frames.{SameBetween, SameBetween-then, slice-same, slice-overwritten-within}
 use Rattle.laws_heap.proofs.Layouts.{IsNotFree}
-use Rattle.laws_heap.proofs.FixedNames.{fixed_live_is}
+use Rattle.laws_heap.proofs.FixedNames.{fixed_live_is, fixed_owned}
 use Rattle.laws_heap.proofs.FoundChunks.{finds_spelled}
 use Rattle.laws_heap.proofs.ExchangedNames.{named_live_chunk}
 use Rattle.laws_heap.proofs.Writes.{WroteWithin, wrote_part, wrote_wider, wrote_then, wrote_apart}
@@ -33,7 +33,8 @@ use Rattle.heap_place.specs.Found.{IsOne}
 use Rattle.heap_place.specs.Search.{WroteRest}
 use Rattle.heap_place.specs.Resizes.{sized_header, RunBehind, Resizes}
 use Rattle.heap_place.proofs.FoundLaws.{heap_in_parts, Middle, middle_of, own_slot, Fields, fields_of, found_size, bytes_inside}
-use Rattle.laws_heap.proofs.Slots.{slot_facts}
+use Rattle.laws_heap.proofs.Slots.{slot_facts, HoldNoSlots}
+use Rattle.laws_heap.proofs.Chunks.{movable_body, callers_body}
 use Rattle.heap_place.proofs.CutLaws.{gap_spelled, gap_plain, rest_within, header_movable, header_fixed, wrote_words}
 
 -- ---- where the chunk and the free ones behind it lie
@@ -167,21 +168,21 @@ body_of (movable bytes lock owner slot) = bytes
 body_of (fixed bytes owner) = bytes
 
 -- the chunk of a header, and these bytes
-pub sized_spelled : (new : List ℕ) (at count : ℕ) (c : Chunk) → IsNotFree c → slice_range new (at + 8) (at + 8 + count) ≡ sized_to (body_of c) count → HasHeader new at (header_of (with_length count c)) → Spelled new at (with_length count c)
-sized_spelled new at count (free size) live body has = absurd live
-sized_spelled new at count (movable bytes lock owner slot) live body has =
+pub sized_spelled : (new : List ℕ) (at count : ℕ) (c : Chunk) → IsNotFree c → HoldNoSlots (c ∷ []) → slice_range new (at + 8) (at + 8 + count) ≡ sized_to (body_of c) count → HasHeader new at (header_of (with_length count c)) → Spelled new at (with_length count c)
+sized_spelled new at count (free size) live none body has = absurd live
+sized_spelled new at count (movable bytes lock owner slot) live none body has =
     let sized : List ℕ = sized_to bytes count in
     let len : length sized ≡ count = length-sized_to bytes count in
     let m = header_movable (length sized) lock owner slot has.chunk has.header_is in
     let t : Spelled new at (movable m.0 lock owner slot) = subst (λ (x : Chunk). Spelled new at x) m.1.0 has.spelled in
-    let same_bytes : m.0 ≡ sized = sym t.1.body ∙ ap (λ (k : ℕ). slice_range new (at + 8) (at + 8 + k)) (m.1.1 ∙ len) ∙ body in
+    let same_bytes : m.0 ≡ sized = sym (movable_body new at m.0 lock owner t.0 t.1 t.2) ∙ ap (λ (k : ℕ). slice_range new (at + 8) (at + 8 + k)) (m.1.1 ∙ len) ∙ body in
     subst (λ (x : List ℕ). Spelled new at (movable x lock owner slot)) same_bytes t
-sized_spelled new at count (fixed bytes owner) live body has =
+sized_spelled new at count (fixed bytes owner) live none body has =
     let sized : List ℕ = sized_to bytes count in
     let len : length sized ≡ count = length-sized_to bytes count in
     let m = header_fixed (length sized) owner has.chunk has.header_is in
     let t : Spelled new at (fixed m.0 owner) = subst (λ (x : Chunk). Spelled new at x) m.1.0 has.spelled in
-    let same_bytes : m.0 ≡ sized = sym t.body ∙ ap (λ (k : ℕ). slice_range new (at + 8) (at + 8 + k)) (m.1.1 ∙ len) ∙ body in
+    let same_bytes : m.0 ≡ sized = sym (callers_body new at m.0 fixed_lock owner 0 t none.0) ∙ ap (λ (k : ℕ). slice_range new (at + 8) (at + 8 + k)) (m.1.1 ∙ len) ∙ body in
     subst (λ (x : List ℕ). Spelled new at (fixed x owner)) same_bytes t
 
 -- where it stands in the image
@@ -190,8 +191,14 @@ found_body image found h f = let b = by_chunk f.live f.chunk (finds_spelled imag
   by_chunk : (live : LiveChunk) (c : Chunk) → Spelled image (found.place.0 - 8) c → NamedHere found.name.0 live (found.place.0 - 8) c
       → (slice_range image (found.place.0 - 8 + 8) (found.place.0 - 8 + 8 + length (body_of c)) ≡ body_of c) × (live ≡ f.live → length (body_of c) ≡ found.length)
   by_chunk live (free size) s named = absurd named
-  by_chunk live (movable bytes lock owner slot) s named = (s.1.body, λ e. ap (λ (x : LiveChunk). length x.bytes) (named.1 ∙ e) ∙ sym f.count)
-  by_chunk live (fixed bytes owner) s named = (s.body, λ e. ap (λ (x : LiveChunk). length x.bytes) (fixed_live_is (found.place.0 - 8) bytes owner named ∙ e) ∙ sym f.count)
+  by_chunk live (movable bytes lock owner slot) s named = (movable_body image (found.place.0 - 8) bytes lock owner s.0 s.1 s.2, λ e. ap (λ (x : LiveChunk). length x.bytes) (named.1 ∙ e) ∙ sym f.count)
+  by_chunk live (fixed bytes owner) s named = (callers_body image (found.place.0 - 8) bytes fixed_lock owner 0 s (fixed_owned (found.place.0 - 8) bytes owner named), λ e. ap (λ (x : LiveChunk). length x.bytes) (fixed_live_is (found.place.0 - 8) bytes owner named ∙ e) ∙ sym f.count)
+
+-- a chunk of a name is no table
+none_held : (name : ℕ) (live : LiveChunk) (at : ℕ) (c : Chunk) → NamedHere name live at c → HoldNoSlots (c ∷ [])
+none_held name live at (free size) n = absurd n
+none_held name live at (movable bytes lock owner slot) n = tt
+none_held name live at (fixed bytes owner) n = (fixed_owned at bytes owner n, tt)
 
 -- ---- the chunk with another length
 
@@ -273,7 +280,7 @@ resized old filled mid new found count behind h r fits filled_is wrote is has =
     let was = found_body old found h one in
     let many_bytes = was.1 in
     let spelled : Spelled new at d =
-    sized_spelled new at count c live
+    sized_spelled new at count c live (none_held found.name.0 one.live at c f.named)
     (sized_body old filled new at count (body_of c) was.0 (omega arith) (omega arith) (filled_is ∙ ap (λ (n : ℕ). overwritten old n zeros) (let e : found.place.0 + found.length ≡ at + 8 + length (body_of c) = omega arith in e) ∙ ap (λ (n : ℕ). overwritten old (at + 8 + length (body_of c)) (replicate (count - n) 0)) (sym many_bytes)) same (omega arith) (omega arith)) header in
     let end : at + all ≡ at + total (c ∷ r.run) = omega arith in
     let behind_it : SpelledAll new (at + size_of d) (gap left) (at + total (c ∷ r.run)) =

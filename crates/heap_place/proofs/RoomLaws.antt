@@ -7,7 +7,7 @@ use Rattle.heap_model.specs.Reading.{chunks_of}
 use Rattle.heap_model.specs.Space.{AllFree, NoRun}
 use Rattle.heap_model.specs.Layout.{merged, IsRoom}
 use Rattle.laws_heap.proofs.Chunks.{total-append, Spelled-size, SpelledAll-end, SpelledAll-push}
-use Rattle.laws_heap.proofs.Runs.{chunk_there, chunks_after, chunks_of-tiled}
+use Rattle.laws_heap.proofs.Runs.{chunk_there, chunks_after, chunks_of-area}
 use Rattle.laws_heap.proofs.FreeChunks.{free_sum}
 use Rattle.laws_heap.proofs.Layouts.{IsNotFree, merged-live}
 use Rattle.chunk_format.specs.declared.header.Header.{Header}
@@ -186,5 +186,5 @@ search_none image size at run_size accepted some s beyond =
     let end : at ≡ length image = omega arith in
     let cs : List Chunk = s.front ++ s.run in
     let all : SpelledAll image (area_start image) cs (length image) = subst (λ (n : ℕ). SpelledAll image (area_start image) cs n) end s.spelled in
-    let is : chunks_of image ≡ cs = chunks_of-tiled image cs record { head = accepted.1.tiles.head; area = all } in
+    let is : chunks_of image ≡ cs = chunks_of-area image cs all in
     below_no_run size (chunks_of image) some (subst (λ (xs : List Chunk). StaysBelow size 0 xs) (sym is) s.below)

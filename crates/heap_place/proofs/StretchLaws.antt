@@ -4,7 +4,7 @@ use Rattle.std.proofs.lemmas.List.{append-nil}
 use Rattle.std.proofs.lemmas.List.Sums.{sum_by-cons}
 use Rattle.heap_model.specs.Bytes.{u32_at}
 use Rattle.heap_model.specs.Chunk.{Chunk, free, movable, fixed, need, total, free_size}
-use Rattle.heap_model.specs.Slots.{IsSlot, table_end, area_start}
+use Rattle.heap_model.specs.Slots.{IsSlot, TablesLie, area_start}
 use Rattle.heap_model.specs.Heap.{BodyHere, IsHeap, HeapAccepted}
 use Rattle.heap_model.specs.Reading.{chunks_of}
 use Rattle.std.specs.Prelude.{IsTrue}
@@ -12,12 +12,13 @@ use Rattle.heap_model.specs.Space.{NoneStays, stays, room_of}
 use Rattle.heap_model.specs.Placing.{SameFrame}
 use Rattle.heap_model.specs.Layout.{Becomes, gap, merged, IsRoom, WritesPlain}
 use Rattle.heap_model.specs.Packing.{packed, lives, EndsStaying, WholeStretch, opened, OpensBehind}
+use Rattle.laws_heap.proofs.Slots.{tiled_table}
 use Rattle.laws_heap.proofs.Chunks.{total-append, SpelledAll-split, SpelledAll-end}
 use Rattle.laws_heap.proofs.Placed.{AnyPlaced-mid}
 use Rattle.laws_heap.proofs.SlidImages.{moved_within}
 use Rattle.laws_heap.proofs.Exchanges.{gap_free, gap_total}
 use Rattle.laws_heap.proofs.Layouts.{IsNotFree}
-use Rattle.laws_heap.proofs.Slides.{lives-append, lives_total, lives_twice, stretch_packed}
+use Rattle.laws_heap.proofs.Slides.{lives-append, lives_total, lives_twice, none_stays-append, stretch_packed}
 use Rattle.laws_heap.proofs.Stretches.{room_of-middle, one_stretch}
 use Rattle.heap_place.specs.declared.stretch.Stretch.{Stretch}
 use Rattle.heap_place.specs.Lifting.{FreeBehind}
@@ -42,6 +43,13 @@ pub among_stretch : (image : List ℕ) (at name count : ℕ) (stretch : Stretch)
 among_stretch image at name count stretch a = record { before = a.before; mid = a.front ++ movable a.bytes 0 a.owner name ∷ a.back; after = a.after; is = a.is }
 
 -- all room of chunks of which none stays is at their end
+loose_lives : (cs : List Chunk) → NoneStays cs → NoneStays (lives cs)
+loose_lives [] n = tt
+loose_lives (free size ∷ cs) n = loose_lives cs n
+loose_lives (movable bytes zero owner slot ∷ cs) n = loose_lives cs n
+loose_lives (movable bytes (suc count) owner slot ∷ cs) n = absurd n
+loose_lives (fixed bytes owner ∷ cs) n = absurd n
+
 last_loose : (room : ℕ) (cs : List Chunk) → NoneStays cs → last_room room cs ≡ room + room_of cs
 last_loose room [] n = let none : room_of [] ≡ 0 = refl in omega arith
 last_loose room (free size ∷ cs) n = let e = sum_by-cons free_size (free size) cs in let ih = last_loose (room + size) cs n in omega (arith, e, ih)
@@ -182,8 +190,8 @@ module _ (old mid : List ℕ) (at name count : ℕ) (stretch : Stretch) (room : 
   pub slot_then : IsSlot mid name
   slot_then = tied_then.0
 
-  pub table_then : table_end mid ≤ length mid
-  table_then = let fits = heap_then.tiles.head.a_chunk_fits in omega (arith, fits)
+  pub table_then : TablesLie mid
+  table_then = tiled_table mid _ heap_then.tiles
 
   place_is : u32_at mid name ≡ stretch.start + total fore + 8
   place_is =
@@ -232,6 +240,7 @@ module _ (old mid : List ℕ) (at name count : ℕ) (stretch : Stretch) (room : 
       record {
         chunks = chunks_then ∙ ap (λ (g : List Chunk). a.before ++ (((fore ++ v ∷ rear) ++ g) ++ a.after)) (gap_some room some) ∙ regroup a.before fore rear a.after v (free room);
         live = lives_twice a.back;
+        loose = loose_lives a.back ((none_stays-append a.front (v ∷ a.back)).0 a.is.whole.none_stays).1;
         from = omega (arith, start_is, place_is, one, two, starts, from, many);
         to = omega (arith, start_is, place_is, ends, many);
       }

@@ -7,7 +7,7 @@ use Rattle.heap_model.specs.Slots.{area_start}
 use Rattle.heap_model.specs.Heap.{HeapAccepted}
 use Rattle.heap_model.specs.Reading.{chunks_of}
 use Rattle.laws_heap.proofs.Chunks.{Spelled-size, SpelledAll-end, SpelledAll-push}
-use Rattle.laws_heap.proofs.Runs.{chunk_there, chunks_after, chunks_of-tiled}
+use Rattle.laws_heap.proofs.Runs.{chunk_there, chunks_after, chunks_of-area}
 use Rattle.chunk_format.specs.declared.header.Header.{Header}
 use Rattle.chunk_format.specs.declared.header.Header.TheVariants as headers
 use Rattle.chunk_format.specs.Header.{header_of, size_by, HasHeader}
@@ -48,7 +48,7 @@ pub passed_all : (image : List ℕ) (P : List Chunk → Type 0) (at : ℕ) → H
 passed_all image P at h p beyond =
     let inside = p.inside in
     let end : at ≡ length image = omega arith in
-    subst P (sym (chunks_of-tiled image p.front record { head = h.1.tiles.head; area = subst (λ (n : ℕ). SpelledAll image (area_start image) p.front n) end p.spelled })) p.holds
+    subst P (sym (chunks_of-area image p.front (subst (λ (n : ℕ). SpelledAll image (area_start image) p.front n) end p.spelled))) p.holds
 
 -- the chunk of a header stands among the others
 pub passed_parts : (image : List ℕ) (P : List Chunk → Type 0) (at : ℕ) (header : Header) → HeapAccepted image → (p : Passed image P at) → (found : HasHeader image at header) → (after : List Chunk) × (chunks_of image ≡ p.front ++ found.chunk ∷ after)

@@ -21,12 +21,12 @@ use Rattle.laws_heap.proofs.FoundChunks.{read_heap}
 use Rattle.laws_heap.proofs.Placed.{SpelledAll-takes}
 use Rattle.laws_heap.proofs.Plain.{free_inside}
 use Rattle.laws_heap.proofs.Replacements.{SameHead, same_start, Replaces, replaced_tiles}
-use Rattle.laws_heap.proofs.Writes.{WroteWithin, wrote_none, wrote_part, wrote_word, wrote_wider, wrote_apart, wrote_word_apart, WroteArea, area_replaces}
+use Rattle.laws_heap.proofs.Writes.{WroteWithin, wrote_none, wrote_part, wrote_word, wrote_wider, wrote_apart, wrote_word_apart, WroteArea, area_replaces, wrote_head}
 use Rattle.heap_place.specs.declared.found.Found.{Found}
 use Rattle.heap_place.specs.Found.{IsOne}
 use Rattle.heap_place.specs.Lists.{Any, KeepsFree, HasLists}
 use Rattle.heap_place.proofs.FoundLaws.{heap_in_parts, middle_of, found_size, bytes_inside}
-use Rattle.heap_place.proofs.CutLaws.{wrote_head}
+use Rattle.laws_heap.proofs.Slots.{HoldNoSlots, named_hold_none}
 use Rattle.heap_place.proofs.AlterLaws.{written_there}
 use Rattle.heap_place.proofs.ListLaws.{lists_kept}
 use Rattle.heap_place.proofs.KeepLaws.{NotAmong, keeps_replaced, live_apart}
@@ -37,25 +37,25 @@ first_size image at (free size) s = sym s.size_field
 first_size image at (movable bytes lock owner slot) s = let word = s.1.first_word in let fits = s.1.size_fits in omega arith
 first_size image at (fixed bytes owner) s = let word = s.first_word in let fits = s.size_fits in omega arith
 
-pub keeps_within : (old new : List ℕ) (before : List Chunk) (c : Chunk) (after : List Chunk) (at : ℕ) → HeapAccepted old → HeapAccepted new → chunks_of old ≡ before ++ c ∷ after → at ≡ area_start old + total before → WroteWithin old new (at + 4) (at + size_of c)
+pub keeps_within : (old new : List ℕ) (before : List Chunk) (c : Chunk) (after : List Chunk) (at : ℕ) → HeapAccepted old → HeapAccepted new → chunks_of old ≡ before ++ c ∷ after → at ≡ area_start old + total before → HoldNoSlots (c ∷ []) → WroteWithin old new (at + 4) (at + size_of c)
     → KeepsFree (NotAmong at (c ∷ [])) old new
-keeps_within old new before c after at h g was is w =
+keeps_within old new before c after at h g was is none w =
     let heap : IsHeap old (before ++ ((c ∷ []) ++ after)) = heap_in_parts old (before ++ c ∷ after) h was in
     let m = middle_of old before (c ∷ []) after at heap is in
     let inside = m.inside in
     let size = Spelled-size old at c m.spelled.0 in
     let least = size.0 in
     let len = w.len in
-    let same : SameHead old new = wrote_head old new (at + 4) (at + size_of c) w (omega arith) (omega arith) in
+    let wide : WroteWithin old new at (at + (size_of c + 0)) = wrote_wider old new (at + 4) (at + size_of c) at (at + (size_of c + 0)) w (omega arith) (omega arith) in
+    let same : SameHead old new = wrote_head old new before (c ∷ []) after at heap.tiles none is wide in
     let start : area_start new ≡ area_start old = same_start old new same in
     let front : SpelledAll old (area_start old) before at = subst (λ (n : ℕ). SpelledAll old (area_start old) before n) (sym is) (SpelledAll-split old (area_start old) before (c ∷ after) (length old) heap.tiles.area).0 in
     let front_now : SpelledAll new (area_start old) before at = SpelledAll-same old new (area_start old) before at (wrote_apart old new (at + 4) (at + size_of c) (area_start old) at w (inl (omega arith))) len front in
     let there = chunk_there new (chunks_of new) before at (read_heap new g).tiles (subst (λ (n : ℕ). SpelledAll new n before at) (sym start) front_now) (omega arith) in
     let word : u32_at new at ≡ u32_at old at = wrote_word_apart old new (at + 4) (at + size_of c) at w (inl (omega arith)) in
     let sizes : size_of there.0 ≡ size_of c = first_size new at there.0 there.1 ∙ ap size_field word ∙ sym (first_size old at c m.spelled.0) in
-    let wide : WroteWithin old new at (at + (size_of c + 0)) = wrote_wider old new (at + 4) (at + size_of c) at (at + (size_of c + 0)) w (omega arith) (omega arith) in
     let area : WroteArea old new at (at + (size_of c + 0)) = record { mid = new; slot = at; area = wide; word = wrote_none new at (at + 4); is_slot = inl refl; there = omega arith; fits = omega arith } in
-    let r : Replaces old new before (c ∷ []) (there.0 ∷ []) after at = area_replaces old new before (c ∷ []) (there.0 ∷ []) after at heap.tiles is m.inside area (there.1, omega arith) in
+    let r : Replaces old new before (c ∷ []) (there.0 ∷ []) after at = area_replaces old new before (c ∷ []) (there.0 ∷ []) after at heap.tiles none is m.inside area (there.1, omega arith) in
     let tiles : Tiles new (before ++ ((there.0 ∷ []) ++ after)) = replaced_tiles old new before (c ∷ []) (there.0 ∷ []) after at heap.tiles r in
     keeps_replaced old new before (c ∷ []) (there.0 ∷ []) after at h was (heap_in_parts new (before ++ ((there.0 ∷ []) ++ after)) g (chunks_of-tiled new (before ++ ((there.0 ∷ []) ++ after)) tiles)) r
 
@@ -64,10 +64,15 @@ keeps_within old new before c after at h g was is w =
 pub named_apart : (name at : ℕ) (live : LiveChunk) (c : Chunk) (size : ℕ) → NamedHere name live at c → c ≡ free size → ⊥
 named_apart name at live c size n e = subst (λ (d : Chunk). NamedHere name live at d) e n
 
+found_hold_none : (image : List ℕ) (found : Found) → HeapAccepted image → (f : IsOne image found) → HoldNoSlots (f.chunk ∷ [])
+found_hold_none image found h f =
+    let heap : IsHeap image (f.finds.before ++ ((f.chunk ∷ []) ++ f.finds.after)) = heap_in_parts image (f.finds.before ++ f.chunk ∷ f.finds.after) h f.finds.chunks in
+    named_hold_none image f.finds.before f.chunk [] f.finds.after found.name.0 f.live heap (subst (λ (n : ℕ). NamedHere found.name.0 f.live n f.chunk) f.finds.there f.finds.named) tt
+
 pub keeps_found : (old new : List ℕ) (found : Found) → HeapAccepted old → HeapAccepted new → (f : IsOne old found) → WroteWithin old new (found.place.0 - 8 + 4) (found.place.0 - 8 + need found.length) → KeepsFree Any old new
 keeps_found old new found h g f w there any b =
     let at : ℕ = found.place.0 - 8 in
-    keeps_within old new f.finds.before f.chunk f.finds.after at h g f.finds.chunks f.finds.there (subst (λ (n : ℕ). WroteWithin old new (at + 4) (at + n)) (found_size old found f) w) there
+    keeps_within old new f.finds.before f.chunk f.finds.after at h g f.finds.chunks f.finds.there (found_hold_none old found h f) (subst (λ (n : ℕ). WroteWithin old new (at + 4) (at + n)) (found_size old found f) w) there
     (live_apart at there f.chunk (λ size e. named_apart found.name.0 at f.live f.chunk size f.finds.named e)) b
 
 -- its second word

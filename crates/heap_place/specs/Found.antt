@@ -1,6 +1,6 @@
 -- A live chunk, as it is found.
-use Rattle.std.specs.Prelude.{◌≡◌, ◌<◌, ◌≤◌, ◌+◌, ◌-◌, ◌==◌, if◌then◌else◌, ℕ, List, length, slice_range, Option, Some, None}
-use Rattle.heap_model.specs.Chunk.{Chunk, fixed, fixed_lock, data_owner}
+use Rattle.std.specs.Prelude.{◌≡◌, ◌<◌, ◌≤◌, ◌+◌, ◌-◌, ◌==◌, ◌&&◌, nat_lt, if◌then◌else◌, ℕ, List, length, slice_range, Option, Some, None}
+use Rattle.heap_model.specs.Chunk.{Chunk, fixed, fixed_lock, managers_owner, data_owner}
 use Rattle.heap_model.specs.Heap.{directory_of}
 use Rattle.heap_model.specs.Placed.{EveryPlaced}
 use Rattle.heap_model.specs.Slots.{area_start}
@@ -64,11 +64,11 @@ movable_by (headers.Free size) place = None
 movable_by (headers.Movable length lock owner slot) place = Some (record { name = record { 0 = slot }; place = place; length = length; lock = lock; owner = owner })
 movable_by (headers.Fixed length owner) place = None
 
--- what a header says of a fixed chunk of this name whose body is at a place
+-- what a header says of a fixed chunk of this name, no table, whose body is at a place
 abbrev pub fixed_by : Header → Place → Name → Option Found
 fixed_by (headers.Free size) place name = None
 fixed_by (headers.Movable length lock owner slot) place name = None
-fixed_by (headers.Fixed length owner) place name = if place.0 == name.0 then Some (record { name = name; place = place; length = length; lock = fixed_lock; owner = owner }) else None
+fixed_by (headers.Fixed length owner) place name = if (place.0 == name.0) && nat_lt managers_owner owner then Some (record { name = name; place = place; length = length; lock = fixed_lock; owner = owner }) else None
 
 -- none of the chunks is a fixed one of this name
 abbrev pub NoneFixedAs : List ℕ → ℕ → List Chunk → Type 0

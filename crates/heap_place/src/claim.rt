@@ -1,9 +1,10 @@
 //! A live chunk is made at the front of room.
 
-ghost use Rattle.std.specs.Prelude.{◌≡◌, ◌≤◌, ◌<◌, ◌+◌, ◌%◌, ◌^◌, length, replicate};
+ghost use Rattle.std.specs.Prelude.{◌≡◌, ◌≤◌, ◌<◌, ◌+◌, ◌%◌, ◌^◌, length, replicate, true};
 ghost use Rattle.heap_model.specs.Bytes.{u32_at};
 ghost use Rattle.heap_model.specs.Chunk.{movable, fixed, need, data_owner};
-ghost use Rattle.heap_model.specs.Slots.{IsSlot};
+ghost use Rattle.heap_model.specs.Slots.{IsSlot, is_chained};
+ghost use Rattle.heap_model.specs.MoreTables.{table_need, PutsTable};
 ghost use Rattle.heap_model.specs.Heap.{HeapAccepted};
 ghost use Rattle.heap_model.specs.Reading.{chunks_of};
 ghost use Rattle.heap_model.specs.Layout.{Becomes, IsSpot, WritesPlain};
@@ -11,8 +12,9 @@ ghost use Rattle.heap_place.specs.Search.{WroteRest};
 ghost use Rattle.heap_place.specs.Lists.{IsFreeChunk, KeepsFree, Outside, ButAt, CutsRoom, Fills};
 
 use crate::room::Room;
-use chunk_format::{HEADER_SIZE, Header};
+use chunk_format::{HEADER_SIZE, Header, MANAGERS_OWNER, TABLE_LENGTH};
 use heap_model::{Name, Place};
+use master_table::add_table;
 use raw_region::Region;
 
 /// Makes the front of a run of free chunks one free chunk of `size` bytes, and what is left another.
@@ -89,4 +91,24 @@ pub(crate) fn claim_fixed_at(region: &mut Region, at: u32, count: u32, owner: u8
     header.write(region, at);
     let body = at as usize + HEADER_SIZE as usize;
     region.fill(body, count as usize, 0);
+}
+
+/// Makes the free chunk at `at` a table of empty slots, the last of the chain.
+pub(crate) fn claim_table_at(region: &mut Region, at: u32)
+    requires accepted { HeapAccepted region.old.bytes }
+    requires free { IsFreeChunk region.old.bytes at table_need }
+    requires chained { is_chained region.old.bytes ≡ true }
+    ensures made { PutsTable region.old.bytes region.new.bytes (at + 8) }
+    ensures keeps { KeepsFree (ButAt at) region.old.bytes region.new.bytes }
+    ensures plain { WritesPlain region.old.bytes region.new.bytes }
+    ensures rest { region.new ≡ record region.old { bytes = region.new.bytes } }
+{
+    let header = Header::Fixed {
+        length: TABLE_LENGTH,
+        owner: MANAGERS_OWNER,
+    };
+    header.write(region, at);
+    let body = at + HEADER_SIZE;
+    region.fill(body as usize, TABLE_LENGTH as usize, 0);
+    add_table(region, Place(body));
 }

@@ -4,7 +4,7 @@ ghost use Rattle.std.specs.Prelude.{◌≡◌, ◌<◌, ◌^◌};
 ghost use Rattle.heap_model.specs.Chunk.{need};
 ghost use Rattle.heap_place.specs.Found.{movable_by, fixed_by};
 
-use chunk_format::{FIXED_LOCK, Header};
+use chunk_format::{FIXED_LOCK, Header, MANAGERS_OWNER};
 use heap_model::{Name, Place};
 
 /// A live chunk: its name, where its body is, how many bytes that has, its lock (15 if it is fixed) and
@@ -40,19 +40,21 @@ pub(crate) fn as_movable(header: Header, place: Place) -> Option<Found>
     }
 }
 
-/// The chunk whose body is at a place, if its header is a fixed one's and its name is this.
+/// The chunk whose body is at a place, if its header is a fixed one's, but no table's, and its name is this.
 #[inline]
 pub(crate) fn as_fixed(header: Header, place: Place, name: Name) -> Option<Found>
     ensures { result ≡ fixed_by header place name }
 {
     match header {
-        Header::Fixed { length, owner } if place.0 == name.0 => Some(Found {
-            name,
-            place,
-            length,
-            lock: FIXED_LOCK,
-            owner,
-        }),
+        Header::Fixed { length, owner } if place.0 == name.0 && owner > MANAGERS_OWNER => Some(
+            Found {
+                name,
+                place,
+                length,
+                lock: FIXED_LOCK,
+                owner,
+            },
+        ),
         _ => None,
     }
 }

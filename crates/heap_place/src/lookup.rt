@@ -5,6 +5,7 @@ ghost use Rattle.heap_model.specs.Chunk.{fixed_lock};
 ghost use Rattle.heap_model.specs.Heap.{HeapAccepted};
 ghost use Rattle.heap_model.specs.Meaning.{LiveChunk};
 ghost use Rattle.heap_model.specs.Reading.{held};
+ghost use Rattle.master_table.specs.Known.{KnowsTables};
 ghost use Rattle.master_table.specs.Table.{HoldsNothing, HoldsPlace};
 ghost use Rattle.heap_place.specs.Found.{IsFound, IsOne, IsFixed, NothingAt, NoSlotHolds};
 
@@ -12,30 +13,33 @@ use crate::found::{Found, as_fixed, as_movable};
 use crate::walks::find_fixed;
 use chunk_format::{HEADER_SIZE, Header, live_fields};
 use heap_model::{Name, Place};
-use master_table::{resolve, word_of};
+use master_table::{KnownTables, resolve_known, word_of};
 use raw_region::Region;
 
 /// The chunk that a name stands for. That of a slot costs the same however large the heap is; for
 /// any other name the chunks are walked.
-pub(crate) fn find_named(region: &Region, name: Name) -> Option<Found>
+pub(crate) fn find_named(region: &Region, tables: &KnownTables, name: Name) -> Option<Found>
     requires accepted { HeapAccepted region.now.bytes }
+    requires knows { KnowsTables region.now.bytes tables.now }
     ensures found { IfSome result (IsFound region.now.bytes name.0) }
     ensures none { IfNone result (held region.now.bytes name.0 ≡ None) }
 {
-    match in_slot(region, name) {
+    match in_slot(region, tables, name) {
         Some(found) => Some(found),
         None => find_fixed(region, name),
     }
 }
 
-/// The chunk of a name that is a slot's, at the same cost however large the heap is.
+/// The chunk of a name that is a slot's. That of a slot of the first table, or of one that is remembered, costs the same
+/// however large the heap is; for any other name the chain of tables is gone through.
 #[inline(always)]
-pub(crate) fn in_slot(region: &Region, name: Name) -> Option<Found>
+pub(crate) fn in_slot(region: &Region, tables: &KnownTables, name: Name) -> Option<Found>
     requires accepted { HeapAccepted region.now.bytes }
+    requires knows { KnowsTables region.now.bytes tables.now }
     ensures found { IfSome result (IsFound region.now.bytes name.0) }
     ensures none { IfNone result (HoldsNothing region.now.bytes name.0) }
 {
-    match resolve(region, name) {
+    match resolve_known(region, tables, name) {
         Some(place) => Some(held_by(region, name, place)),
         None => None,
     }
@@ -44,12 +48,13 @@ pub(crate) fn in_slot(region: &Region, name: Name) -> Option<Found>
 /// The chunk of a name that stands for one, at the same cost however large the heap is: where no slot holds
 /// the name, it is a fixed chunk's, which says where that is.
 #[inline(always)]
-pub(crate) fn chunk_named(region: &Region, name: Name) -> Found
+pub(crate) fn chunk_named(region: &Region, tables: &KnownTables, name: Name) -> Found
     requires accepted { HeapAccepted region.now.bytes }
+    requires knows { KnowsTables region.now.bytes tables.now }
     requires there { IsSome (held region.now.bytes name.0) }
     ensures { IsFound region.now.bytes name.0 result }
 {
-    match in_slot(region, name) {
+    match in_slot(region, tables, name) {
         Some(found) => found,
         None => fixed_at(region, name),
     }
@@ -98,21 +103,23 @@ fn fixed_at(region: &Region, name: Name) -> Found
 
 /// The live chunk whose body is at a place. The header that seems to stand in front of it is believed
 /// only where the slot that it names holds the place; a fixed chunk is looked for among all chunks.
-pub(crate) fn find_placed(region: &Region, place: Place) -> Option<Found>
+pub(crate) fn find_placed(region: &Region, tables: &KnownTables, place: Place) -> Option<Found>
     requires accepted { HeapAccepted region.now.bytes }
+    requires knows { KnowsTables region.now.bytes tables.now }
     ensures found { IfSome result (IsOne region.now.bytes) }
     ensures there { IfSome result (λ found. found.place.0 ≡ place.0) }
     ensures none { IfNone result (NothingAt region.now.bytes place.0) }
 {
-    match in_slot_at(region, place) {
+    match in_slot_at(region, tables, place) {
         Some(found) => Some(found),
         None => find_fixed(region, Name(place.0)),
     }
 }
 
 /// The movable chunk whose body is at a place, if there is one.
-fn in_slot_at(region: &Region, place: Place) -> Option<Found>
+fn in_slot_at(region: &Region, tables: &KnownTables, place: Place) -> Option<Found>
     requires accepted { HeapAccepted region.now.bytes }
+    requires knows { KnowsTables region.now.bytes tables.now }
     ensures found { IfSome result (IsOne region.now.bytes) }
     ensures there { IfSome result (λ found. found.place.0 ≡ place.0) }
     ensures none { IfNone result (NoSlotHolds region.now.bytes place.0) }
@@ -128,7 +135,7 @@ fn in_slot_at(region: &Region, place: Place) -> Option<Found>
         Some(found) => found,
         None => return None,
     };
-    match resolve(region, found.name) {
+    match resolve_known(region, tables, found.name) {
         Some(held) if held.0 == place.0 => Some(found),
         _ => None,
     }

@@ -1,10 +1,11 @@
 //! The type that owns a heap's region.
 
-ghost use Rattle.std.specs.Prelude.{◌≡◌, ◌≢◌, ◌≤◌, ◌<◌, ◌+◌, ◌-◌, ◌*◌, ◌++◌, ◌∷◌, ◌⊎◌, [], length, replicate, min, count_by, IsSome, IfSome, IfNone, Some, None};
+ghost use Rattle.std.specs.Prelude.{◌≡◌, ◌≢◌, ◌≤◌, ◌<◌, ◌+◌, ◌-◌, ◌*◌, ◌++◌, ◌∷◌, ◌⊎◌, [], length, replicate, min, count_by, IsSome, IfSome, IfNone, Some, None, true};
 ghost use Rattle.std.specs.Bool.{OnTrue, OnFalse};
 ghost use Rattle.heap_model.specs.Bytes.{u32_at};
 ghost use Rattle.heap_model.specs.Chunk.{movable, fixed, need, fixed_lock, is_owned_by, managers_owner, data_owner};
-ghost use Rattle.heap_model.specs.Slots.{IsSlot};
+ghost use Rattle.heap_model.specs.Slots.{IsSlot, is_chained};
+ghost use Rattle.heap_model.specs.MoreTables.{table_need, PutsTable};
 ghost use Rattle.heap_model.specs.Meaning.{LiveChunk};
 ghost use Rattle.heap_model.specs.Heap.{HeapAccepted, directory_of};
 ghost use Rattle.heap_model.specs.Reading.{chunks_of, held};
@@ -23,7 +24,7 @@ ghost use Rattle.heap_place.specs.Relocation.{RelocatesToRun};
 ghost use Rattle.heap_place.specs.Stretches.{IsStretch, IsAmong, HasRoom, HasRoomOf, OpensExactly, PacksStretch, RoomAtEnd, SlidesStretch};
 
 use crate::alter::{relock_at, reown_at};
-use crate::claim::{claim_fixed_at, claim_movable};
+use crate::claim::{claim_fixed_at, claim_movable, claim_table_at};
 use crate::directory::{directory_name, name_directory};
 use crate::found::Found;
 use crate::gather::{build, gather};
@@ -41,8 +42,9 @@ use crate::stretch::{
     Stretch, is_whole, largest_room, room_of_stretch, stretch_around, stretch_with_room,
 };
 use crate::walks::free_bytes;
-use chunk_format::{HEADER_SIZE, size_of_body};
+use chunk_format::{HEADER_SIZE, TABLE_LENGTH, size_of_body};
 use heap_model::{Name, Place};
+use master_table::KnownTables;
 use raw_region::{ByteChange, Region};
 use std::marker::Model;
 
@@ -58,17 +60,19 @@ pub struct Space {
     /// Whether a stretch that isn't the whole heap was packed for the chunk that is made next. The lists aren't
     /// built with that one, so that no walk over all chunks follows the packing.
     packed: bool,
+    /// Further tables that are remembered, so that the chain isn't gone through for their slots.
+    tables: KnownTables,
 }
 
 impl Model for Space {
     ghost use Rattle.heap_model.specs.Memory.{Memory};
-    ghost use Rattle.heap_place.specs.Lists.{HasLists};
+    ghost use Rattle.heap_place.specs.Kept.{IsKept};
 
     ghost Value = { Memory };
 
     ghost view = { λ space. space.region };
 
-    ghost invariant = { λ space. HasLists space.region.bytes space.heads };
+    ghost invariant = { λ space. IsKept space.region.bytes space.heads space.tables };
 }
 
 impl Space {
@@ -81,6 +85,22 @@ impl Space {
             heads: [0; CLASSES],
             built: false,
             packed: false,
+            tables: KnownTables::none(),
+        }
+    }
+
+    /// Takes a region that is a heap, and goes through its chain of tables, so that they are remembered.
+    pub fn of_heap(region: Region) -> Space
+        requires accepted { HeapAccepted region.bytes }
+        ensures { result ≡ region }
+    {
+        let tables = KnownTables::of(&region);
+        Space {
+            region,
+            heads: [0; CLASSES],
+            built: false,
+            packed: false,
+            tables,
         }
     }
 
@@ -107,7 +127,7 @@ impl Space {
         ensures found { IfSome result (IsFound self.now.bytes name.0) }
         ensures none { IfNone result (held self.now.bytes name.0 ≡ None) }
     {
-        find_named(&self.region, name)
+        find_named(&self.region, &self.tables, name)
     }
 
     /// The chunk of a name that is a slot's, whoever owns it, at the same cost however large the heap is.
@@ -117,7 +137,7 @@ impl Space {
         ensures found { IfSome result (IsFound self.now.bytes name.0) }
         ensures none { IfNone result (HoldsNothing self.now.bytes name.0) }
     {
-        in_slot(&self.region, name)
+        in_slot(&self.region, &self.tables, name)
     }
 
     /// The chunk of a name that stands for one, as `find` answers it. It costs the same however large the heap
@@ -128,7 +148,7 @@ impl Space {
         requires there { IsSome (held self.now.bytes name.0) }
         ensures { IsFound self.now.bytes name.0 result }
     {
-        chunk_named(&self.region, name)
+        chunk_named(&self.region, &self.tables, name)
     }
 
     /// The chunk of a name that stands for a movable one, as `chunk` answers it. Nothing is tested.
@@ -151,7 +171,7 @@ impl Space {
         ensures there { IfSome result (λ found. found.place.0 ≡ place.0) }
         ensures none { IfNone result (NothingAt self.now.bytes place.0) }
     {
-        find_placed(&self.region, place)
+        find_placed(&self.region, &self.tables, place)
     }
 
     /// The name of the directory's chunk, or `Name(0)` where there is none.
@@ -244,6 +264,30 @@ impl Space {
         self.built = !self.packed;
         self.packed = false;
         Name(room.at + HEADER_SIZE)
+    }
+
+    /// Makes the front of room a further table of empty slots, the last of the chain.
+    pub fn claim_table(&mut self, room: Room)
+        requires accepted { HeapAccepted self.old.bytes }
+        requires chained { is_chained self.old.bytes ≡ true }
+        requires room { IsSpot self.old.bytes room.at room.size }
+        requires enough { table_need ≤ room.size }
+        ensures made { PutsTable self.old.bytes self.new.bytes (room.at + 8) }
+        ensures plain { WritesPlain self.old.bytes self.new.bytes }
+        ensures rest { self.new ≡ record self.old { bytes = self.new.bytes } }
+    {
+        let kept = take(
+            &mut self.region,
+            &mut self.heads,
+            room,
+            size_of_body(TABLE_LENGTH),
+        );
+        claim_table_at(&mut self.region, room.at);
+        self.tables.remember(Place(room.at + HEADER_SIZE));
+        let skips = self.packed | (self.built & kept);
+        build(&mut self.region, &mut self.heads, skips);
+        self.built = !self.packed;
+        self.packed = false;
     }
 
     /// Makes a live chunk free, and answers how many bytes are free from its header on, up to where the

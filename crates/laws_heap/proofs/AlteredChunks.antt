@@ -1,21 +1,21 @@
 -- A live chunk is altered where it stands, and a free chunk is claimed for a fixed one.
-use Rattle.std.proofs.Common.{◌≡◌, ℕ, ◌+◌, ◌-◌, ◌*◌, ◌^◌, ◌<◌, ◌≤◌, List, [], ◌∷◌, ◌++◌, length, Option, Some, refl, sym, ap, subst, ◌∙◌, arith, inl, inr}
+use Rattle.std.proofs.Common.{false, ◌≡◌, ℕ, ◌+◌, ◌-◌, ◌*◌, ◌^◌, ◌<◌, ◌≤◌, List, [], ◌∷◌, ◌++◌, length, Option, Some, refl, sym, ap, subst, ◌∙◌, arith, inl, inr}
 use Rattle.std.specs.Prelude.{◌↔◌, ◌==◌, slice_range}
 use Rattle.std.proofs.lemmas.Bool.{eq-eqb}
 use Rattle.heap_model.specs.Bytes.{overwritten}
-use Rattle.heap_model.specs.Chunk.{Chunk, free, movable, fixed, fixed_lock, need, size_of, total, IsLive, Spelled, SpelledAll}
-use Rattle.heap_model.specs.Slots.{area_start}
-use Rattle.heap_model.specs.Heap.{BodyHere, IsCallersIfFixed, ManagersHere, directory_of, IsHeap, HeapAccepted}
+use Rattle.heap_model.specs.Chunk.{Chunk, free, movable, fixed, fixed_lock, need, size_of, total, is_table_by, IsLive, Spelled, SpelledAll}
+use Rattle.heap_model.specs.Slots.{area_start, further_tables}
+use Rattle.heap_model.specs.Heap.{BodyHere, IsCallersIfFixed, IsKnownIfFixed, ManagersHere, directory_of, IsHeap, HeapAccepted}
 use Rattle.heap_model.specs.Placed.{AnyPlaced}
 use Rattle.heap_model.specs.Meaning.{LiveChunk, NamedHere}
-use Rattle.heap_model.specs.Reading.{live_under}
+use Rattle.heap_model.specs.Reading.{live_under, is_fixed_name}
 use Rattle.heap_model.specs.Space.{AllFree, place_under, place_of}
 use Rattle.heap_model.specs.Placing.{Finds}
 use Rattle.heap_model.specs.Packing.{lives}
 use Rattle.heap_model.specs.Layout.{Becomes, with_bytes, WritesPlain}
 use Rattle.laws_heap.proofs.SameLayouts.{becomes_heap}
 use Rattle.laws_heap.proofs.Tests.{cond-true}
-use Rattle.laws_heap.proofs.FixedNames.{is_fixed_name, fixed_live_is, fixed_test}
+use Rattle.laws_heap.proofs.FixedNames.{fixed_live_is, fixed_owned, fixed_test}
 use Rattle.laws_heap.proofs.Plain.{lives_plain, replaced_plain}
 use Rattle.laws_heap.proofs.Replacements.{Replaces, replaced_heap, SameSlots, kept_ties, kept_directory}
 use Rattle.laws_heap.proofs.Lives.{or_else}
@@ -23,7 +23,7 @@ use Rattle.laws_heap.proofs.Meanings.{named_once}
 use Rattle.laws_heap.proofs.FreeChunks.{any_free, every_free, reads_place, unnamed, place_mid}
 use Rattle.laws_heap.proofs.FoundChunks.{read_heap, finds_spelled}
 use Rattle.laws_heap.proofs.Frames.{length-overwritten, slice-same, slice-overwritten-within}
-use Rattle.laws_heap.proofs.Chunks.{total-append, Spelled-size, SpelledAll-end}
+use Rattle.laws_heap.proofs.Chunks.{total-append, Spelled-size, SpelledAll-end, seen-plain, plain_body, plain-movable, plain-callers}
 use Rattle.laws_heap.proofs.Placed.{EveryPlaced-split}
 use Rattle.laws_heap.proofs.Slots.{named_hold_none}
 use Rattle.laws_heap.proofs.Writes.{WroteWithin, wrote_none, wrote_part, wrote_wider, wrote_apart, wrote_word_apart, WroteArea, area_replaces, wrote_slots}
@@ -123,8 +123,9 @@ rewritten old new name at live c run d left rest h f parts free_run free_left w 
     let more = total-append (c ∷ run) rest in
     let least = (Spelled-size old at c (finds_spelled old name live c at h f)).0 in
     let area : WroteArea old new at (at + total (c ∷ run)) = record { mid = new; slot = at; area = w; word = wrote_none new at (at + 4); is_slot = inl refl; there = omega arith; fits = omega arith } in
-    let r = area_replaces old new f.before (c ∷ run) (d ∷ left) rest at heap.tiles there (omega arith) area spelled in
-    let slots = wrote_slots old new f.before (c ∷ run) rest at heap.tiles (named_hold_none old f.before c run rest name live heap (subst (λ (n : ℕ). NamedHere name live n c) there f.named) free_run) there w in
+    let none = named_hold_none old f.before c run rest name live heap (subst (λ (n : ℕ). NamedHere name live n c) there f.named) free_run in
+    let r = area_replaces old new f.before (c ∷ run) (d ∷ left) rest at heap.tiles none there (omega arith) area spelled in
+    let slots = wrote_slots old new f.before (c ∷ run) rest at heap.tiles none there w in
     record { replaces = r; heap = altered_run old new f.before c run d left rest at heap r slots free_run free_left alike kept callers }
 
 -- bytes of the chunk alone were written, and now another chunk of its size and its name stands there
@@ -139,12 +140,16 @@ altered_write old new name at live c d h f w spelled sizes alike kept callers al
 pub finds_callers : (image : List ℕ) (name : ℕ) (live : LiveChunk) (c : Chunk) (at : ℕ) → HeapAccepted image → Finds image name live c at → IsCallersIfFixed at c
 finds_callers image name live c at h f =
     let heap : IsHeap image (f.before ++ c ∷ f.after) = subst (λ (cs : List Chunk). IsHeap image cs) f.chunks (read_heap image h) in
-    subst (λ (n : ℕ). IsCallersIfFixed n c) (sym f.there) (EveryPlaced-split IsCallersIfFixed (area_start image) f.before (c ∷ f.after) heap.fixed_are_callers).1.0
+    by c f.named (subst (λ (n : ℕ). IsKnownIfFixed (further_tables image) n c) (sym f.there) (EveryPlaced-split (IsKnownIfFixed (further_tables image)) (area_start image) f.before (c ∷ f.after) heap.fixed_are_known).1.0) where
+      by : (d : Chunk) → NamedHere name live at d → IsKnownIfFixed (further_tables image) at d → IsCallersIfFixed at d
+      by (free size) n k = tt
+      by (movable bytes lock owner slot) n k = tt
+      by (fixed bytes owner) n k = (fixed_owned at bytes owner n, k.0)
 
 -- a body with a part written over
-pub overwritten_body : (old new : List ℕ) (at k : ℕ) (bytes part : List ℕ) (lock owner h_offset : ℕ) → IsLive old at bytes lock owner h_offset → k + length part ≤ length bytes → new ≡ overwritten old (at + 8 + k) part
+pub overwritten_body : (old new : List ℕ) (at k : ℕ) (bytes part : List ℕ) (lock owner h_offset : ℕ) → is_table_by lock owner ≡ false → IsLive old at bytes lock owner h_offset → k + length part ≤ length bytes → new ≡ overwritten old (at + 8 + k) part
     → IsLive new at (overwritten bytes k part) lock owner h_offset × WroteWithin old new at (at + need (length bytes))
-overwritten_body old new at k bytes part lock owner h_offset s within is =
+overwritten_body old new at k bytes part lock owner h_offset plain s within is =
     let inside = s.inside in
     let len : length (overwritten bytes k part) ≡ length bytes = length-overwritten bytes k part within in
     let w : WroteWithin old new (at + 8 + k) (at + 8 + k + length part) = wrote_part old new (at + 8 + k) part is (omega arith) in
@@ -156,10 +161,11 @@ overwritten_body old new at k bytes part lock owner h_offset s within is =
         lock_fits = s.lock_fits;
         owner_fits = s.owner_fits;
         h_offset_fits = s.h_offset_fits;
-        body = ap (λ (n : ℕ). slice_range new (at + 8) (at + 8 + n)) len
+        body = seen-plain lock owner _ plain
+            ∙ ap (λ (n : ℕ). slice_range new (at + 8) (at + 8 + n)) len
             ∙ ap (λ (x : List ℕ). slice_range x (at + 8) (at + 8 + length bytes)) is
             ∙ slice-overwritten-within old (at + 8) k (length bytes) part within (omega arith)
-            ∙ ap (λ (x : List ℕ). overwritten x k part) s.body;
+            ∙ ap (λ (x : List ℕ). overwritten x k part) (plain_body old at bytes lock owner h_offset plain s);
         inside = rw (len, same_len) inside;
       },
       wrote_wider old new (at + 8 + k) (at + 8 + k + length part) at (at + need (length bytes)) w (omega arith) (omega arith),
@@ -173,33 +179,33 @@ body_written old new name at k live (movable bytes lock owner slot) part h f wit
     let e : record { bytes = bytes; lock = lock; owner = owner } ≡ live = f.named.1 in
     let fits : k + length part ≤ length bytes = subst (λ (x : LiveChunk). k + length part ≤ length x.bytes) (sym e) within in
     let s : Spelled old at (movable bytes lock owner slot) = finds_spelled old name live (movable bytes lock owner slot) at h f in
-    let b = overwritten_body old new at k bytes part lock owner s.0 s.1 fits is in
+    let b = overwritten_body old new at k bytes part lock owner s.0 (plain-movable lock owner s.2) s.1 fits is in
     altered_write old new name at live (movable bytes lock owner slot) (movable (overwritten bytes k part) lock owner slot) h f b.1 (s.0, b.0, s.2, s.3, s.4)
     (ap need (length-overwritten bytes k part fits)) refl (λ m. m) tt refl
 body_written old new name at k live (fixed bytes owner) part h f within is =
     let fits : k + length part ≤ length bytes = subst (λ (x : LiveChunk). k + length part ≤ length x.bytes) (sym (fixed_live_is at bytes owner f.named)) within in
     let s : Spelled old at (fixed bytes owner) = finds_spelled old name live (fixed bytes owner) at h f in
-    let b = overwritten_body old new at k bytes part fixed_lock owner 0 s fits is in
+    let b = overwritten_body old new at k bytes part fixed_lock owner 0 (plain-callers fixed_lock owner (fixed_owned at bytes owner f.named)) s fits is in
     altered_write old new name at live (fixed bytes owner) (fixed (overwritten bytes k part) owner) h f b.1 b.0 (ap need (length-overwritten bytes k part fits)) tt (λ m. m) (finds_callers old name live (fixed bytes owner) at h f) refl
 
 -- ---- a header is written over another
 
 -- the body behind a header stays
-pub body_stays : (old new : List ℕ) (at : ℕ) (bytes others : List ℕ) (lock owner h_offset count holder way : ℕ) → IsLive old at bytes lock owner h_offset → IsLive new at others count holder way → length others ≡ length bytes → WroteWithin old new at (at + 8) → others ≡ bytes
-body_stays old new at bytes others lock owner h_offset count holder way s t len w =
+pub body_stays : (old new : List ℕ) (at : ℕ) (bytes others : List ℕ) (lock owner h_offset count holder way : ℕ) → is_table_by lock owner ≡ false → is_table_by count holder ≡ false → IsLive old at bytes lock owner h_offset → IsLive new at others count holder way → length others ≡ length bytes → WroteWithin old new at (at + 8) → others ≡ bytes
+body_stays old new at bytes others lock owner h_offset count holder way plain too s t len w =
     let inside = s.inside in
     let same_len = w.len in
-    sym t.body
+    sym (plain_body new at others count holder way too t)
     ∙ ap (λ (n : ℕ). slice_range new (at + 8) (at + 8 + n)) len
     ∙ sym (slice-same (at + 8) (at + 8 + length bytes) old new (wrote_apart old new at (at + 8) (at + 8) (at + 8 + length bytes) w (inr (omega arith, omega arith))) (omega arith) (omega arith))
-    ∙ s.body
+    ∙ plain_body old at bytes lock owner h_offset plain s
 
 -- of a movable chunk with the same slot; the directory's stays the manager's
 pub movable_relabelled : (old new : List ℕ) (name at : ℕ) (live : LiveChunk) (bytes others : List ℕ) (lock owner slot count holder : ℕ) → HeapAccepted old → (f : Finds old name live (movable bytes lock owner slot) at) → (slot ≡ directory_of old → owner ≡ 0 → holder ≡ 0) → WroteWithin old new at (at + 8)
     → Spelled new at (movable others count holder slot) → length others ≡ length bytes → Becomes old new (f.before ++ movable bytes count holder slot ∷ f.after) × WritesPlain old new
 movable_relabelled old new name at live bytes others lock owner slot count holder h f kept w t len =
     let s : Spelled old at (movable bytes lock owner slot) = finds_spelled old name live (movable bytes lock owner slot) at h f in
-    let same : others ≡ bytes = body_stays old new at bytes others lock owner s.0 count holder t.0 s.1 t.1 len w in
+    let same : others ≡ bytes = body_stays old new at bytes others lock owner s.0 count holder t.0 (plain-movable lock owner s.2) (plain-movable count holder t.2) s.1 t.1 len w in
     altered_write old new name at live (movable bytes lock owner slot) (movable bytes count holder slot) h f
     (wrote_wider old new at (at + 8) at (at + need (length bytes)) w (omega arith) (omega arith)) (subst (λ (b : List ℕ). Spelled new at (movable b count holder slot)) same t) refl refl (λ m. (m.0, kept m.0 m.1)) tt refl
 
@@ -208,6 +214,6 @@ pub fixed_relabelled : (old new : List ℕ) (name at : ℕ) (live : LiveChunk) (
     → Spelled new at (fixed others holder) → length others ≡ length bytes → Becomes old new (f.before ++ fixed bytes holder ∷ f.after) × WritesPlain old new
 fixed_relabelled old new name at live bytes others owner holder h f some_owner most_owner w t len =
     let s : Spelled old at (fixed bytes owner) = finds_spelled old name live (fixed bytes owner) at h f in
-    let same : others ≡ bytes = body_stays old new at bytes others fixed_lock owner 0 fixed_lock holder 0 s t len w in
+    let same : others ≡ bytes = body_stays old new at bytes others fixed_lock owner 0 fixed_lock holder 0 (plain-callers fixed_lock owner (fixed_owned at bytes owner f.named)) (plain-callers fixed_lock holder some_owner) s t len w in
     altered_write old new name at live (fixed bytes owner) (fixed bytes holder) h f
     (wrote_wider old new at (at + 8) at (at + need (length bytes)) w (omega arith) (omega arith)) (subst (λ (b : List ℕ). Spelled new at (fixed b holder)) same t) refl tt (λ m. m) (some_owner, most_owner) refl

@@ -3,7 +3,7 @@ use Rattle.std.proofs.Common.{◌≡◌, ℕ, zero, suc, ◌+◌, ◌-◌, ◌<�
 use Rattle.std.proofs.lemmas.List.{get_or-take, get_or-drop, get_or_append_left, get_or-append_right, length-take-le, same_lists, get_or_default}
 use Rattle.byteorder.specs.Endian.{big_from}
 use Rattle.heap_model.specs.Bytes.{u32_at, overwritten}
-use Rattle.heap_model.specs.Chunk.{need, IsFree, IsLive}
+use Rattle.heap_model.specs.Chunk.{need, seen, IsFree, IsLive}
 use Rattle.laws_heap.proofs.Frames.{SameBetween}
 
 -- the bytes of one list from an offset up to another stand so much further up in another
@@ -63,7 +63,7 @@ IsLive-carried xs ys at by bytes lock owner h carry inside s =
       lock_fits = s.lock_fits;
       owner_fits = s.owner_fits;
       h_offset_fits = s.h_offset_fits;
-      body = ap (λ (n : ℕ). take (n + length bytes - n) (drop n ys)) f ∙ body ∙ s.body;
+      body = ap (seen lock owner) (ap (λ (n : ℕ). take (n + length bytes - n) (drop n ys)) f ∙ body) ∙ s.body;
       inside = inside;
     }
 

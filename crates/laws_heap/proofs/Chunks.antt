@@ -1,10 +1,60 @@
 -- Runs of chunks: put together, taken apart, framed, and one at most in an image.
-use Rattle.std.proofs.Common.{◌≡◌, ℕ, ◌+◌, ◌-◌, ◌*◌, ◌%◌, ◌^◌, ◌<◌, ◌≤◌, List, [], ◌∷◌, ◌++◌, length, take, drop, refl, sym, ap, subst, ◌∙◌, arith, inl, inr}
+use Rattle.std.proofs.Common.{Bool, true, false, cond, ◌≡◌, ℕ, ◌+◌, ◌-◌, ◌*◌, ◌%◌, ◌^◌, ◌<◌, ◌≤◌, List, [], ◌∷◌, ◌++◌, length, take, drop, replicate, refl, sym, ap, subst, ◌∙◌, arith, inl, inr, length-append, length-take}
+use Rattle.std.proofs.lemmas.List.{length-replicate}
+use Rattle.std.proofs.lemmas.Bool.Decides.{nat_tests}
+use Rattle.std.specs.Prelude.{slice_range}
 use Rattle.heap_model.specs.Bytes.{u32_at}
-use Rattle.heap_model.specs.Chunk.{Chunk, free, movable, fixed, need, size_of, total, slot_named, IsFree, IsLive, Spelled, SpelledAll}
+use Rattle.heap_model.specs.Chunk.{Chunk, free, movable, fixed, need, size_of, total, slot_named, is_table_by, seen, IsFree, IsLive, Spelled, SpelledAll}
 use Rattle.heap_model.specs.Placed.{EveryPlaced, AnyPlaced}
 use Rattle.heap_model.specs.Layout.{IsFreeAt}
 use Rattle.laws_heap.proofs.Frames.{SameBetween, SameBetween-within, u32_at-same, slice-same}
+
+-- ---- the bytes that a value has
+
+pub length-seen : (lock owner : ℕ) (body : List ℕ) → length (seen lock owner body) ≡ length body
+unfolding seen
+length-seen lock owner body = by (is_table_by lock owner) where
+  by : (b : Bool) → length (cond b (take 4 body ++ replicate (length body - 4) 0) body) ≡ length body
+  by true =
+      let both = length-append (take 4 body) (replicate (length body - 4) 0) in
+      let front = length-take 4 body in
+      let back = length-replicate {A = ℕ} (length body - 4) 0 in
+      omega arith
+  by false = refl
+
+-- those of the body, where it is no table's
+pub seen-plain : (lock owner : ℕ) (body : List ℕ) → is_table_by lock owner ≡ false → seen lock owner body ≡ body
+unfolding seen
+seen-plain lock owner body e = ap (λ (b : Bool). cond b (take 4 body ++ replicate (length body - 4) 0) body) e
+
+pub plain-movable : (lock owner : ℕ) → lock < 15 → is_table_by lock owner ≡ false
+plain-movable lock owner low = grind (arith, nat_tests)
+
+pub plain-callers : (lock owner : ℕ) → 0 < owner → is_table_by lock owner ≡ false
+plain-callers lock owner some = grind (arith, nat_tests)
+
+pub seen-movable : (lock owner : ℕ) (body : List ℕ) → lock < 15 → seen lock owner body ≡ body
+seen-movable lock owner body low = seen-plain lock owner body (plain-movable lock owner low)
+
+pub seen-callers : (lock owner : ℕ) (body : List ℕ) → 0 < owner → seen lock owner body ≡ body
+seen-callers lock owner body some = seen-plain lock owner body (plain-callers lock owner some)
+
+-- of two tables' bodies with one `next` it is the same
+pub seen-next : (xs ys : List ℕ) → take 4 xs ≡ take 4 ys → length xs ≡ length ys → seen 15 0 xs ≡ seen 15 0 ys
+unfolding seen
+seen-next xs ys next len =
+    ap (λ (front : List ℕ). front ++ replicate (length xs - 4) 0) next
+    ∙ ap (λ (n : ℕ). take 4 ys ++ replicate (n - 4) 0) len
+
+-- the body of a movable chunk, and of a caller's
+pub plain_body : (image : List ℕ) (at : ℕ) (bytes : List ℕ) (lock owner h : ℕ) → is_table_by lock owner ≡ false → IsLive image at bytes lock owner h → slice_range image (at + 8) (at + 8 + length bytes) ≡ bytes
+plain_body image at bytes lock owner h plain s = sym (seen-plain lock owner (slice_range image (at + 8) (at + 8 + length bytes)) plain) ∙ s.body
+
+pub movable_body : (image : List ℕ) (at : ℕ) (bytes : List ℕ) (lock owner h : ℕ) → IsLive image at bytes lock owner h → lock < 15 → slice_range image (at + 8) (at + 8 + length bytes) ≡ bytes
+movable_body image at bytes lock owner h s low = plain_body image at bytes lock owner h (plain-movable lock owner low) s
+
+pub callers_body : (image : List ℕ) (at : ℕ) (bytes : List ℕ) (lock owner h : ℕ) → IsLive image at bytes lock owner h → 0 < owner → slice_range image (at + 8) (at + 8 + length bytes) ≡ bytes
+callers_body image at bytes lock owner h s some = plain_body image at bytes lock owner h (plain-callers lock owner some) s
 
 -- ---- sizes
 
@@ -61,7 +111,7 @@ IsLive-same xs ys at bytes lock owner h agree len s =
       lock_fits = s.lock_fits;
       owner_fits = s.owner_fits;
       h_offset_fits = s.h_offset_fits;
-      body = sym body ∙ s.body;
+      body = ap (seen lock owner) (sym body) ∙ s.body;
       inside = omega arith;
     }
 
@@ -135,12 +185,15 @@ same_live image at xs ys k v h l w i s t =
     let size_s : need n < 2 ^ 24 = s.size_fits in
     let size_t : need m < 2 ^ 24 = t.size_fits in
     let len : n ≡ m = omega arith in
-    let bodies : xs ≡ ys = sym s.body ∙ ap (λ (j : ℕ). take (at + 8 + j - (at + 8)) (drop (at + 8) image)) len ∙ t.body in
     let owner_s : v < 16 = s.owner_fits in
     let owner_t : w < 16 = t.owner_fits in
     let way_s : h < 2 ^ 24 = s.h_offset_fits in
     let way_t : i < 2 ^ 24 = t.h_offset_fits in
-    (bodies, omega arith, omega arith, omega arith)
+    let locks : k ≡ l = omega arith in
+    let owners : v ≡ w = omega arith in
+    let raw : ℕ → List ℕ = λ j. take (at + 8 + j - (at + 8)) (drop (at + 8) image) in
+    let bodies : xs ≡ ys = sym s.body ∙ ap (λ (j : ℕ). seen k v (raw j)) len ∙ ap (λ (q : ℕ). seen q v (raw m)) locks ∙ ap (λ (q : ℕ). seen l q (raw m)) owners ∙ t.body in
+    (bodies, locks, owners, omega arith)
 
 free_not_live : (image : List ℕ) (at size : ℕ) (xs : List ℕ) (k v h : ℕ) → IsFree image at size → IsLive image at xs k v h → ⊥
 free_not_live image at size xs k v h s t =

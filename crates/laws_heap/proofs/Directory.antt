@@ -5,8 +5,8 @@ use Rattle.std.specs.Prelude.{◌⊎◌}
 use Rattle.heap_model.specs.Bytes.{u32_at, u32_bytes, overwritten}
 use Rattle.heap_model.specs.Chunk.{Chunk, free, movable, fixed, total, SpelledAll, managers_owner}
 use Rattle.heap_model.specs.Frame.{directory_at}
-use Rattle.heap_model.specs.Slots.{IsSlot, slot_count, slots_of, head_end, area_start}
-use Rattle.heap_model.specs.Heap.{IsHead, IsBody, Tiles, Tied, IsCallersIfFixed, ManagersHere, HasDirectory, directory_of, IsHeap, HeapAccepted}
+use Rattle.heap_model.specs.Slots.{Table, IsSlot, slot_count, slots_of, tables_of, further_tables, first_next, table_end, head_end, area_start}
+use Rattle.heap_model.specs.Heap.{IsHead, IsBody, TableHere, IsChain, Tiles, Tied, IsKnownIfFixed, ManagersHere, HasDirectory, directory_of, IsHeap, HeapAccepted}
 use Rattle.heap_model.specs.Placed.{EveryPlaced, AnyPlaced}
 use Rattle.heap_model.specs.Meaning.{LiveChunk, NamedHere}
 use Rattle.heap_model.specs.Reading.{chunks_of, held, live_under}
@@ -17,10 +17,12 @@ use Rattle.heap_model.specs.Store.{owner_of, owner_under}
 use Rattle.heap_model.specs.Leaving.{NamesDirectory}
 use Rattle.laws_heap.proofs.Frames.{SameBetween, SameBetween-within, u16_at-same, u32_at-same, u32_at-written}
 use Rattle.laws_heap.proofs.Chunks.{SpelledAll-same, SpelledAll-end}
-use Rattle.laws_heap.proofs.Slots.{slot_facts, same_slots, slot_alike, start_alike, start_listed}
+use Rattle.laws_heap.proofs.Slots.{slot_facts, same_slots, slot_alike, start_listed, ends_listed}
+use Rattle.laws_heap.proofs.Tables.{SameChain, chained_behind, spelled_table, same_further, chain_stays, next_same}
+use Rattle.laws_heap.proofs.Replacements.{tables_alike}
 use Rattle.laws_heap.proofs.Runs.{chunks_of-tiled}
-use Rattle.laws_heap.proofs.Placed.{EveryPlaced-split, AnyPlaced-mid, SpelledAll-takes}
-use Rattle.laws_heap.proofs.FixedNames.{fixed_live_is}
+use Rattle.laws_heap.proofs.Placed.{AnyPlaced-mid, SpelledAll-takes}
+use Rattle.laws_heap.proofs.FixedNames.{fixed_live_is, fixed_owned}
 use Rattle.laws_heap.proofs.FoundChunks.{read_heap, held_finds}
 use Rattle.laws_heap.proofs.Plain.{free_inside}
 use Rattle.laws_heap.proofs.OwnedChunks.{not_directory}
@@ -30,20 +32,19 @@ use Rattle.laws_heap.proofs.Writes.{WroteWithin, wrote_word, wrote_word_apart}
 is_managers : (image : List ℕ) (name : ℕ) → HeapAccepted image → owner_under image name ≡ managers_owner → AnyPlaced (ManagersHere name) (area_start image) (chunks_of image)
 unfolding owner_under
 is_managers image name h owned = by_held (held image name) refl owned where
-  by_chunk : (live : LiveChunk) (at : ℕ) (chunk : Chunk) → live.owner ≡ managers_owner → IsCallersIfFixed at chunk → NamedHere name live at chunk → ManagersHere name at chunk
-  by_chunk live at (free size) none callers n = n
-  by_chunk live at (movable bytes lock owner slot) none callers n = (n.0, ap (λ (x : LiveChunk). x.owner) n.1 ∙ none)
-  by_chunk live at (fixed bytes owner) none callers n =
+  by_chunk : (live : LiveChunk) (at : ℕ) (chunk : Chunk) → live.owner ≡ managers_owner → NamedHere name live at chunk → ManagersHere name at chunk
+  by_chunk live at (free size) none n = n
+  by_chunk live at (movable bytes lock owner slot) none n = (n.0, ap (λ (x : LiveChunk). x.owner) n.1 ∙ none)
+  by_chunk live at (fixed bytes owner) none n =
       let same : owner ≡ live.owner = ap (λ (x : LiveChunk). x.owner) (fixed_live_is at bytes owner n) in
-      let some : 0 < owner = callers.0 in
+      let some : 0 < owner = fixed_owned at bytes owner n in
       absurd (omega arith)
 
   by_found : (live : LiveChunk) (chunk : Chunk) (at : ℕ) → live.owner ≡ managers_owner → Finds image name live chunk at → AnyPlaced (ManagersHere name) (area_start image) (chunks_of image)
   by_found live chunk at none f =
-      let callers = EveryPlaced-split IsCallersIfFixed (area_start image) f.before (chunk ∷ f.after) (subst (λ (cs : List Chunk). EveryPlaced IsCallersIfFixed (area_start image) cs) f.chunks (read_heap image h).fixed_are_callers) in
       subst (λ (cs : List Chunk). AnyPlaced (ManagersHere name) (area_start image) cs) (sym f.chunks)
       (AnyPlaced-mid (ManagersHere name) (area_start image) f.before chunk f.after
-      (by_chunk live (area_start image + total f.before) chunk none callers.1.0 (subst (λ (n : ℕ). NamedHere name live n chunk) f.there f.named)))
+      (by_chunk live (area_start image + total f.before) chunk none (subst (λ (n : ℕ). NamedHere name live n chunk) f.there f.named)))
 
   by_held : (x : Option LiveChunk) → held image name ≡ x → owner_of x ≡ managers_owner → AnyPlaced (ManagersHere name) (area_start image) (chunks_of image)
   by_held None e none = absurd (omega (arith, none))
@@ -55,7 +56,7 @@ MayBeDirectory image word = (word ≡ 0) ⊎ (owner_under image word ≡ manager
 
 pub directory_written : (old new : List ℕ) (word : ℕ) → HeapAccepted old → new ≡ overwritten old directory_at (u32_bytes word) → word < 2 ^ 32 → MayBeDirectory old word → NamesDirectory old new word × WritesPlain old new
 unfolding held
-directory_written old new word h is fits may = (record { accepted = (cs, heap_new); len = len; slots = slots; directory = named; map = map_same; chunks = chunks_same }, plain) where
+directory_written old new word h is fits may = (record { accepted = (cs, heap_new); len = len; tables = tables; slots = slots; directory = named; map = map_same; chunks = chunks_same }, plain) where
   cs : List Chunk
   cs = chunks_of old
 
@@ -74,14 +75,35 @@ directory_written old new word h is fits may = (record { accepted = (cs, heap_ne
   count : slot_count new ≡ slot_count old
   count = sym (u16_at-same 8 old new 0 12 w.below (omega arith) (omega arith))
 
-  slots : slots_of new ≡ slots_of old
-  slots = same_slots old new count
+  magic : u32_at new 0 ≡ u32_at old 0
+  magic = sym (u32_at-same 0 old new 0 12 w.below (omega arith) (omega arith))
 
-  start : area_start new ≡ area_start old
-  start = start_alike old new count
+  behind_head : (low : ℕ) → 16 ≤ low → SameBetween low (length old) old new
+  behind_head low above = SameBetween-within 16 (length old) low (length old) old new w.above above (let e : length old ≤ length old = omega arith in e)
 
   behind : SameBetween (area_start old) (length old) old new
-  behind = SameBetween-within 16 (length old) (area_start old) (length old) old new w.above (omega arith) (omega arith)
+  behind = behind_head (area_start old) (omega arith)
+
+  area_new : SpelledAll new (area_start old) cs (length old)
+  area_new = SpelledAll-same old new (area_start old) cs (length old) behind len heap.tiles.area
+
+  chain_words : SameChain old new cs
+  chain_words table t = spelled_table old new table (area_start old) cs (length old) (length old) t heap.tiles.area area_new
+
+  next : first_next new ≡ first_next old
+  next = next_same old new magic count (λ is. let four = chained_behind old is in sym (u32_at-same (table_end old) old new (table_end old) (length old) (behind_head (table_end old) (omega arith)) (omega arith) (omega (arith, four, inside))))
+
+  further : further_tables new ≡ further_tables old
+  further = same_further old new cs heap.tiles len next chain_words
+
+  tables : tables_of new ≡ tables_of old
+  tables = tables_alike old new magic count further
+
+  slots : slots_of new ≡ slots_of old
+  slots = same_slots old new tables
+
+  start : area_start new ≡ area_start old
+  start = start_listed old new tables
 
   named : directory_of new ≡ word
   named = ap directory_of is ∙ u32_at-written word 12 old (omega (arith, inside)) fits
@@ -90,14 +112,14 @@ directory_written old new word h is fits may = (record { accepted = (cs, heap_ne
   head_new =
       let head = heap.tiles.head in
       let some = head.some_slot in
-      let ends : head_end new ≡ head_end old = omega (arith, count) in
+      let ends : head_end new ≡ head_end old = ends_listed old new tables in
       record {
-        magic_is = sym (u32_at-same 0 old new 0 12 w.below (omega arith) (omega arith)) ∙ head.magic_is;
+        magic_is = elim head.magic_is [ inl one ↦ inl (magic ∙ one) | inr chained ↦ inr (magic ∙ chained) ];
         size_is = sym (u32_at-same 4 old new 0 12 w.below (omega arith) (omega arith)) ∙ head.size_is ∙ sym len;
         least = rw len head.least;
         most = rw len head.most;
         whole = rw len head.whole;
-        some_slot = omega (arith, count);
+        some_slot = omega (arith, count, some);
         a_chunk_fits = omega (arith, start, len, inside);
         reserved = sym (u16_at-same 10 old new 0 12 w.below (omega arith) (omega arith)) ∙ head.reserved;
         padding = λ ne.
@@ -107,7 +129,9 @@ directory_written old new word h is fits may = (record { accepted = (cs, heap_ne
   tiles_new : Tiles new cs
   tiles_new = record {
     head = head_new;
-    area = subst (λ (n : ℕ). SpelledAll new n cs (length new)) (sym start) (subst (λ (n : ℕ). SpelledAll new (area_start old) cs n) (sym len) (SpelledAll-same old new (area_start old) cs (length old) behind len heap.tiles.area));
+    area = subst (λ (n : ℕ). SpelledAll new n cs (length new)) (sym start) (subst (λ (n : ℕ). SpelledAll new (area_start old) cs n) (sym len) area_new);
+    chain = subst (λ (n : ℕ). IsChain new cs n (further_tables new)) (sym next) (subst (λ (ts : List Table). IsChain new cs (first_next old) ts) (sym further)
+        (chain_stays old new cs cs (first_next old) (further_tables old) chain_words (λ table t. subst (λ (n : ℕ). AnyPlaced (TableHere table) n cs) (sym start) t) heap.tiles.chain));
   }
 
   chunks_same : chunks_of new ≡ chunks_of old
@@ -140,7 +164,7 @@ directory_written old new word h is fits may = (record { accepted = (cs, heap_ne
   ]
 
   heap_new : IsHeap new cs
-  heap_new = record { tiles = tiles_new; tied = tied_new; fixed_are_callers = subst (λ (n : ℕ). EveryPlaced IsCallersIfFixed n cs) (sym start) heap.fixed_are_callers; directory = directory_new }
+  heap_new = record { tiles = tiles_new; tied = tied_new; fixed_are_known = subst (λ (n : ℕ). EveryPlaced (IsKnownIfFixed (further_tables new)) n cs) (sym start) (subst (λ (ts : List Table). EveryPlaced (IsKnownIfFixed ts) (area_start old) cs) (sym further) heap.fixed_are_known); directory = directory_new }
 
   plain : WritesPlain old new
   plain at begins =
@@ -157,7 +181,7 @@ pub named_slots : (old new : List ℕ) (word : ℕ) → NamesDirectory old new w
 named_slots old new word n = n.slots
 
 pub named_start : (old new : List ℕ) (word : ℕ) → NamesDirectory old new word → area_start new ≡ area_start old
-named_start old new word n = start_listed old new n.slots
+named_start old new word n = start_listed old new n.tables
 
 pub named_finds : (old new : List ℕ) (word name : ℕ) (live : LiveChunk) (chunk : Chunk) (at : ℕ) → NamesDirectory old new word → Finds old name live chunk at → Finds new name live chunk at
 named_finds old new word name live chunk at n f = record { before = f.before; after = f.after; chunks = n.chunks ∙ f.chunks; there = f.there ∙ ap (λ (k : ℕ). k + total f.before) (sym (named_start old new word n)); named = f.named }
@@ -180,7 +204,7 @@ directory_owned image live h e = elim (cases_eq live.owner 0) [ inl none ↦ non
 -- what is done to the chunks while there is no directory, and the directory is named again
 pub named_again : (old mid later new : List ℕ) (name : ℕ) (cs : List Chunk) → NamesDirectory old mid 0 → Becomes mid later cs → NamesDirectory later new name → name ≡ directory_of old → Becomes old new cs
 named_again old mid later new name cs first b last is = record {
-  frame = record { accepted = last.accepted; len = last.len ∙ b.frame.len ∙ first.len; slots = last.slots ∙ b.frame.slots ∙ first.slots; directory = last.directory ∙ is };
+  frame = record { accepted = last.accepted; len = last.len ∙ b.frame.len ∙ first.len; tables = last.tables ∙ b.frame.tables ∙ first.tables; slots = last.slots ∙ b.frame.slots ∙ first.slots; directory = last.directory ∙ is };
   layout = ap merged last.chunks ∙ b.layout;
 }
 

@@ -1,10 +1,10 @@
 -- What a name stands for, found among the chunks.
-use Rattle.std.proofs.Common.{◌≡◌, ◌≢◌, ℕ, ◌+◌, ◌-◌, ◌<◌, ◌≤◌, List, ◌∷◌, ◌++◌, length, Option, Some, None, refl, sym, ap, subst, ◌∙◌, arith}
+use Rattle.std.proofs.Common.{false, ◌≡◌, ◌≢◌, ℕ, ◌+◌, ◌-◌, ◌<◌, ◌≤◌, List, ◌∷◌, ◌++◌, length, Option, Some, None, refl, sym, ap, subst, ◌∙◌, arith}
 use Rattle.std.proofs.lemmas.Bool.{eq-eqb}
 use Rattle.std.proofs.lemmas.Bool.Decides.{nat_tests}
 use Rattle.std.specs.Prelude.{◌==◌, slice_range}
 use Rattle.heap_model.specs.Bytes.{u32_at}
-use Rattle.heap_model.specs.Chunk.{Chunk, free, movable, fixed, fixed_lock, need, size_of, total, IsLive, Spelled, SpelledAll}
+use Rattle.heap_model.specs.Chunk.{Chunk, free, movable, fixed, fixed_lock, need, size_of, total, is_table_by, IsLive, Spelled, SpelledAll}
 use Rattle.heap_model.specs.Slots.{IsSlot, area_start}
 use Rattle.heap_model.specs.Heap.{BodyHere, IsHeap, HeapAccepted}
 use Rattle.heap_model.specs.Placed.{EveryPlaced, AnyPlaced}
@@ -13,9 +13,9 @@ use Rattle.heap_model.specs.Reading.{chunk_at, chunks_of, held}
 use Rattle.heap_model.specs.Maps.{not_owned, callers_map}
 use Rattle.heap_model.specs.Placing.{Finds, NotFixedAs}
 use Rattle.laws_heap.proofs.Tests.{cond-true, cond-false}
-use Rattle.laws_heap.proofs.Chunks.{SpelledAll-split}
+use Rattle.laws_heap.proofs.Chunks.{SpelledAll-split, plain_body, plain-movable, plain-callers}
 use Rattle.laws_heap.proofs.Placed.{AnyPlaced-parts, AnyPlaced-mid, EveryPlaced-split}
-use Rattle.laws_heap.proofs.FixedNames.{fixed_live_is, fixed_not}
+use Rattle.laws_heap.proofs.FixedNames.{fixed_live_is, fixed_owned, fixed_not}
 use Rattle.laws_heap.proofs.Accepted.{heap_of_read}
 use Rattle.laws_heap.proofs.Shapes.{chunk_at-spelled}
 use Rattle.laws_heap.proofs.Meanings.{held-is, live_under-is, same_live}
@@ -61,16 +61,16 @@ pub record HasBody (image : List ℕ) (at : ℕ) (live : LiveChunk) : Type 0 whe
   pub inside : at + need (length live.bytes) ≤ length image
   pub bytes : slice_range image (at + 8) (at + 8 + length live.bytes) ≡ live.bytes
 
-body_of_live : (image : List ℕ) (at : ℕ) (live : LiveChunk) (bytes : List ℕ) (lock owner h_offset : ℕ) → bytes ≡ live.bytes → IsLive image at bytes lock owner h_offset → HasBody image at live
-body_of_live image at live bytes lock owner h_offset e s = record {
+body_of_live : (image : List ℕ) (at : ℕ) (live : LiveChunk) (bytes : List ℕ) (lock owner h_offset : ℕ) → bytes ≡ live.bytes → is_table_by lock owner ≡ false → IsLive image at bytes lock owner h_offset → HasBody image at live
+body_of_live image at live bytes lock owner h_offset e plain s = record {
   inside = subst (λ (xs : List ℕ). at + need (length xs) ≤ length image) e s.inside;
-  bytes = subst (λ (xs : List ℕ). slice_range image (at + 8) (at + 8 + length xs) ≡ xs) e s.body;
+  bytes = subst (λ (xs : List ℕ). slice_range image (at + 8) (at + 8 + length xs) ≡ xs) e (plain_body image at bytes lock owner h_offset plain s);
 }
 
 pub named_body : (image : List ℕ) (name : ℕ) (live : LiveChunk) (at : ℕ) (c : Chunk) → Spelled image at c → NamedHere name live at c → HasBody image at live
 named_body image name live at (free size) s named = absurd named
-named_body image name live at (movable bytes lock owner slot) s named = body_of_live image at live bytes lock owner s.0 (ap (λ (x : LiveChunk). x.bytes) named.1) s.1
-named_body image name live at (fixed bytes owner) s named = body_of_live image at live bytes fixed_lock owner 0 (ap (λ (x : LiveChunk). x.bytes) (fixed_live_is at bytes owner named)) s
+named_body image name live at (movable bytes lock owner slot) s named = body_of_live image at live bytes lock owner s.0 (ap (λ (x : LiveChunk). x.bytes) named.1) (plain-movable lock owner s.2) s.1
+named_body image name live at (fixed bytes owner) s named = body_of_live image at live bytes fixed_lock owner 0 (ap (λ (x : LiveChunk). x.bytes) (fixed_live_is at bytes owner named)) (plain-callers fixed_lock owner (fixed_owned at bytes owner named)) s
 
 pub finds_body : (image : List ℕ) (name : ℕ) (live : LiveChunk) (chunk : Chunk) (at : ℕ) → HeapAccepted image → Finds image name live chunk at → HasBody image at live
 finds_body image name live chunk at h f = named_body image name live at chunk (finds_spelled image name live chunk at h f) f.named

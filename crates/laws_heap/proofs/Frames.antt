@@ -221,3 +221,20 @@ slice-of_slice xs from size at count within =
     ∙ take-take count (size - at) (drop at (drop from xs)) least
     ∙ ap (take count) (drop-drop at from xs)
     ∙ ap (λ (n : ℕ). take n (drop (from + at) xs)) (sym there)
+
+-- the number with which a part begins
+pub u32_at-part : (image : List ℕ) (at n : ℕ) → 4 ≤ n → u32_at (take (at + n - at) (drop at image)) 0 ≡ u32_at image at
+unfolding u32_at
+u32_at-part image at n most =
+    let e : at + 0 ≡ at = omega arith in
+    big_from-same 0 4 (take (at + n - at) (drop at image)) (drop at image) (λ k l h. get_or-take (at + n - at) (drop at image) k 0 (omega arith))
+    ∙ big_from-drop 0 4 at image
+    ∙ ap (λ (i : ℕ). big_from i 4 image) e
+
+-- and of a list whose front is that of another
+pub u32_at-front : (xs ys : List ℕ) → 4 ≤ length xs → u32_at (take 4 xs ++ ys) 0 ≡ u32_at xs 0
+unfolding u32_at
+u32_at-front xs ys most =
+    big_from-same 0 4 (take 4 xs ++ ys) xs (λ k l h.
+    let len = length-take-le 4 xs most in
+    get_or_append_left (take 4 xs) ys 0 k (omega (arith, len)) ∙ get_or-take 4 xs k 0 (omega arith))

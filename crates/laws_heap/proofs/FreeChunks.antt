@@ -10,12 +10,12 @@ use Rattle.heap_model.specs.Slots.{IsSlot, area_start}
 use Rattle.heap_model.specs.Heap.{BodyHere, IsBody, IsCallersIfFixed, ManagersHere, directory_of, IsHeap}
 use Rattle.heap_model.specs.Placed.{EveryPlaced, AnyPlaced}
 use Rattle.heap_model.specs.Meaning.{LiveChunk, NamedHere}
-use Rattle.heap_model.specs.Reading.{live_under}
+use Rattle.heap_model.specs.Reading.{live_under, is_fixed_name}
 use Rattle.heap_model.specs.Space.{AllFree, place_under, place_of}
 use Rattle.laws_heap.proofs.Tests.{cond-false}
 use Rattle.laws_heap.proofs.Placed.{AnyPlaced-left, AnyPlaced-right, AnyPlaced-split}
 use Rattle.laws_heap.proofs.Runs.{chunks_of-tiled}
-use Rattle.laws_heap.proofs.FixedNames.{is_fixed_name, fixed_name_is, fixed_place, fixed_other}
+use Rattle.laws_heap.proofs.FixedNames.{fixed_name_is, fixed_place, fixed_other}
 use Rattle.laws_heap.proofs.Slots.{slot_no_place}
 use Rattle.laws_heap.proofs.Replacements.{Replaces, replaced_total, replaced_heap, any_replaced, SameSlots, kept_ties, kept_directory}
 use Rattle.laws_heap.proofs.Lives.{or_else, live_under-append, place_under-append, live_placed}

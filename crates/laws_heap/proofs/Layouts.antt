@@ -5,12 +5,12 @@ use Rattle.std.proofs.lemmas.List.Sums.{sum_by-cons}
 use Rattle.heap_model.specs.Chunk.{Chunk, free, movable, fixed, need, total, free_size}
 use Rattle.heap_model.specs.Placed.{EveryPlaced, AnyPlaced}
 use Rattle.heap_model.specs.Meaning.{LiveChunk}
-use Rattle.heap_model.specs.Reading.{live_under}
+use Rattle.heap_model.specs.Reading.{live_under, is_fixed_name}
 use Rattle.std.proofs.lemmas.List.Elements.{All-nil, All-cons, All-head, All-tail}
 use Rattle.heap_model.specs.Space.{AllFree, NoRun, onto_first, runs_between, has_chunk, stretches, rooms_of, free_front, free_behind_in, place_under}
 use Rattle.heap_model.specs.Layout.{free_onto, merged, AllBelow}
 use Rattle.laws_heap.proofs.Tests.{cond-false}
-use Rattle.laws_heap.proofs.FixedNames.{is_fixed_name, fixed_live}
+use Rattle.laws_heap.proofs.FixedNames.{fixed_live}
 use Rattle.laws_heap.proofs.Placed.{TakesBytes}
 
 -- ---- lists that are put together

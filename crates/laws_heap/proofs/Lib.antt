@@ -4,6 +4,9 @@ pub mod Tests
 pub mod Shapes
 pub mod Runs
 pub mod Slots
+pub mod Tables
+pub mod SlotNumbers
+pub mod OneTable
 pub mod Bodies
 pub mod Placed
 pub mod Accepted
@@ -38,3 +41,10 @@ pub mod Directory
 pub mod Fits
 pub mod Results
 pub mod FixedNames
+pub mod AlikeTables
+pub mod ChainReads
+pub mod Relinked
+pub mod AddedTables
+pub mod MoreTables
+pub mod CallFrames
+pub mod Migrations

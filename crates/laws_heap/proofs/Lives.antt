@@ -3,9 +3,9 @@ use Rattle.std.proofs.Common.{◌≡◌, ℕ, ◌+◌, Bool, true, false, cond, 
 use Rattle.std.specs.Prelude.{◌==◌}
 use Rattle.heap_model.specs.Chunk.{Chunk, free, movable, fixed, need, total}
 use Rattle.heap_model.specs.Meaning.{LiveChunk}
-use Rattle.heap_model.specs.Reading.{live_under}
+use Rattle.heap_model.specs.Reading.{live_under, is_fixed_name}
 use Rattle.laws_heap.proofs.Tests.{none_some}
-use Rattle.laws_heap.proofs.FixedNames.{is_fixed_name, fixed_live}
+use Rattle.laws_heap.proofs.FixedNames.{fixed_live}
 use Rattle.heap_model.specs.Space.{AllFree, place_under}
 
 -- the first of two that is there

@@ -8,10 +8,10 @@ use Rattle.heap_model.specs.Slots.{IsSlot, area_start}
 use Rattle.heap_model.specs.Heap.{Tiles, BodyHere, IsBody, IsHeap, HeapAccepted}
 use Rattle.heap_model.specs.Placed.{AnyPlaced}
 use Rattle.heap_model.specs.Meaning.{LiveChunk, ChunkMap, NamedHere, Holds}
-use Rattle.heap_model.specs.Reading.{chunks_of, live_under, held}
+use Rattle.heap_model.specs.Reading.{chunks_of, live_under, held, is_fixed_name}
 use Rattle.laws_heap.proofs.Tests.{some, same_some, none_some}
 use Rattle.laws_heap.proofs.Placed.{At, one_at, SpelledAll-takes, AnyPlaced-left, AnyPlaced-right, AnyPlaced-parts}
-use Rattle.laws_heap.proofs.FixedNames.{fixed_name, is_fixed_name, fixed_live, fixed_name_is, fixed_live_is, fixed_place, fixed_once, fixed_some, fixed_test, fixed_tested}
+use Rattle.laws_heap.proofs.FixedNames.{fixed_name, fixed_live, fixed_name_is, fixed_live_is, fixed_place, fixed_once, fixed_some, fixed_test, fixed_tested}
 use Rattle.laws_heap.proofs.Slots.{slot_facts, slot_no_place}
 use Rattle.laws_heap.proofs.Chunks.{total-append}
 use Rattle.laws_heap.proofs.Runs.{chunks_of-tiled, Tiles-unique}

@@ -11,14 +11,14 @@ use Rattle.heap_model.specs.Slots.{area_start}
 use Rattle.heap_model.specs.Heap.{HeapAccepted}
 use Rattle.heap_model.specs.Placed.{EveryPlaced}
 use Rattle.heap_model.specs.Meaning.{LiveChunk, NamedHere}
-use Rattle.heap_model.specs.Reading.{chunks_of, live_under}
+use Rattle.heap_model.specs.Reading.{chunks_of, live_under, is_fixed_name}
 use Rattle.heap_model.specs.Space.{AllFree, NoneStays, room_of, free_front, free_behind_in, free_behind}
 use Rattle.heap_model.specs.Placing.{Finds}
 use Rattle.heap_model.specs.Layout.{free_onto, merged, layout_of, Becomes, gap}
 use Rattle.heap_model.specs.Packing.{lives, packed, BeginsStaying, WholeStretch, opened, OpensBehind}
 use Rattle.heap_model.specs.Resizing.{with_length, behind_front, grown, GrowsInPlace}
 use Rattle.laws_heap.proofs.Tests.{cond-true, cond-false, none_some}
-use Rattle.laws_heap.proofs.FixedNames.{is_fixed_name, fixed_with_bytes}
+use Rattle.laws_heap.proofs.FixedNames.{fixed_with_bytes}
 use Rattle.laws_heap.proofs.Placed.{TakesBytes}
 use Rattle.laws_heap.proofs.FreeChunks.{or_front, or_back}
 use Rattle.laws_heap.proofs.AlteredChunks.{named_live, named_place}

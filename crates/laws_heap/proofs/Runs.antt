@@ -70,6 +70,11 @@ chunks_from-spelled image at = spelled (length image) at where
         (chunk_at-stands image at c e, subst (λ (m : ℕ). SpelledAll image next others m) end (rest next))
 
 -- the chunks of an image are those that tile it
+-- so without what is said of the head and of tables
+pub chunks_of-area : (image : List ℕ) (cs : List Chunk) → SpelledAll image (area_start image) cs (length image) → chunks_of image ≡ cs
+unfolding chunks_of
+chunks_of-area image cs s = chunks_from-tiled image (area_start image) cs s
+
 pub chunks_of-tiled : (image : List ℕ) (cs : List Chunk) → Tiles image cs → chunks_of image ≡ cs
 unfolding chunks_of
 chunks_of-tiled image cs t = chunks_from-tiled image (area_start image) cs t.area

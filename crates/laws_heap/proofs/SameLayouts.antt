@@ -15,7 +15,7 @@ use Rattle.heap_model.specs.Layout.{merged, layout_of, Becomes}
 use Rattle.laws_heap.proofs.FoundChunks.{read_heap}
 use Rattle.laws_heap.proofs.Runs.{chunks_of-tiled}
 use Rattle.laws_heap.proofs.Slots.{slot_alike, start_listed}
-use Rattle.laws_heap.proofs.Replacements.{SameHead, head_slots, same_directory}
+use Rattle.laws_heap.proofs.Replacements.{SameHead, head_tables, head_slots, same_directory}
 use Rattle.laws_heap.proofs.Layouts.{live_under-merged, place_under-merged, free_total-merged, rooms-merged, free_behind-merged, any-merged, no_run-layout}
 
 -- ---- of an image
@@ -36,20 +36,20 @@ rooms-layout image = sym (rooms-merged (chunks_of image))
 -- ---- of an image that has become another
 
 pub frame_of : (old new : List ℕ) (cs : List Chunk) → SameHead old new → IsHeap new cs → SameFrame old new
-frame_of old new cs same h = record { accepted = (cs, h); len = same.len; slots = head_slots old new same; directory = same_directory old new same }
+frame_of old new cs same h = record { accepted = (cs, h); len = same.len; tables = head_tables old new same; slots = head_slots old new same; directory = same_directory old new same }
 
 pub same_frame : (image : List ℕ) → HeapAccepted image → SameFrame image image
-same_frame image h = record { accepted = h; len = refl; slots = refl; directory = refl }
+same_frame image h = record { accepted = h; len = refl; tables = refl; slots = refl; directory = refl }
 
 pub frame_then : (old mid new : List ℕ) → SameFrame old mid → SameFrame mid new → SameFrame old new
-frame_then old mid new a b = record { accepted = b.accepted; len = b.len ∙ a.len; slots = b.slots ∙ a.slots; directory = b.directory ∙ a.directory }
+frame_then old mid new a b = record { accepted = b.accepted; len = b.len ∙ a.len; tables = b.tables ∙ a.tables; slots = b.slots ∙ a.slots; directory = b.directory ∙ a.directory }
 
 -- it has the same slots, and its chunks begin where they began
 pub frame_slots : (old new : List ℕ) → SameFrame old new → slots_of new ≡ slots_of old
 frame_slots old new frame = frame.slots
 
 pub frame_start : (old new : List ℕ) → SameFrame old new → area_start new ≡ area_start old
-frame_start old new frame = start_listed old new frame.slots
+frame_start old new frame = start_listed old new frame.tables
 
 -- where these are its chunks, it has their layout
 pub becomes_heap : (old new : List ℕ) (cs : List Chunk) → SameHead old new → IsHeap new cs → Becomes old new cs

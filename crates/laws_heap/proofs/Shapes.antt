@@ -6,8 +6,9 @@ use Rattle.std.proofs.lemmas.List.{length-take, length-drop}
 use Rattle.std.specs.Prelude.{◌⊎◌, ◌==◌, nat_le, slice_range, if◌then◌else◌}
 use Rattle.std.specs.Bool.{Decides}
 use Rattle.heap_model.specs.Bytes.{u32_at}
-use Rattle.heap_model.specs.Chunk.{Chunk, free, movable, fixed, need, slot_named, Spelled, IsFree, IsLive}
+use Rattle.heap_model.specs.Chunk.{Chunk, free, movable, fixed, need, slot_named, seen, Spelled, IsFree, IsLive}
 use Rattle.heap_model.specs.Reading.{size_field, above_size, lock_field, owner_field, h_offset_field, has_live_word, is_in_shape, chunk_by_words, chunk_at}
+use Rattle.laws_heap.proofs.Chunks.{length-seen, seen-movable}
 use Rattle.laws_heap.proofs.Tests.{Decides-nat_le, cond-true, cond-false, true_or_false, guarded, some, leb-is-true, lt-leb-false}
 
 -- what the test of a second word decides
@@ -40,16 +41,21 @@ body_length first = size_field first - 8 - above_size first
 abbrev body_at : List ℕ → ℕ → ℕ → List ℕ
 body_at image at first = slice_range image (at + 8) (at + 8 + body_length first)
 
+-- what the value of the chunk has of it
+abbrev seen_at : List ℕ → ℕ → ℕ → ℕ → List ℕ
+seen_at image at first second = seen (lock_field second) (owner_field second) (body_at image at first)
+
 -- two words in shape are those of a live chunk
 live_words : (image : List ℕ) (at : ℕ) → u32_at image at < 2 ^ 31
     → 8 ≤ size_field (u32_at image at) → size_field (u32_at image at) % 8 ≡ 0 → size_field (u32_at image at) ≤ length image - at
     → above_size (u32_at image at) ≤ 7 → above_size (u32_at image at) ≤ size_field (u32_at image at) - 8 → lock_field (u32_at image (at + 4)) ≤ 15
-    → IsLive image at (body_at image at (u32_at image at)) (lock_field (u32_at image (at + 4))) (owner_field (u32_at image (at + 4))) (h_offset_field (u32_at image (at + 4)))
+    → IsLive image at (seen_at image at (u32_at image at) (u32_at image (at + 4))) (lock_field (u32_at image (at + 4))) (owner_field (u32_at image (at + 4))) (h_offset_field (u32_at image (at + 4)))
 live_words image at low header whole inside small within lock =
     let first : ℕ = u32_at image at in
     let second : ℕ = u32_at image (at + 4) in
-    let len : length (body_at image at first) ≡ body_length first = simp (length-take, length-drop) (omega arith) in
-    let size : need (length (body_at image at first)) ≡ size_field first = omega arith in
+    let raw : length (body_at image at first) ≡ body_length first = simp (length-take, length-drop) (omega arith) in
+    let len : length (seen_at image at first second) ≡ body_length first = length-seen (lock_field second) (owner_field second) (body_at image at first) ∙ raw in
+    let size : need (length (seen_at image at first second)) ≡ size_field first = omega arith in
     record {
       first_word = omega arith;
       size_fits = omega arith;
@@ -57,12 +63,12 @@ live_words image at low header whole inside small within lock =
       lock_fits = omega arith;
       owner_fits = omega arith;
       h_offset_fits = omega arith;
-      body = ap (λ (n : ℕ). slice_range image (at + 8) (at + 8 + n)) len;
+      body = ap (λ (n : ℕ). seen (lock_field second) (owner_field second) (slice_range image (at + 8) (at + 8 + n))) len;
       inside = omega arith;
     }
 
 shape_live : (image : List ℕ) (at : ℕ) → Shape (length image - at) (u32_at image at) (u32_at image (at + 4)) → u32_at image at < 2 ^ 31
-    → IsLive image at (body_at image at (u32_at image at)) (lock_field (u32_at image (at + 4))) (owner_field (u32_at image (at + 4))) (h_offset_field (u32_at image (at + 4))) × LiveWord (u32_at image (at + 4))
+    → IsLive image at (seen_at image at (u32_at image at) (u32_at image (at + 4))) (lock_field (u32_at image (at + 4))) (owner_field (u32_at image (at + 4))) (h_offset_field (u32_at image (at + 4))) × LiveWord (u32_at image (at + 4))
 shape_live image at s low = elim s.1 [
   | inl high ↦ absurd (omega arith)
   | inr live ↦ (live_words image at low s.0.0.0 s.0.0.1 s.0.1 live.0.0 live.0.1 live.1.0.0, live.1)
@@ -71,21 +77,21 @@ shape_live image at s low = elim s.1 [
 -- the chunk behind two words that have no free bit
 abbrev live_by_words : List ℕ → ℕ → ℕ → ℕ → Chunk
 live_by_words image at first second =
-    if lock_field second == 15 then fixed (body_at image at first) (owner_field second)
+    if lock_field second == 15 then fixed (seen 15 (owner_field second) (body_at image at first)) (owner_field second)
     else movable (body_at image at first) (lock_field second) (owner_field second) (slot_named at (h_offset_field second))
 
-live_spelled : (image : List ℕ) (at first second : ℕ) → IsLive image at (body_at image at first) (lock_field second) (owner_field second) (h_offset_field second) → LiveWord second
+live_spelled : (image : List ℕ) (at first second : ℕ) → IsLive image at (seen_at image at first second) (lock_field second) (owner_field second) (h_offset_field second) → LiveWord second
     → Spelled image at (live_by_words image at first second)
 live_spelled image at first second live word = elim (true_or_false (lock_field second == 15)) [
   | inl is ↦
       let lock : lock_field second ≡ 15 = eqb-true (lock_field second) 15 is in
       subst (λ (c : Chunk). Spelled image at c) (sym (cond-true _ _ _ is))
-      (subst (λ (k : ℕ). IsLive image at (body_at image at first) k (owner_field second) 0) lock
-      (subst (λ (h : ℕ). IsLive image at (body_at image at first) (lock_field second) (owner_field second) h) (no_way word.0.1 lock) live))
+      (subst (λ (k : ℕ). IsLive image at (seen k (owner_field second) (body_at image at first)) k (owner_field second) 0) lock
+      (subst (λ (h : ℕ). IsLive image at (seen_at image at first second) (lock_field second) (owner_field second) h) (no_way word.0.1 lock) live))
   | inr isnt ↦
       let lock : lock_field second ≢ 15 = eqb-false (lock_field second) 15 isnt in
       let high : lock_field second ≤ 15 = word.0.0 in
-      subst (λ (c : Chunk). Spelled image at c) (sym (cond-false _ _ _ isnt)) (h_offset_field second, live, omega arith, owned word.1 lock, refl)
+      subst (λ (c : Chunk). Spelled image at c) (sym (cond-false _ _ _ isnt)) (h_offset_field second, subst (λ (x : List ℕ). IsLive image at x (lock_field second) (owner_field second) (h_offset_field second)) (seen-movable (lock_field second) (owner_field second) (body_at image at first) (omega arith)) live, omega arith, owned word.1 lock, refl)
 ] where
   no_way : (((lock_field second ≡ 15) → ⊥) ⊎ (h_offset_field second ≡ 0)) → lock_field second ≡ 15 → h_offset_field second ≡ 0
   no_way (inl isnt) is = absurd (isnt is)
@@ -165,13 +171,13 @@ spelled_shape image at (fixed bytes owner) s =
     live_shape image at bytes 15 owner 0 s (live_word (u32_at image (at + 4)) 15 owner 0 f.lock_is f.owner_is f.way (omega arith) (λ e. refl) (inl (inr refl)))
 
 -- the body that is read has the length that the words say
-read_body : (image : List ℕ) (at : ℕ) (bytes : List ℕ) (lock owner h_offset : ℕ) → IsLive image at bytes lock owner h_offset → body_at image at (u32_at image at) ≡ bytes
+read_body : (image : List ℕ) (at : ℕ) (bytes : List ℕ) (lock owner h_offset : ℕ) → IsLive image at bytes lock owner h_offset → seen lock owner (body_at image at (u32_at image at)) ≡ bytes
 read_body image at bytes lock owner h_offset s =
     let f = live_fields image at bytes lock owner h_offset s in
     let size = f.size in
     let adjustment = f.adjustment in
     let len : body_length (u32_at image at) ≡ length bytes = omega arith in
-    ap (λ (n : ℕ). slice_range image (at + 8) (at + 8 + n)) len ∙ s.body
+    ap (λ (n : ℕ). seen lock owner (slice_range image (at + 8) (at + 8 + n))) len ∙ s.body
 
 pub same_movable : {xs ys : List ℕ} {k l v w d e : ℕ} → xs ≡ ys → k ≡ l → v ≡ w → d ≡ e → movable xs k v d ≡ movable ys l w e
 same_movable a b c d = cc
@@ -180,8 +186,8 @@ spelled_read : (image : List ℕ) (at : ℕ) (c : Chunk) → Spelled image at c 
 spelled_read image at (free size) s = cond-true _ _ _ (leb-is-true _ _ s.free_bit) ∙ ap free s.size_field
 spelled_read image at (fixed bytes owner) s =
     let f = live_fields image at bytes 15 owner 0 s in
-    let body : body_at image at (u32_at image at) ≡ bytes = read_body image at bytes 15 owner 0 s in
     let own = f.owner_is in
+    let body : seen 15 (owner_field (u32_at image (at + 4))) (body_at image at (u32_at image at)) ≡ bytes = ap (λ (v : ℕ). seen 15 v (body_at image at (u32_at image at))) own ∙ read_body image at bytes 15 owner 0 s in
     let is : (lock_field (u32_at image (at + 4)) == 15) ≡ true = eq-eqb _ _ f.lock_is in
     cond-false _ _ _ (lt-leb-false _ _ f.no_free_bit) ∙ cond-true _ _ _ is ∙ ap (λ (x : List ℕ). fixed x (owner_field (u32_at image (at + 4)))) body ∙ ap (fixed bytes) own
 spelled_read image at (movable bytes lock owner slot) s =
@@ -190,7 +196,7 @@ spelled_read image at (movable bytes lock owner slot) s =
     let lock_is = f.lock_is in
     let isnt : (lock_field (u32_at image (at + 4)) == 15) ≡ false = grind (arith, nat_tests) in
     cond-false _ _ _ (lt-leb-false _ _ f.no_free_bit) ∙ cond-false _ _ _ isnt
-    ∙ same_movable (read_body image at bytes lock owner s.0 s.1) f.lock_is f.owner_is (ap (slot_named at) f.way ∙ sym s.4)
+    ∙ same_movable (sym (seen-movable lock owner (body_at image at (u32_at image at)) low) ∙ read_body image at bytes lock owner s.0 s.1) f.lock_is f.owner_is (ap (slot_named at) f.way ∙ sym s.4)
 
 -- ---- what stands at an offset is read there, and what is read stands there
 

@@ -274,7 +274,7 @@ opens_one old new at before front bytes owner slot back after w there o = record
 
 -- ---- a stretch has slid, and then one name changes that stood for nothing
 
-same_moved : (one other : List ℕ) (at : ℕ) (cs : List Chunk) → ((slot place : ℕ) → IsBody at cs slot place → place_of one slot ≡ place_of other slot) → moved_from at cs one ≡ moved_from at cs other
+pub same_moved : (one other : List ℕ) (at : ℕ) (cs : List Chunk) → ((slot place : ℕ) → IsBody at cs slot place → place_of one slot ≡ place_of other slot) → moved_from at cs one ≡ moved_from at cs other
 same_moved one other at [] same = refl
 same_moved one other at (free size ∷ cs) same = same_moved one other (at + size) cs (λ slot place b. same slot place (inr b))
 same_moved one other at (movable bytes lock owner slot ∷ cs) same =

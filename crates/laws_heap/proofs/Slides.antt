@@ -7,14 +7,14 @@ use Rattle.std.proofs.lemmas.List.Sums.{sum_by-cons}
 use Rattle.heap_model.specs.Chunk.{Chunk, free, movable, fixed, need, total, free_size}
 use Rattle.heap_model.specs.Placed.{EveryPlaced}
 use Rattle.heap_model.specs.Meaning.{LiveChunk}
-use Rattle.heap_model.specs.Reading.{live_under}
+use Rattle.heap_model.specs.Reading.{live_under, is_fixed_name}
 use Rattle.heap_model.specs.Space.{NoRun, NoneStays, rooms_of, room_of, stretches, runs_between, place_under}
 use Rattle.heap_model.specs.Layout.{merged, AllBelow, gap}
 use Rattle.heap_model.specs.Packing.{lives, staying, Slid, packed_behind, packed, opened}
 use Rattle.laws_heap.proofs.Chunks.{total-append}
 use Rattle.laws_heap.proofs.Placed.{TakesBytes}
 use Rattle.laws_heap.proofs.Lives.{move_live, move_place}
-use Rattle.laws_heap.proofs.FixedNames.{is_fixed_name, fixed_live}
+use Rattle.laws_heap.proofs.FixedNames.{fixed_live}
 use Rattle.laws_heap.proofs.Layouts.{onto_shifted, total-merged, no_run-below, below-no_run, marks, marked, mark_onto, marked_rooms, marks_onto, mark_twice}
 use Rattle.laws_heap.proofs.Exchanges.{gap_total}
 use Rattle.laws_heap.proofs.Packings.{merged-packed, slid_packed, lives_gap}

@@ -9,12 +9,11 @@ use Rattle.heap_model.specs.Chunk.{Chunk, free, movable, fixed, need, total, fre
 use Rattle.heap_model.specs.Slots.{area_start}
 use Rattle.heap_model.specs.Heap.{HeapAccepted}
 use Rattle.heap_model.specs.Meaning.{LiveChunk}
-use Rattle.heap_model.specs.Reading.{chunks_of, live_under}
+use Rattle.heap_model.specs.Reading.{chunks_of, live_under, is_fixed_name}
 use Rattle.heap_model.specs.Space.{stays, NoneStays, onto_first, runs_between, has_chunk, stretches, room_of, rooms_of, rooms, with_freed, Short, ShortFor}
 use Rattle.heap_model.specs.Packing.{EndsStaying, BeginsStaying, WholeStretch}
 use Rattle.laws_heap.proofs.Tests.{cond-true, none_some}
 use Rattle.laws_heap.proofs.Chunks.{total-append, SpelledAll-split, SpelledAll-unique}
-use Rattle.laws_heap.proofs.FixedNames.{is_fixed_name}
 use Rattle.laws_heap.proofs.FoundChunks.{read_heap}
 use Rattle.laws_heap.proofs.Exchanges.{named_beside}
 use Rattle.laws_heap.proofs.Packings.{no_true}

@@ -1,15 +1,18 @@
 -- What a write within some bytes leaves as it was.
-use Rattle.std.proofs.Common.{◌≡◌, ◌≢◌, ℕ, ◌+◌, ◌≤◌, List, [], ◌++◌, length, refl, sym, ap, subst, ◌∙◌, append_assoc, arith, inl, inr}
+use Rattle.std.proofs.Common.{◌≡◌, ◌≢◌, ℕ, ◌+◌, ◌-◌, ◌≤◌, List, [], ◌∷◌, ◌++◌, length, refl, sym, ap, subst, ◌∙◌, append_assoc, arith, inl, inr}
 use Rattle.std.proofs.lemmas.List.{append-nil}
 use Rattle.std.specs.Prelude.{◌⊎◌}
 use Rattle.heap_model.specs.Bytes.{u32_at, u32_bytes, overwritten}
-use Rattle.heap_model.specs.Chunk.{Chunk, total, SpelledAll}
-use Rattle.heap_model.specs.Slots.{IsSlot, head_end, area_start}
-use Rattle.heap_model.specs.Heap.{Tiles}
+use Rattle.heap_model.specs.Chunk.{Chunk, free, movable, fixed, size_of, total, SpelledAll}
+use Rattle.heap_model.specs.Slots.{Table, IsSlot, TablesLie, table_end, area_start}
+use Rattle.heap_model.specs.Placed.{AnyPlaced}
+use Rattle.heap_model.specs.Heap.{TableHere, Tiles}
 use Rattle.laws_heap.proofs.Frames.{SameBetween, SameBetween-within, SameBetween-then, length-overwritten, overwritten-below, overwritten-above, u32_at-same, length-u32_bytes}
 use Rattle.laws_heap.proofs.Chunks.{total-append, SpelledAll-split, SpelledAll-end, SpellsAgain, spells_same}
-use Rattle.laws_heap.proofs.Slots.{slot_facts, slots_apart, HoldNoSlots, IsBeside, slot_beside, spells_beside}
-use Rattle.laws_heap.proofs.Replacements.{SameHead, Replaces, SameSlots}
+use Rattle.laws_heap.proofs.Slots.{slot_facts, slots_apart, HoldNoSlots, no_table_here, IsBeside, slot_beside, spells_beside, tiled_table, tables_lie}
+use Rattle.laws_heap.proofs.Replacements.{SameHead, Replaces, SameSlots, head_next, head_tables, slot_there, beside_chain}
+use Rattle.laws_heap.proofs.Tables.{SameChain, same_further}
+use Rattle.laws_heap.proofs.Placed.{AnyPlaced-split}
 
 -- only bytes from one offset up to another were written
 pub record WroteWithin (old new : List ℕ) (low high : ℕ) : Type 0 where
@@ -109,9 +112,13 @@ area_again old new front cs back at low high t there w apart = by_slot w.is_slot
         | inr above ↦ w.word.above.same k above (omega arith)
       ]) len
 
--- the head is as it was
-area_head : (old new : List ℕ) (cs : List Chunk) (low high : ℕ) → Tiles old cs → WroteArea old new low high → low ≤ length old → SameHead old new
-area_head old new cs low high t w inside = by_slot w.is_slot where
+-- the words in front of the chunks are as they were, slots aside
+pub record HeadWords (old new : List ℕ) : Type 0 where
+  pub words : SameBetween 0 16 old new
+  pub padding : SameBetween (table_end old) (area_start old) old new
+
+area_words : (old new : List ℕ) (cs : List Chunk) (low high : ℕ) → Tiles old cs → WroteArea old new low high → low ≤ length old → HeadWords old new
+area_words old new cs low high t w inside = by_slot w.is_slot where
   there : area_start old ≤ low
   there = w.there
 
@@ -121,29 +128,93 @@ area_head old new cs low high t w inside = by_slot w.is_slot where
   head : (start end : ℕ) → end ≤ area_start old → (end ≤ w.slot) ⊎ ((w.slot + 4 ≤ start) × (end ≤ length w.mid)) → SameBetween start end old new
   head start end before apart = SameBetween-then start end old w.mid new (wrote_apart old w.mid low high start end w.area (inl (omega arith))) (wrote_apart w.mid new w.slot (w.slot + 4) start end w.word apart)
 
-  by_slot : (w.slot ≡ low) ⊎ IsSlot old w.slot → SameHead old new
-  by_slot (inl is) = record { len = w.word.len ∙ w.area.len; words = head 0 16 (omega arith) (inl (omega arith)); padding = head (head_end old) (area_start old) (omega arith) (inl (omega arith)) }
+  by_slot : (w.slot ≡ low) ⊎ IsSlot old w.slot → HeadWords old new
+  by_slot (inl is) = record { words = head 0 16 (omega arith) (inl (omega arith)); padding = head (table_end old) (area_start old) (omega arith) (inl (omega arith)) }
   by_slot (inr s) =
       let facts = slot_facts old cs w.slot t s in
       let low_slot = facts.low in
       record {
-        len = w.word.len ∙ w.area.len;
         words = head 0 16 (omega arith) (inl (omega arith));
-        padding = head (head_end old) (area_start old) (omega arith) (elim facts.in_head [ inl first ↦ inr (first, omega arith) | inr later ↦ inl (omega arith) ]);
+        padding = head (table_end old) (area_start old) (omega arith) (elim facts.in_head [ inl first ↦ inr (first, omega arith) | inr later ↦ inl (omega arith) ]);
       }
 
-pub area_replaces : (old new : List ℕ) (before mid others after : List Chunk) (at : ℕ) → Tiles old (before ++ (mid ++ after)) → at ≡ area_start old + total before → at + total mid ≤ length old → WroteArea old new at (at + total mid) → SpelledAll new at others (at + total mid)
-    → Replaces old new before mid others after at
-area_replaces old new before mid others after at t there inside w spelled =
+pub area_replaces : (old new : List ℕ) (before mid others after : List Chunk) (at : ℕ) → Tiles old (before ++ (mid ++ after)) → HoldNoSlots mid → at ≡ area_start old + total before → at + total mid ≤ length old → WroteArea old new at (at + total mid)
+    → SpelledAll new at others (at + total mid) → Replaces old new before mid others after at
+area_replaces old new before mid others after at t none there inside w spelled =
     let front_behind : before ++ (mid ++ after) ≡ (before ++ mid) ++ (after ++ []) = sym (append_assoc before mid after) ∙ ap (λ (cs : List Chunk). (before ++ mid) ++ cs) (sym (append-nil after)) in
     let sum = total-append before mid in
+    let front = area_again old new [] before (mid ++ after) (area_start old) at (at + total mid) t (omega arith) w (inl (omega arith)) in
+    let back = area_again old new (before ++ mid) after [] (at + total mid) at (at + total mid) (subst (λ (cs : List Chunk). Tiles old cs) front_behind t) (omega arith) w (inr (omega arith)) in
+    let words = area_words old new (before ++ (mid ++ after)) at (at + total mid) t w (omega arith) in
+    let len : length new ≡ length old = w.word.len ∙ w.area.len in
     record {
       there = there;
-      head = area_head old new (before ++ (mid ++ after)) at (at + total mid) t w (omega arith);
-      front = area_again old new [] before (mid ++ after) (area_start old) at (at + total mid) t (omega arith) w (inl (omega arith));
-      back = area_again old new (before ++ mid) after [] (at + total mid) at (at + total mid) (subst (λ (cs : List Chunk). Tiles old cs) front_behind t) (omega arith) w (inr (omega arith));
+      head = record {
+        len = len;
+        words = words.words;
+        padding = words.padding;
+        further = same_further old new (before ++ (mid ++ after)) t len (head_next old new words.words words.padding) (beside_chain old new before mid after at there t.area none front back);
+      };
+      front = front;
+      back = back;
+      none = none;
       spelled = spelled;
     }
+
+-- ---- writes within chunks that are no tables, whatever is spelled there now
+
+-- where a table among chunks that are spelled has its words
+table_inside : (image : List ℕ) (at end : ℕ) (table : Table) (cs : List Chunk) → AnyPlaced (TableHere table) at cs → SpelledAll image at cs end → (at + 8 ≤ table.place) × (table.place + 4 ≤ end)
+table_inside image at end table [] t s = absurd t
+table_inside image at end table (c ∷ cs) t s =
+    let ends = SpelledAll-end image (at + size_of c) cs end s.1 in
+    elim t [
+      | inl own ↦ by c own ends
+      | inr later ↦ let r = table_inside image (at + size_of c) end table cs later s.1 in let low = r.0 in (omega arith, r.1)
+    ] where
+      by : (d : Chunk) → TableHere table at d → end ≡ at + size_of d + total cs → (at + 8 ≤ table.place) × (table.place + 4 ≤ end)
+      by (free size) own e = absurd own
+      by (movable bytes lock owner named) own e = absurd own
+      by (fixed bytes owner) own e = let place = own.1 in let len = own.2 in (omega arith, omega arith)
+
+pub wrote_chain : (old new : List ℕ) (before mid after : List Chunk) (at : ℕ) → Tiles old (before ++ (mid ++ after)) → HoldNoSlots mid → at ≡ area_start old + total before → WroteWithin old new at (at + total mid) → SameChain old new (before ++ (mid ++ after))
+wrote_chain old new before mid after at t none there w table g =
+    let start : ℕ = area_start old in
+    let first = SpelledAll-split old start before (mid ++ after) (length old) t.area in
+    let second = SpelledAll-split old (start + total before) mid after (length old) first.1 in
+    elim (AnyPlaced-split (TableHere table) start before (mid ++ after) g) [
+      | inl front ↦
+          let r = table_inside old start (start + total before) table before front first.0 in
+          let low = r.0 in
+          let high = r.1 in
+          (wrote_word_apart old new at (at + total mid) (table.place - 8) w (inl (omega arith)), wrote_word_apart old new at (at + total mid) table.place w (inl (omega arith)))
+      | inr rest ↦ elim (AnyPlaced-split (TableHere table) (start + total before) mid after rest) [
+        | inl here ↦ absurd (no_table_here table (start + total before) mid none here)
+        | inr back ↦
+            let r = table_inside old (start + total before + total mid) (length old) table after back second.1 in
+            let low = r.0 in
+            let high = r.1 in
+            (wrote_word_apart old new at (at + total mid) (table.place - 8) w (inr (omega arith, omega arith)), wrote_word_apart old new at (at + total mid) table.place w (inr (omega arith, high)))
+      ]
+    ]
+
+-- the head is as it was, with all tables
+pub wrote_head : (old new : List ℕ) (before mid after : List Chunk) (at : ℕ) → Tiles old (before ++ (mid ++ after)) → HoldNoSlots mid → at ≡ area_start old + total before → WroteWithin old new at (at + total mid) → SameHead old new
+wrote_head old new before mid after at t none there w =
+    let words : SameBetween 0 16 old new = wrote_apart old new at (at + total mid) 0 16 w (inl (omega arith)) in
+    let padding : SameBetween (table_end old) (area_start old) old new = wrote_apart old new at (at + total mid) (table_end old) (area_start old) w (inl (omega arith)) in
+    record {
+      len = w.len;
+      words = words;
+      padding = padding;
+      further = same_further old new (before ++ (mid ++ after)) t w.len (head_next old new words padding) (wrote_chain old new before mid after at t none there w);
+    }
+
+-- so a slot can be written next
+pub table_kept : (old new : List ℕ) (before mid after : List Chunk) (at slot : ℕ) → Tiles old (before ++ (mid ++ after)) → HoldNoSlots mid → at ≡ area_start old + total before → WroteWithin old new at (at + total mid) → IsSlot old slot → TablesLie new × IsSlot new slot
+table_kept old new before mid after at slot t none there w s =
+    let same = wrote_head old new before mid after at t none there w in
+    (tables_lie old new w.len (head_tables old new same) (tiled_table old (before ++ (mid ++ after)) t), slot_there old new slot same s)
 
 -- ---- what slots hold
 

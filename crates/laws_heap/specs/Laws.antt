@@ -1,8 +1,11 @@
 -- What the definitions promise together: the statements of the laws.
-use Rattle.std.specs.Prelude.{◌≡◌, ◌≤◌, ◌<◌, ◌+◌, ◌%◌, ◌++◌, ◌↔◌, ℕ, Bool, List, ◌∷◌, length, count_by, true, Some, None}
+use Rattle.std.specs.Prelude.{◌≡◌, ◌≤◌, ◌<◌, ◌+◌, ◌%◌, ◌++◌, ◌↔◌, ℕ, Bool, List, ◌∷◌, length, count_by, true, false, Some, None}
 use Rattle.std.specs.Option.{is_none}
 use Rattle.heap_model.specs.Chunk.{Chunk, movable, need, Spelled}
-use Rattle.heap_model.specs.Slots.{IsSlot, slots_of, area_start}
+use Rattle.heap_model.specs.Frame.{most_size}
+use Rattle.heap_model.specs.Slots.{IsSlot, slots_of, tables_of, is_chained, area_start}
+use Rattle.heap_model.specs.MoreTables.{gained_count, GainsTable}
+use Rattle.heap_model.specs.Migration.{Migrates, MigratesBytes}
 use Rattle.heap_model.specs.Placed.{EveryOne}
 use Rattle.heap_model.specs.Heap.{Tiles, IsBody, Tied, HeapAccepted}
 use Rattle.heap_model.specs.Meaning.{ChunkMap, Holds}
@@ -109,12 +112,21 @@ OwnRoomCounts =
     (image : List ℕ) (before front : List Chunk) (bytes : List ℕ) (owner slot : ℕ) (back after : List Chunk) (size : ℕ) → HeapAccepted image → WholeStretch image before (front ++ movable bytes 0 owner slot ∷ back) after
     → ShortFor image slot size ↔ (Short image size × (room_of (front ++ back) + need (length bytes) < size))
 
--- where accepted heaps of one size, with the same slots, hold the same, as much is free in them
+-- where accepted heaps of one size, with the same tables, hold the same, as much is free in them
 abbrev pub HeldTellsFree : Type 0
 HeldTellsFree =
-    (image other : List ℕ) → HeapAccepted image → HeapAccepted other → length other ≡ length image → slots_of other ≡ slots_of image → ((name : ℕ) → held other name ≡ held image name)
+    (image other : List ℕ) → HeapAccepted image → HeapAccepted other → length other ≡ length image → tables_of other ≡ tables_of image → ((name : ℕ) → held other name ≡ held image name)
     → (free_total other ≡ free_total image) × (free_slots other ≡ free_slots image)
 
 -- a slot is empty where it names nothing
 abbrev pub SlotsAreNames : Type 0
 SlotsAreNames = (image : List ℕ) → HeapAccepted image → free_slots image ≡ count_by (λ slot. is_none (held image slot)) (slots_of image)
+
+-- a table that comes has 15 free slots, where each name stands for what it stood for
+abbrev pub GainedSlotsAreFree : Type 0
+GainedSlotsAreFree = (old new : List ℕ) (place : ℕ) → HeapAccepted old → GainsTable old new place → ((name : ℕ) → held new name ≡ held old name) → free_slots new ≡ free_slots old + gained_count
+
+-- An image with one table becomes one with a chain: where its bytes are as they are to be, it holds what the old one
+-- held, with the names of fixed chunks so much greater.
+abbrev pub BytesTellMigration : Type 0
+BytesTellMigration = (old new : List ℕ) (by : ℕ) → HeapAccepted old → is_chained old ≡ false → length new ≤ most_size → MigratesBytes old new by → Migrates old new by

@@ -1,6 +1,6 @@
 //! The laws, each as the promise of a function.
 
-ghost use Rattle.laws_heap.specs.Laws.{TiledOnce, ChunksAreRead, TilesAreRead, SlotsAreListed, AcceptanceIsDecided, TiesPairOneToOne, HoldsOneMap, ZeroNamesNothing, NeedIsWhole, LayoutTells, PackingIsPacked, PackedOnce, SlidingKeeps, PackingJoinsRooms, PackingMoves, OwnRoomCounts, HeldTellsFree, SlotsAreNames};
+ghost use Rattle.laws_heap.specs.Laws.{TiledOnce, ChunksAreRead, TilesAreRead, SlotsAreListed, AcceptanceIsDecided, TiesPairOneToOne, HoldsOneMap, ZeroNamesNothing, NeedIsWhole, LayoutTells, PackingIsPacked, PackedOnce, SlidingKeeps, PackingJoinsRooms, PackingMoves, OwnRoomCounts, HeldTellsFree, SlotsAreNames, GainedSlotsAreFree, BytesTellMigration};
 
 /// An image is tiled by one list of chunks at most.
 pub fn tiled_once()
@@ -93,4 +93,14 @@ pub fn held_tells_free()
 /// The free slots are those that name nothing.
 pub fn slots_are_names()
     ensures { SlotsAreNames }
+{}
+
+/// A table that comes has 15 free slots.
+pub fn gained_slots_are_free()
+    ensures { GainedSlotsAreFree }
+{}
+
+/// What an image with a chain of tables holds that an image with one table becomes can be told by its bytes.
+pub fn bytes_tell_migration()
+    ensures { BytesTellMigration }
 {}

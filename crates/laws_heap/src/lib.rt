@@ -12,6 +12,10 @@
 //! | `Shapes`, `Runs` | chunks that are read and chunks that are spelled, one or all from an offset on |
 //! | `Slots`, `Bodies` | slots by their number, and the two halves of the ties |
 //! | `FixedNames` | what the name of a fixed chunk is |
+//! | `AlikeTables`, `Relinked` | chunks that are the same but for what tables hold, and those that are where a word `next` was written |
+//! | `ChainReads`, `AddedTables` | the chain that is read, its last word `next`, and a table that is added behind it |
+//! | `MoreTables`, `CallFrames` | a table that is put into a free chunk and added: what the image holds then; and the frame that each call leaves |
+//! | `Migrations` | an image of the one layout that becomes one of the other |
 //! | `Accepted`, `Meanings` | the test of an accepted heap, and the map that it holds |
 //! | `FoundChunks` | the chunk that a name stands for, among the chunks |
 //! | `Lives` | what names stand for, and where, in lists that are put together |
@@ -43,8 +47,8 @@
 mod laws;
 
 pub use laws::{
-    acceptance_is_decided, chunks_are_read, held_tells_free, holds_one_map, layout_tells,
-    need_is_whole, own_room_counts, packed_once, packing_is_packed, packing_joins_rooms,
-    packing_moves, sliding_keeps, slots_are_listed, slots_are_names, tied_one_to_one, tiled_once,
-    tiles_are_read, zero_names_nothing,
+    acceptance_is_decided, bytes_tell_migration, chunks_are_read, gained_slots_are_free,
+    held_tells_free, holds_one_map, layout_tells, need_is_whole, own_room_counts, packed_once,
+    packing_is_packed, packing_joins_rooms, packing_moves, sliding_keeps, slots_are_listed,
+    slots_are_names, tied_one_to_one, tiled_once, tiles_are_read, zero_names_nothing,
 };

@@ -1,6 +1,6 @@
 -- Steps of calls on a store: what is left to show of one that asks, of one that is refused, and of one that
 -- changes the store.
-use Rattle.std.proofs.Common.{◌≡◌, Bool, true, false, cond, Result, Ok, Err, refl, sym, ap, subst, ◌∙◌, inl}
+use Rattle.std.proofs.Common.{◌≡◌, ℕ, ◌+◌, List, Bool, true, false, cond, Result, Ok, Err, refl, sym, ap, subst, ◌∙◌, arith, inl}
 use Rattle.std.specs.Prelude.{if◌then◌else◌, IsErr, IsErrAnd}
 use Rattle.std.specs.Bool.{OnTrue}
 use Rattle.heap_model.specs.Memory.{Memory}
@@ -9,13 +9,21 @@ use Rattle.heap_model.specs.Refusals.{FirstBrings}
 use Rattle.heap_model.specs.MemorySteps.{reply_of}
 use Rattle.heap_model.specs.StoreWords.{SameStore}
 use Rattle.heap_model.specs.EntrySteps.{LeavesStore}
-use Rattle.heap_model.specs.StoreSteps.{Call, StoreStep, may_slide, row_of, DoesInStore}
+use Rattle.heap_model.specs.StoreSteps.{Call, StoreStep, may_slide, row_of, LeavesSlots, DoesInStore}
+use Rattle.heap_model.specs.Slots.{slots_of}
+use Rattle.heap_model.specs.declared.call.MemoryCall.TheVariants.{MoreSlots}
+use Rattle.heap_model.specs.declared.call.Call.TheVariants as calls
 use Rattle.heap_model.specs.declared.call.Reply.{Reply}
 use Rattle.heap_model.specs.declared.call.Reply.TheVariants as replies
 use Rattle.heap_model.specs.declared.refusal.Refusal.{Refusal}
 
 pub same_store : (region : Memory) → SameStore (store_of region.bytes) (store_of region.bytes)
 same_store region = record { map = λ name. refl; databases = refl }
+
+-- no slot was made where the region is as it was
+none_made : (region : Memory) (call : Call) (reply : Reply) → StoreStep region call reply region → LeavesSlots call reply (slots_of region.bytes) (slots_of region.bytes)
+none_made region (calls.Memory MoreSlots) replies.Done s = let more = s.1.0.1 in absurd (omega arith)
+none_made region call reply s = refl
 
 -- a call that leaves the region does its step where the reply is right
 pub asks : (region : Memory) (call : Call) (reply : Reply) → Accepted region.bytes → StoreStep region call reply region → DoesInStore region call reply region
@@ -24,7 +32,7 @@ asks region call reply a step = record {
   step = step;
   accepted = a;
   len = refl;
-  count = refl;
+  slots = none_made region call reply step;
   directory = inl refl;
   still = λ name live held locked there. refl;
   asks = unchanged (row_of region call).only_asks;
@@ -47,15 +55,15 @@ pub handed_on : {A : Type 0} {old new : Memory} (f : A → Reply) (call : Call) 
 handed_on f call (Ok answer) is does = let no_error = is.0 in absurd cc
 handed_on {A} {old} {new} f call (Err refusal) is does = subst (λ (r : Refusal). DoesInStore old call (replies.Refused r) new) (sym is.1) does
 
--- a call that leaves some store
-pub changes : (old new : Memory) (call : Call) (reply : Reply) (store : Store) → Accepted old.bytes → LeavesStore old.bytes new.bytes store → StoreStep old call reply new → OnTrue (row_of old call).only_asks (new ≡ old)
+-- a call that leaves some store, and makes no slots
+pub changes : (old new : Memory) (call : Call) (reply : Reply) (store : Store) → ((slots : List ℕ) → LeavesSlots call reply slots slots) → Accepted old.bytes → LeavesStore old.bytes new.bytes store → StoreStep old call reply new → OnTrue (row_of old call).only_asks (new ≡ old)
     → new ≡ record old { bytes = new.bytes; slid = if may_slide call then new.slid else old.slid } → DoesInStore old call reply new
-changes old new call reply store a leaves step asks rest = record {
+changes old new call reply store none a leaves step asks rest = record {
   before = a;
   step = step;
   accepted = leaves.accepted;
   len = leaves.len;
-  count = leaves.count;
+  slots = subst (λ (slots : List ℕ). LeavesSlots call reply (slots_of old.bytes) slots) (sym leaves.slots) (none (slots_of old.bytes));
   directory = inl leaves.directory;
   still = leaves.still;
   asks = asks;

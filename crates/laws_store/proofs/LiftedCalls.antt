@@ -12,13 +12,14 @@ use Rattle.heap_model.specs.Maps.{updated, changed, made, not_owned, without_own
 use Rattle.heap_model.specs.Refusals.{NoneHolds}
 use Rattle.heap_model.specs.Steps.{Row, StepBy, becomes_named}
 use Rattle.heap_model.specs.MemorySteps.{MemoryCall, text_of, AsBefore, row_of, Does}
-use Rattle.heap_model.specs.declared.call.MemoryCall.TheVariants.{HandleNew, PtrNew, Free, Lock, Unlock, Size, Owner, Locks, Read, Write, Set, StrCopy, Resize, SetOwner, Recover, FreeByOwner, FreeBytes, LargestStretch, Compact}
+use Rattle.heap_model.specs.declared.call.MemoryCall.TheVariants.{HandleNew, PtrNew, Free, Lock, Unlock, Size, Owner, Locks, Read, Write, Set, StrCopy, Resize, SetOwner, Recover, FreeByOwner, FreeBytes, LargestStretch, Compact, MoreSlots}
 use Rattle.heap_model.specs.declared.call.Call.TheVariants as calls
 use Rattle.heap_model.specs.declared.call.Reply.{Reply}
 use Rattle.heap_model.specs.declared.call.Reply.TheVariants.{Refused, Done, Number, Named, Locked, Data, Database, Info, Made, Record, Resource}
 use Rattle.heap_model.specs.Store.{Store, owner_of, databases, Accepted, store_of}
 use Rattle.heap_model.specs.StoreSteps as store
 use Rattle.heap_model.specs.StoreSteps.{lifted, DoesInStore}
+use Rattle.laws_heap.proofs.CallFrames.{frames_head, frames_slots}
 use Rattle.laws_heap.proofs.Tests.{cond-false}
 use Rattle.laws_store.proofs.Counts.{has_databases, databases_are, accepted_with}
 use Rattle.laws_store.proofs.MemoryCalls.{known_owner, callers_owner, does_keeps}
@@ -111,6 +112,7 @@ effect_lifts old new (FreeByOwner owner) reply n p = λ q. ap (not_owned 0) (p q
 effect_lifts old new FreeBytes reply n p = stay_lifts (held old.bytes) (held new.bytes) p
 effect_lifts old new LargestStretch reply n p = stay_lifts (held old.bytes) (held new.bytes) p
 effect_lifts old new Compact reply n p = stay_lifts (held old.bytes) (held new.bytes) p
+effect_lifts old new MoreSlots reply n p = stay_lifts (held old.bytes) (held new.bytes) p
 
 -- a step on a map is one on a store, where its effect is
 step_lifts : (row : Row ChunkMap) (one other : Type 0) (was now : ChunkMap) (before after : Store) (reply : Reply) (region : Memory) → (one → other)
@@ -131,6 +133,7 @@ pub memory_call_steps : (old new : Memory) (call : MemoryCall) (reply : Reply) �
 unfolding store_of
 memory_call_steps old new call reply a d =
     let has = does_keeps old new call reply (databases old.bytes) d (has_databases old.bytes a) in
+    let head = frames_head call reply old.bytes new.bytes d.frame in
     let stored : databases new.bytes ≡ databases old.bytes = databases_are new.bytes (databases old.bytes) has in
     let same : AsBefore old new → store.StoreAsBefore old new = λ before. record {
       store = record { map = stay_lifts (held old.bytes) (held new.bytes) before.map; databases = stored };
@@ -142,9 +145,9 @@ memory_call_steps old new call reply a d =
       step = step_lifts (row_of old call) (AsBefore old new) (store.StoreAsBefore old new) (held old.bytes) (held new.bytes) (store_of old.bytes) (store_of new.bytes) reply new same
           (λ n p. (effect_lifts old new call reply n p, stored)) d.step;
       accepted = accepted_with new.bytes (databases old.bytes) has;
-      len = d.frame.len;
-      count = ap length d.frame.slots;
-      directory = inl d.frame.directory;
+      len = head.len;
+      slots = frames_slots call reply old.bytes new.bytes d.frame;
+      directory = inl head.directory;
       still = d.still;
       asks = d.asks;
       rest = d.rest;

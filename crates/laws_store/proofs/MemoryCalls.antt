@@ -10,12 +10,12 @@ use Rattle.heap_model.specs.Maps.{updated, changed, not_owned, callers_map}
 use Rattle.heap_model.specs.Refusals.{NoneHolds}
 use Rattle.heap_model.specs.Steps.{Row, StepBy}
 use Rattle.heap_model.specs.MemorySteps.{MemoryCall, Of, IsNoCaller, text_of, AsBefore, row_of, Does}
-use Rattle.heap_model.specs.Placing.{SameFrame}
-use Rattle.heap_model.specs.declared.call.MemoryCall.TheVariants.{HandleNew, PtrNew, Free, Lock, Unlock, Size, Owner, Locks, Read, Write, Set, StrCopy, Resize, SetOwner, Recover, FreeByOwner, FreeBytes, LargestStretch, Compact}
+use Rattle.heap_model.specs.declared.call.MemoryCall.TheVariants.{HandleNew, PtrNew, Free, Lock, Unlock, Size, Owner, Locks, Read, Write, Set, StrCopy, Resize, SetOwner, Recover, FreeByOwner, FreeBytes, LargestStretch, Compact, MoreSlots}
 use Rattle.heap_model.specs.declared.call.Reply.{Reply}
 use Rattle.heap_model.specs.declared.call.Reply.TheVariants.{Refused, Done, Number, Named, Locked, Data, Database, Info, Made, Record, Resource}
 use Rattle.heap_model.specs.Store.{StoredDatabase, owner_of, owner_under}
 use Rattle.heap_model.specs.Counts.{HasDatabases}
+use Rattle.laws_heap.proofs.CallFrames.{KeepsHead, frames_head}
 use Rattle.laws_heap.proofs.Tests.{cond-true, cond-false}
 use Rattle.laws_store.specs.Changes.{KeepsManagers}
 use Rattle.laws_store.proofs.KeptDatabases.{databases_kept}
@@ -45,7 +45,7 @@ kept-owner old new a e = record { managers = λ z. absurd (a z); owners = (λ z.
 Keeps : List ℕ → List ℕ → Type 0
 Keeps old new = (name : ℕ) → Kept (held old name) (held new name)
 
-managers_kept : (old new : List ℕ) → SameFrame old new → Keeps old new → KeepsManagers old new
+managers_kept : (old new : List ℕ) → KeepsHead old new → Keeps old new → KeepsManagers old new
 unfolding Keeps owner_under
 managers_kept old new frame k = record {
   heap = frame.accepted;
@@ -201,6 +201,7 @@ call_keeps old new (FreeByOwner owner) reply p = owners_gone old.bytes new.bytes
 call_keeps old new FreeBytes reply p = all_stay old.bytes new.bytes p.1.1
 call_keeps old new LargestStretch reply p = all_stay old.bytes new.bytes p.1.1
 call_keeps old new Compact reply p = all_stay old.bytes new.bytes p.1.1
+call_keeps old new MoreSlots reply p = all_stay old.bytes new.bytes p.1.1
 
 pub does_keeps : (old new : Memory) (call : MemoryCall) (reply : Reply) (stored : List StoredDatabase) → Does old call reply new → HasDatabases old.bytes stored → HasDatabases new.bytes stored
 unfolding Holds
@@ -209,4 +210,4 @@ does_keeps old new call reply stored d h =
       | inl before ↦ all_stay old.bytes new.bytes before.map
       | inr p ↦ call_keeps old new call reply p
     ] in
-    databases_kept old.bytes new.bytes stored h (managers_kept old.bytes new.bytes d.frame keeps)
+    databases_kept old.bytes new.bytes stored h (managers_kept old.bytes new.bytes (frames_head call reply old.bytes new.bytes d.frame) keeps)

@@ -19,9 +19,9 @@ use Rattle.heap_model.specs.Space.{rooms, free_slots, Short}
 use Rattle.heap_model.specs.Lists.{same, times, numbered, u32s_in}
 use Rattle.heap_model.specs.Rooms.{Lowers, makes, Stuck}
 use Rattle.byteorder.specs.Numbers.{big_from-take}
-use Rattle.laws_heap.proofs.Placed.{EveryPlaced-split}
+use Rattle.laws_heap.proofs.AlteredChunks.{finds_callers}
 use Rattle.laws_heap.proofs.FoundChunks.{read_heap, held_finds, finds_spelled}
-use Rattle.laws_heap.proofs.Slots.{same_number}
+use Rattle.laws_heap.proofs.SlotNumbers.{same_number}
 use Rattle.laws_heap.proofs.FixedNames.{fixed_live_is}
 use Rattle.laws_heap.proofs.SlidImages.{free_slots_held}
 use Rattle.laws_store.proofs.Numbers.{numbered_more, big_from-behind}
@@ -46,8 +46,7 @@ pub managers_loose : (image : List ℕ) (name : ℕ) (live : LiveChunk) → Heap
 managers_loose image name live h e own =
     let found = held_finds image name live h e in
     let f = found.finds in
-    let callers = (EveryPlaced-split IsCallersIfFixed (area_start image) f.before (found.chunk ∷ f.after) (subst (λ (cs : List Chunk). EveryPlaced IsCallersIfFixed (area_start image) cs) f.chunks (read_heap image h).fixed_are_callers)).1 in
-    loose_here image found.at name live found.chunk own f.named (subst (λ (n : ℕ). IsCallersIfFixed n found.chunk) (sym f.there) callers.0) (finds_spelled image name live found.chunk found.at h f)
+    loose_here image found.at name live found.chunk own f.named (finds_callers image name live found.chunk found.at h f) (finds_spelled image name live found.chunk found.at h f)
 
 -- ---- a slot more that is listed
 
@@ -154,9 +153,9 @@ once_there x done (y ∷ xs) one =
           omega arith
     ]
 
-one_slot : (image : List ℕ) (slot : ℕ) → times slot (slots_of image) ≤ 1
-one_slot image slot = once_there slot [] (slots_of image) (λ front rest fore rear a b.
-    same_number image slot (length front) (length fore) (record { front = front; rest = rest; parts = a; before = refl }) (record { front = fore; rest = rear; parts = b; before = refl }))
+one_slot : (image : List ℕ) (slot : ℕ) → HeapAccepted image → times slot (slots_of image) ≤ 1
+one_slot image slot h = once_there slot [] (slots_of image) (λ front rest fore rear a b.
+    same_number image h.0 slot (length front) (length fore) h.1.tiles (record { front = front; rest = rest; parts = a; before = refl }) (record { front = fore; rest = rear; parts = b; before = refl }))
 
 -- where one name alone stands for something else, at most one slot more was free
 pub slots_made : (old new : List ℕ) (name : ℕ) → HeapAccepted old → HeapAccepted new → slots_of new ≡ slots_of old → ((other : ℕ) → other ≢ name → held new other ≡ held old other) → free_slots old ≤ free_slots new + 1
@@ -164,5 +163,5 @@ slots_made old new name was is slots others =
     let before = free_slots_held old was in
     let after = free_slots_held new is ∙ ap (count_by (λ slot. is_none (held new slot))) slots in
     let apart = count_apart (λ slot. is_none (held old slot)) (λ slot. is_none (held new slot)) name (slots_of old) (λ x other. ap is_none (sym (others x other))) in
-    let once = one_slot old name in
+    let once = one_slot old name was in
     omega arith

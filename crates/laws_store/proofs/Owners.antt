@@ -8,7 +8,8 @@ use Rattle.heap_model.specs.Heap.{BodyHere, IsCallersIfFixed, ManagersHere, Heap
 use Rattle.heap_model.specs.Meaning.{LiveChunk, NamedHere}
 use Rattle.heap_model.specs.Reading.{chunks_of, held}
 use Rattle.heap_model.specs.Store.{owner_of, owner_under}
-use Rattle.laws_heap.proofs.Placed.{AnyPlaced-parts, AnyPlaced-mid, EveryPlaced-split}
+use Rattle.laws_heap.proofs.Placed.{AnyPlaced-parts, AnyPlaced-mid}
+use Rattle.laws_heap.proofs.AlteredChunks.{finds_callers}
 use Rattle.laws_heap.proofs.FixedNames.{fixed_live_is}
 use Rattle.laws_heap.proofs.FoundChunks.{read_heap, finds_held, held_finds}
 use Rattle.laws_heap.proofs.Meanings.{held-zero}
@@ -58,9 +59,8 @@ held_slot image slot live h e owner =
     let start : ℕ = area_start image in
     let here : ℕ = start + total f.before in
     let named : NamedHere slot live here found.chunk = subst (λ (n : ℕ). NamedHere slot live n found.chunk) f.there f.named in
-    let callers : EveryPlaced IsCallersIfFixed here (found.chunk ∷ f.after) =
-    (EveryPlaced-split IsCallersIfFixed start f.before (found.chunk ∷ f.after) (subst (λ (cs : List Chunk). EveryPlaced IsCallersIfFixed start cs) f.chunks heap.fixed_are_callers)).1 in
-    let body = owned_body slot live here found.chunk owner named callers.0 in
+    let callers : IsCallersIfFixed here found.chunk = subst (λ (n : ℕ). IsCallersIfFixed n found.chunk) f.there (finds_callers image slot live found.chunk found.at h f) in
+    let body = owned_body slot live here found.chunk owner named callers in
     let any : AnyPlaced (BodyHere slot (here + 8)) start (chunks_of image) = subst (λ (cs : List Chunk). AnyPlaced (BodyHere slot (here + 8)) start cs) (sym f.chunks) (AnyPlaced-mid (BodyHere slot (here + 8)) start f.before found.chunk f.after body) in
     ((heap.tied slot (here + 8) (omega arith)).1 any).0
 

@@ -14,12 +14,12 @@ use Rattle.heap_model.specs.Chunk.{Chunk, free, movable, fixed, need}
 use Rattle.heap_model.specs.Slots.{area_start}
 use Rattle.heap_model.specs.Heap.{HeapAccepted}
 use Rattle.heap_model.specs.Meaning.{LiveChunk, NamedHere}
-use Rattle.heap_model.specs.Reading.{chunks_of, live_under, held}
+use Rattle.heap_model.specs.Reading.{chunks_of, live_under, held, is_fixed_name}
 use Rattle.heap_model.specs.Space.{stays, NoneStays, onto_first, runs_between, has_chunk, stretches, room_of, rooms_of, rooms, with_freed, Short, ShortFor}
 use Rattle.heap_model.specs.Store.{bytes_of, bytes_under}
 use Rattle.heap_model.specs.Rooms.{is_movable_as, stretch_of, KeepsStretches, Lowers, Part, makes, grows, growth, rooms_for, Stuck}
 use Rattle.laws_heap.proofs.Tests.{none_some}
-use Rattle.laws_heap.proofs.FixedNames.{is_fixed_name, fixed_live_is}
+use Rattle.laws_heap.proofs.FixedNames.{fixed_live_is}
 use Rattle.laws_heap.proofs.FoundChunks.{held_finds}
 use Rattle.laws_heap.proofs.Exchanges.{named_beside}
 use Rattle.laws_heap.proofs.Slides.{none_stays-append}

@@ -1,16 +1,16 @@
 -- How many slots are empty.
-use Rattle.std.proofs.Common.{◌≡◌, ◌≢◌, ℕ, ◌+◌, ◌<◌, ◌≤◌, Bool, true, false, cond, List, [], ◌∷◌, ◌++◌, Option, Some, None, refl, sym, ap, ◌∙◌, arith}
+use Rattle.std.proofs.Common.{◌≡◌, ◌≢◌, ℕ, ◌+◌, ◌<◌, ◌≤◌, Bool, true, false, cond, List, [], ◌∷◌, ◌++◌, Option, Some, None, refl, sym, ap, ◌∙◌, arith, length-take}
 use Rattle.std.specs.Prelude.{◌==◌, count_by, sum_by, is_some, IfSome, IfNone}
 use Rattle.std.proofs.lemmas.Bool.{eq-eqb}
 use Rattle.std.proofs.lemmas.Bool.Decides.{nat_tests}
-use Rattle.std.proofs.lemmas.List.Sums.{sum_by_push, sum_by-append, sum_by-cons}
+use Rattle.std.proofs.lemmas.List.Sums.{sum_by_push, sum_by-append, sum_by-cons, count_by-le-length}
 use Rattle.heap_model.specs.Bytes.{u32_at}
-use Rattle.heap_model.specs.Slots.{slots_total, first_slots, StandsBehind}
+use Rattle.heap_model.specs.Slots.{slots_of, slots_total, first_slots, StandsBehind}
 use Rattle.heap_model.specs.Placed.{EveryOne}
 use Rattle.heap_model.specs.Space.{free_slots}
 use Rattle.laws_heap.proofs.Slots.{first_slots-more, first_slots-all, number_stands}
 use Rattle.master_table.specs.declared.table.EmptySlot.{EmptySlot}
-use Rattle.master_table.specs.Table.{IsEmptyAt, IsUsedAt, UsedBefore}
+use Rattle.master_table.specs.Table.{IsEmptyAt, IsUsedAt, UsedBefore, empty_before}
 
 -- 1 for an empty slot, 0 for one in use
 abbrev empty_of : List ℕ → ℕ → ℕ
@@ -21,10 +21,6 @@ empty_one image slot z = ap (λ (t : Bool). cond t 1 0) (eq-eqb (u32_at image sl
 
 used_none : (image : List ℕ) (slot : ℕ) → u32_at image slot ≢ 0 → empty_of image slot ≡ 0
 used_none image slot used = let b : (u32_at image slot == 0) ≡ false = grind (arith, nat_tests) in ap (λ (t : Bool). cond t 1 0) b
-
--- how many of the first so many slots are empty
-abbrev pub empty_before : List ℕ → ℕ → ℕ
-empty_before image count = count_by (λ slot. u32_at image slot == 0) (first_slots image count)
 
 one_more : (image : List ℕ) (slot k : ℕ) → StandsBehind image slot k → empty_before image (k + 1) ≡ empty_before image k + empty_of image slot
 one_more image slot k s = ap (count_by (λ slot. u32_at image slot == 0)) (first_slots-more image slot k s) ∙ sum_by_push (empty_of image) (first_slots image k) slot
@@ -67,3 +63,13 @@ counted_some image k count (Some free) e is counted = empty_more image free.name
 pub counted_none : (image : List ℕ) (k count : ℕ) (found : Option EmptySlot) → k < slots_total image → IfNone found (IsUsedAt image k) → is_some found ≡ false → count ≡ empty_before image k → count ≡ empty_before image (k + 1)
 counted_none image k count None below used is counted = let s = number_stands image k below in empty_same image s.0 k count s.1 counted (used s.0 s.1)
 counted_none image k count (Some free) below used is counted = absurd cc
+
+-- no more than there are
+pub empty_few : (image : List ℕ) (k : ℕ) → empty_before image k ≤ k
+empty_few image k =
+    let few = count_by-le-length (λ slot. u32_at image slot == 0) (first_slots image k) in
+    let most = length-take k (slots_of image) in
+    omega arith
+
+pub none_before : (image : List ℕ) → empty_before image 0 ≡ 0
+none_before image = refl

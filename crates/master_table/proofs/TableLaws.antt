@@ -1,24 +1,12 @@
 -- Slots by their numbers, and which of them are in use before and after a change.
-use Rattle.std.proofs.Common.{◌≡◌, ◌≢◌, ℕ, ◌+◌, ◌*◌, ◌<◌, ◌≤◌, List, take, sym, ap, subst, ◌∙◌, arith, inl, inr}
-use Rattle.std.specs.Prelude.{◌⊎◌}
+use Rattle.std.proofs.Common.{◌≡◌, ◌≢◌, ℕ, ◌+◌, ◌<◌, ◌≤◌, List, ◌++◌, take, sym, ap, subst, ◌∙◌, arith}
+use Rattle.std.proofs.lemmas.List.{take-append-le}
 use Rattle.heap_model.specs.Bytes.{u32_at}
 use Rattle.heap_model.specs.Slots.{IsSlot, slots_of, slots_total, first_slots, StandsBehind}
 use Rattle.heap_model.specs.Placed.{EveryOne}
-use Rattle.laws_heap.proofs.Slots.{length-slots_of, stands_number, stands_there, stands_below, slot_stands, stands_slot, number_stands, same_number, each_first_slot, every_first_slot, every_first-more}
+use Rattle.laws_heap.proofs.Slots.{stands_slot, number_stands, each_first_slot, every_first_slot, every_first-more}
 use Rattle.master_table.specs.declared.table.EmptySlot.{EmptySlot}
 use Rattle.master_table.specs.Table.{IsEmptyAt, IsUsedAt, UsedBefore, NotAmong, IsFirstEmpty}
-
--- the slot of a number, by its offset
-pub stands_at : (image : List ℕ) (slot k count : ℕ) → count ≡ slots_total image → k < count → slot ≡ 16 + 4 * k → StandsBehind image slot k
-stands_at image slot k count is below there = subst (λ (s : ℕ). StandsBehind image s k) (sym there) (stands_number image k (let total = length-slots_of image in omega arith))
-
--- no slot stands in front of the table, nor behind it
-pub none_outside : (image : List ℕ) (slot count : ℕ) → count ≡ slots_total image → (slot < 16) ⊎ (16 + 4 * count ≤ slot) → IsSlot image slot → ⊥
-none_outside image slot count is outside s =
-    let k = slot_stands image slot s in
-    let there = stands_there image slot k.0 k.1 in
-    let below = stands_below image slot k.0 k.1 in
-    elim outside [ inl low ↦ absurd (omega arith) | inr high ↦ absurd (omega arith) ]
 
 -- the first empty one, where those before it are in use
 pub first_empty : (image : List ℕ) (number : ℕ) (free : EmptySlot) → IsEmptyAt image number free → UsedBefore image number → IsFirstEmpty image free.name.0 free.before
@@ -39,16 +27,13 @@ used_fewer image count fewer most used =
 -- ---- names that are none of the first
 
 -- a name's slot is none of those before it, and a name that is no slot's is no slot
-pub not_among-number : (image : List ℕ) (count name before : ℕ) → (IsSlot image name → StandsBehind image name before) → count ≤ before → NotAmong image count name
-not_among-number image count name before there most =
-    every_first_slot (λ slot. slot ≢ name) image count (λ slot j s below same.
-    let stands : StandsBehind image name before = there (subst (λ (t : ℕ). IsSlot image t) same (stands_slot image slot j s)) in
-    let one = same_number image name j before (subst (λ (t : ℕ). StandsBehind image t j) same s) stands in
-    omega arith)
+pub not_among-number : (image : List ℕ) (count name : ℕ) → ((number : ℕ) → StandsBehind image name number → count ≤ number) → NotAmong image count name
+not_among-number image count name least =
+    every_first_slot (λ slot. slot ≢ name) image count (λ slot j s below same. let most = least j (subst (λ (t : ℕ). StandsBehind image t j) same s) in omega arith)
 
 -- an empty slot is none of those in use
 pub not_among-first_empty : (image : List ℕ) (slot before : ℕ) → IsFirstEmpty image slot before → NotAmong image before slot
-not_among-first_empty image slot before first = not_among-number image before slot before (λ slot. first.stands) (let same : before ≤ before = omega arith in same)
+not_among-first_empty image slot before first = every_first_slot (λ other. other ≢ slot) image before (λ other j s below same. each_first_slot (λ t. u32_at image t ≢ 0) image other j before s below first.used (ap (u32_at image) same ∙ first.empty))
 
 -- ---- after a change
 
@@ -56,6 +41,13 @@ not_among-first_empty image slot before first = not_among-number image before sl
 pub used_still : (old new : List ℕ) (count : ℕ) → slots_of new ≡ slots_of old → ((slot : ℕ) → IsSlot old slot → u32_at old slot ≢ 0 → u32_at new slot ≢ 0) → UsedBefore old count → UsedBefore new count
 used_still old new count slots each used =
     let as_old : first_slots new count ≡ first_slots old count = ap (λ (xs : List ℕ). take count xs) slots in
+    subst (λ (xs : List ℕ). EveryOne (λ slot. u32_at new slot ≢ 0) xs) (sym as_old)
+    (every_first_slot (λ slot. u32_at new slot ≢ 0) old count (λ slot j s below. each slot (stands_slot old slot j s) (each_first_slot (λ slot. u32_at old slot ≢ 0) old slot j count s below used)))
+
+-- Or where more stand behind all of them, and those that were in use are.
+pub used_more_slots : (old new : List ℕ) (count : ℕ) (more : List ℕ) → slots_of new ≡ slots_of old ++ more → count ≤ slots_total old → ((slot : ℕ) → IsSlot old slot → u32_at old slot ≢ 0 → u32_at new slot ≢ 0) → UsedBefore old count → UsedBefore new count
+used_more_slots old new count more slots few each used =
+    let as_old : first_slots new count ≡ first_slots old count = ap (λ (xs : List ℕ). take count xs) slots ∙ take-append-le count (slots_of old) more few in
     subst (λ (xs : List ℕ). EveryOne (λ slot. u32_at new slot ≢ 0) xs) (sym as_old)
     (every_first_slot (λ slot. u32_at new slot ≢ 0) old count (λ slot j s below. each slot (stands_slot old slot j s) (each_first_slot (λ slot. u32_at old slot ≢ 0) old slot j count s below used)))
 

@@ -1,18 +1,73 @@
 -- The table as a partial map from slots to places.
-use Rattle.std.specs.Prelude.{◌≡◌, ◌≢◌, ◌<◌, ℕ, List}
+use Rattle.std.specs.Prelude.{◌≡◌, ◌≢◌, ◌<◌, ◌+◌, ◌++◌, ◌∷◌, ◌==◌, ◌⊎◌, ℕ, false, List, length, count_by}
 use Rattle.heap_model.specs.Bytes.{u32_at}
 use Rattle.heap_model.specs.Placed.{EveryOne}
-use Rattle.heap_model.specs.Slots.{IsSlot, StandsBehind, slots_total, first_slots}
-use Rattle.master_table.specs.declared.slots.Table.{Table}
+use Rattle.heap_model.specs.Chunk.{Chunk}
+use Rattle.heap_model.specs.Slots.{Table, is_chained, slot_count, tables_within, slots_in_row, slots_further, slots_of, further_tables, IsSlot, StandsBehind, first_slots}
+use Rattle.heap_model.specs.Heap.{IsChain, Tiles}
+use Rattle.master_table.specs.declared.slots.Row.{Row}
+use Rattle.master_table.specs.declared.slots.TableStart.{TableStart}
+use Rattle.master_table.specs.declared.slots.OneTable.{OneTable}
 use Rattle.master_table.specs.declared.table.EmptySlot.{EmptySlot}
 
--- how many slots were read of a table
-abbrev pub slots_of : Table → ℕ
-slots_of table = table.count
+-- some chunks tile the image
+abbrev pub IsTiled : List ℕ → Type 0
+IsTiled image = (chunks : List Chunk) × Tiles image chunks
 
--- this is what was read of the table of an image
-abbrev pub IsTable : List ℕ → Table → Type 0
-IsTable image table = slots_of table ≡ slots_total image
+-- the tables from a word `next` on
+abbrev pub tables_from : List ℕ → ℕ → List Table
+tables_from image next = tables_within (length image) image next
+
+-- one of the further tables has its body at a place, and so many slots stand before its own
+pub record StartsFurther (image : List ℕ) (place before : ℕ) : Type 0 where
+  pub front : List Table
+  pub table : Table
+  pub rest : List Table
+  pub parts : further_tables image ≡ front ++ table ∷ rest
+  pub there : table.place ≡ place
+  pub count : before ≡ slot_count image + length (slots_further front)
+
+-- a table has its body at a place, the first where that is 0, and so many slots stand before its own
+abbrev pub StartsAt : List ℕ → ℕ → ℕ → Type 0
+StartsAt image place before = ((place ≡ 0) × (before ≡ 0)) ⊎ StartsFurther image place before
+
+-- so much is known of a table
+abbrev pub IsStart : List ℕ → TableStart → Type 0
+IsStart image start = StartsAt image start.place start.before
+
+-- how many slots stand in front of those of a row, and up to its last
+abbrev pub row_start : Row → ℕ
+row_start row = row.before
+
+abbrev pub row_end : Row → ℕ
+row_end row = row.before + row.count
+
+-- these are slots of the image in a row, with so many in front of them; those of the tables that a word
+-- `next` leads to are behind them
+pub record IsRow (image : List ℕ) (row : Row) : Type 0 where
+  pub front : List ℕ
+  pub parts : slots_of image ≡ front ++ (slots_in_row row.first row.count ++ slots_further (tables_from image row.next))
+  pub before : length front ≡ row.before
+  pub some : 0 < row.count
+  pub chain : (chunks : List Chunk) → Tiles image chunks → IsChain image chunks row.next (tables_from image row.next)
+  pub passed : List Table
+  pub tables : further_tables image ≡ passed ++ tables_from image row.next
+  pub numbers : row.before + row.count ≡ slot_count image + length (slots_further passed)
+  pub start : StartsAt image row.place row.before
+
+-- the row of the next table is directly behind another
+pub record Behind (image : List ℕ) (row other : Row) : Type 0 where
+  pub is_row : IsRow image other
+  pub start : row_start other ≡ row_end row
+  pub fewer : length (tables_from image other.next) < length (tables_from image row.next)
+
+-- how many slots were read of an only table
+abbrev pub count_of : OneTable → ℕ
+count_of table = table.count
+
+-- the image has no chain of tables, and this is what was read of its only one
+abbrev pub IsOneTable : List ℕ → OneTable → Type 0
+IsOneTable image table = (is_chained image ≡ false) × (count_of table ≡ slot_count image)
 
 -- a slot stands there, and holds this place
 pub record HoldsPlace (image : List ℕ) (slot place : ℕ) : Type 0 where
@@ -31,6 +86,10 @@ UsedBefore image count = EveryOne (λ slot. u32_at image slot ≢ 0) (first_slot
 -- the first so many slots are others than this name
 abbrev pub NotAmong : List ℕ → ℕ → ℕ → Type 0
 NotAmong image count name = EveryOne (λ slot. slot ≢ name) (first_slots image count)
+
+-- how many of the first so many slots are empty
+abbrev pub empty_before : List ℕ → ℕ → ℕ
+empty_before image count = count_by (λ slot. u32_at image slot == 0) (first_slots image count)
 
 -- the slot behind so many others is empty, and this is it
 pub record IsEmptyAt (image : List ℕ) (number : ℕ) (free : EmptySlot) : Type 0 where

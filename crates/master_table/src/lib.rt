@@ -1,14 +1,20 @@
-//! The master pointer table of a heap image: its slots, as a partial map from slots to places.
+//! The master pointer tables of a heap image: their slots, as a partial map from slots to places.
 //!
 //! A slot is a word of the table and is named by its offset, which is the handle of the chunk whose
 //! place it holds; an empty slot holds 0 (Palm OS Programmer's Companion, "Memory Architecture").
-//! Callers show that the table lies within the region. `specs/Table.antt` says what a slot holds.
+//! Callers show that some chunks tile the image, or that the tables lie within the region. `specs/Table.antt` says what a
+//! slot holds. `KnownTables` remembers further tables, so that a slot of theirs is found without a walk along the chain.
 #![tactic(auto)]
 
+mod chain;
+mod known;
 mod slots;
 mod table;
 
-pub use slots::Table;
+pub use chain::add_table;
+pub use known::KnownTables;
+pub use slots::{OneTable, Row, TableStart};
 pub use table::{
-    EmptySlot, clear, first_empty_slot, number_of, resolve, set, slots_before, slots_free, word_of,
+    EmptySlot, clear, first_empty_slot, least_number, resolve, resolve_known, set, slots_before,
+    slots_free, slots_total, word_of,
 };

@@ -1,37 +1,214 @@
-//! Slots by their numbers: how many stand before each.
+//! Slots in rows: those of the first table, and those of each further one along the chain.
 
-ghost use Rattle.std.specs.Prelude.{◌≡◌, ◌<◌, ℕ, List, IfSome, IfNone};
+ghost use Rattle.std.specs.Prelude.{◌≡◌, ◌≢◌, ◌<◌, ◌≤◌, ◌==◌, ℕ, List, IfSome, IfNone, false};
 ghost use Rattle.heap_model.specs.Frame.{HasFrame};
-ghost use Rattle.heap_model.specs.Slots.{IsSlot, StandsBehind};
+ghost use Rattle.heap_model.specs.Slots.{IsSlot, StandsBehind, StandsIn, slots_in_row, slots_total, is_chained};
+ghost use Rattle.master_table.specs.Table.{IsTiled, IsStart};
 
-use chunk_format::{FRAME_SIZE, SLOT_SIZE};
+use chunk_format::{
+    FRAME_SIZE, HEADER_SIZE, NEXT_SIZE, SLOT_SIZE, first_next, live_fields, slot_count,
+};
 use raw_region::Region;
 
-/// What an image says of its table, read once for a caller that asks often. It stays right while the
-/// frame does.
+/// Where a table stands: its place, or 0 for the first table, and how many slots stand before its own. What is known of
+/// one is right as long as the image has the same tables, or more.
+#[derive(Clone, Copy, Debug, PartialEq, Eq)]
+pub struct TableStart {
+    place: u32,
+    before: u32,
+}
+
+impl TableStart {
+    /// The first table.
+    pub fn first() -> TableStart
+        ensures { (image : List ℕ) → IsStart image result }
+    {
+        TableStart {
+            place: 0,
+            before: 0,
+        }
+    }
+}
+
+/// The slots of one table: its place, or 0 for the first table, the offset of its first slot, how many slots it has, how
+/// many come before them in the list, and the word `next` that leads to the next table, or 0.
 #[derive(Clone, Copy)]
-pub struct Table {
+pub struct Row {
+    place: u32,
+    first: u32,
+    count: u32,
+    before: u32,
+    next: u32,
+}
+
+impl Row {
+    ghost use Rattle.master_table.specs.Table.{IsRow, row_start, row_end, Behind};
+
+    /// The slots of the first table.
+    #[inline]
+    pub fn of(region: &Region) -> Row
+        requires tiled { IsTiled region.now.bytes }
+        ensures row { IsRow region.now.bytes result }
+        ensures start { row_start result ≡ 0 }
+    {
+        Row {
+            place: 0,
+            first: FRAME_SIZE,
+            count: slot_count(region) as u32,
+            before: 0,
+            next: first_next(region),
+        }
+    }
+
+    /// The slots of a table that stands somewhere in the chain.
+    #[inline]
+    pub(crate) fn at(region: &Region, start: TableStart) -> Row
+        requires tiled { IsTiled region.now.bytes }
+        requires start { IsStart region.now.bytes start }
+        ensures row { IsRow region.now.bytes result }
+        ensures start { row_start result ≡ start.before }
+    {
+        if start.place == 0 {
+            return Row::of(region);
+        }
+        let fields = live_fields(region, start.place - HEADER_SIZE);
+        Row {
+            place: start.place,
+            first: start.place + NEXT_SIZE,
+            count: (fields.length - NEXT_SIZE) / SLOT_SIZE,
+            before: start.before,
+            next: region.get_u32(start.place as usize),
+        }
+    }
+
+    /// Where their table stands.
+    #[inline]
+    pub(crate) fn table(self, region: &Region) -> TableStart
+        requires { IsRow region.now.bytes self }
+        ensures { IsStart region.now.bytes result }
+    {
+        TableStart {
+            place: self.place,
+            before: self.before,
+        }
+    }
+
+    /// How many slots stand in front of these in the list.
+    #[inline]
+    pub fn start(self) -> u32
+        ensures { result ≡ row_start self }
+    {
+        self.before
+    }
+
+    /// How many slots stand in the list up to the last of these.
+    #[inline]
+    pub fn end(self, region: &Region) -> u32
+        requires tiled { IsTiled region.now.bytes }
+        requires row { IsRow region.now.bytes self }
+        ensures { result ≡ row_end self }
+    {
+        self.before + self.count
+    }
+
+    /// Whether no table is behind.
+    #[inline]
+    pub fn is_last(self) -> bool
+        ensures { result ≡ (self.next == 0) }
+    {
+        self.next == 0
+    }
+
+    /// The slots of the table behind.
+    #[inline]
+    pub fn behind(self, region: &Region) -> Row
+        requires tiled { IsTiled region.now.bytes }
+        requires row { IsRow region.now.bytes self }
+        requires more { self.next ≢ 0 }
+        ensures { Behind region.now.bytes self result }
+    {
+        let fields = live_fields(region, self.next - HEADER_SIZE);
+        Row {
+            place: self.next,
+            first: self.next + NEXT_SIZE,
+            count: (fields.length - NEXT_SIZE) / SLOT_SIZE,
+            before: self.before + self.count,
+            next: region.get_u32(self.next as usize),
+        }
+    }
+
+    /// The slot before which so many stand in the list.
+    #[inline]
+    pub fn slot(self, region: &Region, number: u32) -> u32
+        requires tiled { IsTiled region.now.bytes }
+        requires row { IsRow region.now.bytes self }
+        requires from { row_start self ≤ number }
+        requires below { number < row_end self }
+        ensures { StandsBehind region.now.bytes result number }
+    {
+        self.first + SLOT_SIZE * (number - self.before)
+    }
+
+    /// How many slots stand in the list before the one at an offset, if it is one of these.
+    #[inline]
+    pub fn number(self, region: &Region, slot: u32) -> Option<u32>
+        requires tiled { IsTiled region.now.bytes }
+        requires row { IsRow region.now.bytes self }
+        ensures some { IfSome result (StandsBehind region.now.bytes slot) }
+        ensures none { IfNone result (StandsIn (slots_in_row self.first self.count) slot → ⊥) }
+    {
+        if slot < self.first || slot >= self.first + SLOT_SIZE * self.count {
+            return None;
+        }
+        if (slot - self.first) % SLOT_SIZE != 0 {
+            return None;
+        }
+        Some(self.before + (slot - self.first) / SLOT_SIZE)
+    }
+}
+
+/// How many slots stand in the list before the one at an offset, if one stands there. The tables are
+/// gone through up to the one that has it.
+pub(crate) fn find_number(region: &Region, slot: u32) -> Option<u32>
+    requires tiled { IsTiled region.now.bytes }
+    ensures some { IfSome result (StandsBehind region.now.bytes slot) }
+    ensures none { IfNone result (IsSlot region.now.bytes slot → ⊥) }
+{
+    let mut row = Row::of(region);
+    while !row.is_last() {
+        if let Some(number) = row.number(region, slot) {
+            return Some(number);
+        }
+        row = row.behind(region);
+    }
+    row.number(region, slot)
+}
+
+/// The slots of an image that has no chain of tables, read once for a caller that asks often.
+#[derive(Clone, Copy)]
+pub struct OneTable {
     count: u16,
 }
 
-impl Table {
-    ghost use Rattle.master_table.specs.Table.{IsTable, slots_of};
+impl OneTable {
+    ghost use Rattle.master_table.specs.Table.{IsOneTable, count_of};
 
     /// The table of an image.
     #[inline]
-    pub fn of(region: &Region) -> Table
-        requires { HasFrame region.now }
-        ensures { IsTable region.now.bytes result }
+    pub fn of(region: &Region) -> OneTable
+        requires frame { HasFrame region.now }
+        requires plain { is_chained region.now.bytes ≡ false }
+        ensures { IsOneTable region.now.bytes result }
     {
-        Table {
-            count: chunk_format::slot_count(region),
+        OneTable {
+            count: slot_count(region),
         }
     }
 
     /// How many slots there are.
     #[inline]
     pub fn count(self) -> u32
-        ensures { result ≡ slots_of self }
+        ensures { result ≡ count_of self }
     {
         self.count as u32
     }
@@ -39,8 +216,8 @@ impl Table {
     /// The slot before which so many stand, by its offset.
     #[inline]
     pub fn slot(self, number: u32) -> u32
-        requires { number < slots_of self }
-        ensures { (image : List ℕ) → IsTable image self → StandsBehind image result number }
+        requires { number < count_of self }
+        ensures { (image : List ℕ) → IsOneTable image self → StandsBehind image result number }
     {
         FRAME_SIZE + SLOT_SIZE * number
     }
@@ -48,11 +225,11 @@ impl Table {
     /// How many slots stand before the one at an offset, if one stands there.
     #[inline]
     pub fn number(self, slot: u32) -> Option<u32>
-        ensures below { IfSome result (λ number. number < slots_of self) }
+        ensures below { IfSome result (λ number. number < count_of self) }
         ensures some { IfSome result
-            (λ number. (image : List ℕ) → IsTable image self → StandsBehind image slot number) }
+            (λ number. (image : List ℕ) → IsOneTable image self → StandsBehind image slot number) }
         ensures none { IfNone result
-            ((image : List ℕ) → IsTable image self → IsSlot image slot → ⊥) }
+            ((image : List ℕ) → IsOneTable image self → IsSlot image slot → ⊥) }
     {
         if slot < FRAME_SIZE || slot >= FRAME_SIZE + SLOT_SIZE * self.count() {
             return None;

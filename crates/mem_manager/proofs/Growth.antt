@@ -33,6 +33,8 @@ use Rattle.heap_place.specs.Found.{IsFound, IsOne}
 use Rattle.heap_place.specs.Resizes.{TellsWhetherInPlace}
 use Rattle.heap_compact.specs.Resized.{Resized}
 use Rattle.master_table.proofs.TableLaws.{used_still}
+use Rattle.master_table.proofs.RowLaws.{starts_still}
+use Rattle.master_table.specs.declared.slots.TableStart.{TableStart}
 use Rattle.mem_manager.specs.Lookup.{IsManaged}
 use Rattle.mem_manager.proofs.StepWords.{known, of_known, not_of_known, is_known, refused, altered, stays_in_place, OnlyBytes}
 use Rattle.mem_manager.proofs.ChunkCalls.{lock_small}
@@ -194,11 +196,13 @@ resize_replied old new name size found (Err refusal) h f positive other loose do
     subst (λ (m : Memory). Does old (Resize name size) (Refused refusal) m) (sym same) (resize_refused old name size found refusal h f positive other loose (subst (λ (n : ℕ). BringsOne old n size refusal) f.name_is why))
 
 -- the same slots are in use
-pub used_resized : {names : List ℕ} (old new : List ℕ) (used name size : ℕ) → IsManaged old used names → Resized old new name size → IsManaged new used names
-used_resized old new used name size m r = record {
+pub used_resized : {start : TableStart} {freed : ℕ} {names : List ℕ} (old new : List ℕ) (used name size : ℕ) → IsManaged old used start freed names → Resized old new name size → IsManaged new used start freed names
+used_resized {start} {freed} old new used name size m r = record {
   accepted = r.frame.accepted;
   in_use = used_still old new used (frame_slots old new r.frame) (λ slot s some empty.
       some ((slot_unheld old slot m.accepted s).1 (was_none slot (sym (r.map slot) ∙ (slot_unheld new slot r.frame.accepted (slot_alike old new slot (frame_slots old new r.frame) s)).0 empty)))) m.in_use;
+  starts = starts_still old new start.place start.before r.frame.tables m.starts;
+  free = λ some. slot_alike old new freed (frame_slots old new r.frame) (m.free some);
   known = λ known is. subst IsSome (sym (r.map known)) (some_sized known (m.known known is));
 } where
   sized_one : LiveChunk → LiveChunk
@@ -224,6 +228,6 @@ used_resized old new used name size m r = record {
     | inr apart ↦ subst IsSome (sym (cond-false (other == name) _ _ (grind (arith, nat_tests)))) some
   ]
 
-pub used_replied : {A : Type 0} {names : List ℕ} (old new : Memory) (used name size : ℕ) (result : Result A Refusal) → IsManaged old.bytes used names → OnOk result (Resized old.bytes new.bytes name size) → OnErr result (new ≡ old) → IsManaged new.bytes used names
-used_replied {A} {names} old new used name size (Ok answer) m done same = used_resized old.bytes new.bytes used name size m done
-used_replied {A} {names} old new used name size (Err refusal) m done same = subst (λ (r : Memory). IsManaged r.bytes used names) (sym same) m
+pub used_replied : {A : Type 0} {start : TableStart} {freed : ℕ} {names : List ℕ} (old new : Memory) (used name size : ℕ) (result : Result A Refusal) → IsManaged old.bytes used start freed names → OnOk result (Resized old.bytes new.bytes name size) → OnErr result (new ≡ old) → IsManaged new.bytes used start freed names
+used_replied {A} {start} {freed} {names} old new used name size (Ok answer) m done same = used_resized old.bytes new.bytes used name size m done
+used_replied {A} {start} {freed} {names} old new used name size (Err refusal) m done same = subst (λ (r : Memory). IsManaged r.bytes used start freed names) (sym same) m

@@ -8,3 +8,4 @@ pub mod SlidChunks
 pub mod StoreCalls
 pub mod Growth
 pub mod ByteCalls
+pub mod MoreSlots

@@ -21,8 +21,8 @@ use Rattle.heap_model.specs.declared.call.MemoryCall.TheVariants.{HandleNew, Ptr
 use Rattle.heap_model.specs.declared.call.Reply.TheVariants.{Refused, Done, Named, Number}
 use Rattle.heap_model.specs.declared.refusal.Refusal.{Refusal}
 use Rattle.heap_model.specs.declared.refusal.Refusal.TheVariants.{OwnedByDatabase, ChunkLocked, NotEnoughSpace}
-use Rattle.master_table.specs.Table.{IsFirstEmpty, NotAmong, UsedBefore}
-use Rattle.master_table.proofs.TableLaws.{used_fewer, used_apart, used_set}
+use Rattle.master_table.specs.Table.{NotAmong, UsedBefore, IsStart}
+use Rattle.master_table.proofs.TableLaws.{used_fewer, used_apart}
 use Rattle.laws_heap.proofs.Tests.{cond-true, cond-false}
 use Rattle.laws_heap.proofs.Meanings.{held-is, empty_unheld}
 use Rattle.laws_heap.proofs.Accepted.{heap_of_read}
@@ -32,10 +32,14 @@ use Rattle.laws_heap.proofs.Spots.{claims_change, spot_unheld}
 use Rattle.laws_heap.proofs.OwnedChunks.{owned-merged, owned_held, owned_place}
 use Rattle.heap_place.specs.declared.found.Found.{Found}
 use Rattle.heap_place.specs.Found.{IsFound}
+use Rattle.heap_model.specs.Bytes.{u32_at}
+use Rattle.laws_heap.proofs.Slots.{slot_alike, each_first_slot, every_first_slot}
 use Rattle.laws_heap.proofs.SameLayouts.{frame_then, frame_slots}
 use Rattle.laws_heap.proofs.SlidImages.{slides_alike}
 use Rattle.laws_heap.proofs.LoweredRoom.{claimed_lowers}
-use Rattle.mem_manager.specs.Lookup.{IsManaged, MakesNew, HasNoRoomFor}
+use Rattle.master_table.proofs.RowLaws.{starts_still}
+use Rattle.master_table.specs.declared.slots.TableStart.{TableStart}
+use Rattle.mem_manager.specs.Lookup.{IsManaged, IsNextEmpty, IsSlotOrNone, MakesNew, HasNoRoomFor}
 use Rattle.mem_manager.proofs.SlidChunks.{BytesAndSlid, rest_then, held_then, still_then, first_slid, used_slid}
 use Rattle.mem_manager.proofs.StepWords.{known, of_known, not_of_known, is_known, refused, OnlyBytes, still_others, used_altered, with_names}
 use Rattle.mem_manager.specs.Known.{IsKnown, Remembers}
@@ -72,11 +76,13 @@ freed old new name found h f positive other unlocked ch rest = record {
   locks lock e l = let some = l.0 in let below = l.1 in unlocked (omega arith) (omega arith)
 
 -- the first so many slots are in use still, where the name's is not one of them
-pub used_freed : {names : List ℕ} (old new : List ℕ) (used fewer name : ℕ) (left : List ℕ) → IsManaged old used names → fewer ≤ used → NotAmong old fewer name → ((other : ℕ) → (IsKnown left other ↔ (IsKnown names other × (other ≢ name)))) → ChangesName old new name None None
-    → IsManaged new fewer left
-used_freed old new used fewer name left m most apart forgets ch = record {
+pub used_freed : {start : TableStart} {was freed : ℕ} {names : List ℕ} (old new : List ℕ) (used fewer name : ℕ) (left : List ℕ) → IsManaged old used start was names → IsSlotOrNone old freed → fewer ≤ used → NotAmong old fewer name → ((other : ℕ) → (IsKnown left other ↔ (IsKnown names other × (other ≢ name)))) → ChangesName old new name None None
+    → IsManaged new fewer start freed left
+used_freed {start} {was} {freed} old new used fewer name left m free most apart forgets ch = record {
   accepted = ch.frame.accepted;
   in_use = used_apart old new fewer name (frame_slots old new ch.frame) ch.slots apart (used_fewer old used fewer most m.in_use);
+  starts = starts_still old new start.place start.before ch.frame.tables m.starts;
+  free = λ some. slot_alike old new freed (frame_slots old new ch.frame) (free some);
   known = λ other is. let was = (forgets other).0 is in subst IsSome (sym (ch.others other was.1)) (m.known other was.0);
 }
 
@@ -120,14 +126,18 @@ new_changes old new at room size owner slot h r fits none x =
 
 -- ---- the slot of a new handle
 
-pub slot_unheld : (image : List ℕ) (slot before : ℕ) → HeapAccepted image → IsFirstEmpty image slot before → held image slot ≡ None
+pub slot_unheld : (image : List ℕ) (slot before : ℕ) → HeapAccepted image → IsNextEmpty image slot before → held image slot ≡ None
 slot_unheld image slot before h first =
     let heap = heap_of_read image h.0 h.1 in
     held-is image (chunks_of image) slot heap ∙ empty_unheld image (chunks_of image) slot heap first.is_slot first.empty
 
+-- it is none of those before it
+not_among-next : (image : List ℕ) (slot before : ℕ) → IsNextEmpty image slot before → NotAmong image before slot
+not_among-next image slot before next = every_first_slot (λ other. other ≢ slot) image before (λ other j s below same. each_first_slot (λ t. u32_at image t ≢ 0) image other j before s below next.used (ap (u32_at image) same ∙ next.empty))
+
 -- the slots before it stay in use
-pub used_made : (old new : List ℕ) (slot before : ℕ) (now : Option LiveChunk) (there : Option ℕ) → IsFirstEmpty old slot before → ChangesName old new slot now there → UsedBefore new before
-used_made old new slot before now there first ch = used_set old new slot before first (frame_slots old new ch.frame) ch.slots
+pub used_made : (old new : List ℕ) (slot before : ℕ) (now : Option LiveChunk) (there : Option ℕ) → IsNextEmpty old slot before → ChangesName old new slot now there → UsedBefore new before
+used_made old new slot before now there next ch = used_apart old new before slot (frame_slots old new ch.frame) ch.slots (not_among-next old slot before next) next.used
 
 -- and what is remembered stands for a chunk still
 some_made : (old : List ℕ) (made : LiveChunk) (name other : ℕ) → IsSome (held old other) → IsSome (updated (held old) name (Some made) other)
@@ -136,12 +146,18 @@ some_made old made name other some = elim (cases_eq other name) [
   | inr apart ↦ subst IsSome (sym (cond-false (other == name) _ _ (grind (arith, nat_tests)))) some
 ]
 
-pub managed_made : {names : List ℕ} (old new : List ℕ) (used before name size owner : ℕ) → IsManaged old used names → UsedBefore new before → MakesNew old new name size owner → IsManaged new before names
-managed_made old new used before name size owner m in_use made = record {
+pub managed_made : {start table : TableStart} {freed : ℕ} {names : List ℕ} (old new : List ℕ) (used before name size owner : ℕ) → IsManaged old used start freed names → UsedBefore new before → IsStart new table → MakesNew old new name size owner → IsManaged new before table freed names
+managed_made {start} {table} {freed} old new used before name size owner m in_use starts made = record {
   accepted = made.leaves.frame.accepted;
   in_use = in_use;
+  starts = starts;
+  free = λ some. slot_alike old new freed (frame_slots old new made.leaves.frame) (m.free some);
   known = λ other is. subst IsSome (sym (made.leaves.map other)) (some_made old _ name other (m.known other is));
 }
+
+-- the table of the slot is where it was
+pub start_made : (old new : List ℕ) (table : TableStart) (name size owner : ℕ) → IsStart old table → MakesNew old new name size owner → IsStart new table
+start_made old new table name size owner starts made = starts_still old new table.place table.before made.leaves.frame.tables starts
 
 -- ---- a new fixed chunk
 
@@ -185,24 +201,26 @@ owner_freed old new owner count h caller b counted rest = record {
 
 -- ---- where chunks of one stretch have slid before
 
-pub new_claimed : (old mid new : List ℕ) (at room size owner slot before : ℕ) → HeapAccepted old → SlidesOneStretch old mid → IsFirstEmpty old slot before → IsSpot mid at room → need size ≤ room → Claims mid new at room (movable (replicate size 0) 0 owner slot)
+pub new_claimed : (old mid new : List ℕ) (at room size owner slot before : ℕ) → HeapAccepted old → SlidesOneStretch old mid → IsNextEmpty old slot before → IsSpot mid at room → need size ≤ room → Claims mid new at room (movable (replicate size 0) 0 owner slot)
     → ChangesName mid new slot (Some (zeros size 0 owner)) (Some (at + 8))
 new_claimed old mid new at room size owner slot before h s first r fits x =
     new_changes mid new at room size owner slot s.becomes.frame.accepted r fits (slot_unheld mid slot before s.becomes.frame.accepted (first_slid old mid slot before h s first)) x
 
-pub new_unheld : (old mid : List ℕ) (slot before : ℕ) → HeapAccepted old → SlidesOneStretch old mid → IsFirstEmpty old slot before → held mid slot ≡ None
+pub new_unheld : (old mid : List ℕ) (slot before : ℕ) → HeapAccepted old → SlidesOneStretch old mid → IsNextEmpty old slot before → held mid slot ≡ None
 new_unheld old mid slot before h s first = slot_unheld mid slot before s.becomes.frame.accepted (first_slid old mid slot before h s first)
 
 -- one room is lower by what the chunk takes
-pub new_lowers : (old mid new : List ℕ) (at room size owner slot before : ℕ) → HeapAccepted old → SlidesOneStretch old mid → IsFirstEmpty old slot before → IsSpot mid at room → need size ≤ room → Claims mid new at room (movable (replicate size 0) 0 owner slot) → Lowers old new (need size)
+pub new_lowers : (old mid new : List ℕ) (at room size owner slot before : ℕ) → HeapAccepted old → SlidesOneStretch old mid → IsNextEmpty old slot before → IsSpot mid at room → need size ≤ room → Claims mid new at room (movable (replicate size 0) 0 owner slot) → Lowers old new (need size)
 new_lowers old mid new at room size owner slot before h s first r fits x =
     let takes : need (length (replicate {A = ℕ} size 0)) ≡ need size = ap need (length-replicate size 0) in
     subst (λ (taken : ℕ). Lowers old new taken) takes (claimed_lowers old mid new at room (replicate size 0) owner slot h s (slot_unheld old slot before h first) r (omega arith) x)
 
--- the slot that was found, of the region that is the heap's value
-pub as_first : (region read : Memory) (result : Option EmptySlot) (slot : EmptySlot) → read ≡ region → result ≡ Some slot → IfSome result (λ slot. IsFirstEmpty read.bytes slot.name.0 slot.before) → IsFirstEmpty region.bytes slot.name.0 slot.before
-as_first region read result slot same is first =
-    subst (λ (m : Memory). IsFirstEmpty m.bytes slot.name.0 slot.before) same (subst (λ (x : Option EmptySlot). IfSome x (λ slot. IsFirstEmpty read.bytes slot.name.0 slot.before)) is first)
+-- the slot that was found
+pub as_next : (image : List ℕ) (found : Option EmptySlot) (slot : EmptySlot) → found ≡ Some slot → IfSome found (λ slot. IsNextEmpty image slot.name.0 slot.before) → IsNextEmpty image slot.name.0 slot.before
+as_next image found slot is next = subst (λ (x : Option EmptySlot). IfSome x (λ slot. IsNextEmpty image slot.name.0 slot.before)) is next
+
+pub as_start : (image : List ℕ) (found : Option EmptySlot) (slot : EmptySlot) → found ≡ Some slot → IfSome found (λ slot. IsStart image slot.table) → IsStart image slot.table
+as_start image found slot is starts = subst (λ (x : Option EmptySlot). IfSome x (λ slot. IsStart image slot.table)) is starts
 
 pub ptr_unheld : (old mid : List ℕ) (at room size : ℕ) → SlidesOneStretch old mid → IsSpot mid at room → need size ≤ room → held mid (fixed_name at) ≡ None
 ptr_unheld old mid at room size s r fits = spot_unheld mid at room s.becomes.frame.accepted (omega arith) r
@@ -212,7 +230,7 @@ ptr_claimed old mid new at room size owner name is caller s r fits x =
     subst (λ (n : ℕ). ChangesName mid new n (Some (zeros size fixed_lock owner)) (Some (at + 8))) (fixed_place at ∙ sym is) (ptr_changes mid new at room size owner s.becomes.frame.accepted caller r fits x)
 
 -- the same slots are in use
-pub used_ptr : {names : List ℕ} (old mid new : List ℕ) (used at room size owner name : ℕ) (more : List ℕ) → IsManaged old used names → name ≡ at + 8 → Remembers names more name → (IsNoCaller owner → ⊥) → SlidesOneStretch old mid → IsSpot mid at room → need size ≤ room → Claims mid new at room (fixed (replicate size 0) owner) → IsManaged new used more
+pub used_ptr : {start : TableStart} {freed : ℕ} {names : List ℕ} (old mid new : List ℕ) (used at room size owner name : ℕ) (more : List ℕ) → IsManaged old used start freed names → name ≡ at + 8 → Remembers names more name → (IsNoCaller owner → ⊥) → SlidesOneStretch old mid → IsSpot mid at room → need size ≤ room → Claims mid new at room (fixed (replicate size 0) owner) → IsManaged new used start freed more
 used_ptr old mid new used at room size owner name more m is remembers caller s r fits x =
     let ch = ptr_changes mid new at room size owner s.becomes.frame.accepted caller r fits x in
     let now = used_altered mid new used (fixed_name at) _ _ (used_slid old mid used m s.becomes.frame (slides_alike old mid m.accepted s)) ch in

@@ -21,9 +21,10 @@ use Rattle.laws_heap.specs.Laws.{SlidAlike}
 use Rattle.laws_heap.proofs.Exchanges.{ChangesName}
 use Rattle.laws_heap.proofs.ChangedName.{held_updated}
 use Rattle.laws_heap.proofs.SlidImages.{packed_alike, slot_unheld, slides_alike, slides_move_one, changes_move_nothing, moves_then_nothing, nothing_moves_one, unmoved_bytes, moved_with}
-use Rattle.master_table.specs.Table.{IsFirstEmpty}
 use Rattle.master_table.proofs.TableLaws.{used_still}
-use Rattle.mem_manager.specs.Lookup.{IsManaged}
+use Rattle.master_table.proofs.RowLaws.{starts_still}
+use Rattle.master_table.specs.declared.slots.TableStart.{TableStart}
+use Rattle.mem_manager.specs.Lookup.{IsManaged, IsNextEmpty}
 use Rattle.mem_manager.proofs.StepWords.{OnlyBytes, none_there}
 
 -- of a region's value its bytes and the count of slid ones have changed
@@ -51,24 +52,24 @@ slots_slid old new slot h frame alike s =
     (λ e. is.1 (alike.holds slot ∙ was.0 e), λ e. was.1 (sym (alike.holds slot) ∙ is.0 e))
 
 -- the same slots are in use
-pub used_slid : {names : List ℕ} (old new : List ℕ) (used : ℕ) → IsManaged old used names → SameFrame old new → SlidAlike old new → IsManaged new used names
-used_slid old new used m frame alike = record {
+pub used_slid : {start : TableStart} {freed : ℕ} {names : List ℕ} (old new : List ℕ) (used : ℕ) → IsManaged old used start freed names → SameFrame old new → SlidAlike old new → IsManaged new used start freed names
+used_slid {start} {freed} old new used m frame alike = record {
   accepted = frame.accepted;
   in_use = used_still old new used (frame_slots old new frame) (λ slot s some empty. some ((slots_slid old new slot m.accepted frame alike s).1 empty)) m.in_use;
+  starts = starts_still old new start.place start.before frame.tables m.starts;
+  free = λ some. slot_alike old new freed (frame_slots old new frame) (m.free some);
   known = λ name is. subst IsSome (sym (alike.holds name)) (m.known name is);
 }
 
-pub used_compacted : {names : List ℕ} (old new : List ℕ) (used : ℕ) → IsManaged old used names → Becomes old new (packed (chunks_of old)) → IsManaged new used names
+pub used_compacted : {start : TableStart} {freed : ℕ} {names : List ℕ} (old new : List ℕ) (used : ℕ) → IsManaged old used start freed names → Becomes old new (packed (chunks_of old)) → IsManaged new used start freed names
 used_compacted old new used m b = used_slid old new used m b.frame (packed_alike old new m.accepted b)
 
 -- and the first empty one is the same
-pub first_slid : (old new : List ℕ) (slot before : ℕ) → HeapAccepted old → SlidesOneStretch old new → IsFirstEmpty old slot before → IsFirstEmpty new slot before
+pub first_slid : (old new : List ℕ) (slot before : ℕ) → HeapAccepted old → SlidesOneStretch old new → IsNextEmpty old slot before → IsNextEmpty new slot before
 first_slid old new slot before h s first =
     let alike = slides_alike old new h s in
     let frame = s.becomes.frame in
-    let stands = first.stands in
     record {
-      stands = record { front = stands.front; rest = stands.rest; parts = frame_slots old new frame ∙ stands.parts; before = stands.before };
       is_slot = slot_alike old new slot (frame_slots old new frame) first.is_slot;
       empty = (slots_slid old new slot h frame alike first.is_slot).0 first.empty;
       used = used_still old new before (frame_slots old new frame) (λ other t some empty. some ((slots_slid old new other h frame alike t).1 empty)) first.used;

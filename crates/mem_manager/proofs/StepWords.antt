@@ -21,7 +21,8 @@ use Rattle.laws_heap.proofs.Meanings.{held-is, empty_unheld}
 use Rattle.laws_heap.proofs.Slots.{slot_alike}
 use Rattle.laws_heap.proofs.Accepted.{heap_of_read}
 use Rattle.laws_heap.proofs.FoundChunks.{callers_some}
-use Rattle.laws_heap.proofs.SameLayouts.{same_frame, frame_slots}
+use Rattle.laws_heap.proofs.CallFrames.{frames_same}
+use Rattle.laws_heap.proofs.SameLayouts.{frame_slots}
 use Rattle.laws_heap.proofs.Exchanges.{ChangesName}
 use Rattle.laws_heap.proofs.ChangedName.{held_updated}
 use Rattle.laws_heap.proofs.SlidImages.{changes_move_nothing}
@@ -30,6 +31,8 @@ use Rattle.heap_place.proofs.FoundLaws.{name_held}
 use Rattle.heap_place.proofs.RelocateLaws.{one_placed}
 use Rattle.heap_place.specs.declared.found.Found.{Found}
 use Rattle.heap_place.specs.Found.{IsFound, IsOne}
+use Rattle.master_table.proofs.RowLaws.{starts_still}
+use Rattle.master_table.specs.declared.slots.TableStart.{TableStart}
 use Rattle.mem_manager.specs.Lookup.{IsManaged}
 use Rattle.mem_manager.specs.Known.{KnowsHeld}
 
@@ -71,7 +74,7 @@ pub unchanged : (region : Memory) (call : MemoryCall) (reply : Reply) → HeapAc
 unchanged region call reply h step = record {
   before = h;
   step = step;
-  frame = same_frame region.bytes h;
+  frame = frames_same region call reply h step;
   still = λ name live held_there locked there. refl;
   asks = asks_same (row_of region call).only_asks region;
   rest = nothing_slid (may_slide call) region;
@@ -95,7 +98,7 @@ handed_on {A} {inside} {value} {call} f result view is same does = subst (λ (m 
 pub none_there : {x : Option LiveChunk} → x ≡ None → IsSome x → ⊥
 none_there e some = let no : IsSome {T = LiveChunk} None = subst (λ (y : Option LiveChunk). IsSome y) e some in absurd cc
 
-still_unmoved : (old new : List ℕ) → MovesNothing old new → Still old new
+pub still_unmoved : (old new : List ℕ) → MovesNothing old new → Still old new
 still_unmoved old new nothing name live held_there locked there = nothing name (subst IsSome (sym held_there) refl) there
 
 pub still_others : (old new : List ℕ) (name : ℕ) (now : Option LiveChunk) (there : Option ℕ) → ChangesName old new name now there → (held old name ≡ None) ⊎ (now ≡ None) → Still old new
@@ -136,12 +139,12 @@ some_changed old new name now there ch other some = elim (cases_eq other name) [
 ]
 
 -- the same, where other names are remembered
-pub with_names : {names : List ℕ} (image : List ℕ) (used : ℕ) (more : List ℕ) → IsManaged image used names → KnowsHeld image more → IsManaged image used more
-with_names image used more m known = record { accepted = m.accepted; in_use = m.in_use; known = known }
+pub with_names : {start : TableStart} {freed : ℕ} {names : List ℕ} (image : List ℕ) (used : ℕ) (more : List ℕ) → IsManaged image used start freed names → KnowsHeld image more → IsManaged image used start freed more
+with_names image used more m known = record { accepted = m.accepted; in_use = m.in_use; starts = m.starts; free = m.free; known = known }
 
 -- the slots that are in use stay so where a name stands for something afterwards
-pub used_altered : {names : List ℕ} (old new : List ℕ) (used name : ℕ) (now : LiveChunk) (there : Option ℕ) → IsManaged old used names → ChangesName old new name (Some now) there → IsManaged new used names
-used_altered old new used name now there m ch = record {
+pub used_altered : {start : TableStart} {freed : ℕ} {names : List ℕ} (old new : List ℕ) (used name : ℕ) (now : LiveChunk) (there : Option ℕ) → IsManaged old used start freed names → ChangesName old new name (Some now) there → IsManaged new used start freed names
+used_altered {start} {freed} old new used name now there m ch = record {
   accepted = ch.frame.accepted;
   in_use = used_still old new used (frame_slots old new ch.frame) (λ slot s some empty. elim (cases_eq slot name) [
     | inl same ↦
@@ -151,5 +154,7 @@ used_altered old new used name now there m ch = record {
         absurd cc
     | inr apart ↦ some (sym (ch.slots slot s apart) ∙ empty)
   ]) m.in_use;
+  starts = starts_still old new start.place start.before ch.frame.tables m.starts;
+  free = λ some. slot_alike old new freed (frame_slots old new ch.frame) (m.free some);
   known = λ known is. some_changed old new name now there ch known (m.known known is);
 }

@@ -23,6 +23,8 @@ use Rattle.heap_place.proofs.FoundLaws.{name_held, bytes_inside}
 use Rattle.heap_place.specs.declared.found.Found.{Found}
 use Rattle.heap_place.specs.Found.{IsFound, IsOne, CanGoTo, SlidesWithin}
 use Rattle.heap_place.proofs.RelocateLaws.{found_held, one_placed}
+use Rattle.master_table.proofs.RowLaws.{starts_still}
+use Rattle.master_table.specs.declared.slots.TableStart.{TableStart}
 use Rattle.mem_manager.specs.Lookup.{IsManaged, IsMovable, StandsAs}
 use Rattle.mem_manager.proofs.StepWords.{one_of, none_there, still_others, altered}
 use Rattle.mem_manager.proofs.ChunkCalls.{body_there, write_changes}
@@ -166,9 +168,11 @@ slid_viewed region value new name found from to count same h f in_from in_to mad
     (leaves_slid region new name found from to count h f (subst (λ (m : Memory). from + count ≤ length (bytes_under m.bytes name)) (sym same) in_from) (subst (λ (m : Memory). to + count ≤ length (bytes_under m.bytes name)) (sym same) in_to) made)
 
 -- the same slots are in use where another directory is named
-pub used_named : {names : List ℕ} (old new : List ℕ) (used word : ℕ) → IsManaged old used names → NamesDirectory old new word → IsManaged new used names
-used_named old new used word m n = record {
+pub used_named : {start : TableStart} {freed : ℕ} {names : List ℕ} (old new : List ℕ) (used word : ℕ) → IsManaged old used start freed names → NamesDirectory old new word → IsManaged new used start freed names
+used_named {start} {freed} old new used word m n = record {
   accepted = n.accepted;
   in_use = used_still old new used (named_slots old new word n) (λ slot s some empty. some ((slot_unheld old slot m.accepted s).1 (sym (n.map slot) ∙ (slot_unheld new slot n.accepted (slot_alike old new slot (named_slots old new word n) s)).0 empty))) m.in_use;
+  starts = starts_still old new start.place start.before n.tables m.starts;
+  free = λ some. slot_alike old new freed (named_slots old new word n) (m.free some);
   known = λ name is. subst IsSome (sym (n.map name)) (m.known name is);
 }

@@ -1,5 +1,7 @@
 -- What a heap keeps beside its region, and which name has its chunk at a place.
-use Rattle.std.specs.Prelude.{◌≡◌, ◌≢◌, ◌⊎◌, ℕ, List, Some, None}
+use Rattle.std.specs.Prelude.{◌≡◌, ◌≢◌, ◌<◌, ◌⊎◌, ℕ, List, Some, None}
+use Rattle.heap_model.specs.Bytes.{u32_at}
+use Rattle.heap_model.specs.Slots.{IsSlot}
 use Rattle.heap_model.specs.Heap.{HeapAccepted}
 use Rattle.heap_model.specs.Meaning.{LiveChunk}
 use Rattle.heap_model.specs.Chunk.{fixed_lock, need}
@@ -9,15 +11,29 @@ use Rattle.heap_model.specs.Space.{place_of, free_slots, Short, NoRun, FitsInPla
 use Rattle.heap_model.specs.Leaving.{Leaves}
 use Rattle.heap_model.specs.Refusals.{Check}
 use Rattle.heap_model.specs.MemorySteps.{growth_checks}
-use Rattle.master_table.specs.Table.{UsedBefore}
+use Rattle.master_table.specs.Table.{UsedBefore, IsStart}
+use Rattle.master_table.specs.declared.slots.TableStart.{TableStart}
 use Rattle.heap_place.specs.declared.found.Found.{Found}
 use Rattle.heap_place.specs.Found.{IsFound}
 use Rattle.mem_manager.specs.Known.{KnowsHeld}
 
--- the heap is accepted, the first so many slots are in use, and the names that are remembered stand for chunks
-pub record IsManaged (image : List ℕ) (used : ℕ) (names : List ℕ) : Type 0 where
+-- an empty slot, where the first so many are in use
+pub record IsNextEmpty (image : List ℕ) (slot before : ℕ) : Type 0 where
+  pub is_slot : IsSlot image slot
+  pub empty : u32_at image slot ≡ 0
+  pub used : UsedBefore image before
+
+-- a slot is at an offset, unless that is 0
+abbrev pub IsSlotOrNone : List ℕ → ℕ → Type 0
+IsSlotOrNone image slot = 0 < slot → IsSlot image slot
+
+-- the heap is accepted, the first so many slots are in use, a table is where it is said to be, a slot that was freed is
+-- one, and the names that are remembered stand for chunks
+pub record IsManaged (image : List ℕ) (used : ℕ) (start : TableStart) (freed : ℕ) (names : List ℕ) : Type 0 where
   pub accepted : HeapAccepted image
   pub in_use : UsedBefore image used
+  pub starts : IsStart image start
+  pub free : IsSlotOrNone image freed
   pub known : KnowsHeld image names
 
 -- a name's chunk is a caller's, and has its body at this place

@@ -15,8 +15,9 @@ mod moving;
 
 use crate::known::KnownNames;
 use heap_check::{HeapFault, check_heap};
-use heap_model::Place;
+use heap_model::{Name, Place};
 use heap_place::Space;
+use master_table::TableStart;
 use raw_region::Region;
 use std::fmt;
 use std::marker::Model;
@@ -30,6 +31,11 @@ pub struct Heap {
     space: Space,
     /// The first so many slots are in use, so that no search for an empty one goes over them.
     used: u32,
+    /// The table that had the last empty slot. The next search begins there, or with the first table if a slot that is
+    /// among those before it may be empty.
+    start: TableStart,
+    /// The slot of a further table that was freed last, or 0. It is given out first if it is empty.
+    freed: Name,
     /// Names of fixed chunks that were found, so that they aren't looked for again.
     known: KnownNames,
 }
@@ -42,7 +48,7 @@ impl Model for Heap {
 
     ghost view = { λ heap. heap.space };
 
-    ghost invariant = { λ heap. IsManaged heap.space.bytes heap.used heap.known };
+    ghost invariant = { λ heap. IsManaged heap.space.bytes heap.used heap.start heap.freed.0 heap.known };
 }
 
 /// Where the body of a chunk is that was locked, and its lock count now.
@@ -79,8 +85,10 @@ impl Heap {
     {
         match check_heap(&region) {
             Ok(_) => Ok(Heap {
-                space: Space::new(region),
+                space: Space::of_heap(region),
                 used: 0,
+                start: TableStart::first(),
+                freed: Name(0),
                 known: KnownNames::none(),
             }),
             Err(fault) => Err(NotAHeap { fault, region }),

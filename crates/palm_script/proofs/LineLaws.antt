@@ -1,19 +1,26 @@
 -- Lines behind one another.
-use Rattle.std.proofs.Common.{◌≡◌, ℕ, ◌+◌, ◌<◌, ◌≤◌, arith, cond, List, [], ◌∷◌, ◌++◌, length, take, get_or, refl, sym, ap, ◌∙◌, subst, append_assoc, append-nil, add-one, take-suc, Option, Some, true}
+use Rattle.std.proofs.Common.{◌≡◌, ◌≢◌, ℕ, ◌+◌, ◌<◌, ◌≤◌, arith, cond, Bool, List, [], ◌∷◌, ◌++◌, length, take, get_or, refl, sym, ap, ◌∙◌, subst, append_assoc, append-nil, add-one, take-suc, Option, Some, None, true}
 use Rattle.std.proofs.lemmas.List.{take_all}
-use Rattle.std.specs.Prelude.{count_by, Err}
+use Rattle.std.specs.Option.{option_to_list}
+use Rattle.std.specs.Prelude.{count_by, Result, Ok, Err, IfOk, is_ok}
 use Rattle.std.proofs.lemmas.List.Sums.{sum_by-append, sum_by-take-le}
 use Rattle.std.proofs.lemmas.Option.{slice_get-get_or}
 use Rattle.std.proofs.KnownBytes.{Appends-trans}
 use Rattle.heap_model.specs.Memory.{Memory}
+use Rattle.heap_model.specs.StoreSteps.{Call, DoesInStore}
+use Rattle.heap_model.specs.declared.names.Name.{Name}
+use Rattle.heap_model.specs.declared.call.Call.TheVariants.{Memory as OnMemory}
+use Rattle.heap_model.specs.declared.call.MemoryCall.TheVariants as calls
+use Rattle.heap_model.specs.declared.refusal.Refusal.TheVariants.{OutOfMemory}
 use Rattle.palm_text.specs.Counted.{Writing, Writes}
 use Rattle.heap_model.specs.declared.call.Reply.{Reply}
-use Rattle.heap_model.specs.declared.call.Reply.TheVariants.{Data}
+use Rattle.heap_model.specs.declared.call.Reply.TheVariants.{Data, Refused}
 use Rattle.palm_text.specs.declared.output.WriteFault.{WriteFault}
 use Rattle.script_lines.specs.LineCounts.{is_export}
 use Rattle.script_lines.specs.declared.line.Line.{Line}
-use Rattle.script_lines.specs.declared.line.Line.TheVariants.{Export}
-use Rattle.script_calls.specs.Lines.{Bindings, BreaksOff, BreaksOffShort, DoesLine, LineStep, Lines, RunsThrough, RunsThroughShort, bound_after, exported, reply_line, unbound}
+use Rattle.script_lines.specs.declared.line.Line.TheVariants.{Bind, Print, Silent, BindChunk, BindDatabase, Import, Export}
+use Rattle.script_calls.specs.Movement.{Moves}
+use Rattle.script_calls.specs.Lines.{Bindings, BreaksOff, BreaksOffShort, DoesLine, LineStep, Lines, RunsThrough, RunsThroughShort, bound_after, bound_to, bound_to_database, call_of, chunk_in, database_in, exported, reply_line, unbound}
 
 -- ---- the lines up to one of them
 
@@ -36,6 +43,48 @@ room_is_left lines i line reply more used within here is below =
     let one : length more ≤ count_by is_export (line ∷ []) = rw (← is) (exports_one line reply) in
     let counted : count_by is_export (take (i + 1) lines) ≡ count_by is_export (take i lines) + count_by is_export (line ∷ []) = rw to_here (sum_by-append (λ l. cond (is_export l) 1 0) (take i lines) (line ∷ [])) in
     (omega (arith, one, counted), sum_by-take-le (λ l. cond (is_export l) 1 0) lines (i + 1))
+
+-- ---- a line that reads
+
+-- it binds nothing, as no chunk and no database is answered
+reads_unbound : (inputs : List (List ℕ)) (bound : Bindings) (line : Line) (name : Name) (at count : ℕ) (reply : Reply) → call_of inputs bound line ≡ OnMemory (calls.Read name at count) → chunk_in reply ≡ None → database_in reply ≡ None → bound ≡ bound_after bound line reply
+reads_unbound inputs bound (Bind label slot) name at count reply e chunk database = absurd cc
+reads_unbound inputs bound (Print call) name at count reply e chunk database = refl
+reads_unbound inputs bound (Silent call) name at count reply e chunk database = refl
+reads_unbound inputs bound (BindChunk label call) name at count reply e chunk database = sym (ap (bound_to bound label.0) chunk)
+reads_unbound inputs bound (BindDatabase label call) name at count reply e chunk database = sym (ap (bound_to_database bound label.0) database)
+reads_unbound inputs bound (Import label file) name at count reply e chunk database = absurd cc
+reads_unbound inputs bound (Export label) name at count reply e chunk database = absurd cc
+
+-- and exports nothing
+reads_alone : (inputs : List (List ℕ)) (bound : Bindings) (line : Line) (name : Name) (at count : ℕ) (reply : Reply) → call_of inputs bound line ≡ OnMemory (calls.Read name at count) → exported line reply ≡ []
+reads_alone inputs bound (Bind label slot) name at count reply e = refl
+reads_alone inputs bound (Print call) name at count reply e = refl
+reads_alone inputs bound (Silent call) name at count reply e = refl
+reads_alone inputs bound (BindChunk label call) name at count reply e = refl
+reads_alone inputs bound (BindDatabase label call) name at count reply e = refl
+reads_alone inputs bound (Import label file) name at count reply e = refl
+reads_alone inputs bound (Export label) name at count reply e = absurd cc
+
+none_exported : (files : List (List ℕ)) (answer : Result (Option (List ℕ)) WriteFault) → files ≡ [] → IfOk answer (λ file. file ≡ None) → IfOk answer (λ file. files ≡ option_to_list file)
+none_exported files (Ok file) e none = e ∙ sym (ap option_to_list none)
+none_exported files (Err fault) e none = tt
+
+pub reads_line : {W short : Type 0} (contents : W → Option (List ℕ)) (inputs : List (List ℕ)) (line : Line) (old : Memory) (bound : Bindings) (out mid after : Writing W) (name : Name) (at count : ℕ) (reply : Reply) (answer : Result (Option (List ℕ)) WriteFault) (printed : Bool) (new : Memory)
+    → call_of inputs bound line ≡ OnMemory (calls.Read name at count) → new ≡ old → DoesInStore new (OnMemory (calls.Read name at count)) reply new → reply ≢ Refused OutOfMemory → chunk_in reply ≡ None → database_in reply ≡ None → Writes contents out mid (reply_line line reply) printed
+    → after ≡ mid → printed ≡ is_ok answer → IfOk answer (λ file. file ≡ None) → DoesLine short contents inputs line old bound out new bound after answer
+reads_line {W} contents inputs line old bound out mid after name at count reply answer printed new e same does wanted chunk database wrote to_after is none = record {
+  reply = reply;
+  step = record {
+    does = subst (λ (m : Memory). DoesInStore m (call_of inputs bound line) reply new) same (subst (λ (call : Call). DoesInStore new call reply new) (sym e) does);
+    moves = subst (λ (call : Call). Moves old call new) (sym e) tt;
+    takes_no_memory = λ may. wanted;
+    no_memory = λ refused. absurd (wanted refused);
+  };
+  binds = reads_unbound inputs bound line name at count reply e chunk database;
+  written = subst (λ (w : Writing W). Writes contents out w (reply_line line reply) (is_ok answer)) (sym to_after) (subst (λ (b : Bool). Writes contents out mid (reply_line line reply) b) is wrote);
+  file = none_exported (exported line reply) answer (reads_alone inputs bound line name at count reply e) none;
+}
 
 -- ---- one line more
 

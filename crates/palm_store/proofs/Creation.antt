@@ -55,7 +55,7 @@ header_put old mid new slot bytes h l w long =
     record {
       accepted = w.frame.accepted;
       len = w.frame.len ∙ l.len;
-      count = ap length w.frame.slots ∙ l.count;
+      slots = w.frame.slots ∙ l.slots;
       still = still_through old mid new l.still w.still (λ name live e locked. l.others name (λ same_slot. fresh_there (held old name) live e (ap (held old) same_slot ∙ l.fresh))
           (λ directory. elim l.directory [
             | inl stays ↦ (let was : name ≡ directory_of old = directory ∙ stays in let some = l.some in absurd (loose_directory name live e locked was (omega arith)))
@@ -257,7 +257,7 @@ created old new db name kind creator resources date a l fits few free rest =
       step = ((λ not_name. not_name fits.name, (free, ((λ many. below_most old.bytes room many), (tt, tt)))), (l.fresh, has.same));
       accepted = has.accepted;
       len = l.len;
-      count = l.count;
+      slots = l.slots;
       directory = elim l.directory [ inl stays ↦ inl stays | inr begins ↦ inr (begins.0, tt) ];
       still = l.still;
       asks = tt;
@@ -279,7 +279,7 @@ not_created old new name kind creator resources date refusal a named few free la
       step = (inr (λ not_name. not_name named, inr (free, inr ((λ many. below_most old.bytes room many), inl (lacks, is)))), record { store = has.same; free = as_much.0; slots = as_much.1 });
       accepted = has.accepted;
       len = l.frame.len;
-      count = ap length l.frame.slots;
+      slots = l.frame.slots;
       directory = inl l.frame.directory;
       still = l.still;
       asks = tt;

@@ -1,16 +1,14 @@
 -- Chunks for data: callers may name them, and they are movable.
-use Rattle.std.proofs.Common.{◌≡◌, ◌≢◌, ℕ, ◌<◌, List, ◌∷◌, Option, Some, None, refl, sym, ap, subst, ◌∙◌, arith}
+use Rattle.std.proofs.Common.{◌≡◌, ◌≢◌, ℕ, ◌<◌, List, Option, Some, None, refl, ap, ◌∙◌, arith}
 use Rattle.heap_model.specs.Chunk.{Chunk, free, movable, fixed, fixed_lock, Spelled, data_owner}
 use Rattle.heap_model.specs.Heap.{HeapAccepted, IsCallersIfFixed, directory_of}
-use Rattle.heap_model.specs.Placed.{EveryPlaced}
-use Rattle.heap_model.specs.Slots.{area_start}
 use Rattle.heap_model.specs.Meaning.{LiveChunk, NamedHere}
 use Rattle.heap_model.specs.Reading.{held}
 use Rattle.heap_model.specs.Maps.{callers_map}
 use Rattle.heap_model.specs.Store.{owner_of, owner_under}
-use Rattle.laws_heap.proofs.Placed.{EveryPlaced-split}
+use Rattle.laws_heap.proofs.AlteredChunks.{finds_callers}
 use Rattle.laws_heap.proofs.FixedNames.{fixed_live_is}
-use Rattle.laws_heap.proofs.FoundChunks.{read_heap, held_finds, finds_spelled, callers_some}
+use Rattle.laws_heap.proofs.FoundChunks.{held_finds, finds_spelled, callers_some}
 use Rattle.mem_manager.specs.Lookup.{IsMovable}
 use Rattle.laws_store.proofs.Owners.{directory_owner}
 
@@ -45,11 +43,10 @@ pub data_movable : (image : List ℕ) (name : ℕ) → HeapAccepted image → Is
 data_movable image name h d =
     let found = held_finds image name d.live h d.there in
     let f = found.finds in
-    let callers = (EveryPlaced-split IsCallersIfFixed (area_start image) f.before (found.chunk ∷ f.after) (subst (λ (cs : List Chunk). EveryPlaced IsCallersIfFixed (area_start image) cs) f.chunks (read_heap image h).fixed_are_callers)).1 in
     record {
       live = d.live;
       is_held = d.there;
-      movable = not_fixed image found.at name d.live found.chunk d.own f.named (subst (λ (n : ℕ). IsCallersIfFixed n found.chunk) (sym f.there) callers.0) (finds_spelled image name d.live found.chunk found.at h f);
+      movable = not_fixed image found.at name d.live found.chunk d.own f.named (finds_callers image name d.live found.chunk found.at h f) (finds_spelled image name d.live found.chunk found.at h f);
     }
 
 -- it isn't the directory

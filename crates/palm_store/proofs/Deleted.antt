@@ -131,7 +131,7 @@ deleted old mid new db index a has at free l u =
       step = ((is_there old.bytes db.0 has, ((λ locked. free (names_locked old.bytes db has locked)), tt)), (tt, left.same));
       accepted = left.accepted;
       len = u.len ∙ l.frame.len;
-      count = u.count ∙ ap length l.frame.slots;
+      slots = u.slots ∙ l.frame.slots;
       directory = inl (u.directory ∙ l.frame.directory);
       still = still_left old.bytes mid.bytes new.bytes (went one) index a.heap l u;
       asks = tt;
@@ -147,7 +147,7 @@ not_deleted old db a has locked =
       step = (inr (is_there old.bytes db.0 has, inl (named, refl)), record { store = record { map = λ name. refl; databases = refl }; free = refl; slots = refl });
       accepted = a;
       len = refl;
-      count = refl;
+      slots = refl;
       directory = inl refl;
       still = λ name live e locked there. refl;
       asks = tt;

@@ -82,7 +82,7 @@ set_step old new db info a s rest =
       step = ((λ none. (let apart = sym found ∙ none in absurd cc), (λ no_name. no_name name, (s.free, tt))), (tt, has.same));
       accepted = has.accepted;
       len = s.leaves.frame.len;
-      count = ap length s.leaves.frame.slots;
+      slots = s.leaves.frame.slots;
       directory = inl s.leaves.frame.directory;
       still = s.leaves.still;
       asks = tt;

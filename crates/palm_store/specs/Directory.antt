@@ -3,20 +3,20 @@
 use Rattle.std.specs.Prelude.{◌≡◌, ◌≢◌, ◌<◌, ◌+◌, ◌*◌, ◌++◌, ◌⊎◌, ℕ, List, length, take, drop, None, Some}
 use Rattle.heap_model.specs.Bytes.{u32_bytes}
 use Rattle.heap_model.specs.Chunk.{need, managers_owner}
-use Rattle.heap_model.specs.Slots.{slots_total, slot_size}
+use Rattle.heap_model.specs.Slots.{slots_of, slot_size}
 use Rattle.heap_model.specs.Heap.{HeapAccepted, directory_of}
 use Rattle.heap_model.specs.Reading.{held}
 use Rattle.heap_model.specs.Space.{Still, ShortFor}
 use Rattle.heap_model.specs.Store.{directory_bytes}
 use Rattle.mem_manager.specs.Lookup.{HasNoRoomFor}
 
--- The new image is an accepted heap of the same length with as many slots, whose directory lists this slot
+-- The new image is an accepted heap of the same length with the same slots, whose directory lists this slot
 -- behind those of the old one. The directory is the same chunk, or one is made where there was none; every
 -- other name stands for what it stood for. No chunk that stays has moved.
 pub record ListsLast (old new : List ℕ) (slot : ℕ) : Type 0 where
   pub accepted : HeapAccepted new
   pub len : length new ≡ length old
-  pub count : slots_total new ≡ slots_total old
+  pub slots : slots_of new ≡ slots_of old
   pub still : Still old new
   pub some : 0 < directory_of new
   pub directory : (directory_of new ≡ directory_of old) ⊎ ((directory_of old ≡ 0) × (held old (directory_of new) ≡ None))
@@ -28,7 +28,7 @@ pub record ListsLast (old new : List ℕ) (slot : ℕ) : Type 0 where
 pub record ListsNew (old new : List ℕ) (slot : ℕ) (bytes : List ℕ) : Type 0 where
   pub accepted : HeapAccepted new
   pub len : length new ≡ length old
-  pub count : slots_total new ≡ slots_total old
+  pub slots : slots_of new ≡ slots_of old
   pub still : Still old new
   pub some : 0 < directory_of new
   pub directory : (directory_of new ≡ directory_of old) ⊎ ((directory_of old ≡ 0) × (held old (directory_of new) ≡ None))
@@ -44,13 +44,13 @@ HasNoRoomToList image =
     ((directory_of image ≡ 0) × HasNoRoomFor image slot_size)
     ⊎ ((0 < directory_of image) × ShortFor image (directory_of image) (need (length (directory_bytes image) + slot_size)))
 
--- The new image is an accepted heap of the same length with as many slots, and the directory is the same
+-- The new image is an accepted heap of the same length with the same slots, and the directory is the same
 -- chunk. It has the bytes of the old one but the four of the slot at this index. Every other name stands for
 -- what it stood for, and no chunk that stays has moved.
 pub record Unlists (old new : List ℕ) (index : ℕ) : Type 0 where
   pub accepted : HeapAccepted new
   pub len : length new ≡ length old
-  pub count : slots_total new ≡ slots_total old
+  pub slots : slots_of new ≡ slots_of old
   pub directory : directory_of new ≡ directory_of old
   pub still : Still old new
   pub others : (name : ℕ) → name ≢ directory_of old → held new name ≡ held old name

@@ -4,7 +4,7 @@ use Rattle.std.specs.Prelude.{◌≡◌, ◌≢◌, ◌≤◌, ◌<◌, ◌+◌,
 use Rattle.std.specs.List.{AllZip, filter_map}
 use Rattle.heap_model.specs.Chunk.{data_owner, managers_owner}
 use Rattle.heap_model.specs.Bytes.{u32_bytes}
-use Rattle.heap_model.specs.Slots.{slots_total}
+use Rattle.heap_model.specs.Slots.{slots_of}
 use Rattle.heap_model.specs.Heap.{HeapAccepted, directory_of}
 use Rattle.heap_model.specs.Meaning.{ChunkMap}
 use Rattle.heap_model.specs.Reading.{held}
@@ -127,13 +127,13 @@ pub record GainsWhole (old new : Store) (db : ℕ) (info : DbInfo) (blocks : Blo
   pub map : GainsZeros old.map new.map (data_sizes blocks entries) names
 
 -- The call has made the database, and may have made the directory for it. The image is accepted, as long as
--- before and with as many slots. No chunk that was locked or fixed has moved.
+-- before and with the same slots. No chunk that was locked or fixed has moved.
 pub record MakesWhole (old new : List ℕ) (db : ℕ) (info : DbInfo) (blocks : BlockSizes) (entries : List WholeEntry) (names : List ℕ) : Type 0 where
   pub accepted : Accepted new
   pub gains : GainsWhole (store_of old) (store_of new) db info blocks entries names
   pub fresh : held old db ≡ None
   pub len : length new ≡ length old
-  pub count : slots_total new ≡ slots_total old
+  pub slots : slots_of new ≡ slots_of old
   pub directory : (directory_of new ≡ directory_of old) ⊎ (directory_of old ≡ 0)
   pub still : Still old new
 
@@ -172,14 +172,14 @@ pub record MakesAll (old new : List ℕ) (sizes : List (Option ℕ)) (names : Li
   pub stretches : KeepsStretches old new
   pub slots : free_slots old ≤ free_slots new + length (makings sizes)
 
--- The new image is an accepted heap of the same length with as many slots, whose directory lists this slot
+-- The new image is an accepted heap of the same length with the same slots, whose directory lists this slot
 -- behind those of the old one; it is the same chunk, or one is made where there was none. The slot stood for
 -- nothing, and is the name of a chunk of the manager's with these bytes now. Chunks for data of these sizes
 -- were made, and every other name stands for what it stood for. No chunk that stays has moved.
 pub record ListsWhole (old new : List ℕ) (slot : ℕ) (bytes : List ℕ) (sizes : List (Option ℕ)) (names : List ℕ) : Type 0 where
   pub accepted : HeapAccepted new
   pub len : length new ≡ length old
-  pub count : slots_total new ≡ slots_total old
+  pub slots : slots_of new ≡ slots_of old
   pub still : Still old new
   pub some : 0 < directory_of new
   pub directory : (directory_of new ≡ directory_of old) ⊎ ((directory_of old ≡ 0) × (held old (directory_of new) ≡ None))

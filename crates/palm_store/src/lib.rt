@@ -20,6 +20,7 @@ mod store;
 
 pub use databases::{BlockSizes, WholeEntry};
 pub use entries::{EntryInfo, FoundEntry, NewEntry};
+pub use heap_migration::MigrateFault;
 pub use locks::is_locked;
 pub use mem_manager::{FIXED_LOCK, Found, Locked, check_owner};
 pub use opening::{

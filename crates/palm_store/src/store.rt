@@ -1,7 +1,7 @@
 //! The store. Its calls stand in the modules below: those of the memory manager, that ask, that change a
-//! chunk where it stands, and that make, free and move chunks; those on databases and on their info blocks; those
-//! on entries, for the crates of records and resources; and those that make a whole database, fill its data and
-//! read it, for the crate of files.
+//! chunk where it stands, and that make, free and move chunks; the one that gives a store a chain of tables; those on
+//! databases and on their info blocks; those on entries, for the crates of records and resources; and those that make
+//! a whole database, fill its data and read it, for the crate of files.
 
 ghost use Rattle.std.specs.Prelude.{◌≡◌, ◌⊎◌, is_ok, IfOk, IfErr, OnOk};
 ghost use Rattle.heap_model.specs.Store.{Accepted};
@@ -17,6 +17,7 @@ mod databases;
 mod entries;
 mod files;
 mod making;
+mod migrating;
 mod whole;
 
 use crate::entries::{KnownIds, NOTHING_KNOWN};
@@ -73,8 +74,8 @@ impl fmt::Debug for NotAStore {
 
 impl Store {
     /// Takes a region that is an accepted image, and hands back any other. Takes memory for the check: a
-    /// mark for each slot, and then a bit for each number up to the greatest ID, 32 KiB at least and 2 MiB at
-    /// most; it is free again afterwards.
+    /// mark for each slot, or with a chain of tables two for each word of the image, and then a bit for each
+    /// number up to the greatest ID, 32 KiB at least and 2 MiB at most; it is free again afterwards.
     pub fn check(alloc: Global, region: Region) -> Result<Store, NotAStore>
         ensures accepted { OnOk result (Accepted region.bytes) }
         ensures same { IfOk result (λ store. store ≡ region) }
@@ -100,11 +101,19 @@ impl Store {
             error.fault ≡ StoreFault.OutOfMemory → A.is_short memory.now) }
     {
         match check_store_from(memory, &region) {
-            Ok(_) => Ok(Store {
-                heap: Heap::of_accepted(region),
-                known: NOTHING_KNOWN,
-            }),
+            Ok(_) => Ok(Store::of_accepted(region)),
             Err(fault) => Err(NotAStore { fault, region }),
+        }
+    }
+
+    /// Takes a region whose caller knows that it is an accepted image, without a look at it.
+    pub(crate) fn of_accepted(region: Region) -> Store
+        requires accepted { Accepted region.bytes }
+        ensures same { result ≡ region }
+    {
+        Store {
+            heap: Heap::of_accepted(region),
+            known: NOTHING_KNOWN,
         }
     }
 

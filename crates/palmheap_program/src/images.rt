@@ -1,10 +1,11 @@
-//! The commands `new` and `check`.
+//! The commands `new`, `check` and `migrate`.
 
 ghost use Rattle.std.specs.Prelude.{◌≢◌};
 
 use crate::commands::{check_region_from, cmd_new_from};
 use crate::faults::{STANDARD_OUTPUT, fail};
 use crate::files::read_image;
+use crate::migrate_command::migrate_region_from;
 use palm_text::Counted;
 use program_io::{Noted, OutputFile, Status, report_outcome};
 use std::io;
@@ -45,5 +46,30 @@ pub(crate) fn check<R: Files + Print + Eprint + AllocGlobal>(rt: &R, path: &str)
     let status = check_region_from(&rt.alloc(), &image, &mut out);
     let (_, fault) = out.into_inner().into_parts();
     report_outcome(rt, status, &[(STANDARD_OUTPUT, fault)]);
+    status
+}
+
+/// Runs `migrate`.
+pub(crate) fn migrate<R: Files + Print + Eprint + AllocGlobal>(
+    rt: &R,
+    image: &str,
+    path: &str,
+) -> Status
+    ensures { result ≢ Status.BadWords }
+{
+    let image = match read_image(rt, image) {
+        Ok(image) => image,
+        Err(status) => return status,
+    };
+    let Ok(image_out) = OutputFile::new(rt, path) else {
+        return fail(rt, Status::NoMemory);
+    };
+    let mut image_out = Counted::new(Noted::new(image_out));
+    let mut out = Counted::new(Noted::new(io::writer(rt)));
+    let status = migrate_region_from(&rt.alloc(), image, &mut image_out, &mut out);
+    let (image_out, image_fault) = image_out.into_inner().into_parts();
+    image_out.close();
+    let (_, fault) = out.into_inner().into_parts();
+    report_outcome(rt, status, &[(path, image_fault), (STANDARD_OUTPUT, fault)]);
     status
 }

@@ -13,10 +13,11 @@
 //! |---|---|
 //! | `commands` | the commands `new` and `check`, over bytes |
 //! | `run_command` | the command `run`: a script, run on an image |
+//! | `migrate_command` | the command `migrate`: an image gets a chain of tables |
 //! | `image_output` | images that are written |
 //! | `words` | takes the words of the command line |
 //! | `requests` | does what they ask for, and answers those that ask for no command |
-//! | `images` | the commands `new` and `check`, over files |
+//! | `images` | the commands `new`, `check` and `migrate`, over files |
 //! | `scripts` | the command `run`, over files |
 //! | `files` | reads and writes files |
 //! | `faults` | says what kept a command from its start |
@@ -27,12 +28,14 @@ mod faults;
 mod files;
 mod image_output;
 mod images;
+mod migrate_command;
 mod requests;
 mod run_command;
 mod scripts;
 mod words;
 
 pub use commands::{check_region_from, cmd_check, cmd_check_from, cmd_new, cmd_new_from};
+pub use migrate_command::{cmd_migrate, cmd_migrate_from, migrate_region_from};
 pub use requests::run;
 pub use run_command::{cmd_run, cmd_run_from, run_region_from};
 pub use words::read_words;

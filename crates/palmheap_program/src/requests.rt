@@ -4,7 +4,7 @@ ghost use Rattle.std.specs.Prelude.{◌≡◌, ◌≢◌, ◌⊎◌};
 ghost use Rattle.clap.specs.Values.{kind_of};
 
 use crate::faults::{STANDARD_OUTPUT, fail};
-use crate::images::{check, new};
+use crate::images::{check, migrate, new};
 use crate::scripts::run_script;
 use clap::error::ErrorKind;
 use program_io::command_line::{self, Request};
@@ -27,6 +27,7 @@ pub fn run<R: Files + Print + Eprint + AllocGlobal>(rt: &R, words: &[String]) ->
                 files,
             },
         ) => run_script(rt, image, script, out, files.as_slice()),
+        Ok(Request::Migrate { image, out }) => migrate(rt, image, out),
         Err(error) => answer(rt, &error),
     }
 }

@@ -2,9 +2,9 @@
 use Rattle.std.proofs.Common.{◌≡◌, ◌≢◌, ℕ, zero, suc, ◌+◌, ◌<◌, ◌≤◌, Bool, true, false, cond, Option, Some, None, List, [], ◌∷◌, length, get_or, map, refl, sym, ap, subst, arith, length-append, inl, inr}
 use Rattle.std.proofs.lemmas.Bool.{cases_eq, ne_eqb}
 use Rattle.std.proofs.lemmas.List.Sums.{sum_by-cons, sum_by-le, sum_by-le-sum_by, get_or-le-sum_by}
-use Rattle.std.specs.Prelude.{◌==◌}
+use Rattle.std.specs.Prelude.{◌==◌, ◌&&◌, nat_lt}
 use Rattle.std.specs.List.{Contains, sum_by, flat_map}
-use Rattle.heap_model.specs.Chunk.{Chunk, free, movable, fixed, fixed_lock, need, total, data_owner}
+use Rattle.heap_model.specs.Chunk.{Chunk, free, movable, fixed, fixed_lock, need, total, managers_owner, data_owner}
 use Rattle.heap_model.specs.Slots.{area_start}
 use Rattle.heap_model.specs.Heap.{HeapAccepted}
 use Rattle.heap_model.specs.Meaning.{LiveChunk, ChunkMap}
@@ -91,6 +91,35 @@ first_sizes (suc q) live others names once =
     sum_once (suc q) (length live.bytes) (size_in (with_first (suc q) live others)) (size_in others) (first_size (suc q) live others (suc q))
     (λ name ne. other_size (suc q) live others name (λ some. ne)) names (once (suc q) (omega arith))
 
+-- a map in which one chunk more has a name, if it has one
+abbrev named_if : ℕ → Bool → LiveChunk → ChunkMap → ChunkMap
+named_if q has_name live others name = cond ((q == name) && has_name) (Some live) (others name)
+
+if_named : (here : Bool) (live : LiveChunk) (other : Option LiveChunk) → length (bytes_of (cond (here && true) (Some live) other)) ≤ length (bytes_of (cond here (Some live) other))
+if_named true live other = omega arith
+if_named false live other = omega arith
+
+if_not_named : (here : Bool) (live : LiveChunk) (other : Option LiveChunk) → length (bytes_of (cond (here && false) (Some live) other)) ≤ length (bytes_of other)
+if_not_named true live other = omega arith
+if_not_named false live other = omega arith
+
+named_size : (q : ℕ) (live : LiveChunk) (others : ChunkMap) (name : ℕ) → size_in (named_if q true live others) name ≤ size_in (with_first q live others) name
+named_size q live others zero = omega arith
+named_size q live others (suc name) = if_named (q == suc name) live (others (suc name))
+
+unnamed_size : (q : ℕ) (live : LiveChunk) (others : ChunkMap) (name : ℕ) → size_in (named_if q false live others) name ≤ size_in others name
+unnamed_size q live others zero = omega arith
+unnamed_size q live others (suc name) = if_not_named (q == suc name) live (others (suc name))
+
+named_sizes : (q : ℕ) (has_name : Bool) (live : LiveChunk) (others : ChunkMap) (names : List ℕ) → NamesOnce names → sum_by (size_in (named_if q has_name live others)) names ≤ length live.bytes + sum_by (size_in others) names
+named_sizes q true live others names once =
+    let less = sum_by-le-sum_by (size_in (named_if q true live others)) (size_in (with_first q live others)) names (named_size q live others) in
+    let most = first_sizes q live others names once in
+    omega arith
+named_sizes q false live others names once =
+    let less = sum_by-le-sum_by (size_in (named_if q false live others)) (size_in others) names (unnamed_size q live others) in
+    omega arith
+
 nothing_size : (at name : ℕ) → size_in (live_under at []) name ≤ 0
 nothing_size at zero = omega arith
 nothing_size at (suc name) = omega arith
@@ -113,7 +142,7 @@ sizes_under at (fixed bytes owner ∷ cs) names once =
     let next : ℕ = at + need (length bytes) in
     let rest = sizes_under next cs names once in
     let live : LiveChunk = record { bytes = bytes; lock = fixed_lock; owner = owner } in
-    let both : sum_by (size_in (live_under at (fixed bytes owner ∷ cs))) names ≤ length bytes + sum_by (size_in (live_under next cs)) names = first_sizes (at + 8) live (live_under next cs) names once in
+    let both : sum_by (size_in (live_under at (fixed bytes owner ∷ cs))) names ≤ length bytes + sum_by (size_in (live_under next cs)) names = named_sizes (at + 8) (nat_lt managers_owner owner) live (live_under next cs) names once in
     omega arith
 
 -- ---- in an image

@@ -25,6 +25,10 @@ pub enum Request<'a> {
         /// The files that lines of the script import, in order.
         files: Vec<&'a str>,
     },
+    Migrate {
+        image: &'a str,
+        out: &'a str,
+    },
 }
 
 /// A command: its word, its help, and its arguments in order.
@@ -54,7 +58,7 @@ enum Count {
 }
 
 /// Every command.
-const COMMANDS: [CommandRow; 3] = [
+const COMMANDS: [CommandRow; 4] = [
     CommandRow {
         name: "new",
         about: "Writes an image with nothing in it, and prints 'ok'",
@@ -115,6 +119,20 @@ const COMMANDS: [CommandRow; 3] = [
             },
         ],
     },
+    CommandRow {
+        name: "migrate",
+        about: "Gives an image a chain of tables, and prints 'ok'",
+        after_help: Some(MIGRATION),
+        arguments: &[
+            IMAGE,
+            Argument {
+                name: "OUT",
+                count: Count::One,
+                values: ValueParser::String,
+                help: "File for the new image. One that is there is replaced, once the image is whole",
+            },
+        ],
+    },
 ];
 
 const IMAGE: Argument = Argument {
@@ -136,13 +154,20 @@ movable chunks, and a directory lists them.
 Exit status:
   0  done
   1  the image or the script was refused; standard output says why: 'bad' and the first fault
-     in the image, or 'line', the number of the first faulty line and what is wrong in it
+     in the image, or 'bad TooLarge' if 'migrate' would make it too large, or 'line', the number of
+     the first faulty line and what is wrong in it
   2  the words were refused, or there is no image of that SIZE with that many SLOTS
   3  a file could not be read or written, or is longer than 16777216 bytes; or standard output
      could not be written
   4  there was not enough memory
 On 3 and 4 the first line on standard error is 'fault read', 'fault write' or 'fault memory'; behind
 the first two a second line names the file and says why.";
+
+const MIGRATION: &str = "\
+An image that 'new' writes has one table, and when its slots are in use no more chunks can be movable.
+With a chain of tables the script line 'moreslots' adds 15 slots. With an even number of slots the image
+grows by 8 bytes, and the names of fixed chunks are greater by 8. All else is kept. An image that has a
+chain of tables is written as it is.";
 
 const SCRIPTS: &str = "\
 A script is a text of lines. Each is a call of the memory manager, on databases, on their records, their
@@ -157,7 +182,7 @@ A database goes by a label of its own, which 'create', 'find', 'nth' and 'import
   lock A, unlock A    size A, owner A, locks A
   read A AT COUNT     write A AT HEX      set A AT COUNT BYTE
   strcopy A AT \"TEXT\"                   freeowner OWNER
-  freebytes           largest, compact
+  freebytes           largest, compact    moreslots
 
   create D \"NAME\" \"TYPE\" \"CREATOR\" RESOURCES DATE
   find D \"NAME\"       nth D INDEX         dbcount
@@ -223,6 +248,7 @@ fn requested<'a>(
         Some(("new", given)) => Ok(new_requested(given)),
         Some(("check", given)) => Ok(check_requested(given)),
         Some(("run", given)) => run_requested(alloc, given),
+        Some(("migrate", given)) => Ok(migrate_requested(given)),
         _ => Ok(None),
     }
 }
@@ -255,6 +281,13 @@ fn run_on<'a>(given: &ArgMatches<'a>, files: Vec<&'a str>) -> Option<Request<'a>
         script: given.get_str("SCRIPT")?,
         out: given.get_str("OUT")?,
         files,
+    })
+}
+
+fn migrate_requested<'a>(given: &ArgMatches<'a>) -> Option<Request<'a>> {
+    Some(Request::Migrate {
+        image: given.get_str("IMAGE")?,
+        out: given.get_str("OUT")?,
     })
 }
 

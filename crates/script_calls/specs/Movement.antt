@@ -3,12 +3,13 @@ use Rattle.std.specs.Prelude.{◌≡◌, ◌+◌, ℕ}
 use Rattle.heap_model.specs.Memory.{Memory as Region}
 use Rattle.heap_model.specs.Chunk.{need}
 use Rattle.heap_model.specs.Space.{NoRun, FitsInPlace, MovesNothing, MovesOneStretch, MovesOneStretchAnd, moved_bytes}
+use Rattle.heap_model.specs.MoreTables.{gained_length}
 use Rattle.heap_model.specs.Reading.{chunks_of}
 use Rattle.heap_model.specs.Packing.{Packed, Slid}
 use Rattle.heap_model.specs.MemorySteps.{MemoryCall}
 use Rattle.heap_model.specs.StoreSteps.{Call}
 use Rattle.heap_model.specs.declared.call.Call.TheVariants.{Memory}
-use Rattle.heap_model.specs.declared.call.MemoryCall.TheVariants.{HandleNew, PtrNew, Resize, Compact}
+use Rattle.heap_model.specs.declared.call.MemoryCall.TheVariants.{HandleNew, PtrNew, Resize, Compact, MoreSlots}
 
 -- A call for a new chunk of `size` bytes. If a run of free chunks has the room, nothing moves. Otherwise only chunks of
 -- one stretch move, and no byte is slid twice.
@@ -34,6 +35,7 @@ MovesInHeap old (HandleNew size owner) new = MovesForNew old size new
 MovesInHeap old (PtrNew size owner) new = MovesForNew old size new
 MovesInHeap old (Resize name size) new = MovesForResize old name.0 size new
 MovesInHeap old Compact new = MovesForCompact old new
+MovesInHeap old MoreSlots new = MovesForNew old gained_length new
 MovesInHeap old call new = Unit {0}
 
 -- the same for any call; the calls of other managers promise nothing here

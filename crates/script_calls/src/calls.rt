@@ -111,5 +111,6 @@ pub fn do_memory_call<C: Given<Name>, B: GivenBytes>(
         MemoryCall::FreeBytes => Replied(Reply::Number(store.free_bytes())),
         MemoryCall::LargestStretch => Replied(Reply::Number(store.largest_stretch())),
         MemoryCall::Compact => Replied(Reply::Number(store.compact())),
+        MemoryCall::MoreSlots => Replied(done(store.more_slots())),
     }
 }

@@ -22,7 +22,7 @@ use Rattle.script_commands.specs.declared.line.Line.TheVariants as lines
 use Rattle.script_commands.specs.declared.command.Command.{Command}
 use Rattle.script_commands.specs.declared.command.Command.TheVariants.{Memory, Database, Record, Resource}
 use Rattle.script_commands.specs.declared.memory_command.MemoryCommand.{MemoryCommand}
-use Rattle.script_commands.specs.declared.memory_command.MemoryCommand.TheVariants.{Bind, New, PtrNew, Free, Resize, SetOwner, Lock, Unlock, Size, Owner, Locks, Read, Write, Set, StrCopy, FreeByOwner, FreeBytes, Largest, Compact}
+use Rattle.script_commands.specs.declared.memory_command.MemoryCommand.TheVariants.{Bind, New, PtrNew, Free, Resize, SetOwner, Lock, Unlock, Size, Owner, Locks, Read, Write, Set, StrCopy, FreeByOwner, FreeBytes, Largest, Compact, MoreSlots}
 use Rattle.script_commands.specs.declared.database_command.DatabaseCommand.{DatabaseCommand}
 use Rattle.script_commands.specs.declared.database_command.DatabaseCommand.TheVariants.{Create, Find, Nth, Count, Delete, Info, SetInfo, SetInfoBlock, TakeInfoBlock, InfoBlock, Import, Export}
 use Rattle.script_commands.specs.declared.record_command.RecordCommand.{RecordCommand}
@@ -111,6 +111,7 @@ memory_row FreeByOwner = row (codes "freeowner") (kinds.Byte ∷ []) (λ owner. 
 memory_row FreeBytes = row (codes "freebytes") [] (Print (in_memory memory.FreeBytes))
 memory_row Largest = row (codes "largest") [] (Print (in_memory memory.LargestStretch))
 memory_row Compact = row (codes "compact") [] (Silent (in_memory memory.Compact))
+memory_row MoreSlots = row (codes "moreslots") [] (Print (in_memory memory.MoreSlots))
 
 -- the kinds of the words behind `create` and `dbset`
 abbrev pub creation_kinds : List Kind
@@ -213,7 +214,7 @@ line_of command values bytes = (row_of command).line values bytes
 
 -- every command
 abbrev pub memory_commands : List MemoryCommand
-memory_commands = Bind ∷ New ∷ PtrNew ∷ Free ∷ Resize ∷ SetOwner ∷ Lock ∷ Unlock ∷ Size ∷ Owner ∷ Locks ∷ Read ∷ Write ∷ Set ∷ StrCopy ∷ FreeByOwner ∷ FreeBytes ∷ Largest ∷ Compact ∷ []
+memory_commands = Bind ∷ New ∷ PtrNew ∷ Free ∷ Resize ∷ SetOwner ∷ Lock ∷ Unlock ∷ Size ∷ Owner ∷ Locks ∷ Read ∷ Write ∷ Set ∷ StrCopy ∷ FreeByOwner ∷ FreeBytes ∷ Largest ∷ Compact ∷ MoreSlots ∷ []
 
 abbrev pub database_commands : List DatabaseCommand
 database_commands = Create ∷ Find ∷ Nth ∷ Count ∷ Delete ∷ Info ∷ SetInfo ∷ SetInfoBlock ∷ TakeInfoBlock ∷ InfoBlock ∷ Import ∷ Export ∷ []

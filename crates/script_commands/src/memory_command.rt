@@ -36,10 +36,11 @@ pub enum MemoryCommand {
     FreeBytes,
     Largest,
     Compact,
+    MoreSlots,
 }
 
 /// Every one of them.
-pub(crate) const MEMORY_COMMANDS: [Command; 19] = [
+pub(crate) const MEMORY_COMMANDS: [Command; 20] = [
     Command::Memory(MemoryCommand::Bind),
     Command::Memory(MemoryCommand::New),
     Command::Memory(MemoryCommand::PtrNew),
@@ -59,6 +60,7 @@ pub(crate) const MEMORY_COMMANDS: [Command; 19] = [
     Command::Memory(MemoryCommand::FreeBytes),
     Command::Memory(MemoryCommand::Largest),
     Command::Memory(MemoryCommand::Compact),
+    Command::Memory(MemoryCommand::MoreSlots),
 ];
 
 // What the words behind a command may be.
@@ -107,6 +109,7 @@ pub(crate) fn memory_row(command: MemoryCommand) -> CommandRow
         MemoryCommand::FreeBytes => row(b"freebytes", NOTHING),
         MemoryCommand::Largest => row(b"largest", NOTHING),
         MemoryCommand::Compact => row(b"compact", NOTHING),
+        MemoryCommand::MoreSlots => row(b"moreslots", NOTHING),
     }
 }
 
@@ -189,5 +192,6 @@ pub(crate) fn make_memory_line<'a>(
         MemoryCommand::FreeBytes => print(MemoryCall::FreeBytes),
         MemoryCommand::Largest => print(MemoryCall::LargestStretch),
         MemoryCommand::Compact => Line::Silent(Call::Memory(MemoryCall::Compact)),
+        MemoryCommand::MoreSlots => print(MemoryCall::MoreSlots),
     }
 }

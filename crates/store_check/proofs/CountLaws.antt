@@ -1,18 +1,22 @@
 -- Chunks for data and of the manager's, and how often they are listed and named.
-use Rattle.std.proofs.Common.{◌≡◌, ◌≢◌, ℕ, ◌+◌, ◌<◌, ◌≤◌, List, ◌++◌, sym, ap, ◌∙◌, arith, inl, inr}
+use Rattle.std.proofs.Common.{◌≡◌, ◌≢◌, ℕ, ◌+◌, ◌^◌, ◌<◌, ◌≤◌, List, ◌++◌, length, refl, sym, ap, subst, ◌∙◌, arith, inl, inr}
 use Rattle.std.proofs.lemmas.Bool.{cases_eq, cases_lt}
-use Rattle.std.specs.Prelude.{◌⊎◌, slice_index}
+use Rattle.std.specs.Prelude.{◌⊎◌, ◌↔◌, slice_index}
 use Rattle.std.specs.List.{Contains}
 use Rattle.heap_model.specs.Chunk.{managers_owner, data_owner}
-use Rattle.heap_model.specs.Slots.{IsSlot, StandsBehind}
+use Rattle.heap_model.specs.Slots.{IsSlot}
 use Rattle.heap_model.specs.Heap.{HeapAccepted, directory_of}
 use Rattle.heap_model.specs.Lists.{same, times, Least}
 use Rattle.heap_model.specs.Store.{owner_under, listed, named, IsHeaderSlot}
-use Rattle.laws_heap.proofs.Slots.{slot_stands, stands_there}
+use Rattle.laws_heap.proofs.Slots.{slot_facts}
 use Rattle.laws_store.proofs.Times.{same-yes, same-no, times-cons, times-append, contained-times, times-contained, all-times, distinct-times}
 use Rattle.laws_store.proofs.Owners.{owned_some, directory_owner, owned_slot}
 use Rattle.store_check.specs.Faults.{IsShared, IsStray}
-use Rattle.store_check.specs.Naming.{AreNamed, accounted, AreMarks, IsMarkedTwice, IsUnmarked}
+use Rattle.heap_check.specs.Owners.{marked_word, HasOwners}
+use Rattle.store_check.specs.Naming.{AreNamed, accounted, HasRoom, AreMarks, IsMarkedTwice, IsUnmarked}
+use Rattle.store_check.specs.Owners.{IsOurOwner, IsOurs}
+use Rattle.store_check.proofs.SlotWords.{slot_word}
+use Rattle.store_check.proofs.OwnerLaws.{owner_noted}
 
 -- ---- how often they stand among all that is accounted for
 
@@ -99,22 +103,22 @@ counted_stray image q n own none = elim own [
 
 -- ---- the least of them, by the marks
 
-stands_some : (image : List ℕ) (slot k : ℕ) → StandsBehind image slot k → slot ≢ 0
-stands_some image slot k s z = let e = stands_there image slot k s in omega arith
-
--- of slots, by how many stand before them
-least_slot : (image : List ℕ) (P Q : ℕ → Type 0) → ((slot : ℕ) → P slot → IsSlot image slot) → ((slot k : ℕ) → StandsBehind image slot k → P slot → Q k) → (slot k : ℕ) → StandsBehind image slot k → P slot → Least Q k → Least P slot
-least_slot image P Q slots there slot k s p l = record {
+-- of slots, by the numbers of their marks
+least_slot : (image : List ℕ) (P Q : ℕ → Type 0) (count : ℕ) → HeapAccepted image → HasRoom image count → ((slot : ℕ) → P slot → IsSlot image slot) → ((k : ℕ) → k < count → P (marked_word k) → Q k) → (k : ℕ) → P (marked_word k) → Least Q k → Least P (marked_word k)
+least_slot image P Q count h room slots there k p l = record {
   here = p;
   none_below = λ other less q.
-      let n = slot_stands image other (slots other q) in
-      let here = stands_there image slot k s in
-      let e = stands_there image other n.0 n.1 in
-      l.none_below n.0 (omega arith) (there other n.0 n.1 q);
+      let word = slot_word image other h (slots other q) in
+      let here : P (marked_word word.0) = subst P (sym word.1) q in
+      let e = word.1 in
+      l.none_below word.0 (omega arith) (there word.0 (room word.0 (slots (marked_word word.0) here)) here);
 }
 
-no_slot : (image : List ℕ) (P Q : ℕ → Type 0) → ((slot : ℕ) → P slot → IsSlot image slot) → ((slot k : ℕ) → StandsBehind image slot k → P slot → Q k) → ((k : ℕ) → Q k → ⊥) → (slot : ℕ) → P slot → ⊥
-no_slot image P Q slots there none slot p = let n = slot_stands image slot (slots slot p) in none n.0 (there slot n.0 n.1 p)
+no_slot : (image : List ℕ) (P Q : ℕ → Type 0) (count : ℕ) → HeapAccepted image → HasRoom image count → ((slot : ℕ) → P slot → IsSlot image slot) → ((k : ℕ) → k < count → P (marked_word k) → Q k) → ((k : ℕ) → Q k → ⊥) → (slot : ℕ) → P slot → ⊥
+no_slot image P Q count h room slots there none slot p =
+    let word = slot_word image slot h (slots slot p) in
+    let here : P (marked_word word.0) = subst P (sym word.1) p in
+    none word.0 (there word.0 (room word.0 (slots (marked_word word.0) here)) here)
 
 shared_slot : (image : List ℕ) → AreNamed image → (slot : ℕ) → IsShared image slot → IsSlot image slot
 shared_slot image n slot s = owned_slot image slot n.heap (inr (shared_owner image slot n s))
@@ -122,31 +126,59 @@ shared_slot image n slot s = owned_slot image slot n.heap (inr (shared_owner ima
 stray_slot : (image : List ℕ) → AreNamed image → (slot : ℕ) → IsStray image slot → IsSlot image slot
 stray_slot image n slot s = owned_slot image slot n.heap (stray_owner image slot s)
 
-shared_marked : (image marks : List ℕ) → AreNamed image → AreMarks image (accounted image) marks → (slot k : ℕ) → StandsBehind image slot k → IsShared image slot → IsMarkedTwice image marks k
-shared_marked image marks n m slot k s shared = let two = shared_counted image slot n shared in let e = m slot k s in (slot, s, omega arith)
+shared_marked : (image marks : List ℕ) → AreNamed image → AreMarks (accounted image) marks → (k : ℕ) → k < length marks → IsShared image (marked_word k) → IsMarkedTwice marks k
+shared_marked image marks n m k below shared = let two = shared_counted image (marked_word k) n shared in let e = m k below in (below, omega arith)
 
-stray_unmarked : (image marks : List ℕ) → AreNamed image → AreMarks image (accounted image) marks → (slot k : ℕ) → StandsBehind image slot k → IsStray image slot → IsUnmarked image marks k
-stray_unmarked image marks n m slot k s stray = let none = stray_counted image slot n stray in let e = m slot k s in (slot, s, omega arith, stray_owner image slot stray)
+marked_shared : (image marks : List ℕ) → AreNamed image → AreMarks (accounted image) marks → (k : ℕ) → IsMarkedTwice marks k → IsShared image (marked_word k)
+marked_shared image marks n m k twice = let e = m k twice.0 in let two = twice.1 in counted_shared image (marked_word k) n (λ z. omega arith) (omega arith)
 
--- the first slot with the mark 2 is the least that is shared; where there is none, none is
-pub least_shared : (image marks : List ℕ) (slot k : ℕ) → AreNamed image → AreMarks image (accounted image) marks → StandsBehind image slot k → 2 ≤ slice_index marks k → Least (IsMarkedTwice image marks) k → Least (IsShared image) slot
-least_shared image marks slot k n m s two l =
-    let e = m slot k s in
-    least_slot image (IsShared image) (IsMarkedTwice image marks) (shared_slot image n) (shared_marked image marks n m) slot k s (counted_shared image slot n (stands_some image slot k s) (omega arith)) l
+-- whether a chunk is one of ours, by the owner that is noted
+ours_noted : (image owners : List ℕ) (k : ℕ) → HeapAccepted image → HasOwners image owners → k < length owners → (IsOurOwner (slice_index owners k) ↔ IsOurs image (marked_word k))
+ours_noted image owners k h noted below =
+    let told = owner_noted image owners (marked_word k) k h noted refl below in (
+      λ ours. elim ours [ inl m ↦ inl (told.managers.0 m) | inr d ↦ inr (told.«data».0 d) ],
+      λ ours. elim ours [ inl m ↦ inl (told.managers.1 m) | inr d ↦ inr (told.«data».1 d) ],
+    )
 
-pub none_shared : (image marks : List ℕ) → AreNamed image → AreMarks image (accounted image) marks → ((k : ℕ) → IsMarkedTwice image marks k → ⊥) → (slot : ℕ) → IsShared image slot → ⊥
-none_shared image marks n m = no_slot image (IsShared image) (IsMarkedTwice image marks) (shared_slot image n) (shared_marked image marks n m)
+stray_unmarked : (image marks owners : List ℕ) → AreNamed image → HasOwners image owners → AreMarks (accounted image) marks → (k : ℕ) → k < length marks → IsStray image (marked_word k) → IsUnmarked marks owners k
+stray_unmarked image marks owners n noted m k below stray =
+    let none = stray_counted image (marked_word k) n stray in
+    let e = m k below in
+    let inside = noted.room k (stray_slot image n (marked_word k) stray) in
+    (below, inside, omega arith, (ours_noted image owners k n.heap noted inside).1 (stray_owner image (marked_word k) stray))
 
--- the first slot without a mark that has such a chunk is the least that is stray; where there is none,
--- none is
-pub least_stray : (image marks : List ℕ) (slot k : ℕ) → AreNamed image → AreMarks image (accounted image) marks → StandsBehind image slot k → slice_index marks k ≡ 0 → (owner_under image slot ≡ managers_owner) ⊎ (owner_under image slot ≡ data_owner) → Least (IsUnmarked image marks) k
-    → Least (IsStray image) slot
-least_stray image marks slot k n m s none own l =
-    let e = m slot k s in
-    least_slot image (IsStray image) (IsUnmarked image marks) (stray_slot image n) (stray_unmarked image marks n m) slot k s (counted_stray image slot n own (omega arith)) l
+unmarked_stray : (image marks owners : List ℕ) → AreNamed image → HasOwners image owners → AreMarks (accounted image) marks → (k : ℕ) → IsUnmarked marks owners k → IsStray image (marked_word k)
+unmarked_stray image marks owners n noted m k unmarked =
+    let e = m k unmarked.0 in
+    let none = unmarked.2 in
+    counted_stray image (marked_word k) n ((ours_noted image owners k n.heap noted unmarked.1).0 unmarked.3) (omega arith)
 
-pub none_stray : (image marks : List ℕ) → AreNamed image → AreMarks image (accounted image) marks → ((k : ℕ) → IsUnmarked image marks k → ⊥) → (slot : ℕ) → IsStray image slot → ⊥
-none_stray image marks n m = no_slot image (IsStray image) (IsUnmarked image marks) (stray_slot image n) (stray_unmarked image marks n m)
+-- these are offsets within the image
+word_inside : (image : List ℕ) (slot : ℕ) → HeapAccepted image → IsSlot image slot → slot < 2 ^ 24
+word_inside image slot h s = let inside = (slot_facts image h.0 slot h.1.tiles s).inside in let most = h.1.tiles.head.most in omega arith
+
+pub twice_inside : (image marks : List ℕ) (k : ℕ) → AreNamed image → AreMarks (accounted image) marks → IsMarkedTwice marks k → marked_word k < 2 ^ 24
+twice_inside image marks k n m twice = word_inside image (marked_word k) n.heap (shared_slot image n (marked_word k) (marked_shared image marks n m k twice))
+
+pub unmarked_inside : (image marks owners : List ℕ) (k : ℕ) → AreNamed image → HasOwners image owners → AreMarks (accounted image) marks → IsUnmarked marks owners k → marked_word k < 2 ^ 24
+unmarked_inside image marks owners k n noted m unmarked = word_inside image (marked_word k) n.heap (stray_slot image n (marked_word k) (unmarked_stray image marks owners n noted m k unmarked))
+
+-- the first word with the mark 2 is the least slot that is shared; where there is none, none is
+pub least_shared : (image marks : List ℕ) (k : ℕ) → AreNamed image → HasRoom image (length marks) → AreMarks (accounted image) marks → Least (IsMarkedTwice marks) k → Least (IsShared image) (marked_word k)
+least_shared image marks k n room m l =
+    least_slot image (IsShared image) (IsMarkedTwice marks) (length marks) n.heap room (shared_slot image n) (shared_marked image marks n m) k (marked_shared image marks n m k l.here) l
+
+pub none_shared : (image marks : List ℕ) → AreNamed image → HasRoom image (length marks) → AreMarks (accounted image) marks → ((k : ℕ) → IsMarkedTwice marks k → ⊥) → (slot : ℕ) → IsShared image slot → ⊥
+none_shared image marks n room m = no_slot image (IsShared image) (IsMarkedTwice marks) (length marks) n.heap room (shared_slot image n) (shared_marked image marks n m)
+
+-- the first word without a mark that has such a chunk is the least slot that is stray; where there is
+-- none, none is
+pub least_stray : (image marks owners : List ℕ) (k : ℕ) → AreNamed image → HasOwners image owners → HasRoom image (length marks) → AreMarks (accounted image) marks → Least (IsUnmarked marks owners) k → Least (IsStray image) (marked_word k)
+least_stray image marks owners k n noted room m l =
+    least_slot image (IsStray image) (IsUnmarked marks owners) (length marks) n.heap room (stray_slot image n) (stray_unmarked image marks owners n noted m) k (unmarked_stray image marks owners n noted m k l.here) l
+
+pub none_stray : (image marks owners : List ℕ) → AreNamed image → HasOwners image owners → HasRoom image (length marks) → AreMarks (accounted image) marks → ((k : ℕ) → IsUnmarked marks owners k → ⊥) → (slot : ℕ) → IsStray image slot → ⊥
+none_stray image marks owners n noted room m = no_slot image (IsStray image) (IsUnmarked marks owners) (length marks) n.heap room (stray_slot image n) (stray_unmarked image marks owners n noted m)
 
 -- ---- what the accepted image asks of them
 

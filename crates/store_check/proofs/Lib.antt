@@ -1,4 +1,5 @@
 pub mod LookupLaws
+pub mod SlotWords
 pub mod OwnerLaws
 pub mod IndexLaws
 pub mod CountLaws

@@ -2,12 +2,15 @@
 use Rattle.std.proofs.Common.{◌≡◌, ℕ, ◌+◌, ◌<◌, ◌≤◌, List, length, get_or, set, take, refl, sym, subst, ◌∙◌, length-take-le, get_or-take, get_or-set_same, get_or-set_other, arith, inl, inr}
 use Rattle.std.proofs.lemmas.Bool.{cases_lt}
 use Rattle.std.proofs.lemmas.Option.{get_or_from_slice_get, slice_get_within}
+use Rattle.heap_model.specs.Lists.{Least}
+use Rattle.heap_model.specs.Database.{entry_in, entry_count_in}
+use Rattle.heap_model.specs.Store.{HasData}
 use Rattle.heap_check.specs.Faults.{FirstBrought}
 use Rattle.store_check.specs.declared.fault.StoreFault.TheVariants.{BadHeader}
 use Rattle.store_check.specs.declared.lookup.Body.{Body}
 use Rattle.store_check.specs.Lookup.{HasBody}
 use Rattle.store_check.specs.Listing.{listed_at, listed_count, header_at, IsListing, NotesListed}
-use Rattle.store_check.specs.Faults.{HasHeader, IsBadHeader, header_faults}
+use Rattle.store_check.specs.Faults.{HasHeader, IsBadHeader, HasBadEntry, HasGoodEntries, IsBadEntry, header_faults}
 
 -- none so far, and not this one
 pub none_more : (P : ℕ → Type 0) (n : ℕ) → (P n → ⊥) → ((k : ℕ) → k < n → P k → ⊥) → (k : ℕ) → k < n + 1 → P k → ⊥
@@ -50,3 +53,15 @@ headers_noted image directory table db l all room so_far =
           let is : get_or table k body ≡ body = sym (get_or-take (listed_count image) table k body below) ∙ get_or_from_slice_get (take (listed_count image) table) k body body there in
           subst (HasBody image (listed_at image k)) is (so_far.noted k body (omega arith));
     }
+
+-- ---- entries
+
+pub entry_first : (image bytes header : List ℕ) (index : ℕ) → bytes ≡ header → index < entry_count_in bytes → (HasData image (entry_in bytes index) → ⊥) → ((k : ℕ) → k < index → HasBadEntry image bytes k → ⊥) → Least (HasBadEntry image header) index
+entry_first image bytes header index is below bad none = subst (λ (b : List ℕ). Least (HasBadEntry image b) index) is (record { here = (below, bad); none_below = none })
+
+-- those of one database more
+pub entries_passed : (image : List ℕ) (db : ℕ) → HasGoodEntries image (header_at image db) → ((k : ℕ) → k < db → (index : ℕ) → IsBadEntry image k index → ⊥) → (k : ℕ) → k < db + 1 → (index : ℕ) → IsBadEntry image k index → ⊥
+entries_passed image db good none k below index bad = elim (cases_lt k db) [
+  | inl less ↦ none k less index bad
+  | inr last ↦ let is : k ≡ db = omega arith in good index (subst (λ (n : ℕ). HasBadEntry image (header_at image n) index) is bad.1)
+]

@@ -1,5 +1,5 @@
 -- What a pass over the directory finds.
-use Rattle.std.proofs.Common.{◌≡◌, ℕ, zero, suc, ◌+◌, ◌*◌, ◌<◌, ◌≤◌, List, [], ◌∷◌, ◌++◌, length, sym, ap, subst, ◌∙◌, arith, inl, inr}
+use Rattle.std.proofs.Common.{◌≡◌, ℕ, zero, suc, ◌+◌, ◌*◌, ◌<◌, ◌≤◌, List, [], ◌∷◌, ◌++◌, length, refl, sym, ap, subst, ◌∙◌, arith, inl, inr}
 use Rattle.std.proofs.lemmas.Bool.{cases_eq, cases_lt}
 use Rattle.std.specs.Prelude.{◌⊎◌, ◌↔◌}
 use Rattle.heap_model.specs.Chunk.{managers_owner}
@@ -9,7 +9,9 @@ use Rattle.heap_model.specs.Store.{owner_under, directory_bytes, listed, most_da
 use Rattle.laws_store.proofs.Times.{same-yes, same-no, times-cons}
 use Rattle.laws_store.proofs.Numbers.{numbered_more}
 use Rattle.store_check.specs.Listing.{listed_at, listed_count}
-use Rattle.store_check.specs.Faults.{IsBadSlot}
+use Rattle.heap_check.specs.Faults.{FirstBrought}
+use Rattle.store_check.specs.declared.fault.StoreFault.TheVariants.{BadDirectorySlot}
+use Rattle.store_check.specs.Faults.{IsBadSlot, slot_faults}
 use Rattle.store_check.specs.Naming.{met, AreMarks}
 use Rattle.store_check.proofs.IndexLaws.{times_index, index_times}
 
@@ -55,8 +57,11 @@ word_bad image index slot whole few is = (there, back) where
 -- the words so far
 pub record SlotsSoFar (image marks : List ℕ) (index : ℕ) : Type 0 where
   pub none_bad : (earlier : ℕ) → earlier < index → IsBadSlot image earlier → ⊥
-  pub marked : AreMarks image (met image index) marks
+  pub marked : AreMarks (met image index) marks
   pub few : index ≤ most_databases
+
+pub slot_first : (image marks : List ℕ) (index : ℕ) → SlotsSoFar image marks index → IsBadSlot image index → FirstBrought (slot_faults image) (BadDirectorySlot index)
+slot_first image marks index g bad = inl (index, record { here = bad; none_below = g.none_bad }, refl)
 
 -- a word that isn't bad is complete, and one of the first 1,024
 good_word : (image : List ℕ) (index : ℕ) → 4 * index < length (directory_bytes image) → (IsBadSlot image index → ⊥) → (4 * index + 4 ≤ length (directory_bytes image)) × (index < most_databases)
@@ -73,19 +78,19 @@ met_more image index slot e =
     let next : index + 1 ≡ suc index = omega arith in
     ap (λ (s : ℕ). met image index ++ s ∷ []) e ∙ sym (ap (λ (xs : List ℕ). directory_of image ∷ xs) (ap (numbered (listed_at image)) next ∙ numbered_more (listed_at image) index))
 
-pub slots_more : (image marks new : List ℕ) (index slot : ℕ) → slot ≡ listed_at image index → 4 * index < length (directory_bytes image) → (IsBadSlot image index → ⊥) → AreMarks image (met image index ++ slot ∷ []) new → SlotsSoFar image marks index → SlotsSoFar image new (index + 1)
+pub slots_more : (image marks new : List ℕ) (index slot : ℕ) → slot ≡ listed_at image index → 4 * index < length (directory_bytes image) → (IsBadSlot image index → ⊥) → AreMarks (met image index ++ slot ∷ []) new → SlotsSoFar image marks index → SlotsSoFar image new (index + 1)
 slots_more image marks new index slot e inside good m g = record {
   none_bad = λ k below bad. elim (cases_lt k index) [ inl less ↦ g.none_bad k less bad | inr last ↦ let is : k ≡ index = omega arith in good (subst (IsBadSlot image) is bad) ];
-  marked = subst (λ (xs : List ℕ). AreMarks image xs new) (met_more image index slot e) m;
+  marked = subst (λ (xs : List ℕ). AreMarks xs new) (met_more image index slot e) m;
   few = let w = (good_word image index inside good).1 in omega arith;
 }
 
 -- ---- at the end
 
 -- the last word was complete
-pub slots_marked : (image marks : List ℕ) (index : ℕ) → length (directory_bytes image) ≤ 4 * index → 4 * index < length (directory_bytes image) + 4 → SlotsSoFar image marks index → AreMarks image (directory_of image ∷ listed image) marks
+pub slots_marked : (image marks : List ℕ) (index : ℕ) → length (directory_bytes image) ≤ 4 * index → 4 * index < length (directory_bytes image) + 4 → SlotsSoFar image marks index → AreMarks (directory_of image ∷ listed image) marks
 unfolding listed
-slots_marked image marks index all near g = subst (λ (n : ℕ). AreMarks image (directory_of image ∷ numbered (listed_at image) n) marks) (count index all near g) g.marked where
+slots_marked image marks index all near g = subst (λ (n : ℕ). AreMarks (directory_of image ∷ numbered (listed_at image) n) marks) (count index all near g) g.marked where
   count : (n : ℕ) → length (directory_bytes image) ≤ 4 * n → 4 * n < length (directory_bytes image) + 4 → SlotsSoFar image marks n → n ≡ listed_count image
   count zero all near g = omega arith
   count (suc n) all near g = let w = word_complete image n (omega arith) (λ bad. g.none_bad n (omega arith) bad) in omega arith

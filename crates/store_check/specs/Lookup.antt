@@ -4,21 +4,12 @@ use Rattle.heap_model.specs.declared.names.Place.{Place}
 use Rattle.heap_model.specs.Store.{bytes_under}
 use Rattle.chunk_format.specs.declared.header.Header.{Header}
 use Rattle.chunk_format.specs.declared.header.Header.TheVariants as headers
-use Rattle.master_table.specs.Table.{HoldsPlace}
 use Rattle.store_check.specs.declared.lookup.Body.{Body}
 
 -- the slot's chunk has these bytes of the image for its body
 pub record HasBody (image : List ℕ) (slot : ℕ) (body : Body) : Type 0 where
   pub bytes : bytes_under image slot ≡ slice_range image body.place.0 (body.place.0 + body.length)
   pub inside : body.place.0 + body.length ≤ length image
-
--- what is found is the body of each slot that holds this place
-abbrev pub SlotsFind : List ℕ → ℕ → Body → Type 0
-SlotsFind image place found = (slot : ℕ) → HoldsPlace image slot place → HasBody image slot found
-
--- a slot holds this place
-abbrev pub IsHeld : List ℕ → ℕ → Type 0
-IsHeld image place = (slot : ℕ) × HoldsPlace image slot place
 
 -- the body at a place of the movable chunk with this header
 abbrev pub movable_by : Header → Place → Option Body

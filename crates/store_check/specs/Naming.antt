@@ -1,12 +1,13 @@
 -- How often slots are listed and named.
-use Rattle.std.specs.Prelude.{◌≡◌, ◌≢◌, ◌<◌, ◌≤◌, ◌++◌, ℕ, List, [], ◌∷◌, length, slice_index, min, All}
+use Rattle.std.specs.Prelude.{◌≡◌, ◌≢◌, ◌<◌, ◌≤◌, ◌++◌, ℕ, List, ◌∷◌, length, slice_index, min, All}
 use Rattle.heap_model.specs.Chunk.{data_owner}
-use Rattle.heap_model.specs.Slots.{StandsBehind}
+use Rattle.heap_model.specs.Slots.{IsSlot}
 use Rattle.heap_model.specs.Heap.{HeapAccepted, directory_of}
 use Rattle.heap_model.specs.Lists.{times, Distinct, numbered}
 use Rattle.heap_model.specs.Store.{owner_under, listed, named, IsHeaderSlot}
+use Rattle.heap_check.specs.Owners.{marked_word}
 use Rattle.store_check.specs.Listing.{listed_at}
-use Rattle.store_check.specs.Owners.{IsOurOwner, IsOurs}
+use Rattle.store_check.specs.Owners.{IsOurOwner}
 
 -- Each header that is listed is a chunk of the manager's and listed once, and all that databases name
 -- are chunks for data: what is known where no slot of the directory, no header and no entry is bad.
@@ -29,33 +30,34 @@ managers_slots image = directory_of image ∷ listed image
 abbrev pub met : List ℕ → ℕ → List ℕ
 met image index = directory_of image ∷ numbered (listed_at image) index
 
--- the slot behind so many others has the mark 0, 1 or 2, as it stands in a list never, once or more often
-abbrev pub AreMarks : List ℕ → List ℕ → List ℕ → Type 0
-AreMarks image xs marks = (slot number : ℕ) → StandsBehind image slot number → slice_index marks number ≡ min (times slot xs) 2
+-- so many marks are enough for the slots of an image: each slot has one
+abbrev pub HasRoom : List ℕ → ℕ → Type 0
+HasRoom image count = (number : ℕ) → IsSlot image (marked_word number) → number < count
 
--- no slot of any image is marked
-abbrev pub HasNoMarks : List ℕ → Type 0
-HasNoMarks marks = (image : List ℕ) → AreMarks image [] marks
+-- one of so many marks belongs to the word at this offset
+abbrev pub HasMark : ℕ → ℕ → Type 0
+HasMark slot count = (number : ℕ) × (marked_word number ≡ slot) × (number < count)
+
+-- the mark of each word is 0, 1 or 2, as its offset stands in a list never, once or more often
+abbrev pub AreMarks : List ℕ → List ℕ → Type 0
+AreMarks xs marks = (number : ℕ) → number < length marks → slice_index marks number ≡ min (times (marked_word number) xs) 2
 
 -- what were the marks of a list are those of that list with these slots behind it
-abbrev pub AddsMarks : List ℕ → List ℕ → List ℕ → List ℕ → Type 0
-AddsMarks image slots old new = (xs : List ℕ) → AreMarks image xs old → AreMarks image (xs ++ slots) new
+abbrev pub AddsMarks : List ℕ → List ℕ → List ℕ → Type 0
+AddsMarks slots old new = (xs : List ℕ) → AreMarks xs old → AreMarks (xs ++ slots) new
 
--- the slot behind so many others has the mark 2
-abbrev pub IsMarkedTwice : List ℕ → List ℕ → ℕ → Type 0
-IsMarkedTwice image marks number = (slot : ℕ) × StandsBehind image slot number × (2 ≤ slice_index marks number)
+-- the mark of this number is 2
+abbrev pub IsMarkedTwice : List ℕ → ℕ → Type 0
+IsMarkedTwice marks number = (number < length marks) × (2 ≤ slice_index marks number)
 
--- the slot behind so many others has no mark, and yet a chunk for data or of the manager's
+-- the mark of this number is 0, and yet the owner of a chunk for data or of one of the manager's is noted
 abbrev pub IsUnmarked : List ℕ → List ℕ → ℕ → Type 0
-IsUnmarked image marks number =
-    (slot : ℕ) × StandsBehind image slot number × (slice_index marks number ≡ 0) × IsOurs image slot
+IsUnmarked marks owners number =
+    (number < length marks) × (number < length owners) × (slice_index marks number ≡ 0) × IsOurOwner (slice_index owners number)
 
--- one of the marks is 2
+-- one of the marks is so
 abbrev pub HasMarkTwo : List ℕ → Type 0
-HasMarkTwo marks = (number : ℕ) × (number < length marks) × (2 ≤ slice_index marks number)
+HasMarkTwo marks = (number : ℕ) × IsMarkedTwice marks number
 
--- a number has no mark, and yet the owner of a chunk for data or of one of the manager's
 abbrev pub HasUnmarked : List ℕ → List ℕ → Type 0
-HasUnmarked marks owners =
-    (number : ℕ) × (number < length marks) × (number < length owners) × (slice_index marks number ≡ 0)
-    × IsOurOwner (slice_index owners number)
+HasUnmarked marks owners = (number : ℕ) × IsUnmarked marks owners number

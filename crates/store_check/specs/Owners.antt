@@ -11,10 +11,6 @@ IsOurOwner owner = (owner ≡ managers_owner) ⊎ (owner ≡ data_owner)
 abbrev pub IsOurs : List ℕ → ℕ → Type 0
 IsOurs image slot = IsOurOwner (owner_under image slot)
 
--- the slot has neither
-abbrev pub NotOurs : List ℕ → ℕ → Type 0
-NotOurs image slot = IsOurs image slot → ⊥
-
 -- the number is the manager's, or that of data, exactly where this is the owner of the slot's chunk
 pub record TellsOwner (image : List ℕ) (slot owner : ℕ) : Type 0 where
   pub managers : (owner ≡ managers_owner) ↔ (owner_under image slot ≡ managers_owner)

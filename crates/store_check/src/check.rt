@@ -1,43 +1,42 @@
 //! The check of a whole image.
 
 ghost use Rattle.std.specs.Prelude.{◌≡◌, ◌≤◌, ◌*◌, ◌⊎◌, [], ◌∷◌, List, length, Err, IfOk, IfErr, OnOk};
-ghost use Rattle.heap_model.specs.Slots.{slots_total};
 ghost use Rattle.heap_model.specs.Bytes.{AreBytes};
 ghost use Rattle.heap_model.specs.Heap.{HeapAccepted, directory_of};
 ghost use Rattle.heap_model.specs.Store.{directory_bytes, listed, most_databases, Accepted};
 ghost use Rattle.heap_check.specs.Faults.{FirstBrought};
-ghost use Rattle.heap_check.specs.Owners.{most_slots, NoneMarked, HasOwners};
+ghost use Rattle.heap_check.specs.Owners.{marks_needed as model_needed, NoneMarked, HasOwners};
 ghost use Rattle.store_check.specs.Listing.{IsListing, AreListed, NotesListed, HaveHeaders};
 ghost use Rattle.store_check.specs.Faults.{store_faults, NoneBrought};
-ghost use Rattle.store_check.specs.Naming.{AreNamed, accounted, AreMarks};
+ghost use Rattle.store_check.specs.Naming.{AreNamed, accounted, HasRoom, AreMarks};
 ghost use Rattle.bit_sets.specs.Sets.{HasNone};
 ghost use Rattle.store_check.specs.Ids.{HasRoomForAll};
 ghost use Rattle.store_check.specs.Names.{name_numbers};
-ghost use Rattle.store_check.specs.Checks.{IsFirstOr, IsRefusal, Summarizes, IsAnswered, listed_faults, chunk_faults, marked_faults, own_faults};
+ghost use Rattle.store_check.specs.Checks.{IsFirstOr, IsRefusal, Summarizes, IsAnswered, listed_faults, marked_faults, own_faults};
 ghost use Rattle.allowance.specs.Refusals.{GrowthRefused};
 
-use crate::chunks::{find_shared, find_stray};
+use crate::chunks::{first_twice, first_unmarked};
 use crate::entries::find_bad_entry;
 use crate::fault::StoreFault;
 use crate::headers::find_bad_header;
 use crate::ids::{empty_set, find_bad_id, greatest_id};
 use crate::lookup::{Body, NO_BODY, directory_in};
-use crate::marks::{mark, no_marks};
+use crate::marks::{mark, mark_count, no_marks, word_of_mark};
 use crate::names::{NAME_NUMBERS, find_bad_name, find_same_name};
+use crate::owners::noted_owners;
 use crate::slots::find_bad_slot;
 use crate::summary::StoreSummary;
 use crate::words::listed_count;
 use allowance::Allowance;
-use chunk_format::slot_count;
 use db_format::MOST_DATABASES;
-use heap_check::{MOST_MARKS, NO_OWNER, check_heap_noting};
+use heap_check::{MOST_MARKS, NO_OWNER, check_heap, check_heap_noting, marks_needed};
 use raw_region::Region;
 use std::alloc::Global;
 
 /// Whether the bytes of a region are an accepted heap with databases: its counts, or else its first
-/// fault. It takes memory for a mark for each slot, and then a bit for each number up to the greatest ID,
-/// 32 KiB at least and 2 MiB at most, and changes nothing. Only where memory is refused does it answer
-/// `OutOfMemory`.
+/// fault. It takes memory for a mark for each slot, or with a chain of tables two for each word of the
+/// image, which are up to 8 MiB, and then a bit for each number up to the greatest ID, 32 KiB at least and
+/// 2 MiB at most, and changes nothing. Only where memory is refused does it answer `OutOfMemory`.
 pub fn check_store(alloc: Global, region: &Region) -> Result<StoreSummary, StoreFault>
     ensures accepted { OnOk result (Accepted region.now.bytes) }
     ensures summary { IfOk result (Summarizes region.now.bytes) }
@@ -59,17 +58,40 @@ pub fn check_store_from<A: Allowance>(
     ensures refused { IfErr result (IsRefusal region.now.bytes) }
     ensures no_memory { result ≡ Err StoreFault.OutOfMemory → A.is_short memory.now }
 {
+    if marks_needed(region) > MOST_MARKS {
+        return check_large(memory, region);
+    }
     let mut owners = [NO_OWNER; MOST_MARKS];
     check_noting(memory, region, &mut owners)
 }
 
-/// The same, with a mark for the slot of each number, in which the heap's check notes owners.
+/// The same of an image of so many words that memory is taken for the marks of owners, once its heap is
+/// known to be accepted.
+fn check_large<A: Allowance>(memory: &A, region: &Region) -> Result<StoreSummary, StoreFault>
+    ensures accepted { OnOk result (Accepted region.now.bytes) }
+    ensures summary { IfOk result (Summarizes region.now.bytes) }
+    ensures fault { IfErr result (IsAnswered region.now.bytes) }
+    ensures refused { IfErr result (IsRefusal region.now.bytes) }
+    ensures no_memory { result ≡ Err StoreFault.OutOfMemory → A.is_short memory.now }
+{
+    let heap = match check_heap(region) {
+        Ok(heap) => heap,
+        Err(fault) => return Err(StoreFault::Heap(fault)),
+    };
+    let Ok(owners) = noted_owners(memory, region) else {
+        return Err(StoreFault::OutOfMemory);
+    };
+    let databases = check_databases(memory, region, &owners)?;
+    Ok(StoreSummary { heap, databases })
+}
+
+/// The same, with marks in which the heap's check notes owners.
 fn check_noting<A: Allowance>(
     memory: &A,
     region: &Region,
     owners: &mut [u8],
 ) -> Result<StoreSummary, StoreFault>
-    requires room { most_slots ≤ length owners.old }
+    requires room { model_needed region.now.bytes ≤ length owners.old }
     requires clear { NoneMarked owners.old }
     ensures accepted { OnOk result (Accepted region.now.bytes) }
     ensures summary { IfOk result (Summarizes region.now.bytes) }
@@ -134,7 +156,7 @@ fn know_bytes(region: &Region)
     let _bytes = region.as_slice();
 }
 
-/// Looks for the faults that are found by marks for slots, with marks of its own.
+/// Looks for the faults that are found by marks, with marks of its own.
 fn check_marks<A: Allowance>(
     memory: &A,
     region: &Region,
@@ -153,13 +175,13 @@ fn check_marks<A: Allowance>(
     ensures headers { OnOk result (HaveHeaders region.now.bytes) }
     ensures noted { OnOk result (NotesListed region.now.bytes table.new) }
 {
-    let Ok(mut marks) = no_marks(memory, slot_count(region)) else {
+    let Ok(mut marks) = no_marks(memory, mark_count(region)) else {
         return Err(StoreFault::OutOfMemory);
     };
     check_with_marks(region, directory, owners, &mut marks, table)
 }
 
-/// Looks for the faults that are found by these marks for slots, none of which is set yet.
+/// Looks for the faults that are found by these marks, none of which is set yet.
 fn check_with_marks(
     region: &Region,
     directory: &[u8],
@@ -169,19 +191,25 @@ fn check_with_marks(
 ) -> Result<(), StoreFault>
     requires accepted { HeapAccepted region.now.bytes }
     requires owners { HasOwners region.now.bytes owners.now }
-    requires room { slots_total region.now.bytes ≤ length marks.old }
+    requires room { HasRoom region.now.bytes (length marks.old) }
     requires table { most_databases ≤ length table.old }
     requires directory { directory.now ≡ directory_bytes region.now.bytes }
-    requires clear { AreMarks region.now.bytes [] marks.old }
+    requires clear { AreMarks [] marks.old }
     ensures fault { IfErr result (FirstBrought (marked_faults region.now.bytes)) }
     ensures none { OnOk result (NoneBrought (marked_faults region.now.bytes)) }
     ensures listing { OnOk result (IsListing region.now.bytes directory.now) }
     ensures headers { OnOk result (HaveHeaders region.now.bytes) }
     ensures noted { OnOk result (NotesListed region.now.bytes table.new) }
 {
-    mark(region, chunk_format::directory(region), marks);
+    mark(chunk_format::directory(region), marks);
     check_listed(region, directory, owners, marks, table)?;
-    check_chunks(region, owners, marks)
+    if let Some(number) = first_twice(marks) {
+        return Err(StoreFault::SharedChunk(word_of_mark(number)));
+    }
+    match first_unmarked(marks, owners) {
+        Some(number) => Err(StoreFault::StrayChunk(word_of_mark(number))),
+        None => Ok(()),
+    }
 }
 
 /// Looks for the faults of what the directory lists, whose own slot is marked. All that must be named is
@@ -195,20 +223,19 @@ fn check_listed(
 ) -> Result<(), StoreFault>
     requires accepted { HeapAccepted region.now.bytes }
     requires owners { HasOwners region.now.bytes owners.now }
-    requires room { slots_total region.now.bytes ≤ length marks.old }
+    requires room { HasRoom region.now.bytes (length marks.old) }
     requires table { most_databases ≤ length table.old }
     requires directory { directory.now ≡ directory_bytes region.now.bytes }
-    requires marks { AreMarks region.now.bytes (directory_of region.now.bytes ∷ []) marks.old }
+    requires marks { AreMarks (directory_of region.now.bytes ∷ []) marks.old }
     ensures fault { IfErr result (FirstBrought (listed_faults region.now.bytes)) }
     ensures none { OnOk result (NoneBrought (listed_faults region.now.bytes)) }
     ensures listing { OnOk result (IsListing region.now.bytes directory.now) }
     ensures headers { OnOk result (HaveHeaders region.now.bytes) }
     ensures noted { OnOk result (NotesListed region.now.bytes table.new) }
     ensures named { OnOk result (AreNamed region.now.bytes) }
-    ensures marked { OnOk result (AreMarks region.now.bytes
-        (accounted region.now.bytes) marks.new) }
+    ensures marked { OnOk result (AreMarks (accounted region.now.bytes) marks.new) }
 {
-    if let Some(fault) = find_bad_slot(region, directory, owners, marks) {
+    if let Some(fault) = find_bad_slot(region, owners, marks) {
         return Err(fault);
     }
     if let Some(fault) = find_bad_header(region, directory, owners, table) {
@@ -216,25 +243,6 @@ fn check_listed(
     }
     let headers = &table[..listed_count(directory)];
     match find_bad_entry(region, headers, owners, marks) {
-        Some(fault) => Err(fault),
-        None => Ok(()),
-    }
-}
-
-/// Looks for chunks that are named twice and for those that nothing names, where all that must be named
-/// is marked.
-fn check_chunks(region: &Region, owners: &[u8], marks: &[u8]) -> Result<(), StoreFault>
-    requires owners { HasOwners region.now.bytes owners.now }
-    requires room { slots_total region.now.bytes ≤ length marks.now }
-    requires named { AreNamed region.now.bytes }
-    requires marks { AreMarks region.now.bytes (accounted region.now.bytes) marks.now }
-    ensures fault { IfErr result (FirstBrought (chunk_faults region.now.bytes)) }
-    ensures none { OnOk result (NoneBrought (chunk_faults region.now.bytes)) }
-{
-    if let Some(fault) = find_shared(region, marks) {
-        return Err(fault);
-    }
-    match find_stray(region, marks, owners) {
         Some(fault) => Err(fault),
         None => Ok(()),
     }

@@ -1,16 +1,10 @@
-//! Chunks that are named twice, and those that nothing names.
+//! Words that are marked twice, and those of chunks that nothing names.
 
-ghost use Rattle.std.specs.Prelude.{◌≤◌, ◌↔◌, length, IsTrue, IfSome, IfNone};
-ghost use Rattle.heap_model.specs.Slots.{slots_total};
-ghost use Rattle.heap_check.specs.Faults.{FirstBrought};
-ghost use Rattle.heap_check.specs.Owners.{HasOwners};
-ghost use Rattle.store_check.specs.Faults.{shared_faults, stray_faults, NoneBrought};
-ghost use Rattle.store_check.specs.Naming.{AreNamed, accounted, AreMarks, HasMarkTwo, HasUnmarked};
+ghost use Rattle.std.specs.Prelude.{◌↔◌, ℕ, IsTrue, IfSome, IfNone};
+ghost use Rattle.heap_model.specs.Lists.{Least};
+ghost use Rattle.store_check.specs.Naming.{IsMarkedTwice, IsUnmarked, HasMarkTwo, HasUnmarked};
 
-use crate::fault::StoreFault;
 use crate::owners::is_our_owner;
-use master_table::Table;
-use raw_region::Region;
 
 /// Whether one of the marks is 2. It goes over all of them, which is faster than to stop at the first.
 fn has_mark_two(marks: &[u8]) -> bool
@@ -35,43 +29,33 @@ fn has_unmarked(marks: &[u8], owners: &[u8]) -> bool
     found
 }
 
-/// The least slot that is named twice, where all that must be named is marked.
-pub(crate) fn find_shared(region: &Region, marks: &[u8]) -> Option<StoreFault>
-    requires room { slots_total region.now.bytes ≤ length marks.now }
-    requires named { AreNamed region.now.bytes }
-    requires marks { AreMarks region.now.bytes (accounted region.now.bytes) marks.now }
-    ensures some { IfSome result (FirstBrought (shared_faults region.now.bytes)) }
-    ensures none { IfNone result (NoneBrought (shared_faults region.now.bytes)) }
+/// The number of the first mark that is 2.
+pub(crate) fn first_twice(marks: &[u8]) -> Option<usize>
+    ensures some { IfSome result (Least (IsMarkedTwice marks.now)) }
+    ensures none { IfNone result ((number : ℕ) → IsMarkedTwice marks.now number → ⊥) }
 {
     if !has_mark_two(marks) {
         return None;
     }
-    let table = Table::of(region);
-    for number in 0..table.count() {
-        if marks[number as usize] > 1 {
-            return Some(StoreFault::SharedChunk(table.slot(number)));
+    for number in 0..marks.len() {
+        if marks[number] > 1 {
+            return Some(number);
         }
     }
     None
 }
 
-/// The least slot with a chunk that nothing names, where all that must be named is marked.
-pub(crate) fn find_stray(region: &Region, marks: &[u8], owners: &[u8]) -> Option<StoreFault>
-    requires owners { HasOwners region.now.bytes owners.now }
-    requires room { slots_total region.now.bytes ≤ length marks.now }
-    requires named { AreNamed region.now.bytes }
-    requires marks { AreMarks region.now.bytes (accounted region.now.bytes) marks.now }
-    ensures some { IfSome result (FirstBrought (stray_faults region.now.bytes)) }
-    ensures none { IfNone result (NoneBrought (stray_faults region.now.bytes)) }
+/// The first number that has no mark, and yet the owner of a chunk for data or of one of the manager's.
+pub(crate) fn first_unmarked(marks: &[u8], owners: &[u8]) -> Option<usize>
+    ensures some { IfSome result (Least (IsUnmarked marks.now owners.now)) }
+    ensures none { IfNone result ((number : ℕ) → IsUnmarked marks.now owners.now number → ⊥) }
 {
     if !has_unmarked(marks, owners) {
         return None;
     }
-    let table = Table::of(region);
-    for number in 0..table.count() {
-        let slot = table.slot(number);
-        if marks[number as usize] == 0 && is_our_owner(owners[number as usize]) {
-            return Some(StoreFault::StrayChunk(slot));
+    for number in 0..marks.len().min(owners.len()) {
+        if marks[number] == 0 && is_our_owner(owners[number]) {
+            return Some(number);
         }
     }
     None

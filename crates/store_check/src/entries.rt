@@ -1,16 +1,14 @@
 //! The entries of databases, and the chunks of their data.
 
-ghost use Rattle.std.specs.Prelude.{◌≤◌, ◌<◌, ◌↔◌, length, IsTrue, IfSome, IfNone};
-ghost use Rattle.heap_model.specs.Slots.{slots_total};
+ghost use Rattle.std.specs.Prelude.{◌<◌, ◌↔◌, List, ℕ, length, IsTrue, IfSome, IfNone};
 ghost use Rattle.heap_model.specs.Heap.{HeapAccepted};
 ghost use Rattle.heap_model.specs.Lists.{Least};
-ghost use Rattle.heap_model.specs.Database.{data_in, entry_in, entry_count_in, database_in};
+ghost use Rattle.heap_model.specs.Database.{data_in, database_in};
 ghost use Rattle.heap_model.specs.Store.{HasData, named};
 ghost use Rattle.heap_check.specs.Faults.{FirstBrought};
 ghost use Rattle.heap_check.specs.Owners.{HasOwners};
-ghost use Rattle.db_format.specs.Headers.{IsWhole};
 ghost use Rattle.db_format.specs.EitherEntry.{entry_of};
-ghost use Rattle.store_check.specs.Listing.{entry_slots, AreListed, HaveHeaders};
+ghost use Rattle.store_check.specs.Listing.{header_at, AreListed, HaveHeaders};
 ghost use Rattle.store_check.specs.Faults.{HasBadEntry, HasGoodEntries, entry_faults, NoneBrought};
 ghost use Rattle.store_check.specs.Naming.{AddsMarks};
 
@@ -22,60 +20,49 @@ use db_format::{DbEntry, app_info, entry_count, sort_info};
 use raw_region::Region;
 
 /// Whether an entry has its data in a chunk for data. The record may have none if it is deleted.
-fn has_data(region: &Region, entry: DbEntry, owners: &[u8]) -> bool
-    requires accepted { HeapAccepted region.now.bytes }
-    requires owners { HasOwners region.now.bytes owners.now }
-    ensures { IsTrue result ↔ HasData region.now.bytes (entry_of entry) }
+fn has_data(entry: DbEntry, owners: &[u8]) -> bool
+    ensures { (image : List ℕ) → HeapAccepted image → HasOwners image owners.now
+        → (IsTrue result ↔ HasData image (entry_of entry)) }
 {
     match entry {
         DbEntry::Record(record) => {
-            record.slot == 0 && record.attributes.is_deleted()
-                || is_for_data(region, record.slot, owners)
+            record.slot == 0 && record.attributes.is_deleted() || is_for_data(record.slot, owners)
         }
-        DbEntry::Resource(resource) => is_for_data(region, resource.slot, owners),
+        DbEntry::Resource(resource) => is_for_data(resource.slot, owners),
     }
 }
 
-/// The first bad entry behind a header. Where there is none, what the entries name is marked.
-fn find_bad_entry_among(
+/// The first bad entry of the database of an index. Where there is none, what the database names is
+/// marked.
+fn find_bad_entry_in(
     region: &Region,
-    header: &[u8],
+    headers: &[Body],
+    db: usize,
     owners: &[u8],
     marks: &mut [u8],
 ) -> Option<u16>
-    requires accepted { HeapAccepted region.now.bytes }
     requires owners { HasOwners region.now.bytes owners.now }
-    requires room { slots_total region.now.bytes ≤ length marks.old }
-    requires whole { IsWhole header.now }
-    ensures some { IfSome result (Least (HasBadEntry region.now.bytes header.now)) }
-    ensures none { IfNone result (HasGoodEntries region.now.bytes header.now) }
+    requires listed { AreListed region.now.bytes headers.now }
+    requires headers { HaveHeaders region.now.bytes }
+    requires below { db < length headers.now }
+    ensures some { IfSome result
+        (Least (HasBadEntry region.now.bytes (header_at region.now.bytes db))) }
+    ensures none { IfNone result
+        (HasGoodEntries region.now.bytes (header_at region.now.bytes db)) }
     ensures marked { IfNone result
-        (AddsMarks region.now.bytes (entry_slots header.now) marks.old marks.new) }
+        (AddsMarks (data_in (database_in (header_at region.now.bytes db))) marks.old marks.new) }
 {
+    let header = header_of(region, headers, db);
+    mark(app_info(header), marks);
+    mark(sort_info(header), marks);
     for index in 0..entry_count(header) {
         let entry = DbEntry::read(header, index);
-        if !has_data(region, entry, owners) {
+        if !has_data(entry, owners) {
             return Some(index);
         }
-        mark(region, entry.slot(), marks);
+        mark(entry.slot(), marks);
     }
     None
-}
-
-/// The first bad entry of a database. Where there is none, what the database names is marked.
-fn find_bad_entry_in(region: &Region, header: &[u8], owners: &[u8], marks: &mut [u8]) -> Option<u16>
-    requires accepted { HeapAccepted region.now.bytes }
-    requires owners { HasOwners region.now.bytes owners.now }
-    requires room { slots_total region.now.bytes ≤ length marks.old }
-    requires whole { IsWhole header.now }
-    ensures some { IfSome result (Least (HasBadEntry region.now.bytes header.now)) }
-    ensures none { IfNone result (HasGoodEntries region.now.bytes header.now) }
-    ensures marked { IfNone result
-        (AddsMarks region.now.bytes (data_in (database_in header.now)) marks.old marks.new) }
-{
-    mark(region, app_info(header), marks);
-    mark(region, sort_info(header), marks);
-    find_bad_entry_among(region, header, owners, marks)
 }
 
 /// The first bad entry of all databases, in their order. Where there is none, all that they name is
@@ -87,17 +74,14 @@ pub(crate) fn find_bad_entry(
     marks: &mut [u8],
 ) -> Option<StoreFault>
     requires owners { HasOwners region.now.bytes owners.now }
-    requires room { slots_total region.now.bytes ≤ length marks.old }
     requires listed { AreListed region.now.bytes headers.now }
     requires headers { HaveHeaders region.now.bytes }
     ensures some { IfSome result (FirstBrought (entry_faults region.now.bytes)) }
     ensures none { IfNone result (NoneBrought (entry_faults region.now.bytes)) }
-    ensures marked { IfNone result
-        (AddsMarks region.now.bytes (named region.now.bytes) marks.old marks.new) }
+    ensures marked { IfNone result (AddsMarks (named region.now.bytes) marks.old marks.new) }
 {
     for db in 0..headers.len() {
-        let header = header_of(region, headers, db);
-        if let Some(index) = find_bad_entry_in(region, header, owners, marks) {
+        if let Some(index) = find_bad_entry_in(region, headers, db, owners, marks) {
             return Some(StoreFault::BadEntry(db as u32, index as u32));
         }
     }

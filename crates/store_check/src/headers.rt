@@ -1,6 +1,6 @@
 //! The headers that the directory lists.
 
-ghost use Rattle.std.specs.Prelude.{◌≤◌, ◌↔◌, length, IsTrue, IfSome, IfNone};
+ghost use Rattle.std.specs.Prelude.{◌≤◌, ◌↔◌, ℕ, List, length, IsTrue, IfSome, IfNone};
 ghost use Rattle.heap_model.specs.Heap.{HeapAccepted};
 ghost use Rattle.heap_model.specs.Store.{most_databases, IsInfoBlock};
 ghost use Rattle.heap_check.specs.Faults.{FirstBrought};
@@ -16,23 +16,21 @@ use db_format::{app_info, is_whole, sort_info};
 use raw_region::Region;
 
 /// Whether an info word names no chunk, or one for data.
-fn is_info_block(region: &Region, slot: u32, owners: &[u8]) -> bool
-    requires accepted { HeapAccepted region.now.bytes }
-    requires owners { HasOwners region.now.bytes owners.now }
-    ensures { IsTrue result ↔ IsInfoBlock region.now.bytes slot }
+fn is_info_block(slot: u32, owners: &[u8]) -> bool
+    ensures { (image : List ℕ) → HeapAccepted image → HasOwners image owners.now
+        → (IsTrue result ↔ IsInfoBlock image slot) }
 {
-    slot == 0 || is_for_data(region, slot, owners)
+    slot == 0 || is_for_data(slot, owners)
 }
 
 /// Whether the bytes are a header and its entries, whole, and its info blocks are there.
-fn has_header(region: &Region, bytes: &[u8], owners: &[u8]) -> bool
-    requires accepted { HeapAccepted region.now.bytes }
-    requires owners { HasOwners region.now.bytes owners.now }
-    ensures { IsTrue result ↔ HasHeader region.now.bytes bytes.now }
+fn has_header(bytes: &[u8], owners: &[u8]) -> bool
+    ensures { (image : List ℕ) → HeapAccepted image → HasOwners image owners.now
+        → (IsTrue result ↔ HasHeader image bytes.now) }
 {
     is_whole(bytes)
-        && is_info_block(region, app_info(bytes), owners)
-        && is_info_block(region, sort_info(bytes), owners)
+        && is_info_block(app_info(bytes), owners)
+        && is_info_block(sort_info(bytes), owners)
 }
 
 /// The first database with a bad header. Where there is none, the front of the table has all headers.
@@ -53,7 +51,7 @@ pub(crate) fn find_bad_header(
     for db in 0..listed_count(directory) {
         let header = find_header(region, directory, db);
         table[db] = header;
-        if !has_header(region, bytes_of(region, header), owners) {
+        if !has_header(bytes_of(region, header), owners) {
             return Some(StoreFault::BadHeader(db as u32));
         }
     }

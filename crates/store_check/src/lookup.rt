@@ -1,17 +1,16 @@
 //! The chunks of the manager: where their bodies are, by their slots, and the bytes there.
 
-ghost use Rattle.std.specs.Prelude.{◌≡◌, ◌≤◌, ◌<◌, ◌+◌, ◌-◌, length, slice_range, IfSome, IfNone};
-ghost use Rattle.heap_model.specs.Chunk.{HasChunk, managers_owner};
+ghost use Rattle.std.specs.Prelude.{◌≡◌, ◌≤◌, ◌<◌, ◌+◌, length, slice_range};
+ghost use Rattle.heap_model.specs.Chunk.{managers_owner};
 ghost use Rattle.heap_model.specs.Heap.{HeapAccepted};
 ghost use Rattle.heap_model.specs.Store.{owner_under, directory_bytes};
 ghost use Rattle.store_check.specs.Listing.{listed_at, listed_count as model_count, header_at, IsListing, AreListed};
-ghost use Rattle.store_check.specs.Lookup.{HasBody, IsHeld, SlotsFind, movable_by};
-ghost use Rattle.store_check.specs.Owners.{NotOurs};
+ghost use Rattle.store_check.specs.Lookup.{HasBody, movable_by};
 
 use crate::words::word_at;
 use chunk_format::{HEADER_SIZE, Header, directory};
-use heap_model::{Name, Place};
-use master_table::resolve;
+use heap_model::Place;
+use master_table::word_of;
 use raw_region::Region;
 
 /// The body of a movable chunk: where it is, and how many bytes it has.
@@ -27,31 +26,6 @@ pub(crate) const NO_BODY: Body = Body {
     length: 0,
 };
 
-/// The body of the movable chunk of a slot.
-#[inline]
-fn movable_under(region: &Region, slot: u32) -> Option<Body>
-    requires accepted { HeapAccepted region.now.bytes }
-    ensures some { IfSome result (HasBody region.now.bytes slot) }
-    ensures none { IfNone result (NotOurs region.now.bytes slot) }
-{
-    match resolve(region, Name(slot)) {
-        Some(place) => Some(movable_at(region, place)),
-        None => None,
-    }
-}
-
-/// The body of a movable chunk, at a place that a slot holds: its header stands in front of it.
-#[inline]
-fn movable_at(region: &Region, place: Place) -> Body
-    requires accepted { HeapAccepted region.now.bytes }
-    requires held { IsHeld region.now.bytes place.0 }
-    requires behind_header { HEADER_SIZE ≤ place.0 }
-    requires chunk { HasChunk region.now.bytes (place.0 - HEADER_SIZE) }
-    ensures { SlotsFind region.now.bytes place.0 result }
-{
-    as_movable(Header::at(region, place.0 - HEADER_SIZE), place).unwrap()
-}
-
 /// The body at a place of the chunk with this header, if it is a movable one.
 #[inline]
 fn as_movable(header: Header, place: Place) -> Option<Body>
@@ -63,13 +37,14 @@ fn as_movable(header: Header, place: Place) -> Option<Body>
     }
 }
 
-/// The body of a chunk of the manager's.
+/// The body of a chunk of the manager's: its slot holds the place.
 fn body_under(region: &Region, slot: u32) -> Body
     requires accepted { HeapAccepted region.now.bytes }
     requires managers { owner_under region.now.bytes slot ≡ managers_owner }
     ensures { HasBody region.now.bytes slot result }
 {
-    movable_under(region, slot).unwrap()
+    let place = Place(word_of(region, slot));
+    as_movable(Header::at(region, place.0 - HEADER_SIZE), place).unwrap()
 }
 
 /// The bytes of a body.

@@ -1,49 +1,71 @@
-//! Marks for the slots of a table: how often each was met, two standing for more.
+//! Marks for the words where slots can stand: how often each was met, two standing for more.
 
-ghost use Rattle.std.specs.Prelude.{◌≡◌, ◌≤◌, ◌<◌, ◌↔◌, ℕ, [], ◌∷◌, List, length, IsTrue, IfOk, OnErr};
-ghost use Rattle.heap_model.specs.Frame.{HasFrame};
-ghost use Rattle.heap_model.specs.Slots.{IsSlot, slots_total};
+ghost use Rattle.std.specs.Prelude.{◌≡◌, ◌≤◌, ◌<◌, ◌*◌, ◌^◌, ◌↔◌, ℕ, [], ◌∷◌, List, length, IsTrue, IfOk, OnErr};
+ghost use Rattle.heap_model.specs.Slots.{slot_size};
+ghost use Rattle.heap_model.specs.Heap.{HeapAccepted};
 ghost use Rattle.heap_model.specs.Lists.{times};
-ghost use Rattle.store_check.specs.Naming.{AreMarks, AddsMarks, HasNoMarks};
+ghost use Rattle.heap_check.specs.Owners.{marked_word};
+ghost use Rattle.store_check.specs.Naming.{HasRoom, HasMark, AreMarks, AddsMarks};
 
 use allowance::{Allowance, zeros};
-use heap_model::Name;
-use master_table::slots_before;
+use chunk_format::{FRAME_SIZE, SLOT_SIZE, is_chained, slot_count};
+use heap_check::{mark_number, marks_needed};
 use raw_region::Region;
 use std::alloc::AllocError;
 
-/// A mark for each of so many slots, and none is set. The only error is a refused growth.
-pub(crate) fn no_marks<A: Allowance>(memory: &A, slots: u16) -> Result<Vec<u8>, AllocError>
-    ensures len { IfOk result (λ marks. length marks.items ≡ slots) }
-    ensures clear { IfOk result (λ marks. HasNoMarks marks.items) }
-    ensures short { OnErr result (A.is_short memory.now) }
+/// How many marks are taken for an image: one for each slot of an only table, and with a chain of tables
+/// one for each word of the image.
+pub(crate) fn mark_count(region: &Region) -> usize
+    requires { HeapAccepted region.now.bytes }
+    ensures room { HasRoom region.now.bytes result }
+    ensures most { slot_size * result ≤ length region.now.bytes }
 {
-    zeros(memory, slots as usize)
+    if is_chained(region) {
+        marks_needed(region)
+    } else {
+        slot_count(region) as usize
+    }
 }
 
-/// Marks a slot once more. What is no slot has no mark.
-#[inline]
-pub(crate) fn mark(region: &Region, slot: u32, marks: &mut [u8])
-    requires frame { HasFrame region.now }
-    requires room { slots_total region.now.bytes ≤ length marks.old }
-    ensures { AddsMarks region.now.bytes (slot ∷ []) marks.old marks.new }
+/// So many marks, none of which is set. The only error is a refused growth.
+pub(crate) fn no_marks<A: Allowance>(memory: &A, count: usize) -> Result<Vec<u8>, AllocError>
+    ensures len { IfOk result (λ marks. length marks.items ≡ count) }
+    ensures clear { IfOk result (λ marks. AreMarks [] marks.items) }
+    ensures short { OnErr result (A.is_short memory.now) }
 {
-    if let Some(number) = slots_before(region, Name(slot)) {
-        if marks[number as usize] < 2 {
-            marks[number as usize] += 1;
+    zeros(memory, count)
+}
+
+/// Marks a slot once more. What no slot can be has no mark.
+#[inline]
+pub(crate) fn mark(slot: u32, marks: &mut [u8])
+    ensures { AddsMarks (slot ∷ []) marks.old marks.new }
+{
+    if let Some(number) = mark_number(slot) {
+        if (number as usize) < marks.len() {
+            if marks[number as usize] < 2 {
+                marks[number as usize] += 1;
+            }
         }
     }
 }
 
+/// The offset of the word that the mark of a number belongs to.
+pub(crate) fn word_of_mark(number: usize) -> u32
+    requires { marked_word number < 2 ^ 24 }
+    ensures { result ≡ marked_word number }
+{
+    FRAME_SIZE + SLOT_SIZE * number as u32
+}
+
 /// Whether a slot is marked.
 #[inline]
-pub(crate) fn is_marked(region: &Region, slot: u32, marks: &[u8]) -> bool
-    requires frame { HasFrame region.now }
-    requires slot { IsSlot region.now.bytes slot }
-    requires room { slots_total region.now.bytes ≤ length marks.now }
-    ensures { (xs : List ℕ) → AreMarks region.now.bytes xs marks.now
+pub(crate) fn is_marked(slot: u32, marks: &[u8]) -> bool
+    ensures { (xs : List ℕ) → HasMark slot (length marks.now) → AreMarks xs marks.now
         → (IsTrue result ↔ (0 < times slot xs)) }
 {
-    let number = slots_before(region, Name(slot)).unwrap();
-    marks[number as usize] != 0
+    match mark_number(slot) {
+        Some(number) => (number as usize) < marks.len() && marks[number as usize] != 0,
+        None => false,
+    }
 }

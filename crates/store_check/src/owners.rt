@@ -1,27 +1,54 @@
-//! The owners of the chunks of slots, as the heap's check noted them.
+//! The owners of the chunks of slots, as they were noted.
 
-ghost use Rattle.std.specs.Prelude.{◌≡◌, ◌↔◌, IsTrue};
+ghost use Rattle.std.specs.Prelude.{◌≡◌, ◌↔◌, ℕ, List, length, IsTrue, IfOk, OnErr};
 ghost use Rattle.heap_model.specs.Chunk.{managers_owner, data_owner};
 ghost use Rattle.heap_model.specs.Heap.{HeapAccepted};
 ghost use Rattle.heap_model.specs.Store.{owner_under};
-ghost use Rattle.heap_check.specs.Owners.{HasOwners};
+ghost use Rattle.heap_check.specs.Owners.{NoneMarked, HasOwners};
 ghost use Rattle.store_check.specs.Owners.{IsOurOwner, TellsOwner};
 
+use crate::marks::mark_count;
+use allowance::{Allowance, filled};
 use chunk_format::{DATA_OWNER, MANAGERS_OWNER};
-use heap_check::NO_OWNER;
-use heap_model::Name;
-use master_table::slots_before;
+use heap_check::{NO_OWNER, mark_number, note_owners};
 use raw_region::Region;
+use std::alloc::AllocError;
+
+/// The owners of the chunks of an image's slots, in memory that is taken for them. The only error is a
+/// refused growth.
+pub(crate) fn noted_owners<A: Allowance>(memory: &A, region: &Region) -> Result<Vec<u8>, AllocError>
+    requires accepted { HeapAccepted region.now.bytes }
+    ensures owners { IfOk result (λ owners. HasOwners region.now.bytes owners.items) }
+    ensures short { OnErr result (A.is_short memory.now) }
+{
+    let mut owners = no_owners(memory, mark_count(region))?;
+    note_owners(region, &mut owners);
+    Ok(owners)
+}
+
+/// So many marks for owners, and no owner is noted. The only error is a refused growth.
+fn no_owners<A: Allowance>(memory: &A, count: usize) -> Result<Vec<u8>, AllocError>
+    ensures len { IfOk result (λ owners. length owners.items ≡ count) }
+    ensures clear { IfOk result (λ owners. NoneMarked owners.items) }
+    ensures short { OnErr result (A.is_short memory.now) }
+{
+    filled(memory, NO_OWNER, count)
+}
 
 /// The owner of a slot's chunk, by what was noted. What is no slot has none.
 #[inline]
-fn noted_owner(region: &Region, slot: u32, owners: &[u8]) -> u8
-    requires accepted { HeapAccepted region.now.bytes }
-    requires owners { HasOwners region.now.bytes owners.now }
-    ensures { TellsOwner region.now.bytes slot result }
+fn noted_owner(slot: u32, owners: &[u8]) -> u8
+    ensures { (image : List ℕ) → HeapAccepted image → HasOwners image owners.now
+        → TellsOwner image slot result }
 {
-    match slots_before(region, Name(slot)) {
-        Some(number) => owners[number as usize],
+    match mark_number(slot) {
+        Some(number) => {
+            if (number as usize) < owners.len() {
+                owners[number as usize]
+            } else {
+                NO_OWNER
+            }
+        }
         None => NO_OWNER,
     }
 }
@@ -35,20 +62,18 @@ pub(crate) fn is_our_owner(owner: u8) -> bool
 }
 
 /// Whether a slot has a chunk of the manager's.
-pub(crate) fn is_managers(region: &Region, slot: u32, owners: &[u8]) -> bool
-    requires accepted { HeapAccepted region.now.bytes }
-    requires owners { HasOwners region.now.bytes owners.now }
-    ensures { IsTrue result ↔ (owner_under region.now.bytes slot ≡ managers_owner) }
+pub(crate) fn is_managers(slot: u32, owners: &[u8]) -> bool
+    ensures { (image : List ℕ) → HeapAccepted image → HasOwners image owners.now
+        → (IsTrue result ↔ (owner_under image slot ≡ managers_owner)) }
 {
-    noted_owner(region, slot, owners) == MANAGERS_OWNER
+    noted_owner(slot, owners) == MANAGERS_OWNER
 }
 
 /// Whether a slot has a chunk for data.
 #[inline]
-pub(crate) fn is_for_data(region: &Region, slot: u32, owners: &[u8]) -> bool
-    requires accepted { HeapAccepted region.now.bytes }
-    requires owners { HasOwners region.now.bytes owners.now }
-    ensures { IsTrue result ↔ (owner_under region.now.bytes slot ≡ data_owner) }
+pub(crate) fn is_for_data(slot: u32, owners: &[u8]) -> bool
+    ensures { (image : List ℕ) → HeapAccepted image → HasOwners image owners.now
+        → (IsTrue result ↔ (owner_under image slot ≡ data_owner)) }
 {
-    noted_owner(region, slot, owners) == DATA_OWNER
+    noted_owner(slot, owners) == DATA_OWNER
 }

@@ -1,16 +1,18 @@
 //! The words of the directory: the slots of the headers.
 
-ghost use Rattle.std.specs.Prelude.{◌≡◌, ◌≤◌, ◌<◌, ◌*◌, ◌↔◌, [], ◌∷◌, length, IsTrue, IfSome, IfNone};
-ghost use Rattle.heap_model.specs.Slots.{slot_size, slots_total};
+ghost use Rattle.std.specs.Prelude.{◌≡◌, ◌<◌, ◌⊎◌, ◌↔◌, ℕ, List, [], ◌∷◌, length, IsTrue, IfSome, IfNone};
+ghost use Rattle.heap_model.specs.Chunk.{managers_owner};
 ghost use Rattle.heap_model.specs.Heap.{HeapAccepted, directory_of};
-ghost use Rattle.heap_model.specs.Store.{directory_bytes, most_databases};
+ghost use Rattle.heap_model.specs.Lists.{times};
+ghost use Rattle.heap_model.specs.Store.{owner_under, directory_bytes};
 ghost use Rattle.heap_check.specs.Faults.{FirstBrought};
 ghost use Rattle.heap_check.specs.Owners.{HasOwners};
 ghost use Rattle.store_check.specs.Listing.{IsListing};
-ghost use Rattle.store_check.specs.Faults.{IsBadSlot, slot_faults, NoneBrought};
-ghost use Rattle.store_check.specs.Naming.{met, managers_slots, AreMarks};
+ghost use Rattle.store_check.specs.Faults.{slot_faults, NoneBrought};
+ghost use Rattle.store_check.specs.Naming.{managers_slots, HasRoom, AreMarks};
 
 use crate::fault::StoreFault;
+use crate::lookup::directory_in;
 use crate::marks::{is_marked, mark};
 use crate::owners::is_managers;
 use crate::words::{listed_count, word_at};
@@ -18,49 +20,39 @@ use chunk_format::SLOT_SIZE;
 use db_format::MOST_DATABASES;
 use raw_region::Region;
 
-/// Whether the word of an index is bad, where the directory's own slot and the words in front are
-/// marked.
-fn is_bad_slot(region: &Region, directory: &[u8], index: usize, owners: &[u8], marks: &[u8]) -> bool
-    requires accepted { HeapAccepted region.now.bytes }
-    requires owners { HasOwners region.now.bytes owners.now }
-    requires room { slots_total region.now.bytes ≤ length marks.now }
-    requires directory { directory.now ≡ directory_bytes region.now.bytes }
-    requires inside { slot_size * index < length directory.now }
-    requires few { index ≤ most_databases }
-    requires marks { AreMarks region.now.bytes (met region.now.bytes index) marks.now }
-    ensures { IsTrue result ↔ IsBadSlot region.now.bytes index }
+/// Whether a slot has no chunk of the manager's, or is marked.
+fn is_other_or_marked(slot: u32, owners: &[u8], marks: &[u8]) -> bool
+    ensures { (image xs : List ℕ) → HeapAccepted image → HasOwners image owners.now
+        → HasRoom image (length marks.now) → AreMarks xs marks.now
+        → (IsTrue result ↔ ((owner_under image slot ≡ managers_owner → ⊥)
+        ⊎ (0 < times slot xs))) }
 {
-    if index >= listed_count(directory) || index >= MOST_DATABASES as usize {
-        return true;
-    }
-    let slot = word_at(directory, index);
-    !is_managers(region, slot, owners) || is_marked(region, slot, marks)
+    !is_managers(slot, owners) || is_marked(slot, marks)
 }
 
 /// The first bad word of the directory, where its own slot is marked. All that it lists is then marked
 /// too.
-pub(crate) fn find_bad_slot(
-    region: &Region,
-    directory: &[u8],
-    owners: &[u8],
-    marks: &mut [u8],
-) -> Option<StoreFault>
+pub(crate) fn find_bad_slot(region: &Region, owners: &[u8], marks: &mut [u8]) -> Option<StoreFault>
     requires accepted { HeapAccepted region.now.bytes }
     requires owners { HasOwners region.now.bytes owners.now }
-    requires room { slots_total region.now.bytes ≤ length marks.old }
-    requires directory { directory.now ≡ directory_bytes region.now.bytes }
-    requires marks { AreMarks region.now.bytes (directory_of region.now.bytes ∷ []) marks.old }
+    requires room { HasRoom region.now.bytes (length marks.old) }
+    requires marks { AreMarks (directory_of region.now.bytes ∷ []) marks.old }
     ensures some { IfSome result (FirstBrought (slot_faults region.now.bytes)) }
     ensures none { IfNone result (NoneBrought (slot_faults region.now.bytes)) }
-    ensures listing { IfNone result (IsListing region.now.bytes directory.now) }
-    ensures marked { IfNone result (AreMarks region.now.bytes
-        (managers_slots region.now.bytes) marks.new) }
+    ensures listing { IfNone result
+        (IsListing region.now.bytes (directory_bytes region.now.bytes)) }
+    ensures marked { IfNone result (AreMarks (managers_slots region.now.bytes) marks.new) }
 {
+    let directory = directory_in(region);
     for index in 0..directory.len().div_ceil(SLOT_SIZE as usize) {
-        if is_bad_slot(region, directory, index, owners, marks) {
+        if index >= listed_count(directory) || index >= MOST_DATABASES as usize {
             return Some(StoreFault::BadDirectorySlot(index as u32));
         }
-        mark(region, word_at(directory, index), marks);
+        let slot = word_at(directory, index);
+        if is_other_or_marked(slot, owners, marks) {
+            return Some(StoreFault::BadDirectorySlot(index as u32));
+        }
+        mark(slot, marks);
     }
     None
 }

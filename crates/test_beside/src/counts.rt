@@ -177,5 +177,6 @@ fn memory_name(call: &MemoryCall) -> &'static str {
         MemoryCall::FreeBytes => "free_bytes",
         MemoryCall::LargestStretch => "largest_stretch",
         MemoryCall::Compact => "compact",
+        MemoryCall::MoreSlots => "more_slots",
     }
 }

@@ -46,3 +46,18 @@ pub fn blank_image(alloc: Global, size: u32, slots: u16) -> Result<Vec<u8>, Fail
     let region = changed_words(alloc, size, slots, &[])?;
     Ok(Vec::from_slice(alloc, bytes_of(&region))?)
 }
+
+/// A blank image with a chain of tables: behind the slots the word `next` is 0.
+pub fn chained_image(alloc: Global, size: u32, slots: u16) -> Result<Vec<u8>, Fail> {
+    let area = (20 + 4 * u32::from(slots)).next_multiple_of(8);
+    let Some(room) = size.checked_sub(area) else {
+        return Err("no room for the slots")?;
+    };
+    let mut image = Vec::from_slice(alloc, b"PHI2")?;
+    image.extend_from_slice(&size.to_be_bytes())?;
+    image.extend_from_slice(&slots.to_be_bytes())?;
+    image.resize(area as usize, 0)?;
+    image.extend_from_slice(&(0x8000_0000 | room).to_be_bytes())?;
+    image.resize(size as usize, 0)?;
+    Ok(image)
+}

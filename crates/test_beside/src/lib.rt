@@ -22,7 +22,7 @@ mod verdicts;
 pub use beside::{Beside, bytes_of, image_of, store_of};
 pub use counts::{Counts, Outcome};
 pub use draw::memory_call;
-pub use images::{MIXED, blank_image};
+pub use images::{MIXED, blank_image, chained_image};
 pub use outcomes::OUTCOMES;
 pub use palm_script::do_call;
 pub use verdicts::{Verdict, agreed_verdict};

@@ -4,7 +4,7 @@ use heap_model::{FileFault, Refusal, Which};
 
 /// Each call with the refusals that it must have met, beside being accepted. That there are too many
 /// databases or records has tests of its own; a heap has too few slots for too many resources.
-pub const OUTCOMES: [(&str, &[Refusal]); 62] = [
+pub const OUTCOMES: [(&str, &[Refusal]); 63] = [
     (
         "handle_new",
         &[Refusal::InvalidOwner, Refusal::NotEnoughSpace],
@@ -64,6 +64,7 @@ pub const OUTCOMES: [(&str, &[Refusal]); 62] = [
     ("free_bytes", &[]),
     ("largest_stretch", &[]),
     ("compact", &[]),
+    ("more_slots", &[Refusal::NotEnoughSpace]),
     (
         "create",
         &[

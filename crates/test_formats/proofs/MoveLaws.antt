@@ -6,13 +6,13 @@ use Rattle.heap_model.specs.Chunk.{Chunk, free, movable, fixed, need, total}
 use Rattle.heap_model.specs.Slots.{area_start}
 use Rattle.heap_model.specs.Placed.{EveryOne}
 use Rattle.heap_model.specs.Meaning.{LiveChunk}
-use Rattle.heap_model.specs.Reading.{chunks_of, live_under, held}
+use Rattle.heap_model.specs.Reading.{chunks_of, live_under, held, is_fixed_name}
 use Rattle.heap_model.specs.Space.{stays, NoneStays, place_of, Still, MovesNothing, MovesOneStretch, MovesAlone, MovesOneStretchAnd, FitsInPlace, free_behind}
 use Rattle.heap_model.specs.Layout.{layout_of}
 use Rattle.heap_model.specs.Packing.{Slid, SlidesOneStretch}
 use Rattle.laws_heap.proofs.Tests.{same_some, none_some}
 use Rattle.laws_heap.proofs.Lives.{live_under-append, live_placed, move_live}
-use Rattle.laws_heap.proofs.FixedNames.{fixed_name, is_fixed_name, fixed_name_is, fixed_tested}
+use Rattle.laws_heap.proofs.FixedNames.{fixed_name, fixed_name_is, fixed_tested}
 use Rattle.laws_heap.proofs.FreeChunks.{or_front, or_back}
 use Rattle.laws_heap.proofs.Slides.{slid_middle, slid_merged}
 use Rattle.laws_heap.proofs.Packings.{no_true}

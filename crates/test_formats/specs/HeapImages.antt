@@ -40,7 +40,7 @@ tests_of image = head_tests image ++ area_tests image
 
 -- every test but the one of this number says yes
 abbrev pub all_but : ℕ → List Bool
-all_but number = replicate number true ++ false ∷ replicate (13 - number) true
+all_but number = replicate number true ++ false ∷ replicate (14 - number) true
 
 -- the image breaks the part of this number alone
 abbrev pub BreaksAlone : List ℕ → ℕ → Type 0

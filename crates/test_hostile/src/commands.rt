@@ -6,7 +6,7 @@ use chunk_format::BlankFault;
 use heap_model::Bytes;
 use palm_script::{LineFault, ScriptFault};
 use palm_text::Counted;
-use palmheap_program::{cmd_check_from, cmd_new_from, cmd_run_from};
+use palmheap_program::{cmd_check_from, cmd_migrate_from, cmd_new_from, cmd_run_from};
 use program_io::{Status, say_bad, say_line_fault};
 use std::alloc::Global;
 use std::test::*;
@@ -20,6 +20,8 @@ enum Trial {
     Check(&'static str),
     /// The run of a script on a listed image.
     Run(&'static str, &'static str),
+    /// The migration of a listed image.
+    Migrate(&'static str),
     /// The line for a fault.
     Bad,
     /// The line for a refused script.
@@ -72,6 +74,7 @@ fn status_of(
         Trial::New(size) => Ok(new_with(memory, *size, outputs)),
         Trial::Check(listing) => check_with(memory, alloc, listing, outputs),
         Trial::Run(listing, text) => run_with(memory, alloc, listing, text, outputs),
+        Trial::Migrate(listing) => migrate_with(memory, alloc, listing, outputs),
         Trial::Bad => Ok(say_bad(
             memory,
             BlankFault::BadSize,
@@ -116,8 +119,18 @@ fn run_with(
     ))
 }
 
+fn migrate_with(
+    memory: &RefusesOne,
+    alloc: Global,
+    listing: &str,
+    outputs: &mut Outputs,
+) -> Result<Status, Fail> {
+    let image = bytes_of(alloc, listing)?;
+    Ok(cmd_migrate_from(memory, &image, &mut outputs.image, &mut outputs.text))
+}
+
 /// How many growths each has, and its status where none is refused.
-static TRIALS: [(Trial, u32, Status); 9] = [
+static TRIALS: [(Trial, u32, Status); 12] = [
     (Trial::New(128), 1, Status::Done),
     (Trial::New(100), 2, Status::BadWords),
     (Trial::Check(DATABASE), 5, Status::Done),
@@ -129,6 +142,9 @@ static TRIALS: [(Trial, u32, Status); 9] = [
         Status::Refused,
     ),
     (Trial::Run("00", WRITTEN), 3, Status::Refused),
+    (Trial::Migrate(DATABASE), 4, Status::Done),
+    (Trial::Migrate(BLANK), 4, Status::Done),
+    (Trial::Migrate("00"), 3, Status::Refused),
     (Trial::Bad, 2, Status::BadWords),
     (Trial::BadLine, 2, Status::Refused),
 ];

@@ -25,4 +25,6 @@ mod resources;
 #[cfg(test)]
 mod stores;
 #[cfg(test)]
+mod tables;
+#[cfg(test)]
 mod writes;

@@ -4,7 +4,7 @@ use crate::drawn::Drawn;
 use rand_pcg::Pcg32;
 use std::alloc::Global;
 use std::test::*;
-use test_beside::{Counts, MIXED, OUTCOMES, blank_image};
+use test_beside::{Counts, MIXED, OUTCOMES, blank_image, chained_image};
 use test_support::{DATABASE, TWO_DATABASES, bytes_of, equal};
 
 /// Draws the list that a seed gives, in parts of so many calls. Behind each part the whole list so far is run.
@@ -24,9 +24,11 @@ fn check_list(
     Ok(())
 }
 
-/// What a list starts from: a blank image of so many bytes and slots, or a listed one with databases.
+/// What a list starts from: a blank image of so many bytes and slots, with one table or with a chain of them, or a
+/// listed one with databases.
 enum Start {
     Blank(u32, u16),
+    Chained(u32, u16),
     Listed(&'static str),
 }
 
@@ -35,6 +37,8 @@ static BLANKS: [Start; 3] = [
     Start::Blank(512, 6),
     Start::Blank(4096, 40),
 ];
+
+static CHAINS: [Start; 2] = [Start::Chained(512, 2), Start::Chained(4096, 5)];
 
 static FILLED: [Start; 3] = [
     Start::Listed(DATABASE),
@@ -45,6 +49,7 @@ static FILLED: [Start; 3] = [
 fn image_of(alloc: Global, start: &Start) -> Result<Vec<u8>, Fail> {
     match start {
         Start::Blank(size, slots) => blank_image(alloc, *size, *slots),
+        Start::Chained(size, slots) => chained_image(alloc, *size, *slots),
         Start::Listed(listing) => bytes_of(alloc, listing),
     }
 }
@@ -73,6 +78,12 @@ fn fronts_from_blank_images(rt: HostRuntime) -> Result<(), Fail> {
 }
 
 #[test]
+fn fronts_from_images_with_chains(rt: HostRuntime) -> Result<(), Fail> {
+    let mut counts = Counts::new(rt.alloc());
+    check_lists(rt.alloc(), &mut counts, &CHAINS, 1, &LAST_FRONTS)
+}
+
+#[test]
 fn fronts_from_images_with_databases(rt: HostRuntime) -> Result<(), Fail> {
     let mut counts = Counts::new(rt.alloc());
     check_lists(rt.alloc(), &mut counts, &FILLED, 2, &LAST_FRONTS)
@@ -93,6 +104,9 @@ fn lists_of_thousands_of_calls(rt: HostRuntime) -> Result<(), Fail> {
     let mut counts = Counts::new(rt.alloc());
     for seed in 3..33u64 {
         check_seed(rt.alloc(), &mut counts, seed)?;
+    }
+    for seed in 33..37u64 {
+        check_lists(rt.alloc(), &mut counts, &CHAINS, seed, &PARTS)?;
     }
     equal("missing", counts.missing(&OUTCOMES), None)
 }

@@ -78,6 +78,7 @@ fn call_alone(word: &str) -> Option<MemoryCall> {
         "free_bytes" => Some(MemoryCall::FreeBytes),
         "largest_stretch" => Some(MemoryCall::LargestStretch),
         "compact" => Some(MemoryCall::Compact),
+        "more_slots" => Some(MemoryCall::MoreSlots),
         _ => None,
     }
 }

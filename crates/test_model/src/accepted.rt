@@ -178,7 +178,11 @@ fn check_chunks(image: &Image, headers: &[Name], named: &[Name]) -> Result<(), U
             continue;
         };
         let is_right = match live.owner {
-            0 => headers.contains(&live.name) || image.directory() == Some(live.name),
+            0 => {
+                live.is_table()
+                    || headers.contains(&live.name)
+                    || image.directory() == Some(live.name)
+            }
             15 => count_of(named, live.name) == 1,
             _ => true,
         };

@@ -22,7 +22,7 @@ pub struct PlainHeap {
 }
 
 impl PlainHeap {
-    /// All chunks that an image holds.
+    /// All chunks that an image holds, but tables.
     pub fn of(alloc: Global, image: &Image) -> Result<PlainHeap, AllocError> {
         PlainHeap::owned_from(alloc, image, 0)
     }
@@ -37,6 +37,7 @@ impl PlainHeap {
         for piece in &image.pieces {
             if let Some(live) = piece.live
                 && live.owner >= least
+                && !live.is_table()
             {
                 let chunk = Chunk {
                     lock: live.lock,
@@ -72,6 +73,7 @@ impl PlainHeap {
         }
         for piece in &image.pieces {
             if let Some(live) = piece.live
+                && !live.is_table()
                 && !self.chunks.contains_key(&live.name.0)
             {
                 return Some(live.name);

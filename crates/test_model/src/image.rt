@@ -11,6 +11,8 @@ pub enum Unreadable {
     Frame,
     /// The chunk at this offset, or that it isn't tied to its slot.
     Chunk(u32),
+    /// The word `next` of this index in the chain, from 0, leads to no further table.
+    Table(u32),
     /// The slot at this offset holds no place of a chunk that names it.
     Slot(u32),
     Directory,
@@ -25,13 +27,21 @@ impl From<AllocError> for Unreadable {
 /// The lock of a fixed chunk. That of a movable one is its lock count.
 pub(crate) const FIXED: u8 = 15;
 
-/// A live chunk: its name, and what its header and its body have.
+/// A live chunk: its name, and what its header and its body have. A further table has the place of its body as its
+/// name here, which callers can't use.
 #[derive(Clone, Copy)]
 pub struct Live<'a> {
     pub name: Name,
     pub lock: u8,
     pub owner: u8,
     pub bytes: &'a [u8],
+}
+
+impl Live<'_> {
+    /// Whether it is a further table: a fixed chunk of the manager's.
+    pub(crate) fn is_table(&self) -> bool {
+        self.lock == FIXED && self.owner == 0
+    }
 }
 
 /// A chunk where it stands: the place of its body, what it takes with its header, and what it is where
@@ -62,6 +72,22 @@ impl<'a> Piece<'a> {
     }
 }
 
+/// A further table: where its body is, and how many slots it has.
+#[derive(Clone, Copy, Debug, PartialEq, Eq)]
+pub(crate) struct Table {
+    pub place: u32,
+    pub count: u32,
+}
+
+impl Table {
+    /// The offset of the slot of a number: the first is behind the word `next`.
+    pub(crate) fn slot_at(&self, number: u32) -> u32 {
+        self.place
+            .saturating_add(4)
+            .saturating_add(number.saturating_mul(4))
+    }
+}
+
 /// A slot: its offset, and the place that it holds, 0 where it is free.
 #[derive(Clone, Copy)]
 struct Slot {
@@ -74,6 +100,8 @@ struct Slot {
 pub struct Image<'a> {
     pub bytes: &'a [u8],
     pub pieces: Vec<Piece<'a>>,
+    /// The further tables, along the chain.
+    pub(crate) tables: Vec<Table>,
     slots: Vec<Slot>,
 }
 
@@ -86,13 +114,39 @@ impl<'a> Image<'a> {
         let Some(area) = padded_end(bytes, slot_count) else {
             return Err(Unreadable::Frame);
         };
+        let pieces = pieces_of(alloc, bytes, area)?;
+        let tables = tables_of(alloc, bytes, &pieces, slot_count)?;
+        let slots = slots_of(alloc, bytes, slot_count, &tables)?;
         let image = Image {
             bytes,
-            pieces: pieces_of(alloc, bytes, area)?,
-            slots: slots_of(alloc, bytes, slot_count)?,
+            pieces,
+            tables,
+            slots,
         };
+        image.check_fixed()?;
         image.check_ties()?;
         Ok(image)
+    }
+
+    /// Whether each fixed chunk is a caller's or a table of the chain.
+    fn check_fixed(&self) -> Result<(), Unreadable> {
+        for piece in &self.pieces {
+            if let Some(live) = piece.live
+                && live.lock == FIXED
+                && !self.may_be_fixed(live.owner, piece.place.0)
+            {
+                return Err(Unreadable::Chunk(piece.place.0.saturating_sub(8)));
+            }
+        }
+        Ok(())
+    }
+
+    /// Whether a fixed chunk at a place may have this owner.
+    fn may_be_fixed(&self, owner: u8, place: u32) -> bool {
+        match owner {
+            0 => has_table(&self.tables, place),
+            _ => owner < 15,
+        }
     }
 
     /// Whether slots and movable chunks are paired, and the directory word names a chunk of the
@@ -140,10 +194,10 @@ impl<'a> Image<'a> {
         None
     }
 
-    /// The body of a chunk of the manager's.
+    /// The body of a movable chunk of the manager's.
     pub(crate) fn managers_body(&self, name: Name) -> Option<&'a [u8]> {
         match self.live(name) {
-            Some(live) if live.owner == 0 => Some(live.bytes),
+            Some(live) if live.owner == 0 && !live.is_table() => Some(live.bytes),
             _ => None,
         }
     }
@@ -175,6 +229,11 @@ impl<'a> Image<'a> {
             }
         }
         None
+    }
+
+    /// Whether the image has a chain of tables.
+    pub fn is_chained(&self) -> bool {
+        is_chained(self.bytes)
     }
 
     /// The name of the directory, none where there is none.
@@ -335,11 +394,16 @@ impl<'a> Image<'a> {
     }
 }
 
+/// Whether an image has a chain of tables, by its first word.
+fn is_chained(bytes: &[u8]) -> bool {
+    bytes.starts_with(b"PHI2")
+}
+
 /// The number of slots, where the words in front of them are right.
 fn framed_slots(bytes: &[u8]) -> Option<u16> {
     let size = u32_at(bytes, 4);
     let slot_count = u16_at(bytes, 8);
-    let is_framed = bytes.starts_with(b"PHI1")
+    let is_framed = (bytes.starts_with(b"PHI1") || is_chained(bytes))
         && size as usize == bytes.len()
         && size % 8 == 0
         && size >= 64
@@ -349,20 +413,112 @@ fn framed_slots(bytes: &[u8]) -> Option<u16> {
     if is_framed { Some(slot_count) } else { None }
 }
 
-/// The slots, in order.
-fn slots_of(alloc: Global, bytes: &[u8], slot_count: u16) -> Result<Vec<Slot>, AllocError> {
+/// The slots, in order: those of the first table, then along the chain.
+fn slots_of(
+    alloc: Global,
+    bytes: &[u8],
+    slot_count: u16,
+    tables: &[Table],
+) -> Result<Vec<Slot>, AllocError> {
     let mut slots = Vec::new(alloc);
-    for number in 0..slot_count {
-        let at = 16 + 4 * u32::from(number);
-        let holds = u32_at(bytes, at as usize);
-        slots.push(Slot { at, holds })?;
+    add_slots(bytes, 16, u32::from(slot_count), &mut slots)?;
+    for table in tables {
+        add_slots(
+            bytes,
+            table.place.saturating_add(4),
+            table.count,
+            &mut slots,
+        )?;
     }
     Ok(slots)
 }
 
-/// Where the chunks begin: behind the slots and zeros up to a multiple of 8. At least 8 bytes are there.
+/// Adds so many slots from an offset on.
+fn add_slots(
+    bytes: &[u8],
+    first: u32,
+    count: u32,
+    slots: &mut Vec<Slot>,
+) -> Result<(), AllocError> {
+    for number in 0..count {
+        let at = first.saturating_add(number.saturating_mul(4));
+        let holds = u32_at(bytes, at as usize);
+        slots.push(Slot { at, holds })?;
+    }
+    Ok(())
+}
+
+/// The further tables, along the chain: no more than there are chunks. Refused if a word `next` leads to no table, or
+/// to one that came earlier.
+fn tables_of(
+    alloc: Global,
+    bytes: &[u8],
+    pieces: &[Piece],
+    slot_count: u16,
+) -> Result<Vec<Table>, Unreadable> {
+    let mut tables = Vec::new(alloc);
+    let mut at = 16 + 4 * u32::from(slot_count);
+    for _ in 0..pieces.len() {
+        let next = u32_at(bytes, at as usize);
+        if next == 0 || !is_chained(bytes) {
+            break;
+        }
+        let Some(table) = table_at(pieces, next) else {
+            return Err(bad_table(&tables));
+        };
+        if has_table(&tables, next) {
+            return Err(bad_table(&tables));
+        }
+        if tables.push(table).is_err() {
+            return Err(Unreadable::Memory);
+        }
+        at = next;
+    }
+    Ok(tables)
+}
+
+/// That the chain leads to no table behind these.
+fn bad_table(tables: &[Table]) -> Unreadable {
+    Unreadable::Table(u32::try_from(tables.len()).unwrap_or(u32::MAX))
+}
+
+/// The table whose body is at a place: a fixed chunk of the manager's that has a word and one slot or more.
+fn table_at(pieces: &[Piece], place: u32) -> Option<Table> {
+    for piece in pieces {
+        if piece.place.0 == place
+            && let Some(live) = piece.live
+            && live.is_table()
+        {
+            let words = u32::try_from(live.bytes.len() / 4).unwrap_or(0);
+            let is_whole = live.bytes.len() % 4 == 0 && words >= 2;
+            return if is_whole {
+                Some(Table {
+                    place,
+                    count: words - 1,
+                })
+            } else {
+                None
+            };
+        }
+    }
+    None
+}
+
+/// Whether a table at this place is among some.
+fn has_table(tables: &[Table], place: u32) -> bool {
+    for table in tables {
+        if table.place == place {
+            return true;
+        }
+    }
+    false
+}
+
+/// Where the chunks begin: behind the slots, a word `next` if there is a chain, and zeros up to a multiple of 8. At
+/// least 8 bytes are there.
 fn padded_end(bytes: &[u8], slot_count: u16) -> Option<u32> {
-    let end = 16 + 4 * u32::from(slot_count);
+    let next_size = if is_chained(bytes) { 4 } else { 0 };
+    let end = 16 + 4 * u32::from(slot_count) + next_size;
     let area = end.next_multiple_of(8);
     let padding = bytes.get(end as usize..area as usize)?;
     let is_padded = are_zeros(padding) && area as usize + 8 <= bytes.len();
@@ -414,7 +570,7 @@ fn live_of(first: u32, second: u32, body: &[u8], at: u32) -> Option<Live<'_>> {
     let distance = second & 0xFF_FFFF;
     let is_right = match lock {
         0 => true,
-        FIXED => distance == 0 && owner > 0 && owner < 15,
+        FIXED => distance == 0,
         _ => owner > 0,
     };
     if !is_right || first >> 28 != 0 || slack > 7 || slack > body.len() {
@@ -423,7 +579,7 @@ fn live_of(first: u32, second: u32, body: &[u8], at: u32) -> Option<Live<'_>> {
     let name = if lock == FIXED {
         at.saturating_add(8)
     } else {
-        slot_at_distance(at, distance)?
+        slot_at_distance(at, distance)
     };
     Some(Live {
         name: Name(name),
@@ -434,12 +590,12 @@ fn live_of(first: u32, second: u32, body: &[u8], at: u32) -> Option<Live<'_>> {
 }
 
 /// The offset of the slot that lies twice this distance from an offset; the distance has 24 bits in
-/// two's complement.
-fn slot_at_distance(at: u32, distance: u32) -> Option<u32> {
+/// two's complement. It is 0, where no slot is, if that is in front of the image.
+fn slot_at_distance(at: u32, distance: u32) -> u32 {
     if distance < 0x80_0000 {
-        at.checked_add(2 * distance)
+        at.saturating_add(2 * distance)
     } else {
-        at.checked_sub(2 * 0x100_0000u32.checked_sub(distance)?)
+        at.saturating_sub(2 * (0x100_0000 - distance % 0x100_0000))
     }
 }
 

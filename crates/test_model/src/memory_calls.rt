@@ -53,6 +53,7 @@ impl PlainHeap {
             MemoryCall::FreeBytes => Ok(Reply::Number(before.free_bytes())),
             MemoryCall::LargestStretch => Ok(Reply::Number(before.largest_room())),
             MemoryCall::Compact => Ok(Reply::Number(before.moved_bytes(after))),
+            MemoryCall::MoreSlots => more_slots(before),
         };
         answer.unwrap_or_else(Reply::Refused)
     }
@@ -264,6 +265,18 @@ impl Chunk {
             None => Err(Refusal::OutOfBounds),
         }
     }
+}
+
+/// The length of a table of 15 slots: they and the word `next`, 4 bytes each.
+pub(crate) const TABLE_LENGTH: u32 = 64;
+
+/// A table more changes no chunk that has a name. Refused where the image has no chain, or a table has no room.
+fn more_slots(before: &Image) -> Result<Reply, Refusal> {
+    if !before.is_chained() {
+        return Err(Refusal::NotEnoughSpace);
+    }
+    check_room(need(TABLE_LENGTH), before.largest_room())?;
+    Ok(Reply::Done)
 }
 
 /// Refuses a length of so many bytes with the header. A locked chunk grows in its place alone, over the free chunks

@@ -1,7 +1,7 @@
 //! What a call leaves alone, whatever it answers.
 
-use crate::image::{Image, u32_at};
-use crate::memory_calls::need;
+use crate::image::{Image, Table, u32_at};
+use crate::memory_calls::{TABLE_LENGTH, need};
 use heap_model::{
     Call, DatabaseCall, FileCall, MemoryCall, Name, RecordCall, Refusal, Reply, ResourceCall,
 };
@@ -11,6 +11,8 @@ use heap_model::{
 pub enum Rule {
     /// The length, or a byte in front of the slots: the directory word among them.
     Frame,
+    /// The tables are not those that were there, with one of 15 empty slots behind them where the call has made it.
+    Tables,
     /// A call that only asks, or was refused for another reason than want of room, changed a byte.
     Bytes,
     /// A refused call left other free bytes, or another number of free slots.
@@ -34,6 +36,10 @@ pub fn broken_rule(
     if !has_same_frame(before, after) || before.directory() != after.directory() {
         return Some(Rule::Frame);
     }
+    let makes_table = matches!(call, MemoryCall::MoreSlots) && *reply == Reply::Done;
+    if !has_right_tables(makes_table, before, after) {
+        return Some(Rule::Tables);
+    }
     if matches!(call, MemoryCall::Compact) && !after.is_packed() {
         return Some(Rule::Packed);
     }
@@ -55,12 +61,40 @@ pub fn broken_store_rule(
     if !has_same_frame(before, after) || !may_direct && before.directory() != after.directory() {
         return Some(Rule::Frame);
     }
+    if !has_right_tables(false, before, after) {
+        return Some(Rule::Tables);
+    }
     broken_in_area(asks_in_store(call), Moves::Anything, reply, before, after)
 }
 
 /// Whether two images have the same length, and the same bytes in front of the directory word.
 fn has_same_frame(before: &Image, after: &Image) -> bool {
     before.bytes.len() == after.bytes.len() && before.bytes.get(..12) == after.bytes.get(..12)
+}
+
+/// Whether the tables are those that were there, and behind them, if one was made, one of 15 slots, all of them empty.
+fn has_right_tables(makes_table: bool, before: &Image, after: &Image) -> bool {
+    if !makes_table {
+        return before.tables.as_slice() == after.tables.as_slice();
+    }
+    let Some((last, others)) = after.tables.as_slice().split_last() else {
+        return false;
+    };
+    before.tables.as_slice() == others
+        && last.count == 15
+        && after.free_slots() == before.free_slots().saturating_add(15)
+        && is_empty(*last, after)
+}
+
+/// Whether no slot of a table is in use.
+fn is_empty(table: Table, image: &Image) -> bool {
+    for number in 0..table.count {
+        let at = table.slot_at(number);
+        if !image.is_free_slot(Name(at)) {
+            return false;
+        }
+    }
+    true
 }
 
 /// Whether a call has made a database.
@@ -151,21 +185,27 @@ enum Moves {
     Anything,
 }
 
-/// What a call may move: nothing for a new chunk for which a run of free chunks has the room, or for a
+/// What a call may move: nothing for a new chunk or table for which a run of free chunks has the room, or for a
 /// length that a chunk can have in its place, and one stretch for any other new chunk.
 fn movable_by(call: &MemoryCall, before: &Image) -> Moves {
     match call {
         MemoryCall::HandleNew { size, .. } | MemoryCall::PtrNew { size, .. } => {
-            if before.has_run(need(*size)) {
-                Moves::Nothing
-            } else {
-                Moves::OneStretch
-            }
+            movable_for(*size, before)
         }
+        MemoryCall::MoreSlots => movable_for(TABLE_LENGTH, before),
         MemoryCall::Resize { name, size } if need(*size) <= before.size_with_behind(*name) => {
             Moves::Nothing
         }
         _ => Moves::Anything,
+    }
+}
+
+/// What a new chunk of so many bytes may move.
+fn movable_for(size: u32, before: &Image) -> Moves {
+    if before.has_run(need(size)) {
+        Moves::Nothing
+    } else {
+        Moves::OneStretch
     }
 }
 

@@ -10,7 +10,7 @@ pub(crate) enum Output {
 }
 
 /// The words of each run behind the program's own name, and what becomes of what it prints.
-pub(crate) static CASES: [(&str, Output); 24] = [
+pub(crate) static CASES: [(&str, Output); 29] = [
     // images that are made, or that there are not
     ("new 64 1 out.img", Taken),
     ("new 127 4 out.img", Taken),
@@ -41,6 +41,12 @@ pub(crate) static CASES: [(&str, Output); 24] = [
     ("run blank.img calls.txt none/out.img", Taken),
     ("run room.img files.txt full.img order.pdb tiny.prc", Taken),
     ("run blank.img calls.txt out.img", Refused),
+    // images that get a chain of tables, or don't
+    ("migrate blank.img out.img", Taken),
+    ("migrate shared.img out.img", Taken),
+    ("migrate none.img out.img", Taken),
+    ("migrate blank.img none/out.img", Taken),
+    ("migrate blank.img out.img", Refused),
     // words that ask for no command
     ("check", Taken),
     ("--version", Taken),

@@ -1,5 +1,5 @@
-//! Changes of an image, drawn so that they meet what holds it together: headers of chunks, slots, the directory, the
-//! headers of databases and their entries.
+//! Changes of an image, drawn so that they meet what holds it together: headers of chunks, slots, the chain of tables,
+//! the directory, the headers of databases and their entries.
 
 use rand::RngExt;
 use rand_pcg::Pcg32;
@@ -10,22 +10,29 @@ use test_model::{Image, Piece};
 /// Where things stand in an image.
 #[derive(Drop)]
 pub(crate) struct Parts {
-    /// The offsets of the slots.
+    /// The offsets of the slots of all tables.
     slots: Vec<usize>,
     /// The places of the chunks.
     places: Vec<usize>,
-    /// The place and the length of each chunk of the manager's: of the directory, and of the headers of databases
-    /// with their entries.
+    /// The place and the length of each chunk of the manager's: of the directory, of the headers of databases
+    /// with their entries, and of tables. The first word `next` is one of them too.
     lists: Vec<(usize, usize)>,
 }
 
 impl Parts {
     pub(crate) fn of(alloc: Global, bytes: &[u8]) -> Result<Parts, Fail> {
         let mut parts = Parts {
-            slots: slots_of(alloc, bytes)?,
+            slots: Vec::new(alloc),
             places: Vec::new(alloc),
             lists: Vec::new(alloc),
         };
+        let count = (word_at(bytes, 8) / 0x1_0000) as usize;
+        parts.add_slots(16, count)?;
+        if bytes.starts_with(b"PHI2") {
+            parts
+                .lists
+                .push((count.saturating_mul(4).saturating_add(16), 4))?;
+        }
         for piece in &Image::decode(alloc, bytes)?.pieces {
             parts.add(piece)?;
         }
@@ -40,19 +47,28 @@ impl Parts {
             && live.owner == 0
         {
             self.lists.push((place, live.bytes.len()))?;
+            if live.lock == FIXED {
+                self.add_slots(
+                    place.saturating_add(4),
+                    (live.bytes.len() / 4).saturating_sub(1),
+                )?;
+            }
+        }
+        Ok(())
+    }
+
+    /// Adds the slots of a table, by the first of them.
+    fn add_slots(&mut self, first: usize, count: usize) -> Result<(), Fail> {
+        for index in 0..count {
+            self.slots
+                .push(index.saturating_mul(4).saturating_add(first))?;
         }
         Ok(())
     }
 }
 
-/// The offsets of the slots: their number stands at 8, and the first at 16.
-fn slots_of(alloc: Global, bytes: &[u8]) -> Result<Vec<usize>, Fail> {
-    let mut slots = Vec::new(alloc);
-    for index in 0..word_at(bytes, 8) / 0x1_0000 {
-        slots.push((index as usize).saturating_mul(4).saturating_add(16))?;
-    }
-    Ok(slots)
-}
+/// The lock of a fixed chunk. One of the manager's is a table.
+const FIXED: u8 = 15;
 
 fn byte_at(bytes: &[u8], at: usize) -> u8 {
     bytes.get(at).copied().unwrap_or(0)
@@ -121,7 +137,8 @@ fn any_word(random: &mut Pcg32, bytes: &[u8], parts: &Parts, old: u32) -> u32 {
     match drawn(random, 10) {
         0 => 0,
         1..=2 => word_at(bytes, one_of(random, &parts.slots)),
-        3..=4 => (one_of(random, &parts.slots) % 0x100_0000) as u32,
+        3 => (one_of(random, &parts.slots) % 0x100_0000) as u32,
+        4 => (one_of(random, &parts.places) % 0x100_0000) as u32,
         5 => word_at(bytes, any_spot(random, parts)),
         6 => old.wrapping_add(8),
         7 => old.wrapping_sub(8),

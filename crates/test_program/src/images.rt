@@ -5,7 +5,7 @@ use crate::changes::{Parts, change, drawn};
 use rand_pcg::Pcg32;
 use std::alloc::Global;
 use std::test::Fail;
-use test_beside::{Beside, MIXED, Verdict, agreed_verdict, blank_image, store_of};
+use test_beside::{Beside, MIXED, Verdict, agreed_verdict, blank_image, chained_image, store_of};
 use test_support::{DATABASE, TWO_DATABASES, bytes_of};
 
 /// How many images come of each store by changes.
@@ -17,19 +17,19 @@ const CALLS: u32 = 8;
 /// How many calls make a store that is drawn.
 const DRAWN_CALLS: u32 = 60;
 
-/// A store to start from: an image with databases, or what a list of calls leaves of a blank one.
+/// A store to start from: an image with databases, or what a list of calls leaves of a blank one, of either layout.
 fn any_store(alloc: Global, seed: u64) -> Result<Vec<u8>, Fail> {
     match seed % 6 {
         0 => bytes_of(alloc, DATABASE),
         1 => bytes_of(alloc, TWO_DATABASES),
         2 => bytes_of(alloc, MIXED),
-        _ => drawn_store(alloc, seed),
+        3 => drawn_store(alloc, seed, chained_image(alloc, 1024, 5)?),
+        _ => drawn_store(alloc, seed, blank_image(alloc, 1024, 20)?),
     }
 }
 
-fn drawn_store(alloc: Global, seed: u64) -> Result<Vec<u8>, Fail> {
+fn drawn_store(alloc: Global, seed: u64, image: Vec<u8>) -> Result<Vec<u8>, Fail> {
     let mut random = Pcg32::new(seed, 3);
-    let image = blank_image(alloc, 1024, 20)?;
     let spot = format!(in alloc; "calls for store {seed}")?;
     do_calls(alloc, &mut random, image, DRAWN_CALLS, spot.as_str())
 }

@@ -173,7 +173,7 @@ const FIRST_CALLS: [Call; 3] = [
 ];
 
 /// Those behind the two.
-const LAST_CALLS: [Call; 13] = [
+const LAST_CALLS: [Call; 14] = [
     Call::Memory(MemoryCall::Set {
         name: CHUNK,
         at: 4,
@@ -200,6 +200,7 @@ const LAST_CALLS: [Call; 13] = [
     Call::Memory(MemoryCall::FreeBytes),
     Call::Memory(MemoryCall::LargestStretch),
     Call::Memory(MemoryCall::Compact),
+    Call::Memory(MemoryCall::MoreSlots),
     Call::Memory(MemoryCall::FreeByOwner(3)),
     Call::Memory(MemoryCall::Free(CHUNK)),
 ];
@@ -252,7 +253,7 @@ fn calls_are_done_one_by_one(rt: HostRuntime) -> Result<(), Fail> {
     let said =
         "Named(Name(16)); Refused(InvalidOwner); Locked { place: Place(40), count: 1 }; Done; Done; Done; \
         Data(Bytes { bytes: [97, 98, 120, 0, 7, 7] }); Number(1); Number(0); Done; Number(3); Number(10); Done; \
-        Number(64); Number(64); Number(0); Number(1); Refused(InvalidHandle); ";
+        Number(64); Number(64); Number(0); Refused(NotEnoughSpace); Number(1); Refused(InvalidHandle); ";
     let mut store = small_store(alloc)?;
     check_calls(
         alloc,

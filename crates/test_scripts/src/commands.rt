@@ -1,6 +1,6 @@
 //! The commands: what they print and write, and a writer that fails.
 
-use crate::runs::check_told;
+use crate::runs::{BOTH_USED, CHAINED, ONE_FURTHER, TWO_TABLES, check_told};
 use palm_text::Counted;
 use palmheap_program::{cmd_check, cmd_new};
 use program_io::Status;
@@ -129,7 +129,7 @@ pub(crate) fn check_faults(
 }
 
 /// Listings, and what `check` comes to and prints.
-static CHECKS: [(&str, (Status, &str)); 7] = [
+static CHECKS: [(&str, (Status, &str)); 11] = [
     (
         BLANK,
         (
@@ -149,6 +149,34 @@ static CHECKS: [(&str, (Status, &str)); 7] = [
         (
             Status::Done,
             "ok size 208 slots 8 movable 4 fixed 0 free 8\ndatabases 1\n",
+        ),
+    ),
+    (
+        CHAINED,
+        (
+            Status::Done,
+            "ok size 128 slots 1 movable 0 fixed 0 free 104\ndatabases 0\n",
+        ),
+    ),
+    (
+        TWO_TABLES,
+        (
+            Status::Done,
+            "ok size 128 slots 16 movable 1 fixed 1 free 24\ndatabases 0\n",
+        ),
+    ),
+    (
+        ONE_FURTHER,
+        (
+            Status::Done,
+            "ok size 128 slots 16 movable 0 fixed 1 free 32\ndatabases 0\n",
+        ),
+    ),
+    (
+        BOTH_USED,
+        (
+            Status::Done,
+            "ok size 128 slots 16 movable 2 fixed 1 free 16\ndatabases 0\n",
         ),
     ),
     ("", (Status::Refused, "bad TooShort\n")),
@@ -179,6 +207,14 @@ static FAULTS: [(&str, &str); 11] = [
     ("27: 00, 172: FF000000", "bad BadFixedOwner 168\n"),
 ];
 
+/// The same of an image with two tables, the second at 40.
+static CHAIN_FAULTS: [(&str, &str); 4] = [
+    ("23: 30", "bad BadTable 0\n"),
+    ("20: 00000000", "bad BadFixedOwner 32\n"),
+    ("43: 28", "bad BadTable 1\n"),
+    ("47: 20", "bad SlotMismatch 44\n"),
+];
+
 #[test]
 fn check_says_what_is_there(rt: HostRuntime) -> Result<(), Fail> {
     for (listing, wanted) in &CHECKS {
@@ -191,6 +227,8 @@ fn check_says_what_is_there(rt: HostRuntime) -> Result<(), Fail> {
 fn check_names_what_is_wrong(rt: HostRuntime) -> Result<(), Fail> {
     let too_long = ("32: 80000068", "bad BadChunk 32\n");
     check_faults(rt.alloc(), BLANK, &[too_long])?;
+    check_faults(rt.alloc(), CHAINED, &[("23: 20", "bad BadTable 0\n")])?;
+    check_faults(rt.alloc(), TWO_TABLES, &CHAIN_FAULTS)?;
     check_faults(rt.alloc(), DATABASE, &FAULTS)
 }
 

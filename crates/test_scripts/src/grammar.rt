@@ -141,6 +141,9 @@ const LINES: &str = "# commands
     freebytes => Memory(FreeBytes);
     largest => Memory(LargestStretch);
     compact => silent Memory(Compact);
+    moreslots => Memory(MoreSlots);
+    moreslots 1 => line 1 WrongCount
+    more_slots => line 1 UnknownCommand
     # no commands: others of the managers, other cases, parts, quoted words
     recover 40 => line 1 UnknownCommand
     New a 8 1 => line 1 UnknownCommand

@@ -23,6 +23,8 @@ mod grammar;
 #[cfg(test)]
 mod large;
 #[cfg(test)]
+mod migration;
+#[cfg(test)]
 mod moving;
 #[cfg(test)]
 mod pieces;

@@ -14,6 +14,21 @@ use test_support::{BLANK, Narrow, ONE_CHUNK, Unflushed, WIDE, WhenFull, bytes_of
 /// A blank image of 128 bytes with one slot.
 const ONE_SLOT: &str = "50484931 00000080 0001 0000 00000000 00*8 80000068 00*100";
 
+/// The image of one slot with a chain of tables, which has the first table alone.
+pub(crate) const CHAINED: &str = "50484932 00000080 0001 0000 00000000 00*8 80000068 00*100";
+
+/// The same with a second table, behind one chunk.
+pub(crate) const TWO_TABLES: &str = "50484932 00000080 0001 0000 00000000 00000020 00000028 \
+    00000008 01FFFFFC 00000048 F0000000 00*64 80000018 00*20";
+
+/// The image with a chain after `moreslots`: that of docs/FORMAT.md.
+pub(crate) const ONE_FURTHER: &str = "50484932 00000080 0001 0000 00000000 00000000 00000020 \
+    00000048 F0000000 00000000 00*60 80000020 00*28";
+
+/// The same with two tables and a chunk of each.
+pub(crate) const BOTH_USED: &str = "50484932 00000080 0001 0000 00000000 00000020 00000028 \
+    00000008 01FFFFFC 00000048 F0000000 00000000 00000070 00*56 00000008 01FFFFE2 80000010 00*12";
+
 /// A blank image with a chunk that reaches beyond its end.
 const LONG_CHUNK: &str = "50484931 00000080 0004 0000 00000000 00*16 80000068 00*92";
 
@@ -148,7 +163,7 @@ fn check_outcome(
 }
 
 /// Images, and the lines that are run on them, each with its reply.
-static RUNS: [(&str, &str); 7] = [
+static RUNS: [(&str, &str); 11] = [
     // labels are bound
     (
         ONE_CHUNK,
@@ -262,13 +277,61 @@ static RUNS: [(&str, &str); 7] = [
         largest = ok 64
         new d 56 1 = ok",
     ),
+    // a table has 15 slots, and its chunk takes 72 bytes
+    (
+        CHAINED,
+        "new a 0 1 = ok
+        new b 0 1 = refused 8 NotEnoughSpace
+        moreslots = ok
+        new b 0 1 = ok
+        freebytes = ok 16
+        moreslots = refused 8 NotEnoughSpace
+        bind t 40 = refused 1 InvalidHandle
+        freeowner 1 = ok 2
+        freebytes = ok 32
+        largest = ok 24",
+    ),
+    // a table has no room
+    (
+        CHAINED,
+        "new a 28 1 = ok
+        moreslots = refused 8 NotEnoughSpace
+        freebytes = ok 64",
+    ),
+    // an image of one table gets no other
+    (
+        ONE_SLOT,
+        "moreslots = refused 8 NotEnoughSpace
+        freebytes = ok 104",
+    ),
+    (
+        BLANK,
+        "moreslots = refused 8 NotEnoughSpace
+        freebytes = ok 96",
+    ),
 ];
 
 /// Images and scripts, what the run answers and prints, and the image that it writes, none where one
 /// of them is refused.
-static OUTCOMES: [(&str, &str, (Status, &str), &str); 10] = [
+static OUTCOMES: [(&str, &str, (Status, &str), &str); 13] = [
     (BLANK, "new a 10 1\n", (Status::Done, "ok\n"), ONE_CHUNK),
     (ONE_CHUNK, "", (Status::Done, ""), ONE_CHUNK),
+    (
+        CHAINED,
+        "new a 0 1\nmoreslots\n",
+        (Status::Done, "ok\nok\n"),
+        TWO_TABLES,
+    ),
+    (CHAINED, "moreslots\n", (Status::Done, "ok\n"), ONE_FURTHER),
+    (
+        CHAINED,
+        "new a 0 1\nnew b 0 1\nmoreslots\nnew b 0 1\nfreebytes\n",
+        (
+            Status::Done,
+            "ok\nrefused 8 NotEnoughSpace\nok\nok\nok 16\n",
+        ),
+        BOTH_USED,
+    ),
     (ONE_CHUNK, "\n", (Status::Done, ""), ONE_CHUNK),
     (
         ONE_CHUNK,

@@ -33,12 +33,13 @@ fn shown(alloc: Global, request: &Request) -> Result<String, AllocError> {
             out,
             files,
         } => format!(in alloc; "run {image} {script} {out} {files:?}\n"),
+        Request::Migrate { image, out } => format!(in alloc; "migrate {image} {out}\n"),
     }
 }
 
 /// Words, and how what comes of them begins, and what stands in it: commands, words that are refused,
 /// and help.
-static CASES: [(&str, &str, &str); 22] = [
+static CASES: [(&str, &str, &str); 25] = [
     ("palmheap new 128 4 a.img", "new 128 4 a.img\n", ""),
     (
         "palmheap new 4294967295 65535 --  -a",
@@ -54,6 +55,12 @@ static CASES: [(&str, &str, &str); 22] = [
     (
         "palmheap run a.img calls.txt b.img memo.pdb tool.prc memo.pdb",
         "run a.img calls.txt b.img [\"memo.pdb\", \"tool.prc\", \"memo.pdb\"]\n",
+        "",
+    ),
+    ("palmheap migrate a.img b.img", "migrate a.img b.img\n", ""),
+    (
+        "palmheap migrate a.img",
+        "2 error: the following required arguments were not provided:\n  <OUT>\n",
         "",
     ),
     (
@@ -125,6 +132,11 @@ static CASES: [(&str, &str, &str); 22] = [
         "Usage: palmheap run <IMAGE> <SCRIPT> <OUT> [FILE]...",
     ),
     ("palmheap run --help", "0 ", "strcopy A AT \"TEXT\""),
+    (
+        "palmheap migrate --help",
+        "0 ",
+        "Usage: palmheap migrate <IMAGE> <OUT>",
+    ),
 ];
 
 fn check_words(alloc: Global, line: &str, front: &str, part: &str) -> Result<(), Fail> {

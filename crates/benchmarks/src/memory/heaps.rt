@@ -3,6 +3,7 @@
 use crate::memory::load::{Load, OWNER};
 use crate::work::Work;
 use anyhow::Result;
+use chunk_format::blank;
 use heap_model::Name;
 use mem_manager::Heap;
 use raw_region::Region;
@@ -16,6 +17,12 @@ pub(crate) const LARGE: u32 = 112;
 
 /// How many free chunks of one class are large, at most.
 const MOST_LARGE: usize = 32;
+
+/// The first bytes of an image whose tables are a chain.
+const CHAINED_MAGIC: [u8; 4] = *b"PHI2";
+
+/// How many slots a further table has that is made.
+pub(crate) const TABLE_SLOTS: u16 = 15;
 
 /// A chunk that was kept, and how many bytes it has.
 #[derive(Clone, Copy)]
@@ -39,6 +46,17 @@ impl Original {
         let region = Region::from_bytes(alloc, self.region.as_slice())?;
         Ok(Heap::adopt(region)?)
     }
+}
+
+/// A heap with one slot in its first table, and then so many further tables.
+pub(crate) fn chained_heap(alloc: Global, size: u32, tables: u16) -> Result<Heap> {
+    let mut region = blank(alloc, size, 1)?;
+    region.write(0, &CHAINED_MAGIC);
+    let mut heap = Heap::adopt(region)?;
+    for _ in 0..tables {
+        heap.more_slots()?;
+    }
+    Ok(heap)
 }
 
 /// A heap that chunks nearly fill, one under each slot, of which every second is free.

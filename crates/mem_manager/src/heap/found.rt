@@ -14,7 +14,7 @@ ghost use Rattle.raw_region.specs.ByteChanges.{changed_every};
 ghost use Rattle.mem_manager.specs.Lookup.{IsMovable, StandsAs, MovesOnlyToGrow, checks_of_growth};
 
 use crate::heap::Heap;
-use crate::heap::making::used_without;
+use crate::heap::making::{freed_slot, used_without};
 use crate::heap::moving::resize_found;
 use heap_model::{Name, Refusal};
 use heap_place::Found;
@@ -126,7 +126,8 @@ impl Heap {
         ensures unmoved { MovesNothing self.old.bytes self.new.bytes }
         ensures rest { self.new ≡ record self.old { bytes = self.new.bytes } }
     {
-        self.used = used_without(self.used, name);
+        self.used = used_without(self.space.region(), self.used, name);
+        self.freed = freed_slot(self.space.region(), self.freed, found);
         self.known.forget(name);
         self.space.give_back(found);
     }

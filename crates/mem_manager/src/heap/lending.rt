@@ -16,17 +16,20 @@ use crate::lookup::named;
 use heap_check::{Summary, check_heap};
 use heap_model::Name;
 use heap_place::{Found, Space};
+use master_table::TableStart;
 use raw_region::Region;
 
 impl Heap {
-    /// Takes a region whose caller knows that it is an accepted heap, without a look at it.
+    /// Takes a region whose caller knows that it is an accepted heap, without a look at more than its chain of tables.
     pub fn of_accepted(region: Region) -> Heap
         requires accepted { HeapAccepted region.bytes }
         ensures same { result ≡ region }
     {
         Heap {
-            space: Space::new(region),
+            space: Space::of_heap(region),
             used: 0,
+            start: TableStart::first(),
+            freed: Name(0),
             known: KnownNames::none(),
         }
     }

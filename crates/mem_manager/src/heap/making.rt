@@ -1,29 +1,31 @@
 //! Calls that make chunks and free them.
 
-ghost use Rattle.std.specs.Prelude.{◌≡◌, ◌≤◌, ◌<◌, ◌+◌, ℕ, List, IfOk, OnOk, IfErr, OnErr};
+ghost use Rattle.std.specs.Prelude.{◌≡◌, ◌≤◌, ◌<◌, ◌+◌, ◌↔◌, ℕ, List, IfSome, IfOk, OnOk, IfErr, OnErr, None};
 ghost use Rattle.heap_model.specs.Chunk.{need, data_owner};
 ghost use Rattle.heap_model.specs.Heap.{HeapAccepted};
 ghost use Rattle.heap_model.specs.Reading.{chunks_of};
-ghost use Rattle.heap_model.specs.Space.{NoRun, Short, MovesOneStretch, moved_bytes};
+ghost use Rattle.heap_model.specs.Space.{NoRun, Short, free_slots, MovesOneStretch, moved_bytes};
 ghost use Rattle.heap_model.specs.Packing.{SlidesOneStretch};
 ghost use Rattle.heap_model.specs.Layout.{IsSpot};
 ghost use Rattle.heap_model.specs.Rooms.{Lowers};
+ghost use Rattle.heap_model.specs.MoreTables.{gained_length};
 ghost use Rattle.heap_model.specs.MemorySteps.{Does};
 ghost use Rattle.heap_model.specs.declared.call.MemoryCall.{MemoryCall};
 ghost use Rattle.mem_manager.specs.Replies.{done_or_refused, number_or_refused, name_or_refused};
-ghost use Rattle.heap_place.specs.Found.{IsFound};
-ghost use Rattle.master_table.specs.Table.{NotAmong, UsedBefore};
-ghost use Rattle.mem_manager.specs.Lookup.{MakesNew, HasNoRoomFor, MovesOnlyForRoom};
+ghost use Rattle.heap_place.specs.Found.{IsFound, IsOne};
+ghost use Rattle.master_table.specs.Table.{IsTiled, IsStart, NotAmong, UsedBefore};
+ghost use Rattle.mem_manager.specs.Lookup.{IsNextEmpty, IsSlotOrNone, MakesNew, HasNoRoomFor, MovesOnlyForRoom};
 
 use crate::bounds::check_owner;
 use crate::heap::Heap;
 use crate::known::KnownNames;
 use crate::lookup::{check_callers, find};
-use chunk_format::{FIXED_LOCK, MANAGERS_OWNER, chunk_size};
+use chunk_format::{FIXED_LOCK, MANAGERS_OWNER, TABLE_LENGTH, chunk_size, is_chained, slot_count};
 use heap_compact::make_room;
 use heap_model::{Name, Refusal};
 use heap_place::{Found, Room, Space};
-use master_table::{EmptySlot, first_empty_slot, number_of};
+use master_table::{EmptySlot, TableStart, first_empty_slot, least_number, slots_total, word_of};
+use raw_region::Region;
 
 impl Heap {
     /// Makes a movable chunk of `size` zeros, without a lock, for an owner of 1 to 14. Its name is the offset
@@ -44,8 +46,10 @@ impl Heap {
     {
         let space = &mut self.space;
         check_owner(owner)?;
-        let slot = make_movable(space, self.used, size, owner)?;
+        let found = next_empty_slot(space.region(), self.used, self.start, self.freed);
+        let slot = make_movable(space, found, size, owner)?;
         self.used = slot.before;
+        self.start = slot.table;
         Ok(slot.name)
     }
 
@@ -66,6 +70,25 @@ impl Heap {
         let name = space.claim_fixed(room, size, owner);
         self.known.remember(name);
         Ok(name)
+    }
+
+    /// Makes a further master pointer table of 15 empty slots, the last of the chain. It moves chunks as `ptr_new`
+    /// does.
+    ///
+    /// Refused: `NotEnoughSpace`, if the image has no chain of tables, or if no stretch has the room. Then
+    /// nothing has changed.
+    pub fn more_slots(&mut self) -> Result<(), Refusal>
+        ensures does { Does self.old MemoryCall.MoreSlots (done_or_refused result) self.new }
+        ensures unmoved { MovesOnlyForRoom self.old.bytes self.new.bytes gained_length }
+        ensures one_stretch { MovesOneStretch self.old.bytes self.new.bytes }
+        ensures once { self.new.slid ≡ self.old.slid + moved_bytes self.old.bytes self.new.bytes }
+        ensures refused { OnErr result (self.new ≡ self.old) }
+    {
+        let space = &mut self.space;
+        let total = slots_total(space.region());
+        make_table(space)?;
+        self.used = self.used.min(total);
+        Ok(())
     }
 
     /// Frees a chunk that is a caller's and has no lock; a fixed one may be freed.
@@ -104,7 +127,8 @@ impl Heap {
         if found.lock > 0 && found.lock < FIXED_LOCK {
             return Err(Refusal::ChunkLocked);
         }
-        self.used = used_without(self.used, name);
+        self.used = used_without(self.space.region(), self.used, name);
+        self.freed = freed_slot(self.space.region(), self.freed, found);
         self.known.forget(name);
         self.space.give_back(found);
         Ok(())
@@ -120,25 +144,55 @@ impl Heap {
         check_owner(owner)?;
         let count = space.give_back_owned(owner);
         self.used = 0;
+        self.start = TableStart::first();
+        self.freed = Name(0);
         self.known = KnownNames::none();
         Ok(count)
     }
 }
 
-/// Makes a movable chunk of `size` zeros, without a lock, under the first empty slot, which is answered. It is
-/// looked for behind the first `used` ones.
+/// An empty slot: the one that was freed last, if it is a further table's and empty, or else the first, which is looked
+/// for behind the first `used` ones.
+pub(crate) fn next_empty_slot(
+    region: &Region,
+    used: u32,
+    start: TableStart,
+    freed: Name,
+) -> Option<EmptySlot>
+    requires accepted { HeapAccepted region.now.bytes }
+    requires in_use { UsedBefore region.now.bytes used }
+    requires start { IsStart region.now.bytes start }
+    requires freed { IsSlotOrNone region.now.bytes freed.0 }
+    ensures some { IfSome result (λ slot. IsNextEmpty region.now.bytes slot.name.0 slot.before) }
+    ensures none { (result ≡ None) ↔ (free_slots region.now.bytes ≡ 0) }
+    ensures table { IfSome result (λ slot. IsStart region.now.bytes slot.table) }
+{
+    if freed.0 != 0 && word_of(region, freed.0) == 0 {
+        return Some(EmptySlot {
+            name: freed,
+            before: used,
+            table: start,
+        });
+    }
+    first_empty_slot(region, start, used)
+}
+
+/// Makes a movable chunk of `size` zeros, without a lock, under an empty slot that was found, which is answered.
 pub(crate) fn make_movable(
     space: &mut Space,
-    used: u32,
+    found: Option<EmptySlot>,
     size: u32,
     owner: u8,
 ) -> Result<EmptySlot, Refusal>
     requires accepted { HeapAccepted space.old.bytes }
-    requires in_use { UsedBefore space.old.bytes used }
+    requires some { IfSome found (λ slot. IsNextEmpty space.old.bytes slot.name.0 slot.before) }
+    requires none { (found ≡ None) ↔ (free_slots space.old.bytes ≡ 0) }
+    requires table { IfSome found (λ slot. IsStart space.old.bytes slot.table) }
     requires owner { owner ≤ data_owner }
     ensures made { IfOk result
         (λ slot. MakesNew space.old.bytes space.new.bytes slot.name.0 size owner) }
     ensures in_use { IfOk result (λ slot. UsedBefore space.new.bytes slot.before) }
+    ensures table { IfOk result (λ slot. IsStart space.new.bytes slot.table) }
     ensures had_room { OnOk result (HasNoRoomFor space.old.bytes size → ⊥) }
     ensures no_room { OnErr result (HasNoRoomFor space.old.bytes size) }
     ensures refusal { IfErr result (λ refusal. refusal ≡ Refusal.NotEnoughSpace) }
@@ -149,10 +203,27 @@ pub(crate) fn make_movable(
     ensures once { space.new.slid ≡ space.old.slid + moved_bytes space.old.bytes space.new.bytes }
     ensures rest { space.new ≡ record space.old { bytes = space.new.bytes; slid = space.new.slid } }
 {
-    let slot = first_empty_slot(space.region(), used).ok_or(Refusal::NotEnoughSpace)?;
+    let slot = found.ok_or(Refusal::NotEnoughSpace)?;
     let room = room_for(space, size)?;
     space.claim(room, slot.name, size, owner);
     Ok(slot)
+}
+
+/// Makes a further table of empty slots, as `Heap::more_slots` does.
+fn make_table(space: &mut Space) -> Result<(), Refusal>
+    requires accepted { HeapAccepted space.old.bytes }
+    ensures does { Does space.old MemoryCall.MoreSlots (done_or_refused result) space.new }
+    ensures unmoved { MovesOnlyForRoom space.old.bytes space.new.bytes gained_length }
+    ensures one_stretch { MovesOneStretch space.old.bytes space.new.bytes }
+    ensures once { space.new.slid ≡ space.old.slid + moved_bytes space.old.bytes space.new.bytes }
+    ensures refused { OnErr result (space.new ≡ space.old) }
+{
+    if !is_chained(space.region()) {
+        return Err(Refusal::NotEnoughSpace);
+    }
+    let room = room_for(space, TABLE_LENGTH)?;
+    space.claim_table(room);
+    Ok(())
 }
 
 /// Room for a chunk of `size` bytes, for which one stretch is packed where it has to be.
@@ -176,11 +247,30 @@ fn room_for(space: &mut Space, size: u32) -> Result<Room, Refusal>
 }
 
 /// How many slots, of the first `used`, stand before the one of a name: these stay in use when it is
-/// emptied. Where none of them is the name's, it may be all of them.
+/// emptied. Where none of them is the name's, it may be all of them, and of a further table's it may be
+/// fewer.
 #[inline(always)]
-pub(crate) fn used_without(used: u32, name: Name) -> u32
+pub(crate) fn used_without(region: &Region, used: u32, name: Name) -> u32
+    requires { IsTiled region.now.bytes }
     ensures fewer { result ≤ used }
-    ensures apart { (image : List ℕ) → NotAmong image result name.0 }
+    ensures apart { NotAmong region.now.bytes result name.0 }
 {
-    used.min(number_of(name))
+    used.min(least_number(region, name))
+}
+
+/// The slot of a further table that will have been freed last, when a chunk that was found is freed: its own, if it has
+/// one there.
+#[inline(always)]
+pub(crate) fn freed_slot(region: &Region, freed: Name, found: Found) -> Name
+    requires accepted { HeapAccepted region.now.bytes }
+    requires found { IsOne region.now.bytes found }
+    requires freed { IsSlotOrNone region.now.bytes freed.0 }
+    ensures { IsSlotOrNone region.now.bytes result.0 }
+{
+    let further = least_number(region, found.name) == slot_count(region) as u32;
+    if further && found.lock != FIXED_LOCK {
+        found.name
+    } else {
+        freed
+    }
 }

@@ -14,7 +14,7 @@ ghost use Rattle.heap_model.specs.Leaving.{Leaves, NamesDirectory};
 ghost use Rattle.mem_manager.specs.Lookup.{IsMovable, MakesNew, HasNoRoomFor, MovesOnlyForRoom};
 
 use crate::heap::Heap;
-use crate::heap::making::make_movable;
+use crate::heap::making::{make_movable, next_empty_slot};
 use heap_model::{Name, Refusal};
 
 impl Heap {
@@ -34,8 +34,10 @@ impl Heap {
         ensures once { self.new.slid ≡ self.old.slid + moved_bytes self.old.bytes self.new.bytes }
         ensures rest { self.new ≡ record self.old { bytes = self.new.bytes; slid = self.new.slid } }
     {
-        let slot = make_movable(&mut self.space, self.used, size, owner)?;
+        let found = next_empty_slot(self.space.region(), self.used, self.start, self.freed);
+        let slot = make_movable(&mut self.space, found, size, owner)?;
         self.used = slot.before;
+        self.start = slot.table;
         Ok(slot.name)
     }
 

@@ -2,6 +2,7 @@
 
 ghost use Rattle.std.specs.Prelude.{◌≡◌, ◌+◌, OnErr};
 ghost use Rattle.heap_model.specs.Chunk.{need};
+ghost use Rattle.heap_model.specs.MoreTables.{gained_length};
 ghost use Rattle.heap_model.specs.Space.{NoRun, FitsInPlace, MovesNothing, MovesOneStretch, MovesOneStretchAnd, moved_bytes};
 ghost use Rattle.heap_model.specs.Reading.{chunks_of};
 ghost use Rattle.heap_model.specs.Packing.{Packed, Slid};
@@ -46,6 +47,22 @@ impl Store {
         ensures refused { OnErr result (self.new ≡ self.old) }
     {
         self.heap.ptr_new(size, owner)
+    }
+
+    /// Makes a further master pointer table of 15 empty slots, the last of the chain. It moves chunks as `ptr_new`
+    /// does.
+    ///
+    /// Refused: `NotEnoughSpace`, if the image has no chain of tables, or if no stretch has the room. Then
+    /// nothing has changed.
+    pub fn more_slots(&mut self) -> Result<(), Refusal>
+        ensures does { DoesMemory self.old MemoryCall.MoreSlots (done_or_refused result) self.new }
+        ensures unmoved { (NoRun (chunks_of self.old.bytes) (need gained_length) → ⊥)
+            → MovesNothing self.old.bytes self.new.bytes }
+        ensures one_stretch { MovesOneStretch self.old.bytes self.new.bytes }
+        ensures once { self.new.slid ≡ self.old.slid + moved_bytes self.old.bytes self.new.bytes }
+        ensures refused { OnErr result (self.new ≡ self.old) }
+    {
+        self.heap.more_slots()
     }
 
     /// Frees a chunk that is a caller's and has no lock; a fixed one may be freed.

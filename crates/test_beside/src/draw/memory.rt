@@ -68,12 +68,15 @@ fn any_bytes(random: &mut Pcg32, alloc: Global) -> Result<Bytes, AllocError> {
     Ok(Bytes::of(bytes))
 }
 
-/// A call of the memory manager.
+/// A call of the memory manager. `MoreSlots` is drawn for images with a chain of tables alone.
 pub fn memory_call(
     random: &mut Pcg32,
     alloc: Global,
     image: &Image,
 ) -> Result<MemoryCall, AllocError> {
+    if image.is_chained() && below(random, 8) == 0 {
+        return Ok(MemoryCall::MoreSlots);
+    }
     let name = any_name(random, &image.pieces);
     match below(random, 32) {
         0..=6 => call_on_bytes(random, alloc, name),

@@ -51,7 +51,7 @@ fn fixed_chunk_is_read()
 
 /// Each part of the head is broken by an image that keeps all others. (A length that is not a multiple of 8 has no such image, and the greatest size none that is small.)
 fn head_parts_break_alone()
-    ensures magic { BreaksAlone (padded 64 (0x50484932 ∷ 64 ∷ 0x00010000 ∷ 0 ∷ 0 ∷ 0 ∷ 0x80000028
+    ensures magic { BreaksAlone (padded 64 (0x50484933 ∷ 64 ∷ 0x00010000 ∷ 0 ∷ 0 ∷ 0 ∷ 0x80000028
         ∷ [])) 0 }
     ensures size { BreaksAlone (padded 64 (0x50484931 ∷ 72 ∷ 0x00010000 ∷ 0 ∷ 0 ∷ 0 ∷ 0x80000028
         ∷ [])) 1 }
@@ -69,23 +69,25 @@ fn head_parts_break_alone()
 fn area_parts_break_alone()
     ensures tiled { BreaksAlone (small_image 0 0 (0x80000030 ∷ [])) 9 }
     ensures rest { BreaksAlone (small_image 0 0 (0x80000020 ∷ [])) 9 }
-    ensures slot_of_nothing { BreaksAlone (small_image 0 32 (0x80000028 ∷ [])) 10 }
+    ensures next_of_no_table { BreaksAlone (padded 64 (0x50484932 ∷ 64 ∷ 0x00010000 ∷ 0 ∷ 0 ∷ 32
+        ∷ 0x80000028 ∷ [])) 10 }
+    ensures slot_of_nothing { BreaksAlone (small_image 0 32 (0x80000028 ∷ [])) 11 }
     ensures slot_inside_a_chunk { BreaksAlone (small_image 0 40 (0x00000018 ∷ 0xF1000000 ∷ 0 ∷ 0
-        ∷ 0 ∷ 0 ∷ 0x80000010 ∷ [])) 10 }
+        ∷ 0 ∷ 0 ∷ 0x80000010 ∷ [])) 11 }
     ensures two_slots_on_one_chunk { BreaksAlone (padded 64 (0x50484931 ∷ 64 ∷ 0x00020000 ∷ 0
-        ∷ 32 ∷ 32 ∷ 0x00000010 ∷ 0x01FFFFFC ∷ 0 ∷ 0 ∷ 0x80000018 ∷ [])) 10 }
+        ∷ 32 ∷ 32 ∷ 0x00000010 ∷ 0x01FFFFFC ∷ 0 ∷ 0 ∷ 0x80000018 ∷ [])) 11 }
     ensures empty_slot { BreaksAlone (small_image 0 0 (0x00000010 ∷ 0x01FFFFFC ∷ 0 ∷ 0
-        ∷ 0x80000018 ∷ [])) 11 }
+        ∷ 0x80000018 ∷ [])) 12 }
     ensures two_chunks_on_one_slot { BreaksAlone (small_image 0 32 (0x00000010 ∷ 0x01FFFFFC ∷ 0
-        ∷ 0 ∷ 0x00000010 ∷ 0x01FFFFF4 ∷ 0 ∷ 0 ∷ 0x80000008 ∷ [])) 11 }
+        ∷ 0 ∷ 0x00000010 ∷ 0x01FFFFF4 ∷ 0 ∷ 0 ∷ 0x80000008 ∷ [])) 12 }
     ensures fixed_of_owner_0 { BreaksAlone (small_image 0 0 (0x00000010 ∷ 0xF0000000 ∷ 0 ∷ 0
-        ∷ 0x80000018 ∷ [])) 12 }
+        ∷ 0x80000018 ∷ [])) 13 }
     ensures fixed_of_owner_15 { BreaksAlone (small_image 0 0 (0x00000010 ∷ 0xFF000000 ∷ 0 ∷ 0
-        ∷ 0x80000018 ∷ [])) 12 }
-    ensures directory_no_slot { BreaksAlone (small_image 20 0 (0x80000028 ∷ [])) 13 }
-    ensures directory_empty { BreaksAlone (small_image 16 0 (0x80000028 ∷ [])) 13 }
+        ∷ 0x80000018 ∷ [])) 13 }
+    ensures directory_no_slot { BreaksAlone (small_image 20 0 (0x80000028 ∷ [])) 14 }
+    ensures directory_empty { BreaksAlone (small_image 16 0 (0x80000028 ∷ [])) 14 }
     ensures directory_of_owner_1 { BreaksAlone (small_image 16 32 (0x00000010 ∷ 0x01FFFFFC ∷ 0
-        ∷ 0 ∷ 0x80000018 ∷ [])) 13 }
+        ∷ 0 ∷ 0x80000018 ∷ [])) 14 }
 {}
 
 /// Each way in which a chunk is out of shape, and the words beside it that are in shape.

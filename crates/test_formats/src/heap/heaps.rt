@@ -6,7 +6,7 @@ use chunk_format::{chunk_size, directory};
 use heap_check::check_heap;
 use heap_model::{Name, Place};
 use heap_place::{Found, Room, Space};
-use master_table::first_empty_slot;
+use master_table::{TableStart, first_empty_slot};
 use raw_region::Region;
 use std::alloc::Global;
 use std::marker::Model;
@@ -84,7 +84,7 @@ impl CheckedSpace {
     /// owner.
     pub(crate) fn make(&mut self, count: u32, owner: u8) -> Option<u32> {
         let room = self.space.find_room(chunk_size(count)?)?;
-        let slot = first_empty_slot(self.space.region(), 0)?.name;
+        let slot = first_empty_slot(self.space.region(), TableStart::first(), 0)?.name;
         if owner >= 16 {
             return None;
         }

@@ -1,34 +1,19 @@
-//! Tables of four slots.
+//! Slots of an only table.
 
-ghost use Rattle.std.specs.Prelude.{◌≡◌, length, IfOk};
-ghost use Rattle.heap_model.specs.Slots.{slot_count as model_count};
+ghost use Rattle.heap_model.specs.Heap.{HeapAccepted};
 
 use crate::heap::frames::frame_of;
+use crate::heap::heaps::image;
+use chunk_format::is_chained;
+use heap_check::check_heap;
 use heap_model::{Name, Place};
 use master_table::{
-    EmptySlot, Table, clear, first_empty_slot, resolve, set, slots_before, slots_free,
+    EmptySlot, OneTable, TableStart, clear, first_empty_slot, resolve, set, slots_before,
 };
 use raw_region::Region;
 use std::alloc::Global;
 use std::test::*;
 use test_support::equal;
-
-/// A region of 32 bytes with four slots, which hold these words.
-fn table(alloc: Global, words: [u32; 4]) -> Result<Region, Fail>
-    ensures count { IfOk result (λ region. model_count region.bytes ≡ 4) }
-    ensures len { IfOk result (λ region. length region.bytes ≡ 32) }
-{
-    let mut region = Region::zeroed(alloc, 32)?;
-    region.put_u16(8, 4);
-    region.put_u32(16, words[0]);
-    region.put_u32(20, words[1]);
-    region.put_u32(24, words[2]);
-    region.put_u32(28, words[3]);
-    if chunk_format::slot_count(&region) != 4 {
-        return Err("no four slots")?;
-    }
-    Ok(region)
-}
 
 /// An offset, how many slots there are, and the number of the slot that stands there.
 static SLOTS: [(u32, u16, Option<u32>); 10] = [
@@ -55,22 +40,20 @@ fn slots_stand_behind_16_bytes(rt: HostRuntime) -> Result<(), Fail> {
 
 fn check_slot(alloc: Global, slot: u32, slots: u16, number: Option<u32>) -> Result<(), Fail> {
     let region = frame_of(alloc, slots)?;
-    let table = Table::of(&region);
-    let found = (
-        table.count(),
-        table.number(slot),
-        slots_before(&region, Name(slot)),
-        slot_of(table, number),
-    );
+    if is_chained(&region) {
+        return Err("a chain")?;
+    }
+    let table = OneTable::of(&region);
+    let found = (table.count(), table.number(slot), slot_of(table, number));
     equal(
         format_args!("slot {slot} of {slots}"),
         found,
-        (u32::from(slots), number, number, number.and(Some(slot))),
+        (u32::from(slots), number, number.and(Some(slot))),
     )
 }
 
 /// The slot of a number, if the table has so many.
-fn slot_of(table: Table, number: Option<u32>) -> Option<u32> {
+fn slot_of(table: OneTable, number: Option<u32>) -> Option<u32> {
     let number = number?;
     if number >= table.count() {
         return None;
@@ -78,111 +61,153 @@ fn slot_of(table: Table, number: Option<u32>) -> Option<u32> {
     Some(table.slot(number))
 }
 
-/// A name, and the place that it resolves to.
-static PLACES: [(u32, Option<Place>); 11] = [
-    (16, Some(Place(40))),
-    (24, Some(Place(0xFFFF_FFFF))),
-    (28, Some(Place(64))),
+/// The words of a heap whose slots 16 and 28 are in use, by chunks of no bytes at 32 and 40.
+static FIRST_AND_LAST: [(usize, u32); 7] = [
+    (16, 40),
+    (28, 48),
+    (32, 8),
+    (36, 0x01FF_FFF8),
+    (40, 8),
+    (44, 0x01FF_FFFA),
+    (48, 0x8000_0050),
+];
+
+/// The same of slots 16 and 20.
+static FIRST_TWO: [(usize, u32); 7] = [
+    (16, 40),
+    (20, 48),
+    (32, 8),
+    (36, 0x01FF_FFF8),
+    (40, 8),
+    (44, 0x01FF_FFF6),
+    (48, 0x8000_0050),
+];
+
+/// And of all slots.
+static ALL_FOUR: [(usize, u32); 13] = [
+    (16, 40),
+    (20, 48),
+    (24, 56),
+    (28, 64),
+    (32, 8),
+    (36, 0x01FF_FFF8),
+    (40, 8),
+    (44, 0x01FF_FFF6),
+    (48, 8),
+    (52, 0x01FF_FFF4),
+    (56, 8),
+    (60, 0x01FF_FFF2),
+    (64, 0x8000_0040),
+];
+
+/// A name, the number of its slot, and the place that it resolves to.
+static PLACES: [(u32, Option<u32>, Option<Place>); 11] = [
+    (16, Some(0), Some(Place(40))),
+    (28, Some(3), Some(Place(48))),
     // empty, outside the table, between two slots, and a place
-    (20, None),
-    (0, None),
-    (12, None),
-    (32, None),
-    (0xFFFF_FFFF, None),
-    (17, None),
-    (26, None),
-    (40, None),
+    (20, Some(1), None),
+    (24, Some(2), None),
+    (0, None, None),
+    (12, None, None),
+    (32, None, None),
+    (0xFFFF_FFFF, None, None),
+    (17, None, None),
+    (26, None, None),
+    (40, None, None),
 ];
 
 #[test]
 fn a_slot_resolves_to_its_place(rt: HostRuntime) -> Result<(), Fail> {
-    let region = table(rt.alloc(), [40, 0, 0xFFFF_FFFF, 64])?;
-    for (name, place) in &PLACES {
-        let found = resolve(&region, Name(*name));
-        equal(format_args!("name {name}"), found, *place)?;
+    let region = image(rt.alloc(), &FIRST_AND_LAST)?;
+    for (name, number, place) in &PLACES {
+        let found = look_up(&region, Name(*name))?;
+        equal(format_args!("name {name}"), found, (*number, *place))?;
     }
     Ok(())
 }
 
-/// The words of the slots, the first empty one, and how many there are.
-static FREE_SLOTS: [([u32; 4], Option<EmptySlot>, u32); 5] = [
-    (
-        [0, 0, 0, 0],
-        Some(EmptySlot {
-            name: Name(16),
-            before: 0,
-        }),
-        4,
-    ),
-    (
-        [40, 0, 0, 56],
-        Some(EmptySlot {
-            name: Name(20),
-            before: 1,
-        }),
-        2,
-    ),
-    (
-        [40, 56, 0, 0],
-        Some(EmptySlot {
-            name: Name(24),
-            before: 2,
-        }),
-        2,
-    ),
-    (
-        [40, 56, 64, 0],
-        Some(EmptySlot {
-            name: Name(28),
-            before: 3,
-        }),
-        1,
-    ),
-    ([40, 56, 64, 72], None, 0),
-];
+/// The number of a slot, and the place that it holds.
+fn look_up(region: &Region, name: Name) -> Result<(Option<u32>, Option<Place>), Fail> {
+    match check_heap(region) {
+        Ok(_) => Ok((slots_before(region, name), resolve(region, name))),
+        Err(_) => Err("no heap")?,
+    }
+}
 
 #[test]
 fn the_first_empty_slot_is_found(rt: HostRuntime) -> Result<(), Fail> {
-    for (words, first, free) in &FREE_SLOTS {
-        check_empty(rt.alloc(), *words, *first, *free)?;
-    }
-    Ok(())
+    check_first(rt.alloc(), &[], Some((16, 0)))?;
+    check_first(rt.alloc(), &FIRST_AND_LAST, Some((20, 1)))?;
+    check_first(rt.alloc(), &FIRST_TWO, Some((24, 2)))?;
+    check_first(rt.alloc(), &ALL_FOUR, None)
 }
 
-fn check_empty(
+/// The words of a heap, and its first empty slot with how many stand before it.
+fn check_first(
     alloc: Global,
-    words: [u32; 4],
-    first: Option<EmptySlot>,
-    free: u32,
+    words: &[(usize, u32)],
+    first: Option<(u32, u32)>,
 ) -> Result<(), Fail> {
-    let region = table(alloc, words)?;
-    let found = (slots_free(&region), first_empty_slot(&region, 0));
-    equal(format_args!("{words:?}"), found, (free, first))
+    let found = match first_empty(&image(alloc, words)?)? {
+        Some(slot) => Some((slot.name.0, slot.before)),
+        None => None,
+    };
+    equal("first", found, first)
 }
 
-/// A search that begins at the first empty slot finds it again.
-#[test]
-fn a_search_passes_over_used_slots(rt: HostRuntime) -> Result<(), Fail> {
-    let region = table(rt.alloc(), [40, 56, 0, 0])?;
-    if let Some(slot) = first_empty_slot(&region, 0) {
-        let again = first_empty_slot(&region, slot.before);
-        equal("slots", (slot.before, again), (2, Some(slot)))?;
+/// The first empty slot of a heap. A search that begins at it finds it again.
+fn first_empty(region: &Region) -> Result<Option<EmptySlot>, Fail> {
+    match check_heap(region) {
+        Ok(_) => {
+            let first = first_empty_slot(region, TableStart::first(), 0);
+            if let Some(slot) = first {
+                equal(
+                    "again",
+                    first_empty_slot(region, slot.table, slot.before),
+                    first,
+                )?;
+            }
+            Ok(first)
+        }
+        Err(_) => Err("no heap")?,
     }
-    Ok(())
+}
+
+/// Puts a place into a slot of a heap, or empties it.
+fn put(region: &mut Region, slot: Name, place: Option<Place>) -> Result<(), Fail> {
+    match check_heap(region) {
+        Ok(_) => put_in(region, slot, place),
+        Err(_) => Err("no heap")?,
+    }
+}
+
+fn put_in(region: &mut Region, slot: Name, place: Option<Place>) -> Result<(), Fail>
+    requires { HeapAccepted region.old.bytes }
+{
+    match slots_before(region, slot) {
+        Some(_) => {
+            match place {
+                Some(place) => set(region, slot, place),
+                None => clear(region, slot),
+            }
+            Ok(())
+        }
+        None => Err("no slot")?,
+    }
 }
 
 #[test]
 fn a_slot_is_set(rt: HostRuntime) -> Result<(), Fail> {
-    let mut region = table(rt.alloc(), [40, 0, 64, 72])?;
-    set(&mut region, Name(20), Place(0x0001_0238));
-    let words = b"\0\0\0\0\0\0\0\0\0\x04\0\0\0\0\0\0\0\0\0\x28\0\x01\x02\x38\0\0\0\x40\0\0\0\x48";
-    equal("bytes", region.as_slice(), words.as_slice())
+    let mut region = image(rt.alloc(), &FIRST_TWO)?;
+    put(&mut region, Name(24), Some(Place(0x0001_0238)))?;
+    let words = b"PHI1\0\0\0\x80\0\x04\0\0\0\0\0\0\0\0\0\x28\0\0\0\x30\0\x01\x02\x38\0\0\0\0";
+    equal("bytes", region.as_slice().starts_with(words), true)
 }
 
 #[test]
 fn a_slot_is_emptied(rt: HostRuntime) -> Result<(), Fail> {
-    let mut region = table(rt.alloc(), [40, 56, 0x0001_0238, 72])?;
-    clear(&mut region, Name(24));
-    let words = b"\0\0\0\0\0\0\0\0\0\x04\0\0\0\0\0\0\0\0\0\x28\0\0\0\x38\0\0\0\0\0\0\0\x48";
-    equal("bytes", region.as_slice(), words.as_slice())
+    let mut region = image(rt.alloc(), &ALL_FOUR)?;
+    put(&mut region, Name(24), None)?;
+    let words = b"PHI1\0\0\0\x80\0\x04\0\0\0\0\0\0\0\0\0\x28\0\0\0\x30\0\0\0\0\0\0\0\x40";
+    equal("bytes", region.as_slice().starts_with(words), true)
 }

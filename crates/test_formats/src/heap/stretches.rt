@@ -1,5 +1,5 @@
 //! The definitions of compaction and resizing, tried on images of three chunks and on lists.
-#![tactic(auto, unfolding(heap_model::specs::Bytes::u16_at, heap_model::specs::Bytes::u32_at, heap_model::specs::Bytes::u32_bytes, heap_model::specs::Slots::slots_of, heap_model::specs::Reading::chunk_at, heap_model::specs::Reading::chunks_from, heap_model::specs::Reading::chunks_of, heap_model::specs::Reading::held, heap_model::specs::Reading::is_accepted, heap_model::specs::Resizing::grown, heap_model::specs::Resizing::relocated,))]
+#![tactic(auto, unfolding(heap_model::specs::Bytes::u16_at, heap_model::specs::Bytes::u32_at, heap_model::specs::Bytes::u32_bytes, heap_model::specs::Slots::slots_of, heap_model::specs::Slots::further_tables, heap_model::specs::Reading::chunk_at, heap_model::specs::Reading::chunks_from, heap_model::specs::Reading::chunks_of, heap_model::specs::Reading::held, heap_model::specs::Reading::is_accepted, heap_model::specs::Resizing::grown, heap_model::specs::Resizing::relocated,))]
 
 ghost use Rattle.std.specs.Prelude.{◌≡◌, ◌++◌, ℕ, true, List, [], ◌∷◌, replicate, Option, Some, None};
 ghost use Rattle.heap_model.specs.Chunk.{free, movable, fixed};

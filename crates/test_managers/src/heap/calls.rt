@@ -37,6 +37,7 @@ fn answer(alloc: Global, heap: &mut Heap, call: &MemoryCall) -> Result<Reply, Re
         MemoryCall::FreeBytes => Ok(Reply::Number(heap.free_bytes())),
         MemoryCall::LargestStretch => Ok(Reply::Number(heap.largest_stretch())),
         MemoryCall::Compact => Ok(Reply::Number(heap.compact())),
+        MemoryCall::MoreSlots => heap.more_slots().map(done),
     }
 }
 

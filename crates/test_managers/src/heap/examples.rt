@@ -1,7 +1,7 @@
 //! Calls with the replies that they must have, each on a heap that is adopted for it.
 
 use crate::heap::by_hand::{Example, check_all};
-use crate::heap::images::{FIVE, ONE_SLOT};
+use crate::heap::images::{CHAINED, FIVE, ONE_SLOT};
 use std::test::*;
 use test_support::BLANK;
 
@@ -212,8 +212,44 @@ const PLACES: &str = "handle_new 32 1 = named 16
     recover 128 = refused InvalidHandle
     recover 4294967295 = refused InvalidHandle";
 
+/// The table is made at 32, with its slots from 36 on.
+const TABLES: &str = "more_slots = done
+    more_slots = refused NotEnoughSpace
+    size 32 = refused InvalidHandle
+    free 32 = refused InvalidHandle
+    set_owner 32 1 = refused InvalidHandle
+    recover 32 = refused InvalidHandle
+    free_by_owner 0 = refused InvalidOwner
+    free_bytes = 32
+    handle_new 0 1 = named 16
+    handle_new 0 1 = named 36
+    lock 36 = at 112 locks 1
+    free 16 = done
+    handle_new 0 2 = named 16
+    free_by_owner 1 = 1
+    size 36 = refused InvalidHandle
+    handle_new 0 1 = named 36
+    handle_new 0 1 = named 40
+    handle_new 0 1 = named 44
+    handle_new 0 1 = refused NotEnoughSpace";
+
+/// Free chunks that are neighbours have the room together.
+const TABLE_OF_ALL: &str = "handle_new 24 1 = named 16
+    ptr_new 0 1 = named 64
+    free 64 = done
+    free_bytes = 72
+    lock 16 = at 32 locks 1
+    more_slots = done
+    free_bytes = 0
+    more_slots = refused NotEnoughSpace
+    read 16 0 1 = x00";
+
+const ONE_TABLE: &str = "more_slots = refused NotEnoughSpace
+    free_bytes = 96
+    handle_new 0 1 = named 16";
+
 /// Each is about what it is called.
-static EXAMPLES: [Example; 12] = [
+static EXAMPLES: [Example; 15] = [
     ("chunks are made and freed", BLANK, MADE_AND_FREED),
     ("chunks are compacted", BLANK, COMPACTED),
     ("slots run out before bytes", BLANK, OUT_OF_SLOTS),
@@ -230,6 +266,9 @@ static EXAMPLES: [Example; 12] = [
     ("a fixed chunk has no lock count", ONE_SLOT, WITH_FIXED),
     ("all chunks of an owner go", BLANK, OF_OWNERS),
     ("a place gives its name back", BLANK, PLACES),
+    ("a table is made, and has no name", CHAINED, TABLES),
+    ("a table takes all that is free", CHAINED, TABLE_OF_ALL),
+    ("one table stays alone", BLANK, ONE_TABLE),
 ];
 
 #[test]

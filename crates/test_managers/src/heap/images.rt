@@ -3,6 +3,9 @@
 /// 128 bytes with one slot and one free chunk.
 pub(crate) const ONE_SLOT: &str = "50484931 00000080 0001 0000 00*12 80000068 00*100";
 
+/// The same with a chain of tables, which has the first table alone.
+pub(crate) const CHAINED: &str = "50484932 00000080 0001 0000 00*12 80000068 00*100";
+
 /// 256 bytes with 8 slots and one free chunk.
 pub(crate) const EIGHT_SLOTS: &str = "50484931 00000100 0008 0000 00*36 800000D0 00*204";
 

@@ -25,7 +25,8 @@ struct FreeChunk {
 
 /// Whether the lists are built behind a call, by the call and what it left. They are dropped where a resize takes
 /// several free chunks, or grows over one of a long list, and where a stretch was packed that isn't all of the
-/// heap. A chunk that is made else, or is freed, builds them, and so do compaction and the end of an owner.
+/// heap. Any other call that makes a chunk or a table builds
+/// them, and so do a call that frees chunks and compaction.
 pub(crate) fn are_built(
     were_built: bool,
     call: &MemoryCall,
@@ -36,9 +37,8 @@ pub(crate) fn are_built(
     let has_moved = before.moved_bytes(after) > 0;
     match (call, reply) {
         (_, Reply::Refused(_)) => were_built,
-        (MemoryCall::HandleNew { .. } | MemoryCall::PtrNew { .. }, _) => {
-            !has_moved || is_one_stretch(before)
-        }
+        (MemoryCall::HandleNew { .. } | MemoryCall::PtrNew { .. } | MemoryCall::MoreSlots, _) =>
+            !has_moved || is_one_stretch(before),
         (MemoryCall::Free(_) | MemoryCall::FreeByOwner(_) | MemoryCall::Compact, _) => true,
         (MemoryCall::Resize { name, .. }, _) if has_moved => {
             match free_where_it_went(before, after, *name) {

@@ -7,7 +7,7 @@ use rand_pcg::Pcg32;
 use raw_region::Region;
 use std::alloc::Global;
 use std::test::*;
-use test_beside::memory_call;
+use test_beside::{chained_image, memory_call};
 use test_model::Image;
 use test_support::{changed_words, image};
 
@@ -63,6 +63,19 @@ fn run_blank(
     Ok(())
 }
 
+/// The same from a blank image with a chain of tables.
+fn run_chained(
+    alloc: Global,
+    (size, slots): (u32, u16),
+    (seed, count): (u64, u32),
+) -> Result<(), Fail> {
+    for anew in [false, true] {
+        let region = Region::from_bytes(alloc, &chained_image(alloc, size, slots)?)?;
+        run_list(alloc, region, (seed, count), anew)?;
+    }
+    Ok(())
+}
+
 /// The same from the image of a listing.
 fn run_listed(alloc: Global, listing: &str, (seed, count): (u64, u32)) -> Result<(), Fail> {
     for anew in [false, true] {
@@ -78,6 +91,16 @@ fn lists_from_blank_images(rt: HostRuntime) -> Result<(), Fail> {
         run_blank(rt.alloc(), (128, 4), (seed, 300))?;
         run_blank(rt.alloc(), (512, 9), (seed, 300))?;
         run_blank(rt.alloc(), (1024, 20), (seed, 600))?;
+    }
+    Ok(())
+}
+
+#[test]
+fn lists_from_images_with_chains(rt: HostRuntime) -> Result<(), Fail> {
+    for seed in 41..43u64 {
+        run_chained(rt.alloc(), (128, 1), (seed, 100))?;
+        run_chained(rt.alloc(), (512, 2), (seed, 200))?;
+        run_chained(rt.alloc(), (2048, 1), (seed, 300))?;
     }
     Ok(())
 }

@@ -3,7 +3,7 @@
 use rand_pcg::Pcg32;
 use std::alloc::Global;
 use std::test::*;
-use test_beside::{Beside, Counts, MIXED, OUTCOMES, blank_image, store_of};
+use test_beside::{Beside, Counts, MIXED, OUTCOMES, blank_image, chained_image, store_of};
 use test_support::{DATABASE, TWO_DATABASES, bytes_of as listed, equal};
 
 /// Does a list of calls that a seed gives, each on the image that the one before left, and counts what
@@ -49,6 +49,17 @@ fn run_blank(
     run_list(alloc, counts, image, (seed, count), is_anew(seed))
 }
 
+/// The same from an image with a chain of tables.
+fn run_chained(
+    alloc: Global,
+    counts: &mut Counts,
+    (size, slots): (u32, u16),
+    (seed, count): (u64, u32),
+) -> Result<(), Fail> {
+    let image = chained_image(alloc, size, slots)?;
+    run_list(alloc, counts, image, (seed, count), is_anew(seed))
+}
+
 fn run_listed(
     alloc: Global,
     counts: &mut Counts,
@@ -71,6 +82,13 @@ fn lists_of_calls(rt: HostRuntime) -> Result<(), Fail> {
         run_listed(alloc, &mut counts, DATABASE, (seed, 100))?;
         run_listed(alloc, &mut counts, TWO_DATABASES, (seed, 100))?;
         run_listed(alloc, &mut counts, MIXED, (seed, 300))?;
+    }
+    for seed in 29..37u64 {
+        run_chained(alloc, &mut counts, (256, 1), (seed, 100))?;
+    }
+    for seed in 32..34u64 {
+        run_chained(alloc, &mut counts, (512, 2), (seed, 100))?;
+        run_chained(alloc, &mut counts, (4096, 5), (seed, 150))?;
     }
     equal("not met", counts.missing(&OUTCOMES), None)
 }

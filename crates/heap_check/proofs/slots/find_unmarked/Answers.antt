@@ -2,12 +2,16 @@ use Rattle.std.proofs.Common.{refl, arith, List, ℕ, map, subst}
 use Rattle.std.proofs.lemmas.Bool.{false≢true}
 use Rattle.heap_model.specs.Placed.{EveryOne}
 use Rattle.laws_heap.proofs.Slots.{every_first-more, first_slots-all}
+use Rattle.laws_heap.proofs.OneTable.{one_total}
 use Rattle.heap_check.specs.Survey.{IsMarked}
 use Rattle.heap_check.proofs.SlotLaws.{first_of_number}
 use Rattle.heap_check.proofs.slots.find_unmarked.Goals as goal
 
 pub is_marked-requires-clause-stands : goal.is_marked-requires-clause-stands
 is_marked-requires-clause-stands g c = c.slot-slot.ensures c.args.region.now.bytes c.requires.table
+
+pub is_marked-requires-clause-plain : goal.is_marked-requires-clause-plain
+is_marked-requires-clause-plain g c = c.requires.table.0
 
 pub returns-then-not-is_marked-clause-some : goal.returns-then-not-is_marked-clause-some
 returns-then-not-is_marked-clause-some g c =
@@ -21,4 +25,4 @@ loop-number-preserved g c =
 
 pub returns-clause-none : goal.returns-clause-none
 returns-clause-none g c =
-    subst (λ (xs : List ℕ). EveryOne (IsMarked c.args.region.now.bytes (map g.M.Mark.says c.args.marks.now)) xs) (first_slots-all c.args.region.now.bytes c.loop-number.number (omega arith)) c.loop-number.invariant
+    subst (λ (xs : List ℕ). EveryOne (IsMarked c.args.region.now.bytes (map g.M.Mark.says c.args.marks.now)) xs) (first_slots-all c.args.region.now.bytes c.loop-number.number (let table = c.requires.table.1 in omega (arith, table, one_total c.args.region.now.bytes c.requires.table.0))) c.loop-number.invariant

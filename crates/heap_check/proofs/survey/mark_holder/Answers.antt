@@ -13,7 +13,7 @@ returns-in-Some-clause-holds g c =
 pub returns-in-Some-clause-marked : goal.returns-in-Some-clause-marked
 returns-in-Some-clause-marked g c =
     let below : c.in-Some.number < slots_total c.args.region.now.bytes = c.in-Some.ensures.below in
-    mark_set g.M.Mark.says c.args.region.now.bytes c.args.marks.now c.args.slot c.args.at c.args.mark c.in-Some.number c.in-Some.ensures.number c.in-Some.ensures.holds (omega arith)
+    mark_set g.M.Mark.says c.args.region.now.bytes c.args.marks.now c.args.slot c.args.at c.args.mark c.in-Some.number c.requires.table.0 c.in-Some.ensures.number c.in-Some.ensures.holds (omega arith)
 
 pub returns-in-None-clause-holds : goal.returns-in-None-clause-holds
 returns-in-None-clause-holds g c = holds_false c.args.region.now.bytes c.args.slot c.args.at c.in-None.ensures.none

@@ -1,4 +1,4 @@
-use Rattle.std.proofs.Common.{◌+◌, ◌≤◌, [], length, map, subst, sym, arith}
+use Rattle.std.proofs.Common.{◌+◌, ◌≤◌, [], length, map, refl, ◌∙◌, subst, sym, arith}
 use Rattle.std.proofs.lemmas.List.{length-map}
 use Rattle.heap_model.specs.Slots.{slots_total}
 use Rattle.heap_check.specs.Survey.{HasSurveyed}
@@ -25,6 +25,7 @@ loop-at-init g c =
         inside = omega arith;
       },
       λ slot number s marked. absurd (none_at c.args.region.now.bytes marks room c.requires.clear slot number s marked),
+      λ number far. refl,
     )
 
 pub loop-at-preserved : goal.loop-at-preserved
@@ -43,6 +44,7 @@ loop-at-preserved g c =
     } in (
       subst (λ n. HasSurveyed image (at + n) c.add.new.self (map g.M.Mark.says c.add.new.marks)) (sym c.in-Some.ensures.size) (walked_more notes image at c.in-Some.header _ _ _ _ c.loop-at.invariant.0 c.in-Some.ensures.found adds),
       owners_more notes image at c.in-Some.header (map g.M.Mark.says c.loop-at.marks) (map g.M.Mark.says c.add.new.marks) c.in-Some.ensures.found c.add.ensures.marked c.loop-at.invariant.1,
+      λ number far. c.add.ensures.marked.beyond number far ∙ c.loop-at.invariant.2 number far,
     )
 
 pub returns-clause-surveyed : goal.returns-clause-surveyed

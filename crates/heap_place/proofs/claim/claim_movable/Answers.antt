@@ -2,7 +2,7 @@ use Rattle.std.proofs.Common.{◌+◌, ap, inl, refl, arith}
 use Rattle.heap_model.specs.Memory.{Memory}
 use Rattle.heap_model.specs.Chunk.{need}
 use Rattle.laws_heap.proofs.Slots.{slot_facts}
-use Rattle.heap_place.proofs.CutLaws.{cut_facts, claimed_area, table_kept, claimed_write}
+use Rattle.heap_place.proofs.CutLaws.{cut_facts, claimed_table, claimed_write}
 use Rattle.heap_place.proofs.claim.claim_movable.Goals as goal
 
 pub write-requires-clause-inside : goal.write-requires-clause-inside
@@ -18,19 +18,11 @@ write-requires-clause-writable c =
 
 pub set-requires-clause-table : goal.set-requires-clause-table
 set-requires-clause-table c =
-    let f = cut_facts c.args.region.now.bytes (need c.args.count) c.args.at c.requires.accepted c.requires.free in
-    let inside = f.0 in
-    (table_kept c.args.region.now.bytes c.fill.new.self.bytes c.args.at (c.args.at + need c.args.count) c.args.slot.0 c.requires.accepted
-    (claimed_area c.args.region.now.bytes c.write.new.region.bytes c.fill.new.self.bytes c.args.at c.args.count c.args.owner c.args.slot.0 f.0 (ap (λ (m : Memory). m.bytes) c.write.ensures.after) (ap (λ (m : Memory). m.bytes) c.fill.ensures.after))
-    f.1 (omega arith) c.requires.slot).0
+    (claimed_table c.args.region.now.bytes c.write.new.region.bytes c.fill.new.self.bytes c.args.at c.args.count c.args.owner c.args.slot.0 c.requires.accepted c.requires.free c.requires.slot (ap (λ (m : Memory). m.bytes) c.write.ensures.after) (ap (λ (m : Memory). m.bytes) c.fill.ensures.after)).0
 
 pub set-requires-clause-slot : goal.set-requires-clause-slot
 set-requires-clause-slot c =
-    let f = cut_facts c.args.region.now.bytes (need c.args.count) c.args.at c.requires.accepted c.requires.free in
-    let inside = f.0 in
-    (table_kept c.args.region.now.bytes c.fill.new.self.bytes c.args.at (c.args.at + need c.args.count) c.args.slot.0 c.requires.accepted
-    (claimed_area c.args.region.now.bytes c.write.new.region.bytes c.fill.new.self.bytes c.args.at c.args.count c.args.owner c.args.slot.0 f.0 (ap (λ (m : Memory). m.bytes) c.write.ensures.after) (ap (λ (m : Memory). m.bytes) c.fill.ensures.after))
-    f.1 (omega arith) c.requires.slot).1
+    (claimed_table c.args.region.now.bytes c.write.new.region.bytes c.fill.new.self.bytes c.args.at c.args.count c.args.owner c.args.slot.0 c.requires.accepted c.requires.free c.requires.slot (ap (λ (m : Memory). m.bytes) c.write.ensures.after) (ap (λ (m : Memory). m.bytes) c.fill.ensures.after)).1
 
 pub returns-clause-made : goal.returns-clause-made
 returns-clause-made c f =

@@ -54,4 +54,4 @@ returns-clause-lifted c = λ before mid after b.
     (c.mend.ensures.mended c.args.region.now.bytes before [] mid after
     (carried_up c.args.region.now.bytes c.slide.new.self.bytes c.write.new.region.bytes before mid after c.args.start c.args.end c.args.gap c.requires.accepted b
     c.slide.ensures.bytes (ap (λ (m : Memory). m.bytes) c.write.ensures.after) c.write.ensures.spelled)
-    (omega (arith, to))) (omega (arith, inside, most)) b.live
+    (omega (arith, to))) (omega (arith, inside, most)) b.live b.loose

@@ -14,18 +14,18 @@ pub returns-in-None-as_movable-clause-none : goal.returns-in-None-as_movable-cla
 returns-in-None-as_movable-clause-none c =
     other_holds_none c.args.region.now.bytes c.args.place c.in-Some.header c.requires.accepted (sym c.in-Some.is ∙ c.read.ensures.is) (sym c.as_movable.ensures ∙ c.in-None-as_movable.is)
 
-pub returns-in-Some-resolve-clause-found : goal.returns-in-Some-resolve-clause-found
-returns-in-Some-resolve-clause-found c =
+pub returns-in-Some-resolve_known-clause-found : goal.returns-in-Some-resolve_known-clause-found
+returns-in-Some-resolve_known-clause-found c =
     slot_one c.args.region.now.bytes c.args.place c.in-Some-as_movable.found c.in-Some.header c.requires.accepted (sym c.in-Some.is ∙ c.read.ensures.is) (sym c.as_movable.ensures ∙ c.in-Some-as_movable.is)
-    (subst (λ p. HoldsPlace c.args.region.now.bytes c.in-Some-as_movable.found.name.0 p) c.if-held-place.true c.in-Some-resolve.ensures)
+    (subst (λ p. HoldsPlace c.args.region.now.bytes c.in-Some-as_movable.found.name.0 p) c.if-held-place.true c.in-Some-resolve_known.ensures)
 
-pub returns-in-Some-resolve-clause-there : goal.returns-in-Some-resolve-clause-there
-returns-in-Some-resolve-clause-there c = movable_place c.in-Some.header c.args.place c.in-Some-as_movable.found (sym c.as_movable.ensures ∙ c.in-Some-as_movable.is)
+pub returns-in-Some-resolve_known-clause-there : goal.returns-in-Some-resolve_known-clause-there
+returns-in-Some-resolve_known-clause-there c = movable_place c.in-Some.header c.args.place c.in-Some-as_movable.found (sym c.as_movable.ensures ∙ c.in-Some-as_movable.is)
 
 pub returns-in_default-clause-none : goal.returns-in_default-clause-none
 returns-in_default-clause-none c =
     elsewhere_holds_none c.args.region.now.bytes c.args.place c.in-Some-as_movable.found c.in-Some.header c.requires.accepted (sym c.in-Some.is ∙ c.read.ensures.is) (sym c.as_movable.ensures ∙ c.in-Some-as_movable.is)
-    (λ holds. c.if-held-place.false (sym c.in-Some-resolve.ensures.held ∙ holds.held))
+    (λ holds. c.if-held-place.false (sym c.in-Some-resolve_known.ensures.held ∙ holds.held))
 
 pub returns-in_default-2-clause-none : goal.returns-in_default-2-clause-none
 returns-in_default-2-clause-none c =

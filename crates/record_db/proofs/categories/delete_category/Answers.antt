@@ -36,5 +36,5 @@ pub returns-clause-does : goal.returns-clause-does
 returns-clause-does c =
     let none = c.in_ok-opened.ensures.passes in
     let leaves = raised_after c.args.store.now.bytes c.delete_all_of.new.store.bytes c.count_change.new.self.bytes c.args.db (category_deleted (store_of c.args.store.now.bytes) c.args.db c.args.category) c.delete_all_of.ensures.deleted c.count_change.ensures.counted c.count_change.ensures.none_made in
-    changes c.args.store.now c.count_change.new.self (calls.Record (DeleteCategory c.args.db c.args.category)) Done _ c.in_ok-opened.ensures.accepted leaves
+    changes c.args.store.now c.count_change.new.self (calls.Record (DeleteCategory c.args.db c.args.category)) Done _ (λ slots. refl) c.in_ok-opened.ensures.accepted leaves
     ((none.0, (none.1.0, (none.1.1.0, (c.in_ok-check_category.ensures.passes.0, ((λ is. (let found = c.has_locked_of.ensures.1 is in let no_one = c.if-has_locked_of.false in absurd cc)), tt))))), (tt, leaves.same)) tt (kept_then c.args.store.now c.delete_all_of.new.store c.count_change.new.self c.delete_all_of.ensures.rest c.count_change.ensures.rest)

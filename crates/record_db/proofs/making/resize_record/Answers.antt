@@ -41,7 +41,7 @@ returns-clause-does c =
     let grows = subst (λ (name : ℕ). NoneHolds (checks_of_growth c.args.store.now.bytes name c.args.size)) named c.in_ok-entry_resize.ensures.could in
     let sized = subst (λ (name : ℕ). LeavesStore c.args.store.now.bytes c.entry_resize.new.self.bytes (data_sized (store_of c.args.store.now.bytes) name c.args.size)) named c.in_ok-entry_resize.ensures.done in
     let leaves = raised_after c.args.store.now.bytes c.entry_resize.new.self.bytes c.count_change.new.self.bytes c.args.db _ sized c.count_change.ensures.counted c.count_change.ensures.none_made in
-    changes c.args.store.now c.count_change.new.self (calls.Record (Resize c.args.db c.args.index c.args.size)) Done _ c.in_ok-live.ensures.accepted leaves
+    changes c.args.store.now c.count_change.new.self (calls.Record (Resize c.args.db c.args.index c.args.size)) Done _ (λ slots. refl) c.in_ok-live.ensures.accepted leaves
     ((alive.0, (alive.1.0, (alive.1.1.0, (alive.1.1.1.0, (alive.1.1.1.1.0, grows))))), (tt, leaves.same)) tt refl
 
 pub returns-clause-unmoved : goal.returns-clause-unmoved

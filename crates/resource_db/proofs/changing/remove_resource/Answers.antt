@@ -36,7 +36,7 @@ returns-clause-does c =
     let found = c.in_ok-resource.ensures in
     let none = found.passes in
     let leaves = c.entry_drop.ensures.dropped in
-    changes c.args.store.now c.entry_drop.new.self (calls.Resource (Remove c.args.db c.args.index)) Done _ found.accepted leaves (
+    changes c.args.store.now c.entry_drop.new.self (calls.Resource (Remove c.args.db c.args.index)) Done _ (λ slots. refl) found.accepted leaves (
       (
         none.0,
         (

@@ -7,5 +7,5 @@ use Rattle.store_check.proofs.entries.find_bad_entry.Given as goal
 abbrev pub invariant-loop-db : goal.invariant-loop-db
 invariant-loop-db l = record {
   none_bad : (db : ℕ) → db < l.db → (index : ℕ) → IsBadEntry l.region.bytes db index → ⊥;
-  marked : AddsMarks l.region.bytes (named_below l.region.bytes l.db) l.initial.marks l.marks;
+  marked : AddsMarks (named_below l.region.bytes l.db) l.initial.marks l.marks;
 }

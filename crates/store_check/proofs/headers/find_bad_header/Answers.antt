@@ -8,7 +8,7 @@ pub returns-then-not-has_header-clause-some : goal.returns-then-not-has_header-c
 returns-then-not-has_header-clause-some c =
     let count = c.requires.listing.count in
     let is = header_bytes c.args.region.now.bytes c.bytes_of.result.now c.loop-db.db c.find_header-header.result c.find_header-header.ensures c.bytes_of.ensures in
-    header_first c.args.region.now.bytes c.bytes_of.result.now c.loop-db.db is (omega arith) (λ h. false≢true (c.if-not-has_header.ensures.1 h)) c.loop-db.invariant.none_bad
+    header_first c.args.region.now.bytes c.bytes_of.result.now c.loop-db.db is (omega arith) (λ h. false≢true ((c.if-not-has_header.ensures c.args.region.now.bytes c.requires.listing.heap c.requires.owners).1 h)) c.loop-db.invariant.none_bad
 
 pub loop-db-preserved : goal.loop-db-preserved
 loop-db-preserved c =
@@ -16,7 +16,7 @@ loop-db-preserved c =
     let room = c.requires.room in
     let is = header_bytes c.args.region.now.bytes c.bytes_of.result.now c.loop-db.db c.find_header-header.result c.find_header-header.ensures c.bytes_of.ensures in
     headers_more c.args.region.now.bytes c.loop-db.table _ c.find_header-header.result c.loop-db.db refl (omega arith) c.find_header-header.ensures
-    (header_good c.args.region.now.bytes c.bytes_of.result.now c.loop-db.db is (c.if-not-has_header.ensures.0 refl)) c.loop-db.invariant
+    (header_good c.args.region.now.bytes c.bytes_of.result.now c.loop-db.db is ((c.if-not-has_header.ensures c.args.region.now.bytes c.requires.listing.heap c.requires.owners).0 refl)) c.loop-db.invariant
 
 pub returns-clause-noted : goal.returns-clause-noted
 returns-clause-noted c =

@@ -1,11 +1,12 @@
-use Rattle.std.proofs.Common.{◌<◌, arith}
-use Rattle.heap_model.specs.Slots.{slots_total}
-use Rattle.laws_heap.proofs.Slots.{stands_below}
-use Rattle.store_check.proofs.MarkLaws.{number_found}
+use Rattle.std.proofs.Common.{arith}
+use Rattle.std.proofs.lemmas.Bool.Decides.{nat_tests}
+use Rattle.store_check.proofs.MarkLaws.{marked_told}
 use Rattle.store_check.proofs.marks.is_marked.Goals as goal
 
-pub bounds-marks-number : goal.bounds-marks-number
-bounds-marks-number c =
-    let below : c.unwrap-number.result < slots_total c.args.region.now.bytes = stands_below c.args.region.now.bytes c.args.slot c.unwrap-number.result
-    (number_found c.args.region.now.bytes c.args.slot c.slots_before.result c.unwrap-number.result c.slots_before.ensures.some c.unwrap-number.ensures) in
-    omega arith
+pub returns-then-number-marks : goal.returns-then-number-marks
+returns-then-number-marks c xs has m =
+    let told = marked_told xs c.args.marks.now c.args.slot c.in-Some.number c.in-Some.ensures.some (omega arith) m in
+    (λ yes. told.0 (grind (arith, nat_tests)), λ some. (let marked = told.1 some in grind (arith, nat_tests)))
+
+pub returns-in-None : goal.returns-in-None
+returns-in-None c xs has m = absurd (c.in-None.ensures.none has.0 has.1)

@@ -1,16 +1,12 @@
 use Rattle.std.proofs.Common.{arith}
-use Rattle.laws_heap.proofs.Slots.{stands_below}
-use Rattle.store_check.proofs.OwnerLaws.{owner_told, no_owner_told}
+use Rattle.store_check.proofs.OwnerLaws.{owner_noted, none_noted}
 use Rattle.store_check.proofs.owners.noted_owner.Goals as goal
 
-pub bounds-owners-number : goal.bounds-owners-number
-bounds-owners-number c =
-    let below = stands_below c.args.region.now.bytes c.args.slot c.in-Some.number c.in-Some.ensures.some in
-    let room = c.requires.owners.room in
-    omega arith
+pub returns-then-number-owners : goal.returns-then-number-owners
+returns-then-number-owners c image h noted = owner_noted image c.args.owners.now c.args.slot c.in-Some.number h noted c.in-Some.ensures.some (omega arith)
 
-pub returns-in-Some : goal.returns-in-Some
-returns-in-Some c = owner_told c.args.region.now.bytes c.args.slot _ (c.requires.owners.each c.args.slot c.in-Some.number c.in-Some.ensures.some)
+pub returns-else-number-owners : goal.returns-else-number-owners
+returns-else-number-owners c image h noted = none_noted image c.args.owners.now c.args.slot h noted (λ mark. (let word = mark.1 in let below = mark.2 in let here = c.in-Some.ensures.some in omega arith))
 
 pub returns-in-None : goal.returns-in-None
-returns-in-None c = no_owner_told c.args.region.now.bytes c.args.slot c.requires.accepted c.in-None.ensures.none
+returns-in-None c image h noted = none_noted image c.args.owners.now c.args.slot h noted (λ mark. c.in-None.ensures.none mark.0 mark.1)

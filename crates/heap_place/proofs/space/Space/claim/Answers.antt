@@ -12,6 +12,7 @@ use Rattle.heap_place.specs.Lists.{ButAt, CutsRoom}
 use Rattle.heap_place.proofs.CutLaws.{room_facts}
 use Rattle.heap_place.proofs.ListLaws.{lists_kept, lists_any}
 use Rattle.heap_place.proofs.SpotLaws.{taken_chunk, cut_claims, claims_same}
+use Rattle.heap_place.proofs.KeptLaws.{viewed_kept}
 use Rattle.heap_place.proofs.space.Space.claim.Goals as goal
 
 pub size_of_body-requires : goal.size_of_body-requires
@@ -46,3 +47,12 @@ claim_movable-requires-clause-empty c =
 pub claim_movable-requires-clause-slot : goal.claim_movable-requires-clause-slot
 claim_movable-requires-clause-slot c =
     slot_kept c.self.inside.region.bytes c.take-kept.new.region.bytes (chunks_of c.self.inside.region.bytes) c.args.slot.0 c.take-kept.ensures.same (subst (λ (m : Memory). IsSlot m.bytes c.args.slot.0) (sym c.self.view_is) c.requires.slot)
+
+pub invariant_of-self : goal.invariant_of-self
+invariant_of-self c = record {
+  lists = c.build.ensures.lists;
+  tables = viewed_kept c.args.self.now c.self.inside.region c.build.new.region.bytes c.self.inside.tables c.self.view_is ((subst (λ (m : Memory). Claims m.bytes c.build.new.region.bytes c.args.room.at c.args.room.size (movable (replicate {A = ℕ} c.args.count 0) 0 c.args.owner c.args.slot.0)) c.self.view_is
+      (claims_same c.self.inside.region.bytes c.claim_movable.new.region.bytes c.build.new.region.bytes c.args.room.at c.args.room.size (movable (replicate {A = ℕ} c.args.count 0) 0 c.args.owner c.args.slot.0)
+      (cut_claims c.self.inside.region.bytes c.take-kept.new.region.bytes c.claim_movable.new.region.bytes c.args.room.at c.args.room.size (need c.args.count) (movable (replicate {A = ℕ} c.args.count 0) 0 c.args.owner c.args.slot.0)
+      (ap need (length-replicate {A = ℕ} c.args.count 0)) c.take-kept.ensures.same (subst (λ (n : ℕ). CutsRoom c.self.inside.region.bytes c.take-kept.new.region.bytes c.args.room.at c.args.room.size n) c.size_of_body.ensures c.take-kept.ensures.cut) c.claim_movable.ensures.made) c.build.ensures.same)) c.requires.room).frame c.self.invariant.tables;
+}

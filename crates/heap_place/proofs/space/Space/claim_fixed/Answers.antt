@@ -7,6 +7,7 @@ use Rattle.heap_place.specs.Lists.{ButAt, CutsRoom}
 use Rattle.heap_place.proofs.CutLaws.{room_facts}
 use Rattle.heap_place.proofs.ListLaws.{lists_kept, lists_any}
 use Rattle.heap_place.proofs.SpotLaws.{taken_chunk, cut_claims, claims_same}
+use Rattle.heap_place.proofs.KeptLaws.{viewed_kept}
 use Rattle.heap_place.proofs.space.Space.claim_fixed.Goals as goal
 
 pub size_of_body-requires : goal.size_of_body-requires
@@ -36,3 +37,12 @@ pub overflow_add-result : goal.overflow_add-result
 overflow_add-result c =
     let f = room_facts c.args.self.now.bytes c.args.room.at c.args.room.size c.requires.accepted c.requires.room in
     let inside = f.0 in let most = f.2 in omega arith
+
+pub invariant_of-self : goal.invariant_of-self
+invariant_of-self c = record {
+  lists = c.build.ensures.lists;
+  tables = viewed_kept c.args.self.now c.self.inside.region c.build.new.region.bytes c.self.inside.tables c.self.view_is ((subst (λ (m : Memory). Claims m.bytes c.build.new.region.bytes c.args.room.at c.args.room.size (fixed (replicate {A = ℕ} c.args.count 0) c.args.owner)) c.self.view_is
+      (claims_same c.self.inside.region.bytes c.claim_fixed_at.new.region.bytes c.build.new.region.bytes c.args.room.at c.args.room.size (fixed (replicate {A = ℕ} c.args.count 0) c.args.owner)
+      (cut_claims c.self.inside.region.bytes c.take-kept.new.region.bytes c.claim_fixed_at.new.region.bytes c.args.room.at c.args.room.size (need c.args.count) (fixed (replicate {A = ℕ} c.args.count 0) c.args.owner)
+      (ap need (length-replicate {A = ℕ} c.args.count 0)) c.take-kept.ensures.same (subst (λ (n : ℕ). CutsRoom c.self.inside.region.bytes c.take-kept.new.region.bytes c.args.room.at c.args.room.size n) c.size_of_body.ensures c.take-kept.ensures.cut) c.claim_fixed_at.ensures.made) c.build.ensures.same)) c.requires.room).frame c.self.invariant.tables;
+}

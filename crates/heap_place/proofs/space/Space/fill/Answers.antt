@@ -4,6 +4,7 @@ use Rattle.heap_model.specs.Bytes.{overwritten}
 use Rattle.heap_place.proofs.FoundLaws.{bytes_inside}
 use Rattle.heap_place.proofs.AlterLaws.{filled_there}
 use Rattle.heap_place.proofs.WithinLaws.{filled_lists}
+use Rattle.heap_place.proofs.KeptLaws.{viewed_kept}
 use Rattle.heap_place.proofs.space.Space.fill.Goals as goal
 
 pub fill-requires : goal.fill-requires
@@ -23,5 +24,8 @@ returns-clause-plain c =
     (ap (λ (m : Memory). m.bytes) c.fill.ensures.after ∙ ap (λ (m : Memory). overwritten m.bytes (c.args.found.place.0 + c.args.at) (replicate {A = ℕ} c.args.count c.args.byte)) c.self.view_is)).1
 
 pub invariant_of-self : goal.invariant_of-self
-invariant_of-self c =
-    filled_lists c.args.self.now c.self.inside.region c.fill.new.self.bytes c.self.inside.heads c.args.found c.args.at c.args.count c.args.byte c.self.view_is c.requires.accepted c.requires.found c.requires.within (ap (λ (m : Memory). m.bytes) c.fill.ensures.after) c.self.invariant
+invariant_of-self c = record {
+  lists = filled_lists c.args.self.now c.self.inside.region c.fill.new.self.bytes c.self.inside.heads c.args.found c.args.at c.args.count c.args.byte c.self.view_is c.requires.accepted c.requires.found c.requires.within (ap (λ (m : Memory). m.bytes) c.fill.ensures.after) c.self.invariant.lists;
+  tables = viewed_kept c.args.self.now c.self.inside.region c.fill.new.self.bytes c.self.inside.tables c.self.view_is ((filled_there c.args.self.now.bytes c.fill.new.self.bytes c.args.found c.args.at c.args.count c.args.byte c.requires.accepted c.requires.found c.requires.within
+      (ap (λ (m : Memory). m.bytes) c.fill.ensures.after ∙ ap (λ (m : Memory). overwritten m.bytes (c.args.found.place.0 + c.args.at) (replicate {A = ℕ} c.args.count c.args.byte)) c.self.view_is)).0).frame c.self.invariant.tables;
+}

@@ -5,6 +5,7 @@ use Rattle.heap_model.specs.Layout.{Alters, freed, WritesPlain}
 use Rattle.heap_place.specs.Found.{IsOne}
 use Rattle.laws_heap.proofs.Plain.{plain_then}
 use Rattle.heap_place.proofs.GivenBackLaws.{same_found, then_freed}
+use Rattle.heap_place.proofs.KeptLaws.{viewed_kept}
 use Rattle.heap_place.proofs.space.Space.give_back.Goals as goal
 
 pub release_listed-requires-clause-found : goal.release_listed-requires-clause-found
@@ -25,3 +26,11 @@ pub returns-clause-plain : goal.returns-clause-plain
 returns-clause-plain c =
     subst (λ (m : Memory). WritesPlain m.bytes c.release_listed.new.region.bytes) c.self.view_is
     (plain_then c.self.inside.region.bytes c.build.new.region.bytes c.release_listed.new.region.bytes c.build.ensures.plain c.release_listed.ensures.plain)
+
+pub invariant_of-self : goal.invariant_of-self
+invariant_of-self c = record {
+  lists = c.release_listed.ensures.lists;
+  tables = viewed_kept c.args.self.now c.self.inside.region c.release_listed.new.region.bytes c.self.inside.tables c.self.view_is (subst (λ (m : Memory). Alters m.bytes c.release_listed.new.region.bytes (c.args.found.place.0 - 8) freed) c.self.view_is
+      (then_freed c.self.inside.region.bytes c.build.new.region.bytes c.release_listed.new.region.bytes c.args.found (subst (λ (m : Memory). HeapAccepted m.bytes) (sym c.self.view_is) c.requires.accepted) c.build.ensures.same
+      (subst (λ (m : Memory). IsOne m.bytes c.args.found) (sym c.self.view_is) c.requires.found) c.release_listed.ensures.gone)).frame c.self.invariant.tables;
+}

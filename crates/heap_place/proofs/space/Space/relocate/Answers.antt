@@ -3,9 +3,16 @@ use Rattle.std.specs.Bool.{OnTrue}
 use Rattle.heap_model.specs.Memory.{Memory}
 use Rattle.heap_place.specs.Relocation.{RelocatesToRun}
 use Rattle.heap_place.proofs.RelocateLaws.{had_run}
+use Rattle.heap_place.proofs.KeptLaws.{tables_kept}
 use Rattle.heap_place.proofs.space.Space.relocate.Goals as goal
 
 pub returns-clause-had_run : goal.returns-clause-had_run
 returns-clause-had_run c =
     had_run c.args.self.now.bytes c.relocate-moved.new.region.bytes c.args.found c.args.count c.relocate-moved.result
     (subst (λ (m : Memory). OnTrue c.relocate-moved.result (RelocatesToRun m.bytes c.relocate-moved.new.region.bytes c.args.found c.args.count)) c.self.view_is c.relocate-moved.ensures.moved)
+
+pub invariant_of-self : goal.invariant_of-self
+invariant_of-self c = record {
+  lists = c.relocate-moved.ensures.lists;
+  tables = tables_kept c.self.inside.region.bytes c.relocate-moved.new.region.bytes c.self.inside.tables c.relocate-moved.ensures.frame c.self.invariant.tables;
+}

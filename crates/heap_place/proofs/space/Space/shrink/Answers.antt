@@ -2,6 +2,7 @@ use Rattle.std.proofs.Common.{sym, subst}
 use Rattle.heap_model.specs.Memory.{Memory}
 use Rattle.heap_place.specs.Resizes.{RunBehind, Resizes}
 use Rattle.heap_place.proofs.ResizeLaws.{none_behind, shrinks}
+use Rattle.heap_place.proofs.KeptLaws.{viewed_kept}
 use Rattle.heap_place.proofs.space.Space.shrink.Goals as goal
 
 pub resize_listed-kept-requires-clause-behind : goal.resize_listed-kept-requires-clause-behind
@@ -11,3 +12,10 @@ pub returns-clause-made : goal.returns-clause-made
 returns-clause-made c =
     shrinks c.args.self.now.bytes c.resize_listed-kept.new.region.bytes c.args.found c.args.count c.requires.accepted c.requires.found
     (subst (λ (m : Memory). Resizes m.bytes c.resize_listed-kept.new.region.bytes c.args.found c.args.count 0) c.self.view_is c.resize_listed-kept.ensures.resized)
+
+pub invariant_of-self : goal.invariant_of-self
+invariant_of-self c = record {
+  lists = c.resize_listed-kept.ensures.lists;
+  tables = viewed_kept c.args.self.now c.self.inside.region c.resize_listed-kept.new.region.bytes c.self.inside.tables c.self.view_is (shrinks c.args.self.now.bytes c.resize_listed-kept.new.region.bytes c.args.found c.args.count c.requires.accepted c.requires.found
+      (subst (λ (m : Memory). Resizes m.bytes c.resize_listed-kept.new.region.bytes c.args.found c.args.count 0) c.self.view_is c.resize_listed-kept.ensures.resized)).frame c.self.invariant.tables;
+}

@@ -7,6 +7,8 @@ use Rattle.heap_model.specs.declared.refusal.Refusal.{Refusal}
 use Rattle.heap_place.specs.declared.found.Found.{Found}
 use Rattle.heap_place.specs.Found.{IsFound}
 use Rattle.mem_manager.proofs.StepWords.{handed_on, one_of}
+use Rattle.master_table.specs.Table.{NotAmong}
+use Rattle.mem_manager.specs.Lookup.{IsSlotOrNone}
 use Rattle.mem_manager.proofs.NewChunks.{free_database, free_locked, freed, used_freed}
 use Rattle.mem_manager.proofs.ChunkCalls.{not_the_directory}
 use Rattle.laws_heap.proofs.ExchangedNames.{freed_changes}
@@ -38,8 +40,8 @@ give_back-requires-clause-no_directory c = not_the_directory c.self.inside.space
 pub invariant_of-self : goal.invariant_of-self
 invariant_of-self c =
     let f = inside_too c.args.name.0 c.args.found c.self.view_is c.requires.found in
-    used_freed c.self.inside.space.bytes c.give_back.new.self.bytes c.self.inside.used c.used_without-self-inside.result c.args.name.0 c.forget.new.self c.self.invariant c.used_without-self-inside.ensures.fewer
-    (c.used_without-self-inside.ensures.apart c.self.inside.space.bytes) c.forget.ensures
+    used_freed c.self.inside.space.bytes c.give_back.new.self.bytes c.self.inside.used c.used_without-self-inside.result c.args.name.0 c.forget.new.self c.self.invariant (subst (λ (m : Memory). IsSlotOrNone m.bytes c.freed_slot-self-inside.result.0) c.region-2.ensures c.freed_slot-self-inside.ensures) c.used_without-self-inside.ensures.fewer
+    (subst (λ (m : Memory). NotAmong m.bytes c.used_without-self-inside.result c.args.name.0) c.region.ensures c.used_without-self-inside.ensures.apart) c.forget.ensures
     (freed_changes c.self.inside.space.bytes c.give_back.new.self.bytes c.args.name.0 (c.args.found.place.0 - 8) f.live f.chunk c.self.invariant.accepted f.finds c.give_back.ensures.gone)
 
 pub returns : goal.returns

@@ -1,7 +1,7 @@
-use Rattle.std.proofs.Common.{◌≡◌, ◌+◌, refl, subst, inl}
-use Rattle.std.specs.Prelude.{Ok}
+use Rattle.std.proofs.Common.{◌≡◌, None, ◌+◌, refl, subst, inl}
+use Rattle.std.specs.Prelude.{◌↔◌, Ok}
 use Rattle.heap_model.specs.Memory.{Memory}
-use Rattle.heap_model.specs.Space.{MovesOneStretch, moved_bytes}
+use Rattle.heap_model.specs.Space.{free_slots, MovesOneStretch, moved_bytes}
 use Rattle.heap_model.specs.MemorySteps.{Does, reply_of}
 use Rattle.heap_model.specs.declared.call.MemoryCall.TheVariants.{HandleNew}
 use Rattle.heap_model.specs.declared.call.Reply.{Reply}
@@ -30,7 +30,10 @@ returns-clause-does c =
     (new_step c.self.inside.space c.make_movable.new.space c.args.size c.args.owner (Ok c.in_ok-slot.slot.name) c.self.invariant.accepted c.in_ok-check_owner.ensures.ok c.in_ok-slot.ensures.made c.in_ok-slot.ensures.had_room tt tt tt c.make_movable.ensures.rest)
 
 pub invariant_of-self-2 : goal.invariant_of-self-2
-invariant_of-self-2 c = managed_made c.self.inside.space.bytes c.make_movable.new.space.bytes c.self.inside.used c.in_ok-slot.slot.before c.in_ok-slot.slot.name.0 c.args.size c.args.owner c.self.invariant c.in_ok-slot.ensures.in_use c.in_ok-slot.ensures.made
+invariant_of-self-2 c = managed_made c.self.inside.space.bytes c.make_movable.new.space.bytes c.self.inside.used c.in_ok-slot.slot.before c.in_ok-slot.slot.name.0 c.args.size c.args.owner c.self.invariant c.in_ok-slot.ensures.in_use c.in_ok-slot.ensures.table c.in_ok-slot.ensures.made
 
 pub returns-clause-unmoved : goal.returns-clause-unmoved
 returns-clause-unmoved c = subst (λ (m : Memory). MovesOnlyForRoom m.bytes c.make_movable.new.space.bytes c.args.size) c.self.view_is c.make_movable.ensures.unmoved
+
+pub make_movable-requires-clause-none : goal.make_movable-requires-clause-none
+make_movable-requires-clause-none c = subst (λ (m : Memory). (c.next_empty_slot-found.result ≡ None) ↔ (free_slots m.bytes ≡ 0)) c.region.ensures c.next_empty_slot-found.ensures.none

@@ -5,6 +5,8 @@ use Rattle.heap_model.specs.Reading.{held}
 use Rattle.heap_model.specs.Space.{MovesNothing}
 use Rattle.heap_model.specs.Leaving.{Leaves}
 use Rattle.laws_heap.proofs.ExchangedNames.{freed_changes}
+use Rattle.master_table.specs.Table.{NotAmong}
+use Rattle.mem_manager.specs.Lookup.{IsSlotOrNone}
 use Rattle.mem_manager.proofs.NewChunks.{used_freed}
 use Rattle.mem_manager.proofs.StoreCalls.{leaves_gone, gone_moves_nothing, found_viewed}
 use Rattle.mem_manager.proofs.heap.Heap.sys_free.Goals as goal
@@ -12,8 +14,8 @@ use Rattle.mem_manager.proofs.heap.Heap.sys_free.Goals as goal
 pub invariant_of-self : goal.invariant_of-self
 invariant_of-self c =
     let f = found_viewed c.args.name.0 c.args.found c.self.view_is c.requires.stands in
-    used_freed c.self.inside.space.bytes c.give_back.new.self.bytes c.self.inside.used c.used_without-self-inside.result c.args.name.0 c.forget.new.self c.self.invariant c.used_without-self-inside.ensures.fewer
-    (c.used_without-self-inside.ensures.apart c.self.inside.space.bytes) c.forget.ensures
+    used_freed c.self.inside.space.bytes c.give_back.new.self.bytes c.self.inside.used c.used_without-self-inside.result c.args.name.0 c.forget.new.self c.self.invariant (subst (λ (m : Memory). IsSlotOrNone m.bytes c.freed_slot-self-inside.result.0) c.region-2.ensures c.freed_slot-self-inside.ensures) c.used_without-self-inside.ensures.fewer
+    (subst (λ (m : Memory). NotAmong m.bytes c.used_without-self-inside.result c.args.name.0) c.region.ensures c.used_without-self-inside.ensures.apart) c.forget.ensures
     (freed_changes c.self.inside.space.bytes c.give_back.new.self.bytes c.args.name.0 (c.args.found.place.0 - 8) f.live f.chunk c.self.invariant.accepted f.finds c.give_back.ensures.gone)
 
 pub returns-clause-leaves : goal.returns-clause-leaves

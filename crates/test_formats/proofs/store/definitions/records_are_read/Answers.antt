@@ -1,35 +1,35 @@
 use Rattle.std.proofs.Common.{refl}
 use Rattle.heap_model.specs.Bytes.{u16_at, u24_at, u32_at, u16_bytes, u24_bytes, u32_bytes, overwritten}
-use Rattle.heap_model.specs.Slots.{slots_of}
+use Rattle.heap_model.specs.Slots.{slots_of, further_tables}
 use Rattle.heap_model.specs.Reading.{chunk_at, chunks_from, chunks_of, held, is_accepted}
 use Rattle.heap_model.specs.Database.{name_field, header_bytes, entry_bytes, spelled, name_in, header_in, database_in}
 use Rattle.heap_model.specs.Store.{bytes_under, owner_under, directory_bytes, listed, databases, named}
 use Rattle.test_formats.proofs.store.definitions.records_are_read.Goals as goal
 
 pub returns-clause-accepted : goal.returns-clause-accepted
-unfolding u16_at u24_at u32_at u16_bytes u24_bytes u32_bytes overwritten slots_of chunk_at chunks_from chunks_of held is_accepted name_field header_bytes entry_bytes spelled name_in header_in database_in bytes_under owner_under directory_bytes listed databases named
+unfolding u16_at u24_at u32_at u16_bytes u24_bytes u32_bytes overwritten slots_of further_tables chunk_at chunks_from chunks_of held is_accepted name_field header_bytes entry_bytes spelled name_in header_in database_in bytes_under owner_under directory_bytes listed databases named
 returns-clause-accepted c = refl
 
 pub returns-clause-listed : goal.returns-clause-listed
-unfolding u16_at u24_at u32_at u16_bytes u24_bytes u32_bytes overwritten slots_of chunk_at chunks_from chunks_of held is_accepted name_field header_bytes entry_bytes spelled name_in header_in database_in bytes_under owner_under directory_bytes listed databases named
+unfolding u16_at u24_at u32_at u16_bytes u24_bytes u32_bytes overwritten slots_of further_tables chunk_at chunks_from chunks_of held is_accepted name_field header_bytes entry_bytes spelled name_in header_in database_in bytes_under owner_under directory_bytes listed databases named
 returns-clause-listed c = refl
 
 pub returns-clause-databases : goal.returns-clause-databases
-unfolding u16_at u24_at u32_at u16_bytes u24_bytes u32_bytes overwritten slots_of chunk_at chunks_from chunks_of held is_accepted name_field header_bytes entry_bytes spelled name_in header_in database_in bytes_under owner_under directory_bytes listed databases named
+unfolding u16_at u24_at u32_at u16_bytes u24_bytes u32_bytes overwritten slots_of further_tables chunk_at chunks_from chunks_of held is_accepted name_field header_bytes entry_bytes spelled name_in header_in database_in bytes_under owner_under directory_bytes listed databases named
 returns-clause-databases c = refl
 
 pub returns-clause-named : goal.returns-clause-named
-unfolding u16_at u24_at u32_at u16_bytes u24_bytes u32_bytes overwritten slots_of chunk_at chunks_from chunks_of held is_accepted name_field header_bytes entry_bytes spelled name_in header_in database_in bytes_under owner_under directory_bytes listed databases named
+unfolding u16_at u24_at u32_at u16_bytes u24_bytes u32_bytes overwritten slots_of further_tables chunk_at chunks_from chunks_of held is_accepted name_field header_bytes entry_bytes spelled name_in header_in database_in bytes_under owner_under directory_bytes listed databases named
 returns-clause-named c = refl
 
 pub returns-clause-data : goal.returns-clause-data
-unfolding u16_at u24_at u32_at u16_bytes u24_bytes u32_bytes overwritten slots_of chunk_at chunks_from chunks_of held is_accepted name_field header_bytes entry_bytes spelled name_in header_in database_in bytes_under owner_under directory_bytes listed databases named
+unfolding u16_at u24_at u32_at u16_bytes u24_bytes u32_bytes overwritten slots_of further_tables chunk_at chunks_from chunks_of held is_accepted name_field header_bytes entry_bytes spelled name_in header_in database_in bytes_under owner_under directory_bytes listed databases named
 returns-clause-data c = refl
 
 pub returns-clause-header : goal.returns-clause-header
-unfolding u16_at u24_at u32_at u16_bytes u24_bytes u32_bytes overwritten slots_of chunk_at chunks_from chunks_of held is_accepted name_field header_bytes entry_bytes spelled name_in header_in database_in bytes_under owner_under directory_bytes listed databases named
+unfolding u16_at u24_at u32_at u16_bytes u24_bytes u32_bytes overwritten slots_of further_tables chunk_at chunks_from chunks_of held is_accepted name_field header_bytes entry_bytes spelled name_in header_in database_in bytes_under owner_under directory_bytes listed databases named
 returns-clause-header c = refl
 
 pub returns-clause-stretch : goal.returns-clause-stretch
-unfolding u16_at u24_at u32_at u16_bytes u24_bytes u32_bytes overwritten slots_of chunk_at chunks_from chunks_of held is_accepted name_field header_bytes entry_bytes spelled name_in header_in database_in bytes_under owner_under directory_bytes listed databases named
+unfolding u16_at u24_at u32_at u16_bytes u24_bytes u32_bytes overwritten slots_of further_tables chunk_at chunks_from chunks_of held is_accepted name_field header_bytes entry_bytes spelled name_in header_in database_in bytes_under owner_under directory_bytes listed databases named
 returns-clause-stretch c = refl

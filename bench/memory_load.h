@@ -1,0 +1,391 @@
+/*
+ * A heap under load in plain C: calls of the memory manager, in the same order as crates/benchmarks/src/memory/load.rt
+ * has them, and their times.
+ */
+#ifndef MEMORY_LOAD_H
+#define MEMORY_LOAD_H
+
+#include "heap.h"
+#include "times.h"
+
+enum { MOST_LOCKS = 14 };
+
+/* What the calls here are done with. */
+enum { OWNER = 1, MOST_BYTES = 64, WIDTH = 16, MOST_MOVED = 2000 };
+
+/* The caller's chunk that a name stands for. */
+static bool find(const struct heap *heap, uint32_t name, struct found *found)
+{
+    return find_chunk(heap, name, found) && found->owner != 0;
+}
+
+static enum refusal heap_size(const struct heap *heap, uint32_t name, uint32_t *size)
+{
+    struct found found;
+    if (!find(heap, name, &found))
+        return INVALID_HANDLE;
+    *size = found.length;
+    return DONE;
+}
+
+static enum refusal heap_owner(const struct heap *heap, uint32_t name, uint32_t *owner)
+{
+    struct found found;
+    if (!find(heap, name, &found))
+        return INVALID_HANDLE;
+    *owner = found.owner;
+    return DONE;
+}
+
+static enum refusal heap_locks(const struct heap *heap, uint32_t name, uint32_t *count)
+{
+    struct found found;
+    if (!find(heap, name, &found))
+        return INVALID_HANDLE;
+    *count = found.lock;
+    return DONE;
+}
+
+static bool reaches_beyond(uint32_t at, uint32_t count, uint32_t length)
+{
+    return count > length || at > length - count;
+}
+
+static enum refusal heap_read(const struct heap *heap, uint32_t name, uint32_t at, uint32_t count,
+                              const uint8_t **bytes)
+{
+    struct found found;
+    if (!find(heap, name, &found))
+        return INVALID_HANDLE;
+    if (reaches_beyond(at, count, found.length))
+        return OUT_OF_BOUNDS;
+    *bytes = heap->image + found.place + at;
+    return DONE;
+}
+
+static enum refusal heap_write(struct heap *heap, uint32_t name, uint32_t at, const uint8_t *bytes,
+                               uint32_t count)
+{
+    struct found found;
+    if (!find(heap, name, &found))
+        return INVALID_HANDLE;
+    if (found.lock == 0)
+        return CHUNK_NOT_LOCKED;
+    if (reaches_beyond(at, count, found.length))
+        return OUT_OF_BOUNDS;
+    memcpy(heap->image + found.place + at, bytes, count);
+    return DONE;
+}
+
+static void relock(struct heap *heap, uint32_t place, uint32_t lock)
+{
+    uint32_t word2 = u32_at(heap->image, place - 4);
+    put_u32(heap->image, place - 4, (word2 & 0xFFFFFFF) | lock << 28);
+}
+
+static enum refusal heap_lock(struct heap *heap, uint32_t name, uint32_t *place, uint32_t *count)
+{
+    struct found found;
+    if (!find(heap, name, &found))
+        return INVALID_HANDLE;
+    if (found.lock == MOST_LOCKS)
+        return LOCK_OVERFLOW;
+    relock(heap, found.place, found.lock + 1);
+    *place = found.place;
+    *count = found.lock + 1;
+    return DONE;
+}
+
+static enum refusal heap_unlock(struct heap *heap, uint32_t name, uint32_t *count)
+{
+    struct found found;
+    if (!find(heap, name, &found))
+        return INVALID_HANDLE;
+    if (found.lock == 0)
+        return CHUNK_NOT_LOCKED;
+    relock(heap, found.place, found.lock - 1);
+    *count = found.lock - 1;
+    return DONE;
+}
+
+static enum refusal heap_handle_new(struct heap *heap, uint32_t length, uint32_t owner,
+                                    uint32_t *name)
+{
+    if (owner == 0 || owner > 14)
+        return INVALID_OWNER;
+    return make_chunk(heap, length, owner, name);
+}
+
+static enum refusal heap_free(struct heap *heap, uint32_t name)
+{
+    struct found found;
+    if (!find(heap, name, &found))
+        return INVALID_HANDLE;
+    if (found.owner == DATABASE)
+        return OWNED_BY_DATABASE;
+    if (found.lock != 0)
+        return CHUNK_LOCKED;
+    free_chunk(heap, name, &found);
+    return DONE;
+}
+
+/* A heap, the handles of its chunks and of those that have 16 bytes, and the sum of all replies. Chunks
+ * are made with 0 to `most` bytes. */
+struct load {
+    struct heap heap;
+    uint32_t most;
+    uint32_t *handles, *wide;
+    size_t handle_count, wide_count;
+    uint32_t random, replies;
+};
+
+static void add(struct load *load, uint32_t number)
+{
+    load->replies = sum_with(load->replies, number);
+}
+
+/* A number below a limit, the same in each run. */
+static size_t below(struct load *load, size_t limit)
+{
+    load->random = load->random * 1664525 + 1013904223;
+    return (load->random >> 16) % limit;
+}
+
+/* Brings the last handles into another order, so many of them. */
+static void shuffle(struct load *load, size_t count)
+{
+    size_t from = load->handle_count > count ? load->handle_count - count : 0;
+    uint32_t *handles = load->handles + from;
+    for (size_t i = 1; i < load->handle_count - from; i++) {
+        size_t j = below(load, i + 1);
+        uint32_t name = handles[i];
+        handles[i] = handles[j];
+        handles[j] = name;
+    }
+}
+
+static void make_chunks(struct load *load, size_t count)
+{
+    for (size_t i = 0; i < count; i++) {
+        uint32_t name;
+        enum refusal refusal =
+            heap_handle_new(&load->heap, (uint32_t)below(load, load->most + 1), OWNER, &name);
+        if (refusal == DONE)
+            load->handles[load->handle_count++] = name;
+        add(load, refusal == DONE ? name : refusal);
+    }
+}
+
+static void free_chunks(struct load *load, size_t count)
+{
+    for (size_t i = 0; i < count && load->handle_count > 0; i++)
+        add(load, heap_free(&load->heap, load->handles[--load->handle_count]));
+}
+
+static void find_wide(struct load *load)
+{
+    for (size_t i = 0; i < load->handle_count; i++) {
+        uint32_t size;
+        if (heap_size(&load->heap, load->handles[i], &size) == DONE && size >= WIDTH)
+            load->wide[load->wide_count++] = load->handles[i];
+    }
+}
+
+static void lock_wide(struct load *load)
+{
+    for (size_t i = 0; i < load->wide_count; i++) {
+        uint32_t place, count;
+        enum refusal refusal = heap_lock(&load->heap, load->wide[i], &place, &count);
+        add(load, refusal == DONE ? place : refusal);
+    }
+}
+
+static void lock_and_unlock(struct load *load)
+{
+    for (size_t i = 0; i < load->handle_count; i++) {
+        uint32_t place, count;
+        enum refusal refusal = heap_lock(&load->heap, load->handles[i], &place, &count);
+        add(load, refusal == DONE ? place ^ count : refusal);
+        refusal = heap_unlock(&load->heap, load->handles[i], &count);
+        add(load, refusal == DONE ? count : refusal);
+    }
+}
+
+static void ask_sizes(struct load *load)
+{
+    for (size_t i = 0; i < load->handle_count; i++) {
+        uint32_t size;
+        enum refusal refusal = heap_size(&load->heap, load->handles[i], &size);
+        add(load, refusal == DONE ? size : refusal);
+    }
+}
+
+static void ask_owners(struct load *load)
+{
+    for (size_t i = 0; i < load->handle_count; i++) {
+        uint32_t owner;
+        enum refusal refusal = heap_owner(&load->heap, load->handles[i], &owner);
+        add(load, refusal == DONE ? owner : refusal);
+    }
+}
+
+static void ask_locks(struct load *load)
+{
+    for (size_t i = 0; i < load->handle_count; i++) {
+        uint32_t count;
+        enum refusal refusal = heap_locks(&load->heap, load->handles[i], &count);
+        add(load, refusal == DONE ? count : refusal);
+    }
+}
+
+static void read_chunks(struct load *load)
+{
+    for (size_t i = 0; i < load->wide_count; i++) {
+        const uint8_t *bytes;
+        enum refusal refusal = heap_read(&load->heap, load->wide[i], 0, WIDTH, &bytes);
+        if (refusal != DONE) {
+            add(load, refusal);
+            continue;
+        }
+        add(load, bytes[0]);
+        add(load, bytes[WIDTH - 1]);
+    }
+}
+
+static void write_chunks(struct load *load, uint8_t byte)
+{
+    uint8_t bytes[WIDTH];
+    memset(bytes, byte, sizeof bytes);
+    for (size_t i = 0; i < load->wide_count; i++)
+        add(load, heap_write(&load->heap, load->wide[i], 0, bytes, WIDTH));
+}
+
+enum call { LOCK_AND_UNLOCK, ASK_SIZE, ASK_OWNER, ASK_LOCKS, READ, WRITE, CALLS };
+
+static const char *const CALL_NAMES[CALLS] = {
+    "lock_and_unlock", "size", "owner", "locks", "read", "write",
+};
+
+/* Does a call at each handle, or at each one of a chunk that has 16 bytes, so many times. */
+static void repeat(struct load *load, enum call call, uint32_t passes)
+{
+    for (uint32_t pass = 0; pass < passes; pass++) {
+        switch (call) {
+        case LOCK_AND_UNLOCK: lock_and_unlock(load); break;
+        case ASK_SIZE: ask_sizes(load); break;
+        case ASK_OWNER: ask_owners(load); break;
+        case ASK_LOCKS: ask_locks(load); break;
+        case READ: read_chunks(load); break;
+        default: write_chunks(load, (uint8_t)pass); break;
+        }
+    }
+}
+
+/* How many calls a pass of this kind has. */
+static size_t calls_of_pass(const struct load *load, enum call call)
+{
+    if (call == LOCK_AND_UNLOCK)
+        return 2 * load->handle_count;
+    return call < READ ? load->handle_count : load->wide_count;
+}
+
+/* What a run does. */
+struct work {
+    uint32_t size, slots, passes;
+    size_t rounds;
+    bool prints_times;
+};
+
+static size_t moved(const struct work *work)
+{
+    return work->slots / 4 < MOST_MOVED ? work->slots / 4 : MOST_MOVED;
+}
+
+/* Makes a chunk under each slot. */
+static void fill(struct load *load, const struct work *work, uint64_t *times)
+{
+    uint64_t start = nanoseconds();
+    make_chunks(load, work->slots);
+    times[0] = nanoseconds() - start;
+    if (work->prints_times)
+        print_times("handle_new_filling", work->slots, times, 1);
+}
+
+/* Frees chunks and makes as many, in each round. Those freed are taken from the last handles, so many
+ * of them. */
+static void move_chunks(struct load *load, const struct work *work, const char *const names[2],
+                        size_t among, uint64_t *times)
+{
+    for (size_t i = 0; i < work->rounds; i++) {
+        shuffle(load, among);
+        uint64_t start = nanoseconds();
+        free_chunks(load, moved(work));
+        uint64_t middle = nanoseconds();
+        make_chunks(load, moved(work));
+        times[i] = middle - start;
+        times[work->rounds + i] = nanoseconds() - middle;
+    }
+    for (size_t i = 0; i < 2 && work->prints_times; i++)
+        print_times(names[i], moved(work), times + i * work->rounds, work->rounds);
+}
+
+static void time_calls(struct load *load, const struct work *work, uint64_t *times)
+{
+    for (enum call call = LOCK_AND_UNLOCK; call < CALLS; call++) {
+        if (call == WRITE)
+            lock_wide(load);
+        for (size_t i = 0; i < work->rounds; i++) {
+            uint64_t start = nanoseconds();
+            repeat(load, call, work->passes);
+            times[i] = nanoseconds() - start;
+        }
+        if (work->prints_times)
+            print_times(CALL_NAMES[call], calls_of_pass(load, call) * (uint64_t)work->passes,
+                        times, work->rounds);
+    }
+}
+
+/* A load on a heap that is yet to be made. */
+static bool make_load(struct load *load, const struct work *work, uint32_t most)
+{
+    *load = (struct load){.random = 1, .most = most};
+    load->handles = calloc(work->slots, sizeof *load->handles);
+    load->wide = calloc(work->slots, sizeof *load->wide);
+    return load->handles != NULL && load->wide != NULL;
+}
+
+static bool make_blank_load(struct load *load, const struct work *work, uint32_t most)
+{
+    return make_load(load, work, most) && make_blank(&load->heap, work->size, work->slots);
+}
+
+static bool read_work(int argc, char **argv, struct work *work)
+{
+    if (argc == 1)
+        *work = (struct work){.size = 4096, .slots = 64, .passes = 2, .rounds = 2};
+    if (argc == 5)
+        *work = (struct work){
+            .size = (uint32_t)strtoul(argv[1], NULL, 10),
+            .slots = (uint32_t)strtoul(argv[2], NULL, 10),
+            .passes = (uint32_t)strtoul(argv[3], NULL, 10),
+            .rounds = strtoul(argv[4], NULL, 10),
+            .prints_times = true,
+        };
+    return argc == 1 || argc == 5;
+}
+
+/* Makes a chunk under each slot, frees and makes chunks, and then does the calls whose time doesn't depend on the
+ * heap. */
+static void time_load(struct load *load, const struct work *work, uint64_t *times)
+{
+    static const char *const AT_THE_END[2] = {"free_at_the_end", "handle_new_at_the_end"};
+    static const char *const ANYWHERE[2] = {"free_anywhere", "handle_new_anywhere"};
+    fill(load, work, times);
+    move_chunks(load, work, AT_THE_END, moved(work), times);
+    move_chunks(load, work, ANYWHERE, work->slots, times);
+    shuffle(load, work->slots);
+    find_wide(load);
+    time_calls(load, work, times);
+}
+
+#endif

@@ -1,0 +1,4 @@
+pub mod HeadLaws
+pub mod ChunkLaws
+pub mod MigrationLaws
+pub mod StoreLaws

@@ -1,0 +1,77 @@
+//! What stands in front of the chunks: the frame, the slots and the word `next`.
+
+ghost use Rattle.std.specs.Prelude.{◌≡◌, ◌≤◌, ◌<◌, ◌+◌, ◌^◌, length, replicate, false};
+ghost use Rattle.heap_model.specs.Heap.{HeapAccepted};
+ghost use Rattle.heap_model.specs.Slots.{is_chained};
+ghost use Rattle.heap_migration.specs.Growth.{growth as model_growth};
+ghost use Rattle.heap_migration.specs.Writing.{raised, HasHead, WroteFrame, RaisedSlots};
+
+use chunk_format::{FRAME_SIZE, SLOT_SIZE, head_end};
+use raw_region::Region;
+
+/// The first four bytes of an image of profile PHI2, as a number.
+const CHAINED_MAGIC: u32 = 0x5048_4932;
+
+/// Where the magic stands, in bytes from the image's start.
+const MAGIC_AT: usize = 0;
+
+/// Where the size of the image stands.
+const SIZE_AT: usize = 4;
+
+/// By how many bytes an image with so many slots grows: what the word `next` and its padding take.
+pub(crate) fn growth(slots: u16) -> u32
+    ensures is { result ≡ model_growth slots }
+    ensures few { result ≤ 8 }
+{
+    if slots % 2 == 0 { 8 } else { 0 }
+}
+
+/// Writes into zeros what stands in front of the chunks. Those begin `by` bytes further on.
+pub(crate) fn write_head(image: &Region, grown: &mut Region, by: u32)
+    requires accepted { HeapAccepted image.now.bytes }
+    requires one_table { is_chained image.now.bytes ≡ false }
+    requires few { by ≤ 8 }
+    requires zeros { grown.old.bytes ≡ replicate (length image.now.bytes + by) 0 }
+    ensures { HasHead image.now.bytes grown.new.bytes by }
+{
+    write_frame(image, grown);
+    raise_slots(image, grown, by);
+}
+
+/// Writes the frame: the new magic, the size of the new image, and all else as it was.
+fn write_frame(image: &Region, grown: &mut Region)
+    requires old_frame { 16 ≤ length image.now.bytes }
+    requires new_frame { 16 ≤ length grown.old.bytes }
+    requires small { length grown.old.bytes < 2 ^ 32 }
+    ensures { WroteFrame image.now.bytes grown.old.bytes grown.new.bytes }
+{
+    grown.write(0, image.slice(0, FRAME_SIZE as usize));
+    grown.put_u32(MAGIC_AT, CHAINED_MAGIC);
+    grown.put_u32(SIZE_AT, grown.len() as u32);
+}
+
+/// Writes the slots. Those in use hold a place that is `by` bytes further on.
+fn raise_slots(image: &Region, grown: &mut Region, by: u32)
+    requires accepted { HeapAccepted image.now.bytes }
+    requires one_table { is_chained image.now.bytes ≡ false }
+    requires few { by ≤ 8 }
+    requires len { length grown.old.bytes ≡ length image.now.bytes + by }
+    ensures { RaisedSlots image.now.bytes grown.old.bytes grown.new.bytes by }
+{
+    let end = head_end(image);
+    let mut slot = FRAME_SIZE;
+    while slot < end {
+        let place = image.get_u32(slot as usize);
+        grown.put_u32(slot as usize, raise(place, by));
+        slot += SLOT_SIZE;
+    }
+}
+
+/// What a slot is to hold. An empty slot stays empty.
+#[inline]
+fn raise(place: u32, by: u32) -> u32
+    requires { place + by < 2 ^ 32 }
+    ensures { result ≡ raised by place }
+{
+    if place == 0 { 0 } else { place + by }
+}

@@ -1,0 +1,80 @@
+//! The image that comes of a migration.
+
+ghost use Rattle.std.specs.Prelude.{◌≡◌, ◌<◌, ◌+◌, ◌↔◌, IfOk, IfErr, OnOk, Err, length, true, false};
+ghost use Rattle.heap_model.specs.Frame.{most_size};
+ghost use Rattle.heap_model.specs.Heap.{HeapAccepted};
+ghost use Rattle.heap_model.specs.Slots.{is_chained as model_chained};
+ghost use Rattle.heap_model.specs.Migration.{MigratesBytes};
+ghost use Rattle.heap_model.specs.Store.{Accepted};
+ghost use Rattle.heap_migration.specs.Growth.{growth_of};
+ghost use Rattle.heap_migration.specs.Stores.{IsMigrated, IsTooLarge};
+
+use crate::chunks::write_chunks;
+use crate::head::{growth, write_head};
+use allowance::Allowance;
+use chunk_format::{is_chained, is_image_size, slot_count};
+use raw_region::Region;
+use thiserror::Error;
+
+/// Why an image isn't migrated, in the order in which the reasons are looked for.
+#[derive(Clone, Copy, Debug, PartialEq, Eq, Error)]
+pub enum MigrateFault {
+    /// The new image would be larger than 16,777,208 bytes.
+    #[error("TooLarge")]
+    TooLarge,
+    /// Memory was refused.
+    #[error("OutOfMemory")]
+    OutOfMemory,
+}
+
+/// Returns the image with a chain of tables that an accepted image becomes. One that has a chain is returned as it is.
+///
+/// # Errors
+/// `TooLarge` if the new image would be too large, and `OutOfMemory` only if a growth was refused. The region comes
+/// back with either, unchanged.
+pub fn migrate_from<A: Allowance>(
+    memory: &A,
+    region: Region,
+) -> Result<Region, (MigrateFault, Region)>
+    requires accepted { Accepted region.bytes }
+    ensures migrated { IfOk result (λ grown. IsMigrated region.bytes grown.bytes) }
+    ensures accepted { IfOk result (λ grown. Accepted grown.bytes) }
+    ensures chained { model_chained region.bytes ≡ true → IfOk result (λ grown. grown ≡ region) }
+    ensures fits { OnOk result (IsTooLarge region.bytes → ⊥) }
+    ensures too_large { IfErr result (λ error.
+        (error.0 ≡ MigrateFault.TooLarge) ↔ IsTooLarge region.bytes) }
+    ensures handed_back { IfErr result (λ error. error.1 ≡ region) }
+    ensures no_memory { IfErr result (λ error.
+        error.0 ≡ MigrateFault.OutOfMemory → A.is_short memory.now) }
+{
+    if is_chained(&region) {
+        return Ok(region);
+    }
+    match grown_from(memory, &region) {
+        Ok(grown) => Ok(grown),
+        Err(fault) => Err((fault, region)),
+    }
+}
+
+/// The image with a chain of tables that an image with one table becomes, in a region of its own.
+fn grown_from<A: Allowance>(memory: &A, image: &Region) -> Result<Region, MigrateFault>
+    requires accepted { HeapAccepted image.now.bytes }
+    requires one_table { model_chained image.now.bytes ≡ false }
+    ensures bytes { IfOk result (λ grown.
+        MigratesBytes image.now.bytes grown.bytes (growth_of image.now.bytes)) }
+    ensures too_large { (result ≡ Err MigrateFault.TooLarge)
+        ↔ (most_size < length image.now.bytes + growth_of image.now.bytes) }
+    ensures no_memory { result ≡ Err MigrateFault.OutOfMemory → A.is_short memory.now }
+{
+    let by = growth(slot_count(image));
+    let size = image.len() + by as usize;
+    if !is_image_size(size) {
+        return Err(MigrateFault::TooLarge);
+    }
+    let Ok(mut grown) = Region::zeroed_from(memory, size as u32) else {
+        return Err(MigrateFault::OutOfMemory);
+    };
+    write_head(image, &mut grown, by);
+    write_chunks(image, &mut grown, by);
+    Ok(grown)
+}

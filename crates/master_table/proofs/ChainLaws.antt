@@ -1,0 +1,56 @@
+-- A walk along the words `next` of a chain.
+use Rattle.std.proofs.Common.{◌≡◌, ◌≢◌, ℕ, zero, suc, ◌+◌, ◌<◌, ◌≤◌, List, [], ◌∷◌, length, refl, sym, ap, subst, ◌∙◌, arith}
+use Rattle.heap_model.specs.Bytes.{u32_at}
+use Rattle.heap_model.specs.Chunk.{Chunk}
+use Rattle.heap_model.specs.Slots.{table_at, table_end, tables_within, first_next, further_tables, area_start}
+use Rattle.heap_model.specs.Heap.{IsChain, Tiles}
+use Rattle.heap_model.specs.MoreTables.{last_in, last_next}
+use Rattle.laws_heap.proofs.Tables.{ChainStep, chain_step}
+use Rattle.laws_heap.proofs.ChainReads.{table_lies}
+use Rattle.master_table.specs.Table.{IsTiled, tables_from}
+
+-- a word `next` of the chain stands at an offset: the last one is among those that it leads to
+pub record LeadsTo (image : List ℕ) (at next : ℕ) : Type 0 where
+  pub last : last_in at (tables_from image next) ≡ last_next image
+  pub chain : (chunks : List Chunk) → Tiles image chunks → IsChain image chunks next (tables_from image next)
+
+pub leads_first : (image : List ℕ) (at next : ℕ) → at ≡ table_end image → next ≡ first_next image → LeadsTo image at next
+unfolding further_tables
+leads_first image at next there is = record {
+  last = ap (λ (n : ℕ). last_in n (tables_from image next)) there ∙ ap (λ (w : ℕ). last_in (table_end image) (tables_from image w)) is;
+  chain = λ chunks t. subst (λ (w : ℕ). IsChain image chunks w (tables_from image w)) (sym is) t.chain;
+}
+
+next_step : (image : List ℕ) (at next : ℕ) → LeadsTo image at next → next ≢ 0 → (cs : List Chunk) → Tiles image cs → ChainStep image cs next
+next_step image at next l used cs t = chain_step image cs next (let fits = t.head.a_chunk_fits in omega arith) (omega arith) (l.chain cs t)
+
+-- the table that it leads to is within the image
+pub leads_within : (image : List ℕ) (at next : ℕ) → IsTiled image → LeadsTo image at next → next ≢ 0 → next + 4 ≤ length image
+leads_within image at next t l used =
+    let high = (table_lies image (area_start image) (length image) (table_at image next) t.0 t.1.area (omega arith) (next_step image at next l used t.0 t.1).first).high in
+    omega arith
+
+-- and has the next of these words
+pub record LeadsOn (image : List ℕ) (next word : ℕ) (more : ℕ) : Type 0 where
+  pub leads : LeadsTo image next word
+  pub fewer : length (tables_from image word) < more
+
+pub leads_on : (image : List ℕ) (at next word : ℕ) → IsTiled image → LeadsTo image at next → next ≢ 0 → word ≡ u32_at image next → LeadsOn image next word (length (tables_from image next))
+leads_on image at next word t l used is =
+    let step = next_step image at next l used t.0 t.1 in
+    let same : tables_from image next ≡ table_at image next ∷ tables_from image word = step.is ∙ ap (λ (w : ℕ). table_at image next ∷ tables_from image w) (sym is) in
+    let long = ap length same in
+    record {
+      leads = record {
+        last = sym (ap (last_in at) same) ∙ l.last;
+        chain = λ cs u. subst (λ (w : ℕ). IsChain image cs w (tables_from image w)) (sym is) (next_step image at next l used cs u).chain;
+      };
+      fewer = omega (arith, long);
+    }
+
+-- where it leads to none it is the last
+pub leads_last : (image : List ℕ) (at next : ℕ) → LeadsTo image at next → next ≡ 0 → at ≡ last_next image
+leads_last image at next l none = sym (ap (last_in at) (ap (tables_from image) none ∙ none_within (length image))) ∙ l.last where
+  none_within : (n : ℕ) → tables_within n image 0 ≡ []
+  none_within zero = refl
+  none_within (suc n) = refl

@@ -1,0 +1,126 @@
+-- The further tables: a walk along them, and the slots of one.
+use Rattle.std.proofs.Common.{◌≡◌, ◌≢◌, ℕ, zero, suc, ◌+◌, ◌-◌, ◌*◌, ◌/◌, ◌<◌, ◌≤◌, List, [], ◌∷◌, ◌++◌, length, replicate, refl, sym, ap, subst, ◌∙◌, arith, inl, inr}
+use Rattle.std.specs.Prelude.{slice_index}
+use Rattle.heap_model.specs.Bytes.{u32_at}
+use Rattle.heap_model.specs.Chunk.{Chunk}
+use Rattle.heap_model.specs.Slots.{Table, table_at, first_next, further_tables, slot_count, slots_in_row, slots_further, slots_of, IsSlot, StandsIn}
+use Rattle.heap_model.specs.Heap.{IsTablePlace, IsChain, Tiles}
+use Rattle.laws_heap.proofs.Slots.{stands_left, stands_right, row_stands}
+use Rattle.laws_heap.proofs.Tables.{ChainStep, chain_step}
+use Rattle.chunk_format.specs.Header.{HasLive}
+use Rattle.master_table.specs.Table.{IsTiled, tables_from}
+use Rattle.master_table.specs.Known.{KnowsNone, HasLongTable, KnowsTables, Remembers, IsEntry, IsWordOf}
+use Rattle.master_table.proofs.RowLaws.{TableStands, table_there}
+
+-- ---- a walk
+
+-- a word `next` of the chain: each table that it leads to is a further table
+pub record WalksTables (image : List ℕ) (next : ℕ) : Type 0 where
+  pub chain : (chunks : List Chunk) → Tiles image chunks → IsChain image chunks next (tables_from image next)
+  pub within : (place : ℕ) → IsTablePlace (tables_from image next) place → IsTablePlace (further_tables image) place
+
+pub walk_first : (image : List ℕ) (next : ℕ) → next ≡ first_next image → WalksTables image next
+unfolding further_tables
+walk_first image next is = record {
+  chain = λ chunks t. subst (λ (w : ℕ). IsChain image chunks w (tables_from image w)) (sym is) t.chain;
+  within = λ place h. subst (λ (w : ℕ). IsTablePlace (tables_from image w) place) is h;
+}
+
+-- the table that it leads to, and the word of that one
+pub record WalkStep (image : List ℕ) (next word : ℕ) : Type 0 where
+  pub here : IsTablePlace (further_tables image) next
+  pub inside : next + 4 ≤ length image
+  pub walks : WalksTables image word
+  pub fewer : length (tables_from image word) < length (tables_from image next)
+
+step_of : (image : List ℕ) (next : ℕ) → WalksTables image next → next ≢ 0 → (cs : List Chunk) → Tiles image cs → ChainStep image cs next
+step_of image next w used cs t = chain_step image cs next (let fits = t.head.a_chunk_fits in omega (arith, fits)) (omega arith) (w.chain cs t)
+
+pub walk_on : (image : List ℕ) (next word : ℕ) → IsTiled image → WalksTables image next → next ≢ 0 → word ≡ u32_at image next → WalkStep image next word
+walk_on image next word t w used is =
+    let step = step_of image next w used t.0 t.1 in
+    let same : tables_from image next ≡ table_at image next ∷ tables_from image word = step.is ∙ ap (λ (n : ℕ). table_at image next ∷ tables_from image n) (sym is) in
+    let long = ap length same in
+    record {
+      here = w.within next (subst (λ (ts : List Table). IsTablePlace ts next) (sym same) (inl refl));
+      inside = (table_there image t.0 (table_at image next) t.1 step.first).inside;
+      walks = record {
+        chain = λ cs u. subst (λ (n : ℕ). IsChain image cs n (tables_from image n)) (sym is) (step_of image next w used cs u).chain;
+        within = λ place h. w.within place (subst (λ (ts : List Table). IsTablePlace ts place) (sym same) (inr h));
+      };
+      fewer = omega (arith, long);
+    }
+
+-- ---- one table
+
+-- it stands there
+stands_there : (image : List ℕ) (cs : List Chunk) (next : ℕ) (tables : List Table) (place : ℕ) → Tiles image cs → IsChain image cs next tables → IsTablePlace tables place → (count : ℕ) × TableStands image place count
+stands_there image cs next [] place t chain h = absurd h
+stands_there image cs next (table ∷ tables) place t chain h = elim h [
+  | inl is ↦ (table.count, subst (λ (n : ℕ). TableStands image n table.count) is (table_there image cs table t chain.1))
+  | inr later ↦ stands_there image cs (u32_at image table.place) tables place t chain.2 later
+]
+
+pub further_stands : (image : List ℕ) (place : ℕ) → IsTiled image → IsTablePlace (further_tables image) place → (count : ℕ) × TableStands image place count
+further_stands image place t h = stands_there image t.0 (first_next image) (further_tables image) place t.1 t.1.chain h
+
+pub table_live : (image : List ℕ) (place count : ℕ) → TableStands image place count → HasLive image (place - 8)
+table_live image place count s = record { bytes = s.bytes; lock = 15; owner = 0; h_offset = 0; is = s.live }
+
+-- it has 15 slots or more
+long_there : (image : List ℕ) (cs : List Chunk) (next : ℕ) (tables : List Table) (place : ℕ) → Tiles image cs → IsChain image cs next tables → IsTablePlace tables place → ((count : ℕ) → TableStands image place count → 15 ≤ count) → HasLongTable tables place
+long_there image cs next [] place t chain h long = absurd h
+long_there image cs next (table ∷ tables) place t chain h long = elim h [
+  | inl is ↦ inl (is, long table.count (subst (λ (n : ℕ). TableStands image n table.count) is (table_there image cs table t chain.1)))
+  | inr later ↦ inr (long_there image cs (u32_at image table.place) tables place t chain.2 later long)
+]
+
+pub further_long : (image : List ℕ) (place : ℕ) → IsTiled image → IsTablePlace (further_tables image) place → ((count : ℕ) → TableStands image place count → 15 ≤ count) → HasLongTable (further_tables image) place
+further_long image place t h long = long_there image t.0 (first_next image) (further_tables image) place t.1 t.1.chain h long
+
+-- its first 15 slots
+long_slots : (tables : List Table) (place k : ℕ) → HasLongTable tables place → k < 15 → StandsIn (slots_further tables) (place + 4 + 4 * k)
+long_slots [] place k h below = absurd h
+long_slots (table ∷ tables) place k h below = elim h [
+  | inl own ↦
+      let long = own.1 in
+      subst (λ (n : ℕ). StandsIn (slots_further (table ∷ tables)) (n + 4 + 4 * k)) own.0
+      (stands_left (slots_in_row (table.place + 4) table.count) (slots_further tables) (table.place + 4 + 4 * k) (row_stands (table.place + 4) table.count k (omega (arith, long, below))))
+  | inr later ↦ stands_right (slots_in_row (table.place + 4) table.count) (slots_further tables) (place + 4 + 4 * k) (long_slots tables place k later below)
+]
+
+pub word_is_slot : (image places : List ℕ) (place slot : ℕ) → KnowsTables image places → IsEntry places place → IsWordOf place slot → IsSlot image slot
+unfolding slots_of
+word_is_slot image places place slot knows entry w =
+    let some = w.some in
+    let behind = w.behind in
+    let near = w.near in
+    let whole = w.whole in
+    let is = entry.1 in
+    let long : HasLongTable (further_tables image) place = subst (λ (p : ℕ). HasLongTable (further_tables image) p) (sym is) (knows entry.0 (omega (arith, is, some))) in
+    let k : ℕ = (slot - place) / 4 - 1 in
+    let there : place + 4 + 4 * k ≡ slot = omega arith in
+    record {
+      listed = subst (λ (s : ℕ). StandsIn (slots_in_row 16 (slot_count image) ++ slots_further (further_tables image)) s) there
+          (stands_right (slots_in_row 16 (slot_count image)) (slots_further (further_tables image)) (place + 4 + 4 * k) (long_slots (further_tables image) place k long (omega arith)));
+    }
+
+-- ---- what is remembered
+
+pub none_in_zeros : (n : ℕ) → KnowsNone (replicate n 0)
+none_in_zeros zero entry = refl
+none_in_zeros (suc n) zero = refl
+none_in_zeros (suc n) (suc entry) = none_in_zeros n entry
+
+pub knows_none : (places : List ℕ) (image : List ℕ) → KnowsNone places → KnowsTables image places
+knows_none places image none entry some = let zero_there = none entry in absurd (omega (arith, zero_there, some))
+
+pub knows_more : (image old new : List ℕ) (place : ℕ) → KnowsTables image old → Remembers old new place → HasLongTable (further_tables image) place → KnowsTables image new
+knows_more image old new place knows more here entry some = elim (more entry) [
+  | inl same ↦ subst (λ (p : ℕ). HasLongTable (further_tables image) p) (sym same) (knows entry (subst (λ (p : ℕ). 0 < p) same some))
+  | inr is ↦ subst (λ (p : ℕ). HasLongTable (further_tables image) p) (sym is) here
+]
+
+-- where the further tables are the same
+pub knows_still : (old new places : List ℕ) → further_tables new ≡ further_tables old → KnowsTables old places → KnowsTables new places
+knows_still old new places same knows entry some = subst (λ (ts : List Table). HasLongTable ts (slice_index places entry)) (sym same) (knows entry some)

@@ -1,0 +1,85 @@
+-- In a heap the word in front of a slot is a slot's, the directory word or a word `next`: none is greater than a place.
+use Rattle.std.proofs.Common.{◌≡◌, ℕ, zero, suc, ◌+◌, ◌-◌, ◌*◌, ◌^◌, ◌<◌, ◌≤◌, List, [], ◌∷◌, ◌++◌, length, refl, sym, subst, arith, inl, inr}
+use Rattle.std.specs.Prelude.{◌⊎◌}
+use Rattle.heap_model.specs.Bytes.{u32_at}
+use Rattle.heap_model.specs.Chunk.{Chunk, free, movable, fixed, total}
+use Rattle.heap_model.specs.Slots.{Table, further_tables, first_next, slot_count, slots_in_row, slots_further, slots_of, area_start, IsSlot, StandsIn}
+use Rattle.heap_model.specs.Heap.{BodyHere, ManagersHere, IsChain, Tiles, IsHeap, HeapAccepted, directory_of}
+use Rattle.laws_heap.proofs.Slots.{stands_split, stands_left, stands_right, row_slot, row_stands, slot_facts}
+use Rattle.laws_heap.proofs.Placed.{AnyPlaced-parts, AnyPlaced-mid}
+use Rattle.laws_heap.proofs.FoundChunks.{in_slot, finds_body}
+use Rattle.master_table.proofs.RowLaws.{table_there}
+
+slot_word : (image : List ℕ) (slot word : ℕ) → HeapAccepted image → IsSlot image slot → u32_at image slot ≡ word → u32_at image slot < 2 ^ 24
+slot_word image slot zero h s e = omega (arith, e)
+slot_word image slot (suc before) h s e =
+    let i = in_slot image slot (suc before) h s e (omega arith) in
+    let body = (finds_body image slot i.live (movable i.live.bytes i.live.lock i.live.owner i.named) (suc before - 8) h i.finds).inside in
+    let low = i.behind_header in
+    let most = h.1.tiles.head.most in
+    omega (arith, e, body, low, most)
+
+-- ---- the directory word
+
+directory_slot : (image : List ℕ) (before : List Chunk) (c : Chunk) (after : List Chunk) → IsHeap image (before ++ c ∷ after) → ManagersHere (directory_of image) (area_start image + total before) c → directory_of image + 4 ≤ length image
+directory_slot image before (free size) after h m = absurd m
+directory_slot image before (movable bytes lock owner slot) after h m =
+    let place : ℕ = area_start image + total before + 8 in
+    let is = (h.tied (directory_of image) place (omega arith)).1 (AnyPlaced-mid (BodyHere (directory_of image) place) (area_start image) before (movable bytes lock owner slot) after (m.0, refl)) in
+    (slot_facts image (before ++ movable bytes lock owner slot ∷ after) (directory_of image) h.tiles is.0).inside
+directory_slot image before (fixed bytes owner) after h m = absurd m
+
+directory_word : (image : List ℕ) → HeapAccepted image → directory_of image < 2 ^ 24
+directory_word image h = elim h.1.directory [
+  | inl none ↦ omega (arith, none)
+  | inr there ↦
+      let p = AnyPlaced-parts (ManagersHere (directory_of image)) (area_start image) h.0 there in
+      let inside = directory_slot image p.before p.chunk p.after (subst (λ (cs : List Chunk). IsHeap image cs) p.parts h.1) p.holds in
+      let most = h.1.tiles.head.most in
+      omega (arith, inside, most)
+]
+
+-- ---- the words of tables
+
+next_word : (image : List ℕ) (cs : List Chunk) (next : ℕ) (tables : List Table) → Tiles image cs → IsChain image cs next tables → next < 2 ^ 24
+next_word image cs next [] t chain = let none : next ≡ 0 = chain in omega (arith, none)
+next_word image cs next (table ∷ tables) t chain =
+    let inside = (table_there image cs table t chain.1).inside in
+    let there = chain.0 in
+    let most = t.head.most in
+    omega (arith, inside, there, most)
+
+-- of a row in whose front such a word stands
+row_front : (image : List ℕ) (first count slot : ℕ) → HeapAccepted image → 4 ≤ first → u32_at image (first - 4) < 2 ^ 24 → ((other : ℕ) → StandsIn (slots_in_row first count) other → IsSlot image other) → StandsIn (slots_in_row first count) slot → u32_at image (slot - 4) < 2 ^ 24
+row_front image first count slot h low front each s = by r.0 r.1 r.2 where
+  r : (k : ℕ) × (k < count) × (slot ≡ first + 4 * k)
+  r = row_slot first count slot s
+
+  by : (k : ℕ) → k < count → slot ≡ first + 4 * k → u32_at image (slot - 4) < 2 ^ 24
+  by zero below there = let e : first - 4 ≡ slot - 4 = omega (arith, there) in subst (λ (n : ℕ). u32_at image n < 2 ^ 24) e front
+  by (suc k) below there =
+      let e : first + 4 * k ≡ slot - 4 = omega (arith, there) in
+      subst (λ (n : ℕ). u32_at image n < 2 ^ 24) e (slot_word image (first + 4 * k) (u32_at image (first + 4 * k)) h (each (first + 4 * k) (row_stands first count k (omega (arith, below)))) refl)
+
+further_front : (image : List ℕ) (next : ℕ) (tables : List Table) (slot : ℕ) → (h : HeapAccepted image) → IsChain image h.0 next tables → ((other : ℕ) → StandsIn (slots_further tables) other → IsSlot image other) → StandsIn (slots_further tables) slot → u32_at image (slot - 4) < 2 ^ 24
+further_front image next [] slot h chain each s = absurd s
+further_front image next (table ∷ tables) slot h chain each s = elim (stands_split (slots_in_row (table.place + 4) table.count) (slots_further tables) slot s) [
+  | inl own ↦
+      let word : u32_at image table.place < 2 ^ 24 = next_word image h.0 (u32_at image table.place) tables h.1.tiles chain.2 in
+      let e : table.place ≡ table.place + 4 - 4 = omega arith in
+      row_front image (table.place + 4) table.count slot h (omega arith) (subst (λ (n : ℕ). u32_at image n < 2 ^ 24) e word)
+      (λ other there. each other (stands_left (slots_in_row (table.place + 4) table.count) (slots_further tables) other there)) own
+  | inr later ↦ further_front image (u32_at image table.place) tables slot h chain.2 (λ other there. each other (stands_right (slots_in_row (table.place + 4) table.count) (slots_further tables) other there)) later
+]
+
+pub slot_front : (image : List ℕ) (slot : ℕ) → HeapAccepted image → IsSlot image slot → u32_at image (slot - 4) < 2 ^ 24
+unfolding slots_of
+slot_front image slot h s = elim (stands_split first further slot s.listed) [
+  | inl own ↦ row_front image 16 (slot_count image) slot h (omega arith) (directory_word image h) (λ other there. record { listed = stands_left first further other there }) own
+  | inr later ↦ further_front image (first_next image) (further_tables image) slot h h.1.tiles.chain (λ other there. record { listed = stands_right first further other there }) later
+] where
+  first : List ℕ
+  first = slots_in_row 16 (slot_count image)
+
+  further : List ℕ
+  further = slots_further (further_tables image)

@@ -1,0 +1,36 @@
+-- Further tables that are remembered, each by its place, in a list of entries.
+use Rattle.std.specs.Prelude.{◌≡◌, ◌<◌, ◌+◌, ◌-◌, ◌≤◌, ◌⊎◌, ◌%◌, ℕ, List, [], ◌∷◌, slice_index}
+use Rattle.heap_model.specs.Slots.{Table, further_tables}
+use Rattle.heap_model.specs.MoreTables.{gained_count}
+
+-- the entry of a block of an image
+abbrev pub entry_of : ℕ → ℕ
+entry_of block = block % 8192
+
+-- no entry has a place
+abbrev pub KnowsNone : List ℕ → Type 0
+KnowsNone places = (entry : ℕ) → slice_index places entry ≡ 0
+
+-- one of the tables has its body at a place, and as many slots as one that is made, or more
+abbrev pub HasLongTable : List Table → ℕ → Type 0
+HasLongTable [] place = ⊥
+HasLongTable (table ∷ tables) place = ((table.place ≡ place) × (gained_count ≤ table.count)) ⊎ HasLongTable tables place
+
+-- at each place that is remembered is a further table of the image, with as many slots; 0 is none
+abbrev pub KnowsTables : List ℕ → List ℕ → Type 0
+KnowsTables image places = (entry : ℕ) → 0 < slice_index places entry → HasLongTable (further_tables image) (slice_index places entry)
+
+-- a place may be in one entry now, and each other one is as it was
+abbrev pub Remembers : List ℕ → List ℕ → ℕ → Type 0
+Remembers old new place = (entry : ℕ) → (slice_index new entry ≡ slice_index old entry) ⊎ (slice_index new entry ≡ place)
+
+-- one of the entries has this place, or it is 0
+abbrev pub IsEntry : List ℕ → ℕ → Type 0
+IsEntry places place = (entry : ℕ) × (place ≡ slice_index places entry)
+
+-- the word at an offset is one of 15 after the first word of a body
+pub record IsWordOf (place slot : ℕ) : Type 0 where
+  pub some : 0 < place
+  pub behind : place < slot
+  pub near : slot < place + 64
+  pub whole : (slot - place) % 4 ≡ 0

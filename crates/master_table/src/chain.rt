@@ -1,0 +1,40 @@
+//! The chain of tables: its last word `next`, and a table that is added after it.
+
+ghost use Rattle.std.specs.Prelude.{◌≡◌, length, true};
+ghost use Rattle.heap_model.specs.Bytes.{u32_bytes, overwritten};
+ghost use Rattle.heap_model.specs.Slots.{is_chained};
+ghost use Rattle.heap_model.specs.MoreTables.{last_next as model_last, HasNewTable, AddsSlots};
+ghost use Rattle.master_table.specs.Table.{IsTiled};
+
+use chunk_format::{NEXT_SIZE, first_next, head_end};
+use heap_model::Place;
+use raw_region::Region;
+
+/// Adds a table of empty slots at the end of the chain: writes its place into the last word `next`. It walks along
+/// the whole chain.
+pub fn add_table(region: &mut Region, place: Place)
+    requires chained { is_chained region.old.bytes ≡ true }
+    requires table { HasNewTable region.old.bytes place.0 }
+    ensures adds { AddsSlots region.old.bytes region.new.bytes place.0 }
+    ensures after { region.new ≡ record region.old
+        { bytes = overwritten region.old.bytes (model_last region.old.bytes) (u32_bytes place.0) } }
+    ensures len { length region.new.bytes ≡ length region.old.bytes }
+{
+    let last = last_next(region);
+    region.put_u32(last as usize, place.0);
+}
+
+/// The offset of the last word `next`.
+fn last_next(region: &Region) -> u32
+    requires tiled { IsTiled region.now.bytes }
+    requires chained { is_chained region.now.bytes ≡ true }
+    ensures { result ≡ model_last region.now.bytes }
+{
+    let mut at = head_end(region) - NEXT_SIZE;
+    let mut next = first_next(region);
+    while next != 0 {
+        at = next;
+        next = region.get_u32(next as usize);
+    }
+    at
+}

@@ -1,0 +1,134 @@
+//! Further tables that are remembered, so that a slot of theirs is found without a walk along the chain.
+
+ghost use Rattle.std.specs.Prelude.{◌≡◌, ◌<◌, ℕ, List};
+ghost use Rattle.std.specs.Bool.{OnTrue};
+ghost use Rattle.heap_model.specs.Slots.{IsSlot, further_tables};
+ghost use Rattle.heap_model.specs.Heap.{IsTablePlace};
+ghost use Rattle.master_table.specs.Table.{IsTiled};
+ghost use Rattle.master_table.specs.Known.{KnowsTables, KnowsNone, Remembers, IsEntry, IsWordOf, entry_of};
+
+use chunk_format::{HEADER_SIZE, SLOT_SIZE, TABLE_LENGTH, first_next, live_fields};
+use heap_model::Place;
+use raw_region::Region;
+use std::marker::Model;
+
+/// How many tables are remembered at most.
+const ENTRIES: usize = 8_192;
+
+/// An image is seen in blocks of so many bytes. The slots of a table of 15 lie in the block in which its body begins,
+/// and in the next one.
+const BLOCK_SIZE: u32 = TABLE_LENGTH;
+
+/// The places of further tables that have 15 slots or more, each in the entry of the block in which its body begins.
+/// An entry without one is 0. Contracts see the entries as a list.
+#[derive(Drop)]
+pub struct KnownTables {
+    places: [u32; ENTRIES],
+}
+
+impl Model for KnownTables {
+    ghost use Rattle.std.specs.Prelude.{ℕ, List};
+
+    ghost Value = { List ℕ };
+
+    ghost view = { λ known. known.places };
+}
+
+impl KnownTables {
+    /// No table.
+    pub fn none() -> KnownTables
+        ensures { KnowsNone result }
+    {
+        KnownTables {
+            places: no_places(),
+        }
+    }
+
+    /// The tables of a chain, which is gone through once. A table is left out if it has fewer than 15 slots, or if
+    /// another one is in its entry.
+    pub fn of(region: &Region) -> KnownTables
+        requires { IsTiled region.now.bytes }
+        ensures { KnowsTables region.now.bytes result }
+    {
+        let mut known = KnownTables::none();
+        let mut next = first_next(region);
+        while next != 0 {
+            known.add(region, next);
+            next = region.get_u32(next as usize);
+        }
+        known
+    }
+
+    /// Remembers a further table of an image if it has 15 slots or more.
+    fn add(&mut self, region: &Region, place: u32)
+        requires tiled { IsTiled region.now.bytes }
+        requires table { IsTablePlace (further_tables region.now.bytes) place }
+        requires knows { KnowsTables region.now.bytes self.old }
+        ensures { KnowsTables region.now.bytes self.new }
+    {
+        if live_fields(region, place - HEADER_SIZE).length >= TABLE_LENGTH {
+            self.remember(Place(place));
+        }
+    }
+
+    /// Remembers a table of 15 slots or more by its place, unless another one is in its entry.
+    pub fn remember(&mut self, place: Place)
+        ensures { Remembers self.old self.new place.0 }
+    {
+        let entry = entry_of(place.0 / BLOCK_SIZE);
+        if self.places[entry] == 0 {
+            self.places[entry] = place.0;
+        }
+    }
+
+    /// Whether one of the first 15 slots of a table that is remembered stands at an offset.
+    #[inline]
+    pub(crate) fn has_slot(&self, slot: u32) -> bool
+        ensures { OnTrue result
+            ((image : List ℕ) → KnowsTables image self.now → IsSlot image slot) }
+    {
+        is_word_of(self.table_before(slot), slot)
+    }
+
+    /// The place of the table whose first slots may stand at an offset: its body begins in the same block, or in the
+    /// one before. 0 if none is remembered there.
+    #[inline]
+    fn table_before(&self, slot: u32) -> u32
+        ensures { IsEntry self.now result }
+    {
+        let block = slot / BLOCK_SIZE;
+        let here = self.places[entry_of(block)];
+        let before = self.places[entry_of(block + (ENTRIES as u32 - 1))];
+        if here == 0 || here >= slot {
+            before
+        } else {
+            here
+        }
+    }
+}
+
+/// Entries without a place.
+#[inline]
+#[tactic(none)]
+fn no_places() -> [u32; ENTRIES]
+    ensures { KnowsNone result }
+{
+    [0; ENTRIES]
+}
+
+/// The entry of a block.
+#[inline]
+fn entry_of(block: u32) -> usize
+    ensures is { result ≡ entry_of block }
+    ensures below { result < ENTRIES }
+{
+    block as usize % ENTRIES
+}
+
+/// Whether the word at an offset is one of the 15 after the first word of a body. At 0 is none.
+#[inline]
+fn is_word_of(place: u32, slot: u32) -> bool
+    ensures { OnTrue result (IsWordOf place slot) }
+{
+    place != 0 && place < slot && slot - place < BLOCK_SIZE && (slot - place) % SLOT_SIZE == 0
+}

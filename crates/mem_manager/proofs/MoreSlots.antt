@@ -1,0 +1,69 @@
+-- The step of the call that makes a further table.
+use Rattle.std.proofs.Common.{true, false, ◌≡◌, ◌≢◌, ℕ, ◌+◌, ◌≤◌, List, [], ◌∷◌, ◌++◌, length, take, refl, sym, ap, subst, ◌∙◌, arith, inl, inr}
+use Rattle.std.proofs.lemmas.List.{take-append-le}
+use Rattle.std.specs.Prelude.{IsSome}
+use Rattle.heap_model.specs.Memory.{Memory}
+use Rattle.heap_model.specs.Slots.{is_chained, slots_of, slots_total, IsSlot, area_start}
+use Rattle.heap_model.specs.Heap.{HeapAccepted}
+use Rattle.heap_model.specs.Reading.{chunks_of, held}
+use Rattle.heap_model.specs.Space.{Short, MovesNothing, moved_bytes}
+use Rattle.heap_model.specs.Packing.{SlidesOneStretch}
+use Rattle.heap_model.specs.MoreTables.{gained, gained_slots, HasNoMore, PutsTable}
+use Rattle.heap_model.specs.MemorySteps.{Does}
+use Rattle.heap_model.specs.declared.call.MemoryCall.TheVariants.{MoreSlots}
+use Rattle.heap_model.specs.declared.call.Reply.TheVariants.{Refused, Done}
+use Rattle.heap_model.specs.declared.refusal.Refusal.TheVariants.{NotEnoughSpace}
+use Rattle.laws_heap.proofs.AddedTables.{slots_more}
+use Rattle.laws_heap.proofs.MoreTables.{gains_after, gains_free, gains_slot}
+use Rattle.laws_heap.proofs.SlidImages.{slot_unheld, slides_alike, same_moved}
+use Rattle.master_table.specs.Table.{UsedBefore}
+use Rattle.master_table.proofs.TableLaws.{used_fewer, used_more_slots}
+use Rattle.master_table.proofs.RowLaws.{starts_gained}
+use Rattle.master_table.specs.declared.slots.TableStart.{TableStart}
+use Rattle.mem_manager.specs.Lookup.{IsManaged}
+use Rattle.mem_manager.proofs.StepWords.{OnlyBytes, refused, still_unmoved}
+use Rattle.mem_manager.proofs.SlidChunks.{BytesAndSlid, rest_then, still_then}
+
+pub more_refused : (region : Memory) → HeapAccepted region.bytes → HasNoMore region.bytes → Does region MoreSlots (Refused NotEnoughSpace) region
+more_refused region h none = refused region MoreSlots NotEnoughSpace h (inl (none, refl))
+
+pub more_made : (old mid new : Memory) (place : ℕ) → HeapAccepted old.bytes → (HasNoMore old.bytes → ⊥) → SlidesOneStretch old.bytes mid.bytes → BytesAndSlid old mid → PutsTable mid.bytes new.bytes place → OnlyBytes mid new → Does old MoreSlots Done new
+more_made old mid new place h can slides first p rest =
+    let alike = slides_alike old.bytes mid.bytes h slides in
+    let more = gains_free mid.bytes new.bytes place slides.becomes.frame.accepted p.gains p.map in
+    let same = alike.slots in
+    record {
+      before = h;
+      step = ((can, tt), ((tt, omega arith), λ name. p.map name ∙ alike.holds name));
+      frame = (place, gains_after old.bytes mid.bytes new.bytes place slides.becomes.frame p.gains);
+      still = still_then old.bytes mid.bytes new.bytes alike (still_unmoved mid.bytes new.bytes (λ name was is. p.places name));
+      asks = tt;
+      rest = rest_then old mid new first rest;
+    }
+
+-- the slots in use stay so, where no more of them are counted than there were
+pub used_gained : {start : TableStart} {freed : ℕ} {names : List ℕ} (old new : Memory) (used fewer : ℕ) → IsManaged old.bytes used start freed names → fewer ≤ used → fewer ≤ slots_total old.bytes → Does old MoreSlots Done new → IsManaged new.bytes fewer start freed names
+used_gained {start} {freed} old new used fewer m most few d =
+    let g = d.frame.1 in
+    let same : (name : ℕ) → held new.bytes name ≡ held old.bytes name = d.step.1.1 in
+    record {
+      accepted = g.accepted;
+      in_use = used_more_slots old.bytes new.bytes fewer (gained_slots d.frame.0) (slots_more old.bytes new.bytes d.frame.0 g.count g.further) few
+          (λ slot is some empty. some ((slot_unheld old.bytes slot m.accepted is).1 (sym (same slot) ∙ (slot_unheld new.bytes slot g.accepted (gains_slot old.bytes new.bytes d.frame.0 slot g is)).0 empty)))
+          (used_fewer old.bytes used fewer most m.in_use);
+      starts = starts_gained old.bytes new.bytes (gained d.frame.0 ∷ []) start.place start.before g.count g.further m.starts;
+      free = λ some. gains_slot old.bytes new.bytes d.frame.0 freed g (m.free some);
+      known = λ name is. subst IsSome (sym (same name)) (m.known name is);
+    }
+
+-- ---- what moves
+
+-- what was slid is what has moved
+pub more_once : (old mid new : Memory) (place : ℕ) → PutsTable mid.bytes new.bytes place → OnlyBytes mid new → mid.slid ≡ old.slid + moved_bytes old.bytes mid.bytes → new.slid ≡ old.slid + moved_bytes old.bytes new.bytes
+more_once old mid new place p rest once =
+    let same : moved_bytes old.bytes new.bytes ≡ moved_bytes old.bytes mid.bytes = same_moved new.bytes mid.bytes (area_start old.bytes) (chunks_of old.bytes) (λ slot there body. p.places slot) in
+    let kept : new.slid ≡ mid.slid = ap (λ (m : Memory). m.slid) rest in
+    omega (arith, same, kept, once)
+
+pub puts_move_nothing : (old new : List ℕ) (place : ℕ) → PutsTable old new place → MovesNothing old new
+puts_move_nothing old new place p name was is = p.places name

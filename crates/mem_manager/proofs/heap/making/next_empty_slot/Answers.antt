@@ -1,0 +1,22 @@
+use Rattle.std.proofs.Common.{◌≡◌, Some, None, sym, ◌∙◌, arith}
+use Rattle.heap_model.specs.Bytes.{u32_at}
+use Rattle.laws_heap.proofs.Slots.{slot_stands, tiled_table}
+use Rattle.master_table.specs.declared.table.EmptySlot.{EmptySlot}
+use Rattle.master_table.proofs.CountLaws.{some_free}
+use Rattle.mem_manager.proofs.heap.making.next_empty_slot.Goals as goal
+
+pub word_of-requires-clause-table : goal.word_of-requires-clause-table
+word_of-requires-clause-table c = tiled_table c.args.region.now.bytes c.requires.accepted.0 c.requires.accepted.1.tiles
+
+some_slot : (s : EmptySlot) → Some s ≡ None → ⊥
+some_slot s e = absurd cc
+
+pub returns-then-word_of-eq0-clause-none : goal.returns-then-word_of-eq0-clause-none
+returns-then-word_of-eq0-clause-none c = (
+  λ e. absurd (some_slot _ e),
+  λ none.
+      let some = c.if-freed-ne0.true in
+      let k = slot_stands c.args.region.now.bytes c.args.freed.0 (c.requires.freed (omega (arith, some))) in
+      let empty : u32_at c.args.region.now.bytes c.args.freed.0 ≡ 0 = sym c.word_of.ensures ∙ c.if-word_of-eq0.true in
+      absurd (some_free c.args.region.now.bytes c.args.freed.0 k.0 k.1 empty none),
+)

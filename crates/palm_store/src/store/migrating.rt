@@ -1,0 +1,52 @@
+//! A store gets a chain of master pointer tables.
+
+ghost use Rattle.std.specs.Prelude.{◌≡◌, ◌↔◌, IfOk, IfErr, OnOk, true};
+ghost use Rattle.heap_model.specs.Slots.{is_chained};
+ghost use Rattle.heap_migration.specs.Stores.{IsMigrated, IsTooLarge};
+ghost use Rattle.allowance.specs.Refusals.{GrowthRefused};
+
+use crate::store::Store;
+use allowance::Allowance;
+use heap_migration::{MigrateFault, migrate_from};
+use std::alloc::Global;
+
+impl Store {
+    /// Gives the store a chain of master pointer tables, so that `more_slots` can add tables. A store that has a chain
+    /// is returned as it is.
+    ///
+    /// With an even number of slots the image grows by 8 bytes, and then the names of fixed chunks are greater by 8.
+    /// Takes memory for the new image, and frees the old one.
+    ///
+    /// # Errors
+    /// `TooLarge` if the new image would be larger than 16,777,208 bytes, and `OutOfMemory` if an allocation failed.
+    /// The store comes back with either, unchanged.
+    pub fn migrate(self, alloc: Global) -> Result<Store, (MigrateFault, Store)>
+        ensures migrated { IfOk result (λ store. IsMigrated self.bytes store.bytes) }
+        ensures chained { is_chained self.bytes ≡ true → IfOk result (λ store. store ≡ self) }
+        ensures fits { OnOk result (IsTooLarge self.bytes → ⊥) }
+        ensures too_large { IfErr result (λ error.
+            (error.0 ≡ MigrateFault.TooLarge) ↔ IsTooLarge self.bytes) }
+        ensures handed_back { IfErr result (λ error. error.1 ≡ self) }
+        ensures no_memory { IfErr result (λ error.
+            error.0 ≡ MigrateFault.OutOfMemory → GrowthRefused) }
+    {
+        self.migrate_from(&alloc)
+    }
+
+    /// `migrate`, where the growth asks for a grant. Only a refused growth is answered by `OutOfMemory`.
+    pub fn migrate_from<A: Allowance>(self, memory: &A) -> Result<Store, (MigrateFault, Store)>
+        ensures migrated { IfOk result (λ store. IsMigrated self.bytes store.bytes) }
+        ensures chained { is_chained self.bytes ≡ true → IfOk result (λ store. store ≡ self) }
+        ensures fits { OnOk result (IsTooLarge self.bytes → ⊥) }
+        ensures too_large { IfErr result (λ error.
+            (error.0 ≡ MigrateFault.TooLarge) ↔ IsTooLarge self.bytes) }
+        ensures handed_back { IfErr result (λ error. error.1 ≡ self) }
+        ensures no_memory { IfErr result (λ error.
+            error.0 ≡ MigrateFault.OutOfMemory → A.is_short memory.now) }
+    {
+        match migrate_from(memory, self.into_region()) {
+            Ok(region) => Ok(Store::of_accepted(region)),
+            Err((fault, region)) => Err((fault, Store::of_accepted(region))),
+        }
+    }
+}

@@ -1,0 +1,19 @@
+use Rattle.std.proofs.Common.{rules, ◌≡◌, true, false, subst, inl, inr}
+use Rattle.std.specs.Prelude.{codes}
+use Rattle.palm_text.specs.Counted.{Writing}
+use Rattle.palm_text.specs.Output.{Puts}
+use Rattle.palmheap_program.proofs.migrate_command.migrate_region_from.Goals as goal
+
+pub returns-in-Ok-put_store-clause-ends : goal.returns-in-Ok-put_store-clause-ends
+returns-in-Ok-put_store-clause-ends g c = record {
+  accepted = λ s. c.in-Ok.ensures.accepted;
+  written = λ s. (c.in-Ok.store.bytes, c.in-Ok.ensures.store, c.in-Ok-put_store.ensures);
+  ok = λ s. subst (λ (w : Writing g.row.V.Denot). Puts g.V.Write.contents w c.say.new.out (codes "ok\n") true) c.in-Ok.ensures.silent (c.say.ensures.said s);
+  refused = search rules;
+  bad = search rules;
+  no_image = search rules;
+  no_memory = search rules;
+  write_fault = λ s. inr (inl (c.in-Ok.ensures.accepted, (c.in-Ok.store.bytes, c.in-Ok.ensures.store, c.in-Ok-put_store.ensures), subst (λ (w : Writing g.row.V.Denot). Puts g.V.Write.contents w c.say.new.out (codes "ok\n") false) c.in-Ok.ensures.silent (c.say.ensures.fault s)));
+  good_words = search rules;
+  reads_nothing = search rules;
+}

@@ -1,0 +1,39 @@
+-- What `migrate` writes. Where a definition ends in a `Bool`, it says whether all got through.
+use Rattle.std.specs.Prelude.{◌≡◌, ◌≢◌, ◌⊎◌, ℕ, Bool, true, false, List, codes, Option}
+use Rattle.palm_text.specs.Counted.{Writing}
+use Rattle.heap_model.specs.Store.{Accepted}
+use Rattle.heap_migration.specs.Stores.{IsMigrated, IsTooLarge}
+use Rattle.program_io.specs.FaultLines.{PutsBad}
+use Rattle.palm_text.specs.Output.{Puts}
+use Rattle.program_io.specs.declared.status.Status.{Status}
+use Rattle.program_io.specs.declared.status.Status.TheVariants.{Done, Refused, BadWords, ReadFault, WriteFault, NoMemory}
+
+-- the image is refused: it isn't accepted, or it is too large to grow
+abbrev pub IsNotMigrated : List ℕ → Type 0
+IsNotMigrated image = (Accepted image → ⊥) ⊎ IsTooLarge image
+
+-- the image that it becomes
+abbrev pub PutsMigrated : {W : Type 0} → List ℕ → (W → Option (List ℕ)) → Writing W → Writing W → Bool → Type 0
+PutsMigrated image contents old new ok = (grown : List ℕ) × IsMigrated image grown × Puts contents old new grown ok
+
+-- A write or a flush failed in `migrate`, and nothing was written after it: it was one of the image's, and nothing was
+-- printed; or one of `ok`, behind the whole image; or the image is refused, it was one of the line that says so, and no
+-- image was written.
+abbrev pub MigrateBreaksOff : {W V : Type 0} → List ℕ → (W → Option (List ℕ)) → Writing W → Writing W → (V → Option (List ℕ)) → Writing V → Writing V → Type 0
+MigrateBreaksOff image image_contents image_old image_new contents old new =
+    (Accepted image × PutsMigrated image image_contents image_old image_new false × (new ≡ old))
+    ⊎ (Accepted image × PutsMigrated image image_contents image_old image_new true × Puts contents old new (codes "ok\n") false)
+    ⊎ (IsNotMigrated image × PutsBad contents old new false × (image_new ≡ image_old))
+
+-- what `migrate` wrote, by the status with which it ends
+pub record EndsMigrate {W V : Type 0} (image : List ℕ) (image_contents : W → Option (List ℕ)) (image_old image_new : Writing W) (contents : V → Option (List ℕ)) (old new : Writing V) (status : Status) : Type 0 where
+  pub accepted : status ≡ Done → Accepted image
+  pub written : status ≡ Done → PutsMigrated image image_contents image_old image_new true
+  pub ok : status ≡ Done → Puts contents old new (codes "ok\n") true
+  pub refused : status ≡ Refused → IsNotMigrated image
+  pub bad : status ≡ Refused → PutsBad contents old new true
+  pub no_image : status ≡ Refused → image_new ≡ image_old
+  pub no_memory : status ≡ NoMemory → (image_new ≡ image_old) × (new ≡ old)
+  pub write_fault : status ≡ WriteFault → MigrateBreaksOff image image_contents image_old image_new contents old new
+  pub good_words : status ≢ BadWords
+  pub reads_nothing : status ≢ ReadFault

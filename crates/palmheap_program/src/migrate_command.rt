@@ -1,0 +1,107 @@
+//! The command `migrate`: an image gets a chain of tables.
+
+ghost use Rattle.std.specs.Prelude.{◌≡◌, ◌⊎◌, Err, IfOk, IfErr, OnOk, true, false};
+ghost use Rattle.heap_model.specs.Store.{Accepted};
+ghost use Rattle.heap_migration.specs.Stores.{IsMigrated};
+ghost use Rattle.program_io.specs.FaultLines.{PutsBad};
+ghost use Rattle.palmheap_program.specs.Migrating.{EndsMigrate, IsNotMigrated};
+ghost use Rattle.allowance.specs.Refusals.{GrowthRefused};
+
+use crate::image_output::put_store;
+use allowance::Allowance;
+use palm_store::{MigrateFault, NotAStore, Store, StoreFault};
+use palm_text::Counted;
+use program_io::{Status, say, say_bad};
+use raw_region::Region;
+use std::alloc::Global;
+use std::io::Write;
+
+/// Writes the image with a chain of tables that an image becomes to `image_out`, and then `ok` to `out`. An image that
+/// has a chain is written as it is.
+///
+/// If the image is refused, prints why on `out` and writes no image.
+pub fn cmd_migrate<W: Write, V: Write>(
+    alloc: Global,
+    image: &[u8],
+    image_out: &mut Counted<W>,
+    out: &mut Counted<V>,
+) -> Status
+    ensures ends { EndsMigrate image.now W.contents image_out.old image_out.new
+        V.contents out.old out.new result }
+    ensures short { result ≡ Status.NoMemory → GrowthRefused }
+{
+    cmd_migrate_from(&alloc, image, image_out, out)
+}
+
+/// `cmd_migrate`, where each growth asks for a grant.
+pub fn cmd_migrate_from<A: Allowance, W: Write, V: Write>(
+    memory: &A,
+    image: &[u8],
+    image_out: &mut Counted<W>,
+    out: &mut Counted<V>,
+) -> Status
+    ensures ends { EndsMigrate image.now W.contents image_out.old image_out.new
+        V.contents out.old out.new result }
+    ensures short { result ≡ Status.NoMemory → A.is_short memory.now }
+{
+    match Region::copied_from(memory, image) {
+        Ok(region) => migrate_region_from(memory, region, image_out, out),
+        Err(_) => Status::NoMemory,
+    }
+}
+
+/// `cmd_migrate_from`, of an image that lies in a region.
+pub fn migrate_region_from<A: Allowance, W: Write, V: Write>(
+    memory: &A,
+    region: Region,
+    image_out: &mut Counted<W>,
+    out: &mut Counted<V>,
+) -> Status
+    ensures ends { EndsMigrate region.bytes W.contents image_out.old image_out.new
+        V.contents out.old out.new result }
+    ensures short { result ≡ Status.NoMemory → A.is_short memory.now }
+{
+    let store = match migrated(memory, region, out) {
+        Ok(store) => store,
+        Err(status) => return status,
+    };
+    match put_store(image_out, &store) {
+        Ok(()) => say(b"ok\n", Status::Done, out),
+        Err(_) => Status::WriteFault,
+    }
+}
+
+/// The store that the store of an image becomes. Prints why, if there is none.
+fn migrated<A: Allowance, V: Write>(
+    memory: &A,
+    region: Region,
+    out: &mut Counted<V>,
+) -> Result<Store, Status>
+    ensures store { IfOk result (λ store. IsMigrated region.bytes store.bytes) }
+    ensures accepted { OnOk result (Accepted region.bytes) }
+    ensures silent { OnOk result (out.new ≡ out.old) }
+    ensures faults { IfErr result (λ status. (status ≡ Status.Refused)
+        ⊎ (status ≡ Status.WriteFault) ⊎ (status ≡ Status.NoMemory)) }
+    ensures refused { (result ≡ Err Status.Refused) ⊎ (result ≡ Err Status.WriteFault)
+        → IsNotMigrated region.bytes }
+    ensures said { result ≡ Err Status.Refused → PutsBad V.contents out.old out.new true }
+    ensures write { result ≡ Err Status.WriteFault → PutsBad V.contents out.old out.new false }
+    ensures no_memory { result ≡ Err Status.NoMemory → out.new ≡ out.old }
+    ensures short { result ≡ Err Status.NoMemory → A.is_short memory.now }
+{
+    let store = match Store::check_from(memory, region) {
+        Ok(store) => store,
+        Err(
+            NotAStore {
+                fault: StoreFault::OutOfMemory,
+                ..
+            },
+        ) => return Err(Status::NoMemory),
+        Err(error) => return Err(say_bad(memory, error.fault, Status::Refused, out)),
+    };
+    match store.migrate_from(memory) {
+        Ok(store) => Ok(store),
+        Err((MigrateFault::OutOfMemory, _)) => Err(Status::NoMemory),
+        Err((fault, _)) => Err(say_bad(memory, fault, Status::Refused, out)),
+    }
+}
