@@ -19,12 +19,14 @@
 //! | `requests` | does what they ask for, and answers those that ask for no command |
 //! | `images` | the commands `new`, `check` and `migrate`, over files |
 //! | `scripts` | the command `run`, over files |
+//! | `file_listings` | the commands `list` and `canonical`, over files |
 //! | `files` | reads and writes files |
 //! | `faults` | says what kept a command from its start |
 #![tactic(auto)]
 
 mod commands;
 mod faults;
+mod file_listings;
 mod files;
 mod image_output;
 mod images;

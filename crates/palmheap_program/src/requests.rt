@@ -4,6 +4,7 @@ ghost use Rattle.std.specs.Prelude.{◌≡◌, ◌≢◌, ◌⊎◌};
 ghost use Rattle.clap.specs.Values.{kind_of};
 
 use crate::faults::{STANDARD_OUTPUT, fail};
+use crate::file_listings::{canonical, list};
 use crate::images::{check, migrate, new};
 use crate::scripts::run_script;
 use clap::error::ErrorKind;
@@ -28,6 +29,8 @@ pub fn run<R: Files + Print + Eprint + AllocGlobal>(rt: &R, words: &[String]) ->
             },
         ) => run_script(rt, image, script, out, files.as_slice()),
         Ok(Request::Migrate { image, out }) => migrate(rt, image, out),
+        Ok(Request::List { file }) => list(rt, file),
+        Ok(Request::Canonical { file, out }) => canonical(rt, file, out),
         Err(error) => answer(rt, &error),
     }
 }

@@ -29,6 +29,13 @@ pub enum Request<'a> {
         image: &'a str,
         out: &'a str,
     },
+    List {
+        file: &'a str,
+    },
+    Canonical {
+        file: &'a str,
+        out: &'a str,
+    },
 }
 
 /// A command: its word, its help, and its arguments in order.
@@ -58,7 +65,7 @@ enum Count {
 }
 
 /// Every command.
-const COMMANDS: [CommandRow; 4] = [
+const COMMANDS: [CommandRow; 6] = [
     CommandRow {
         name: "new",
         about: "Writes an image with nothing in it, and prints 'ok'",
@@ -133,7 +140,35 @@ const COMMANDS: [CommandRow; 4] = [
             },
         ],
     },
+    CommandRow {
+        name: "list",
+        about: "Lists a PDB or PRC file: its header, its entries and where their data stands",
+        after_help: Some(LISTINGS),
+        arguments: &[DATABASE_FILE],
+    },
+    CommandRow {
+        name: "canonical",
+        about: "Rewrites a PDB or PRC file as an import and an export would, without an image",
+        after_help: Some(CANONICAL_FORMS),
+        arguments: &[
+            DATABASE_FILE,
+            Argument {
+                name: "OUT",
+                count: Count::One,
+                values: ValueParser::String,
+                help: "File for the rewritten database. One that is there is replaced, once the new one \
+                    is whole",
+            },
+        ],
+    },
 ];
+
+const DATABASE_FILE: Argument = Argument {
+    name: "FILE",
+    count: Count::One,
+    values: ValueParser::String,
+    help: "PDB or PRC file, of at most 16777216 bytes",
+};
 
 const IMAGE: Argument = Argument {
     name: "IMAGE",
@@ -218,6 +253,46 @@ The ID of a resource is below 65536. 'resfind' finds the first resource of a TYP
 the NTH of a TYPE. Records, resources and those of a TYPE are counted from 0. Numbers are decimal, or hex
 behind '0x'. HEX is hex digits, or '-' for no byte. A line that is empty or starts with '#' is passed over.";
 
+const LISTINGS: &str = "\
+For example, 'palmheap list MemoDB.pdb' prints:
+
+  ok 97
+  name \"MemoDB\"
+  attributes 0000
+  version 0
+  created 3878595035 2026-11-27 03:30:35
+  modified 0 never
+  backup 0 never
+  number 0
+  type \"DATA\"
+  creator \"memo\"
+  seed 00000000
+  app none
+  sort none
+  records 1
+  0 01 1 88 9
+  canonical
+
+The first line has the length of the file. Attributes and the seed are in hex. Dates are seconds since
+1904-01-01 00:00:00 UTC, with the date and time after them. 'app' and 'sort' have the offset and the length
+of an info block, or 'none'. An entry has its index, its values, and the offset and length of its data: the
+values of a record are its attributes in hex and its ID, those of a resource its type and its id. The last
+line is 'canonical' if 'palmheap canonical' would write the file as it is, and else 'changes'.
+
+A file that cannot be read as a database prints its first fault and the offset of the field that is wrong,
+and the exit status is 1:
+
+  bad BadOffset 1
+  at 86";
+
+const CANONICAL_FORMS: &str = "\
+For example, 'palmheap canonical old.pdb new.pdb' writes new.pdb and prints 'ok' with its length. In the
+new file the entries are followed by two zero bytes, and then by the AppInfo block, the SortInfo block and
+the data, in the order of the list and without gaps. No record is busy. Each record has an ID of its own:
+the first with an ID keeps it, and the others get free ones. The name is filled up with zeros.
+
+A file that cannot be read as a database is refused as by 'palmheap list', and nothing is written.";
+
 /// What the words of a command line ask for. The first word is the program's own name.
 ///
 /// The error is also a request for help or for the version.
@@ -249,6 +324,8 @@ fn requested<'a>(
         Some(("check", given)) => Ok(check_requested(given)),
         Some(("run", given)) => run_requested(alloc, given),
         Some(("migrate", given)) => Ok(migrate_requested(given)),
+        Some(("list", given)) => Ok(list_requested(given)),
+        Some(("canonical", given)) => Ok(canonical_requested(given)),
         _ => Ok(None),
     }
 }
@@ -287,6 +364,19 @@ fn run_on<'a>(given: &ArgMatches<'a>, files: Vec<&'a str>) -> Option<Request<'a>
 fn migrate_requested<'a>(given: &ArgMatches<'a>) -> Option<Request<'a>> {
     Some(Request::Migrate {
         image: given.get_str("IMAGE")?,
+        out: given.get_str("OUT")?,
+    })
+}
+
+fn list_requested<'a>(given: &ArgMatches<'a>) -> Option<Request<'a>> {
+    Some(Request::List {
+        file: given.get_str("FILE")?,
+    })
+}
+
+fn canonical_requested<'a>(given: &ArgMatches<'a>) -> Option<Request<'a>> {
+    Some(Request::Canonical {
+        file: given.get_str("FILE")?,
         out: given.get_str("OUT")?,
     })
 }

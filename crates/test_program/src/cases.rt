@@ -10,7 +10,7 @@ pub(crate) enum Output {
 }
 
 /// The words of each run behind the program's own name, and what becomes of what it prints.
-pub(crate) static CASES: [(&str, Output); 29] = [
+pub(crate) static CASES: [(&str, Output); 37] = [
     // images that are made, or that there are not
     ("new 64 1 out.img", Taken),
     ("new 127 4 out.img", Taken),
@@ -47,6 +47,15 @@ pub(crate) static CASES: [(&str, Output); 29] = [
     ("migrate none.img out.img", Taken),
     ("migrate blank.img none/out.img", Taken),
     ("migrate blank.img out.img", Refused),
+    // files that are listed and rewritten, and one that is damaged
+    ("list order.pdb", Taken),
+    ("list damaged.pdb", Taken),
+    ("list none.pdb", Taken),
+    ("list order.pdb", Refused),
+    ("canonical order.pdb out.pdb", Taken),
+    ("canonical damaged.pdb out.pdb", Taken),
+    ("canonical order.pdb none/out.pdb", Taken),
+    ("canonical order.pdb out.pdb", Refused),
     // words that ask for no command
     ("check", Taken),
     ("--version", Taken),

@@ -28,7 +28,7 @@ impl Content {
 const ROOM: &str = "50484931 00000200 000C 0000 00000000 00*48 800001C0 00*444";
 
 /// The files, each behind its name.
-pub(crate) static INPUTS: [(&str, Content); 11] = [
+pub(crate) static INPUTS: [(&str, Content); 12] = [
     ("blank.img", Listing(BLANK, "")),
     ("room.img", Listing(ROOM, "")),
     ("records.img", Listing(DATABASE, "")),
@@ -40,6 +40,8 @@ pub(crate) static INPUTS: [(&str, Content); 11] = [
     ("shared.img", Listing(DATABASE, "150: 0000001C")),
     ("order.pdb", Listing(ORDER_FILE, "")),
     ("tiny.prc", Listing(TINY_FILE, "")),
+    // the data of the second record begins before the entries end
+    ("damaged.pdb", Listing(ORDER_FILE, "86: 00000065")),
     (
         "files.txt",
         Text("import d 2\nimport e 1\nexport d\nexport e\nexport e\ndbcount\n"),

@@ -34,12 +34,14 @@ fn shown(alloc: Global, request: &Request) -> Result<String, AllocError> {
             files,
         } => format!(in alloc; "run {image} {script} {out} {files:?}\n"),
         Request::Migrate { image, out } => format!(in alloc; "migrate {image} {out}\n"),
+        Request::List { file } => format!(in alloc; "list {file}\n"),
+        Request::Canonical { file, out } => format!(in alloc; "canonical {file} {out}\n"),
     }
 }
 
 /// Words, and how what comes of them begins, and what stands in it: commands, words that are refused,
 /// and help.
-static CASES: [(&str, &str, &str); 25] = [
+static CASES: [(&str, &str, &str); 29] = [
     ("palmheap new 128 4 a.img", "new 128 4 a.img\n", ""),
     (
         "palmheap new 4294967295 65535 --  -a",
@@ -58,6 +60,12 @@ static CASES: [(&str, &str, &str); 25] = [
         "",
     ),
     ("palmheap migrate a.img b.img", "migrate a.img b.img\n", ""),
+    ("palmheap list memo.pdb", "list memo.pdb\n", ""),
+    (
+        "palmheap canonical memo.pdb new.pdb",
+        "canonical memo.pdb new.pdb\n",
+        "",
+    ),
     (
         "palmheap migrate a.img",
         "2 error: the following required arguments were not provided:\n  <OUT>\n",
@@ -136,6 +144,12 @@ static CASES: [(&str, &str, &str); 25] = [
         "palmheap migrate --help",
         "0 ",
         "Usage: palmheap migrate <IMAGE> <OUT>",
+    ),
+    ("palmheap list --help", "0 ", "Usage: palmheap list <FILE>"),
+    (
+        "palmheap canonical --help",
+        "0 ",
+        "Usage: palmheap canonical <FILE> <OUT>",
     ),
 ];
 

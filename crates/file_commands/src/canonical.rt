@@ -1,0 +1,77 @@
+//! The command `canonical`.
+
+ghost use Rattle.std.specs.Prelude.{◌≡◌, ◌≢◌, ◌≤◌, length, Err, IfErr, IfOk};
+ghost use Rattle.allowance.specs.Refusals.{GrowthRefused};
+ghost use Rattle.canonical_file.specs.Canonical.{IsFaultOf, most_bytes};
+ghost use Rattle.file_commands.specs.Ends.{EndsCanonical, PutsPart, WroteWhole};
+
+use crate::faults::{flushed, put_count, say_fault};
+use allowance::Allowance;
+use canonical_file::{CanonicalFault, put_canonical};
+use palm_text::Counted;
+use program_io::Status;
+use std::alloc::Global;
+use std::io::Write;
+
+/// Writes the canonical form of a file to `file_out`, and then prints `ok` and its length to `out`. If the file has a
+/// fault, prints `bad` and the first fault, and the offset of the wrong field.
+pub fn cmd_canonical<W: Write, V: Write>(
+    alloc: Global,
+    file: &[u8],
+    file_out: &mut Counted<W>,
+    out: &mut Counted<V>,
+) -> Status
+    requires { length file.now ≤ most_bytes }
+    ensures ends { EndsCanonical file.now W.contents file_out.old file_out.new
+        V.contents out.old out.new result }
+    ensures short { result ≡ Status.NoMemory → GrowthRefused }
+{
+    cmd_canonical_from(&alloc, file, file_out, out)
+}
+
+/// `cmd_canonical`, where each growth asks for a grant.
+#[tactic(auto, using(crate::proofs::Printed::told))]
+pub fn cmd_canonical_from<A: Allowance, W: Write, V: Write>(
+    memory: &A,
+    file: &[u8],
+    file_out: &mut Counted<W>,
+    out: &mut Counted<V>,
+) -> Status
+    requires { length file.now ≤ most_bytes }
+    ensures ends { EndsCanonical file.now W.contents file_out.old file_out.new
+        V.contents out.old out.new result }
+    ensures short { result ≡ Status.NoMemory → A.is_short memory.now }
+{
+    match put_flushed(memory, file, file_out) {
+        Ok(count) => match put_count(out, count) {
+            Ok(()) => Status::Done,
+            Err(_) => Status::WriteFault,
+        },
+        Err(CanonicalFault::BadFile(fault)) => say_fault(out, file, fault),
+        Err(CanonicalFault::OutOfMemory) => Status::NoMemory,
+        Err(CanonicalFault::Write) => Status::WriteFault,
+    }
+}
+
+/// Writes the canonical form of a file, flushes, and returns how many bytes it has.
+#[tactic(auto, using(crate::proofs::Printed::puts_whole, crate::proofs::Printed::flush_fails, crate::proofs::Printed::canonical_stops))]
+fn put_flushed<A: Allowance, W: Write>(
+    memory: &A,
+    file: &[u8],
+    file_out: &mut Counted<W>,
+) -> Result<usize, CanonicalFault>
+    requires { length file.now ≤ most_bytes }
+    ensures done { IfOk result (WroteWhole file.now W.contents file_out.old file_out.new) }
+    ensures why { IfErr result (IsFaultOf file.now) }
+    ensures untouched { IfErr result (λ fault.
+        fault ≢ CanonicalFault.Write → file_out.new ≡ file_out.old) }
+    ensures write { result ≡ Err CanonicalFault.Write
+        → PutsPart file.now W.contents file_out.old file_out.new }
+    ensures short { result ≡ Err CanonicalFault.OutOfMemory → A.is_short memory.now }
+{
+    let count = put_canonical(memory, file, file_out)?;
+    match flushed(file_out) {
+        Ok(()) => Ok(count),
+        Err(_) => Err(CanonicalFault::Write),
+    }
+}

@@ -1,0 +1,71 @@
+//! Files with a fault, and flushes.
+
+ghost use Rattle.std.specs.Prelude.{◌≡◌, ◌≤◌, ◌⊎◌, length, true, false, is_ok};
+ghost use Rattle.heap_model.specs.Files.{IsFirstFault};
+ghost use Rattle.palm_text.specs.Output.{Puts};
+ghost use Rattle.palm_text.specs.Counted.{Flushes};
+ghost use Rattle.canonical_file.specs.Canonical.{most_bytes};
+ghost use Rattle.file_commands.specs.Ends.{PutsFault, count_line};
+ghost use Rattle.file_listing.specs.FaultLines.{fault_lines};
+
+use file_listing::put_fault;
+use heap_model::FileFault;
+use itoa::Buffer;
+use palm_text::{Counted, Piece, WriteFault, put_pieces};
+use program_io::Status;
+use std::io::Write;
+
+/// Writes the lines for the first fault of a file, and flushes.
+#[tactic(auto, using(palm_text::proofs::Parts::then_flush))]
+fn put_fault_lines<V: Write>(
+    out: &mut Counted<V>,
+    file: &[u8],
+    fault: FileFault,
+) -> Result<(), WriteFault>
+    requires short { length file.now ≤ most_bytes }
+    requires first { IsFirstFault file.now fault }
+    ensures { Puts V.contents out.old out.new (fault_lines file.now fault) (is_ok result) }
+{
+    put_fault(out, file, fault)?;
+    out.flush().map_err(|_| WriteFault)
+}
+
+/// Prints the lines for the first fault of a file.
+#[tactic(auto, using(crate::proofs::Printed::puts_fault))]
+pub(crate) fn say_fault<V: Write>(out: &mut Counted<V>, file: &[u8], fault: FileFault) -> Status
+    requires short { length file.now ≤ most_bytes }
+    requires first { IsFirstFault file.now fault }
+    ensures statuses { (result ≡ Status.Refused) ⊎ (result ≡ Status.WriteFault) }
+    ensures refused { result ≡ Status.Refused → PutsFault file.now V.contents out.old out.new true }
+    ensures write { result ≡ Status.WriteFault
+        → PutsFault file.now V.contents out.old out.new false }
+{
+    match put_fault_lines(out, file, fault) {
+        Ok(()) => Status::Refused,
+        Err(_) => Status::WriteFault,
+    }
+}
+
+/// Flushes a writer.
+pub(crate) fn flushed<V: Write>(out: &mut Counted<V>) -> Result<(), WriteFault>
+    ensures { Flushes V.contents out.old out.new (is_ok result) }
+{
+    out.flush().map_err(|_| WriteFault)
+}
+
+/// Writes how many bytes there are, and flushes.
+#[tactic(auto, using(palm_text::proofs::Parts::then_flush))]
+pub(crate) fn put_count<V: Write>(out: &mut Counted<V>, count: usize) -> Result<(), WriteFault>
+    ensures { Puts V.contents out.old out.new (count_line count) (is_ok result) }
+{
+    let mut digits = Buffer::new();
+    put_pieces(
+        out,
+        &[
+            Piece::Text(b"ok "),
+            Piece::Text(digits.format(count).as_bytes()),
+            Piece::Text(b"\n"),
+        ],
+    )?;
+    flushed(out)
+}

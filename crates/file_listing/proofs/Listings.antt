@@ -1,0 +1,33 @@
+-- The lines that are written are the listing.
+use Rattle.std.proofs.Common.{◌≡◌, ℕ, Bool, Option, List, ap}
+use Rattle.std.specs.Prelude.{string_bytes}
+use Rattle.heap_model.specs.Database.{DatabaseHeader, header_in, database_in}
+use Rattle.db_format.specs.declared.header.DbHeader.{DbHeader}
+use Rattle.db_format.specs.Headers.{HasHeader, header_of}
+use Rattle.palm_text.specs.Counted.{Writing, Writes}
+use Rattle.file_listing.specs.declared.parts.Parts.{Parts}
+use Rattle.file_listing.specs.Listing.{IsListing, WritesListing}
+use Rattle.file_listing.specs.Parts.{HasParts, lines_by}
+
+pub header_is : (file : List ℕ) (header : DbHeader) → HasHeader (database_in file) header → header_of header ≡ header_in file
+unfolding database_in
+header_is file header has = has.values
+
+pub listed : (file : List ℕ) (header : DatabaseHeader) (parts : Parts) → header ≡ header_in file → HasParts file parts → IsListing file (lines_by file header parts)
+listed file header parts is has = record {
+  created = string_bytes parts.moments.created;
+  modified = string_bytes parts.moments.modified;
+  backup = string_bytes parts.moments.backup;
+  created_is = has.moments.created;
+  modified_is = has.moments.modified;
+  backup_is = has.moments.backup;
+  same = parts.same;
+  canonical = has.same.0;
+  canonical_is = has.same.1;
+  same_is = has.same.2;
+  lines = ap (λ (values : DatabaseHeader). lines_by file values parts) is;
+}
+
+-- and so the listing is written
+pub written : {W : Type 0} (contents : W → Option (List ℕ)) (old new : Writing W) (file : List ℕ) (header : DbHeader) (parts : Parts) (ok : Bool) → HasHeader (database_in file) header → HasParts file parts → Writes contents old new (lines_by file (header_of header) parts) ok → WritesListing file contents old new ok
+written contents old new file header parts ok is has writes = (lines_by file (header_of header) parts, listed file (header_of header) parts (header_is file header is) has, writes)

@@ -1,0 +1,45 @@
+-- The lines for a file with a fault: the fault, and the offset of the field that it is about.
+use Rattle.std.specs.Prelude.{◌+◌, ◌++◌, ℕ, Bool, true, false, List, length, codes, decimal}
+use Rattle.heap_model.specs.DatabaseFields.{next_list_at, resource_data_at}
+use Rattle.heap_model.specs.Database.{resources_in, entry_offset}
+use Rattle.heap_model.specs.Files.{HasNoFault, IsFirstFault}
+use Rattle.heap_model.specs.declared.names.Which.{Which}
+use Rattle.heap_model.specs.declared.names.Which.TheVariants.{App, Sort}
+use Rattle.heap_model.specs.declared.file_fault.FileFault.{FileFault}
+use Rattle.heap_model.specs.declared.file_fault.FileFault.TheVariants.{Truncated, ChainedList, EmptyName, BadInfo, BadOffset}
+use Rattle.db_format.specs.Headers.{info_block_at}
+use Rattle.file_listing.specs.declared.listing.ListFault.{ListFault}
+use Rattle.file_listing.specs.declared.listing.ListFault.TheVariants.{BadFile, OutOfMemory, Write}
+
+-- where the offset of the data stands in an entry
+abbrev pub data_field : Bool → ℕ
+data_field true = resource_data_at
+data_field false = 0
+
+-- The offset of the field that a fault is about. A file that ends too soon has the fault at its end.
+abbrev pub fault_place : List ℕ → FileFault → ℕ
+fault_place file Truncated = length file
+fault_place file ChainedList = next_list_at
+fault_place file EmptyName = 0
+fault_place file (BadInfo which) = info_block_at which
+fault_place file (BadOffset index) = entry_offset (resources_in file) index + data_field (resources_in file)
+
+abbrev pub which_word : Which → List ℕ
+which_word App = codes "app"
+which_word Sort = codes "sort"
+
+abbrev pub fault_text : FileFault → List ℕ
+fault_text Truncated = codes "Truncated"
+fault_text ChainedList = codes "ChainedList"
+fault_text EmptyName = codes "EmptyName"
+fault_text (BadInfo which) = codes "BadInfo " ++ which_word which
+fault_text (BadOffset index) = codes "BadOffset " ++ decimal index
+
+abbrev pub fault_lines : List ℕ → FileFault → List ℕ
+fault_lines file fault = codes "bad " ++ (fault_text fault ++ (codes "\nat " ++ (decimal (fault_place file fault) ++ codes "\n")))
+
+-- why a file was not listed
+abbrev pub IsFaultOf : List ℕ → ListFault → Type 0
+IsFaultOf file (BadFile fault) = IsFirstFault file fault
+IsFaultOf file OutOfMemory = HasNoFault file
+IsFaultOf file Write = HasNoFault file

@@ -1,0 +1,4 @@
+pub mod Moments
+pub mod Listing
+pub mod FaultLines
+pub mod Parts

@@ -1,0 +1,102 @@
+-- The lines that are printed of a file without fault.
+use Rattle.std.specs.Prelude.{◌≡◌, ◌↔◌, ◌+◌, ◌++◌, ℕ, Bool, true, false, List, [], ◌∷◌, length, slice_index, slice_index_or, Option, Some, None, IsTrue, codes, decimal}
+use Rattle.std.specs.List.{concat}
+use Rattle.hex.specs.Hex.{encode_lower}
+use Rattle.heap_model.specs.Bytes.{u16_bytes, u32_bytes}
+use Rattle.heap_model.specs.Lists.{numbered}
+use Rattle.heap_model.specs.Database.{DatabaseHeader, Entry, a_record, a_resource, entry_data, header_in, resources_in, entry_count_in, entry_in}
+use Rattle.heap_model.specs.Files.{offsets_in, blocks_in}
+use Rattle.palm_text.specs.Pieces.{spelled}
+use Rattle.palm_text.specs.Counted.{Writing, Writes}
+use Rattle.canonical_file.specs.Canonical.{IsCanonical}
+use Rattle.file_listing.specs.Moments.{IsMomentText}
+
+-- how many bytes the file has, and the values of its header, with the texts of its three moments
+unfoldable pub head_lines : ℕ → DatabaseHeader → (created modified backup : List ℕ) → List ℕ
+head_lines size header created modified backup =
+    codes "ok " ++ (decimal size
+    ++ (codes "\nname " ++ (spelled header.name
+    ++ (codes "\nattributes " ++ (encode_lower (u16_bytes header.attributes)
+    ++ (codes "\nversion " ++ (decimal header.version
+    ++ (codes "\ncreated " ++ (created
+    ++ (codes "\nmodified " ++ (modified
+    ++ (codes "\nbackup " ++ (backup
+    ++ (codes "\nnumber " ++ (decimal header.modification_number
+    ++ (codes "\ntype " ++ (spelled (u32_bytes header.kind)
+    ++ (codes "\ncreator " ++ (spelled (u32_bytes header.creator)
+    ++ (codes "\nseed " ++ (encode_lower (u32_bytes header.seed)
+    ++ codes "\n")))))))))))))))))))))
+
+-- where a block stands, at the end of a line: its offset and how many bytes it has, or `none`
+abbrev pub place_text : ℕ → Option (List ℕ) → List ℕ
+place_text at None = codes " none\n"
+place_text at (Some bytes) = codes " " ++ (decimal at ++ (codes " " ++ (decimal (length bytes) ++ codes "\n")))
+
+-- the line of an info block, whose rank is 0 or 1
+unfoldable pub info_line : List ℕ → (word : List ℕ) → ℕ → List ℕ
+info_line file word rank = word ++ place_text (slice_index (offsets_in file) rank) (slice_index_or (blocks_in file) rank None)
+
+-- how many entries there are, and of which kind
+abbrev pub count_word : Bool → List ℕ
+count_word true = codes "resources "
+count_word false = codes "records "
+
+unfoldable pub count_line : Bool → ℕ → List ℕ
+count_line resources count = count_word resources ++ (decimal count ++ codes "\n")
+
+-- of a record its attributes and its ID, of a resource its type and its id
+abbrev pub entry_value : Entry ℕ → List ℕ
+entry_value (a_record attributes id at) = encode_lower (attributes ∷ [])
+entry_value (a_resource kind id at) = spelled (u32_bytes kind)
+
+abbrev pub entry_id : Entry ℕ → ℕ
+entry_id (a_record attributes id at) = id
+entry_id (a_resource kind id at) = id
+
+-- the line of an entry: its index, its values, and where its data stands
+abbrev pub entry_line : ℕ → Entry ℕ → Option (List ℕ) → List ℕ
+entry_line index entry block = decimal index ++ (codes " " ++ (entry_value entry ++ (codes " " ++ (decimal (entry_id entry) ++ place_text (entry_data entry) block))))
+
+abbrev pub line_at : List ℕ → ℕ → List ℕ
+line_at file index = entry_line index (entry_in file index) (slice_index_or (blocks_in file) (2 + index) None)
+
+abbrev pub entry_lines : List ℕ → List ℕ
+entry_lines file = concat (numbered (line_at file) (entry_count_in file))
+
+-- whether the file is its canonical form
+unfoldable pub last_line : Bool → List ℕ
+last_line true = codes "canonical\n"
+last_line false = codes "changes\n"
+
+-- the lines of the info blocks
+unfoldable pub info_lines : List ℕ → List ℕ
+info_lines file = info_line file (codes "app") 0 ++ info_line file (codes "sort") 1
+
+-- how many entries there are, and their lines
+unfoldable pub list_lines : List ℕ → List ℕ
+list_lines file = count_line (resources_in file) (entry_count_in file) ++ entry_lines file
+
+unfoldable pub end_lines : List ℕ → Bool → List ℕ
+end_lines file same = list_lines file ++ last_line same
+
+-- the lines after those of the header
+unfoldable pub body_lines : List ℕ → Bool → List ℕ
+body_lines file same = info_lines file ++ end_lines file same
+
+-- this is the listing of the file
+pub record IsListing (file text : List ℕ) : Type 0 where
+  pub created : List ℕ
+  pub modified : List ℕ
+  pub backup : List ℕ
+  pub created_is : IsMomentText (header_in file).creation_date created
+  pub modified_is : IsMomentText (header_in file).modification_date modified
+  pub backup_is : IsMomentText (header_in file).backup_date backup
+  pub same : Bool
+  pub canonical : List ℕ
+  pub canonical_is : IsCanonical file canonical
+  pub same_is : IsTrue same ↔ (canonical ≡ file)
+  pub lines : text ≡ head_lines (length file) (header_in file) created modified backup ++ body_lines file same
+
+-- the listing of the file goes to a writer, all of it or a prefix
+abbrev pub WritesListing : {W : Type 0} → List ℕ → (W → Option (List ℕ)) → Writing W → Writing W → Bool → Type 0
+WritesListing file contents old new ok = (text : List ℕ) × IsListing file text × Writes contents old new text ok

@@ -1,0 +1,35 @@
+//! The listing of a PDB or PRC file: its header, where its blocks stand, its entries, and whether it is in canonical
+//! form.
+//!
+//! ```text
+//! ok 97
+//! name "MemoDB"
+//! attributes 0000
+//! version 0
+//! created 3878595035 2026-11-27 03:30:35
+//! modified 0 never
+//! backup 0 never
+//! number 0
+//! type "DATA"
+//! creator "memo"
+//! seed 00000000
+//! app none
+//! sort none
+//! records 1
+//! 0 01 1 88 9
+//! canonical
+//! ```
+//!
+//! `specs/Listing.antt` defines the lines: start there.
+#![tactic(auto)]
+
+mod blocks;
+mod entries;
+mod fault_lines;
+mod head;
+mod listing;
+mod moments;
+mod parts;
+
+pub use fault_lines::{fault_place, put_fault};
+pub use listing::{ListFault, put_listing};

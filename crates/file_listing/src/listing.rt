@@ -1,0 +1,119 @@
+//! The listing of a file, on a writer.
+
+ghost use Rattle.std.specs.Prelude.{◌≡◌, ◌≢◌, ◌≤◌, length, false, true, Err, IfErr, OnOk, is_ok};
+ghost use Rattle.canonical_file.specs.Canonical.{most_bytes};
+ghost use Rattle.heap_model.specs.Files.{HasNoFault};
+ghost use Rattle.db_format.specs.Headers.{header_of};
+ghost use Rattle.palm_text.specs.Counted.{Writes};
+ghost use Rattle.file_listing.specs.FaultLines.{IsFaultOf};
+ghost use Rattle.file_listing.specs.Listing as listing;
+ghost use Rattle.file_listing.specs.Listing.{WritesListing, body_lines, end_lines};
+ghost use Rattle.file_listing.specs.Parts.{HasParts, lines_by};
+
+use crate::blocks::put_infos;
+use crate::entries::put_list;
+use crate::head::put_head;
+use crate::parts::{Parts, parts_of};
+use allowance::Allowance;
+use db_format::DbHeader;
+use heap_model::FileFault;
+use palm_text::{Counted, WriteFault, put_all};
+use pdb_format::check_file;
+use std::io::Write;
+use thiserror::Error;
+
+/// Why a file was not listed.
+#[derive(Clone, Copy, Debug, PartialEq, Eq, Error)]
+pub enum ListFault {
+    /// The file has this first fault.
+    #[error("{0}")]
+    BadFile(FileFault),
+    /// An allocation failed.
+    #[error("OutOfMemory")]
+    OutOfMemory,
+    /// A write failed, or took 0 bytes.
+    #[error("a write failed")]
+    Write,
+}
+
+/// Writes whether the file is its canonical form.
+#[tactic(auto, unfolding(crate::specs::Listing::last_line))]
+fn put_last<W: Write>(out: &mut Counted<W>, same: bool) -> Result<(), WriteFault>
+    ensures { Writes W.contents out.old out.new (listing.last_line same) (is_ok result) }
+{
+    if same {
+        put_all(out, b"canonical\n")
+    } else {
+        put_all(out, b"changes\n")
+    }
+}
+
+/// Writes the lines of the entries, and whether the file is its canonical form.
+#[tactic(auto, using(palm_text::proofs::Parts::then, palm_text::proofs::Parts::stops), unfolding(crate::specs::Listing::end_lines))]
+fn put_end<W: Write>(out: &mut Counted<W>, file: &[u8], parts: &Parts) -> Result<(), WriteFault>
+    requires { HasParts file.now parts.now }
+    ensures { Writes W.contents out.old out.new (end_lines file.now parts.now.same) (is_ok result) }
+{
+    put_list(out, file, parts.blocks.as_slice())?;
+    put_last(out, parts.same)
+}
+
+/// Writes the lines after those of the header.
+#[tactic(auto, using(palm_text::proofs::Parts::then, palm_text::proofs::Parts::stops), unfolding(crate::specs::Listing::body_lines))]
+fn put_body<W: Write>(out: &mut Counted<W>, file: &[u8], parts: &Parts) -> Result<(), WriteFault>
+    requires { HasParts file.now parts.now }
+    ensures { Writes W.contents out.old out.new (body_lines file.now parts.now.same) (is_ok result) }
+{
+    put_infos(out, file, parts.blocks.as_slice())?;
+    put_end(out, file, parts)
+}
+
+/// Writes the listing of a file without fault.
+#[tactic(auto, using(palm_text::proofs::Parts::then, palm_text::proofs::Parts::stops))]
+fn put_lines<W: Write>(
+    out: &mut Counted<W>,
+    file: &[u8],
+    header: &DbHeader,
+    parts: &Parts,
+) -> Result<(), WriteFault>
+    requires { HasParts file.now parts.now }
+    ensures { Writes W.contents out.old out.new (lines_by file.now (header_of header.now)
+        parts.now) (is_ok result) }
+{
+    put_head(out, file.len() as u32, header, &parts.moments)?;
+    put_body(out, file, parts)
+}
+
+/// Writes the listing of a file. Flushes nothing. After a write that fails, nothing more is written. All memory is
+/// allocated before the first write.
+///
+/// # Errors
+///
+/// `BadFile` with the first fault of the file; `OutOfMemory`; `Write`.
+#[tactic(auto, using(pdb_format::proofs::FileNames::file_named, crate::proofs::Listings::written))]
+pub fn put_listing<A: Allowance, W: Write>(
+    memory: &A,
+    file: &[u8],
+    out: &mut Counted<W>,
+) -> Result<(), ListFault>
+    requires { length file.now ≤ most_bytes }
+    ensures done { OnOk result (WritesListing file.now W.contents out.old out.new true) }
+    ensures good { OnOk result (HasNoFault file.now) }
+    ensures why { IfErr result (IsFaultOf file.now) }
+    ensures untouched { IfErr result (λ fault. fault ≢ ListFault.Write → out.new ≡ out.old) }
+    ensures write { result ≡ Err ListFault.Write
+        → WritesListing file.now W.contents out.old out.new false }
+    ensures short { result ≡ Err ListFault.OutOfMemory → A.is_short memory.now }
+{
+    if let Err(fault) = check_file(file) {
+        return Err(ListFault::BadFile(fault));
+    }
+    let header = DbHeader::read(file);
+    let Ok(parts) = parts_of(memory, file, &header) else {
+        return Err(ListFault::OutOfMemory);
+    };
+    match put_lines(out, file, &header, &parts) {
+        Ok(()) => Ok(()),
+        Err(_) => Err(ListFault::Write),
+    }
+}

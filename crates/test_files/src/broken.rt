@@ -1,0 +1,108 @@
+//! Commands that break off: each growth of memory is refused in turn, and each write fails after each byte.
+
+use crate::samples::{MIXED_FILE, changed, listed};
+use file_commands::{cmd_canonical_from, cmd_list_from};
+use palm_text::Counted;
+use program_io::Status;
+use std::io::ErrorKind;
+use std::test::*;
+use test_support::{
+    Narrow, ORDER_FILE, RefusesOne, TINY_FILE, Unflushed, WhenFull, bytes_of, equal, holds,
+};
+
+/// The most bytes that a file may have.
+const MOST: usize = 16_777_216;
+
+#[test]
+fn refused_memory_prints_nothing(rt: HostRuntime) -> Result<(), Fail> {
+    let file = bytes_of(rt.alloc(), MIXED_FILE)?;
+    if file.len() > MOST {
+        return Ok(());
+    }
+    for granted in 0..100 {
+        let memory = RefusesOne::behind(rt.alloc(), granted);
+        let mut out = Counted::new(Vec::new(rt.alloc()));
+        let status = cmd_list_from(&memory, &file, &mut out);
+        if !memory.has_refused() {
+            holds(granted, granted > 10)?;
+            return equal(granted, status, Status::Done);
+        }
+        equal(granted, status, Status::NoMemory)?;
+        equal(granted, out.into_inner().len(), 0)?;
+    }
+    Err("too many growths")?
+}
+
+#[test]
+fn refused_memory_writes_nothing(rt: HostRuntime) -> Result<(), Fail> {
+    let file = bytes_of(rt.alloc(), MIXED_FILE)?;
+    if file.len() > MOST {
+        return Ok(());
+    }
+    for granted in 0..100 {
+        let memory = RefusesOne::behind(rt.alloc(), granted);
+        let mut file_out = Counted::new(Vec::new(rt.alloc()));
+        let mut out = Counted::new(Vec::new(rt.alloc()));
+        let status = cmd_canonical_from(&memory, &file, &mut file_out, &mut out);
+        if !memory.has_refused() {
+            return equal(granted, status, Status::Done);
+        }
+        equal(granted, status, Status::NoMemory)?;
+        equal(granted, file_out.into_inner().len(), 0)?;
+        equal(granted, out.into_inner().len(), 0)?;
+    }
+    Err("too many growths")?
+}
+
+/// Each prefix of a listing is all that is printed if the writer has no more room.
+#[test]
+fn a_full_writer_gets_a_prefix(rt: HostRuntime) -> Result<(), Fail> {
+    let file = bytes_of(rt.alloc(), TINY_FILE)?;
+    let (_, text) = listed(rt.alloc(), &file)?;
+    if file.len() > MOST {
+        return Ok(());
+    }
+    for room in 0..text.len() {
+        let narrow = Narrow::new(rt.alloc(), room, 3, WhenFull::Fails(ErrorKind::StorageFull));
+        let mut out = Counted::new(narrow);
+        let status = cmd_list_from(&rt.alloc(), &file, &mut out);
+        equal(room, status, Status::WriteFault)?;
+        let narrow = out.into_inner();
+        holds(room, narrow.is_cut_at(room))?;
+        holds(room, text.starts_with(&narrow.taken))?;
+    }
+    Ok(())
+}
+
+/// The lines for a fault are cut in the same way.
+#[test]
+fn a_full_writer_gets_a_prefix_of_a_fault(rt: HostRuntime) -> Result<(), Fail> {
+    let file = changed(rt.alloc(), ORDER_FILE, 86, &[0, 0, 0, 0x65])?;
+    if file.len() > MOST {
+        return Ok(());
+    }
+    for room in 0..22 {
+        let mut out = Counted::new(Narrow::new(rt.alloc(), room, 5, WhenFull::TakesNothing));
+        let status = cmd_list_from(&rt.alloc(), &file, &mut out);
+        equal(room, status, Status::WriteFault)?;
+        holds(room, out.into_inner().is_cut_at(room))?;
+    }
+    Ok(())
+}
+
+/// A flush that fails is a write fault of each command, after all that comes before it.
+#[test]
+fn flushes_that_fail(rt: HostRuntime) -> Result<(), Fail> {
+    let file = bytes_of(rt.alloc(), MIXED_FILE)?;
+    if file.len() > MOST {
+        return Ok(());
+    }
+    let mut out = Counted::new(Unflushed(Vec::new(rt.alloc())));
+    let status = cmd_list_from(&rt.alloc(), &file, &mut out);
+    equal("list", status, Status::WriteFault)?;
+    let mut file_out = Counted::new(Unflushed(Vec::new(rt.alloc())));
+    let mut out = Counted::new(Vec::new(rt.alloc()));
+    let status = cmd_canonical_from(&rt.alloc(), &file, &mut file_out, &mut out);
+    equal("canonical", status, Status::WriteFault)?;
+    equal("canonical", out.into_inner().len(), 0)
+}

@@ -1,0 +1,13 @@
+//! Tests of the commands on PDB and PRC files, and of the crates from which they are made.
+//!
+//! This crate has no code but its tests.
+#![tactic(auto)]
+
+#[cfg(test)]
+mod broken;
+#[cfg(test)]
+mod canonical;
+#[cfg(test)]
+mod listings;
+#[cfg(test)]
+mod samples;

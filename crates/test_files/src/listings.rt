@@ -1,0 +1,223 @@
+//! The listings of files, and the lines for damaged ones.
+
+use crate::samples::{MEMO_FILE, MIXED_FILE, changed, listed};
+use program_io::Status;
+use std::alloc::Global;
+use std::str;
+use std::test::*;
+use test_support::{EMPTY_FILE, EMPTY_WRITTEN, ORDER_FILE, TINY_FILE, bytes_of, equal};
+
+const EMPTY_LINES: &str = "\
+name \"Empty\"
+attributes 0000
+version 0
+created 0 never
+modified 0 never
+backup 0 never
+number 0
+type \"DATA\"
+creator \"Test\"
+seed 00000000
+app none
+sort none
+records 0
+";
+
+const ORDER_LINES: &str = "\
+ok 112
+name \"Order\"
+attributes 0000
+version 0
+created 0 never
+modified 0 never
+backup 0 never
+number 0
+type \"DATA\"
+creator \"Test\"
+seed 00000000
+app none
+sort none
+records 3
+0 00 0 108 0
+1 03 5 104 4
+2 20 5 108 4
+changes
+";
+
+const TINY_LINES: &str = "\
+ok 106
+name \"Tiny\"
+attributes 0001
+version 1
+created 0 never
+modified 0 never
+backup 0 never
+number 0
+type \"appl\"
+creator \"Test\"
+seed 00000000
+app none
+sort none
+resources 2
+0 \"tSTR\" 1000 100 3
+1 \"tSTR\" 1001 103 3
+canonical
+";
+
+const MEMO_LINES: &str = "\
+ok 97
+name \"MemoDB\"
+attributes 0000
+version 0
+created 3878595035 2026-11-27 03:30:35
+modified 0 never
+backup 0 never
+number 0
+type \"DATA\"
+creator \"memo\"
+seed 00000000
+app none
+sort none
+records 1
+0 01 1 88 9
+canonical
+";
+
+const MIXED_LINES: &str = "\
+ok 101
+name x:2251220a
+attributes 8042
+version 258
+created 4294967295 2040-02-06 06:28:15
+modified 86400 1904-01-02 00:00:00
+backup 2082844800 1970-01-01 00:00:00
+number 7
+type x:61001f62
+creator \"~~~~\"
+seed 01020304
+app 101 0
+sort 99 2
+records 2
+0 8f 16777215 none
+1 20 0 96 3
+changes
+";
+
+/// Files, and their listings: the first line and the last, and those between them.
+static LISTINGS: [(&str, &str, &str, &str); 6] = [
+    (EMPTY_FILE, "ok 78\n", EMPTY_LINES, "changes\n"),
+    (EMPTY_WRITTEN, "ok 80\n", EMPTY_LINES, "canonical\n"),
+    (ORDER_FILE, "", ORDER_LINES, ""),
+    (TINY_FILE, "", TINY_LINES, ""),
+    (MEMO_FILE, "", MEMO_LINES, ""),
+    (MIXED_FILE, "", MIXED_LINES, ""),
+];
+
+/// Whether a file is listed as these lines, with this status.
+fn check_text(alloc: Global, file: &[u8], status: Status, lines: &str) -> Result<(), Fail> {
+    let (found, text) = listed(alloc, file)?;
+    equal(format_args!("{file:?}"), found, status)?;
+    equal(format_args!("{file:?}"), str::from_utf8(&text)?, lines)
+}
+
+#[test]
+fn files_have_their_listings(rt: HostRuntime) -> Result<(), Fail> {
+    for (file, first, lines, last) in &LISTINGS {
+        let file = bytes_of(rt.alloc(), file)?;
+        let lines = format!(in rt.alloc(); "{first}{lines}{last}")?;
+        check_text(rt.alloc(), &file, Status::Done, &lines)?;
+    }
+    Ok(())
+}
+
+/// Numbers of seconds, and the lines for them: around the ends of months and years, leap years and not.
+static MOMENTS: [([u8; 4], &str); 12] = [
+    ([0x00, 0x00, 0x00, 0x01], "created 1 1904-01-01 00:00:01"),
+    (
+        [0x00, 0x28, 0xDE, 0x7F],
+        "created 2678399 1904-01-31 23:59:59",
+    ),
+    (
+        [0x00, 0x4E, 0x79, 0x70],
+        "created 5142896 1904-02-29 12:34:56",
+    ),
+    (
+        [0x00, 0x4F, 0x1A, 0x00],
+        "created 5184000 1904-03-01 00:00:00",
+    ),
+    (
+        [0x01, 0xE2, 0x84, 0xFF],
+        "created 31622399 1904-12-31 23:59:59",
+    ),
+    (
+        [0x01, 0xE2, 0x85, 0x00],
+        "created 31622400 1905-01-01 00:00:00",
+    ),
+    (
+        [0xB4, 0x92, 0xF3, 0xFF],
+        "created 3029529599 1999-12-31 23:59:59",
+    ),
+    (
+        [0xB4, 0xE0, 0xBC, 0x80],
+        "created 3034627200 2000-02-29 00:00:00",
+    ),
+    (
+        [0xB4, 0xE2, 0x8E, 0x77],
+        "created 3034746487 2000-03-01 09:08:07",
+    ),
+    (
+        [0xB6, 0xC3, 0x41, 0x7F],
+        "created 3066249599 2001-02-28 23:59:59",
+    ),
+    (
+        [0xB6, 0xC3, 0x41, 0x80],
+        "created 3066249600 2001-03-01 00:00:00",
+    ),
+    (
+        [0xFF, 0xFF, 0xFF, 0xFF],
+        "created 4294967295 2040-02-06 06:28:15",
+    ),
+];
+
+#[test]
+fn moments_are_printed_in_utc(rt: HostRuntime) -> Result<(), Fail> {
+    for (seconds, moment) in &MOMENTS {
+        let file = changed(rt.alloc(), EMPTY_WRITTEN, 36, seconds)?;
+        let (_, text) = listed(rt.alloc(), &file)?;
+        let text = str::from_utf8(&text)?;
+        let line = text.lines().nth(4);
+        equal(format_args!("{seconds:?}"), line, Some(*moment))?;
+    }
+    Ok(())
+}
+
+/// Files, where some bytes stand from an offset on instead, and what is printed of them then.
+static DAMAGED: [(&str, usize, &[u8], &str); 12] = [
+    (EMPTY_FILE, 76, &[0, 1], "bad Truncated\nat 78\n"),
+    (EMPTY_FILE, 72, &[0, 0, 0, 1], "bad ChainedList\nat 72\n"),
+    (EMPTY_FILE, 0, &[0], "bad EmptyName\nat 0\n"),
+    (EMPTY_FILE, 52, &[0, 0, 0, 77], "bad BadInfo app\nat 52\n"),
+    (EMPTY_FILE, 56, &[0, 0, 0, 79], "bad BadInfo sort\nat 56\n"),
+    (ORDER_FILE, 78, &[0, 0, 0, 0], "bad BadOffset 0\nat 78\n"),
+    (ORDER_FILE, 86, &[0, 0, 0, 0x65], "bad BadOffset 1\nat 86\n"),
+    (ORDER_FILE, 94, &[0, 0, 0, 0x71], "bad BadOffset 2\nat 94\n"),
+    (ORDER_FILE, 76, &[0xFF, 0xFF], "bad Truncated\nat 112\n"),
+    (TINY_FILE, 84, &[0, 0, 0, 0], "bad BadOffset 0\nat 84\n"),
+    (TINY_FILE, 94, &[0, 0, 0, 0x6B], "bad BadOffset 1\nat 94\n"),
+    (
+        TINY_FILE,
+        94,
+        &[0xFF, 0xFF, 0xFF, 0xFF],
+        "bad BadOffset 1\nat 94\n",
+    ),
+];
+
+#[test]
+fn damaged_files_are_told_with_the_place(rt: HostRuntime) -> Result<(), Fail> {
+    for (file, at, bytes, lines) in &DAMAGED {
+        let file = changed(rt.alloc(), file, *at, bytes)?;
+        check_text(rt.alloc(), &file, Status::Refused, lines)?;
+    }
+    check_text(rt.alloc(), b"", Status::Refused, "bad Truncated\nat 0\n")?;
+    check_text(rt.alloc(), b"abc", Status::Refused, "bad Truncated\nat 3\n")
+}

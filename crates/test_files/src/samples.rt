@@ -1,0 +1,57 @@
+//! Files, and what is printed of them.
+
+use file_commands::{cmd_canonical_from, cmd_list_from};
+use palm_text::Counted;
+use program_io::Status;
+use std::alloc::Global;
+use std::test::*;
+use test_support::bytes_of;
+
+/// A file of one record, with a creation date, as it is written.
+pub(crate) const MEMO_FILE: &str = "4d656d6f4442 00*26 0000 0000 e72ea9db 00*20 44415441 6d656d6f \
+    00000000 00000000 0001 00000058 01 000001 0000 68656c6c6f20776f 72";
+
+/// A file of two records, a deleted one without data and a busy one, with both info blocks after the data and bytes
+/// between. Its name has quotes, and each date is another.
+pub(crate) const MIXED_FILE: &str = "2251220a 00*28 8042 0102 ffffffff 00015180 7c25b080 00000007 \
+    00000065 00000063 61001f62 7e7e7e7e 01020304 00000000 0002 \
+    00000000 8f ffffff 00000060 20 000000 0000 4142 43 4449";
+
+/// The most bytes that a file may have.
+const MOST: usize = 16_777_216;
+
+/// What `list` prints of a file, and its status.
+pub(crate) fn listed(alloc: Global, file: &[u8]) -> Result<(Status, Vec<u8>), Fail> {
+    if file.len() > MOST {
+        return Err("a file that is too long")?;
+    }
+    let mut out = Counted::new(Vec::new(alloc));
+    let status = cmd_list_from(&alloc, file, &mut out);
+    Ok((status, out.into_inner()))
+}
+
+/// What `canonical` writes and prints, and its status.
+pub(crate) fn rewritten(alloc: Global, file: &[u8]) -> Result<(Status, Vec<u8>, Vec<u8>), Fail> {
+    if file.len() > MOST {
+        return Err("a file that is too long")?;
+    }
+    let mut file_out = Counted::new(Vec::new(alloc));
+    let mut out = Counted::new(Vec::new(alloc));
+    let status = cmd_canonical_from(&alloc, file, &mut file_out, &mut out);
+    Ok((status, file_out.into_inner(), out.into_inner()))
+}
+
+/// The bytes of a listing in hex, with other bytes from an offset on.
+pub(crate) fn changed(
+    alloc: Global,
+    listing: &str,
+    at: usize,
+    bytes: &[u8],
+) -> Result<Vec<u8>, Fail> {
+    let mut file = bytes_of(alloc, listing)?;
+    if at > file.len() || bytes.len() > file.len() - at {
+        return Err("a change beyond the end")?;
+    }
+    file[at..at + bytes.len()].copy_from_slice(bytes);
+    Ok(file)
+}
