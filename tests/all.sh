@@ -52,6 +52,7 @@ run 'rt perl Palm::PDB txt2pdbdoc pgmtoimgv imgvtopnm' tests/peers.sh
 run 'rt cc python3' bench/check_heap.sh 1 1
 run 'rt' bench/check_store.sh 1
 run 'rt gcc' bench/memory_calls.sh 1 1
+run 'rt gcc' bench/table_calls.sh 1 1
 run 'rt gcc' bench/record_calls.sh 1 1
 run 'rt gcc' bench/files.sh 1 1
 run 'rt gcc awk od' bench/record_script.sh 1000 1
