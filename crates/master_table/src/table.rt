@@ -79,18 +79,14 @@ pub fn resolve_known(region: &Region, known: &KnownTables, name: Name) -> Option
     ensures { MatchOption result (HoldsNothing region.now.bytes name.0)
         (λ place. HoldsPlace region.now.bytes name.0 place.0) }
 {
-    let row = Row::of(region);
-    if let Some(_) = row.number(region, name.0) {
+    if let Some(_) = Row::of(region).number(region, name.0) {
         return place_in(region, name);
-    }
-    if row.is_last() {
-        return None;
     }
     resolve_further(region, known, name)
 }
 
-/// The place that a slot of a further table holds, if one stands there. Apart, so that only what a slot of the first
-/// table needs stands in line.
+/// The same for a name that is no slot of the first table. It is never inlined, so that its callers have only the code
+/// for the first table.
 #[inline(never)]
 fn resolve_further(region: &Region, known: &KnownTables, name: Name) -> Option<Place>
     requires accepted { HeapAccepted region.now.bytes }
@@ -98,11 +94,11 @@ fn resolve_further(region: &Region, known: &KnownTables, name: Name) -> Option<P
     ensures { MatchOption result (HoldsNothing region.now.bytes name.0)
         (λ place. HoldsPlace region.now.bytes name.0 place.0) }
 {
-    if known.has_slot(name.0) {
-        return place_in(region, name);
-    }
     if follows_no_place(region, name.0) {
         return None;
+    }
+    if known.has_slot(name.0) {
+        return place_in(region, name);
     }
     resolve(region, name)
 }
