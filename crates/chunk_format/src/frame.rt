@@ -15,14 +15,14 @@ use raw_region::Region;
 /// The first four bytes of an image of profile PHI1, as a number.
 const MAGIC: u32 = 0x5048_4931;
 
-/// Those of an image of profile PHI2, whose tables are a chain.
-const CHAINED_MAGIC: u32 = 0x5048_4932;
+/// The first four bytes of an image of profile PHI2, whose tables are a chain, as a number.
+pub const CHAINED_MAGIC: u32 = 0x5048_4932;
 
 /// Where the magic stands, in bytes from the image's start.
-const MAGIC_AT: usize = 0;
+pub const MAGIC_AT: usize = 0;
 
 /// Where the size of the image stands.
-const SIZE_AT: usize = 4;
+pub const SIZE_AT: usize = 4;
 
 /// Where the slot count stands.
 const SLOT_COUNT_AT: usize = 8;

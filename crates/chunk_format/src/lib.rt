@@ -22,8 +22,9 @@ mod laws;
 mod walk;
 
 pub use frame::{
-    FRAME_SIZE, NEXT_SIZE, SLOT_SIZE, TABLE_LENGTH, area_start, directory, first_next, has_magic,
-    head_end, is_chained, is_image_size, put_directory, reserved, size_field, slot_count,
+    CHAINED_MAGIC, FRAME_SIZE, MAGIC_AT, NEXT_SIZE, SIZE_AT, SLOT_SIZE, TABLE_LENGTH, area_start,
+    directory, first_next, has_magic, head_end, is_chained, is_image_size, put_directory, reserved,
+    size_field, slot_count,
 };
 pub use header::{
     DATA_OWNER, FIXED_LOCK, HEADER_SIZE, Header, LiveFields, MANAGERS_OWNER, chunk_size,

@@ -31,7 +31,7 @@ pub(crate) const CREATOR_AT: usize = 64;
 
 pub const SEED_AT: usize = 68;
 
-pub(crate) const NEXT_LIST_AT: usize = 72;
+pub const NEXT_LIST_AT: usize = 72;
 
 pub const ENTRY_COUNT_AT: usize = 76;
 
@@ -50,7 +50,7 @@ pub(crate) const RECORD_ID_AT: usize = 5;
 /// Where the fields of a resource's entry stand, behind its type.
 pub(crate) const RESOURCE_ID_AT: usize = 4;
 
-pub(crate) const RESOURCE_DATA_AT: usize = 6;
+pub const RESOURCE_DATA_AT: usize = 6;
 
 /// What the entry of a record takes.
 pub const RECORD_SIZE: usize = 8;

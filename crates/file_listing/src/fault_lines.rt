@@ -10,16 +10,13 @@ ghost use Rattle.palm_text.specs.Pieces.{piece_text};
 ghost use Rattle.canonical_file.specs.Canonical.{most_bytes};
 ghost use Rattle.file_listing.specs.FaultLines as words;
 
-use db_format::{HEADER_SIZE, RECORD_SIZE, RESOURCE_SIZE, has_resources, info_block_at};
+use db_format::{
+    HEADER_SIZE, NEXT_LIST_AT, RECORD_SIZE, RESOURCE_DATA_AT, RESOURCE_SIZE, has_resources,
+    info_block_at,
+};
 use heap_model::{FileFault, Which};
 use palm_text::{Counted, Piece, WriteFault, put_pieces};
 use std::io::Write;
-
-/// Where the header has the offset of a further list of entries.
-const NEXT_LIST_AT: usize = 72;
-
-/// Where the entry of a resource has the offset of its data.
-const RESOURCE_DATA_AT: usize = 6;
 
 const NOTHING: Piece<'static> = Piece::Text(b"");
 

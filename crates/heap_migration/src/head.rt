@@ -6,17 +6,8 @@ ghost use Rattle.heap_model.specs.Slots.{is_chained};
 ghost use Rattle.heap_migration.specs.Growth.{growth as model_growth};
 ghost use Rattle.heap_migration.specs.Writing.{raised, HasHead, WroteFrame, RaisedSlots};
 
-use chunk_format::{FRAME_SIZE, SLOT_SIZE, head_end};
+use chunk_format::{CHAINED_MAGIC, FRAME_SIZE, MAGIC_AT, SIZE_AT, SLOT_SIZE, head_end};
 use raw_region::Region;
-
-/// The first four bytes of an image of profile PHI2, as a number.
-const CHAINED_MAGIC: u32 = 0x5048_4932;
-
-/// Where the magic stands, in bytes from the image's start.
-const MAGIC_AT: usize = 0;
-
-/// Where the size of the image stands.
-const SIZE_AT: usize = 4;
 
 /// By how many bytes an image with so many slots grows: what the word `next` and its padding take.
 pub(crate) fn growth(slots: u16) -> u32

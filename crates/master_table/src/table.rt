@@ -94,11 +94,11 @@ fn resolve_further(region: &Region, known: &KnownTables, name: Name) -> Option<P
     ensures { MatchOption result (HoldsNothing region.now.bytes name.0)
         (λ place. HoldsPlace region.now.bytes name.0 place.0) }
 {
-    if follows_no_place(region, name.0) {
-        return None;
-    }
     if known.has_slot(name.0) {
         return place_in(region, name);
+    }
+    if follows_no_place(region, name.0) {
+        return None;
     }
     resolve(region, name)
 }

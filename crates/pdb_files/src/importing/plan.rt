@@ -9,8 +9,7 @@ ghost use Rattle.heap_model.specs.FileSteps.{size_of_block};
 ghost use Rattle.pdb_format.specs.Blocks.{bytes_at, IsWithin};
 ghost use Rattle.palm_store.specs.WholeDatabases.{header_asked};
 ghost use Rattle.pdb_format.specs.Blocks.{size_within};
-ghost use Rattle.pdb_format.specs.ReadFiles.{header_read};
-ghost use Rattle.pdb_format.specs.ReadFiles.{HasIdsFor};
+ghost use Rattle.pdb_format.specs.ReadFiles.{header_read, HasIdsFor};
 ghost use Rattle.pdb_files.specs.Plans.{IsShort, IsPlannedOf, ArePlannedOf, IsPlan};
 
 use allowance::{Allowance, push};
