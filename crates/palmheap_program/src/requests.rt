@@ -3,11 +3,9 @@
 ghost use Rattle.std.specs.Prelude.{◌≡◌, ◌≢◌, ◌⊎◌};
 ghost use Rattle.clap.specs.Values.{kind_of};
 
-use crate::faults::{STANDARD_OUTPUT, fail};
-use crate::file_listings::{canonical, list};
-use crate::images::{check, migrate, new};
 use crate::scripts::run_script;
 use clap::error::ErrorKind;
+use image_commands::{STANDARD_OUTPUT, canonical, check, fail, list, migrate, new};
 use program_io::command_line::{self, Request};
 use program_io::{Status, report_write_fault};
 use std::rt::Files;

@@ -7,9 +7,9 @@ ghost use Rattle.palmheap_program.specs.Runs.{EndsEarly, EndsRun, PrintingFails,
 ghost use Rattle.palmheap_program.specs.Runs.{RunsAndFlushes, RunsAndWrites, RunsScriptShort};
 ghost use Rattle.allowance.specs.Refusals.{GrowthRefused};
 
-use crate::image_output::put_store;
 use allowance::Allowance;
 use heap_model::Bytes;
+use image_commands::put_store;
 use palm_script::{RunFault, Script, ScriptFault, run_from};
 use palm_store::{NotAStore, Store, StoreFault};
 use palm_text::Counted;

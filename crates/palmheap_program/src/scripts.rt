@@ -2,10 +2,9 @@
 
 ghost use Rattle.std.specs.Prelude.{◌≡◌, ◌≢◌, ◌⊎◌, IfErr};
 
-use crate::faults::{STANDARD_OUTPUT, fail};
-use crate::files::{read_file, read_files, read_image, write_files};
 use crate::run_command::run_region_from;
 use heap_model::Bytes;
+use image_commands::{STANDARD_OUTPUT, fail, read_file, read_files, read_image, write_files};
 use palm_text::Counted;
 use program_io::{Noted, OutputFile, Status, report_outcome};
 use raw_region::Region;

@@ -2,7 +2,7 @@
 
 use crate::runs::{BOTH_USED, CHAINED, ONE_FURTHER, TWO_TABLES, check_told};
 use palm_text::Counted;
-use palmheap_program::{cmd_check, cmd_new};
+use image_commands::{cmd_check, cmd_new};
 use program_io::Status;
 use std::alloc::Global;
 use std::io::{ErrorKind, Write};

@@ -7,7 +7,7 @@ use crate::grammar::{What, count_of};
 use crate::runs::{Ran, run_on};
 use palm_script::{parse, run};
 use palm_text::Counted;
-use palmheap_program::cmd_new;
+use image_commands::cmd_new;
 use program_io::{INPUT_LIMIT, Status};
 use std::alloc::{AllocError, Global};
 use std::test::Fail;

@@ -3,7 +3,7 @@
 use crate::runs::{CHAINED, TWO_TABLES, check_lines};
 use chunk_format::blank;
 use palm_text::Counted;
-use palmheap_program::cmd_migrate;
+use image_commands::cmd_migrate;
 use program_io::Status;
 use std::alloc::Global;
 use std::io::{ErrorKind, Write};

@@ -12,7 +12,7 @@ use std::io;
 use std::rt::Files;
 
 /// Runs `new`.
-pub(crate) fn new<R: Files + Print + Eprint + AllocGlobal>(
+pub fn new<R: Files + Print + Eprint + AllocGlobal>(
     rt: &R,
     size: u32,
     slots: u16,
@@ -35,7 +35,7 @@ pub(crate) fn new<R: Files + Print + Eprint + AllocGlobal>(
 }
 
 /// Runs `check`.
-pub(crate) fn check<R: Files + Print + Eprint + AllocGlobal>(rt: &R, path: &str) -> Status
+pub fn check<R: Files + Print + Eprint + AllocGlobal>(rt: &R, path: &str) -> Status
     ensures { result ≢ Status.BadWords }
 {
     let image = match read_image(rt, path) {
@@ -50,11 +50,7 @@ pub(crate) fn check<R: Files + Print + Eprint + AllocGlobal>(rt: &R, path: &str)
 }
 
 /// Runs `migrate`.
-pub(crate) fn migrate<R: Files + Print + Eprint + AllocGlobal>(
-    rt: &R,
-    image: &str,
-    path: &str,
-) -> Status
+pub fn migrate<R: Files + Print + Eprint + AllocGlobal>(rt: &R, image: &str, path: &str) -> Status
     ensures { result ≢ Status.BadWords }
 {
     let image = match read_image(rt, image) {

@@ -14,10 +14,7 @@ use std::fs::File;
 use std::rt::Files;
 
 /// All of a file.
-pub(crate) fn read_file<R: Files + Eprint + AllocGlobal>(
-    rt: &R,
-    path: &str,
-) -> Result<Vec<u8>, Status>
+pub fn read_file<R: Files + Eprint + AllocGlobal>(rt: &R, path: &str) -> Result<Vec<u8>, Status>
     ensures limit { IfOk result (λ bytes. vec_len bytes ≤ INPUT_LIMIT) }
     ensures faults { IfErr result (λ status. (status ≡ Status.ReadFault) ⊎ (status ≡ Status.NoMemory)) }
 {
@@ -32,10 +29,7 @@ pub(crate) fn read_file<R: Files + Eprint + AllocGlobal>(
 }
 
 /// All of a file, in a region.
-pub(crate) fn read_image<R: Files + Eprint + AllocGlobal>(
-    rt: &R,
-    path: &str,
-) -> Result<Region, Status>
+pub fn read_image<R: Files + Eprint + AllocGlobal>(rt: &R, path: &str) -> Result<Region, Status>
     ensures limit { IfOk result (λ region. length region.bytes ≤ INPUT_LIMIT) }
     ensures faults { IfErr result (λ status. (status ≡ Status.ReadFault) ⊎ (status ≡ Status.NoMemory)) }
 {
@@ -47,7 +41,7 @@ pub(crate) fn read_image<R: Files + Eprint + AllocGlobal>(
 }
 
 /// All of some files, in order.
-pub(crate) fn read_files<R: Files + Eprint + AllocGlobal>(
+pub fn read_files<R: Files + Eprint + AllocGlobal>(
     rt: &R,
     paths: &[&str],
 ) -> Result<Vec<Bytes>, Status>
@@ -66,11 +60,7 @@ pub(crate) fn read_files<R: Files + Eprint + AllocGlobal>(
 
 /// Writes each exported file beside the image, the first one to the image's path with `.1` behind it. Those
 /// behind one that can't be written aren't written.
-pub(crate) fn write_files<R: Files + Eprint + AllocGlobal>(
-    rt: &R,
-    path: &str,
-    files: &[Bytes],
-) -> Status
+pub fn write_files<R: Files + Eprint + AllocGlobal>(rt: &R, path: &str, files: &[Bytes]) -> Status
     ensures { (result ≡ Status.Done) ⊎ (result ≡ Status.WriteFault) ⊎ (result ≡ Status.NoMemory) }
 {
     for (index, file) in files.iter().enumerate() {

@@ -6,10 +6,10 @@ ghost use Rattle.program_io.specs.Status.{status_of};
 use program_io::{InputFault, Status, report_fault, report_input_fault};
 
 /// What standard output is called where it fails.
-pub(crate) const STANDARD_OUTPUT: &str = "standard output";
+pub const STANDARD_OUTPUT: &str = "standard output";
 
 /// Says what kept a command from its start, and answers it.
-pub(crate) fn fail<R: Eprint>(rt: &R, status: Status) -> Status
+pub fn fail<R: Eprint>(rt: &R, status: Status) -> Status
     ensures { result ≡ status }
 {
     report_fault(rt, status);

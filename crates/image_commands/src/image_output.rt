@@ -20,10 +20,7 @@ pub(crate) fn put_image<W: Write>(
 
 /// Writes the whole image of a store, and flushes.
 #[tactic(auto, using(palm_text::proofs::Parts::then_flush))]
-pub(crate) fn put_store<W: Write>(
-    image_out: &mut Counted<W>,
-    store: &Store,
-) -> Result<(), WriteFault>
+pub fn put_store<W: Write>(image_out: &mut Counted<W>, store: &Store) -> Result<(), WriteFault>
     ensures { Puts W.contents image_out.old image_out.new store.now.bytes (is_ok result) }
 {
     store.write_image(image_out)?;

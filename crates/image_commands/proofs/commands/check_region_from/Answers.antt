@@ -1,5 +1,5 @@
 use Rattle.std.proofs.Common.{rules}
-use Rattle.palmheap_program.proofs.commands.check_region_from.Goals as goal
+use Rattle.image_commands.proofs.commands.check_region_from.Goals as goal
 
 pub returns-in-Err-2-clause-ends : goal.returns-in-Err-2-clause-ends
 returns-in-Err-2-clause-ends g c = record {

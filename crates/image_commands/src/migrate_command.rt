@@ -4,7 +4,7 @@ ghost use Rattle.std.specs.Prelude.{◌≡◌, ◌⊎◌, Err, IfOk, IfErr, OnOk
 ghost use Rattle.heap_model.specs.Store.{Accepted};
 ghost use Rattle.heap_migration.specs.Stores.{IsMigrated};
 ghost use Rattle.program_io.specs.FaultLines.{PutsBad};
-ghost use Rattle.palmheap_program.specs.Migrating.{EndsMigrate, IsNotMigrated};
+ghost use Rattle.image_commands.specs.Migrating.{EndsMigrate, IsNotMigrated};
 ghost use Rattle.allowance.specs.Refusals.{GrowthRefused};
 
 use crate::image_output::put_store;

@@ -12,7 +12,7 @@ use std::io::BufWriter;
 use std::rt::Files;
 
 /// Runs `list`.
-pub(crate) fn list<R: Files + Print + Eprint + AllocGlobal>(rt: &R, path: &str) -> Status
+pub fn list<R: Files + Print + Eprint + AllocGlobal>(rt: &R, path: &str) -> Status
     ensures { result ≢ Status.BadWords }
 {
     let file = match read_file(rt, path) {
@@ -32,7 +32,7 @@ pub(crate) fn list<R: Files + Print + Eprint + AllocGlobal>(rt: &R, path: &str) 
 }
 
 /// Runs `canonical`.
-pub(crate) fn canonical<R: Files + Print + Eprint + AllocGlobal>(
+pub fn canonical<R: Files + Print + Eprint + AllocGlobal>(
     rt: &R,
     path: &str,
     out_path: &str,

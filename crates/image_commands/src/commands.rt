@@ -1,7 +1,7 @@
 //! The commands `new` and `check`, over bytes and writers.
 
 ghost use Rattle.std.specs.Prelude.{◌≡◌, IfOk, OnErr, string_bytes};
-ghost use Rattle.palmheap_program.specs.Commands.{EndsCheck, EndsNew, heap_line, summary_lines};
+ghost use Rattle.image_commands.specs.Commands.{EndsCheck, EndsNew, heap_line, summary_lines};
 ghost use Rattle.allowance.specs.Refusals.{GrowthRefused};
 
 use crate::image_output::put_image;
