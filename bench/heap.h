@@ -39,7 +39,7 @@ enum { CLASSES = 21 };
 enum { NEXT = 4, TABLE_SLOTS = 15 };
 
 /* How many tables are remembered at most, each by the block of so many bytes in which its body begins. */
-enum { KNOWN = 8192, BLOCK = 64 };
+enum { KNOWN = 8192, BLOCK = 64, REACH = 7 };
 
 /* How many chunks of a list are looked at, at most, for one that a chunk grows over; and more than any list has. */
 enum { FEW_PROBES = 64, ALL_PROBES = 0x200000 };
@@ -176,29 +176,49 @@ static bool is_slot_of(const struct heap *heap, uint32_t place, uint32_t name)
            name < place + NEXT + 4 * slots_at(heap, place);
 }
 
-/* Remembers a table of 15 slots at least, unless another one stands in its entry. */
+/* Remembers a table of 15 slots at least, in the entry of its block or in the first empty one of the next seven. */
 static void remember(struct heap *heap, uint32_t place)
 {
-    uint32_t *entry = &heap->known[place / BLOCK % KNOWN];
-    if (*entry == 0 && slots_at(heap, place) >= TABLE_SLOTS)
-        *entry = place;
+    if (slots_at(heap, place) < TABLE_SLOTS)
+        return;
+    for (uint32_t step = 0; step <= REACH; step++) {
+        uint32_t *entry = &heap->known[(place / BLOCK + step) % KNOWN];
+        if (*entry == 0) {
+            *entry = place;
+            return;
+        }
+    }
 }
 
-/* Whether one of the first slots of a table that is remembered is at an offset. Its body begins in the same block or
- * in the one before. */
+/* Whether a name is one of the words after the first of a body. At 0 is none. */
+static bool is_word_of(uint32_t place, uint32_t name)
+{
+    uint32_t behind = name - place;
+    return place != 0 && behind < BLOCK && behind % 4 == 0 && behind != 0;
+}
+
+/* Whether one of the first slots of a table that is remembered in the entry of its block is at an offset. Its body
+ * begins in the same block or in the one before. */
 static bool is_known_slot(const struct heap *heap, uint32_t name)
 {
     uint32_t here = heap->known[name / BLOCK % KNOWN];
     uint32_t before = heap->known[(name / BLOCK - 1) % KNOWN];
-    uint32_t place = here != 0 && here < name ? here : before;
-    uint32_t behind = name - place;
-    return place != 0 && behind < BLOCK && behind % 4 == 0 && behind != 0;
+    return is_word_of(here != 0 && here < name ? here : before, name);
+}
+
+/* The same for a table in any of its entries. */
+static bool is_known_further_on(const struct heap *heap, uint32_t name)
+{
+    for (uint32_t step = 0; step <= REACH + 1; step++)
+        if (is_word_of(heap->known[(name / BLOCK - 1 + step) % KNOWN], name))
+            return true;
+    return false;
 }
 
 /* Whether a further table has a slot at an offset. */
 static bool is_further_slot(const struct heap *heap, uint32_t name)
 {
-    if (is_known_slot(heap, name))
+    if (is_known_slot(heap, name) || is_known_further_on(heap, name))
         return true;
     for (uint32_t place = first_next(heap); place != 0; place = u32_at(heap->image, place))
         if (is_slot_of(heap, place, name))
@@ -681,18 +701,6 @@ static bool make_blank(struct heap *heap, uint32_t size, uint32_t slots)
     put_u32(heap->image, 4, size);
     put_u16(heap->image, 8, slots);
     put_free(heap, start, size - start);
-    return true;
-}
-
-/* Makes an image with one slot, and then so many further tables. */
-static bool make_chained(struct heap *heap, uint32_t size, uint32_t tables)
-{
-    if (!make_blank(heap, size, 1))
-        return false;
-    put_u32(heap->image, 0, CHAINED_MAGIC);
-    for (uint32_t i = 0; i < tables; i++)
-        if (more_slots(heap) != DONE)
-            return false;
     return true;
 }
 

@@ -18,6 +18,8 @@ cd "$(dirname "$0")/.."
 kinds='lock_and_unlock\|size\|owner\|locks\|read\|write\|filling\|anywhere\|at_the_end'
 
 build_both table_calls tables
-print_table "4000 further tables of 15 slots" "$kinds" 16777208 60000 16 "$rounds"
+print_table "4000 further tables of 15 slots in a row" "$kinds" 16777208 60000 16 "$rounds"
+build_both table_calls tables_apart -DAPART
+print_table "4000 further tables of 15 slots, with 8 to 1032 free bytes between them" "$kinds" 16777208 60000 16 "$rounds"
 build_both memory_calls memory
 print_table "one table of 60000 slots" "$kinds" 16777208 60000 16 "$rounds"

@@ -8,10 +8,10 @@
 work=$(mktemp -d)
 trap 'rm -rf "$work"' EXIT
 
-# build_both NAME BENCHMARK: builds the C program bench/NAME.c and the Rattle program crates/benchmarks, and notes
-# which of its benchmarks is run.
+# build_both NAME BENCHMARK [FLAG]: builds the C program bench/NAME.c, with a flag of gcc, and the Rattle program
+# crates/benchmarks, and notes which of its benchmarks is run.
 build_both() {
-    gcc -O2 -o "$work/c" "bench/$1.c"
+    gcc -O2 ${3:+"$3"} -o "$work/c" "bench/$1.c"
     if ! (cd crates/benchmarks && rt run) >"$work/log" 2>&1; then
         cat "$work/log"
         exit 1

@@ -6,6 +6,7 @@
 //! benchmarks stores REPEATS
 //! benchmarks memory SIZE SLOTS PASSES ROUNDS
 //! benchmarks tables SIZE SLOTS PASSES ROUNDS
+//! benchmarks tables_apart SIZE SLOTS PASSES ROUNDS
 //! benchmarks records SIZE SLOTS RECORDS CALLS PASSES ROUNDS
 //! benchmarks files SIZE SLOTS RECORDS BYTES ROUNDS
 //! ```
@@ -25,6 +26,7 @@ mod timing;
 mod work;
 
 use anyhow::Result;
+use memory::{TABLES_APART, TABLES_IN_A_ROW};
 use std::env;
 use std::fs::Files;
 use std::process::ExitCode;
@@ -33,7 +35,8 @@ use work::{Field, Work};
 
 /// What is said of wrong words.
 const USAGE: &str = "usage: benchmarks [check [IMAGE REPEATS] | stores [REPEATS] \
-    | memory [SIZE SLOTS PASSES ROUNDS] | tables [SIZE SLOTS PASSES ROUNDS] | records [SIZE SLOTS RECORDS CALLS PASSES ROUNDS] \
+    | memory [SIZE SLOTS PASSES ROUNDS] | tables [SIZE SLOTS PASSES ROUNDS] | tables_apart [SIZE SLOTS PASSES ROUNDS] \
+    | records [SIZE SLOTS RECORDS CALLS PASSES ROUNDS] \
     | files [SIZE SLOTS RECORDS BYTES ROUNDS]]";
 
 /// A benchmark.
@@ -43,16 +46,23 @@ enum Benchmark {
     Stores,
     Memory,
     Tables,
+    TablesApart,
     Records,
     Files,
 }
 
 /// The benchmarks by their names, each with what the words behind it say, and with its least work.
-static BENCHMARKS: [(&str, Benchmark, &[Field], Work<'static>); 6] = [
+static BENCHMARKS: [(&str, Benchmark, &[Field], Work<'static>); 7] = [
     ("check", Benchmark::Check, &check::FIELDS, check::LEAST),
     ("stores", Benchmark::Stores, &stores::FIELDS, stores::LEAST),
     ("memory", Benchmark::Memory, &memory::FIELDS, memory::LEAST),
     ("tables", Benchmark::Tables, &memory::FIELDS, memory::LEAST),
+    (
+        "tables_apart",
+        Benchmark::TablesApart,
+        &memory::FIELDS,
+        memory::LEAST,
+    ),
     (
         "records",
         Benchmark::Records,
@@ -113,7 +123,8 @@ impl Benchmark {
             Benchmark::Check => check::run(rt, work),
             Benchmark::Stores => stores::run(rt, work),
             Benchmark::Memory => memory::run(rt, work),
-            Benchmark::Tables => memory::run_chained(rt, work),
+            Benchmark::Tables => memory::run_chained(rt, work, TABLES_IN_A_ROW),
+            Benchmark::TablesApart => memory::run_chained(rt, work, TABLES_APART),
             Benchmark::Records => records::run(rt, work),
             Benchmark::Files => files::run(rt, work),
         }

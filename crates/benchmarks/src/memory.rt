@@ -20,6 +20,7 @@ use crate::work::{Field, NONE, Work};
 use anyhow::Result;
 use chunk_format::blank;
 use heaps::{Original, TABLE_SLOTS, chained_heap, full, one_class};
+pub(crate) use heaps::{TABLES_APART, TABLES_IN_A_ROW};
 use load::{Call, Load};
 use mem_manager::Heap;
 use std::alloc::Global;
@@ -87,14 +88,21 @@ pub(crate) fn run(rt: &(impl CpuClock + Print + AllocGlobal), work: Work<'_>) ->
     Ok(())
 }
 
-/// Times the calls on a heap under load whose slots stand in further tables.
+/// Times the calls on a heap under load whose slots are in further tables, with free bytes between two of them: fewer than
+/// `most_between`, and the header of a chunk.
 #[inline(never)]
 pub(crate) fn run_chained(
     rt: &(impl CpuClock + Print + AllocGlobal),
     work: Work<'_>,
+    most_between: u32,
 ) -> Result<()> {
     let mut sums = Sums::new();
-    let heap = chained_heap(rt.alloc(), work.size, work.slots / TABLE_SLOTS)?;
+    let heap = chained_heap(
+        rt.alloc(),
+        work.size,
+        work.slots / TABLE_SLOTS,
+        most_between,
+    )?;
     time_load(rt, work, heap, &mut sums)?;
     sums.print(rt)?;
     Ok(())

@@ -1,6 +1,6 @@
 //! Further tables that are remembered, so that a slot of theirs is found without a walk along the chain.
 
-ghost use Rattle.std.specs.Prelude.{◌≡◌, ◌<◌, ℕ, List};
+ghost use Rattle.std.specs.Prelude.{◌≡◌, ◌<◌, ◌^◌, ℕ, List, IfSome};
 ghost use Rattle.std.specs.Bool.{OnTrue};
 ghost use Rattle.heap_model.specs.Slots.{IsSlot, further_tables};
 ghost use Rattle.heap_model.specs.Heap.{IsTablePlace};
@@ -19,8 +19,11 @@ const ENTRIES: usize = 8_192;
 /// and in the next one.
 const BLOCK_SIZE: u32 = TABLE_LENGTH;
 
-/// The places of further tables that have 15 slots or more, each in the entry of the block in which its body begins.
-/// An entry without one is 0. Contracts see the entries as a list.
+/// How many entries after that of its block a table may be in, if all before are taken.
+const REACH: u32 = 7;
+
+/// The places of further tables that have 15 slots or more, each in the entry of the block in which its body begins, or in
+/// one of the next seven. An entry without one is 0. Contracts see the entries as a list.
 #[derive(Drop)]
 pub struct KnownTables {
     places: [u32; ENTRIES],
@@ -45,7 +48,7 @@ impl KnownTables {
     }
 
     /// The tables of a chain, which is gone through once. A table is left out if it has fewer than 15 slots, or if
-    /// another one is in its entry.
+    /// others are in all entries that it may be in.
     pub fn of(region: &Region) -> KnownTables
         requires { IsTiled region.now.bytes }
         ensures { KnowsTables region.now.bytes result }
@@ -71,23 +74,51 @@ impl KnownTables {
         }
     }
 
-    /// Remembers a table of 15 slots or more by its place, unless another one is in its entry.
+    /// Remembers a table of 15 slots or more by its place, unless others are in all entries that it may be in.
     pub fn remember(&mut self, place: Place)
         ensures { Remembers self.old self.new place.0 }
     {
-        let entry = entry_of(place.0 / BLOCK_SIZE);
-        if self.places[entry] == 0 {
+        if let Some(entry) = self.free_entry(place.0 / BLOCK_SIZE) {
             self.places[entry] = place.0;
         }
     }
 
-    /// Whether one of the first 15 slots of a table that is remembered stands at an offset.
+    /// The first empty entry in which a table of a block may be.
+    fn free_entry(&self, block: u32) -> Option<usize>
+        requires { block < 2 ^ 31 }
+        ensures { IfSome result (λ entry. entry < 8192) }
+    {
+        for step in 0..=REACH {
+            let entry = entry_of(block + step);
+            if self.places[entry] == 0 {
+                return Some(entry);
+            }
+        }
+        None
+    }
+
+    /// Whether one of the first 15 slots of a table stands at an offset, for a table in the entry of its block.
     #[inline]
     pub(crate) fn has_slot(&self, slot: u32) -> bool
         ensures { OnTrue result
             ((image : List ℕ) → KnowsTables image self.now → IsSlot image slot) }
     {
         is_word_of(self.table_before(slot), slot)
+    }
+
+    /// Whether one of the first 15 slots of a table that is remembered stands at an offset, in whichever entry the table
+    /// is.
+    pub(crate) fn has_slot_further_on(&self, slot: u32) -> bool
+        ensures { OnTrue result
+            ((image : List ℕ) → KnowsTables image self.now → IsSlot image slot) }
+    {
+        let before = slot / BLOCK_SIZE + (ENTRIES as u32 - 1);
+        for step in 0..=REACH + 1 {
+            if is_word_of(self.places[entry_of(before + step)], slot) {
+                return true;
+            }
+        }
+        false
     }
 
     /// The place of the table whose first slots may stand at an offset: its body begins in the same block, or in the

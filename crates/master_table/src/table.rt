@@ -100,6 +100,9 @@ fn resolve_further(region: &Region, known: &KnownTables, name: Name) -> Option<P
     if follows_no_place(region, name.0) {
         return None;
     }
+    if known.has_slot_further_on(name.0) {
+        return place_in(region, name);
+    }
     resolve(region, name)
 }
 

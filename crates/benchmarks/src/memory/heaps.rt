@@ -48,13 +48,32 @@ impl Original {
     }
 }
 
-/// A heap with one slot in its first table, and then so many further tables.
-pub(crate) fn chained_heap(alloc: Global, size: u32, tables: u16) -> Result<Heap> {
+/// Between two tables is nothing.
+pub(crate) const TABLES_IN_A_ROW: u32 = 0;
+
+/// Between two tables are fewer free bytes than this, and the header of a chunk.
+pub(crate) const TABLES_APART: u32 = 1_021;
+
+/// Returns a heap with one slot in its first table and `tables` further tables. A chunk of fewer than `most_between` bytes
+/// was made after each of these and freed at the end, unless that is 0.
+pub(crate) fn chained_heap(
+    alloc: Global,
+    size: u32,
+    tables: u16,
+    most_between: u32,
+) -> Result<Heap> {
     let mut region = blank(alloc, size, 1)?;
     region.write(0, &CHAINED_MAGIC);
     let mut heap = Heap::adopt(region)?;
-    for _ in 0..tables {
+    let mut between = Vec::new(alloc);
+    for table in 0..u32::from(tables) {
         heap.more_slots()?;
+        if most_between > 0 {
+            between.push(heap.handle_new(table * 7_919 % most_between, OWNER)?)?;
+        }
+    }
+    for name in between {
+        heap.free(name)?;
     }
     Ok(heap)
 }
