@@ -85,7 +85,9 @@ fn check_chained_noting(region: &Region, owners: &mut [u8]) -> Result<Summary, H
     Ok(summary)
 }
 
-/// Checks the chunks and the slots behind a right head, with marks of its own.
+/// Checks the chunks and the slots after a right head, with marks of its own. It is never inlined: next to the code for
+/// chains the walk has too few registers.
+#[inline(never)]
 fn check_with_marks(region: &Region) -> Result<Summary, HeapFault>
     requires head { IsHead region.now.bytes }
     requires plain { model_chained region.now.bytes ≡ false }
