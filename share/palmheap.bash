@@ -1,0 +1,10 @@
+# Completion of palmheap's words in bash.
+_palmheap() {
+    local word=${COMP_WORDS[COMP_CWORD]}
+    if [ "$COMP_CWORD" = 1 ] || { [ "$COMP_CWORD" = 2 ] && [ "${COMP_WORDS[1]}" = help ]; }; then
+        mapfile -t COMPREPLY < <(compgen -W 'list canonical new check run migrate help --help --version' -- "$word")
+    else
+        mapfile -t COMPREPLY < <(compgen -f -- "$word")
+    fi
+}
+complete -o filenames -F _palmheap palmheap
