@@ -48,6 +48,7 @@ run 'rt python3' ./palmheap --version
 run 'grep' tests/growths.sh
 run 'rt' tests/program.sh
 run 'rt cmp' tests/hostile.sh
+run 'rt awk diff' tests/maps.sh
 run 'rt perl Palm::PDB txt2pdbdoc pgmtoimgv imgvtopnm' tests/peers.sh
 run 'rt cc python3' bench/check_heap.sh 1 1
 run 'rt' bench/check_store.sh 1

@@ -6,8 +6,8 @@
 #
 # PROGRAM is the one that ../palmheap builds, if none is given. It needs Debian's packages libpalm-perl and libpalm-pdb-perl (the
 # modules Palm::PDB, Palm::Memo and Palm::Address), txt2pdbdoc, and imgvtopgm. For each file it prints how many
-# bytes there were and are, and how many of them differ where both have one. Each case that fails has a line on
-# standard error; the status is 1 then. The gate runs none of this.
+# bytes there were and are, how many of them differ where both have one, and what `palmheap list` says of that. Each
+# case that fails has a line on standard error; the status is 1 then. The gate runs none of this.
 top=$(cd -- "$(dirname -- "$0")/.." && pwd)
 program=${1:-$top/crates/palmheap/out/palmheap}
 if [ $# = 0 ]; then
@@ -31,6 +31,18 @@ is() {
     failed=1
 }
 
+# rewrite FILE: the file that was exported is the canonical form, and the listing says `canonical` if that has the same
+# bytes as the file
+rewrite() {
+    "$program" canonical "$1" "$1.form" >printed && "$program" list - <"$1" >listed || failed=1
+    is "$1" "$1.out" "$1.form"
+    case $(tail -n 1 listed) in
+        canonical) is "$1" "$1" "$1.form" ;;
+        'changes '*) ! cmp -s "$1" "$1.form" || { printf '%s: nothing changes\n' "$1" >&2; failed=1; } ;;
+        *) printf '%s: no last line\n' "$1" >&2; failed=1 ;;
+    esac
+}
+
 # through FILE: imports a file and exports it, to FILE.out
 through() {
     printf 'import d 1\nexport d\n' >calls.txt
@@ -39,8 +51,9 @@ through() {
         failed=1
     fi
     mv after.img.1 "$1.out" || exit 1
-    printf '%-12s %7s bytes, %7s written, %s of them others\n' "$1" "$(wc -c <"$1")" "$(wc -c <"$1.out")" \
-        "$(cmp -l "$1" "$1.out" 2>/dev/null | wc -l)"
+    rewrite "$1"
+    printf '%-12s %7s bytes, %7s written, %s of them others: %s\n' "$1" "$(wc -c <"$1")" "$(wc -c <"$1.out")" \
+        "$(cmp -l "$1" "$1.out" 2>/dev/null | wc -l)" "$(tail -n 1 listed)"
 }
 
 # Prints all that Palm::PDB reads from a file.

@@ -1,14 +1,16 @@
 -- What is written and then flushed.
-use Rattle.std.proofs.Common.{ℕ, Bool, true, false, Option, List, subst, inl}
+use Rattle.std.proofs.Common.{◌++◌, ℕ, Bool, true, false, Option, List, subst, inl}
 use Rattle.heap_model.specs.Files.{IsFirstFault}
 use Rattle.heap_model.specs.declared.file_fault.FileFault.{FileFault}
 use Rattle.palm_text.specs.Counted.{Writing, Flushes}
 use Rattle.palm_text.specs.Output.{Puts}
 use Rattle.palm_text.proofs.Parts.{then_flush}
 use Rattle.canonical_file.specs.Canonical.{WritesCanonical, WroteCanonical}
+use Rattle.file_changes.specs.Changes.{AreChanges, changes_line}
 use Rattle.file_listing.specs.FaultLines.{fault_lines}
 use Rattle.file_listing.specs.Listing.{WritesListing}
-use Rattle.file_commands.specs.Ends.{PutsListing, PutsFault, PutsCanonical, PutsPart, WroteWhole, count_line}
+use Rattle.file_commands.specs.declared.faults.Rewritten.{Rewritten}
+use Rattle.file_commands.specs.Ends.{PutsListing, PutsFault, PutsCanonical, PutsPart, WroteWhole, count_line, rewritten_lines}
 
 module _ {V : Type 0} (contents : V → Option (List ℕ)) where
   pub puts_fault : (old new : Writing V) (file : List ℕ) (fault : FileFault) (ok : Bool) → IsFirstFault file fault → Puts contents old new (fault_lines file fault) ok → PutsFault file contents old new ok
@@ -23,8 +25,14 @@ module _ {V : Type 0} (contents : V → Option (List ℕ)) where
   listing_stops old new file listing = (listing.0, listing.1, inl listing.2)
 
   -- a canonical form, and the flush after it
-  pub puts_whole : (old between new : Writing V) (file : List ℕ) (count : ℕ) → WroteCanonical file contents old between count → Flushes contents between new true → WroteWhole file contents old new count
-  puts_whole old between new file count wrote flush = (wrote.0, wrote.1, wrote.2, then_flush contents old between new wrote.0 true wrote.3 flush)
+  pub puts_whole : (old between new : Writing V) (file : List ℕ) (rewritten : Rewritten) → AreChanges file rewritten.changes → WroteCanonical file contents old between rewritten.count → Flushes contents between new true → WroteWhole file contents old new rewritten
+  puts_whole old between new file rewritten changes wrote flush = record {
+    bytes = wrote.0;
+    canonical = wrote.1;
+    count = wrote.2;
+    changes = changes;
+    written = then_flush contents old between new wrote.0 true wrote.3 flush;
+  }
 
   -- that flush failed
   pub flush_fails : (old between new : Writing V) (file : List ℕ) (count : ℕ) → WroteCanonical file contents old between count → Flushes contents between new false → PutsPart file contents old new
@@ -34,12 +42,15 @@ module _ {V : Type 0} (contents : V → Option (List ℕ)) where
   pub canonical_stops : (old new : Writing V) (file : List ℕ) → WritesCanonical file contents old new false → PutsPart file contents old new
   canonical_stops old new file writes = (writes.0, writes.1, inl writes.2)
 
--- the line after the whole form
-pub told : {W V : Type 0} (file_contents : W → Option (List ℕ)) (contents : V → Option (List ℕ)) (file_old file_new : Writing W) (old new : Writing V) (file : List ℕ) (count : ℕ) (ok : Bool)
-    → WroteWhole file file_contents file_old file_new count → Puts contents old new (count_line count) ok → PutsCanonical file file_contents file_old file_new contents old new ok
-told file_contents contents file_old file_new old new file count ok whole line = record {
-  bytes = whole.0;
-  canonical = whole.1;
-  written = whole.3;
-  told = subst (λ (n : ℕ). Puts contents old new (count_line n) ok) whole.2 line;
+-- the lines after the whole form
+pub told : {W V : Type 0} (file_contents : W → Option (List ℕ)) (contents : V → Option (List ℕ)) (file_old file_new : Writing W) (old new : Writing V) (file : List ℕ) (rewritten : Rewritten) (ok : Bool)
+    → WroteWhole file file_contents file_old file_new rewritten → Puts contents old new (rewritten_lines rewritten) ok → PutsCanonical file file_contents file_old file_new contents old new ok
+unfolding rewritten_lines
+told file_contents contents file_old file_new old new file rewritten ok whole lines = record {
+  bytes = whole.bytes;
+  canonical = whole.canonical;
+  written = whole.written;
+  changes = rewritten.changes;
+  changes_are = whole.changes;
+  told = subst (λ (n : ℕ). Puts contents old new (count_line n ++ changes_line rewritten.changes) ok) whole.count lines;
 }

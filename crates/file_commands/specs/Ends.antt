@@ -6,8 +6,11 @@ use Rattle.heap_model.specs.declared.file_fault.FileFault.{FileFault}
 use Rattle.palm_text.specs.Counted.{Writing}
 use Rattle.palm_text.specs.Output.{Puts}
 use Rattle.canonical_file.specs.Canonical.{IsCanonical}
+use Rattle.file_changes.specs.declared.changes.Changes.{Changes}
+use Rattle.file_changes.specs.Changes.{AreChanges, changes_line}
 use Rattle.file_listing.specs.Listing.{IsListing}
 use Rattle.file_listing.specs.FaultLines.{fault_lines}
+use Rattle.file_commands.specs.declared.faults.Rewritten.{Rewritten}
 use Rattle.program_io.specs.declared.status.Status.{Status}
 use Rattle.program_io.specs.declared.status.Status.TheVariants.{Done, Refused, BadWords, ReadFault, WriteFault, NoMemory}
 
@@ -29,26 +32,36 @@ pub record EndsList {V : Type 0} (file : List ℕ) (contents : V → Option (Lis
   pub reads_nothing : status ≢ ReadFault
 
 -- the line that says how many bytes were written
-abbrev pub count_line : ℕ → List ℕ
+unfoldable pub count_line : ℕ → List ℕ
 count_line count = codes "ok " ++ (decimal count ++ codes "\n")
 
--- the canonical form of a file, and the line for it
+-- that line, and the one that says what changed
+unfoldable pub rewritten_lines : Rewritten → List ℕ
+rewritten_lines rewritten = count_line rewritten.count ++ changes_line rewritten.changes
+
+-- the canonical form of a file, and the lines for it
 pub record PutsCanonical {W V : Type 0} (file : List ℕ) (file_contents : W → Option (List ℕ)) (file_old file_new : Writing W) (contents : V → Option (List ℕ)) (old new : Writing V) (ok : Bool) : Type 0 where
   pub bytes : List ℕ
   pub canonical : IsCanonical file bytes
   pub written : Puts file_contents file_old file_new bytes true
-  pub told : Puts contents old new (count_line (length bytes)) ok
+  pub changes : Changes
+  pub changes_are : AreChanges file changes
+  pub told : Puts contents old new (count_line (length bytes) ++ changes_line changes) ok
 
--- the whole canonical form, which has so many bytes
-abbrev pub WroteWhole : {W : Type 0} → List ℕ → (W → Option (List ℕ)) → Writing W → Writing W → ℕ → Type 0
-WroteWhole file contents old new count = (bytes : List ℕ) × IsCanonical file bytes × (count ≡ length bytes) × Puts contents old new bytes true
+-- the whole canonical form, which has so many bytes, and in which these are the changes
+pub record WroteWhole {W : Type 0} (file : List ℕ) (contents : W → Option (List ℕ)) (old new : Writing W) (rewritten : Rewritten) : Type 0 where
+  pub bytes : List ℕ
+  pub canonical : IsCanonical file bytes
+  pub count : rewritten.count ≡ length bytes
+  pub changes : AreChanges file rewritten.changes
+  pub written : Puts contents old new bytes true
 
--- the canonical form without the line: a write of it failed, or the flush after it
+-- the canonical form without the lines: a write of it failed, or the flush after it
 abbrev pub PutsPart : {W : Type 0} → List ℕ → (W → Option (List ℕ)) → Writing W → Writing W → Type 0
 PutsPart file contents old new = (bytes : List ℕ) × IsCanonical file bytes × Puts contents old new bytes false
 
 -- A write or a flush failed in `canonical`, and nothing was written after it: one of the file, and nothing was printed;
--- or one of the line, after the whole file; or the file has a fault, and it was one of the lines for it.
+-- or one of the lines for it, after the whole file; or the file has a fault, and it was one of the lines for it.
 abbrev pub CanonicalBreaksOff : {W V : Type 0} → List ℕ → (W → Option (List ℕ)) → Writing W → Writing W → (V → Option (List ℕ)) → Writing V → Writing V → Type 0
 CanonicalBreaksOff file file_contents file_old file_new contents old new =
     (PutsPart file file_contents file_old file_new × (new ≡ old))

@@ -3,18 +3,21 @@
 ghost use Rattle.std.specs.Prelude.{◌≡◌, ◌≢◌, ◌≤◌, length, Err, IfErr, IfOk};
 ghost use Rattle.allowance.specs.Refusals.{GrowthRefused};
 ghost use Rattle.canonical_file.specs.Canonical.{IsFaultOf, most_bytes};
+ghost use Rattle.file_changes.specs.Changes.{AreChanges};
 ghost use Rattle.file_commands.specs.Ends.{EndsCanonical, PutsPart, WroteWhole};
 
-use crate::faults::{flushed, put_count, say_fault};
+use crate::faults::{Rewritten, flushed, put_rewritten, say_fault};
 use allowance::Allowance;
 use canonical_file::{CanonicalFault, put_canonical};
+use file_changes::{Changes, find_changes};
 use palm_text::Counted;
+use pdb_format::check_file;
 use program_io::Status;
 use std::alloc::Global;
 use std::io::Write;
 
-/// Writes the canonical form of a file to `file_out`, and then prints `ok` and its length to `out`. If the file has a
-/// fault, prints `bad` and the first fault, and the offset of the wrong field.
+/// Writes the canonical form of a file to `file_out`. Then prints `ok` and its length to `out`, and a line that says what
+/// changes. If the file has a fault, prints `bad` and the first fault, and the offset of the wrong field.
 pub fn cmd_canonical<W: Write, V: Write>(
     alloc: Global,
     file: &[u8],
@@ -43,7 +46,7 @@ pub fn cmd_canonical_from<A: Allowance, W: Write, V: Write>(
     ensures short { result ≡ Status.NoMemory → A.is_short memory.now }
 {
     match put_flushed(memory, file, file_out) {
-        Ok(count) => match put_count(out, count) {
+        Ok(rewritten) => match put_rewritten(out, rewritten) {
             Ok(()) => Status::Done,
             Err(_) => Status::WriteFault,
         },
@@ -53,13 +56,13 @@ pub fn cmd_canonical_from<A: Allowance, W: Write, V: Write>(
     }
 }
 
-/// Writes the canonical form of a file, flushes, and returns how many bytes it has.
+/// Writes the canonical form of a file, flushes, and returns how many bytes it has and what changes.
 #[tactic(auto, using(crate::proofs::Printed::puts_whole, crate::proofs::Printed::flush_fails, crate::proofs::Printed::canonical_stops))]
 fn put_flushed<A: Allowance, W: Write>(
     memory: &A,
     file: &[u8],
     file_out: &mut Counted<W>,
-) -> Result<usize, CanonicalFault>
+) -> Result<Rewritten, CanonicalFault>
     requires { length file.now ≤ most_bytes }
     ensures done { IfOk result (WroteWhole file.now W.contents file_out.old file_out.new) }
     ensures why { IfErr result (IsFaultOf file.now) }
@@ -69,9 +72,27 @@ fn put_flushed<A: Allowance, W: Write>(
         → PutsPart file.now W.contents file_out.old file_out.new }
     ensures short { result ≡ Err CanonicalFault.OutOfMemory → A.is_short memory.now }
 {
+    let changes = changes_of(memory, file)?;
     let count = put_canonical(memory, file, file_out)?;
     match flushed(file_out) {
-        Ok(()) => Ok(count),
+        Ok(()) => Ok(Rewritten { count, changes }),
         Err(_) => Err(CanonicalFault::Write),
+    }
+}
+
+/// Returns what changes in a file when it is rewritten.
+fn changes_of<A: Allowance>(memory: &A, file: &[u8]) -> Result<Changes, CanonicalFault>
+    requires { length file.now ≤ most_bytes }
+    ensures done { IfOk result (AreChanges file.now) }
+    ensures why { IfErr result (IsFaultOf file.now) }
+    ensures writes_nothing { result ≢ Err CanonicalFault.Write }
+    ensures short { result ≡ Err CanonicalFault.OutOfMemory → A.is_short memory.now }
+{
+    if let Err(fault) = check_file(file) {
+        return Err(CanonicalFault::BadFile(fault));
+    }
+    match find_changes(memory, file) {
+        Ok(changes) => Ok(changes),
+        Err(_) => Err(CanonicalFault::OutOfMemory),
     }
 }

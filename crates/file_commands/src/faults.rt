@@ -1,13 +1,14 @@
-//! Files with a fault, and flushes.
+//! Files with a fault, the lines for a rewritten file, and flushes.
 
 ghost use Rattle.std.specs.Prelude.{◌≡◌, ◌≤◌, ◌⊎◌, length, true, false, is_ok};
 ghost use Rattle.heap_model.specs.Files.{IsFirstFault};
 ghost use Rattle.palm_text.specs.Output.{Puts};
-ghost use Rattle.palm_text.specs.Counted.{Flushes};
+ghost use Rattle.palm_text.specs.Counted.{Flushes, Writes};
 ghost use Rattle.canonical_file.specs.Canonical.{most_bytes};
-ghost use Rattle.file_commands.specs.Ends.{PutsFault, count_line};
+ghost use Rattle.file_commands.specs.Ends.{PutsFault, count_line, rewritten_lines};
 ghost use Rattle.file_listing.specs.FaultLines.{fault_lines};
 
+use file_changes::{Changes, put_changes};
 use file_listing::put_fault;
 use heap_model::FileFault;
 use itoa::Buffer;
@@ -53,10 +54,17 @@ pub(crate) fn flushed<V: Write>(out: &mut Counted<V>) -> Result<(), WriteFault>
     out.flush().map_err(|_| WriteFault)
 }
 
-/// Writes how many bytes there are, and flushes.
-#[tactic(auto, using(palm_text::proofs::Parts::then_flush))]
-pub(crate) fn put_count<V: Write>(out: &mut Counted<V>, count: usize) -> Result<(), WriteFault>
-    ensures { Puts V.contents out.old out.new (count_line count) (is_ok result) }
+/// How many bytes a rewritten file has, and what changed in it.
+#[derive(Clone, Copy)]
+pub(crate) struct Rewritten {
+    pub(crate) count: usize,
+    pub(crate) changes: Changes,
+}
+
+/// Writes how many bytes there are.
+#[tactic(auto, unfolding(crate::specs::Ends::count_line))]
+fn put_count<V: Write>(out: &mut Counted<V>, count: usize) -> Result<(), WriteFault>
+    ensures { Writes V.contents out.old out.new (count_line count) (is_ok result) }
 {
     let mut digits = Buffer::new();
     put_pieces(
@@ -66,6 +74,26 @@ pub(crate) fn put_count<V: Write>(out: &mut Counted<V>, count: usize) -> Result<
             Piece::Text(digits.format(count).as_bytes()),
             Piece::Text(b"\n"),
         ],
-    )?;
+    )
+}
+
+/// Writes how many bytes there are, and what changed.
+#[tactic(auto, using(palm_text::proofs::Parts::then, palm_text::proofs::Parts::stops), unfolding(crate::specs::Ends::rewritten_lines))]
+fn put_lines<V: Write>(out: &mut Counted<V>, rewritten: Rewritten) -> Result<(), WriteFault>
+    ensures { Writes V.contents out.old out.new (rewritten_lines rewritten) (is_ok result) }
+{
+    put_count(out, rewritten.count)?;
+    put_changes(out, rewritten.changes)
+}
+
+/// Writes how many bytes there are, and what changed, and flushes.
+#[tactic(auto, using(palm_text::proofs::Parts::then_flush))]
+pub(crate) fn put_rewritten<V: Write>(
+    out: &mut Counted<V>,
+    rewritten: Rewritten,
+) -> Result<(), WriteFault>
+    ensures { Puts V.contents out.old out.new (rewritten_lines rewritten) (is_ok result) }
+{
+    put_lines(out, rewritten)?;
     flushed(out)
 }

@@ -21,10 +21,8 @@ listed file header parts is has = record {
   created_is = has.moments.created;
   modified_is = has.moments.modified;
   backup_is = has.moments.backup;
-  same = parts.same;
-  canonical = has.same.0;
-  canonical_is = has.same.1;
-  same_is = has.same.2;
+  changes = parts.changes;
+  changes_are = has.changes;
   lines = ap (λ (values : DatabaseHeader). lines_by file values parts) is;
 }
 

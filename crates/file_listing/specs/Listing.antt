@@ -1,5 +1,5 @@
 -- The lines that are printed of a file without fault.
-use Rattle.std.specs.Prelude.{◌≡◌, ◌↔◌, ◌+◌, ◌++◌, ℕ, Bool, true, false, List, [], ◌∷◌, length, slice_index, slice_index_or, Option, Some, None, IsTrue, codes, decimal}
+use Rattle.std.specs.Prelude.{◌≡◌, ◌+◌, ◌++◌, ℕ, Bool, true, false, List, [], ◌∷◌, length, slice_index, slice_index_or, Option, Some, None, codes, decimal}
 use Rattle.std.specs.List.{concat}
 use Rattle.hex.specs.Hex.{encode_lower}
 use Rattle.heap_model.specs.Bytes.{u16_bytes, u32_bytes}
@@ -8,7 +8,8 @@ use Rattle.heap_model.specs.Database.{DatabaseHeader, Entry, a_record, a_resourc
 use Rattle.heap_model.specs.Files.{offsets_in, blocks_in}
 use Rattle.palm_text.specs.Pieces.{spelled}
 use Rattle.palm_text.specs.Counted.{Writing, Writes}
-use Rattle.canonical_file.specs.Canonical.{IsCanonical}
+use Rattle.file_changes.specs.declared.changes.Changes.{Changes}
+use Rattle.file_changes.specs.Changes.{AreChanges, changes_line}
 use Rattle.file_listing.specs.Moments.{IsMomentText}
 
 -- how many bytes the file has, and the values of its header, with the texts of its three moments
@@ -63,11 +64,6 @@ line_at file index = entry_line index (entry_in file index) (slice_index_or (blo
 abbrev pub entry_lines : List ℕ → List ℕ
 entry_lines file = concat (numbered (line_at file) (entry_count_in file))
 
--- whether the file is its canonical form
-unfoldable pub last_line : Bool → List ℕ
-last_line true = codes "canonical\n"
-last_line false = codes "changes\n"
-
 -- the lines of the info blocks
 unfoldable pub info_lines : List ℕ → List ℕ
 info_lines file = info_line file (codes "app") 0 ++ info_line file (codes "sort") 1
@@ -76,12 +72,13 @@ info_lines file = info_line file (codes "app") 0 ++ info_line file (codes "sort"
 unfoldable pub list_lines : List ℕ → List ℕ
 list_lines file = count_line (resources_in file) (entry_count_in file) ++ entry_lines file
 
-unfoldable pub end_lines : List ℕ → Bool → List ℕ
-end_lines file same = list_lines file ++ last_line same
+-- and what changes when the file is rewritten
+unfoldable pub end_lines : List ℕ → Changes → List ℕ
+end_lines file changes = list_lines file ++ changes_line changes
 
 -- the lines after those of the header
-unfoldable pub body_lines : List ℕ → Bool → List ℕ
-body_lines file same = info_lines file ++ end_lines file same
+unfoldable pub body_lines : List ℕ → Changes → List ℕ
+body_lines file changes = info_lines file ++ end_lines file changes
 
 -- this is the listing of the file
 pub record IsListing (file text : List ℕ) : Type 0 where
@@ -91,11 +88,9 @@ pub record IsListing (file text : List ℕ) : Type 0 where
   pub created_is : IsMomentText (header_in file).creation_date created
   pub modified_is : IsMomentText (header_in file).modification_date modified
   pub backup_is : IsMomentText (header_in file).backup_date backup
-  pub same : Bool
-  pub canonical : List ℕ
-  pub canonical_is : IsCanonical file canonical
-  pub same_is : IsTrue same ↔ (canonical ≡ file)
-  pub lines : text ≡ head_lines (length file) (header_in file) created modified backup ++ body_lines file same
+  pub changes : Changes
+  pub changes_are : AreChanges file changes
+  pub lines : text ≡ head_lines (length file) (header_in file) created modified backup ++ body_lines file changes
 
 -- the listing of the file goes to a writer, all of it or a prefix
 abbrev pub WritesListing : {W : Type 0} → List ℕ → (W → Option (List ℕ)) → Writing W → Writing W → Bool → Type 0

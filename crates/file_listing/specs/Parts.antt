@@ -1,7 +1,8 @@
 -- What is known of a file before its lines are written.
-use Rattle.std.specs.Prelude.{◌≡◌, ◌↔◌, ◌++◌, ℕ, Bool, List, length, IsTrue, string_bytes}
+use Rattle.std.specs.Prelude.{◌++◌, ℕ, List, length, string_bytes}
 use Rattle.heap_model.specs.Database.{DatabaseHeader, header_in}
-use Rattle.canonical_file.specs.Canonical.{HasBlocks, IsCanonical}
+use Rattle.canonical_file.specs.Canonical.{HasBlocks}
+use Rattle.file_changes.specs.Changes.{AreChanges}
 use Rattle.file_listing.specs.declared.moments.Moments.{Moments}
 use Rattle.file_listing.specs.declared.parts.Parts.{Parts}
 use Rattle.file_listing.specs.Moments.{IsMomentText}
@@ -13,18 +14,14 @@ pub record AreMoments (header : DatabaseHeader) (moments : Moments) : Type 0 whe
   pub modified : IsMomentText header.modification_date (string_bytes moments.modified)
   pub backup : IsMomentText header.backup_date (string_bytes moments.backup)
 
--- whether a file is its canonical form
-abbrev pub SaysSame : List ℕ → Bool → Type 0
-SaysSame file same = (canonical : List ℕ) × IsCanonical file canonical × (IsTrue same ↔ (canonical ≡ file))
-
--- these are the blocks of a file and the texts of its moments, and it is in canonical form or not
+-- these are the blocks of a file, the texts of its moments, and its changes
 pub record HasParts (file : List ℕ) (parts : Parts) : Type 0 where
   pub blocks : HasBlocks file parts.blocks.items
   pub moments : AreMoments (header_in file) parts.moments
-  pub same : SaysSame file parts.same
+  pub changes : AreChanges file parts.changes
 
 -- the lines of a file with this header and these parts
 abbrev pub lines_by : List ℕ → DatabaseHeader → Parts → List ℕ
 lines_by file header parts =
     head_lines (length file) header (string_bytes parts.moments.created) (string_bytes parts.moments.modified) (string_bytes parts.moments.backup)
-    ++ body_lines file parts.same
+    ++ body_lines file parts.changes

@@ -1,5 +1,5 @@
-//! The listing of a PDB or PRC file: its header, where its blocks stand, its entries, and whether it is in canonical
-//! form.
+//! The listing of a PDB or PRC file: its header, where its blocks stand, its entries, and what changes when it is
+//! rewritten.
 //!
 //! ```text
 //! ok 97

@@ -1,14 +1,13 @@
 //! The listing of a file, on a writer.
 
 ghost use Rattle.std.specs.Prelude.{◌≡◌, ◌≢◌, ◌≤◌, length, false, true, Err, IfErr, OnOk, is_ok};
-ghost use Rattle.canonical_file.specs.Canonical.{most_bytes};
+ghost use Rattle.canonical_file.specs.Canonical.{HasBlocks, most_bytes};
 ghost use Rattle.heap_model.specs.Files.{HasNoFault};
 ghost use Rattle.db_format.specs.Headers.{header_of};
 ghost use Rattle.palm_text.specs.Counted.{Writes};
 ghost use Rattle.file_listing.specs.FaultLines.{IsFaultOf};
-ghost use Rattle.file_listing.specs.Listing as listing;
 ghost use Rattle.file_listing.specs.Listing.{WritesListing, body_lines, end_lines};
-ghost use Rattle.file_listing.specs.Parts.{HasParts, lines_by};
+ghost use Rattle.file_listing.specs.Parts.{lines_by};
 
 use crate::blocks::put_infos;
 use crate::entries::put_list;
@@ -16,8 +15,9 @@ use crate::head::put_head;
 use crate::parts::{Parts, parts_of};
 use allowance::Allowance;
 use db_format::DbHeader;
+use file_changes::put_changes;
 use heap_model::FileFault;
-use palm_text::{Counted, WriteFault, put_all};
+use palm_text::{Counted, WriteFault};
 use pdb_format::check_file;
 use std::io::Write;
 use thiserror::Error;
@@ -36,33 +36,21 @@ pub enum ListFault {
     Write,
 }
 
-/// Writes whether the file is its canonical form.
-#[tactic(auto, unfolding(crate::specs::Listing::last_line))]
-fn put_last<W: Write>(out: &mut Counted<W>, same: bool) -> Result<(), WriteFault>
-    ensures { Writes W.contents out.old out.new (listing.last_line same) (is_ok result) }
-{
-    if same {
-        put_all(out, b"canonical\n")
-    } else {
-        put_all(out, b"changes\n")
-    }
-}
-
-/// Writes the lines of the entries, and whether the file is its canonical form.
+/// Writes the lines of the entries, and what changes when the file is rewritten.
 #[tactic(auto, using(palm_text::proofs::Parts::then, palm_text::proofs::Parts::stops), unfolding(crate::specs::Listing::end_lines))]
 fn put_end<W: Write>(out: &mut Counted<W>, file: &[u8], parts: &Parts) -> Result<(), WriteFault>
-    requires { HasParts file.now parts.now }
-    ensures { Writes W.contents out.old out.new (end_lines file.now parts.now.same) (is_ok result) }
+    requires { HasBlocks file.now parts.now.blocks.items }
+    ensures { Writes W.contents out.old out.new (end_lines file.now parts.now.changes) (is_ok result) }
 {
     put_list(out, file, parts.blocks.as_slice())?;
-    put_last(out, parts.same)
+    put_changes(out, parts.changes)
 }
 
 /// Writes the lines after those of the header.
 #[tactic(auto, using(palm_text::proofs::Parts::then, palm_text::proofs::Parts::stops), unfolding(crate::specs::Listing::body_lines))]
 fn put_body<W: Write>(out: &mut Counted<W>, file: &[u8], parts: &Parts) -> Result<(), WriteFault>
-    requires { HasParts file.now parts.now }
-    ensures { Writes W.contents out.old out.new (body_lines file.now parts.now.same) (is_ok result) }
+    requires { HasBlocks file.now parts.now.blocks.items }
+    ensures { Writes W.contents out.old out.new (body_lines file.now parts.now.changes) (is_ok result) }
 {
     put_infos(out, file, parts.blocks.as_slice())?;
     put_end(out, file, parts)
@@ -76,7 +64,7 @@ fn put_lines<W: Write>(
     header: &DbHeader,
     parts: &Parts,
 ) -> Result<(), WriteFault>
-    requires { HasParts file.now parts.now }
+    requires { HasBlocks file.now parts.now.blocks.items }
     ensures { Writes W.contents out.old out.new (lines_by file.now (header_of header.now)
         parts.now) (is_ok result) }
 {

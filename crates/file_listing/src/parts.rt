@@ -5,21 +5,21 @@ ghost use Rattle.heap_model.specs.Database.{header_in};
 ghost use Rattle.heap_model.specs.Files.{HasNoFault};
 ghost use Rattle.db_format.specs.Headers.{header_of};
 ghost use Rattle.canonical_file.specs.Canonical.{HasBlocks, most_bytes};
-ghost use Rattle.file_listing.specs.Parts.{HasParts, SaysSame};
+ghost use Rattle.file_listing.specs.Parts.{HasParts};
 
 use crate::moments::{Moments, moments_of};
 use allowance::Allowance;
-use canonical_file::canonical_bytes;
 use db_format::DbHeader;
+use file_changes::{Changes, find_changes};
 use pdb_format::{Block, find_blocks_from};
 use std::alloc::AllocError;
 
-/// The blocks of a file, the texts of its moments, and whether it is its canonical form.
+/// The blocks of a file, the texts of its moments, and what changes in it when it is rewritten.
 #[derive(Drop)]
 pub(crate) struct Parts {
     pub(crate) blocks: Vec<Option<Block>>,
     pub(crate) moments: Moments,
-    pub(crate) same: bool,
+    pub(crate) changes: Changes,
 }
 
 /// Returns where the blocks stand.
@@ -30,17 +30,6 @@ fn blocks_of<A: Allowance>(memory: &A, file: &[u8]) -> Result<Vec<Option<Block>>
     ensures short { OnErr result (A.is_short memory.now) }
 {
     find_blocks_from(memory, file)
-}
-
-/// Returns whether the file is its canonical form.
-fn is_canonical<A: Allowance>(memory: &A, file: &[u8]) -> Result<bool, AllocError>
-    requires good { HasNoFault file.now }
-    requires short { length file.now ≤ most_bytes }
-    ensures same { IfOk result (SaysSame file.now) }
-    ensures short { OnErr result (A.is_short memory.now) }
-{
-    let canonical = canonical_bytes(memory, file)?;
-    Ok(canonical.as_slice() == file)
 }
 
 /// Returns the parts of a file.
@@ -58,6 +47,6 @@ pub(crate) fn parts_of<A: Allowance>(
     Ok(Parts {
         blocks: blocks_of(memory, file)?,
         moments: moments_of(memory, header)?,
-        same: is_canonical(memory, file)?,
+        changes: find_changes(memory, file)?,
     })
 }

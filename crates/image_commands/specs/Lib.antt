@@ -1,5 +1,6 @@
 pub mod Commands
 pub mod Migrating
+pub mod Mapping
 pub use Rattle.heap_model.specs.Store
 pub use Rattle.chunk_format.specs.Blank
 pub use Rattle.heap_migration.specs.Stores

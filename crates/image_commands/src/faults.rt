@@ -5,8 +5,15 @@ ghost use Rattle.program_io.specs.Status.{status_of};
 
 use program_io::{InputFault, Status, report_fault, report_input_fault};
 
-/// What standard output is called where it fails.
+/// The names of the standard streams, for reports of what failed.
+pub(crate) const STANDARD_INPUT: &str = "standard input";
+
 pub const STANDARD_OUTPUT: &str = "standard output";
+
+pub(crate) const STANDARD_ERROR: &str = "standard error";
+
+/// The word for standard input, or standard output, in place of a path.
+pub(crate) const STANDARD_STREAM: &str = "-";
 
 /// Says what kept a command from its start, and answers it.
 pub fn fail<R: Eprint>(rt: &R, status: Status) -> Status

@@ -1,21 +1,21 @@
 //! The commands `list` and `canonical`, over files.
 
-ghost use Rattle.std.specs.Prelude.{◌≢◌};
+ghost use Rattle.std.specs.Prelude.{◌≢◌, ◌≤◌, length};
 
-use crate::faults::{STANDARD_OUTPUT, fail};
-use crate::files::read_file;
+use crate::faults::{STANDARD_ERROR, STANDARD_OUTPUT, STANDARD_STREAM, fail};
+use crate::files::read_file_or_input;
 use file_commands::{cmd_canonical_from, cmd_list_from};
 use palm_text::Counted;
-use program_io::{Noted, OutputFile, Status, report_outcome};
+use program_io::{ErrorOutput, INPUT_LIMIT, Noted, OutputFile, Status, report_outcome};
 use std::io;
-use std::io::BufWriter;
+use std::io::{BufWriter, Input};
 use std::rt::Files;
 
-/// Runs `list`.
-pub fn list<R: Files + Print + Eprint + AllocGlobal>(rt: &R, path: &str) -> Status
+/// Runs `list`. The path `-` stands for standard input, here and in `canonical`.
+pub fn list<R: Files + Input + Print + Eprint + AllocGlobal>(rt: &R, path: &str) -> Status
     ensures { result ≢ Status.BadWords }
 {
-    let file = match read_file(rt, path) {
+    let file = match read_file_or_input(rt, path) {
         Ok(file) => file,
         Err(status) => return status,
     };
@@ -31,24 +31,58 @@ pub fn list<R: Files + Print + Eprint + AllocGlobal>(rt: &R, path: &str) -> Stat
     status
 }
 
-/// Runs `canonical`.
-pub fn canonical<R: Files + Print + Eprint + AllocGlobal>(
+/// Runs `canonical`. The path `-` stands for standard output. What is printed goes to standard error then.
+pub fn canonical<R: Files + Input + Print + Eprint + AllocGlobal>(
     rt: &R,
     path: &str,
     out_path: &str,
 ) -> Status
     ensures { result ≢ Status.BadWords }
 {
-    let file = match read_file(rt, path) {
+    let file = match read_file_or_input(rt, path) {
         Ok(file) => file,
         Err(status) => return status,
     };
+    if out_path == STANDARD_STREAM {
+        canonical_to_output(rt, file.as_slice())
+    } else {
+        canonical_to_file(rt, file.as_slice(), out_path)
+    }
+}
+
+/// Writes the canonical form of a file to standard output.
+fn canonical_to_output<R: Print + Eprint + AllocGlobal>(rt: &R, file: &[u8]) -> Status
+    requires { length file.now ≤ INPUT_LIMIT }
+    ensures { result ≢ Status.BadWords }
+{
+    let mut file_out = Counted::new(Noted::new(io::writer(rt)));
+    let mut out = Counted::new(Noted::new(ErrorOutput::new(rt)));
+    let status = cmd_canonical_from(&rt.alloc(), file, &mut file_out, &mut out);
+    let (_, file_fault) = file_out.into_inner().into_parts();
+    let (_, fault) = out.into_inner().into_parts();
+    report_outcome(
+        rt,
+        status,
+        &[(STANDARD_OUTPUT, file_fault), (STANDARD_ERROR, fault)],
+    );
+    status
+}
+
+/// Writes the canonical form of a file to another.
+fn canonical_to_file<R: Files + Print + Eprint + AllocGlobal>(
+    rt: &R,
+    file: &[u8],
+    out_path: &str,
+) -> Status
+    requires { length file.now ≤ INPUT_LIMIT }
+    ensures { result ≢ Status.BadWords }
+{
     let Ok(file_out) = OutputFile::new(rt, out_path) else {
         return fail(rt, Status::NoMemory);
     };
     let mut file_out = Counted::new(Noted::new(file_out));
     let mut out = Counted::new(Noted::new(io::writer(rt)));
-    let status = cmd_canonical_from(&rt.alloc(), file.as_slice(), &mut file_out, &mut out);
+    let status = cmd_canonical_from(&rt.alloc(), file, &mut file_out, &mut out);
     let (file_out, file_fault) = file_out.into_inner().into_parts();
     file_out.close();
     let (_, fault) = out.into_inner().into_parts();

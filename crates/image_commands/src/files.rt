@@ -2,7 +2,7 @@
 
 ghost use Rattle.std.specs.Prelude.{◌≡◌, ◌≤◌, ◌⊎◌, ◌++◌, IfOk, IfErr, codes, decimal, length, string_bytes, vec_len};
 
-use crate::faults::{fail, fail_to_read};
+use crate::faults::{STANDARD_INPUT, STANDARD_STREAM, fail, fail_to_read};
 use heap_model::Bytes;
 use palm_text::{Counted, put};
 use program_io::{
@@ -11,6 +11,7 @@ use program_io::{
 use raw_region::Region;
 use std::alloc::{AllocError, Global};
 use std::fs::File;
+use std::io::Input;
 use std::rt::Files;
 
 /// All of a file.
@@ -25,6 +26,23 @@ pub fn read_file<R: Files + Eprint + AllocGlobal>(rt: &R, path: &str) -> Result<
     match read {
         Ok(bytes) => Ok(bytes),
         Err(fault) => Err(fail_to_read(rt, path, fault)),
+    }
+}
+
+/// All of a file. The path `-` stands for standard input.
+pub(crate) fn read_file_or_input<R: Files + Input + Eprint + AllocGlobal>(
+    rt: &R,
+    path: &str,
+) -> Result<Vec<u8>, Status>
+    ensures limit { IfOk result (λ bytes. vec_len bytes ≤ INPUT_LIMIT) }
+    ensures faults { IfErr result (λ status. (status ≡ Status.ReadFault) ⊎ (status ≡ Status.NoMemory)) }
+{
+    if path != STANDARD_STREAM {
+        return read_file(rt, path);
+    }
+    match read_input_from(&rt.alloc(), &mut rt.reader()) {
+        Ok(bytes) => Ok(bytes),
+        Err(fault) => Err(fail_to_read(rt, STANDARD_INPUT, fault)),
     }
 }
 

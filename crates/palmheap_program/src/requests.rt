@@ -5,16 +5,17 @@ ghost use Rattle.clap.specs.Values.{kind_of};
 
 use crate::scripts::run_script;
 use clap::error::ErrorKind;
-use image_commands::{STANDARD_OUTPUT, canonical, check, fail, list, migrate, new};
+use image_commands::{STANDARD_OUTPUT, canonical, check, fail, list, map, migrate, new};
 use program_io::command_line::{self, Request};
 use program_io::{Status, report_write_fault};
+use std::io::Input;
 use std::rt::Files;
 
 /// Does what the words of the command line ask for, of which the first is the program's own name. What
 /// broke it off is on standard error then.
 ///
 /// Which status comes of which files no contract can say: the stored runs of `test_program` show it.
-pub fn run<R: Files + Print + Eprint + AllocGlobal>(rt: &R, words: &[String]) -> Status {
+pub fn run<R: Files + Input + Print + Eprint + AllocGlobal>(rt: &R, words: &[String]) -> Status {
     match command_line::parse(rt.alloc(), words) {
         Ok(Request::New { size, slots, out }) => new(rt, size, slots, out),
         Ok(Request::Check { image }) => check(rt, image),
@@ -27,6 +28,7 @@ pub fn run<R: Files + Print + Eprint + AllocGlobal>(rt: &R, words: &[String]) ->
             },
         ) => run_script(rt, image, script, out, files.as_slice()),
         Ok(Request::Migrate { image, out }) => migrate(rt, image, out),
+        Ok(Request::Map { image }) => map(rt, image),
         Ok(Request::List { file }) => list(rt, file),
         Ok(Request::Canonical { file, out }) => canonical(rt, file, out),
         Err(error) => answer(rt, &error),

@@ -29,6 +29,9 @@ pub enum Request<'a> {
         image: &'a str,
         out: &'a str,
     },
+    Map {
+        image: &'a str,
+    },
     List {
         file: &'a str,
     },
@@ -65,7 +68,7 @@ enum Count {
 }
 
 /// Every command.
-const COMMANDS: [CommandRow; 6] = [
+const COMMANDS: [CommandRow; 7] = [
     CommandRow {
         name: "new",
         about: "Writes an image with nothing in it, and prints 'ok'",
@@ -141,6 +144,12 @@ const COMMANDS: [CommandRow; 6] = [
         ],
     },
     CommandRow {
+        name: "map",
+        about: "Prints a picture of an image: where chunks, free space, locks and databases lie",
+        after_help: Some(MAPS),
+        arguments: &[IMAGE],
+    },
+    CommandRow {
         name: "list",
         about: "Lists a PDB or PRC file: its header, its entries and where their data stands",
         after_help: Some(LISTINGS),
@@ -157,7 +166,7 @@ const COMMANDS: [CommandRow; 6] = [
                 count: Count::One,
                 values: ValueParser::String,
                 help: "File for the rewritten database. One that is there is replaced, once the new one \
-                    is whole",
+                    is whole; '-' is standard output",
             },
         ],
     },
@@ -167,7 +176,7 @@ const DATABASE_FILE: Argument = Argument {
     name: "FILE",
     count: Count::One,
     values: ValueParser::String,
-    help: "PDB or PRC file, of at most 16777216 bytes",
+    help: "PDB or PRC file, of at most 16777216 bytes; '-' is standard input, and './-' a file of that name",
 };
 
 const IMAGE: Argument = Argument {
@@ -253,6 +262,20 @@ The ID of a resource is below 65536. 'resfind' finds the first resource of a TYP
 the NTH of a TYPE. Records, resources and those of a TYPE are counted from 0. Numbers are decimal, or hex
 behind '0x'. HEX is hex digits, or '-' for no byte. A line that is empty or starts with '#' is passed over.";
 
+const MAPS: &str = "\
+A row has an offset and 64 marks, one for each cell of equally many bytes. The first line says how many
+bytes a cell has. The mark of a cell is the first of these that fits:
+
+  F    a fixed chunk
+  L    a chunk with a lock
+  .    nothing but free space
+  :    at least half of it free
+  *    the directory, or the header of a database
+  a    data of a database, by its letter; the last lines name the databases
+  #    another movable chunk
+
+The line 'free' has the free bytes, in how many pieces they are, and how many bytes the largest piece has.";
+
 const LISTINGS: &str = "\
 For example, 'palmheap list MemoDB.pdb' prints:
 
@@ -276,8 +299,16 @@ For example, 'palmheap list MemoDB.pdb' prints:
 The first line has the length of the file. Attributes and the seed are in hex. Dates are seconds since
 1904-01-01 00:00:00 UTC, with the date and time after them. 'app' and 'sort' have the offset and the length
 of an info block, or 'none'. An entry has its index, its values, and the offset and length of its data: the
-values of a record are its attributes in hex and its ID, those of a resource its type and its id. The last
-line is 'canonical' if 'palmheap canonical' would write the file as it is, and else 'changes'.
+values of a record are its attributes in hex and its ID, those of a resource its type and its id.
+
+The last line is 'canonical' if 'palmheap canonical' would write the file as it is, byte for byte. Else it is
+'changes' and words that say what would change:
+
+  busy    a record is busy; in the new file it is not
+  filler  other bytes than two zeros stand between the entries and the first block
+  ids     a record gets another ID, since its own is 0, or that of an earlier record
+  name    other bytes than zeros stand after the name, in its field of 32 bytes
+  order   the blocks do not stand in the order of the list
 
 A file that cannot be read as a database prints its first fault and the offset of the field that is wrong,
 and the exit status is 1:
@@ -286,12 +317,18 @@ and the exit status is 1:
   at 86";
 
 const CANONICAL_FORMS: &str = "\
-For example, 'palmheap canonical old.pdb new.pdb' writes new.pdb and prints 'ok' with its length. In the
-new file the entries are followed by two zero bytes, and then by the AppInfo block, the SortInfo block and
-the data, in the order of the list and without gaps. No record is busy. Each record has an ID of its own:
+For example, 'palmheap canonical old.pdb new.pdb' writes new.pdb and prints 'ok' with its length, and a line
+that says what changed, as 'palmheap list' does:
+
+  ok 112
+  changes busy ids order
+
+In the new file the entries are followed by two zero bytes, and then by the AppInfo block, the SortInfo block
+and the data, in the order of the list and without gaps. No record is busy. Each record has an ID of its own:
 the first with an ID keeps it, and the others get free ones. The name is filled up with zeros.
 
-A file that cannot be read as a database is refused as by 'palmheap list', and nothing is written.";
+A file that cannot be read as a database is refused as by 'palmheap list', and nothing is written. If OUT is
+'-', the new file goes to standard output, and what is printed goes to standard error.";
 
 /// What the words of a command line ask for. The first word is the program's own name.
 ///
@@ -324,6 +361,7 @@ fn requested<'a>(
         Some(("check", given)) => Ok(check_requested(given)),
         Some(("run", given)) => run_requested(alloc, given),
         Some(("migrate", given)) => Ok(migrate_requested(given)),
+        Some(("map", given)) => Ok(map_requested(given)),
         Some(("list", given)) => Ok(list_requested(given)),
         Some(("canonical", given)) => Ok(canonical_requested(given)),
         _ => Ok(None),
@@ -365,6 +403,12 @@ fn migrate_requested<'a>(given: &ArgMatches<'a>) -> Option<Request<'a>> {
     Some(Request::Migrate {
         image: given.get_str("IMAGE")?,
         out: given.get_str("OUT")?,
+    })
+}
+
+fn map_requested<'a>(given: &ArgMatches<'a>) -> Option<Request<'a>> {
+    Some(Request::Map {
+        image: given.get_str("IMAGE")?,
     })
 }
 

@@ -8,12 +8,16 @@ use test_support::{
     EMPTY_FILE, EMPTY_WRITTEN, ORDER_FILE, ORDER_WRITTEN, TINY_FILE, bytes_of, equal, holds,
 };
 
-/// Files, their canonical forms, and the line that is printed.
+/// Files, their canonical forms, and the lines that are printed.
 static FORMS: [(&str, &str, &[u8]); 4] = [
-    (EMPTY_FILE, EMPTY_WRITTEN, b"ok 80\n"),
-    (ORDER_FILE, ORDER_WRITTEN, b"ok 112\n"),
-    (TINY_FILE, TINY_FILE, b"ok 106\n"),
-    (MEMO_FILE, MEMO_FILE, b"ok 97\n"),
+    (EMPTY_FILE, EMPTY_WRITTEN, b"ok 80\nchanges filler\n"),
+    (
+        ORDER_FILE,
+        ORDER_WRITTEN,
+        b"ok 112\nchanges busy ids order\n",
+    ),
+    (TINY_FILE, TINY_FILE, b"ok 106\ncanonical\n"),
+    (MEMO_FILE, MEMO_FILE, b"ok 97\ncanonical\n"),
 ];
 
 fn check_form(alloc: Global, file: &str, form: &str, line: &[u8]) -> Result<(), Fail> {

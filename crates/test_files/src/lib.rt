@@ -8,6 +8,8 @@ mod broken;
 #[cfg(test)]
 mod canonical;
 #[cfg(test)]
+mod changes;
+#[cfg(test)]
 mod listings;
 #[cfg(test)]
 mod samples;

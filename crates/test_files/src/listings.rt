@@ -41,7 +41,7 @@ records 3
 0 00 0 108 0
 1 03 5 104 4
 2 20 5 108 4
-changes
+changes busy ids order
 ";
 
 const TINY_LINES: &str = "\
@@ -100,12 +100,12 @@ sort 99 2
 records 2
 0 8f 16777215 none
 1 20 0 96 3
-changes
+changes busy ids order
 ";
 
 /// Files, and their listings: the first line and the last, and those between them.
 static LISTINGS: [(&str, &str, &str, &str); 6] = [
-    (EMPTY_FILE, "ok 78\n", EMPTY_LINES, "changes\n"),
+    (EMPTY_FILE, "ok 78\n", EMPTY_LINES, "changes filler\n"),
     (EMPTY_WRITTEN, "ok 80\n", EMPTY_LINES, "canonical\n"),
     (ORDER_FILE, "", ORDER_LINES, ""),
     (TINY_FILE, "", TINY_LINES, ""),

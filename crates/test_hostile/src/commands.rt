@@ -4,9 +4,9 @@
 use crate::stores::{WRITTEN, input_files};
 use chunk_format::BlankFault;
 use heap_model::Bytes;
+use image_commands::{cmd_check_from, cmd_migrate_from, cmd_new_from};
 use palm_script::{LineFault, ScriptFault};
 use palm_text::Counted;
-use image_commands::{cmd_check_from, cmd_migrate_from, cmd_new_from};
 use palmheap_program::cmd_run_from;
 use program_io::{Status, say_bad, say_line_fault};
 use std::alloc::Global;

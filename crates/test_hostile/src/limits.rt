@@ -1,10 +1,10 @@
 //! Images and scripts at their limits: no want of memory is invented for them.
 
 use heap_model::{Call, MemoryCall, Name, Reply};
+use image_commands::cmd_check;
 use palm_script::{do_call, run_calls};
 use palm_store::{Store, StoreSummary};
 use palm_text::Counted;
-use image_commands::cmd_check;
 use palmheap_program::cmd_run;
 use pdb_files::{export, import};
 use program_io::{INPUT_LIMIT, Status};

@@ -5,10 +5,10 @@ use crate::stores::{
     CARRIED, WRITTEN, has_image, input_files, listed_store, ran, store_behind, with_database,
 };
 use heap_model::{Bytes, Db};
+use image_commands::{cmd_check, cmd_new};
 use palm_script::RunFault;
 use palm_store::Store;
 use palm_text::Counted;
-use image_commands::{cmd_check, cmd_new};
 use palmheap_program::cmd_run;
 use pdb_files::export;
 use program_io::Status;

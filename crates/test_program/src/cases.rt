@@ -10,7 +10,7 @@ pub(crate) enum Output {
 }
 
 /// The words of each run behind the program's own name, and what becomes of what it prints.
-pub(crate) static CASES: [(&str, Output); 37] = [
+pub(crate) static CASES: [(&str, Output); 46] = [
     // images that are made, or that there are not
     ("new 64 1 out.img", Taken),
     ("new 127 4 out.img", Taken),
@@ -47,6 +47,11 @@ pub(crate) static CASES: [(&str, Output); 37] = [
     ("migrate none.img out.img", Taken),
     ("migrate blank.img none/out.img", Taken),
     ("migrate blank.img out.img", Refused),
+    // images that are drawn, or not
+    ("map records.img", Taken),
+    ("map shared.img", Taken),
+    ("map none.img", Taken),
+    ("map records.img", Refused),
     // files that are listed and rewritten, and one that is damaged
     ("list order.pdb", Taken),
     ("list damaged.pdb", Taken),
@@ -56,6 +61,12 @@ pub(crate) static CASES: [(&str, Output); 37] = [
     ("canonical damaged.pdb out.pdb", Taken),
     ("canonical order.pdb none/out.pdb", Taken),
     ("canonical order.pdb out.pdb", Refused),
+    // standard input, which has the bytes of order.pdb, and standard output in place of a file
+    ("list -", Taken),
+    ("list ./-", Taken),
+    ("canonical - -", Taken),
+    ("canonical - -", Refused),
+    ("canonical damaged.pdb -", Taken),
     // words that ask for no command
     ("check", Taken),
     ("--version", Taken),

@@ -82,7 +82,11 @@ fn show_file<R: Files + Print + AllocGlobal>(rt: &R, name: &str) -> Result<(), F
 }
 
 /// Shows what a file holds.
-fn show_bytes<R: Print + AllocGlobal>(rt: &R, name: &str, bytes: &[u8]) -> Result<(), Fail> {
+pub(crate) fn show_bytes<R: Print + AllocGlobal>(
+    rt: &R,
+    name: &str,
+    bytes: &[u8],
+) -> Result<(), Fail> {
     println!(rt; "{name}, {} bytes:", bytes.len())?;
     show_rows(rt, bytes)
 }

@@ -6,14 +6,16 @@ use std::cell::Cell;
 use std::fmt::Display;
 use std::fs::{Metadata, OpenOptions};
 use std::io;
-use std::io::ErrorKind;
+use std::io::{BufRead, ErrorKind, Input, Lines};
 use std::path::PathBuf;
 use std::rt::Files;
 
-/// A runtime with the files of another. What is printed on it, and what on standard error, is kept.
+/// A runtime with the files of another. Its standard input has these bytes. What is printed on it, and what on standard
+/// error, is kept.
 #[derive(Drop)]
 pub(crate) struct Recorder<'a, R> {
     pub rt: &'a R,
+    pub input: &'a [u8],
     pub output: Output,
     pub printed: &'a Kept,
     pub complained: &'a Kept,
@@ -57,6 +59,22 @@ impl<R: AllocGlobal> Alloc for Recorder<'_, R> {
 
     fn alloc(&self) -> Global {
         self.rt.alloc()
+    }
+}
+
+impl<'a, R> Input for Recorder<'a, R> {
+    type Reader = &'a [u8];
+
+    fn read_line<A: Allocator + Clone>(&self, buf: &mut String<A>) -> io::Result<usize> {
+        self.reader().read_line(buf)
+    }
+
+    fn lines<A: Allocator>(&self, alloc: A) -> Lines<&'a [u8], A> {
+        self.reader().lines(alloc)
+    }
+
+    fn reader(&self) -> &'a [u8] {
+        self.input
     }
 }
 

@@ -2,13 +2,14 @@
 
 use crate::cases::{CASES, Output};
 use crate::exports::show_exports;
-use crate::folder::{enter, fill, leave, show_changes};
+use crate::folder::{enter, fill, leave, show_bytes, show_changes};
 use crate::recorder::{Kept, Recorder};
 use palmheap_program::run;
 use program_io::Status;
 use std::alloc::{AllocError, Global};
 use std::rt::{Env, Files};
 use std::test::Fail;
+use test_support::{ORDER_FILE, bytes_of};
 
 /// Does each run, and shows what comes of it.
 pub(crate) fn show_runs<R: Files + Env + Print + AllocGlobal + Clone + Drop>(
@@ -44,9 +45,18 @@ fn show_answer<R: Files + Print + AllocGlobal>(
 ) -> Result<(), Fail> {
     let (printed, complained) = (Kept::new(rt.alloc()), Kept::new(rt.alloc()));
     let status = run_recorded(rt, line, output, &printed, &complained)?;
-    rt.write_all(printed.into_bytes().as_slice())?;
+    show_printed(rt, printed.into_bytes().as_slice())?;
     println!(rt; "status {}", status.code())?;
     show_complaint(rt, complained.into_bytes().as_slice())
+}
+
+/// Shows what a run prints, in hex if it has a zero.
+fn show_printed<R: Print + AllocGlobal>(rt: &R, printed: &[u8]) -> Result<(), Fail> {
+    if printed.contains(&0) {
+        return show_bytes(rt, "standard output", printed);
+    }
+    rt.write_all(printed)?;
+    Ok(())
 }
 
 /// Does a run that prints a lot, and shows its status and its standard error alone.
@@ -77,8 +87,10 @@ fn run_recorded<R: Files + AllocGlobal>(
     printed: &Kept,
     complained: &Kept,
 ) -> Result<Status, Fail> {
+    let input = bytes_of(rt.alloc(), ORDER_FILE)?;
     let recorder = Recorder {
         rt,
+        input: input.as_slice(),
         output,
         printed,
         complained,

@@ -1,8 +1,8 @@
 //! The commands: what they print and write, and a writer that fails.
 
 use crate::runs::{BOTH_USED, CHAINED, ONE_FURTHER, TWO_TABLES, check_told};
-use palm_text::Counted;
 use image_commands::{cmd_check, cmd_new};
+use palm_text::Counted;
 use program_io::Status;
 use std::alloc::Global;
 use std::io::{ErrorKind, Write};

@@ -2,8 +2,8 @@
 
 use crate::runs::{CHAINED, TWO_TABLES, check_lines};
 use chunk_format::blank;
-use palm_text::Counted;
 use image_commands::cmd_migrate;
+use palm_text::Counted;
 use program_io::Status;
 use std::alloc::Global;
 use std::io::{ErrorKind, Write};

@@ -1,0 +1,102 @@
+//! Where the blocks begin, and in which order.
+
+ghost use Rattle.std.specs.Prelude.{◌≡◌, ◌↔◌, ◌<◌, ◌≤◌, ◌∷◌, ℕ, List, IsTrue, IfSome, IfNone, length, filter, min, nat_lt, slice_index};
+ghost use Rattle.std.specs.List.{fold};
+ghost use Rattle.heap_model.specs.Files.{HasNoFault, offsets_in};
+ghost use Rattle.file_changes.specs.Changes as words;
+ghost use Rattle.file_changes.specs.Changes.{HasFiller, IsInOrder};
+
+use db_format::{
+    INFO_BLOCKS, app_info, entries_end, entry_count, entry_slot, has_resources, sort_info,
+};
+
+/// Returns how many blocks a file may have: its info blocks, and one for each entry.
+fn rank_count(file: &[u8]) -> u32
+    requires { HasNoFault file.now }
+    ensures is { result ≡ length (offsets_in file.now) }
+    ensures most { result ≤ 65537 }
+{
+    entry_count(file) as u32 + INFO_BLOCKS as u32
+}
+
+/// Returns the offset of the block of a rank, or 0.
+fn offset_of(file: &[u8], rank: u32) -> u32
+    requires good { HasNoFault file.now }
+    requires inside { rank < length (offsets_in file.now) }
+    requires few { rank ≤ 65536 }
+    ensures { result ≡ slice_index (offsets_in file.now) rank }
+{
+    match rank {
+        0 => app_info(file),
+        1 => sort_info(file),
+        _ => entry_slot(
+            file,
+            has_resources(file),
+            (rank - INFO_BLOCKS as u32) as u16,
+        ),
+    }
+}
+
+/// Returns the lesser of two offsets, of which the second one is passed over if it is 0.
+fn lesser(first: usize, at: u32) -> usize
+    ensures { (rest : List ℕ) → fold min first (filter (nat_lt 0) (at ∷ rest))
+        ≡ fold min result (filter (nat_lt 0) rest) }
+{
+    let at = at as usize;
+    if at != 0 && at < first { at } else { first }
+}
+
+/// Returns where the first block begins. If there is none, returns where the file ends.
+fn first_start(file: &[u8]) -> usize
+    requires { HasNoFault file.now }
+    ensures is { result ≡ words.first_start file.now }
+    ensures inside { result ≤ length file.now }
+{
+    let mut first = file.len();
+    for rank in 0..rank_count(file) {
+        first = lesser(first, offset_of(file, rank));
+    }
+    first
+}
+
+/// Whether two zeros stand between the entries and the first block, and nothing else.
+pub(crate) fn has_filler(file: &[u8]) -> bool
+    requires good { HasNoFault file.now }
+    ensures { IsTrue result ↔ HasFiller file.now }
+{
+    let end = entries_end(file);
+    if first_start(file) != end + 2 {
+        return false;
+    }
+    file[end..end + 2] == [0, 0]
+}
+
+/// Returns the number that no offset after this one may be below. Returns none if this one is below its own.
+fn raised(low: u32, at: u32) -> Option<u32>
+    ensures some { IfSome result (λ next. (rest : List ℕ)
+        → (words.AreRising low (at ∷ rest) ↔ words.AreRising next rest)) }
+    ensures none { IfNone result ((rest : List ℕ) → words.AreRising low (at ∷ rest) → ⊥) }
+{
+    if at == 0 {
+        return Some(low);
+    }
+    if at < low {
+        return None;
+    }
+    Some(at)
+}
+
+/// Whether the blocks stand in the order of the list.
+pub(crate) fn is_in_order(file: &[u8]) -> bool
+    requires { HasNoFault file.now }
+    ensures { IsTrue result ↔ IsInOrder file.now }
+{
+    let mut low = 0;
+    for rank in 0..rank_count(file) {
+        match raised(low, offset_of(file, rank)) {
+            Some(next) => low = next,
+            None => return false,
+        }
+    }
+    true
+}

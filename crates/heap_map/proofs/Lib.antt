@@ -1,0 +1,7 @@
+pub mod ReadingLaws
+pub mod NumberLaws
+pub mod CellLaws
+pub mod LineLaws
+pub mod PieceLaws
+pub mod StripLaws
+pub mod FaultLaws

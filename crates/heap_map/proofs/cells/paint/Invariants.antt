@@ -1,0 +1,14 @@
+use Rattle.std.proofs.Common.{◌≡◌, ◌-◌, length}
+use Rattle.heap_check.proofs.WalkLaws.{HasPassed}
+use Rattle.heap_map.specs.Cells.{HoldChunks}
+use Rattle.heap_map.proofs.cells.paint.Given as goal
+
+abbrev pub invariant-loop-at : goal.invariant-loop-at
+invariant-loop-at l = record {
+  passed : HasPassed l.region.bytes (HoldChunks l.region.bytes l.cells) l.at;
+  size : l.cells.size ≡ l.fn.cells.size;
+  count : length l.cells.marks.items ≡ length l.fn.cells.marks.items;
+}
+
+abbrev pub decreases-loop-at : goal.decreases-loop-at
+decreases-loop-at l = length l.region.bytes - l.at

@@ -1,0 +1,10 @@
+use Rattle.std.proofs.Common.{◌-◌, length}
+use Rattle.heap_check.proofs.WalkLaws.{HasPassed}
+use Rattle.heap_map.proofs.PieceLaws.{HaveMet}
+use Rattle.heap_map.proofs.pieces.free_pieces.Given as goal
+
+abbrev pub invariant-loop-at : goal.invariant-loop-at
+invariant-loop-at l = HasPassed l.region.bytes (HaveMet l.pieces) l.at
+
+abbrev pub decreases-loop-at : goal.decreases-loop-at
+decreases-loop-at l = length l.region.bytes - l.at

@@ -1,0 +1,108 @@
+-- The cells of a picture: the area of the chunks is cut into cells of equally many bytes.
+use Rattle.std.specs.Prelude.{◌≡◌, ◌<◌, ◌≤◌, ◌+◌, ◌-◌, ◌*◌, ◌/◌, min, max, nat_lt, ◌^◌, if◌then◌else◌, ℕ, List, [], ◌∷◌, length, slice_index}
+use Rattle.heap_model.specs.Chunk.{Chunk, size_of, free_size}
+use Rattle.heap_model.specs.Lists.{numbered}
+use Rattle.heap_model.specs.Slots.{area_start}
+use Rattle.heap_model.specs.Reading.{chunks_of}
+use Rattle.chunk_format.specs.declared.header.Header.{Header}
+use Rattle.chunk_format.specs.declared.header.Header.TheVariants as headers
+use Rattle.heap_map.specs.declared.cells.Cells.{Cells}
+use Rattle.heap_map.specs.Marks.{free_mark, mark_of, cell_byte}
+
+-- how many bytes there are from a place on up to an end that lie in the cell of an index, of cells of a size
+abbrev pub in_cell : ℕ → ℕ → ℕ → ℕ → ℕ
+in_cell size k from to = min to (size * k + size) - max from (size * k)
+
+-- the mark of a chunk at a place, in a cell: its own if a byte of it lies there
+abbrev pub mark_here : List ℕ → ℕ → ℕ → ℕ → Chunk → ℕ
+mark_here image size k at chunk = if nat_lt 0 (in_cell size k at (at + size_of chunk)) then mark_of image chunk else free_mark
+
+-- the first mark of the chunks that have bytes in a cell, of those that begin at a place
+abbrev pub first_mark : List ℕ → ℕ → ℕ → ℕ → List Chunk → ℕ
+first_mark image size k at [] = free_mark
+first_mark image size k at (chunk ∷ chunks) = min (mark_here image size k at chunk) (first_mark image size k (at + size_of chunk) chunks)
+
+-- how many bytes of a free chunk at a place lie in a cell; of a live one none
+abbrev pub free_here : ℕ → ℕ → ℕ → Chunk → ℕ
+free_here size k at chunk = in_cell size k at (at + free_size chunk)
+
+-- how many free bytes a cell has
+abbrev pub free_within : ℕ → ℕ → ℕ → List Chunk → ℕ
+free_within size k at [] = 0
+free_within size k at (chunk ∷ chunks) = free_here size k at chunk + free_within size k (at + size_of chunk) chunks
+
+-- ---- the cells of an image
+
+-- what the chunks of an image take
+abbrev pub area_size : List ℕ → ℕ
+area_size image = length image - area_start image
+
+-- the most cells of a picture: 32 rows of 64
+abbrev pub most_cells : ℕ
+most_cells = 2048
+
+-- the size of a cell: the least multiple of 8 with which there are not too many
+abbrev pub cell_size : List ℕ → ℕ
+cell_size image = 8 * ((area_size image + 16383) / 16384)
+
+-- how many cells there are; the last one may be smaller
+abbrev pub cell_count : List ℕ → ℕ
+cell_count image = (area_size image + (cell_size image - 1)) / cell_size image
+
+-- how many bytes the cell of an index has
+abbrev pub cell_length : List ℕ → ℕ → ℕ
+cell_length image k = min (cell_size image) (area_size image - cell_size image * k)
+
+-- the mark of the cell of an index, as a byte
+unfoldable pub mark_at : List ℕ → ℕ → ℕ
+mark_at image k = cell_byte (first_mark image (cell_size image) k 0 (chunks_of image)) (free_within (cell_size image) k 0 (chunks_of image)) (cell_length image k)
+
+-- the marks of all cells
+unfoldable pub marks : List ℕ → List ℕ
+marks image = numbered (mark_at image) (cell_count image)
+
+-- ---- the cells that a walk fills
+
+-- so many cells, with nothing in them
+pub record IsClear (count : ℕ) (cells : Cells) : Type 0 where
+  pub mark_count : length cells.marks.items ≡ count
+  pub free_count : length cells.free.items ≡ count
+  pub marks : (k : ℕ) → k < count → slice_index cells.marks.items k ≡ free_mark
+  pub free : (k : ℕ) → k < count → slice_index cells.free.items k ≡ 0
+
+-- there are enough cells for the chunks of an image
+pub record Covers (image : List ℕ) (cells : Cells) : Type 0 where
+  pub positive : 0 < cells.size
+  pub small : cells.size ≤ 2 ^ 14
+  pub enough : area_size image ≤ cells.size * length cells.marks.items
+
+-- each cell has the first mark and the free bytes of these chunks
+pub record HoldChunks (image : List ℕ) (cells : Cells) (chunks : List Chunk) : Type 0 where
+  pub marks : (k : ℕ) → k < length cells.marks.items → slice_index cells.marks.items k ≡ first_mark image cells.size k 0 chunks
+  pub free : (k : ℕ) → k < length cells.free.items → slice_index cells.free.items k ≡ free_within cells.size k 0 chunks
+  pub same : length cells.free.items ≡ length cells.marks.items
+
+-- each has those of all chunks of the image
+abbrev pub ArePainted : List ℕ → Cells → Type 0
+ArePainted image cells = HoldChunks image cells (chunks_of image)
+
+-- how many bytes of a chunk with this header are free
+abbrev pub free_by : Header → ℕ → ℕ
+free_by (headers.Free size) taken = taken
+free_by (headers.Movable length lock owner slot) taken = 0
+free_by (headers.Fixed length owner) taken = 0
+
+-- whether the chunk is a live one, which has a mark to be drawn
+abbrev pub drawn_by : Header → ℕ → ℕ
+drawn_by (headers.Free size) mark = free_mark
+drawn_by (headers.Movable length lock owner slot) mark = mark
+drawn_by (headers.Fixed length owner) mark = mark
+
+-- a chunk is added to cells: those in which bytes of it lie get its mark, if that comes before theirs, or its free bytes
+pub record AddsChunk (old new : Cells) (header : Header) (mark at taken : ℕ) : Type 0 where
+  pub size : new.size ≡ old.size
+  pub mark_count : length new.marks.items ≡ length old.marks.items
+  pub free_count : length new.free.items ≡ length old.free.items
+  pub marks : (k : ℕ) → k < length old.marks.items → slice_index old.marks.items k ≤ free_mark
+      → slice_index new.marks.items k ≡ (if nat_lt 0 (in_cell old.size k at (at + taken)) then min (drawn_by header mark) (slice_index old.marks.items k) else slice_index old.marks.items k)
+  pub free : (k : ℕ) → k < length old.free.items → slice_index new.free.items k ≡ slice_index old.free.items k + in_cell old.size k at (at + free_by header taken)

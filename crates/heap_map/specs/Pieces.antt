@@ -1,0 +1,27 @@
+-- The free pieces that a walk has met.
+use Rattle.std.specs.Prelude.{◌+◌, max, ℕ, Option, Some, None}
+use Rattle.chunk_format.specs.declared.header.Header.{Header}
+use Rattle.chunk_format.specs.declared.header.Header.TheVariants as headers
+use Rattle.heap_map.specs.declared.pieces.Pieces.{Pieces}
+
+-- how many bytes the piece has that goes on, if there is one
+abbrev pub run_size : Option ℕ → ℕ
+run_size None = 0
+run_size (Some size) = size
+
+-- the piece that went on is counted
+abbrev pub with_run : Option ℕ → Pieces → Pieces
+with_run None pieces = pieces
+with_run (Some size) pieces = record { run = None; count = pieces.count + 1; largest = max pieces.largest size }
+
+-- the same when a chunk with this header follows: a free one goes on with the piece, and any other one ends it
+abbrev pub with_header : Header → Pieces → Pieces
+with_header (headers.Free size) pieces = record pieces { run = Some (run_size pieces.run + size) }
+with_header (headers.Movable length lock owner slot) pieces = with_run pieces.run pieces
+with_header (headers.Fixed length owner) pieces = with_run pieces.run pieces
+
+-- how many bytes of a chunk with this header are free
+abbrev pub free_by : Header → ℕ
+free_by (headers.Free size) = size
+free_by (headers.Movable length lock owner slot) = 0
+free_by (headers.Fixed length owner) = 0

@@ -1,0 +1,111 @@
+//! Marks: which one a chunk has, and how it is written.
+
+ghost use Rattle.std.specs.Prelude.{◌≡◌, ◌≤◌, ◌<◌, ◌^◌, ℕ, List, length};
+ghost use Rattle.heap_check.specs.Owners.{IsRoomFor, marked_word};
+ghost use Rattle.heap_map.specs.Marks as marks;
+ghost use Rattle.heap_map.specs.Numbers.{database_number, HasNumbers};
+
+use chunk_format::{FRAME_SIZE, Header, MANAGERS_OWNER, SLOT_SIZE};
+
+/// The mark of a fixed chunk. A mark is its rank in the list of marks.
+const FIXED: u32 = 0;
+
+/// The mark of a chunk with a lock.
+const LOCKED: u32 = 1;
+
+/// The mark of the directory, and of the header of a database. Those of databases come after it.
+const MANAGERS: u32 = 2;
+
+/// The mark of any other movable chunk.
+const OTHER: u32 = 1027;
+
+/// The mark of a free chunk, which is the last one.
+pub(crate) const FREE: u32 = 1028;
+
+/// The mark of what stands before the first chunk: the head with its slots.
+pub(crate) const HEAD: u32 = 1029;
+
+/// The letters of databases, in their order.
+const LETTERS: &[u8; 60] = b"abcdefghijklmnopqrstuvwxyzABCDEGHIJKMNOPQRSTUVWXYZ0123456789";
+
+/// The number of the database that names a slot, by a table of them.
+fn number_of(slot: u32, table: &[u16]) -> u16
+    requires { (word : ℕ) × (slot ≡ marked_word word) × (word < length table.now) }
+    ensures { (number : ℕ → ℕ) → HasNumbers number table.now → result ≡ number slot }
+{
+    table[((slot - FRAME_SIZE) / SLOT_SIZE) as usize]
+}
+
+/// The mark of a movable chunk.
+fn movable_mark(lock: u8, owner: u8, number: u16) -> u32
+    ensures { result ≡ marks.movable_mark lock owner number }
+{
+    if lock > 0 {
+        LOCKED
+    } else if owner == MANAGERS_OWNER {
+        MANAGERS
+    } else if number == 0 {
+        OTHER
+    } else {
+        MANAGERS + u32::from(number)
+    }
+}
+
+/// The mark of the chunk with this header, by a table of the databases of slots.
+pub(crate) fn mark_of(header: Header, table: &[u16]) -> u32
+    requires { IsRoomFor header (length table.now) }
+    ensures { (image : List ℕ) → HasNumbers (database_number image) table.now
+        → result ≡ marks.mark_by image header }
+{
+    match header {
+        Header::Free { .. } => FREE,
+        Header::Movable {
+            lock,
+            owner,
+            slot,
+            ..
+        } => movable_mark(lock, owner, number_of(slot, table)),
+        Header::Fixed { .. } => FIXED,
+    }
+}
+
+/// The letter of the database of a number, from 1 on.
+pub(crate) fn letter_of(number: u32) -> u8
+    requires { 1 ≤ number }
+    ensures { result ≡ marks.letter_of number }
+{
+    if number as usize > LETTERS.len() {
+        b'+'
+    } else {
+        LETTERS[number as usize - 1]
+    }
+}
+
+/// A mark as a byte, if it isn't that of free space.
+fn live_byte(mark: u32) -> u8
+    ensures { result ≡ marks.live_byte mark }
+{
+    match mark {
+        FIXED => b'F',
+        LOCKED => b'L',
+        MANAGERS => b'*',
+        OTHER => b'#',
+        _ => letter_of(mark - MANAGERS),
+    }
+}
+
+/// The byte of a cell, by the first mark of its chunks, by how many of its bytes are free, and by how many it has.
+pub(crate) fn cell_byte(mark: u32, free: u32, size: u32) -> u8
+    requires { free < 2 ^ 31 }
+    ensures { result ≡ marks.cell_byte mark free size }
+{
+    if mark <= LOCKED {
+        live_byte(mark)
+    } else if mark == FREE {
+        b'.'
+    } else if 2 * free >= size {
+        b':'
+    } else {
+        live_byte(mark)
+    }
+}

@@ -1,0 +1,169 @@
+//! The picture of an image, on a writer.
+
+ghost use Rattle.std.specs.Prelude.{◌≡◌, ◌≢◌, Err, IfOk, IfErr, OnOk, OnErr, is_ok, true, false};
+ghost use Rattle.heap_model.specs.Store.{Accepted};
+ghost use Rattle.heap_check.specs.Summary as heaps;
+ghost use Rattle.palm_text.specs.Counted.{Writes};
+ghost use Rattle.heap_map.specs.Pictures as pictures;
+ghost use Rattle.heap_map.specs.Pictures.{IsPicture, IsFaultOf};
+ghost use Rattle.heap_map.specs.Text.{map_text, body_lines, tail_lines};
+
+use crate::cells::{cells_of, marks_of};
+use crate::numbers::database_numbers;
+use crate::pieces::free_pieces;
+use crate::text::{put_databases, put_free, put_head, put_rows};
+use allowance::Allowance;
+use chunk_format::area_start;
+use heap_check::Summary;
+use palm_text::{Counted, WriteFault};
+use raw_region::Region;
+use std::alloc::AllocError;
+use std::io::Write;
+use store_check::{StoreFault, check_store_from};
+use thiserror::Error;
+
+/// Why no picture was written, or not all of it.
+#[derive(Clone, Copy, Debug, PartialEq, Eq, Error)]
+pub enum MapFault {
+    /// The image is refused with this first fault.
+    #[error("{0}")]
+    BadImage(StoreFault),
+    /// An allocation failed.
+    #[error("OutOfMemory")]
+    OutOfMemory,
+    /// A write failed, or took 0 bytes.
+    #[error("a write failed")]
+    Write,
+}
+
+/// The fault of a picture by that of the check.
+fn map_fault(fault: StoreFault) -> MapFault
+    ensures { result ≡ pictures.map_fault fault }
+{
+    match fault {
+        StoreFault::OutOfMemory => MapFault::OutOfMemory,
+        _ => MapFault::BadImage(fault),
+    }
+}
+
+/// What takes memory: the marks of all cells, and the size of a cell in bytes.
+#[derive(Drop)]
+struct Picture {
+    size: u32,
+    marks: Vec<u8>,
+}
+
+/// Draws an accepted image.
+fn draw<A: Allowance>(memory: &A, region: &Region) -> Result<Picture, AllocError>
+    requires { Accepted region.now.bytes }
+    ensures picture { IfOk result (IsPicture region.now.bytes) }
+    ensures short { OnErr result (A.is_short memory.now) }
+{
+    let table = database_numbers(memory, region)?;
+    let cells = cells_of(memory, region, &table)?;
+    Ok(Picture {
+        size: cells.size,
+        marks: marks_of(memory, region, &cells)?,
+    })
+}
+
+/// Checks an image, and draws it if it is accepted.
+fn checked<A: Allowance>(memory: &A, region: &Region) -> Result<(Summary, Picture), MapFault>
+    ensures accepted { OnOk result (Accepted region.now.bytes) }
+    ensures summary { IfOk result (λ both. heaps.Summarizes region.now.bytes both.0) }
+    ensures picture { IfOk result (λ both. IsPicture region.now.bytes both.1) }
+    ensures why { IfErr result (IsFaultOf region.now.bytes) }
+    ensures before { result ≢ Err MapFault.Write }
+    ensures short { result ≡ Err MapFault.OutOfMemory → A.is_short memory.now }
+{
+    let summary = match check_store_from(memory, region) {
+        Ok(summary) => summary,
+        Err(fault) => return Err(map_fault(fault)),
+    };
+    match draw(memory, region) {
+        Ok(picture) => Ok((summary.heap, picture)),
+        Err(_) => Err(MapFault::OutOfMemory),
+    }
+}
+
+/// Writes what is free, and the databases.
+#[tactic(auto, using(palm_text::proofs::Parts::then, palm_text::proofs::Parts::stops), unfolding(crate::specs::Text::tail_lines))]
+fn put_tail<W: Write>(
+    out: &mut Counted<W>,
+    region: &Region,
+    summary: &Summary,
+) -> Result<(), WriteFault>
+    requires accepted { Accepted region.now.bytes }
+    requires summary { heaps.Summarizes region.now.bytes summary.now }
+    ensures { Writes W.contents out.old out.new (tail_lines region.now.bytes) (is_ok result) }
+{
+    let pieces = free_pieces(region);
+    put_free(out, summary.free, pieces.count, pieces.largest)?;
+    put_databases(out, region)
+}
+
+/// Writes the rows, and what follows them.
+#[tactic(auto, using(palm_text::proofs::Parts::then, palm_text::proofs::Parts::stops), unfolding(crate::specs::Text::body_lines))]
+fn put_body<W: Write>(
+    out: &mut Counted<W>,
+    region: &Region,
+    summary: &Summary,
+    picture: &Picture,
+) -> Result<(), WriteFault>
+    requires accepted { Accepted region.now.bytes }
+    requires summary { heaps.Summarizes region.now.bytes summary.now }
+    requires picture { IsPicture region.now.bytes picture.now }
+    ensures { Writes W.contents out.old out.new (body_lines region.now.bytes) (is_ok result) }
+{
+    put_rows(out, area_start(region), picture.size, &picture.marks)?;
+    put_tail(out, region, summary)
+}
+
+/// Writes all lines.
+#[tactic(auto, using(palm_text::proofs::Parts::then, palm_text::proofs::Parts::stops), unfolding(crate::specs::Text::map_text))]
+fn put_lines<W: Write>(
+    out: &mut Counted<W>,
+    region: &Region,
+    summary: &Summary,
+    picture: &Picture,
+) -> Result<(), WriteFault>
+    requires accepted { Accepted region.now.bytes }
+    requires summary { heaps.Summarizes region.now.bytes summary.now }
+    requires picture { IsPicture region.now.bytes picture.now }
+    ensures { Writes W.contents out.old out.new (map_text region.now.bytes) (is_ok result) }
+{
+    put_head(
+        out,
+        summary.size,
+        summary.slots,
+        summary.movable,
+        picture.size,
+    )?;
+    put_body(out, region, summary, picture)
+}
+
+/// Writes the picture of an image as text, and flushes nothing. It changes nothing.
+///
+/// # Errors
+/// - `BadImage`: the image is not accepted; nothing was written.
+/// - `OutOfMemory`: an allocation failed; nothing was written.
+/// - `Write`: a write failed; a prefix of the picture was written.
+pub fn put_map<A: Allowance, W: Write>(
+    memory: &A,
+    region: &Region,
+    out: &mut Counted<W>,
+) -> Result<(), MapFault>
+    ensures accepted { OnOk result (Accepted region.now.bytes) }
+    ensures done { OnOk result (Writes W.contents out.old out.new (map_text region.now.bytes) true) }
+    ensures why { IfErr result (IsFaultOf region.now.bytes) }
+    ensures untouched { IfErr result (λ fault. fault ≢ MapFault.Write → out.new ≡ out.old) }
+    ensures write { result ≡ Err MapFault.Write
+        → Writes W.contents out.old out.new (map_text region.now.bytes) false }
+    ensures short { result ≡ Err MapFault.OutOfMemory → A.is_short memory.now }
+{
+    let (summary, picture) = checked(memory, region)?;
+    match put_lines(out, region, &summary, &picture) {
+        Ok(()) => Ok(()),
+        Err(_) => Err(MapFault::Write),
+    }
+}

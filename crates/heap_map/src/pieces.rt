@@ -1,0 +1,73 @@
+//! The free pieces of an image: each run of neighbouring free chunks is one.
+
+ghost use Rattle.std.specs.Prelude.{◌≡◌, ◌≤◌, ◌<◌, ◌+◌, ◌^◌, length};
+ghost use Rattle.heap_model.specs.Heap.{HeapAccepted};
+ghost use Rattle.heap_model.specs.Space.{greatest};
+ghost use Rattle.heap_map.specs.Text.{free_pieces};
+ghost use Rattle.heap_map.specs.Pieces.{free_by, run_size, with_header, with_run};
+
+use chunk_format::{Header, area_start};
+use raw_region::Region;
+
+/// The free pieces that a walk has met: the one that goes on, if there is one, how many have ended, and how many
+/// bytes the largest of these has.
+#[derive(Clone, Copy)]
+pub(crate) struct Pieces {
+    run: Option<u32>,
+    pub(crate) count: u32,
+    pub(crate) largest: u32,
+}
+
+impl Pieces {
+    /// Before the first chunk.
+    fn new() -> Pieces
+        ensures { result ≡ record { run = None; count = 0; largest = 0 } }
+    {
+        Pieces {
+            run: None,
+            count: 0,
+            largest: 0,
+        }
+    }
+
+    /// Ends the piece that goes on, if there is one.
+    fn end(&mut self)
+        requires { self.old.count < 2 ^ 31 }
+        ensures { self.new ≡ with_run self.old.run self.old }
+    {
+        if let Some(size) = self.run {
+            self.run = None;
+            self.count += 1;
+            self.largest = self.largest.max(size);
+        }
+    }
+
+    /// Adds the chunk with this header: a free one goes on with the piece, and any other one ends it.
+    fn add(&mut self, header: Header)
+        requires few { self.old.count < 2 ^ 31 }
+        requires fits { run_size self.old.run + free_by header < 2 ^ 32 }
+        ensures { self.new ≡ with_header header self.old }
+    {
+        match header {
+            Header::Free { size } => self.run = Some(self.run.unwrap_or(0) + size),
+            _ => self.end(),
+        }
+    }
+}
+
+/// The free pieces of an accepted heap.
+pub(crate) fn free_pieces(region: &Region) -> Pieces
+    requires { HeapAccepted region.now.bytes }
+    ensures count { result.count ≡ length (free_pieces region.now.bytes) }
+    ensures largest { result.largest ≡ greatest (free_pieces region.now.bytes) }
+{
+    let mut pieces = Pieces::new();
+    let mut at = area_start(region);
+    while (at as usize) < region.len() {
+        let (header, taken) = Header::at_with_size(region, at);
+        pieces.add(header);
+        at += taken;
+    }
+    pieces.end();
+    pieces
+}
