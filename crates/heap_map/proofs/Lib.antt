@@ -3,5 +3,4 @@ pub mod NumberLaws
 pub mod CellLaws
 pub mod LineLaws
 pub mod PieceLaws
-pub mod StripLaws
 pub mod FaultLaws

@@ -4,4 +4,3 @@ pub mod Cells
 pub mod Text
 pub mod Pieces
 pub mod Pictures
-pub mod Strips

@@ -20,7 +20,6 @@ mod numbers;
 mod picture;
 mod pieces;
 mod reading;
-mod strips;
 mod text;
 
 pub use picture::{MapFault, put_map};
