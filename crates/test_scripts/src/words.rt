@@ -34,6 +34,7 @@ fn shown(alloc: Global, request: &Request) -> Result<String, AllocError> {
             files,
         } => format!(in alloc; "run {image} {script} {out} {files:?}\n"),
         Request::Migrate { image, out } => format!(in alloc; "migrate {image} {out}\n"),
+        Request::Map { image } => format!(in alloc; "map {image}\n"),
         Request::List { file } => format!(in alloc; "list {file}\n"),
         Request::Canonical { file, out } => format!(in alloc; "canonical {file} {out}\n"),
     }
@@ -41,7 +42,7 @@ fn shown(alloc: Global, request: &Request) -> Result<String, AllocError> {
 
 /// Words, and how what comes of them begins, and what stands in it: commands, words that are refused,
 /// and help.
-static CASES: [(&str, &str, &str); 29] = [
+static CASES: [(&str, &str, &str); 31] = [
     ("palmheap new 128 4 a.img", "new 128 4 a.img\n", ""),
     (
         "palmheap new 4294967295 65535 --  -a",
@@ -60,6 +61,7 @@ static CASES: [(&str, &str, &str); 29] = [
         "",
     ),
     ("palmheap migrate a.img b.img", "migrate a.img b.img\n", ""),
+    ("palmheap map a.img", "map a.img\n", ""),
     ("palmheap list memo.pdb", "list memo.pdb\n", ""),
     (
         "palmheap canonical memo.pdb new.pdb",
@@ -145,6 +147,7 @@ static CASES: [(&str, &str, &str); 29] = [
         "0 ",
         "Usage: palmheap migrate <IMAGE> <OUT>",
     ),
+    ("palmheap map --help", "0 ", "Usage: palmheap map <IMAGE>"),
     ("palmheap list --help", "0 ", "Usage: palmheap list <FILE>"),
     (
         "palmheap canonical --help",
