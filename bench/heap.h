@@ -70,6 +70,7 @@ enum refusal {
     INVALID_CATEGORY,
     UNIQUE_ID_NOT_FOUND = 20,
     RESOURCE_NOT_FOUND = 23,
+    LENT = 27,
 };
 
 /* The slots of a table: where it is, 0 for the first one, and how many slots are before its own. */
@@ -78,12 +79,13 @@ struct row {
 };
 
 /* An image that is an accepted heap. The slots of all numbers below `lowest` are in use. The last slot was given in
- * the `row`. The slot `freed` is a further table's that was freed last, or 0. A list begins at each head that isn't 0; all free chunks were in their lists when they were `built`. A
+ * the `row`. The slot `freed` is a further table's that was freed last, or 0. The bytes of the chunk `lent` are lent, or of
+ * none if it is 0. A list begins at each head that isn't 0; all free chunks were in their lists when they were `built`. A
  * stretch was `packed` for the next chunk that is made. */
 struct heap {
     uint8_t *image;
     uint32_t len;
-    uint32_t lowest, freed;
+    uint32_t lowest, freed, lent;
     struct row row;
     uint32_t known[KNOWN];
     uint32_t heads[CLASSES];

@@ -19,7 +19,7 @@ build_both memory_calls memory
 
 # The kinds of call whose time doesn't depend on the heap. In the small heap the others are too few to
 # be timed.
-steady='lock_and_unlock\|size\|owner\|locks\|read\|write'
+steady='lock_and_unlock\|size\|owner\|locks\|read\|write\|take_out_and_put_back'
 
 print_table "heap of 16777208 bytes, 65535 chunks" . 16777208 65535 16 "$rounds"
 print_table "heap of 2048 bytes, 16 chunks" "$steady" 2048 16 65536 "$rounds"

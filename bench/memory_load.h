@@ -57,6 +57,8 @@ static enum refusal heap_read(const struct heap *heap, uint32_t name, uint32_t a
     struct found found;
     if (!find(heap, name, &found))
         return INVALID_HANDLE;
+    if (heap->lent == name)
+        return LENT;
     if (reaches_beyond(at, count, found.length))
         return OUT_OF_BOUNDS;
     *bytes = heap->image + found.place + at;
@@ -71,6 +73,8 @@ static enum refusal heap_write(struct heap *heap, uint32_t name, uint32_t at, co
         return INVALID_HANDLE;
     if (found.lock == 0)
         return CHUNK_NOT_LOCKED;
+    if (heap->lent == name)
+        return LENT;
     if (reaches_beyond(at, count, found.length))
         return OUT_OF_BOUNDS;
     memcpy(heap->image + found.place + at, bytes, count);
@@ -103,9 +107,33 @@ static enum refusal heap_unlock(struct heap *heap, uint32_t name, uint32_t *coun
         return INVALID_HANDLE;
     if (found.lock == 0)
         return CHUNK_NOT_LOCKED;
+    if (heap->lent == name)
+        return LENT;
     relock(heap, found.place, found.lock - 1);
     *count = found.lock - 1;
     return DONE;
+}
+
+/* Lends the bytes of a locked chunk. */
+static enum refusal heap_take_out(struct heap *heap, uint32_t name, uint8_t **bytes,
+                                  uint32_t *length)
+{
+    struct found found;
+    if (!find(heap, name, &found))
+        return INVALID_HANDLE;
+    if (found.lock == 0)
+        return CHUNK_NOT_LOCKED;
+    if (heap->lent != 0)
+        return LENT;
+    heap->lent = name;
+    *bytes = heap->image + found.place;
+    *length = found.length;
+    return DONE;
+}
+
+static void heap_put_back(struct heap *heap)
+{
+    heap->lent = 0;
 }
 
 static enum refusal heap_handle_new(struct heap *heap, uint32_t length, uint32_t owner,
@@ -260,10 +288,26 @@ static void write_chunks(struct load *load, uint8_t byte)
         add(load, heap_write(&load->heap, load->wide[i], 0, bytes, WIDTH));
 }
 
-enum call { LOCK_AND_UNLOCK, ASK_SIZE, ASK_OWNER, ASK_LOCKS, READ, WRITE, CALLS };
+static void take_out_and_put_back(struct load *load)
+{
+    for (size_t i = 0; i < load->wide_count; i++) {
+        uint8_t *bytes;
+        uint32_t length;
+        enum refusal refusal = heap_take_out(&load->heap, load->wide[i], &bytes, &length);
+        if (refusal != DONE) {
+            add(load, refusal);
+            continue;
+        }
+        add(load, bytes[0]);
+        add(load, bytes[length - 1]);
+        heap_put_back(&load->heap);
+    }
+}
+
+enum call { LOCK_AND_UNLOCK, ASK_SIZE, ASK_OWNER, ASK_LOCKS, READ, WRITE, TAKE_OUT_AND_PUT_BACK, CALLS };
 
 static const char *const CALL_NAMES[CALLS] = {
-    "lock_and_unlock", "size", "owner", "locks", "read", "write",
+    "lock_and_unlock", "size", "owner", "locks", "read", "write", "take_out_and_put_back",
 };
 
 /* Does a call at each handle, or at each one of a chunk that has 16 bytes, so many times. */
@@ -276,7 +320,8 @@ static void repeat(struct load *load, enum call call, uint32_t passes)
         case ASK_OWNER: ask_owners(load); break;
         case ASK_LOCKS: ask_locks(load); break;
         case READ: read_chunks(load); break;
-        default: write_chunks(load, (uint8_t)pass); break;
+        case WRITE: write_chunks(load, (uint8_t)pass); break;
+        default: take_out_and_put_back(load); break;
         }
     }
 }
@@ -286,6 +331,8 @@ static size_t calls_of_pass(const struct load *load, enum call call)
 {
     if (call == LOCK_AND_UNLOCK)
         return 2 * load->handle_count;
+    if (call == TAKE_OUT_AND_PUT_BACK)
+        return 2 * load->wide_count;
     return call < READ ? load->handle_count : load->wide_count;
 }
 

@@ -46,6 +46,7 @@ run() {
 
 run 'rt python3' ./palmheap --version
 run 'grep' tests/growths.sh
+run 'rt' tests/dropped_loans.sh
 run 'rt' tests/program.sh
 run 'rt cmp' tests/hostile.sh
 run 'rt awk diff' tests/maps.sh

@@ -1,6 +1,7 @@
 #!/bin/sh
 # Files of other programs: each is imported into a blank image, exported again, and read back by the program that
-# made it. What it reads has to be the same. docs/FORMAT.md says what may differ byte by byte.
+# made it. What it reads has to be the same. docs/FORMAT.md says what may differ byte by byte. Each is also unpacked and
+# packed, which gives the same bytes as the export.
 #
 #   tests/peers.sh [PROGRAM]
 #
@@ -43,6 +44,12 @@ rewrite() {
     esac
 }
 
+# apart FILE: takes a file apart and puts it together again: the same bytes as the export
+apart() {
+    "$program" unpack "$1" "$1.parts" >printed && "$program" pack "$1.parts" "$1.packed" >printed || failed=1
+    is "$1" "$1.packed" "$1.out"
+}
+
 # through FILE: imports a file and exports it, to FILE.out
 through() {
     printf 'import d 1\nexport d\n' >calls.txt
@@ -52,6 +59,7 @@ through() {
     fi
     mv after.img.1 "$1.out" || exit 1
     rewrite "$1"
+    apart "$1"
     printf '%-12s %7s bytes, %7s written, %s of them others: %s\n' "$1" "$(wc -c <"$1")" "$(wc -c <"$1.out")" \
         "$(cmp -l "$1" "$1.out" 2>/dev/null | wc -l)" "$(tail -n 1 listed)"
 }
@@ -107,6 +115,18 @@ for file in memos.pdb people.pdb tool.prc; do
     grep -Eq '^re(cord|source) ' before.txt || { printf '%s: nothing was read\n' "$file" >&2; failed=1; }
     is "$file" before.txt after.txt
 done
+
+# Memos of which one was changed and one is new.
+printf 'Buy bread\000' >memos.pdb.parts/00000
+printf 'Call Anna\000' >memos.pdb.parts/new
+sed 's/^record [0-9a-f]* \([0-9]*\) 00000$/record 03 \1 00000/' memos.pdb.parts/database >text &&
+    echo 'record 01 0 new' >>text && mv text memos.pdb.parts/database
+"$program" pack memos.pdb.parts changed.pdb >printed || failed=1
+perl show.pl changed.pdb | sed -n 's/^record [0-9]* category \([0-9]*\).* \([0-9a-f]*\)$/\1 \2/p' >after.txt || failed=1
+perl show.pl memos.pdb | sed -n 's/^record [0-9]* category \([0-9]*\).* \([0-9a-f]*\)$/\1 \2/p' |
+    sed '1s/.*/3 42757920627265616400/' >before.txt
+echo '1 43616c6c20416e6e6100' >>before.txt
+is changed.pdb before.txt after.txt
 
 # A document of compressed text.
 perl -e 'print "Line $_ of a text that is long enough for several records.\n" for 1 .. 400' >text.txt

@@ -150,6 +150,32 @@ ok 80' 'fault write
 c.img.1: No space left on device (os error 28)' run blank.img files.txt c.img empty.pdb
 rm c.img c.img.1
 
+# folders of parts: what is there stays, a part is a file, and what can't be written whole leaves nothing
+says 'a file that is unpacked' 0 'ok 1' '' unpack empty.pdb parts
+says 'a folder that is there' 3 '' 'fault write
+parts: File exists (os error 17)' unpack empty.pdb parts
+ln -s nowhere hanging
+says 'a link that is there' 3 '' 'fault write
+hanging: File exists (os error 17)' unpack empty.pdb hanging
+sed 's/app none/app part/' parts/database >text && mv text parts/database
+for kind in 'ln -s ../empty.pdb' mkdir mkfifo; do
+    $kind parts/part
+    says "a part by $kind" 3 '' 'fault read
+parts/part: not a file' pack parts out.pdb
+    rm -r parts/part
+done
+says 'a part that is missing' 3 '' 'fault read
+parts/part: No such file or directory (os error 2)' pack parts out.pdb
+head -c 17000000 /dev/zero >parts/part
+says 'a part that is too long' 3 '' 'fault read
+parts/part: longer than 16777216 bytes' pack parts out.pdb
+head -c 16777216 /dev/zero >parts/part
+says 'a file that would be too large' 1 'bad TooLarge' '' pack parts out.pdb
+is 'nothing is packed' '' "$(ls out.pdb 2>/dev/null)"
+(trap '' XFSZ; ulimit -f 0 && exec "$program" unpack empty.pdb full) >printed 2>complained
+is 'an unpacked file over a limit leaves nothing' '' "$(ls full 2>/dev/null)"
+rm -r parts hanging
+
 # memory that is refused is told, and nothing else: the more there is, the further a run gets
 "$program" new 16777208 4 large.img >printed
 told=0

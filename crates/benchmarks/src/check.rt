@@ -2,6 +2,8 @@
 //! and the median time of so many checks in microseconds. With no words the image is a blank one. bench/check_heap.c
 //! makes the same checks in plain C.
 
+ghost use Rattle.std.specs.Prelude.{◌≡◌, IfOk, None};
+
 use crate::timing::Times;
 use crate::work::{Field, NONE, Work};
 use anyhow::Result;
@@ -29,14 +31,18 @@ pub(crate) fn run(rt: &(impl Clock + Files + Print + AllocGlobal), work: Work<'_
 }
 
 /// The region of an image in a file, or a blank one.
-fn region_of(rt: &(impl Files + AllocGlobal), image: Option<&str>) -> Result<Region> {
+fn region_of(rt: &(impl Files + AllocGlobal), image: Option<&str>) -> Result<Region>
+    ensures { IfOk result (λ region. region.lent ≡ None) }
+{
     match image {
         Some(image) => read_region(rt, image),
         None => Ok(blank(rt.alloc(), 4096, 64)?),
     }
 }
 
-fn read_region(rt: &(impl Files + AllocGlobal), image: &str) -> Result<Region> {
+fn read_region(rt: &(impl Files + AllocGlobal), image: &str) -> Result<Region>
+    ensures { IfOk result (λ region. region.lent ≡ None) }
+{
     let bytes = fs::read(rt, image)?;
     Ok(Region::from_bytes(rt.alloc(), &bytes)?)
 }
@@ -46,7 +52,9 @@ fn time_checks(
     rt: &(impl Clock + Print + AllocGlobal),
     region: &Region,
     repeats: u16,
-) -> io::Result<()> {
+) -> io::Result<()>
+    requires { region.now.lent ≡ None }
+{
     let mut times = Times::new(rt.alloc());
     for _ in 0..repeats {
         time_heap_check(rt, region, &mut times)?;
@@ -55,11 +63,9 @@ fn time_checks(
 }
 
 /// Adds how long a check takes, whose answer is thrown away.
-pub(crate) fn time_heap_check(
-    rt: &impl Clock,
-    region: &Region,
-    times: &mut Times,
-) -> io::Result<()> {
+pub(crate) fn time_heap_check(rt: &impl Clock, region: &Region, times: &mut Times) -> io::Result<()>
+    requires { region.now.lent ≡ None }
+{
     let start = Instant::now(rt)?;
     let _ = check_heap(region);
     times.add(start.elapsed(rt)?)?;

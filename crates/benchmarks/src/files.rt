@@ -6,8 +6,11 @@
 //! The last line has the sum of the lengths of the exported files, and that of the words of images and files. With no
 //! words it alone is printed, of small files. bench/files.c does the same in plain C.
 
+ghost use Rattle.std.specs.Prelude.{◌≡◌, IfOk, None};
+
 mod shapes;
 
+use crate::records::{accepted, region_of};
 use crate::timing::{Sum, Sums, Times};
 use crate::work::{Field, NONE, Work};
 use anyhow::Result;
@@ -99,7 +102,9 @@ fn time_import(
     store: &mut Store,
     file: &[u8],
     times: &mut Times,
-) -> Result<Db> {
+) -> Result<Db>
+    ensures { store.new.lent ≡ store.old.lent }
+{
     let start = rt.thread_cpu_time()?;
     let db = import(rt.alloc(), store, file)?;
     times.add_since(rt, start)?;
@@ -120,15 +125,19 @@ fn time_export(
 }
 
 /// A store with nothing in it.
-fn blank_store(alloc: Global, work: Work<'_>) -> Result<Store> {
+fn blank_store(alloc: Global, work: Work<'_>) -> Result<Store>
+    ensures { IfOk result (λ store. store.lent ≡ None) }
+{
     let region = blank(alloc, work.size, work.slots)?;
-    Ok(Store::check(alloc, region)?)
+    accepted(alloc, region)
 }
 
 /// Adds the length of an exported file, and the words of the image and of the file.
-fn sum_up(sums: &mut Sums, store: Store, out: &Bytes) {
+fn sum_up(sums: &mut Sums, store: Store, out: &Bytes)
+    requires { store.lent ≡ None }
+{
     let out = out.as_slice();
     let length = Sum(out.len().min(u32::MAX as usize) as u32);
-    sums.add(length, store.into_region().as_slice());
+    sums.add(length, region_of(store).as_slice());
     sums.words.add(Sum::of_words(out).0);
 }

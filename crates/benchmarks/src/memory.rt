@@ -10,6 +10,8 @@
 //! The last line has the sum of all replies, and that of the words of the heaps at the end. With no
 //! words it alone is printed, of a small heap. bench/memory_calls.c does the same calls in plain C.
 
+ghost use Rattle.std.specs.Prelude.{◌≡◌, IfOk, None};
+
 mod heaps;
 mod load;
 mod numbers;
@@ -19,9 +21,9 @@ use crate::timing::{Sum, Sums, Times};
 use crate::work::{Field, NONE, Work};
 use anyhow::Result;
 use chunk_format::blank;
-use heaps::{Original, TABLE_SLOTS, chained_heap, full, one_class};
+use heaps::{Original, TABLE_SLOTS, adopted, chained_heap, full, one_class};
 pub(crate) use heaps::{TABLES_APART, TABLES_IN_A_ROW};
-use load::{Call, Load};
+use load::{Call, Load, region_of};
 use mem_manager::Heap;
 use std::alloc::Global;
 use std::io;
@@ -47,13 +49,14 @@ const MOST_MOVED: u16 = 2000;
 const MOST_BYTES: u16 = 64;
 
 /// The calls whose time doesn't depend on the heap, by what is printed of them.
-static CALLS: [(&str, Call); 6] = [
+static CALLS: [(&str, Call); 7] = [
     ("lock_and_unlock", Call::LockAndUnlock),
     ("size", Call::Size),
     ("owner", Call::Owner),
     ("locks", Call::Locks),
     ("read", Call::Read),
     ("write", Call::Write),
+    ("take_out_and_put_back", Call::TakeOutAndPutBack),
 ];
 
 /// The calls that walk through all chunks or move them, by what is printed of them.
@@ -114,7 +117,9 @@ fn time_load(
     work: Work<'_>,
     heap: Heap,
     sums: &mut Sums,
-) -> Result<()> {
+) -> Result<()>
+    requires { heap.lent ≡ None }
+{
     let mut load = Load::new(rt.alloc(), heap, MOST_BYTES);
     time_kinds(rt, &mut load, work)?;
     load.add_to(sums);
@@ -175,16 +180,20 @@ fn time_walks(
     original: &Original,
     walks: &[(&str, Walk)],
     sums: &mut Sums,
-) -> Result<()> {
+) -> Result<()>
+    requires { original.now.region.lent ≡ None }
+{
     for (name, walk) in walks {
         walk_through(rt, work, original, name, *walk, sums)?;
     }
     Ok(())
 }
 
-fn blank_heap(alloc: Global, work: Work<'_>) -> Result<Heap> {
+fn blank_heap(alloc: Global, work: Work<'_>) -> Result<Heap>
+    ensures { IfOk result (λ heap. heap.lent ≡ None) }
+{
     let region = blank(alloc, work.size, work.slots)?;
-    Ok(Heap::adopt(region)?)
+    adopted(region)
 }
 
 /// How many chunks are freed and made again in a round.
@@ -284,7 +293,9 @@ fn walk_through(
     name: &str,
     walk: Walk,
     sums: &mut Sums,
-) -> Result<()> {
+) -> Result<()>
+    requires { original.now.region.lent ≡ None }
+{
     let mut times = Times::new(rt.alloc());
     for _ in 0..work.rounds {
         walk_copy(rt, original, walk, sums, &mut times)?;
@@ -300,11 +311,13 @@ fn walk_copy(
     walk: Walk,
     sums: &mut Sums,
     times: &mut Times,
-) -> Result<()> {
+) -> Result<()>
+    requires { original.now.region.lent ≡ None }
+{
     let mut heap = original.copy(rt.alloc())?;
     original.prepare(&mut heap, walk);
     let replies = time_walk(rt, original, walk, &mut heap, times)?;
-    sums.add(replies, heap.into_region().as_slice());
+    sums.add(replies, region_of(heap).as_slice());
     Ok(())
 }
 
@@ -315,7 +328,9 @@ fn time_walk(
     walk: Walk,
     heap: &mut Heap,
     times: &mut Times,
-) -> io::Result<Sum> {
+) -> io::Result<Sum>
+    ensures { heap.new.lent ≡ heap.old.lent }
+{
     let start = rt.thread_cpu_time()?;
     let replies = original.walk(heap, walk);
     times.add_since(rt, start)?;

@@ -7,16 +7,19 @@
 //! The last line has the sum of all replies, and that of the words of the images at the end. With no words it
 //! alone is printed, of small databases. bench/record_calls.c does the same calls in plain C.
 
+ghost use Rattle.std.specs.Prelude.{◌≡◌, IfOk, None};
+
 mod load;
 mod resources;
 
 use crate::timing::{Sums, Times};
 use crate::work::{Field, NONE, Work};
-use anyhow::Result;
+use anyhow::{Result, bail};
 use chunk_format::blank;
 use heap_model::{Db, DbName};
 use load::{Call, Load};
 use palm_store::Store;
+use raw_region::Region;
 use resources::ResourceLoad;
 use std::alloc::Global;
 use std::io;
@@ -111,10 +114,34 @@ fn blank_store(
     name: &[u8],
     kind: u32,
     resources: bool,
-) -> Result<(Store, Db)> {
-    let mut store = Store::check(alloc, blank(alloc, work.size, work.slots)?)?;
+) -> Result<(Store, Db)>
+    ensures { IfOk result (λ made. made.0.lent ≡ None) }
+{
+    let mut store = accepted(alloc, blank(alloc, work.size, work.slots)?)?;
     let db = store.create(&DbName::of(name), kind, CREATOR, resources, 0)?;
     Ok((store, db))
+}
+
+/// The store of a region.
+pub(crate) fn accepted(alloc: Global, region: Region) -> Result<Store>
+    requires { region.lent ≡ None }
+    ensures { IfOk result (λ store. store.lent ≡ None) }
+{
+    match Store::check(alloc, region) {
+        Ok(store) => Ok(store),
+        Err(error) => bail!("{}", error.fault),
+    }
+}
+
+/// The region of a store of which nothing is lent.
+pub(crate) fn region_of(store: Store) -> Region
+    requires { store.lent ≡ None }
+    ensures { result ≡ store }
+{
+    match store.into_region() {
+        Ok(region) => region,
+        Err(_) => unreachable!(),
+    }
 }
 
 /// Does calls of one kind in each round.

@@ -2,6 +2,8 @@
 //! stores says of each, and the best and the median time of so many checks by either checker in microseconds. With no
 //! words it prints what is found alone.
 
+ghost use Rattle.std.specs.Prelude.{◌≡◌, None};
+
 mod image;
 
 use crate::check::time_heap_check;
@@ -76,7 +78,9 @@ fn time_both(
     rt: &(impl Clock + Print + AllocGlobal),
     region: &Region,
     repeats: u16,
-) -> io::Result<()> {
+) -> io::Result<()>
+    requires { region.now.lent ≡ None }
+{
     let (mut heap, mut store) = (Times::new(rt.alloc()), Times::new(rt.alloc()));
     for _ in 0..repeats {
         time_turn(rt, region, &mut heap, &mut store)?;
@@ -91,7 +95,9 @@ fn time_turn(
     region: &Region,
     heap: &mut Times,
     store: &mut Times,
-) -> io::Result<()> {
+) -> io::Result<()>
+    requires { region.now.lent ≡ None }
+{
     time_heap_check(rt, region, heap)?;
     time_store_check(rt, region, store)
 }
@@ -101,7 +107,9 @@ fn time_store_check(
     rt: &(impl Clock + AllocGlobal),
     region: &Region,
     times: &mut Times,
-) -> io::Result<()> {
+) -> io::Result<()>
+    requires { region.now.lent ≡ None }
+{
     let start = Instant::now(rt)?;
     let _ = check_store(rt.alloc(), region);
     times.add(start.elapsed(rt)?)?;

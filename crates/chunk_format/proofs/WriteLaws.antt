@@ -38,11 +38,11 @@ words_read old at first second inside fits_first fits_second =
       second_is = u32_at-written second (at + 4) one (omega arith) fits_second;
     }
 
--- the value of the body of so many bytes that stands behind those words
+-- the value of the body of `count` bytes after those words
 abbrev behind_words : List ℕ → ℕ → ℕ → ℕ → ℕ → ℕ → List ℕ
 behind_words old at count lock owner h_offset = seen lock owner (slice_range (overwritten old at (live_words count lock owner h_offset)) (at + 8) (at + 8 + count))
 
--- the chunk of so many bytes that stands behind those words
+-- the chunk of `count` bytes after those words
 live_written : (old : List ℕ) (at count lock owner h_offset : ℕ) → at + need count ≤ length old → need count < 2 ^ 24 → lock < 16 → owner < 16 → h_offset < 2 ^ 24
     → IsLive (overwritten old at (live_words count lock owner h_offset)) at (behind_words old at count lock owner h_offset) lock owner h_offset
     × (length (behind_words old at count lock owner h_offset) ≡ count)

@@ -15,12 +15,12 @@ pub record IsRegionSize (size : ℕ) : Type 0 where
   pub most : size ≤ most_size
   pub whole : size % 8 ≡ 0
 
--- there is a slot, and so many leave room for a chunk
+-- there is a slot, and the slots leave room for a chunk
 pub record LeavesRoom (size slots : ℕ) : Type 0 where
   pub some_slot : 0 < slots
   pub a_chunk_fits : start_behind slots + 8 ≤ size
 
--- an accepted heap of this size and with so many slots, which holds nothing: one free chunk, in whose
+-- an accepted heap of this size and with this number of slots, which holds nothing: one free chunk, in whose
 -- first word nothing but the free bit and the size is set, and zeros behind that word
 pub record IsBlank (size slots : ℕ) (image : List ℕ) : Type 0 where
   pub size_is : length image ≡ size

@@ -19,7 +19,7 @@ size_by (headers.Free size) = size
 size_by (headers.Movable length lock owner slot) = need length
 size_by (headers.Fixed length owner) = need length
 
--- the header of a live chunk of so many bytes at an offset, by its second word
+-- the header of a live chunk of `length` bytes at an offset, by its second word
 abbrev pub live_header_by : ℕ → ℕ → ℕ → Header
 live_header_by at length word =
     if lock_field word == fixed_lock then headers.Fixed length (owner_field word)
@@ -88,7 +88,7 @@ pub record Reowns (old new : List ℕ) (at owner : ℕ) : Type 0 where
   pub movable_too : (bytes : List ℕ) (lock was slot : ℕ) → MayStand lock owner → Spelled old at (movable bytes lock was slot) → Spelled new at (movable bytes lock owner slot)
   pub fixed_too : (bytes : List ℕ) (was : ℕ) → managers_owner < was → managers_owner < owner → Spelled old at (fixed bytes was) → Spelled new at (fixed bytes owner)
 
--- the two words of a live chunk of so many bytes: sizeAdj above the size, and the lock above the
+-- the two words of a live chunk of `length` bytes: sizeAdj above the size, and the lock above the
 -- owner above hOffset
 abbrev pub live_words : ℕ → ℕ → ℕ → ℕ → List ℕ
 live_words length lock owner h_offset = u32_bytes ((need length - 8 - length) * 2 ^ 24 + need length) ++ u32_bytes (lock * 2 ^ 28 + owner * 2 ^ 24 + h_offset)

@@ -1,5 +1,6 @@
 //! The frame of an image: the 16 bytes in front of the master pointer table, what stands in them, and
 //! how small and how large an image may be. Where the table ends and the chunks begin follows from it.
+#![tactic(auto, using(laws_heap::proofs::Lending::part_within))]
 
 ghost use Rattle.std.specs.Prelude.{◌≡◌, ◌↔◌, ◌⊎◌, ◌<◌, ◌≤◌, ◌+◌, ◌^◌, if◌then◌else◌, length, IsTrue};
 ghost use Rattle.heap_model.specs.Memory.{IsWithin};
@@ -68,7 +69,7 @@ pub fn has_magic(region: &Region) -> bool
     word == MAGIC || word == CHAINED_MAGIC
 }
 
-/// Whether the image has a chain of tables: a word `next` stands behind the first.
+/// Whether the image has a chain of tables: a word `next` follows the first table.
 #[inline]
 pub fn is_chained(region: &Region) -> bool
     requires { HasFrame region.now }
@@ -128,7 +129,7 @@ pub fn head_end(region: &Region) -> u32
     end_with(slot_count(region), is_chained(region))
 }
 
-/// Where a head ends with a first table of so many slots, and a word `next` behind it if it is a chain's.
+/// The end of a head whose first table has `slots` slots. A chain's head has the word `next` after the table.
 #[inline]
 fn end_with(slots: u16, chained: bool) -> u32
     ensures is { result ≡ model_behind_end slots + (if chained then next_size else 0) }
@@ -138,11 +139,11 @@ fn end_with(slots: u16, chained: bool) -> u32
     if chained { end + NEXT_SIZE } else { end }
 }
 
-/// The word `next` behind the first table, or 0 where the image isn't chained.
+/// The word `next` after the first table, or 0 if the image isn't chained.
 #[inline]
 pub fn first_next(region: &Region) -> u32
     requires frame { HasFrame region.now }
-    requires inside { model_end region.now.bytes ≤ length region.now.bytes }
+    requires inside { IsWithin region.now 0 (model_end region.now.bytes) }
     ensures { result ≡ model_next region.now.bytes }
 {
     if is_chained(region) {
@@ -152,11 +153,11 @@ pub fn first_next(region: &Region) -> u32
     }
 }
 
-/// The word behind the first table.
+/// The word after the first table.
 #[inline]
 fn word_behind(region: &Region) -> u32
     requires frame { HasFrame region.now }
-    requires inside { model_table region.now.bytes + 4 ≤ length region.now.bytes }
+    requires inside { IsWithin region.now (model_table region.now.bytes) NEXT_SIZE }
     ensures { result ≡ u32_at region.now.bytes (model_table region.now.bytes) }
 {
     region.get_u32(FRAME_SIZE as usize + SLOT_SIZE as usize * slot_count(region) as usize)
@@ -171,7 +172,7 @@ pub fn area_start(region: &Region) -> u32
     8 * ((end_with(slot_count(region), is_chained(region)) + 7) / 8)
 }
 
-/// Where the first chunk begins behind one table of so many slots.
+/// The offset of the first chunk after an only table of `slots` slots.
 #[inline]
 pub(crate) fn start_behind(slots: u16) -> u32
     ensures { result ≡ model_behind slots }

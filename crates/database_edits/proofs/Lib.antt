@@ -11,3 +11,4 @@ pub mod Pieces
 pub mod HeadersHere
 pub mod RaisedNumbers
 pub mod Recorded
+pub mod Loans

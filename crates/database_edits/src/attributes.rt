@@ -1,6 +1,7 @@
 //! The attributes of all records of a database, changed in one pass.
 
 ghost use Rattle.std.specs.Prelude.{◌≡◌, false};
+ghost use Rattle.heap_model.specs.Lending.{KeepsLoan};
 ghost use Rattle.heap_model.specs.Leaving.{SpellsHere};
 ghost use Rattle.mem_manager.specs.Lookup.{StandsAs};
 ghost use Rattle.database_edits.specs.Recorded.{attributes_changed};
@@ -12,7 +13,7 @@ use mem_manager::{Found, Heap};
 use raw_region::ByteChange;
 
 /// Gives each record the attributes that a change makes of its own.
-#[tactic(auto, using(crate::proofs::Recorded::long_enough, crate::proofs::Recorded::short_enough))]
+#[tactic(auto, using(crate::proofs::Recorded::long_enough, crate::proofs::Recorded::short_enough, crate::proofs::Loans::spelled_here))]
 pub fn change_attributes<C: ByteChange>(heap: &mut Heap, db: Db, chunk: Found, change: C)
     requires stands { StandsAs heap.old.bytes db.0 chunk }
     requires spells { SpellsHere heap.old.bytes db.0 }
@@ -20,6 +21,7 @@ pub fn change_attributes<C: ByteChange>(heap: &mut Heap, db: Db, chunk: Found, c
     ensures changed { Changes heap.old.bytes heap.new.bytes db.0
         (attributes_changed (C.made change)) }
     ensures stands { StandsAs heap.new.bytes db.0 chunk }
+    ensures loan { KeepsLoan heap.old heap.new }
     ensures rest { heap.new ≡ record heap.old { bytes = heap.new.bytes } }
 {
     let entries = heap.sys_body_found(Name(db.0), chunk).len() - HEADER_SIZE;

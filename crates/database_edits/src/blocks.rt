@@ -2,6 +2,7 @@
 
 ghost use Rattle.std.specs.Prelude.{◌≡◌};
 ghost use Rattle.heap_model.specs.Database.{DatabaseFits};
+ghost use Rattle.heap_model.specs.Lending.{KeepsLoan};
 ghost use Rattle.heap_model.specs.Leaving.{SpellsHere, database_here};
 ghost use Rattle.mem_manager.specs.Lookup.{StandsAs};
 ghost use Rattle.database_edits.specs.Edits.{Changes, with_block};
@@ -17,6 +18,7 @@ pub fn write_block(heap: &mut Heap, db: Db, chunk: Found, which: Which, slot: u3
     requires spells { SpellsHere heap.old.bytes db.0 }
     ensures written { Changes heap.old.bytes heap.new.bytes db.0 (with_block which slot) }
     ensures fits { DatabaseFits (with_block which slot (database_here heap.old.bytes db.0)) }
+    ensures loan { KeepsLoan heap.old heap.new }
     ensures rest { heap.new ≡ record heap.old { bytes = heap.new.bytes } }
 {
     let heading = heading_here(heap, db, chunk);

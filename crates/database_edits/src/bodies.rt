@@ -6,6 +6,7 @@ ghost use Rattle.heap_model.specs.Chunk.{need};
 ghost use Rattle.heap_model.specs.Space.{ShortFor};
 ghost use Rattle.heap_model.specs.Database.{entry_bytes};
 ghost use Rattle.heap_model.specs.Database as databases;
+ghost use Rattle.heap_model.specs.Lending.{KeepsLoan};
 ghost use Rattle.heap_model.specs.Leaving.{SpellsHere, database_here};
 ghost use Rattle.heap_model.specs.Store.{bytes_under};
 ghost use Rattle.db_format.specs.EitherEntry.{entry_of, is_resource, HasFittingId};
@@ -28,6 +29,7 @@ pub(crate) fn put_part(heap: &mut Heap, db: Db, chunk: Found, at: u32, part: &[u
     ensures writes { Rebodies heap.old.bytes heap.new.bytes db.0
         (overwritten (bytes_under heap.old.bytes db.0) at part.now) }
     ensures stands { StandsAs heap.new.bytes db.0 chunk }
+    ensures loan { KeepsLoan heap.old heap.new }
     ensures rest { heap.new ≡ record heap.old { bytes = heap.new.bytes } }
 {
     heap.sys_write(Name(db.0), chunk, at, part);
@@ -55,6 +57,7 @@ pub(crate) fn put_entry(
         (databases.entry_offset resources index) (entry_bytes (entry_of entry))) }
     ensures len { length (bytes_under heap.new.bytes db.0) ≡ length (bytes_under heap.old.bytes db.0) }
     ensures stands { StandsAs heap.new.bytes db.0 chunk }
+    ensures loan { KeepsLoan heap.old heap.new }
     ensures rest { heap.new ≡ record heap.old { bytes = heap.new.bytes } }
 {
     let at = entry_offset(resources, index) as u32;
@@ -89,6 +92,7 @@ pub(crate) fn slide_entries(
         (databases.entry_offset resources first) (databases.entry_offset resources end))) }
     ensures len { length (bytes_under heap.new.bytes db.0) ≡ length (bytes_under heap.old.bytes db.0) }
     ensures stands { StandsAs heap.new.bytes db.0 chunk }
+    ensures loan { KeepsLoan heap.old heap.new }
     ensures rest { heap.new ≡ record heap.old { bytes = heap.new.bytes; slid = heap.new.slid } }
 {
     if first >= end {
@@ -116,6 +120,7 @@ pub(crate) fn grow(heap: &mut Heap, db: Db, chunk: Found, size: u32) -> Result<(
     ensures no_room { OnErr result (ShortFor heap.old.bytes db.0 (need size)) }
     ensures refusal { IfErr result (λ refusal. refusal ≡ Refusal.NotEnoughSpace) }
     ensures refused { OnErr result (heap.new ≡ heap.old) }
+    ensures loan { KeepsLoan heap.old heap.new }
     ensures rest { heap.new ≡ record heap.old { bytes = heap.new.bytes; slid = heap.new.slid } }
 {
     heap.sys_resize(Name(db.0), chunk, size)
@@ -129,6 +134,7 @@ pub(crate) fn shrink(heap: &mut Heap, db: Db, chunk: Found, size: u32)
     requires inside { size ≤ length (bytes_under heap.old.bytes db.0) }
     ensures shrinks { Rebodies heap.old.bytes heap.new.bytes db.0
         (sized_to (bytes_under heap.old.bytes db.0) size) }
+    ensures loan { KeepsLoan heap.old heap.new }
     ensures rest { heap.new ≡ record heap.old { bytes = heap.new.bytes; slid = heap.new.slid } }
 {
     heap.sys_resize(Name(db.0), chunk, size).unwrap();

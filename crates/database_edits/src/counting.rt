@@ -2,6 +2,7 @@
 
 ghost use Rattle.std.specs.Prelude.{◌≡◌};
 ghost use Rattle.heap_model.specs.Space.{MovesNothing};
+ghost use Rattle.heap_model.specs.Lending.{KeepsLoan};
 ghost use Rattle.heap_model.specs.Leaving.{SpellsHere, database_here};
 ghost use Rattle.mem_manager.specs.Lookup.{StandsAs};
 ghost use Rattle.database_edits.specs.Edits.{Changes, counted, counted_if};
@@ -20,6 +21,7 @@ pub fn count_change(heap: &mut Heap, db: Db, chunk: Found)
     ensures now { database_here heap.new.bytes db.0 ≡ counted (database_here heap.old.bytes db.0) }
     ensures unmoved { MovesNothing heap.old.bytes heap.new.bytes }
     ensures stands { StandsAs heap.new.bytes db.0 chunk }
+    ensures loan { KeepsLoan heap.old heap.new }
     ensures rest { heap.new ≡ record heap.old { bytes = heap.new.bytes } }
 {
     let heading = heading_here(heap, db, chunk);
@@ -36,6 +38,7 @@ pub(crate) fn count_change_if(heap: &mut Heap, db: Db, chunk: Found, counts: boo
     ensures now { database_here heap.new.bytes db.0
         ≡ counted_if counts (database_here heap.old.bytes db.0) }
     ensures stands { StandsAs heap.new.bytes db.0 chunk }
+    ensures loan { KeepsLoan heap.old heap.new }
     ensures rest { heap.new ≡ record heap.old { bytes = heap.new.bytes } }
 {
     if counts {

@@ -4,6 +4,7 @@ ghost use Rattle.std.specs.Prelude.{◌≡◌, ◌≤◌, length};
 ghost use Rattle.heap_model.specs.DatabaseFields.{header_size};
 ghost use Rattle.heap_model.specs.Database as databases;
 ghost use Rattle.heap_model.specs.Space.{MovesNothing};
+ghost use Rattle.heap_model.specs.Lending.{KeepsLoan};
 ghost use Rattle.heap_model.specs.Leaving.{SpellsHere, database_here};
 ghost use Rattle.heap_model.specs.Store.{bytes_under};
 ghost use Rattle.db_format.specs.Headers.{HasModificationNumber, HasSeed, HasEntryCount, HasInfoBlock};
@@ -55,6 +56,7 @@ pub(crate) fn put_modification_number(heap: &mut Heap, db: Db, chunk: Found, num
     ensures puts { PutsHeader heap.old.bytes heap.new.bytes db.0 (HasModificationNumber number) }
     ensures unmoved { MovesNothing heap.old.bytes heap.new.bytes }
     ensures stands { StandsAs heap.new.bytes db.0 chunk }
+    ensures loan { KeepsLoan heap.old heap.new }
     ensures rest { heap.new ≡ record heap.old { bytes = heap.new.bytes } }
 {
     let bytes = modification_number_bytes(number);
@@ -71,6 +73,7 @@ pub(crate) fn put_seed(heap: &mut Heap, db: Db, chunk: Found, seed: u32)
     ensures managers { IsManagers heap.new.bytes db.0 }
     ensures inside { header_size ≤ length (bytes_under heap.new.bytes db.0) }
     ensures stands { StandsAs heap.new.bytes db.0 chunk }
+    ensures loan { KeepsLoan heap.old heap.new }
     ensures rest { heap.new ≡ record heap.old { bytes = heap.new.bytes } }
 {
     let bytes = seed_bytes(seed);
@@ -87,6 +90,7 @@ pub(crate) fn put_entry_count(heap: &mut Heap, db: Db, chunk: Found, count: u16)
     ensures managers { IsManagers heap.new.bytes db.0 }
     ensures inside { header_size ≤ length (bytes_under heap.new.bytes db.0) }
     ensures stands { StandsAs heap.new.bytes db.0 chunk }
+    ensures loan { KeepsLoan heap.old heap.new }
     ensures rest { heap.new ≡ record heap.old { bytes = heap.new.bytes } }
 {
     let bytes = entry_count_bytes(count);
@@ -102,6 +106,7 @@ pub(crate) fn put_info_block(heap: &mut Heap, db: Db, chunk: Found, which: Which
     ensures managers { IsManagers heap.new.bytes db.0 }
     ensures inside { header_size ≤ length (bytes_under heap.new.bytes db.0) }
     ensures stands { StandsAs heap.new.bytes db.0 chunk }
+    ensures loan { KeepsLoan heap.old heap.new }
     ensures rest { heap.new ≡ record heap.old { bytes = heap.new.bytes } }
 {
     let bytes = info_block_bytes(slot);

@@ -4,7 +4,7 @@
 //! Each function takes a heap in which a chunk spells a database (`SpellsHere`), whatever else of the store
 //! is on its way, and promises which database it spells afterwards, and that all other chunks are as they
 //! were. What the entries name isn't looked at.
-#![tactic(auto)]
+#![tactic(auto, using(laws_heap::proofs::KeptLoans::keeps_then, crate::proofs::Loans::managers_here, crate::proofs::Loans::spelled_here))]
 
 mod attributes;
 mod blocks;

@@ -1,6 +1,7 @@
 //! An entry moved.
 
 ghost use Rattle.std.specs.Prelude.{◌≡◌, ◌<◌, ◌≤◌, ◌+◌, length};
+ghost use Rattle.heap_model.specs.Lending.{KeepsLoan};
 ghost use Rattle.heap_model.specs.Leaving.{SpellsHere, database_here};
 ghost use Rattle.mem_manager.specs.Lookup.{StandsAs};
 ghost use Rattle.database_edits.specs.Edits.{Changes, with_moved};
@@ -17,6 +18,7 @@ pub fn move_entry(heap: &mut Heap, db: Db, chunk: Found, from: u16, to: u16)
     requires from_inside { from < length (database_here heap.old.bytes db.0).entries }
     requires to_inside { to ≤ length (database_here heap.old.bytes db.0).entries }
     ensures respells { Changes heap.old.bytes heap.new.bytes db.0 (with_moved from to) }
+    ensures loan { KeepsLoan heap.old heap.new }
     ensures rest { heap.new ≡ record heap.old { bytes = heap.new.bytes; slid = heap.new.slid } }
 {
     if to < from {
@@ -33,6 +35,7 @@ fn move_to_front(heap: &mut Heap, db: Db, chunk: Found, from: u16, to: u16)
     requires inside { from < length (database_here heap.old.bytes db.0).entries }
     requires front { to < from }
     ensures respells { Changes heap.old.bytes heap.new.bytes db.0 (with_moved from to) }
+    ensures loan { KeepsLoan heap.old heap.new }
     ensures rest { heap.new ≡ record heap.old { bytes = heap.new.bytes; slid = heap.new.slid } }
 {
     let entry = entry_here(heap, db, chunk, from);
@@ -48,6 +51,7 @@ fn move_to_back(heap: &mut Heap, db: Db, chunk: Found, from: u16, to: u16)
     requires inside { to ≤ length (database_here heap.old.bytes db.0).entries }
     requires back { from + 1 < to }
     ensures respells { Changes heap.old.bytes heap.new.bytes db.0 (with_moved from to) }
+    ensures loan { KeepsLoan heap.old heap.new }
     ensures rest { heap.new ≡ record heap.old { bytes = heap.new.bytes; slid = heap.new.slid } }
 {
     let entry = entry_here(heap, db, chunk, from);

@@ -1,6 +1,7 @@
 //! An entry taken out, as a call that is counted.
 
 ghost use Rattle.std.specs.Prelude.{◌≡◌, ◌<◌, length};
+ghost use Rattle.heap_model.specs.Lending.{KeepsLoan};
 ghost use Rattle.heap_model.specs.Leaving.{SpellsHere, database_here};
 ghost use Rattle.mem_manager.specs.Lookup.{StandsAs};
 ghost use Rattle.database_edits.specs.Edits.{Changes, entry_removed};
@@ -18,6 +19,7 @@ pub fn remove_entry(heap: &mut Heap, db: Db, chunk: Found, index: u16)
     requires spells { SpellsHere heap.old.bytes db.0 }
     requires inside { index < length (database_here heap.old.bytes db.0).entries }
     ensures removed { Changes heap.old.bytes heap.new.bytes db.0 (entry_removed index) }
+    ensures loan { KeepsLoan heap.old heap.new }
     ensures rest { heap.new ≡ record heap.old { bytes = heap.new.bytes; slid = heap.new.slid } }
 {
     let heading = heading_here(heap, db, chunk);

@@ -1,6 +1,7 @@
 //! An entry written in place of another, and an entry moved, as calls that may be counted.
 
 ghost use Rattle.std.specs.Prelude.{◌≡◌, ◌<◌, ◌≤◌, length};
+ghost use Rattle.heap_model.specs.Lending.{KeepsLoan};
 ghost use Rattle.heap_model.specs.Leaving.{SpellsHere, database_here};
 ghost use Rattle.db_format.specs.EitherEntry.{entry_of, is_resource, HasFittingId};
 ghost use Rattle.mem_manager.specs.Lookup.{StandsAs};
@@ -23,6 +24,7 @@ pub fn write_entry(heap: &mut Heap, db: Db, chunk: Found, index: u16, entry: DbE
     ensures written { Changes heap.old.bytes heap.new.bytes db.0
         (entry_written counts index (entry_of entry)) }
     ensures stands { StandsAs heap.new.bytes db.0 chunk }
+    ensures loan { KeepsLoan heap.old heap.new }
     ensures rest { heap.new ≡ record heap.old { bytes = heap.new.bytes } }
 {
     count_change_if(heap, db, chunk, counts);
@@ -37,6 +39,7 @@ pub fn move_entry(heap: &mut Heap, db: Db, chunk: Found, from: u16, to: u16)
     requires from_inside { from < length (database_here heap.old.bytes db.0).entries }
     requires to_inside { to ≤ length (database_here heap.old.bytes db.0).entries }
     ensures moved { Changes heap.old.bytes heap.new.bytes db.0 (entry_moved from to) }
+    ensures loan { KeepsLoan heap.old heap.new }
     ensures rest { heap.new ≡ record heap.old { bytes = heap.new.bytes; slid = heap.new.slid } }
 {
     count_change(heap, db, chunk);

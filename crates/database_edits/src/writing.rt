@@ -1,6 +1,7 @@
 //! An entry written in place of another.
 
 ghost use Rattle.std.specs.Prelude.{◌≡◌, ◌<◌, length};
+ghost use Rattle.heap_model.specs.Lending.{KeepsLoan};
 ghost use Rattle.heap_model.specs.Leaving.{SpellsHere, database_here};
 ghost use Rattle.db_format.specs.EitherEntry.{entry_of, is_resource, HasFittingId};
 ghost use Rattle.db_format.specs.Entries.{with_entry};
@@ -23,6 +24,7 @@ pub fn write_entry(heap: &mut Heap, db: Db, chunk: Found, index: u16, entry: DbE
     ensures respells { Changes heap.old.bytes heap.new.bytes db.0
         (λ database. with_entry database index (entry_of entry)) }
     ensures stands { StandsAs heap.new.bytes db.0 chunk }
+    ensures loan { KeepsLoan heap.old heap.new }
     ensures rest { heap.new ≡ record heap.old { bytes = heap.new.bytes } }
 {
     put_entry(heap, db, chunk, index, entry, entry.is_resource());

@@ -4,6 +4,8 @@
 //! `write_memo` of `memos.rt` has a contract of its own: start there.
 #![tactic(auto)]
 
+ghost use Rattle.std.specs.Prelude.{◌≡◌, IfOk, None};
+
 mod memos;
 
 use anyhow::{Result, bail};
@@ -38,7 +40,9 @@ fn main(rt: HostRuntime) -> Result<()> {
     Ok(())
 }
 
-fn blank_store(alloc: Global) -> Result<Store> {
+fn blank_store(alloc: Global) -> Result<Store>
+    ensures { IfOk result (λ made. made.lent ≡ None) }
+{
     match Store::check(alloc, blank(alloc, 4096, 64)?) {
         Ok(store) => Ok(store),
         Err(error) => bail!("{}", error.fault),
@@ -46,7 +50,9 @@ fn blank_store(alloc: Global) -> Result<Store> {
 }
 
 /// Adds a memo, and answers the reply to each call that writes its text.
-fn add_memo(alloc: Global, store: &mut Store, db: Db) -> Result<Vec<Reply>> {
+fn add_memo(alloc: Global, store: &mut Store, db: Db) -> Result<Vec<Reply>>
+    ensures { store.new.lent ≡ store.old.lent }
+{
     let (index, name) = new_record(store, db, END, TEXT.len() as u32 + 1)?;
     Ok(write_memo(alloc, store, Memo { db, index, name }, TEXT)?)
 }

@@ -28,6 +28,7 @@ pub(crate) fn write_memo(
     ensures run { IfOk result (λ replies.
         Run store.old (writing memo text.now) replies.items store.new) }
     ensures none_done { OnErr result (store.new ≡ store.old) }
+    ensures lent { store.new.lent ≡ store.old.lent }
 {
     let Ok(text) = copied(alloc, text) else {
         return Err(OutOfMemory);

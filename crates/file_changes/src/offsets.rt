@@ -1,41 +1,13 @@
 //! Where the blocks begin, and in which order.
 
-ghost use Rattle.std.specs.Prelude.{◌≡◌, ◌↔◌, ◌<◌, ◌≤◌, ◌∷◌, ℕ, List, IsTrue, IfSome, IfNone, length, filter, min, nat_lt, slice_index};
+ghost use Rattle.std.specs.Prelude.{◌≡◌, ◌↔◌, ◌<◌, ◌≤◌, ◌∷◌, ℕ, List, IsTrue, IfSome, IfNone, length, filter, min, nat_lt};
 ghost use Rattle.std.specs.List.{fold};
 ghost use Rattle.heap_model.specs.Files.{HasNoFault, offsets_in};
 ghost use Rattle.file_changes.specs.Changes as words;
 ghost use Rattle.file_changes.specs.Changes.{HasFiller, IsInOrder};
 
-use db_format::{
-    INFO_BLOCKS, app_info, entries_end, entry_count, entry_slot, has_resources, sort_info,
-};
-
-/// Returns how many blocks a file may have: its info blocks, and one for each entry.
-fn rank_count(file: &[u8]) -> u32
-    requires { HasNoFault file.now }
-    ensures is { result ≡ length (offsets_in file.now) }
-    ensures most { result ≤ 65537 }
-{
-    entry_count(file) as u32 + INFO_BLOCKS as u32
-}
-
-/// Returns the offset of the block of a rank, or 0.
-fn offset_of(file: &[u8], rank: u32) -> u32
-    requires good { HasNoFault file.now }
-    requires inside { rank < length (offsets_in file.now) }
-    requires few { rank ≤ 65536 }
-    ensures { result ≡ slice_index (offsets_in file.now) rank }
-{
-    match rank {
-        0 => app_info(file),
-        1 => sort_info(file),
-        _ => entry_slot(
-            file,
-            has_resources(file),
-            (rank - INFO_BLOCKS as u32) as u16,
-        ),
-    }
-}
+use db_format::entries_end;
+use pdb_format::{offset_of, rank_count};
 
 /// Returns the lesser of two offsets, of which the second one is passed over if it is 0.
 fn lesser(first: usize, at: u32) -> usize

@@ -61,7 +61,7 @@ pub(crate) struct Rewritten {
     pub(crate) changes: Changes,
 }
 
-/// Writes how many bytes there are.
+/// Writes the line with a count.
 #[tactic(auto, unfolding(crate::specs::Ends::count_line))]
 fn put_count<V: Write>(out: &mut Counted<V>, count: usize) -> Result<(), WriteFault>
     ensures { Writes V.contents out.old out.new (count_line count) (is_ok result) }
@@ -75,6 +75,15 @@ fn put_count<V: Write>(out: &mut Counted<V>, count: usize) -> Result<(), WriteFa
             Piece::Text(b"\n"),
         ],
     )
+}
+
+/// Writes a count, and flushes.
+#[tactic(auto, using(palm_text::proofs::Parts::then_flush))]
+pub(crate) fn put_only_count<V: Write>(out: &mut Counted<V>, count: usize) -> Result<(), WriteFault>
+    ensures { Puts V.contents out.old out.new (count_line count) (is_ok result) }
+{
+    put_count(out, count)?;
+    flushed(out)
 }
 
 /// Writes how many bytes there are, and what changed.

@@ -7,6 +7,8 @@
 mod canonical;
 mod faults;
 mod list;
+mod parts;
 
 pub use canonical::{cmd_canonical, cmd_canonical_from};
 pub use list::{cmd_list, cmd_list_from};
+pub use parts::{cmd_pack_from, list_parts, say_count, unpack_file};

@@ -4,8 +4,9 @@
 //! along the chain. What it marks are words of the image, in one set for all walks: first the bodies of fixed chunks
 //! of the manager's, of which each table along the chain takes its own away, so that one that isn't there or comes
 //! again is seen; then the slots in use, of which each movable chunk takes the one away that holds its place.
+#![tactic(auto, using(laws_heap::proofs::Lending::all_misses, laws_heap::proofs::Lending::all_within, laws_heap::proofs::LentBodies::none_lends))]
 
-ghost use Rattle.std.specs.Prelude.{◌≡◌, ◌≢◌, ◌⊎◌, ◌+◌, ◌*◌, ◌/◌, ◌%◌, ◌<◌, ◌≤◌, ◌^◌, ◌↔◌, ℕ, true, length, IsTrue, IfSome, IfNone, IfOk, IfErr, OnOk};
+ghost use Rattle.std.specs.Prelude.{◌≡◌, ◌≢◌, ◌⊎◌, ◌+◌, ◌*◌, ◌/◌, ◌%◌, ◌<◌, ◌≤◌, ◌^◌, ◌↔◌, ℕ, true, length, IsTrue, IfSome, IfNone, IfOk, IfErr, OnOk, None};
 ghost use Rattle.heap_model.specs.Bytes.{u32_at};
 ghost use Rattle.heap_model.specs.Chunk.{SpelledAll};
 ghost use Rattle.heap_model.specs.Placed.{EveryOne, FirstOne};
@@ -131,6 +132,7 @@ fn take(set: &mut [u8], number: u32) -> bool
 /// Counts the chunks, and marks the bodies of the fixed ones of the manager's. The error is the offset of the first
 /// chunk out of shape.
 fn find_bodies(region: &Region, marks: &mut [u8]) -> Result<Bodies, u32>
+    requires whole { region.now.lent ≡ None }
     requires head { IsHead region.now.bytes }
     requires room { 524288 ≤ length marks.old }
     requires clear { HasNone marks.old }
@@ -157,6 +159,7 @@ fn find_bodies(region: &Region, marks: &mut [u8]) -> Result<Bodies, u32>
 /// How many slots the table has whose body is at a place, if it is marked and has a table's shape. It is marked no
 /// more then.
 fn take_table(region: &Region, place: u32, marks: &mut [u8]) -> Option<u32>
+    requires whole { region.now.lent ≡ None }
     requires small { length region.now.bytes < 2 ^ 24 }
     requires spelled { SpelledAll region.now.bytes (model_start region.now.bytes)
         (chunks_of region.now.bytes) (length region.now.bytes) }
@@ -183,6 +186,7 @@ fn take_table(region: &Region, place: u32, marks: &mut [u8]) -> Option<u32>
 /// Goes along the chain, and takes the mark of each table away. The error is the number of tables in front of a word
 /// `next` that leads to none, or to one again.
 fn follow(region: &Region, marks: &mut [u8], bodies: Bodies) -> Result<Chain, u32>
+    requires whole { region.now.lent ≡ None }
     requires head { IsHead region.now.bytes }
     requires chained { is_chained region.now.bytes ≡ true }
     requires room { 524288 ≤ length marks.old }
@@ -233,6 +237,7 @@ fn take_unknown(at: u32, header: Header, marks: &mut [u8]) -> bool
 
 /// The first fixed chunk that has owner 15, or owner 0 and a mark. No body is marked then.
 fn find_stray(region: &Region, marks: &mut [u8], bodies: Bodies, chain: Chain) -> Option<u32>
+    requires whole { region.now.lent ≡ None }
     requires tiles { Tiles region.now.bytes (chunks_of region.now.bytes) }
     requires room { 524288 ≤ length marks.old }
     requires found { FoundBodies region.now.bytes bodies }
@@ -271,6 +276,7 @@ fn mark_slot(region: &Region, slot: u32, marks: &mut [u8])
 
 /// Marks the slots of a row that are in use.
 fn mark_row(region: &Region, row: Row, marks: &mut [u8])
+    requires whole { region.now.lent ≡ None }
     requires tiles { Tiles region.now.bytes (chunks_of region.now.bytes) }
     requires row { IsRow region.now.bytes row }
     requires room { 524288 ≤ length marks.old }
@@ -278,7 +284,7 @@ fn mark_row(region: &Region, row: Row, marks: &mut [u8])
     ensures marked { MarksBefore region.now.bytes (row_end row) marks.new }
     ensures len { length marks.new ≡ length marks.old }
 {
-    let end = row.end(region);
+    let end = row.end();
     for number in row.start()..end {
         mark_slot(region, row.slot(region, number), marks);
     }
@@ -286,6 +292,7 @@ fn mark_row(region: &Region, row: Row, marks: &mut [u8])
 
 /// Marks all slots that are in use.
 fn mark_slots(region: &Region, marks: &mut [u8])
+    requires whole { region.now.lent ≡ None }
     requires tiles { Tiles region.now.bytes (chunks_of region.now.bytes) }
     requires room { 524288 ≤ length marks.old }
     requires clear { HasNone marks.old }
@@ -302,6 +309,7 @@ fn mark_slots(region: &Region, marks: &mut [u8])
 
 /// Whether the slot at this offset is marked and holds this place. It is marked no more then.
 fn take_slot(region: &Region, marks: &mut [u8], slot: u32, place: u32) -> bool
+    requires whole { region.now.lent ≡ None }
     requires tiles { Tiles region.now.bytes (chunks_of region.now.bytes) }
     requires room { 524288 ≤ length marks.old }
     requires slots { (word : ℕ) → HasNumber marks.old word → IsSlot region.now.bytes (4 * word) }
@@ -322,6 +330,7 @@ fn take_slot(region: &Region, marks: &mut [u8], slot: u32, place: u32) -> bool
 /// Whether the chunk at `at`, if it is movable, names a marked slot that holds its place. It is marked no more then.
 #[inline]
 fn take_named(region: &Region, at: u32, header: Header, marks: &mut [u8]) -> bool
+    requires whole { region.now.lent ≡ None }
     requires tiles { Tiles region.now.bytes (chunks_of region.now.bytes) }
     requires small { at + 8 < 2 ^ 24 }
     requires room { 524288 ≤ length marks.old }
@@ -350,6 +359,7 @@ fn is_directory(found: bool, header: Header, word: u32) -> bool
 
 /// Takes the mark away from each slot that a movable chunk names, whose place it holds.
 fn match_names(region: &Region, marks: &mut [u8]) -> Names
+    requires whole { region.now.lent ≡ None }
     requires tiles { Tiles region.now.bytes (chunks_of region.now.bytes) }
     requires room { 524288 ≤ length marks.old }
     requires marked { Marks marks.old (IsInUse region.now.bytes) }
@@ -377,6 +387,7 @@ fn match_names(region: &Region, marks: &mut [u8]) -> Names
 
 /// The first slot of a row that is marked.
 fn first_marked(region: &Region, row: Row, marks: &[u8]) -> Option<u32>
+    requires whole { region.now.lent ≡ None }
     requires tiles { Tiles region.now.bytes (chunks_of region.now.bytes) }
     requires row { IsRow region.now.bytes row }
     requires room { 524288 ≤ length marks.now }
@@ -386,7 +397,7 @@ fn first_marked(region: &Region, row: Row, marks: &[u8]) -> Option<u32>
     ensures some { IfSome result
         (FirstOne (HoldsBody region.now.bytes (chunks_of region.now.bytes)) (slots_of region.now.bytes)) }
 {
-    let end = row.end(region);
+    let end = row.end();
     for number in row.start()..end {
         let slot = row.slot(region, number);
         if has(marks, slot / SLOT_SIZE) {
@@ -398,6 +409,7 @@ fn first_marked(region: &Region, row: Row, marks: &[u8]) -> Option<u32>
 
 /// The first slot that is marked.
 fn find_left(region: &Region, marks: &[u8]) -> Option<u32>
+    requires whole { region.now.lent ≡ None }
     requires tiles { Tiles region.now.bytes (chunks_of region.now.bytes) }
     requires room { 524288 ≤ length marks.now }
     requires left { Marks marks.now (IsLeft region.now.bytes) }
@@ -429,6 +441,7 @@ fn no_marks() -> [u8; MARKS]
 /// pay for the room of its marks.
 #[inline(never)]
 pub(crate) fn check_chained(region: &Region) -> Result<Summary, HeapFault>
+    requires whole { region.now.lent ≡ None }
     requires head { IsHead region.now.bytes }
     requires chained { is_chained region.now.bytes ≡ true }
     ensures accepted { OnOk result (HeapAccepted region.now.bytes) }

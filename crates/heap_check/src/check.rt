@@ -1,6 +1,7 @@
 //! The check of a whole image.
+#![tactic(auto, using(laws_heap::proofs::Lending::all_misses, laws_heap::proofs::Lending::all_within, laws_heap::proofs::LentBodies::none_lends))]
 
-ghost use Rattle.std.specs.Prelude.{◌≡◌, ◌≤◌, true, false, length, map, IfOk, IfErr, OnOk, OnErr};
+ghost use Rattle.std.specs.Prelude.{◌≡◌, ◌≤◌, true, false, length, map, IfOk, IfErr, OnOk, OnErr, None};
 ghost use Rattle.heap_model.specs.Slots.{is_chained as model_chained};
 ghost use Rattle.heap_model.specs.Heap.{IsHead, HeapAccepted};
 ghost use Rattle.heap_check.specs.Faults.{IsFirstFault};
@@ -23,6 +24,7 @@ use raw_region::Region;
 /// Whether the bytes of a region are an accepted heap: its counts, or else its first fault. It takes
 /// no memory, reads each chunk's header once and each slot once, and changes nothing.
 pub fn check_heap(region: &Region) -> Result<Summary, HeapFault>
+    requires { region.now.lent ≡ None }
     ensures accepted { OnOk result (HeapAccepted region.now.bytes) }
     ensures summary { IfOk result (Summarizes region.now.bytes) }
     ensures fault { IfErr result (IsFirstFault region.now.bytes) }
@@ -44,6 +46,7 @@ pub fn check_heap(region: &Region) -> Result<Summary, HeapFault>
 /// `marks_needed` says how many. Where the heap is accepted, all slots are so marked and no other word is,
 /// and where it isn't, some of them may be.
 pub fn check_heap_noting(region: &Region, owners: &mut [u8]) -> Result<Summary, HeapFault>
+    requires whole { region.now.lent ≡ None }
     requires room { marks_needed region.now.bytes ≤ length owners.old }
     requires clear { NoneMarked owners.old }
     ensures accepted { OnOk result (HeapAccepted region.now.bytes) }
@@ -67,6 +70,7 @@ pub fn check_heap_noting(region: &Region, owners: &mut [u8]) -> Result<Summary, 
 
 /// Checks an image with a chain behind a right head, and then notes owners.
 fn check_chained_noting(region: &Region, owners: &mut [u8]) -> Result<Summary, HeapFault>
+    requires whole { region.now.lent ≡ None }
     requires head { IsHead region.now.bytes }
     requires chained { model_chained region.now.bytes ≡ true }
     requires room { marks_needed region.now.bytes ≤ length owners.old }
@@ -89,6 +93,7 @@ fn check_chained_noting(region: &Region, owners: &mut [u8]) -> Result<Summary, H
 /// chains the walk has too few registers.
 #[inline(never)]
 fn check_with_marks(region: &Region) -> Result<Summary, HeapFault>
+    requires whole { region.now.lent ≡ None }
     requires head { IsHead region.now.bytes }
     requires plain { model_chained region.now.bytes ≡ false }
     ensures accepted { OnOk result (HeapAccepted region.now.bytes) }
@@ -101,6 +106,7 @@ fn check_with_marks(region: &Region) -> Result<Summary, HeapFault>
 
 /// Checks the chunks and the slots behind a right head, with a mark for the slot of each number.
 fn check_area<M: Mark>(region: &Region, marks: &mut [M]) -> Result<Summary, HeapFault>
+    requires whole { region.now.lent ≡ None }
     requires head { IsHead region.now.bytes }
     requires plain { model_chained region.now.bytes ≡ false }
     requires room { most_slots ≤ length marks.old }

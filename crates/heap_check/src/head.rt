@@ -1,6 +1,7 @@
 //! The faults of what stands in front of the chunks, each by a function of its own.
+#![tactic(auto, using(laws_heap::proofs::Lending::part_within, laws_heap::proofs::Lending::all_within))]
 
-ghost use Rattle.std.specs.Prelude.{◌≡◌, ◌≤◌, ◌+◌, ◌↔◌, length, IsTrue, IfErr, OnOk};
+ghost use Rattle.std.specs.Prelude.{◌≡◌, ◌≤◌, ◌+◌, ◌↔◌, length, IsTrue, IfErr, OnOk, None};
 ghost use Rattle.heap_model.specs.Memory.{IsWithin};
 ghost use Rattle.heap_model.specs.Frame.{HasFrame};
 ghost use Rattle.heap_model.specs.Slots.{area_start as model_start};
@@ -15,6 +16,7 @@ use chunk_format::{
 use raw_region::Region;
 
 fn is_too_short(region: &Region) -> bool
+    requires { region.now.lent ≡ None }
     ensures { IsTrue result ↔ IsTooShort region.now.bytes }
 {
     let len = region.len();
@@ -51,7 +53,7 @@ fn has_bad_reserved(region: &Region) -> bool
 }
 
 fn has_bad_padding(region: &Region) -> bool
-    requires { IsWithin region.now (model_start region.now.bytes) HEADER_SIZE }
+    requires { IsWithin region.now 0 (model_start region.now.bytes + HEADER_SIZE) }
     ensures { IsTrue result ↔ HasBadPadding region.now.bytes }
 {
     let end = head_end(region);
@@ -60,6 +62,7 @@ fn has_bad_padding(region: &Region) -> bool
 
 /// Looks for the faults of the head, in their order.
 pub(crate) fn check_head(region: &Region) -> Result<(), HeapFault>
+    requires { region.now.lent ≡ None }
     ensures right { OnOk result (IsHead region.now.bytes) }
     ensures fault { IfErr result (IsFirstFault region.now.bytes) }
 {

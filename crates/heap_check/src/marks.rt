@@ -1,6 +1,7 @@
 //! Marks for slots: that the chunk of a slot was met, and for who asks, of which owner it is.
+#![tactic(auto, using(laws_heap::proofs::Lending::all_misses, laws_heap::proofs::Lending::all_within, laws_heap::proofs::LentBodies::none_lends))]
 
-ghost use Rattle.std.specs.Prelude.{◌≡◌, ◌≢◌, ◌≤◌, ◌↔◌, ℕ, Bool, true, false, List, IsTrue, IfSome, IfNone};
+ghost use Rattle.std.specs.Prelude.{◌≡◌, ◌≢◌, ◌≤◌, ◌↔◌, ℕ, Bool, true, false, List, IsTrue, IfSome, IfNone, None};
 ghost use Rattle.heap_model.specs.Frame.{HasFrame};
 ghost use Rattle.heap_check.specs.Owners.{no_owner, noted_owner, met_owner, marked_word, marks_needed as model_needed};
 
@@ -16,6 +17,7 @@ pub const NO_OWNER: u8 = 16;
 /// How many marks are enough for the slots of an image. Without a chain `MOST_MARKS` are; with one it is
 /// a mark for each word.
 pub fn marks_needed(region: &Region) -> usize
+    requires whole { region.now.lent ≡ None }
     ensures enough { model_needed region.now.bytes ≤ result }
     ensures exact { HasFrame region.now → result ≡ model_needed region.now.bytes }
 {

@@ -1,6 +1,7 @@
 //! The owners of slots' chunks, noted once the heap is known to be right.
+#![tactic(auto, using(laws_heap::proofs::Lending::all_misses, laws_heap::proofs::Lending::all_within, laws_heap::proofs::LentBodies::none_lends))]
 
-ghost use Rattle.std.specs.Prelude.{◌≡◌, ◌<◌, ℕ, length};
+ghost use Rattle.std.specs.Prelude.{◌≡◌, ◌<◌, ℕ, length, None};
 ghost use Rattle.heap_model.specs.Slots.{IsSlot};
 ghost use Rattle.heap_model.specs.Heap.{HeapAccepted};
 ghost use Rattle.heap_check.specs.Owners.{marked_word, NoneMarked, HasOwners, IsRoomFor, NotesOwner};
@@ -23,6 +24,7 @@ fn note_owner(header: Header, owners: &mut [u8])
 /// Marks each slot of an accepted heap with the owner of its chunk, in one walk over the chunks: for a
 /// caller that takes memory for the marks only once the heap is known to be right.
 pub fn note_owners(region: &Region, owners: &mut [u8])
+    requires whole { region.now.lent ≡ None }
     requires accepted { HeapAccepted region.now.bytes }
     requires room { (number : ℕ) → IsSlot region.now.bytes (marked_word number)
         → number < length owners.old }

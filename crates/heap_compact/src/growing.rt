@@ -3,6 +3,7 @@
 ghost use Rattle.std.specs.Prelude.{◌≡◌};
 ghost use Rattle.std.specs.Bool.{OnTrue, OnFalse};
 ghost use Rattle.heap_model.specs.Chunk.{need};
+ghost use Rattle.heap_model.specs.Lending.{LendsABody};
 ghost use Rattle.heap_model.specs.Heap.{HeapAccepted};
 ghost use Rattle.heap_model.specs.Reading.{chunks_of};
 ghost use Rattle.heap_model.specs.Space.{NoRun, ShortFor, FitsInPlace, MovesAlone, MovesOneStretchAnd};
@@ -22,6 +23,7 @@ use heap_place::{Found, Space, Stretch};
 #[inline(never)]
 pub fn resize_by_moving(space: &mut Space, name: Name, count: u32) -> bool
     requires accepted { HeapAccepted space.old.bytes }
+    requires lent { LendsABody space.old }
     requires loose { IsLoose space.old.bytes name.0 }
     ensures resized { OnTrue result (Resized space.old.bytes space.new.bytes name.0 count) }
     ensures not_short { OnTrue result (ShortFor space.old.bytes name.0 (need count) → ⊥) }
@@ -29,6 +31,7 @@ pub fn resize_by_moving(space: &mut Space, name: Name, count: u32) -> bool
     ensures one_stretch { MovesOneStretchAnd space.old.bytes space.new.bytes name.0 }
     ensures refused { OnFalse result (space.new ≡ space.old) }
     ensures rest { space.new ≡ record space.old { bytes = space.new.bytes; slid = space.new.slid } }
+    ensures lent { LendsABody space.new }
 {
     let found = space.chunk(name);
     resize_found(space, found, count)
@@ -37,6 +40,7 @@ pub fn resize_by_moving(space: &mut Space, name: Name, count: u32) -> bool
 /// The same, of a chunk that was found.
 fn resize_found(space: &mut Space, found: Found, count: u32) -> bool
     requires accepted { HeapAccepted space.old.bytes }
+    requires lent { LendsABody space.old }
     requires found { IsOne space.old.bytes found }
     requires unlocked { found.lock ≡ 0 }
     ensures resized { OnTrue result (Resized space.old.bytes space.new.bytes found.name.0 count) }
@@ -45,6 +49,7 @@ fn resize_found(space: &mut Space, found: Found, count: u32) -> bool
     ensures one_stretch { MovesOneStretchAnd space.old.bytes space.new.bytes found.name.0 }
     ensures refused { OnFalse result (space.new ≡ space.old) }
     ensures rest { space.new ≡ record space.old { bytes = space.new.bytes; slid = space.new.slid } }
+    ensures lent { LendsABody space.new }
 {
     if space.relocate(found, count) {
         return true;
@@ -55,6 +60,7 @@ fn resize_found(space: &mut Space, found: Found, count: u32) -> bool
 /// The same without a free run that has the room: in its own stretch, else in another.
 fn resize_by_packing(space: &mut Space, found: Found, count: u32) -> bool
     requires accepted { HeapAccepted space.old.bytes }
+    requires lent { LendsABody space.old }
     requires found { IsOne space.old.bytes found }
     requires unlocked { found.lock ≡ 0 }
     ensures resized { OnTrue result (Resized space.old.bytes space.new.bytes found.name.0 count) }
@@ -63,6 +69,7 @@ fn resize_by_packing(space: &mut Space, found: Found, count: u32) -> bool
     ensures one_stretch { MovesOneStretchAnd space.old.bytes space.new.bytes found.name.0 }
     ensures refused { OnFalse result (space.new ≡ space.old) }
     ensures rest { space.new ≡ record space.old { bytes = space.new.bytes; slid = space.new.slid } }
+    ensures lent { LendsABody space.new }
 {
     let size = match chunk_size(count) {
         Some(size) => size,
@@ -85,11 +92,13 @@ fn resize_by_packing(space: &mut Space, found: Found, count: u32) -> bool
 /// Moves a name's chunk to a free run that has the room; there is one.
 fn relocate_named(space: &mut Space, name: Name, count: u32)
     requires accepted { HeapAccepted space.old.bytes }
+    requires lent { LendsABody space.old }
     requires loose { IsLoose space.old.bytes name.0 }
     requires has_run { NoRun (chunks_of space.old.bytes) (need count) → ⊥ }
     ensures resized { Resized space.old.bytes space.new.bytes name.0 count }
     ensures alone { MovesAlone space.old.bytes space.new.bytes name.0 }
     ensures rest { space.new ≡ record space.old { bytes = space.new.bytes; slid = space.new.slid } }
+    ensures lent { LendsABody space.new }
 {
     let found = space.chunk(name);
     space.relocate(found, count);
@@ -98,6 +107,7 @@ fn relocate_named(space: &mut Space, name: Name, count: u32)
 /// Opens room behind a chunk, whose stretch this is and has the room, and grows the chunk over it.
 fn grow_in_stretch(space: &mut Space, found: Found, stretch: Stretch, count: u32)
     requires accepted { HeapAccepted space.old.bytes }
+    requires lent { LendsABody space.old }
     requires found { IsOne space.old.bytes found }
     requires unlocked { found.lock ≡ 0 }
     requires among { IsAmong space.old.bytes found stretch }
@@ -105,6 +115,7 @@ fn grow_in_stretch(space: &mut Space, found: Found, stretch: Stretch, count: u32
     ensures resized { Resized space.old.bytes space.new.bytes found.name.0 count }
     ensures one_stretch { MovesOneStretchAnd space.old.bytes space.new.bytes found.name.0 }
     ensures rest { space.new ≡ record space.old { bytes = space.new.bytes; slid = space.new.slid } }
+    ensures lent { LendsABody space.new }
 {
     space.open_behind(found, stretch);
     grow_named(space, found.name, count);
@@ -113,11 +124,13 @@ fn grow_in_stretch(space: &mut Space, found: Found, stretch: Stretch, count: u32
 /// Gives a name's chunk `count` bytes where it stands, which it has with what is free behind it.
 fn grow_named(space: &mut Space, name: Name, count: u32)
     requires accepted { HeapAccepted space.old.bytes }
+    requires lent { LendsABody space.old }
     requires loose { IsLoose space.old.bytes name.0 }
     requires fits { FitsInPlace space.old.bytes name.0 (need count) }
     ensures resized { Resized space.old.bytes space.new.bytes name.0 count }
     ensures alone { MovesAlone space.old.bytes space.new.bytes name.0 }
     ensures rest { space.new ≡ record space.old { bytes = space.new.bytes } }
+    ensures lent { LendsABody space.new }
 {
     let found = space.chunk(name);
     space.grow_in_place(found, count);

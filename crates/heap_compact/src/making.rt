@@ -1,6 +1,7 @@
 //! Room for a chunk, for which one stretch is packed where no run of free chunks has it.
 
 ghost use Rattle.std.specs.Prelude.{◌≡◌, ◌≤◌, ◌<◌, ◌+◌, IfSome, IfNone};
+ghost use Rattle.heap_model.specs.Lending.{LendsABody};
 ghost use Rattle.heap_model.specs.Heap.{HeapAccepted};
 ghost use Rattle.heap_model.specs.Reading.{chunks_of};
 ghost use Rattle.heap_model.specs.Space.{NoRun, Short, moved_bytes};
@@ -14,6 +15,7 @@ use heap_place::{Room, Space};
 /// short of them, and then nothing has changed.
 pub fn make_room(space: &mut Space, size: u32) -> Option<Room>
     requires accepted { HeapAccepted space.old.bytes }
+    requires lent { LendsABody space.old }
     requires some_size { 0 < size }
     ensures room { IfSome result (λ room. IsSpot space.new.bytes room.at room.size) }
     ensures enough { IfSome result (λ room. size ≤ room.size) }
@@ -24,6 +26,7 @@ pub fn make_room(space: &mut Space, size: u32) -> Option<Room>
     ensures slides { SlidesOneStretch space.old.bytes space.new.bytes }
     ensures once { space.new.slid ≡ space.old.slid + moved_bytes space.old.bytes space.new.bytes }
     ensures rest { space.new ≡ record space.old { bytes = space.new.bytes; slid = space.new.slid } }
+    ensures lent { LendsABody space.new }
 {
     match space.find_room(size) {
         Some(room) => Some(room),
@@ -35,6 +38,7 @@ pub fn make_room(space: &mut Space, size: u32) -> Option<Room>
 /// stretch is short of them.
 pub(crate) fn room_by_packing(space: &mut Space, size: u32) -> Option<Room>
     requires accepted { HeapAccepted space.old.bytes }
+    requires lent { LendsABody space.old }
     requires some_size { 0 < size }
     ensures room { IfSome result (λ room. IsRoom space.new.bytes room.at room.size) }
     ensures enough { IfSome result (λ room. size ≤ room.size) }
@@ -44,6 +48,7 @@ pub(crate) fn room_by_packing(space: &mut Space, size: u32) -> Option<Room>
     ensures slides { SlidesOneStretch space.old.bytes space.new.bytes }
     ensures once { space.new.slid ≡ space.old.slid + moved_bytes space.old.bytes space.new.bytes }
     ensures rest { space.new ≡ record space.old { bytes = space.new.bytes; slid = space.new.slid } }
+    ensures lent { LendsABody space.new }
 {
     let stretch = space.stretch_with_room(size)?;
     let room = space.pack_stretch(stretch);

@@ -1,6 +1,7 @@
 //! The cells of a picture: the first mark of the chunks in each, and how many free bytes it has.
+#![tactic(auto, using(laws_heap::proofs::Lending::all_within, laws_heap::proofs::Lending::all_misses))]
 
-ghost use Rattle.std.specs.Prelude.{◌≡◌, ◌≤◌, ◌<◌, ◌+◌, ◌*◌, ◌/◌, ◌^◌, ◌⊎◌, min, nat_lt, if◌then◌else◌, ℕ, length, slice_index, IfOk, OnErr};
+ghost use Rattle.std.specs.Prelude.{◌≡◌, ◌≤◌, ◌<◌, ◌+◌, ◌*◌, ◌/◌, ◌^◌, ◌⊎◌, min, nat_lt, if◌then◌else◌, ℕ, length, slice_index, IfOk, OnErr, None};
 ghost use Rattle.heap_model.specs.Store.{Accepted};
 ghost use Rattle.store_check.specs.Naming.{HasRoom};
 ghost use Rattle.heap_map.specs.Cells.{in_cell, cell_size as model_size, cell_count as model_count, Covers, IsClear, ArePainted, AddsChunk};
@@ -106,6 +107,7 @@ impl Cells {
 
 /// Fills cells that are clear with the chunks of an accepted image.
 fn paint(region: &Region, table: &[u16], cells: &mut Cells)
+    requires whole { region.now.lent ≡ None }
     requires accepted { Accepted region.now.bytes }
     requires numbers { HasNumbers (database_number region.now.bytes) table.now }
     requires room { HasRoom region.now.bytes (length table.now) }
@@ -124,7 +126,8 @@ fn paint(region: &Region, table: &[u16], cells: &mut Cells)
     }
 }
 
-/// The least size of a cell with which there are not too many, for chunks of so many bytes.
+/// The size of a cell in bytes, for chunks that take `area` bytes: the least multiple of 8 with which there are at most
+/// 2,048 cells.
 fn cell_size(area: u32) -> u32
     requires { area < 2 ^ 24 }
     ensures { result ≡ 8 * ((area + 16383) / 16384) }
@@ -138,6 +141,7 @@ pub(crate) fn cells_of<A: Allowance>(
     region: &Region,
     table: &[u16],
 ) -> Result<Cells, AllocError>
+    requires whole { region.now.lent ≡ None }
     requires accepted { Accepted region.now.bytes }
     requires numbers { HasNumbers (database_number region.now.bytes) table.now }
     requires room { HasRoom region.now.bytes (length table.now) }
@@ -159,6 +163,7 @@ pub(crate) fn marks_of<A: Allowance>(
     region: &Region,
     cells: &Cells,
 ) -> Result<Vec<u8>, AllocError>
+    requires whole { region.now.lent ≡ None }
     requires accepted { Accepted region.now.bytes }
     requires size { cells.now.size ≡ model_size region.now.bytes }
     requires count { length cells.now.marks.items ≡ model_count region.now.bytes }

@@ -1,6 +1,7 @@
 //! The picture of an image, on a writer.
+#![tactic(auto, using(laws_heap::proofs::Lending::all_within, laws_heap::proofs::Lending::all_misses))]
 
-ghost use Rattle.std.specs.Prelude.{◌≡◌, ◌≢◌, Err, IfOk, IfErr, OnOk, OnErr, is_ok, true, false};
+ghost use Rattle.std.specs.Prelude.{◌≡◌, ◌≢◌, Err, IfOk, IfErr, OnOk, OnErr, is_ok, true, false, None};
 ghost use Rattle.heap_model.specs.Store.{Accepted};
 ghost use Rattle.heap_check.specs.Summary as heaps;
 ghost use Rattle.palm_text.specs.Counted.{Writes};
@@ -55,7 +56,8 @@ struct Picture {
 
 /// Draws an accepted image.
 fn draw<A: Allowance>(memory: &A, region: &Region) -> Result<Picture, AllocError>
-    requires { Accepted region.now.bytes }
+    requires whole { region.now.lent ≡ None }
+    requires accepted { Accepted region.now.bytes }
     ensures picture { IfOk result (IsPicture region.now.bytes) }
     ensures short { OnErr result (A.is_short memory.now) }
 {
@@ -69,6 +71,7 @@ fn draw<A: Allowance>(memory: &A, region: &Region) -> Result<Picture, AllocError
 
 /// Checks an image, and draws it if it is accepted.
 fn checked<A: Allowance>(memory: &A, region: &Region) -> Result<(Summary, Picture), MapFault>
+    requires whole { region.now.lent ≡ None }
     ensures accepted { OnOk result (Accepted region.now.bytes) }
     ensures summary { IfOk result (λ both. heaps.Summarizes region.now.bytes both.0) }
     ensures picture { IfOk result (λ both. IsPicture region.now.bytes both.1) }
@@ -93,6 +96,7 @@ fn put_tail<W: Write>(
     region: &Region,
     summary: &Summary,
 ) -> Result<(), WriteFault>
+    requires whole { region.now.lent ≡ None }
     requires accepted { Accepted region.now.bytes }
     requires summary { heaps.Summarizes region.now.bytes summary.now }
     ensures { Writes W.contents out.old out.new (tail_lines region.now.bytes) (is_ok result) }
@@ -103,13 +107,14 @@ fn put_tail<W: Write>(
 }
 
 /// Writes the rows, and what follows them.
-#[tactic(auto, using(palm_text::proofs::Parts::then, palm_text::proofs::Parts::stops), unfolding(crate::specs::Text::body_lines))]
+#[tactic(auto, using(laws_heap::proofs::Lending::all_within, palm_text::proofs::Parts::then, palm_text::proofs::Parts::stops), unfolding(crate::specs::Text::body_lines))]
 fn put_body<W: Write>(
     out: &mut Counted<W>,
     region: &Region,
     summary: &Summary,
     picture: &Picture,
 ) -> Result<(), WriteFault>
+    requires whole { region.now.lent ≡ None }
     requires accepted { Accepted region.now.bytes }
     requires summary { heaps.Summarizes region.now.bytes summary.now }
     requires picture { IsPicture region.now.bytes picture.now }
@@ -127,6 +132,7 @@ fn put_lines<W: Write>(
     summary: &Summary,
     picture: &Picture,
 ) -> Result<(), WriteFault>
+    requires whole { region.now.lent ≡ None }
     requires accepted { Accepted region.now.bytes }
     requires summary { heaps.Summarizes region.now.bytes summary.now }
     requires picture { IsPicture region.now.bytes picture.now }
@@ -153,6 +159,7 @@ pub fn put_map<A: Allowance, W: Write>(
     region: &Region,
     out: &mut Counted<W>,
 ) -> Result<(), MapFault>
+    requires whole { region.now.lent ≡ None }
     ensures accepted { OnOk result (Accepted region.now.bytes) }
     ensures done { OnOk result (Writes W.contents out.old out.new (map_text region.now.bytes) true) }
     ensures why { IfErr result (IsFaultOf region.now.bytes) }

@@ -1,6 +1,7 @@
 //! The free pieces of an image: each run of neighbouring free chunks is one.
+#![tactic(auto, using(laws_heap::proofs::Lending::all_within, laws_heap::proofs::Lending::all_misses))]
 
-ghost use Rattle.std.specs.Prelude.{◌≡◌, ◌≤◌, ◌<◌, ◌+◌, ◌^◌, length};
+ghost use Rattle.std.specs.Prelude.{◌≡◌, ◌≤◌, ◌<◌, ◌+◌, ◌^◌, length, None};
 ghost use Rattle.heap_model.specs.Heap.{HeapAccepted};
 ghost use Rattle.heap_model.specs.Space.{greatest};
 ghost use Rattle.heap_map.specs.Text.{free_pieces};
@@ -57,7 +58,8 @@ impl Pieces {
 
 /// The free pieces of an accepted heap.
 pub(crate) fn free_pieces(region: &Region) -> Pieces
-    requires { HeapAccepted region.now.bytes }
+    requires whole { region.now.lent ≡ None }
+    requires accepted { HeapAccepted region.now.bytes }
     ensures count { result.count ≡ length (free_pieces region.now.bytes) }
     ensures largest { result.largest ≡ greatest (free_pieces region.now.bytes) }
 {

@@ -1,6 +1,7 @@
 //! The headers of databases in a region.
+#![tactic(auto, using(laws_heap::proofs::Lending::all_within, laws_heap::proofs::Lending::all_misses))]
 
-ghost use Rattle.std.specs.Prelude.{◌≡◌, ◌<◌};
+ghost use Rattle.std.specs.Prelude.{◌≡◌, ◌<◌, None};
 ghost use Rattle.heap_model.specs.Chunk.{managers_owner};
 ghost use Rattle.heap_model.specs.Heap.{HeapAccepted, directory_of};
 ghost use Rattle.heap_model.specs.Store.{bytes_under, owner_under, directory_bytes, Accepted};
@@ -13,6 +14,7 @@ use raw_region::Region;
 
 /// The bytes of a chunk of the manager's, by its slot.
 fn managers_bytes(region: &Region, slot: u32) -> &[u8]
+    requires whole { region.now.lent ≡ None }
     requires accepted { HeapAccepted region.now.bytes }
     requires managers { owner_under region.now.bytes slot ≡ managers_owner }
     ensures { result.now ≡ bytes_under region.now.bytes slot }
@@ -24,7 +26,8 @@ fn managers_bytes(region: &Region, slot: u32) -> &[u8]
 
 /// The bytes of the directory. There are none if the directory word is 0.
 pub(crate) fn directory_in(region: &Region) -> &[u8]
-    requires { HeapAccepted region.now.bytes }
+    requires whole { region.now.lent ≡ None }
+    requires accepted { HeapAccepted region.now.bytes }
     ensures { result.now ≡ directory_bytes region.now.bytes }
 {
     let slot = directory(region);
@@ -36,6 +39,7 @@ pub(crate) fn directory_in(region: &Region) -> &[u8]
 
 /// The header and the entries of the database of an index.
 pub(crate) fn header_in<'a>(region: &'a Region, directory: &[u8], db: usize) -> &'a [u8]
+    requires whole { region.now.lent ≡ None }
     requires accepted { Accepted region.now.bytes }
     requires directory { directory.now ≡ directory_bytes region.now.bytes }
     requires below { db < listed_count region.now.bytes }

@@ -32,7 +32,7 @@ use Rattle.heap_migration.specs.Stores.{later_name, RaisesFixed, MigratesStore, 
 
 -- ---- which chunks have which names
 
--- a name is that of a movable chunk, and a slot, or that of a fixed one, and stands behind the slots
+-- a name is that of a movable chunk, and a slot, or that of a fixed one, and lies after the slots
 abbrev pub KindOfName : List ℕ → ℕ → LiveChunk → Type 0
 KindOfName image name live = ((live.lock ≢ 15) × IsSlot image name) ⊎ ((live.lock ≡ 15) × (area_start image ≤ name))
 

@@ -1,6 +1,7 @@
 //! The chunks of an image, further on in a new one.
+#![tactic(auto, using(laws_heap::proofs::Lending::all_within, laws_heap::proofs::Lending::all_misses))]
 
-ghost use Rattle.std.specs.Prelude.{◌≡◌, ◌≤◌, ◌<◌, ◌+◌, ◌^◌, length};
+ghost use Rattle.std.specs.Prelude.{◌≡◌, ◌≤◌, ◌<◌, ◌+◌, ◌^◌, None, length};
 ghost use Rattle.heap_model.specs.Chunk.{HasChunk};
 ghost use Rattle.heap_model.specs.Heap.{HeapAccepted};
 ghost use Rattle.heap_model.specs.Slots.{area_start as model_start};
@@ -21,7 +22,9 @@ pub(crate) fn write_chunks(image: &Region, grown: &mut Region, by: u32)
     requires accepted { HeapAccepted image.now.bytes }
     requires few { by ≤ 8 }
     requires len { length grown.old.bytes ≡ length image.now.bytes + by }
-    ensures { WroteChunks image.now.bytes grown.old.bytes grown.new.bytes by }
+    requires whole { (image.now.lent ≡ None) × (grown.old.lent ≡ None) }
+    ensures wrote { WroteChunks image.now.bytes grown.old.bytes grown.new.bytes by }
+    ensures whole { grown.new.lent ≡ None }
 {
     let start = area_start(image) as usize;
     grown.write(start + by as usize, image.slice(start, image.len() - start));
@@ -35,7 +38,9 @@ fn lower_offsets(image: &Region, grown: &mut Region, by: u32)
     requires len { length grown.old.bytes ≡ length image.now.bytes + by }
     requires copied { StandFurther image.now.bytes grown.old.bytes by
         (model_start image.now.bytes) (length image.now.bytes) }
-    ensures { WroteChunks image.now.bytes grown.old.bytes grown.new.bytes by }
+    requires whole { (image.now.lent ≡ None) × (grown.old.lent ≡ None) }
+    ensures wrote { WroteChunks image.now.bytes grown.old.bytes grown.new.bytes by }
+    ensures whole { grown.new.lent ≡ None }
 {
     let end = image.len() as u32;
     let mut at = area_start(image);
@@ -51,7 +56,9 @@ fn lower_offset(image: &Region, grown: &mut Region, at: u32, by: u32) -> u32
     requires few { by ≤ 8 }
     requires len { length grown.old.bytes ≡ length image.now.bytes + by }
     requires copied { StandFurther image.now.bytes grown.old.bytes by at (length image.now.bytes) }
-    ensures { WroteChunk image.now.bytes grown.old.bytes grown.new.bytes by at result }
+    requires whole { (image.now.lent ≡ None) × (grown.old.lent ≡ None) }
+    ensures wrote { WroteChunk image.now.bytes grown.old.bytes grown.new.bytes by at result }
+    ensures whole { grown.new.lent ≡ None }
 {
     let (header, size) = Header::at_with_size(image, at);
     if !is_movable(header) {

@@ -1,6 +1,7 @@
 //! What stands in front of the chunks: the frame, the slots and the word `next`.
+#![tactic(auto, using(laws_heap::proofs::Lending::all_within, laws_heap::proofs::Lending::all_misses))]
 
-ghost use Rattle.std.specs.Prelude.{◌≡◌, ◌≤◌, ◌<◌, ◌+◌, ◌^◌, length, replicate, false};
+ghost use Rattle.std.specs.Prelude.{◌≡◌, ◌≤◌, ◌<◌, ◌+◌, ◌^◌, None, length, replicate, false};
 ghost use Rattle.heap_model.specs.Heap.{HeapAccepted};
 ghost use Rattle.heap_model.specs.Slots.{is_chained};
 ghost use Rattle.heap_migration.specs.Growth.{growth as model_growth};
@@ -9,7 +10,7 @@ ghost use Rattle.heap_migration.specs.Writing.{raised, HasHead, WroteFrame, Rais
 use chunk_format::{CHAINED_MAGIC, FRAME_SIZE, MAGIC_AT, SIZE_AT, SLOT_SIZE, head_end};
 use raw_region::Region;
 
-/// By how many bytes an image with so many slots grows: what the word `next` and its padding take.
+/// The bytes by which an image with `slots` slots grows: those of the word `next` and its padding.
 pub(crate) fn growth(slots: u16) -> u32
     ensures is { result ≡ model_growth slots }
     ensures few { result ≤ 8 }
@@ -23,7 +24,9 @@ pub(crate) fn write_head(image: &Region, grown: &mut Region, by: u32)
     requires one_table { is_chained image.now.bytes ≡ false }
     requires few { by ≤ 8 }
     requires zeros { grown.old.bytes ≡ replicate (length image.now.bytes + by) 0 }
-    ensures { HasHead image.now.bytes grown.new.bytes by }
+    requires whole { (image.now.lent ≡ None) × (grown.old.lent ≡ None) }
+    ensures wrote { HasHead image.now.bytes grown.new.bytes by }
+    ensures whole { grown.new.lent ≡ None }
 {
     write_frame(image, grown);
     raise_slots(image, grown, by);
@@ -34,7 +37,9 @@ fn write_frame(image: &Region, grown: &mut Region)
     requires old_frame { 16 ≤ length image.now.bytes }
     requires new_frame { 16 ≤ length grown.old.bytes }
     requires small { length grown.old.bytes < 2 ^ 32 }
-    ensures { WroteFrame image.now.bytes grown.old.bytes grown.new.bytes }
+    requires whole { (image.now.lent ≡ None) × (grown.old.lent ≡ None) }
+    ensures wrote { WroteFrame image.now.bytes grown.old.bytes grown.new.bytes }
+    ensures whole { grown.new.lent ≡ None }
 {
     grown.write(0, image.slice(0, FRAME_SIZE as usize));
     grown.put_u32(MAGIC_AT, CHAINED_MAGIC);
@@ -47,7 +52,9 @@ fn raise_slots(image: &Region, grown: &mut Region, by: u32)
     requires one_table { is_chained image.now.bytes ≡ false }
     requires few { by ≤ 8 }
     requires len { length grown.old.bytes ≡ length image.now.bytes + by }
-    ensures { RaisedSlots image.now.bytes grown.old.bytes grown.new.bytes by }
+    requires whole { (image.now.lent ≡ None) × (grown.old.lent ≡ None) }
+    ensures wrote { RaisedSlots image.now.bytes grown.old.bytes grown.new.bytes by }
+    ensures whole { grown.new.lent ≡ None }
 {
     let end = head_end(image);
     let mut slot = FRAME_SIZE;

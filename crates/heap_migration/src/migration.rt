@@ -1,6 +1,7 @@
 //! The image that comes of a migration.
+#![tactic(auto, using(laws_heap::proofs::Lending::all_within, laws_heap::proofs::Lending::all_misses))]
 
-ghost use Rattle.std.specs.Prelude.{◌≡◌, ◌<◌, ◌+◌, ◌↔◌, IfOk, IfErr, OnOk, Err, length, true, false};
+ghost use Rattle.std.specs.Prelude.{◌≡◌, ◌<◌, ◌+◌, ◌≢◌, ◌↔◌, IfOk, IfErr, OnOk, Err, None, length, true, false};
 ghost use Rattle.heap_model.specs.Frame.{most_size};
 ghost use Rattle.heap_model.specs.Heap.{HeapAccepted};
 ghost use Rattle.heap_model.specs.Slots.{is_chained as model_chained};
@@ -19,6 +20,10 @@ use thiserror::Error;
 /// Why an image isn't migrated, in the order in which the reasons are looked for.
 #[derive(Clone, Copy, Debug, PartialEq, Eq, Error)]
 pub enum MigrateFault {
+    /// The body of a chunk is lent. `migrate_from` takes no region of which something is lent, so it never returns this
+    /// fault: its caller does.
+    #[error("Lent")]
+    Lent,
     /// The new image would be larger than 16,777,208 bytes.
     #[error("TooLarge")]
     TooLarge,
@@ -37,12 +42,15 @@ pub fn migrate_from<A: Allowance>(
     region: Region,
 ) -> Result<Region, (MigrateFault, Region)>
     requires accepted { Accepted region.bytes }
+    requires whole { region.lent ≡ None }
     ensures migrated { IfOk result (λ grown. IsMigrated region.bytes grown.bytes) }
     ensures accepted { IfOk result (λ grown. Accepted grown.bytes) }
+    ensures whole { IfOk result (λ grown. grown.lent ≡ None) }
     ensures chained { model_chained region.bytes ≡ true → IfOk result (λ grown. grown ≡ region) }
     ensures fits { OnOk result (IsTooLarge region.bytes → ⊥) }
     ensures too_large { IfErr result (λ error.
         (error.0 ≡ MigrateFault.TooLarge) ↔ IsTooLarge region.bytes) }
+    ensures not_lent { IfErr result (λ error. error.0 ≢ MigrateFault.Lent) }
     ensures handed_back { IfErr result (λ error. error.1 ≡ region) }
     ensures no_memory { IfErr result (λ error.
         error.0 ≡ MigrateFault.OutOfMemory → A.is_short memory.now) }
@@ -60,11 +68,14 @@ pub fn migrate_from<A: Allowance>(
 fn grown_from<A: Allowance>(memory: &A, image: &Region) -> Result<Region, MigrateFault>
     requires accepted { HeapAccepted image.now.bytes }
     requires one_table { model_chained image.now.bytes ≡ false }
+    requires whole { image.now.lent ≡ None }
     ensures bytes { IfOk result (λ grown.
         MigratesBytes image.now.bytes grown.bytes (growth_of image.now.bytes)) }
+    ensures whole { IfOk result (λ grown. grown.lent ≡ None) }
     ensures too_large { (result ≡ Err MigrateFault.TooLarge)
         ↔ (most_size < length image.now.bytes + growth_of image.now.bytes) }
     ensures no_memory { result ≡ Err MigrateFault.OutOfMemory → A.is_short memory.now }
+    ensures not_lent { result ≢ Err MigrateFault.Lent }
 {
     let by = growth(slot_count(image));
     let size = image.len() + by as usize;

@@ -1,8 +1,10 @@
 -- What each call on files refuses, answers and does: one row a call. And the room that a database takes which
 -- is made whole.
 use Rattle.std.specs.Prelude.{◌≡◌, ◌≤◌, ◌<◌, ◌+◌, ◌++◌, ◌⊎◌, ◌==◌, if◌then◌else◌, ℕ, true, false, List, [], ◌∷◌, length, map, Option, Some, None, All}
+use Rattle.std.specs.List.{Any}
 use Rattle.heap_model.specs.Chunk.{data_owner}
 use Rattle.heap_model.specs.Memory.{Memory}
+use Rattle.heap_model.specs.Lending.{IsLent}
 use Rattle.heap_model.specs.Heap.{directory_of}
 use Rattle.heap_model.specs.Meaning.{ChunkMap}
 use Rattle.heap_model.specs.Reading.{held}
@@ -22,7 +24,7 @@ use Rattle.heap_model.specs.declared.call.FileCall as given
 use Rattle.heap_model.specs.declared.call.FileCall.TheVariants.{Import, Export}
 use Rattle.heap_model.specs.declared.call.Reply.{Reply}
 use Rattle.heap_model.specs.declared.call.Reply.TheVariants as replies
-use Rattle.heap_model.specs.declared.refusal.Refusal.TheVariants.{BadFile, TooManyEntries, OutOfMemory}
+use Rattle.heap_model.specs.declared.refusal.Refusal.TheVariants.{BadFile, TooManyEntries, OutOfMemory, Lent}
 
 -- ---- calls
 
@@ -78,6 +80,10 @@ block_sizes file = map size_of_block (blocks_in file)
 abbrev pub no_memory : Check
 no_memory = Unit {0} may_bring OutOfMemory
 
+-- a block of the database is lent
+abbrev pub lent_data : Memory → Store → Db → Check
+lent_data old store db = In store db (λ database. Any (IsLent old) (data_in database)) brings Lent
+
 -- ---- words of the effects
 
 -- a name stands for nothing, or for a chunk of data without lock where it stood for nothing
@@ -118,7 +124,11 @@ file_row old store (Import file) = record {
 }
 file_row old store (Export db) = record {
   only_asks = true;
-  refusals = no_database store db ∷ no_memory ∷ [];
+  refusals =
+      no_database store db
+      ∷ lent_data old store db
+      ∷ no_memory
+      ∷ [];
   answers = data_of (λ bytes. In store db (λ database. bytes ≡ file_of (content store.map database)));
   effect = stays;
 }

@@ -23,6 +23,7 @@ pub mod Files
 pub mod Counts
 pub mod Rooms
 pub mod Leaving
+pub mod Lending
 pub mod MoreTables
 pub mod Migration
 pub mod Numbers

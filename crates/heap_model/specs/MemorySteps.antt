@@ -5,6 +5,7 @@ use Rattle.std.specs.List.{take_while}
 use Rattle.heap_model.specs.Chunk.{fixed_lock, need, is_owned_by, most_locks, managers_owner, data_owner}
 use Rattle.heap_model.specs.Memory.{Memory}
 use Rattle.heap_model.specs.Heap.{HeapAccepted}
+use Rattle.heap_model.specs.Lending.{IsLent, KeepsLoan}
 use Rattle.heap_model.specs.Meaning.{LiveChunk, ChunkMap}
 use Rattle.heap_model.specs.Reading.{chunks_of, held}
 use Rattle.heap_model.specs.Maps.{made, gone, put, sized, relocked, reowned, without_owner, callers_map}
@@ -19,7 +20,7 @@ use Rattle.heap_model.specs.declared.call.MemoryCall.TheVariants.{HandleNew, Ptr
 use Rattle.heap_model.specs.declared.call.Reply.{Reply}
 use Rattle.heap_model.specs.declared.call.Reply.TheVariants.{Refused, Done}
 use Rattle.heap_model.specs.declared.refusal.Refusal.{Refusal}
-use Rattle.heap_model.specs.declared.refusal.Refusal.TheVariants.{InvalidHandle, OwnedByDatabase, ChunkLocked, ChunkNotLocked, LockOverflow, ChunkFixed, InvalidOwner, NotEnoughSpace, OutOfBounds, OutOfMemory}
+use Rattle.heap_model.specs.declared.refusal.Refusal.TheVariants.{InvalidHandle, OwnedByDatabase, ChunkLocked, ChunkNotLocked, LockOverflow, ChunkFixed, InvalidOwner, NotEnoughSpace, OutOfBounds, OutOfMemory, Lent}
 
 -- ---- calls
 
@@ -85,15 +86,25 @@ unknown map name = (map name ≡ None) brings InvalidHandle
 abbrev pub where_it : ChunkMap → ℕ → (LiveChunk → Type 0) → Refusal → Check
 where_it map name P refusal = Of (map name) P brings refusal
 
+-- a chunk of this owner is lent
+pub record LendsOf (old : Memory) (map : ChunkMap) (owner : ℕ) : Type 0 where
+  pub name : ℕ
+  pub owns : Of (map name) (λ live. live.owner ≡ owner)
+  pub lent : IsLent old name
+
 abbrev pub no_owner : ℕ → Check
 no_owner owner = IsNoCaller owner brings InvalidOwner
 
--- Whether a name's chunk can have so many bytes: it may not move where it is locked, and else there has
+abbrev pub lent_out : Memory → ChunkMap → ℕ → Check
+lent_out old map name = where_it map name (λ live. IsLent old name) Lent
+
+-- Whether a name's chunk can have so many bytes: it may not be lent, nor move where it is locked, and else there has
 -- to be room for it.
-abbrev pub growth_checks : List ℕ → ChunkMap → ℕ → ℕ → List Check
-growth_checks image map name size =
-    where_it map name (λ live. IsLocked live × (need (length live.bytes) + free_behind image name < need size)) ChunkLocked
-    ∷ where_it map name (λ live. (live.lock ≡ 0) × (need (length live.bytes) < need size) × ShortFor image name (need size)) NotEnoughSpace
+abbrev pub growth_checks : Memory → ChunkMap → ℕ → ℕ → List Check
+growth_checks old map name size =
+    lent_out old map name
+    ∷ where_it map name (λ live. IsLocked live × (need (length live.bytes) + free_behind old.bytes name < need size)) ChunkLocked
+    ∷ where_it map name (λ live. (live.lock ≡ 0) × (need (length live.bytes) < need size) × ShortFor old.bytes name (need size)) NotEnoughSpace
     ∷ []
 
 -- The row of a call on a region, of whose chunks callers may name those of this map. Refusals and
@@ -123,6 +134,7 @@ row old map (Free name) = record {
       unknown map name.0
       ∷ where_it map name.0 (λ live. live.owner ≡ data_owner) OwnedByDatabase
       ∷ where_it map name.0 IsLocked ChunkLocked
+      ∷ lent_out old map name.0
       ∷ [];
   answers = done;
   effect = becomes (λ all. gone all name.0);
@@ -143,6 +155,7 @@ row old map (Unlock name) = record {
       unknown map name.0
       ∷ where_it map name.0 (λ live. live.lock ≡ fixed_lock) ChunkFixed
       ∷ where_it map name.0 (λ live. live.lock ≡ 0) ChunkNotLocked
+      ∷ lent_out old map name.0
       ∷ [];
   answers = number (λ count. Of (map name.0) (λ live. count ≡ live.lock - 1));
   effect = becomes (λ all. relocked all name.0 (λ lock. lock - 1));
@@ -169,6 +182,7 @@ row old map (Read name at count) = record {
   only_asks = true;
   refusals =
       unknown map name.0
+      ∷ lent_out old map name.0
       ∷ where_it map name.0 (ReachesBeyond at count) OutOfBounds
       ∷ (Unit {0} may_bring OutOfMemory)
       ∷ [];
@@ -180,6 +194,7 @@ row old map (Write name at bytes) = record {
   refusals =
       unknown map name.0
       ∷ where_it map name.0 (λ live. live.lock ≡ 0) ChunkNotLocked
+      ∷ lent_out old map name.0
       ∷ where_it map name.0 (ReachesBeyond at (length bytes)) OutOfBounds
       ∷ [];
   answers = done;
@@ -190,6 +205,7 @@ row old map (Set name at count byte) = record {
   refusals =
       unknown map name.0
       ∷ where_it map name.0 (λ live. live.lock ≡ 0) ChunkNotLocked
+      ∷ lent_out old map name.0
       ∷ where_it map name.0 (ReachesBeyond at count) OutOfBounds
       ∷ [];
   answers = done;
@@ -200,6 +216,7 @@ row old map (StrCopy name at text) = record {
   refusals =
       unknown map name.0
       ∷ where_it map name.0 (λ live. live.lock ≡ 0) ChunkNotLocked
+      ∷ lent_out old map name.0
       ∷ where_it map name.0 (ReachesBeyond at (length (text_of text))) OutOfBounds
       ∷ [];
   answers = done;
@@ -211,7 +228,7 @@ row old map (Resize name size) = record {
       unknown map name.0
       ∷ where_it map name.0 (λ live. live.owner ≡ data_owner) OwnedByDatabase
       ∷ where_it map name.0 (λ live. live.lock ≡ fixed_lock) ChunkFixed
-      ∷ growth_checks old.bytes map name.0 size;
+      ∷ growth_checks old map name.0 size;
   answers = done;
   effect = becomes (λ all. sized all name.0 size);
 }
@@ -233,7 +250,10 @@ row old map (Recover place) = record {
 }
 row old map (FreeByOwner owner) = record {
   only_asks = false;
-  refusals = no_owner owner ∷ [];
+  refusals =
+      no_owner owner
+      ∷ (LendsOf old map owner brings Lent)
+      ∷ [];
   answers = number (λ count. count ≡ count_by (is_owned_by owner) (chunks_of old.bytes));
   effect = becomes (λ all. without_owner all owner);
 }
@@ -295,14 +315,15 @@ Frames MoreSlots Done old new = (place : ℕ) × GainsTable old new place
 Frames call reply old new = SameFrame old new
 
 -- From an accepted heap the call does its step to an accepted heap of the same size, with the same tables
--- and the same directory, where nothing locked has moved; also where it is refused. `MoreSlots` alone adds a
--- table. Of the region's value its bytes alone may change, and the count of slid ones where the
--- call may slide chunks; a call that only asks leaves all of it.
+-- and the same directory. Nothing locked has moved, and a name that is lent stays so. All this holds of a call that is
+-- refused too. `MoreSlots` alone adds a table. Of the region's value its bytes alone may change, and the count of slid
+-- ones where the call may slide chunks; a call that only asks leaves all of it.
 pub record Does (old : Memory) (call : MemoryCall) (reply : Reply) (new : Memory) : Type 0 where
   pub before : HeapAccepted old.bytes
   pub step : MemoryStep old call reply new
   pub frame : Frames call reply old.bytes new.bytes
   pub still : Still old.bytes new.bytes
+  pub loan : KeepsLoan old new
   pub asks : OnTrue (row_of old call).only_asks (new ≡ old)
   pub rest : new ≡ record old { bytes = new.bytes; slid = if may_slide call then new.slid else old.slid }
 

@@ -1,7 +1,7 @@
 -- The numbers and the names of refusals.
 use Rattle.std.specs.Prelude.{ℕ, List, codes}
 use Rattle.heap_model.specs.declared.refusal.Refusal.{Refusal}
-use Rattle.heap_model.specs.declared.refusal.Refusal.TheVariants.{InvalidHandle, OwnedByDatabase, ChunkLocked, ChunkNotLocked, LockOverflow, ChunkFixed, InvalidOwner, NotEnoughSpace, OutOfBounds, NoSuchDatabase, NotRecordDatabase, NotResourceDatabase, ReadOnly, IndexOutOfRange, RecordDeleted, RecordBusy, TooManyEntries, InvalidCategory, DuplicateId, UniqueIdNotFound, AlreadyExists, InvalidName, ResourceNotFound, NoInfoBlock, BadFile, OutOfMemory}
+use Rattle.heap_model.specs.declared.refusal.Refusal.TheVariants.{InvalidHandle, OwnedByDatabase, ChunkLocked, ChunkNotLocked, LockOverflow, ChunkFixed, InvalidOwner, NotEnoughSpace, OutOfBounds, NoSuchDatabase, NotRecordDatabase, NotResourceDatabase, ReadOnly, IndexOutOfRange, RecordDeleted, RecordBusy, TooManyEntries, InvalidCategory, DuplicateId, UniqueIdNotFound, AlreadyExists, InvalidName, ResourceNotFound, NoInfoBlock, BadFile, OutOfMemory, Lent}
 
 abbrev pub number_of : Refusal → ℕ
 number_of InvalidHandle = 1
@@ -30,6 +30,7 @@ number_of ResourceNotFound = 23
 number_of NoInfoBlock = 24
 number_of (BadFile fault) = 25
 number_of OutOfMemory = 26
+number_of Lent = 27
 
 abbrev pub name_of : Refusal → List ℕ
 name_of InvalidHandle = codes "InvalidHandle"
@@ -58,3 +59,4 @@ name_of ResourceNotFound = codes "ResourceNotFound"
 name_of NoInfoBlock = codes "NoInfoBlock"
 name_of (BadFile fault) = codes "BadFile"
 name_of OutOfMemory = codes "OutOfMemory"
+name_of Lent = codes "Lent"

@@ -234,7 +234,7 @@ record_row old store (Resize db index size) = record {
       ∷ read_only store db
       ∷ no_entry store db index
       ∷ deleted store db index
-      ∷ growth_checks old.bytes store.map (data_under store db index) size;
+      ∷ growth_checks old store.map (data_under store db index) size;
   answers = done;
   effect = becomes (λ before. raised (with_chunks before (sized before.map (data_under before db index) size)) db);
 }

@@ -2,7 +2,7 @@
 -- Other files speak of slots by `slots_of`, `IsSlot`, `is_slot` and `StandsBehind`, of the tables as a whole by
 -- `tables_of`, and of the bytes in front of the chunks by `head_end` and `area_start`.
 use Rattle.std.specs.Prelude.{◌≡◌, ◌≤◌, ◌+◌, ◌-◌, ◌*◌, ◌/◌, ◌==◌, ◌||◌, ◌⊎◌, ◌++◌, if◌then◌else◌, ℕ, zero, suc, Bool, false, List, [], ◌∷◌, length, take}
-use Rattle.heap_model.specs.Memory.{Memory}
+use Rattle.heap_model.specs.Memory.{Memory, Misses}
 use Rattle.heap_model.specs.Bytes.{u16_at, u32_at}
 use Rattle.heap_model.specs.Chunk.{next_size, body_length}
 use Rattle.heap_model.specs.Placed.{EveryOne}
@@ -111,9 +111,11 @@ pub record TablesLie (image : List ℕ) : Type 0 where
   pub first : head_end image ≤ length image
   pub slots : EveryOne (λ slot. slot + slot_size ≤ length image) (slots_of image)
 
--- the tables lie within a memory
-abbrev pub HasTable : Memory → Type 0
-HasTable memory = TablesLie memory.bytes
+-- the tables lie within a memory, and what is lent of it is neither of the first table nor of a slot
+pub record HasTable (memory : Memory) : Type 0 where
+  pub lie : TablesLie memory.bytes
+  pub first_misses : Misses memory.lent 0 (head_end memory.bytes)
+  pub slots_miss : EveryOne (λ slot. Misses memory.lent slot slot_size) (slots_of memory.bytes)
 
 -- how many there are
 abbrev pub slots_total : List ℕ → ℕ

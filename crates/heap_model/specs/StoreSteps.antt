@@ -3,6 +3,7 @@
 use Rattle.std.specs.Prelude.{◌≡◌, ◌⊎◌, ◌++◌, if◌then◌else◌, Bool, true, false, length, ℕ, List}
 use Rattle.std.specs.Bool.{OnTrue}
 use Rattle.heap_model.specs.Memory.{Memory}
+use Rattle.heap_model.specs.Lending.{KeepsLoan}
 use Rattle.heap_model.specs.Slots.{slots_of}
 use Rattle.heap_model.specs.Heap.{directory_of}
 use Rattle.heap_model.specs.Meaning.{ChunkMap}
@@ -110,9 +111,10 @@ LeavesSlots (calls.Memory MoreSlots) replies.Done before after = (place : ℕ) �
 LeavesSlots call reply before after = after ≡ before
 
 -- From an accepted image the call does its step to an accepted image of the same size with the same slots, to which
--- `MoreSlots` alone adds some, and where nothing locked has moved; also where it is refused. The directory is the same chunk, but where a
--- database was made and there was none. Of the region's value its bytes alone may change, and the count of
--- slid ones where the call may slide bytes; a call that only asks leaves all of it.
+-- `MoreSlots` alone adds some. Nothing locked has moved, and a name that is lent stays so. All this holds of a call that
+-- is refused too. The directory is the same chunk, but where a database was made and there was none. Of the region's
+-- value its bytes alone may change, and the count of slid ones where the call may slide bytes; a call that only asks
+-- leaves all of it.
 pub record DoesInStore (old : Memory) (call : Call) (reply : Reply) (new : Memory) : Type 0 where
   pub before : Accepted old.bytes
   pub step : StoreStep old call reply new
@@ -121,5 +123,6 @@ pub record DoesInStore (old : Memory) (call : Call) (reply : Reply) (new : Memor
   pub slots : LeavesSlots call reply (slots_of old.bytes) (slots_of new.bytes)
   pub directory : (directory_of new.bytes ≡ directory_of old.bytes) ⊎ ((directory_of old.bytes ≡ 0) × HasMade call reply)
   pub still : Still old.bytes new.bytes
+  pub loan : KeepsLoan old new
   pub asks : OnTrue (row_of old call).only_asks (new ≡ old)
   pub rest : new ≡ record old { bytes = new.bytes; slid = if may_slide call then new.slid else old.slid }

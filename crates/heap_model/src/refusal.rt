@@ -64,6 +64,8 @@ pub enum Refusal {
     BadFile(FileFault),
     /// Memory for the answer was refused.
     OutOfMemory,
+    /// The chunk is lent, or one of the chunks.
+    Lent,
 }
 
 impl Refusal {
@@ -98,6 +100,7 @@ impl Refusal {
             Refusal::NoInfoBlock => 24,
             Refusal::BadFile(_) => 25,
             Refusal::OutOfMemory => 26,
+            Refusal::Lent => 27,
         }
     }
 
@@ -132,6 +135,7 @@ impl Refusal {
             Refusal::NoInfoBlock => "NoInfoBlock",
             Refusal::BadFile(_) => "BadFile",
             Refusal::OutOfMemory => "OutOfMemory",
+            Refusal::Lent => "Lent",
         }
     }
 }

@@ -13,7 +13,7 @@ use Rattle.laws_heap.proofs.Frames.{u32_at-written, slice-same, slice-overwritte
 use Rattle.laws_heap.proofs.Chunks.{Spelled-same, seen-movable, plain-callers}
 use Rattle.laws_heap.proofs.Runs.{chunks_of-tiled}
 use Rattle.laws_heap.proofs.Slots.{slot_facts, free_hold_none, slot_beside}
-use Rattle.laws_heap.proofs.Replacements.{SameHead, head_same, slot_there, Replaces, replaced_total, same_start}
+use Rattle.laws_heap.proofs.Replacements.{Replaces, replaced_total, same_start}
 use Rattle.laws_heap.proofs.Writes.{WroteWithin, wrote_none, wrote_part, wrote_word, wrote_wider, wrote_then, wrote_apart, wrote_word_apart, WroteArea, area_replaces, wrote_slots, area_slots, beside_same, beside_word, table_kept}
 use Rattle.laws_heap.proofs.FreeChunks.{free_replaced, OtherSlots, claimed}
 use Rattle.laws_heap.proofs.Layouts.{merged-left, merged-right, runs-merged}

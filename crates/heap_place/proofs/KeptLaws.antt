@@ -1,6 +1,6 @@
 -- What a space keeps beside its region: further tables stay what they are in the same frame.
 use Rattle.std.proofs.Common.{Bool, true, false, ◌≡◌, ℕ, ◌++◌, refl, List, [], ◌∷◌, sym, ap, subst, arith, inl, inr}
-use Rattle.std.specs.Prelude.{◌⊎◌, slice_index}
+use Rattle.std.specs.Prelude.{slice_index}
 use Rattle.std.specs.Bool.{OnTrue, OnFalse}
 use Rattle.heap_model.specs.Memory.{Memory}
 use Rattle.heap_model.specs.Slots.{Table, Tables, further_tables}

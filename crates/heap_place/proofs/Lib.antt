@@ -10,6 +10,10 @@ pub mod CarriedLaws
 pub mod CopyLaws
 pub mod MendLaws
 pub mod LiftedWalkLaws
+pub mod LentLaws
+pub mod LentRuns
+pub mod LentOwners
+pub mod LentLifts
 pub mod LiftLaws
 pub mod ExactLaws
 pub mod DropLaws

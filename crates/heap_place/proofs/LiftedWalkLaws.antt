@@ -16,7 +16,7 @@ walk_start image gap start end = λ old before done rest after l e. record {
   ends = e;
 }
 
-some_size : (old image : List ℕ) (before done : List Chunk) (c : Chunk) (rest after : List Chunk) (gap at : ℕ) → Lifting old image before done (c ∷ rest) after gap at → 8 ≤ size_of c
+pub some_size : (old image : List ℕ) (before done : List Chunk) (c : Chunk) (rest after : List Chunk) (gap at : ℕ) → Lifting old image before done (c ∷ rest) after gap at → 8 ≤ size_of c
 some_size old image before done c rest after gap at l =
     let n = next_of old image before done c rest after gap at l in
     let least = (Spelled-size image at (carried gap c) n.spelled).0 in

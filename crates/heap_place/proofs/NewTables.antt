@@ -1,14 +1,14 @@
 -- A free chunk becomes a table, which is added to the chain.
-use Rattle.std.proofs.Common.{true, ◌≡◌, ℕ, ◌+◌, ◌-◌, ◌*◌, ◌^◌, ◌<◌, ◌≤◌, List, [], ◌∷◌, ◌++◌, length, take, drop, replicate, refl, sym, ap, subst, ◌∙◌, arith, inl, inr}
+use Rattle.std.proofs.Common.{true, ◌≡◌, ℕ, ◌+◌, ◌-◌, ◌*◌, ◌^◌, List, [], ◌∷◌, ◌++◌, length, take, drop, replicate, refl, sym, ap, subst, ◌∙◌, arith, inl, inr}
 use Rattle.std.specs.Prelude.{slice_range}
 use Rattle.std.proofs.lemmas.List.{length-replicate}
-use Rattle.heap_model.specs.Bytes.{u32_at, u32_bytes, overwritten}
-use Rattle.heap_model.specs.Chunk.{Chunk, free, fixed, fixed_lock, need, total, seen, IsLive, Spelled}
+use Rattle.heap_model.specs.Bytes.{u32_bytes, overwritten}
+use Rattle.heap_model.specs.Chunk.{Chunk, free, fixed_lock, need, seen, IsLive, Spelled}
 use Rattle.heap_model.specs.Slots.{area_start, is_chained}
-use Rattle.heap_model.specs.Heap.{HeapAccepted, Tiles, IsHeap}
+use Rattle.heap_model.specs.Heap.{HeapAccepted, Tiles}
 use Rattle.heap_model.specs.Reading.{chunks_of}
 use Rattle.heap_model.specs.Placed.{AnyPlaced}
-use Rattle.heap_model.specs.Layout.{IsFreeAt, BeginsFree, WritesPlain}
+use Rattle.heap_model.specs.Layout.{IsFreeAt, WritesPlain}
 use Rattle.heap_model.specs.MoreTables.{last_next, PutsTable}
 use Rattle.laws_heap.proofs.Frames.{slice-overwritten}
 use Rattle.laws_heap.proofs.Runs.{chunks_of-tiled}
@@ -18,7 +18,7 @@ use Rattle.laws_heap.proofs.Plain.{free_word, lives_plain, middle_plain, plain_t
 use Rattle.laws_heap.proofs.AlikeTables.{alike_back, any_alike, free_tells}
 use Rattle.laws_heap.proofs.Relinked.{SpellsAlike}
 use Rattle.laws_heap.proofs.AddedTables.{stays_start}
-use Rattle.laws_heap.proofs.MoreTables.{table_chunk, WritesTable, LaysTable, LaidTable, lays_table}
+use Rattle.laws_heap.proofs.MoreTables.{table_chunk, WritesTable, LaysTable, lays_table}
 use Rattle.chunk_format.specs.declared.header.Header.TheVariants as headers
 use Rattle.chunk_format.specs.Header.{HasHeader, header_bytes}
 use Rattle.heap_place.specs.Lists.{IsFreeChunk, KeepsFree, ButAt, Any}

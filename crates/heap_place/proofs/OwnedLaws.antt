@@ -4,6 +4,8 @@ use Rattle.std.proofs.lemmas.Bool.{cases_eq, eqb-true, eq-eqb}
 use Rattle.std.proofs.lemmas.List.Sums.{sum_by-append, sum_by-cons}
 use Rattle.std.specs.Prelude.{◌==◌}
 use Rattle.heap_model.specs.Chunk.{Chunk, free, movable, fixed, fixed_lock, size_of, total, is_owned_by, Spelled, SpelledAll}
+use Rattle.heap_model.specs.Memory.{Memory}
+use Rattle.heap_model.specs.Lending.{LendsOther, LendsNoneOf}
 use Rattle.heap_model.specs.Slots.{area_start}
 use Rattle.heap_model.specs.Heap.{directory_of, HeapAccepted}
 use Rattle.heap_model.specs.Placed.{EveryPlaced, AnyPlaced}
@@ -30,6 +32,7 @@ use Rattle.heap_place.specs.Found.{IsOne, owned_by}
 use Rattle.heap_place.specs.Search.{Passed, NoneOwned, Freeing}
 use Rattle.heap_place.proofs.WalkLaws.{passed_start, passed_there, passed_at, passed_more, passed_all, passed_parts}
 use Rattle.heap_place.proofs.LookupLaws.{placed}
+use Rattle.heap_place.proofs.LentOwners.{owned_not_lent}
 
 -- ---- an owner's chunk
 
@@ -114,6 +117,10 @@ owned_apart image at owner header found h f has is some =
     let own = (owned_named at owner header has.chunk found has.header_is is).own in
     let owner_is = f.owner_is in
     not_directory image found.name.0 f.live h (finds_held image found.name.0 f.live f.chunk (found.place.0 - 8) h f.finds) (λ none. let z : f.live.owner ≡ 0 = none in omega arith)
+
+-- nor lent, if no chunk of that owner is
+pub owned_other : (m : Memory) (at owner : ℕ) (header : Header) (found : Found) → LendsNoneOf m owner → (f : IsOne m.bytes found) → HasHeader m.bytes at header → owned_by header (placed (at + 8)) owner ≡ Some found → LendsOther m found.place.0
+owned_other m at owner header found none f has is = owned_not_lent m owner found none f (owned_named at owner header has.chunk found has.header_is is).own
 
 -- ---- how many there are
 

@@ -17,6 +17,11 @@ use Rattle.std.proofs.lemmas.Bool.Decides.{nat_tests}
 use Rattle.chunk_format.specs.Header.{header_of, size_by, HasHeader, IsWritable}
 use Rattle.chunk_format.specs.declared.header.Header.{Header}
 use Rattle.chunk_format.specs.declared.header.Header.TheVariants as headers
+use Rattle.heap_model.specs.Memory.{Memory, Misses}
+use Rattle.heap_model.specs.Lending.{LendsABody}
+use Rattle.heap_model.specs.Space.{NoneStays}
+use Rattle.laws_heap.proofs.LentBodies.{header_misses, loose_misses}
+use Rattle.laws_heap.proofs.Lending.{part_misses}
 use Rattle.heap_place.specs.Packs.{BecomesExactly, RunOf, IsRun, Packs, last_room, packed_one, room_after, moved_one, HeaderStays, BehindRoom, IsBehindRoom, PackedOne, PacksOne, Droppable, IsDroppable, Drops, Packing, PacksUpTo}
 use Rattle.heap_place.specs.Lists.{KeepsFree, IsFreeChunk, SameChunks}
 use Rattle.heap_place.specs.Gathers.{Before}
@@ -400,3 +405,25 @@ compacted_whole old new start end h from to p =
 
 pub whole_exact : (old new : List ℕ) (start end : ℕ) → HeapAccepted old → start ≡ area_start old → end ≡ length old → Packs old new start end → chunks_of new ≡ packed (chunks_of old)
 whole_exact old new start end h from to p = (p [] (chunks_of old) [] (run_whole old start end h from to)).exact ∙ append-nil (packed (chunks_of old))
+
+-- the header behind room misses what is lent
+pub behind_misses : (m : Memory) (before : List Chunk) (chunk : Chunk) (after : List Chunk) (at room : ℕ) → HeapAccepted m.bytes → LendsABody m → BehindRoom m.bytes before chunk after at room → Misses m.lent at 8
+behind_misses m before chunk after at room h l b =
+    let there = b.there in
+    let t = total-append before (gap room) in
+    let g = gap_total room in
+    header_misses m (before ++ gap room) chunk after at h l (b.chunks ∙ sym (append_assoc before (gap room) (chunk ∷ after))) (omega (arith, there, t, g))
+
+gap_loose : (room n : ℕ) → NoneStays (gap room ++ free n ∷ [])
+gap_loose zero n = tt
+gap_loose (suc room) n = tt
+
+pub join_misses : (m : Memory) (before : List Chunk) (c : Chunk) (after : List Chunk) (at room n : ℕ) → HeapAccepted m.bytes → LendsABody m → BehindRoom m.bytes before c after at room → HasHeader m.bytes at (headers.Free n) → Misses m.lent (at - room) 8
+join_misses m before c after at room n h l b found =
+    let c_is = free_header n c (behind_header m.bytes before c after at room (headers.Free n) h b found) in
+    let f = join_facts m.bytes before n after at room (at - room) h (b.chunks ∙ ap (λ (d : Chunk). before ++ (gap room ++ d ∷ after)) c_is) b.there refl in
+    let least : 8 ≤ n = f.is_free.header_fits in
+    let there = b.there in
+    let t = total-append (gap room) (free n ∷ []) in
+    let e : chunks_of m.bytes ≡ before ++ ((gap room ++ free n ∷ []) ++ after) = b.chunks ∙ ap (λ (d : Chunk). before ++ (gap room ++ d ∷ after)) c_is ∙ ap (λ (cs : List Chunk). before ++ cs) (sym (append_assoc (gap room) (free n ∷ []) after)) in
+    part_misses m.lent (at - room) (total (gap room ++ free n ∷ [])) (at - room) 8 (loose_misses m before (gap room ++ free n ∷ []) after (at - room) l e (omega (arith, there)) (gap_loose room n)) (omega arith) (omega (arith, t, least))

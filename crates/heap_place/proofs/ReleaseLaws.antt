@@ -278,3 +278,11 @@ given_lists old mid new heads after found h f keeps len p lists =
     let at : ℕ = found.place.0 - 8 in
     let others : AreLists (ButAt at) old heads = lists_weaker Any (ButAt at) old heads (λ x b any. none_there old found x h f b) lists in
     push_lists (ButAt at) Any mid new heads after at (lists_kept (ButAt at) old mid heads (λ x apart b. keeps x tt b) others) (λ x b apart. (tt, apart)) tt len p
+
+-- its own slot
+pub own_slot_is : (old : List ℕ) (found : Found) → HeapAccepted old → (f : IsOne old found) → found.lock ≢ fixed_lock → IsSlot old found.name.0
+own_slot_is old found h f loose = by_chunk f.chunk f.finds where
+  by_chunk : (c : Chunk) → Finds old found.name.0 f.live c (found.place.0 - 8) → IsSlot old found.name.0
+  by_chunk (free size) g = absurd g.named
+  by_chunk (fixed bytes o) g = absurd (loose (f.lock_is ∙ ap (λ (x : LiveChunk). x.lock) (sym (fixed_live_is (found.place.0 - 8) bytes o g.named))))
+  by_chunk (movable bytes l o s) g = subst (λ (n : ℕ). IsSlot old n) g.named.0 (own_slot old found.name.0 (found.place.0 - 8) f.live bytes l o s h g)

@@ -3,6 +3,7 @@ use Rattle.std.proofs.Common.{◌≡◌, ℕ, ◌+◌, ◌-◌, ◌<◌, ◌≤�
 use Rattle.heap_model.specs.Chunk.{Chunk, need, free, movable, fixed, size_of, HasChunk, SpelledAll}
 use Rattle.heap_model.specs.Slots.{area_start}
 use Rattle.heap_model.specs.Heap.{HeapAccepted}
+use Rattle.heap_model.specs.Reading.{chunks_of, chunk_at}
 use Rattle.heap_model.specs.Space.{free_front}
 use Rattle.heap_model.specs.Layout.{Becomes, gap}
 use Rattle.heap_model.specs.Resizing.{with_length, behind_front, GrowsInPlace}
@@ -12,6 +13,9 @@ use Rattle.laws_heap.proofs.ExchangedNames.{named_live_chunk}
 use Rattle.laws_heap.proofs.Resizings.{front_parts, grows_parts}
 use Rattle.chunk_format.specs.Header.{header_of, HasHeader}
 use Rattle.chunk_format.specs.declared.header.Header.{Header}
+use Rattle.heap_model.specs.Memory.{Memory, Misses}
+use Rattle.heap_model.specs.Lending.{LendsABody}
+use Rattle.laws_heap.proofs.LentBodies.{walked_misses}
 use Rattle.heap_place.specs.declared.found.Found.{Found}
 use Rattle.heap_place.specs.Found.{IsOne}
 use Rattle.heap_place.specs.Search.{size_if_free, free_size_at, free_by, ChunksFrom}
@@ -156,3 +160,26 @@ in_place_no image found count own behind e b short f =
     let is = free_behind_found image found own behind e f b in
     let size = found_size image found f in
     (λ yes. absurd cc, λ enough. absurd (omega arith))
+
+-- the header there
+pub bound_misses : (m : Memory) (at : ℕ) → HeapAccepted m.bytes → LendsABody m → IsBound m.bytes at → at < length m.bytes → Misses m.lent at 8
+bound_misses m at h l b inside =
+    walked_misses m b.before at h l (subst (λ (n : ℕ). SpelledAll m.bytes (area_start m.bytes) b.before n) (sym b.ends.there) (SpelledAll-split m.bytes (area_start m.bytes) b.before b.after (length m.bytes) (heap_in_parts m.bytes (b.before ++ b.after) h b.ends.chunks).tiles.area).0) inside
+
+-- and behind a free chunk that stands there
+pub bound_on : (image : List ℕ) (at size : ℕ) → HeapAccepted image → IsBound image at → size ≡ free_size_at image at → 0 < size → IsBound image (at + size)
+bound_on image at size h b is some = by_rest b.after b.ends.chunks (subst (λ (n : ℕ). SpelledAll image n b.after (length image)) (sym b.ends.there) (SpelledAll-split image (area_start image) b.before b.after (length image) (heap_in_parts image (b.before ++ b.after) h b.ends.chunks).tiles.area).1) where
+  on : (c : Chunk) (cs : List Chunk) → chunks_of image ≡ b.before ++ c ∷ cs → chunk_at image at ≡ Some c → IsBound image (at + size)
+  on (free n) cs e r =
+      let same : size ≡ n = is ∙ ap size_if_free r in
+      let there = b.ends.there in
+      let t = total-append b.before (free n ∷ []) in
+      record { before = b.before ++ free n ∷ []; after = cs; ends = record { chunks = e ∙ sym (append_assoc b.before (free n ∷ []) cs); there = omega (arith, same, there, t) } }
+  on (movable bytes lock owner slot) cs e r = let none : size ≡ 0 = is ∙ ap size_if_free r in absurd (omega (arith, none, some))
+  on (fixed bytes owner) cs e r = let none : size ≡ 0 = is ∙ ap size_if_free r in absurd (omega (arith, none, some))
+
+  by_rest : (cs : List Chunk) → chunks_of image ≡ b.before ++ cs → SpelledAll image at cs (length image) → IsBound image (at + size)
+  by_rest [] e s =
+      let none : size ≡ 0 = is ∙ ap size_if_free (chunk_at-none image at (λ c t. let inside = (Spelled-size image at c t).1 in let least = (Spelled-size image at c t).0 in omega (arith, inside, least, s))) in
+      absurd (omega (arith, none, some))
+  by_rest (c ∷ cs) e s = on c cs e (chunk_at-spelled image at c s.0)

@@ -9,6 +9,9 @@ use Rattle.laws_heap.proofs.Chunks.{Spelled-size, Spelled-unique, total-append, 
 use Rattle.chunk_format.specs.Header.{header_of, size_by, HasHeader}
 use Rattle.chunk_format.specs.declared.header.Header.{Header}
 use Rattle.chunk_format.proofs.HeaderLaws.{size_by-header_of}
+use Rattle.heap_model.specs.Memory.{Memory, Misses}
+use Rattle.heap_model.specs.Lending.{LendsABody}
+use Rattle.heap_place.proofs.LentLaws.{row_misses}
 use Rattle.heap_place.specs.declared.stretch.Stretch.{Stretch}
 use Rattle.heap_place.specs.Search.{free_by}
 use Rattle.heap_place.specs.Stretches.{StretchIs, IsStretch, Summed, SumsUpTo, HasRoomOf}
@@ -47,6 +50,16 @@ summed_chunk image stretch at room h s w low =
     let to = s.is.to in
     let n = next_of image s.mid stretch.start at room m.0 m.1 (omega arith) (w s.before s.mid s.after s.is) in
     (n.chunk, n.spelled)
+
+pub summed_misses : (m : Memory) (stretch : Stretch) (at room : ℕ) → HeapAccepted m.bytes → LendsABody m → IsStretch m.bytes stretch → SumsUpTo m.bytes stretch at room → at < stretch.end → Misses m.lent at 8
+summed_misses m stretch at room h l s w low =
+    let ms = mid_spelled m.bytes s.before s.mid s.after stretch h s.is in
+    let to = s.is.to in
+    let from = s.is.from in
+    let n = next_of m.bytes s.mid stretch.start at room ms.0 ms.1 (omega arith) (w s.before s.mid s.after s.is) in
+    let there = n.summed.there in
+    row_misses m s.before n.summed.front n.chunk n.later s.after at h l
+    (s.is.whole.chunks ∙ ap (λ (cs : List Chunk). s.before ++ (cs ++ s.after)) (n.summed.parts ∙ ap (λ (cs : List Chunk). n.summed.front ++ cs) n.rest_is)) (omega (arith, there, from))
 
 -- the room so far is no more than what was passed
 pub summed_fits : (image : List ℕ) (stretch : Stretch) (at room : ℕ) (header : Header) → HeapAccepted image → IsStretch image stretch → SumsUpTo image stretch at room → at < stretch.end → HasHeader image at header → (room ≤ at) × (at + size_by header ≤ length image)

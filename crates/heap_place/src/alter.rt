@@ -1,7 +1,9 @@
 //! Another lock count or owner for a live chunk.
+#![tactic(auto, using(laws_heap::proofs::LentBodies::frame_within, laws_heap::proofs::LentBodies::table_within))]
 
 ghost use Rattle.std.specs.Prelude.{◌≡◌, ◌<◌, ◌-◌, ◌⊎◌};
 ghost use Rattle.heap_model.specs.Chunk.{fixed_lock};
+ghost use Rattle.heap_model.specs.Lending.{LendsABody, LendsOther};
 ghost use Rattle.heap_model.specs.Heap.{HeapAccepted};
 ghost use Rattle.heap_model.specs.Layout.{Alters, with_lock, with_owner, WritesPlain};
 ghost use Rattle.heap_place.specs.Found.{IsOne, CanGoTo, header_at};
@@ -14,14 +16,17 @@ use raw_region::Region;
 /// Gives a movable chunk another lock count.
 pub(crate) fn relock_at(region: &mut Region, found: Found, lock: u8)
     requires accepted { HeapAccepted region.old.bytes }
+    requires lent { LendsABody region.old }
     requires found { IsOne region.old.bytes found }
     requires movable { found.lock < fixed_lock }
     requires lock { lock < fixed_lock }
     requires owned { (lock ≡ 0) ⊎ (0 < found.owner) }
+    requires stays { (0 < lock) ⊎ LendsOther region.old found.place.0 }
     ensures made { Alters region.old.bytes region.new.bytes (header_at found) (with_lock lock) }
     ensures keeps { KeepsFree Any region.old.bytes region.new.bytes }
     ensures plain { WritesPlain region.old.bytes region.new.bytes }
     ensures rest { region.new ≡ record region.old { bytes = region.new.bytes } }
+    ensures lent { LendsABody region.new }
 {
     put_lock(region, found.place.0 - HEADER_SIZE, lock);
 }
@@ -30,12 +35,14 @@ pub(crate) fn relock_at(region: &mut Region, found: Found, lock: u8)
 #[inline(always)]
 pub(crate) fn reown_at(region: &mut Region, found: Found, owner: u8)
     requires accepted { HeapAccepted region.old.bytes }
+    requires lent { LendsABody region.old }
     requires found { IsOne region.old.bytes found }
     requires owner { CanGoTo region.old.bytes found owner }
     ensures made { Alters region.old.bytes region.new.bytes (header_at found) (with_owner owner) }
     ensures keeps { KeepsFree Any region.old.bytes region.new.bytes }
     ensures plain { WritesPlain region.old.bytes region.new.bytes }
     ensures rest { region.new ≡ record region.old { bytes = region.new.bytes } }
+    ensures lent { LendsABody region.new }
 {
     put_owner(region, found.place.0 - HEADER_SIZE, owner);
 }

@@ -1,8 +1,11 @@
 //! A live chunk is made at the front of room.
+#![tactic(auto, using(laws_heap::proofs::LentBodies::frame_within, laws_heap::proofs::LentBodies::table_within, laws_heap::proofs::Lending::part_misses))]
 
 ghost use Rattle.std.specs.Prelude.{◌≡◌, ◌≤◌, ◌<◌, ◌+◌, ◌%◌, ◌^◌, length, replicate, true};
 ghost use Rattle.heap_model.specs.Bytes.{u32_at};
 ghost use Rattle.heap_model.specs.Chunk.{movable, fixed, need, data_owner};
+ghost use Rattle.heap_model.specs.Lending.{LendsABody};
+ghost use Rattle.heap_model.specs.Memory.{Misses};
 ghost use Rattle.heap_model.specs.Slots.{IsSlot, is_chained};
 ghost use Rattle.heap_model.specs.MoreTables.{table_need, PutsTable};
 ghost use Rattle.heap_model.specs.Heap.{HeapAccepted};
@@ -20,6 +23,7 @@ use raw_region::Region;
 /// Makes the front of a run of free chunks one free chunk of `size` bytes, and what is left another.
 pub(crate) fn cut(region: &mut Region, room: Room, size: u32)
     requires accepted { HeapAccepted region.old.bytes }
+    requires lent { LendsABody region.old }
     requires room { IsSpot region.old.bytes room.at room.size }
     requires least { need 0 ≤ size }
     requires whole { size % 8 ≡ 0 }
@@ -29,6 +33,7 @@ pub(crate) fn cut(region: &mut Region, room: Room, size: u32)
     ensures keeps { KeepsFree (Outside room.at room.size) region.old.bytes region.new.bytes }
     ensures plain { WritesPlain region.old.bytes region.new.bytes }
     ensures rest { region.new ≡ record region.old { bytes = region.new.bytes } }
+    ensures lent { LendsABody region.new }
 {
     write_rest(region, room.at + size, room.size - size);
     Header::Free { size }.write(region, room.at);
@@ -38,6 +43,7 @@ pub(crate) fn cut(region: &mut Region, room: Room, size: u32)
 #[inline(always)]
 pub(crate) fn write_rest(region: &mut Region, at: u32, size: u32)
     requires inside { at + size ≤ length region.old.bytes }
+    requires misses { Misses region.old.lent at size }
     requires small { length region.old.bytes < 2 ^ 24 }
     requires whole { size % 8 ≡ 0 }
     ensures wrote { WroteRest region.old.bytes region.new.bytes at size }
@@ -51,6 +57,7 @@ pub(crate) fn write_rest(region: &mut Region, at: u32, size: u32)
 /// Makes the free chunk at `at` a movable one of zeros.
 pub(crate) fn claim_movable(region: &mut Region, at: u32, slot: Name, count: u32, owner: u8)
     requires accepted { HeapAccepted region.old.bytes }
+    requires lent { LendsABody region.old }
     requires free { IsFreeChunk region.old.bytes at (need count) }
     requires slot { IsSlot region.old.bytes slot.0 }
     requires empty { u32_at region.old.bytes slot.0 ≡ 0 }
@@ -60,6 +67,7 @@ pub(crate) fn claim_movable(region: &mut Region, at: u32, slot: Name, count: u32
     ensures keeps { KeepsFree (ButAt at) region.old.bytes region.new.bytes }
     ensures plain { WritesPlain region.old.bytes region.new.bytes }
     ensures rest { region.new ≡ record region.old { bytes = region.new.bytes } }
+    ensures lent { LendsABody region.new }
 {
     let header = Header::Movable {
         length: count,
@@ -75,6 +83,7 @@ pub(crate) fn claim_movable(region: &mut Region, at: u32, slot: Name, count: u32
 /// Makes the free chunk at `at` a fixed one of zeros.
 pub(crate) fn claim_fixed_at(region: &mut Region, at: u32, count: u32, owner: u8)
     requires accepted { HeapAccepted region.old.bytes }
+    requires lent { LendsABody region.old }
     requires free { IsFreeChunk region.old.bytes at (need count) }
     requires some_owner { 0 < owner }
     requires most_owner { owner < data_owner }
@@ -83,6 +92,7 @@ pub(crate) fn claim_fixed_at(region: &mut Region, at: u32, count: u32, owner: u8
     ensures keeps { KeepsFree (ButAt at) region.old.bytes region.new.bytes }
     ensures plain { WritesPlain region.old.bytes region.new.bytes }
     ensures rest { region.new ≡ record region.old { bytes = region.new.bytes } }
+    ensures lent { LendsABody region.new }
 {
     let header = Header::Fixed {
         length: count,
@@ -96,12 +106,14 @@ pub(crate) fn claim_fixed_at(region: &mut Region, at: u32, count: u32, owner: u8
 /// Makes the free chunk at `at` a table of empty slots, the last of the chain.
 pub(crate) fn claim_table_at(region: &mut Region, at: u32)
     requires accepted { HeapAccepted region.old.bytes }
+    requires lent { LendsABody region.old }
     requires free { IsFreeChunk region.old.bytes at table_need }
     requires chained { is_chained region.old.bytes ≡ true }
     ensures made { PutsTable region.old.bytes region.new.bytes (at + 8) }
     ensures keeps { KeepsFree (ButAt at) region.old.bytes region.new.bytes }
     ensures plain { WritesPlain region.old.bytes region.new.bytes }
     ensures rest { region.new ≡ record region.old { bytes = region.new.bytes } }
+    ensures lent { LendsABody region.new }
 {
     let header = Header::Fixed {
         length: TABLE_LENGTH,

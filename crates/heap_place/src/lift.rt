@@ -1,6 +1,10 @@
 //! Chunks are lifted over the free chunk behind them.
+#![tactic(auto, using(laws_heap::proofs::Lending::part_within))]
 
 ghost use Rattle.std.specs.Prelude.{◌≡◌, ◌+◌, ◌-◌, ◌<◌, ◌^◌, length};
+ghost use Rattle.heap_model.specs.Memory.{Misses};
+ghost use Rattle.heap_model.specs.Slots.{HasTable};
+ghost use Rattle.heap_model.specs.Lending.{LendsABody};
 ghost use Rattle.heap_model.specs.Heap.{HeapAccepted};
 ghost use Rattle.heap_place.specs.Lifting.{IsCarried, MendsOne, AreCarried, MendsAll, HasFreeBehind, Lifts};
 
@@ -12,9 +16,12 @@ use raw_region::Region;
 /// `gap`: their bytes in one slide, and then each one's slot and the way to it in turn.
 pub(crate) fn lift(region: &mut Region, start: u32, end: u32, gap: u32)
     requires accepted { HeapAccepted region.old.bytes }
+    requires lent { LendsABody region.old }
     requires behind { HasFreeBehind region.old.bytes start end gap }
     ensures lifted { Lifts region.old.bytes region.new.bytes start end gap }
+    ensures out { region.new.lent ≡ region.old.lent }
     ensures slid { region.new.slid ≡ region.old.slid + (end - start) }
+    ensures lent { LendsABody region.new }
 {
     let from = start as usize;
     region.slide(from, from + gap as usize, (end - start) as usize);
@@ -24,8 +31,11 @@ pub(crate) fn lift(region: &mut Region, start: u32, end: u32, gap: u32)
 
 /// Mends the chunks from `start` up to `end`, whose bytes were carried up by `gap`.
 fn mend(region: &mut Region, start: u32, end: u32, gap: u32)
-    requires { AreCarried region.old.bytes gap start end }
+    requires carried { AreCarried region.old.bytes gap start end }
+    requires table { HasTable region.old }
+    requires misses { Misses region.old.lent start (end - start) }
     ensures mended { MendsAll region.old.bytes region.new.bytes gap start end }
+    ensures out { region.new.lent ≡ region.old.lent }
     ensures slid { region.new.slid ≡ region.old.slid }
 {
     let mut at = start;
@@ -37,8 +47,11 @@ fn mend(region: &mut Region, start: u32, end: u32, gap: u32)
 /// Mends the chunk at `at`, whose bytes were carried up by `gap`, and answers its size: a movable one
 /// names its slot again, and the slot holds its place.
 fn mend_one(region: &mut Region, at: u32, gap: u32) -> u32
-    requires { IsCarried region.old.bytes gap at }
+    requires carried { IsCarried region.old.bytes gap at }
+    requires table { HasTable region.old }
+    requires misses { Misses region.old.lent at HEADER_SIZE }
     ensures mended { MendsOne region.old.bytes region.new.bytes gap at (at + result) }
+    ensures out { region.new.lent ≡ region.old.lent }
     ensures slid { region.new.slid ≡ region.old.slid }
 {
     let (header, size) = Header::at_with_size(region, at);

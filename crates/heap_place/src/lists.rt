@@ -1,8 +1,11 @@
 //! The lists of free chunks, one for each class of sizes.
+#![tactic(auto, using(laws_heap::proofs::LentBodies::frame_within, laws_heap::proofs::LentBodies::table_within))]
 
 ghost use Rattle.std.specs.Prelude.{◌≡◌, ◌≤◌, ◌<◌, ◌+◌, ◌-◌, ◌%◌, ◌^◌, length, IfSome};
 ghost use Rattle.heap_model.specs.Bytes.{u32_at};
 ghost use Rattle.heap_model.specs.Chunk.{need};
+ghost use Rattle.heap_model.specs.Lending.{LendsABody};
+ghost use Rattle.heap_model.specs.Memory.{IsWithin};
 ghost use Rattle.heap_model.specs.Heap.{HeapAccepted};
 ghost use Rattle.heap_model.specs.Reading.{size_field, chunks_of};
 ghost use Rattle.heap_model.specs.Layout.{Becomes, IsSpot, WritesPlain};
@@ -45,9 +48,11 @@ pub(crate) fn class_of(size: u32) -> usize
 #[inline(always)]
 pub(crate) fn push(region: &mut Region, heads: &mut [u32; CLASSES], at: u32, size: u32)
     requires accepted { HeapAccepted region.old.bytes }
+    requires lent { LendsABody region.old }
     requires free { IsFreeChunk region.old.bytes at size }
     ensures pushed { Pushes region.old.bytes region.new.bytes heads.old heads.new at }
     ensures rest { region.new ≡ record region.old { bytes = region.new.bytes } }
+    ensures lent { LendsABody region.new }
 {
     let class = class_of(size);
     region.put_u32(at as usize + LINK_AT, heads[class]);
@@ -58,12 +63,14 @@ pub(crate) fn push(region: &mut Region, heads: &mut [u32; CLASSES], at: u32, siz
 /// chunks in front of it.
 pub(crate) fn push_room(region: &mut Region, heads: &mut [u32; CLASSES], end: u32, room: u32)
     requires accepted { HeapAccepted region.old.bytes }
+    requires lent { LendsABody region.old }
     requires within { room ≤ end }
     requires free { 0 < room → IsFreeChunk region.old.bytes (end - room) room }
     requires lists { AreLists (Before (end - room)) region.old.bytes heads.old }
     ensures same { SameChunks region.old.bytes region.new.bytes }
     ensures lists { AreLists (Before end) region.new.bytes heads.new }
     ensures rest { region.new ≡ record region.old { bytes = region.new.bytes } }
+    ensures lent { LendsABody region.new }
 {
     if room > 0 {
         push(region, heads, end - room, room);
@@ -73,10 +80,12 @@ pub(crate) fn push_room(region: &mut Region, heads: &mut [u32; CLASSES], end: u3
 /// Drops all lists, and puts the free chunk at `at` into its own.
 pub(crate) fn push_alone(region: &mut Region, heads: &mut [u32; CLASSES], at: u32, size: u32)
     requires accepted { HeapAccepted region.old.bytes }
+    requires lent { LendsABody region.old }
     requires free { IsFreeChunk region.old.bytes at size }
     ensures same { SameChunks region.old.bytes region.new.bytes }
     ensures lists { HasLists region.new.bytes heads.new }
     ensures rest { region.new ≡ record region.old { bytes = region.new.bytes } }
+    ensures lent { LendsABody region.new }
 {
     *heads = [0; CLASSES];
     push(region, heads, at, size);
@@ -85,7 +94,7 @@ pub(crate) fn push_alone(region: &mut Region, heads: &mut [u32; CLASSES], at: u3
 /// The size of a free chunk, by its first word.
 #[inline]
 fn size_at(region: &Region, at: u32) -> u32
-    requires { at + 4 ≤ length region.now.bytes }
+    requires { IsWithin region.now at 4 }
     ensures { result ≡ size_field (u32_at region.now.bytes at) }
 {
     region.get_u32(at as usize) % ABOVE_SIZES
@@ -96,6 +105,7 @@ fn size_at(region: &Region, at: u32) -> u32
 #[inline(always)]
 fn unlink(region: &mut Region, heads: &mut [u32; CLASSES], room: Room, probes: usize) -> bool
     requires accepted { HeapAccepted region.old.bytes }
+    requires lent { LendsABody region.old }
     requires room { IsSpot region.old.bytes room.at room.size }
     requires some { need 0 ≤ room.size }
     requires lists { HasLists region.old.bytes heads.old }
@@ -103,6 +113,7 @@ fn unlink(region: &mut Region, heads: &mut [u32; CLASSES], room: Room, probes: u
     ensures lists { AreLists (Outside room.at room.size) region.new.bytes heads.new }
     ensures count { length heads.new ≡ class_count }
     ensures rest { region.new ≡ record region.old { bytes = region.new.bytes } }
+    ensures lent { LendsABody region.new }
 {
     if size_at(region, room.at) == room.size {
         return take_out(region, heads, room.at, room.size, probes);
@@ -115,12 +126,14 @@ fn unlink(region: &mut Region, heads: &mut [u32; CLASSES], room: Room, probes: u
 #[inline(always)]
 pub(crate) fn unlink_run(region: &mut Region, heads: &mut [u32; CLASSES], room: Room) -> bool
     requires accepted { HeapAccepted region.old.bytes }
+    requires lent { LendsABody region.old }
     requires room { IsSpot region.old.bytes room.at room.size }
     requires lists { HasLists region.old.bytes heads.old }
     ensures same { SameChunks region.old.bytes region.new.bytes }
     ensures lists { AreLists (Outside room.at room.size) region.new.bytes heads.new }
     ensures count { length heads.new ≡ class_count }
     ensures rest { region.new ≡ record region.old { bytes = region.new.bytes } }
+    ensures lent { LendsABody region.new }
 {
     if room.size == 0 {
         return true;
@@ -133,6 +146,7 @@ pub(crate) fn unlink_run(region: &mut Region, heads: &mut [u32; CLASSES], room: 
 /// of a list was found by a walk over the chunks in front of it, so that its list may be searched to the end.
 pub(crate) fn take(region: &mut Region, heads: &mut [u32; CLASSES], room: Room, size: u32) -> bool
     requires accepted { HeapAccepted region.old.bytes }
+    requires lent { LendsABody region.old }
     requires room { IsSpot region.old.bytes room.at room.size }
     requires least { need 0 ≤ size }
     requires whole { size % 8 ≡ 0 }
@@ -143,6 +157,7 @@ pub(crate) fn take(region: &mut Region, heads: &mut [u32; CLASSES], room: Room, 
     ensures lists { AreLists (ButAt room.at) region.new.bytes heads.new }
     ensures plain { WritesPlain region.old.bytes region.new.bytes }
     ensures rest { region.new ≡ record region.old { bytes = region.new.bytes } }
+    ensures lent { LendsABody region.new }
 {
     let kept = unlink(region, heads, room, ALL);
     cut(region, room, size);
@@ -155,6 +170,7 @@ pub(crate) fn take(region: &mut Region, heads: &mut [u32; CLASSES], room: Room, 
 /// The first chunk of a list that has `size` bytes, of the classes in which one may have them.
 pub(crate) fn find_listed(region: &Region, heads: &[u32; CLASSES], size: u32) -> Option<Room>
     requires accepted { HeapAccepted region.now.bytes }
+    requires lent { LendsABody region.now }
     requires lists { HasLists region.now.bytes heads.now }
     requires least { need 0 ≤ size }
     requires small { size < 2 ^ 24 }

@@ -1,7 +1,9 @@
 //! Live chunks by their names and by their places.
+#![tactic(auto, using(laws_heap::proofs::LentBodies::frame_within, laws_heap::proofs::LentBodies::table_within))]
 
 ghost use Rattle.std.specs.Prelude.{◌≡◌, ◌≢◌, IsSome, IfSome, IfNone, Some, None};
 ghost use Rattle.heap_model.specs.Chunk.{fixed_lock};
+ghost use Rattle.heap_model.specs.Lending.{LendsABody};
 ghost use Rattle.heap_model.specs.Heap.{HeapAccepted};
 ghost use Rattle.heap_model.specs.Meaning.{LiveChunk};
 ghost use Rattle.heap_model.specs.Reading.{held};
@@ -20,6 +22,7 @@ use raw_region::Region;
 /// any other name the chunks are walked.
 pub(crate) fn find_named(region: &Region, tables: &KnownTables, name: Name) -> Option<Found>
     requires accepted { HeapAccepted region.now.bytes }
+    requires lent { LendsABody region.now }
     requires knows { KnowsTables region.now.bytes tables.now }
     ensures found { IfSome result (IsFound region.now.bytes name.0) }
     ensures none { IfNone result (held region.now.bytes name.0 ≡ None) }
@@ -35,6 +38,7 @@ pub(crate) fn find_named(region: &Region, tables: &KnownTables, name: Name) -> O
 #[inline(always)]
 pub(crate) fn in_slot(region: &Region, tables: &KnownTables, name: Name) -> Option<Found>
     requires accepted { HeapAccepted region.now.bytes }
+    requires lent { LendsABody region.now }
     requires knows { KnowsTables region.now.bytes tables.now }
     ensures found { IfSome result (IsFound region.now.bytes name.0) }
     ensures none { IfNone result (HoldsNothing region.now.bytes name.0) }
@@ -50,6 +54,7 @@ pub(crate) fn in_slot(region: &Region, tables: &KnownTables, name: Name) -> Opti
 #[inline(always)]
 pub(crate) fn chunk_named(region: &Region, tables: &KnownTables, name: Name) -> Found
     requires accepted { HeapAccepted region.now.bytes }
+    requires lent { LendsABody region.now }
     requires knows { KnowsTables region.now.bytes tables.now }
     requires there { IsSome (held region.now.bytes name.0) }
     ensures { IsFound region.now.bytes name.0 result }
@@ -65,6 +70,7 @@ pub(crate) fn chunk_named(region: &Region, tables: &KnownTables, name: Name) -> 
 #[inline(always)]
 pub(crate) fn movable_named(region: &Region, name: Name) -> Found
     requires accepted { HeapAccepted region.now.bytes }
+    requires lent { LendsABody region.now }
     requires there { IsSome (held region.now.bytes name.0) }
     requires movable { (live : LiveChunk) → held region.now.bytes name.0 ≡ Some live
         → live.lock ≢ fixed_lock }
@@ -77,6 +83,7 @@ pub(crate) fn movable_named(region: &Region, name: Name) -> Found
 #[inline(always)]
 fn held_by(region: &Region, slot: Name, place: Place) -> Found
     requires accepted { HeapAccepted region.now.bytes }
+    requires lent { LendsABody region.now }
     requires holds { HoldsPlace region.now.bytes slot.0 place.0 }
     ensures { IsFound region.now.bytes slot.0 result }
 {
@@ -94,6 +101,7 @@ fn held_by(region: &Region, slot: Name, place: Place) -> Found
 #[inline(always)]
 fn fixed_at(region: &Region, name: Name) -> Found
     requires accepted { HeapAccepted region.now.bytes }
+    requires lent { LendsABody region.now }
     requires fixed { IsFixed region.now.bytes name.0 }
     ensures { IsFound region.now.bytes name.0 result }
 {
@@ -105,6 +113,7 @@ fn fixed_at(region: &Region, name: Name) -> Found
 /// only where the slot that it names holds the place; a fixed chunk is looked for among all chunks.
 pub(crate) fn find_placed(region: &Region, tables: &KnownTables, place: Place) -> Option<Found>
     requires accepted { HeapAccepted region.now.bytes }
+    requires lent { LendsABody region.now }
     requires knows { KnowsTables region.now.bytes tables.now }
     ensures found { IfSome result (IsOne region.now.bytes) }
     ensures there { IfSome result (λ found. found.place.0 ≡ place.0) }
@@ -119,12 +128,19 @@ pub(crate) fn find_placed(region: &Region, tables: &KnownTables, place: Place) -
 /// The movable chunk whose body is at a place, if there is one.
 fn in_slot_at(region: &Region, tables: &KnownTables, place: Place) -> Option<Found>
     requires accepted { HeapAccepted region.now.bytes }
+    requires lent { LendsABody region.now }
     requires knows { KnowsTables region.now.bytes tables.now }
     ensures found { IfSome result (IsOne region.now.bytes) }
     ensures there { IfSome result (λ found. found.place.0 ≡ place.0) }
     ensures none { IfNone result (NoSlotHolds region.now.bytes place.0) }
 {
     if place.0 < HEADER_SIZE {
+        return None;
+    }
+    if !region.misses(
+        place.0 as usize - HEADER_SIZE as usize,
+        HEADER_SIZE as usize,
+    ) {
         return None;
     }
     let header = match Header::read(region, place.0 - HEADER_SIZE) {

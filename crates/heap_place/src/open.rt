@@ -1,6 +1,8 @@
 //! Room is opened behind a chunk.
+#![tactic(auto, using(laws_heap::proofs::LentBodies::frame_within, laws_heap::proofs::LentBodies::table_within))]
 
 ghost use Rattle.std.specs.Prelude.{◌≡◌, ◌≤◌, ◌+◌, ◌-◌, ◌*◌};
+ghost use Rattle.heap_model.specs.Lending.{LendsABody};
 ghost use Rattle.heap_model.specs.Heap.{HeapAccepted};
 ghost use Rattle.heap_model.specs.Placing.{SameFrame};
 ghost use Rattle.heap_model.specs.Layout.{WritesPlain};
@@ -28,13 +30,16 @@ pub(crate) fn open_in(
     found: Found,
 )
     requires accepted { HeapAccepted region.old.bytes }
+    requires lent { LendsABody region.old }
     requires among { IsAmong region.old.bytes found stretch }
     ensures lists { HasLists region.new.bytes heads.new }
     ensures opened { OpensBehind region.old.bytes region.new.bytes (header_at found) }
     ensures exact { OpensExactly region.old.bytes region.new.bytes (header_at found) }
     ensures frame { SameFrame region.old.bytes region.new.bytes }
     ensures plain { WritesPlain region.old.bytes region.new.bytes }
+    ensures out { region.new.lent ≡ region.old.lent }
     ensures few { region.new.slid ≤ region.old.slid + 2 * (stretch.end - stretch.start) }
+    ensures lent { LendsABody region.new }
 {
     let room = pack(region, heads, stretch.start, stretch.end).room;
     if room > 0 {

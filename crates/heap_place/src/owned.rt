@@ -1,7 +1,9 @@
 //! All chunks of an owner are made free.
+#![tactic(auto, using(laws_heap::proofs::LentBodies::frame_within, laws_heap::proofs::LentBodies::table_within))]
 
 ghost use Rattle.std.specs.Prelude.{◌≡◌, ◌≤◌, ◌<◌, ◌+◌, ◌^◌, count_by, length};
 ghost use Rattle.heap_model.specs.Chunk.{is_owned_by};
+ghost use Rattle.heap_model.specs.Lending.{LendsABody, LendsNoneOf};
 ghost use Rattle.heap_model.specs.Heap.{HeapAccepted};
 ghost use Rattle.heap_model.specs.Layout.{Becomes, layout_of, owned_freed, WritesPlain};
 ghost use Rattle.heap_place.specs.Found.{owned_by};
@@ -12,15 +14,19 @@ use chunk_format::{FIXED_LOCK, HEADER_SIZE, Header, area_start};
 use heap_model::{Name, Place};
 use raw_region::Region;
 
-/// Makes the chunks of an owner free in one walk, and answers how many there were.
+/// Makes the chunks of an owner free in one walk, and answers how many there were. The caller must ensure that none of
+/// them is lent.
 pub(crate) fn release_owned(region: &mut Region, owner: u8) -> u32
     requires accepted { HeapAccepted region.old.bytes }
+    requires lent { LendsABody region.old }
     requires some_owner { 0 < owner }
+    requires none_lent { LendsNoneOf region.old owner }
     ensures gone { Becomes region.old.bytes region.new.bytes
         (owned_freed owner (layout_of region.old.bytes)) }
     ensures count { result ≡ count_by (is_owned_by owner) (layout_of region.old.bytes) }
     ensures plain { WritesPlain region.old.bytes region.new.bytes }
     ensures rest { region.new ≡ record region.old { bytes = region.new.bytes } }
+    ensures lent { LendsABody region.new }
 {
     let end = region.len() as u32;
     let mut at = area_start(region);

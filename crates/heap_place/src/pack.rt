@@ -1,7 +1,9 @@
 //! Chunks are packed: those of a stretch go to its front, and its room is behind them. The lists of free chunks
 //! are dropped, and each room is put into its list when no chunk behind it can move any more.
+#![tactic(auto, using(laws_heap::proofs::LentBodies::frame_within, laws_heap::proofs::LentBodies::table_within))]
 
 ghost use Rattle.std.specs.Prelude.{◌≡◌, ◌↔◌, ◌+◌, ◌-◌, IsTrue};
+ghost use Rattle.heap_model.specs.Lending.{LendsABody};
 ghost use Rattle.heap_model.specs.Heap.{HeapAccepted};
 ghost use Rattle.heap_model.specs.Reading.{chunks_of};
 ghost use Rattle.heap_model.specs.Space.{moved_bytes};
@@ -32,13 +34,16 @@ pub(crate) struct Outcome {
 /// Packs the chunks of each stretch, and answers how many bytes it slid. Each free chunk is in its list then.
 pub(crate) fn compact(region: &mut Region, heads: &mut [u32; CLASSES]) -> u32
     requires accepted { HeapAccepted region.old.bytes }
+    requires lent { LendsABody region.old }
     ensures lists { HasLists region.new.bytes heads.new }
     ensures packed { Becomes region.old.bytes region.new.bytes
         (packed (chunks_of region.old.bytes)) }
     ensures exact { chunks_of region.new.bytes ≡ packed (chunks_of region.old.bytes) }
     ensures moved { result ≡ moved_bytes region.old.bytes region.new.bytes }
     ensures plain { WritesPlain region.old.bytes region.new.bytes }
+    ensures out { region.new.lent ≡ region.old.lent }
     ensures slid { region.new.slid ≡ region.old.slid + result }
+    ensures lent { LendsABody region.new }
 {
     let start = area_start(region);
     let end = region.len() as u32;
@@ -49,13 +54,16 @@ pub(crate) fn compact(region: &mut Region, heads: &mut [u32; CLASSES]) -> u32
 /// then.
 pub(crate) fn pack_stretch(region: &mut Region, heads: &mut [u32; CLASSES], stretch: Stretch) -> u32
     requires accepted { HeapAccepted region.old.bytes }
+    requires lent { LendsABody region.old }
     requires stretch { IsStretch region.old.bytes stretch }
     ensures lists { HasLists region.new.bytes heads.new }
     ensures packed { PacksStretch region.old.bytes region.new.bytes stretch }
     ensures room { RoomAtEnd region.old.bytes region.new.bytes stretch result }
     ensures frame { SameFrame region.old.bytes region.new.bytes }
     ensures plain { WritesPlain region.old.bytes region.new.bytes }
+    ensures out { region.new.lent ≡ region.old.lent }
     ensures slid { SlidesStretch region.old.bytes stretch region.old.slid region.new.slid }
+    ensures lent { LendsABody region.new }
 {
     pack(region, heads, stretch.start, stretch.end).room
 }
@@ -64,12 +72,15 @@ pub(crate) fn pack_stretch(region: &mut Region, heads: &mut [u32; CLASSES], stre
 /// chunks that are left of them are those in the lists then.
 pub(crate) fn pack(region: &mut Region, heads: &mut [u32; CLASSES], start: u32, end: u32) -> Outcome
     requires accepted { HeapAccepted region.old.bytes }
+    requires lent { LendsABody region.old }
     requires run { IsRun region.old.bytes start end }
     ensures lists { HasLists region.new.bytes heads.new }
     ensures packed { Packs region.old.bytes region.new.bytes start end }
     ensures moved { MovesInRun region.old.bytes start end result.slid }
     ensures room { LeavesRoom region.old.bytes start end result.room }
+    ensures out { region.new.lent ≡ region.old.lent }
     ensures slid { region.new.slid ≡ region.old.slid + result.slid }
+    ensures lent { LendsABody region.new }
 {
     *heads = [0; CLASSES];
     let mut at = start;
@@ -98,12 +109,15 @@ struct Step {
 /// chunk that stays is put into its list.
 fn pack_one(region: &mut Region, heads: &mut [u32; CLASSES], at: u32, room: u32) -> Step
     requires accepted { HeapAccepted region.old.bytes }
+    requires lent { LendsABody region.old }
     requires behind { IsBehindRoom region.old.bytes at room }
     requires lists { AreLists (Before (at - room)) region.old.bytes heads.old }
     ensures lists { AreLists (Before (at + result.size - result.room)) region.new.bytes heads.new }
     ensures packed { PacksOne region.old.bytes region.new.bytes at room
         result.size result.slid result.room }
+    ensures out { region.new.lent ≡ region.old.lent }
     ensures slid { region.new.slid ≡ region.old.slid + result.slid }
+    ensures lent { LendsABody region.new }
 {
     let (header, size) = Header::at_with_size(region, at);
     if let Header::Free { .. } = header {
@@ -147,12 +161,16 @@ pub(crate) fn stays(header: Header) -> bool
 /// it, whose size is `room`.
 fn drop_one(region: &mut Region, header: Header, at: u32, size: u32, room: u32)
     requires accepted { HeapAccepted region.old.bytes }
+    requires lent { LendsABody region.old }
     requires drops { IsDroppable region.old.bytes at room }
+    requires loose { HeaderStays header → ⊥ }
     requires header { HasHeader region.old.bytes at header }
     requires size { size ≡ size_by header }
     ensures dropped { Drops region.old.bytes region.new.bytes at room }
     ensures keeps { KeepsFree (Before (at - room)) region.old.bytes region.new.bytes }
+    ensures out { region.new.lent ≡ region.old.lent }
     ensures slid { region.new.slid ≡ region.old.slid + size }
+    ensures lent { LendsABody region.new }
 {
     let slot = slot_of(header).unwrap();
     let to = at - room;

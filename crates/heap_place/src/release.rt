@@ -1,6 +1,9 @@
 //! A live chunk is made free.
+#![tactic(auto, using(laws_heap::proofs::LentBodies::frame_within, laws_heap::proofs::LentBodies::table_within))]
 
 ghost use Rattle.std.specs.Prelude.{◌≡◌, ◌≢◌, ◌<◌, ◌+◌, ◌-◌, ◌^◌, length};
+ghost use Rattle.heap_model.specs.Memory.{Misses};
+ghost use Rattle.heap_model.specs.Lending.{LendsABody, LendsOther};
 ghost use Rattle.heap_model.specs.Heap.{HeapAccepted, directory_of};
 ghost use Rattle.heap_model.specs.Layout.{Alters, FreeUpTo, freed, WritesPlain};
 ghost use Rattle.heap_place.specs.Found.{IsOne, header_at};
@@ -16,12 +19,15 @@ use raw_region::Region;
 /// Makes a live chunk free, with the free chunk behind it, and empties its slot, if it has one.
 pub(crate) fn release(region: &mut Region, found: Found) -> u32
     requires accepted { HeapAccepted region.old.bytes }
+    requires lent { LendsABody region.old }
     requires found { IsOne region.old.bytes found }
+    requires other { LendsOther region.old found.place.0 }
     requires no_directory { found.name.0 ≢ directory_of region.old.bytes }
     ensures gone { Alters region.old.bytes region.new.bytes (header_at found) freed }
     ensures free { FreeUpTo region.new.bytes (header_at found) (header_at found + result) }
     ensures plain { WritesPlain region.old.bytes region.new.bytes }
     ensures rest { region.new ≡ record region.old { bytes = region.new.bytes } }
+    ensures lent { LendsABody region.new }
 {
     let at = found.place.0 - HEADER_SIZE;
     let size = size_of_body(found.length);
@@ -37,13 +43,16 @@ pub(crate) fn release(region: &mut Region, found: Found) -> u32
 #[inline(always)]
 pub(crate) fn release_alone(region: &mut Region, found: Found) -> u32
     requires accepted { HeapAccepted region.old.bytes }
+    requires lent { LendsABody region.old }
     requires found { IsOne region.old.bytes found }
+    requires other { LendsOther region.old found.place.0 }
     requires no_directory { found.name.0 ≢ directory_of region.old.bytes }
     ensures gone { Alters region.old.bytes region.new.bytes (header_at found) freed }
     ensures chunk { IsFreeChunk region.new.bytes (header_at found) result }
     ensures keeps { KeepsFree Any region.old.bytes region.new.bytes }
     ensures plain { WritesPlain region.old.bytes region.new.bytes }
     ensures rest { region.new ≡ record region.old { bytes = region.new.bytes } }
+    ensures lent { LendsABody region.new }
 {
     let at = found.place.0 - HEADER_SIZE;
     let size = size_of_body(found.length);
@@ -58,7 +67,9 @@ pub(crate) fn release_alone(region: &mut Region, found: Found) -> u32
 #[inline(always)]
 pub(crate) fn release_listed(region: &mut Region, heads: &mut [u32; CLASSES], found: Found) -> u32
     requires accepted { HeapAccepted region.old.bytes }
+    requires lent { LendsABody region.old }
     requires found { IsOne region.old.bytes found }
+    requires other { LendsOther region.old found.place.0 }
     requires no_directory { found.name.0 ≢ directory_of region.old.bytes }
     requires lists { HasLists region.old.bytes heads.old }
     ensures gone { Alters region.old.bytes region.new.bytes (header_at found) freed }
@@ -66,6 +77,7 @@ pub(crate) fn release_listed(region: &mut Region, heads: &mut [u32; CLASSES], fo
     ensures lists { HasLists region.new.bytes heads.new }
     ensures plain { WritesPlain region.old.bytes region.new.bytes }
     ensures rest { region.new ≡ record region.old { bytes = region.new.bytes } }
+    ensures lent { LendsABody region.new }
 {
     let size = release_alone(region, found);
     push(region, heads, found.place.0 - HEADER_SIZE, size);
@@ -78,6 +90,7 @@ pub(crate) fn release_listed(region: &mut Region, heads: &mut [u32; CLASSES], fo
 pub(crate) fn free_size(region: &Region, at: u32) -> u32
     requires small { length region.now.bytes < 2 ^ 24 }
     requires chunks { ChunksFrom region.now.bytes at }
+    requires misses { at < length region.now.bytes → Misses region.now.lent at HEADER_SIZE }
     ensures { result ≡ free_size_at region.now.bytes at }
 {
     if at as usize >= region.len() {

@@ -1,10 +1,12 @@
 //! A movable chunk goes to room elsewhere.
+#![tactic(auto, using(laws_heap::proofs::LentBodies::frame_within, laws_heap::proofs::LentBodies::table_within))]
 
 ghost use Rattle.std.specs.Prelude.{◌≡◌, ◌≢◌, ◌≤◌, ◌<◌, ◌+◌, ◌-◌, min, replicate};
 ghost use Rattle.std.specs.Bool.{OnTrue, OnFalse};
 ghost use Rattle.heap_model.specs.Bytes.{u32_at};
 ghost use Rattle.heap_model.specs.Chunk.{fixed, fixed_lock, data_owner, need};
 ghost use Rattle.heap_model.specs.Slots.{IsSlot};
+ghost use Rattle.heap_model.specs.Lending.{LendsABody, LendsOther};
 ghost use Rattle.heap_model.specs.Heap.{HeapAccepted, directory_of};
 ghost use Rattle.heap_model.specs.Reading.{chunks_of};
 ghost use Rattle.heap_model.specs.Space.{NoRun};
@@ -39,6 +41,7 @@ pub(crate) fn relocate(
     count: u32,
 ) -> bool
     requires accepted { HeapAccepted region.old.bytes }
+    requires lent { LendsABody region.old }
     requires found { IsOne region.old.bytes found }
     requires unlocked { found.lock ≡ 0 }
     requires lists { HasLists region.old.bytes heads.old }
@@ -48,7 +51,9 @@ pub(crate) fn relocate(
     ensures refused { OnFalse result (region.new ≡ region.old) }
     ensures frame { SameFrame region.old.bytes region.new.bytes }
     ensures plain { WritesPlain region.old.bytes region.new.bytes }
+    ensures out { region.new.lent ≡ region.old.lent }
     ensures slid { OnTrue result (region.new.slid ≡ region.old.slid + min found.length count) }
+    ensures lent { LendsABody region.new }
 {
     match spot_for_body(region, heads, count) {
         Some(room) => {
@@ -69,6 +74,7 @@ fn relocate_to(
     count: u32,
 )
     requires accepted { HeapAccepted region.old.bytes }
+    requires lent { LendsABody region.old }
     requires found { IsOne region.old.bytes found }
     requires unlocked { found.lock ≡ 0 }
     requires room { IsSpot region.old.bytes room.at room.size }
@@ -78,7 +84,9 @@ fn relocate_to(
     ensures moved { RelocatesFound region.old.bytes region.new.bytes found room.at room.size count }
     ensures frame { SameFrame region.old.bytes region.new.bytes }
     ensures plain { WritesPlain region.old.bytes region.new.bytes }
+    ensures out { region.new.lent ≡ region.old.lent }
     ensures slid { region.new.slid ≡ region.old.slid + min found.length count }
+    ensures lent { LendsABody region.new }
 {
     if directory_name(region) == found.name {
         relocate_directory(region, heads, built, found, room, count);
@@ -97,6 +105,7 @@ fn relocate_directory(
     count: u32,
 )
     requires accepted { HeapAccepted region.old.bytes }
+    requires lent { LendsABody region.old }
     requires found { IsOne region.old.bytes found }
     requires unlocked { found.lock ≡ 0 }
     requires directory { found.name.0 ≡ directory_of region.old.bytes }
@@ -107,7 +116,9 @@ fn relocate_directory(
     ensures moved { RelocatesFound region.old.bytes region.new.bytes found room.at room.size count }
     ensures frame { SameFrame region.old.bytes region.new.bytes }
     ensures plain { WritesPlain region.old.bytes region.new.bytes }
+    ensures out { region.new.lent ≡ region.old.lent }
     ensures slid { region.new.slid ≡ region.old.slid + min found.length count }
+    ensures lent { LendsABody region.new }
 {
     name_directory(region, Name(0));
     relocate_other(region, heads, built, found, room, count);
@@ -125,6 +136,7 @@ fn relocate_other(
     count: u32,
 )
     requires accepted { HeapAccepted region.old.bytes }
+    requires lent { LendsABody region.old }
     requires found { IsOne region.old.bytes found }
     requires unlocked { found.lock ≡ 0 }
     requires no_directory { found.name.0 ≢ directory_of region.old.bytes }
@@ -135,7 +147,9 @@ fn relocate_other(
     ensures moved { RelocatesFound region.old.bytes region.new.bytes found room.at room.size count }
     ensures frame { SameFrame region.old.bytes region.new.bytes }
     ensures plain { WritesPlain region.old.bytes region.new.bytes }
+    ensures out { region.new.lent ≡ region.old.lent }
     ensures slid { region.new.slid ≡ region.old.slid + min found.length count }
+    ensures lent { LendsABody region.new }
 {
     let there = stand_in_at(region, heads, built, room, count);
     copy_bytes(region, found, there);
@@ -152,6 +166,7 @@ fn stand_in_at(
     count: u32,
 ) -> Found
     requires accepted { HeapAccepted region.old.bytes }
+    requires lent { LendsABody region.old }
     requires room { IsSpot region.old.bytes room.at room.size }
     requires enough { need count ≤ room.size }
     requires lists { HasLists region.old.bytes heads.old }
@@ -163,6 +178,7 @@ fn stand_in_at(
     ensures others { KeepsFound region.old.bytes region.new.bytes }
     ensures plain { WritesPlain region.old.bytes region.new.bytes }
     ensures rest { region.new ≡ record region.old { bytes = region.new.bytes } }
+    ensures lent { LendsABody region.new }
 {
     let kept = take(region, heads, room, size_of_body(count));
     *built &= kept;
@@ -180,15 +196,20 @@ fn stand_in_at(
 /// Copies the first bytes of one chunk over those of another, as many as both have.
 fn copy_bytes(region: &mut Region, from: Found, to: Found)
     requires accepted { HeapAccepted region.old.bytes }
+    requires lent { LendsABody region.old }
     requires from { IsOne region.old.bytes from }
     requires to { IsOne region.old.bytes to }
+    requires other_from { LendsOther region.old from.place.0 }
+    requires other_to { LendsOther region.old to.place.0 }
     requires apart { from.name.0 ≢ to.name.0 }
     ensures copied { Copies region.old.bytes region.new.bytes from to }
     ensures from { IsOne region.new.bytes from }
     ensures to { IsOne region.new.bytes to }
     ensures keeps { KeepsFree Any region.old.bytes region.new.bytes }
     ensures plain { WritesPlain region.old.bytes region.new.bytes }
+    ensures out { region.new.lent ≡ region.old.lent }
     ensures slid { region.new.slid ≡ region.old.slid + min from.length to.length }
+    ensures lent { LendsABody region.new }
 {
     let count = from.length.min(to.length);
     region.slide(from.place.0 as usize, to.place.0 as usize, count as usize);
@@ -197,7 +218,9 @@ fn copy_bytes(region: &mut Region, from: Found, to: Found)
 /// Makes a fixed chunk a movable one without locks, which the empty slot names.
 fn take_name(region: &mut Region, there: Found, slot: Name, owner: u8)
     requires accepted { HeapAccepted region.old.bytes }
+    requires lent { LendsABody region.old }
     requires found { IsOne region.old.bytes there }
+    requires other { LendsOther region.old there.place.0 }
     requires fixed { there.lock ≡ fixed_lock }
     requires slot { IsSlot region.old.bytes slot.0 }
     requires empty { u32_at region.old.bytes slot.0 ≡ 0 }
@@ -207,6 +230,7 @@ fn take_name(region: &mut Region, there: Found, slot: Name, owner: u8)
     ensures keeps { KeepsFree Any region.old.bytes region.new.bytes }
     ensures plain { WritesPlain region.old.bytes region.new.bytes }
     ensures rest { region.new ≡ record region.old { bytes = region.new.bytes } }
+    ensures lent { LendsABody region.new }
 {
     let header = Header::Movable {
         length: there.length,

@@ -1,8 +1,10 @@
 //! A live chunk gets another length.
+#![tactic(auto, using(laws_heap::proofs::LentBodies::frame_within, laws_heap::proofs::LentBodies::table_within))]
 
 ghost use Rattle.std.specs.Prelude.{◌≡◌, ◌≤◌, ◌<◌, ◌+◌, ◌-◌, ◌^◌, length};
 ghost use Rattle.std.specs.Bool.{OnTrue, OnFalse};
 ghost use Rattle.heap_model.specs.Chunk.{need};
+ghost use Rattle.heap_model.specs.Lending.{LendsABody, LendsOther};
 ghost use Rattle.heap_model.specs.Heap.{HeapAccepted};
 ghost use Rattle.heap_model.specs.Layout.{WritesPlain};
 ghost use Rattle.heap_model.specs.Resizing.{GrowsInPlace};
@@ -23,7 +25,9 @@ use raw_region::Region;
 #[inline(always)]
 fn resize_at(region: &mut Region, found: Found, count: u32, behind: u32) -> u32
     requires accepted { HeapAccepted region.old.bytes }
+    requires lent { LendsABody region.old }
     requires behind { RunBehind region.old.bytes found behind }
+    requires other { LendsOther region.old found.place.0 }
     requires fits { need count ≤ need found.length + behind }
     ensures resized { Resizes region.old.bytes region.new.bytes found count behind }
     ensures left { result ≡ need found.length + behind - need count }
@@ -32,6 +36,7 @@ fn resize_at(region: &mut Region, found: Found, count: u32, behind: u32) -> u32
         region.old.bytes region.new.bytes }
     ensures plain { WritesPlain region.old.bytes region.new.bytes }
     ensures rest { region.new ≡ record region.old { bytes = region.new.bytes } }
+    ensures lent { LendsABody region.new }
 {
     let at = found.place.0 - HEADER_SIZE;
     let size = size_of_body(count);
@@ -55,13 +60,16 @@ pub(crate) fn resize_listed(
     behind: u32,
 ) -> bool
     requires accepted { HeapAccepted region.old.bytes }
+    requires lent { LendsABody region.old }
     requires behind { RunBehind region.old.bytes found behind }
+    requires other { LendsOther region.old found.place.0 }
     requires fits { need count ≤ need found.length + behind }
     requires lists { HasLists region.old.bytes heads.old }
     ensures resized { Resizes region.old.bytes region.new.bytes found count behind }
     ensures lists { HasLists region.new.bytes heads.new }
     ensures plain { WritesPlain region.old.bytes region.new.bytes }
     ensures rest { region.new ≡ record region.old { bytes = region.new.bytes } }
+    ensures lent { LendsABody region.new }
 {
     let at = found.place.0 - HEADER_SIZE;
     let end = at + size_of_body(found.length);
@@ -110,7 +118,9 @@ pub(crate) fn grow_in_place_at(
     count: u32,
 ) -> bool
     requires accepted { HeapAccepted region.old.bytes }
+    requires lent { LendsABody region.old }
     requires found { IsOne region.old.bytes found }
+    requires other { LendsOther region.old found.place.0 }
     requires lists { HasLists region.old.bytes heads.old }
     ensures lists { HasLists region.new.bytes heads.new }
     ensures grown { OnTrue result
@@ -119,6 +129,7 @@ pub(crate) fn grow_in_place_at(
     ensures tells { TellsWhetherInPlace region.old.bytes found (need count) result }
     ensures plain { WritesPlain region.old.bytes region.new.bytes }
     ensures rest { region.new ≡ record region.old { bytes = region.new.bytes } }
+    ensures lent { LendsABody region.new }
 {
     let own = size_of_body(found.length);
     let behind = free_run(region, found.place.0 - HEADER_SIZE + own);
@@ -136,6 +147,7 @@ pub(crate) fn grow_in_place_at(
 #[inline]
 pub(crate) fn free_run(region: &Region, at: u32) -> u32
     requires accepted { HeapAccepted region.now.bytes }
+    requires lent { LendsABody region.now }
     requires bound { IsBound region.now.bytes at }
     ensures { BeginsWithFree region.now.bytes at result }
 {

@@ -1,6 +1,8 @@
 //! Room for a chunk: the search for a run of neighbouring free chunks.
+#![tactic(auto, using(laws_heap::proofs::LentBodies::frame_within, laws_heap::proofs::LentBodies::table_within))]
 
 ghost use Rattle.std.specs.Prelude.{◌≡◌, ◌≤◌, ◌<◌, ◌+◌, ◌^◌, length, IfSome, IfNone};
+ghost use Rattle.heap_model.specs.Lending.{LendsABody};
 ghost use Rattle.heap_model.specs.Heap.{HeapAccepted};
 ghost use Rattle.heap_model.specs.Reading.{chunks_of};
 ghost use Rattle.heap_model.specs.Space.{NoRun};
@@ -22,6 +24,7 @@ pub struct Room {
 /// The first run of neighbouring free chunks that has `size` bytes, as far as it is needed.
 pub(crate) fn find_room(region: &Region, size: u32) -> Option<Room>
     requires accepted { HeapAccepted region.now.bytes }
+    requires lent { LendsABody region.now }
     requires some_size { 0 < size }
     ensures room { IfSome result (λ room. IsRoom region.now.bytes room.at room.size) }
     ensures enough { IfSome result (λ room. size ≤ room.size) }

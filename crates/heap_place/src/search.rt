@@ -2,6 +2,7 @@
 
 ghost use Rattle.std.specs.Prelude.{◌≤◌, ◌<◌, IfSome, IfNone};
 ghost use Rattle.heap_model.specs.Chunk.{need};
+ghost use Rattle.heap_model.specs.Lending.{LendsABody};
 ghost use Rattle.heap_model.specs.Heap.{HeapAccepted};
 ghost use Rattle.heap_model.specs.Reading.{chunks_of};
 ghost use Rattle.heap_model.specs.Space.{NoRun};
@@ -17,6 +18,7 @@ use raw_region::Region;
 /// bytes, the chunks are walked.
 pub(crate) fn find_spot(region: &Region, heads: &[u32; CLASSES], size: u32) -> Option<Room>
     requires accepted { HeapAccepted region.now.bytes }
+    requires lent { LendsABody region.now }
     requires lists { HasLists region.now.bytes heads.now }
     requires some_size { 0 < size }
     ensures room { IfSome result (λ room. IsSpot region.now.bytes room.at room.size) }
@@ -34,6 +36,7 @@ pub(crate) fn find_spot(region: &Region, heads: &[u32; CLASSES], size: u32) -> O
 /// The same for a chunk whose body has `count` bytes.
 pub(crate) fn spot_for_body(region: &Region, heads: &[u32; CLASSES], count: u32) -> Option<Room>
     requires accepted { HeapAccepted region.now.bytes }
+    requires lent { LendsABody region.now }
     requires lists { HasLists region.now.bytes heads.now }
     ensures room { IfSome result (λ room. IsSpot region.now.bytes room.at room.size) }
     ensures enough { IfSome result (λ room. need count ≤ room.size) }

@@ -1,12 +1,14 @@
 //! The type that owns a heap's region.
 
-ghost use Rattle.std.specs.Prelude.{◌≡◌, ◌≢◌, ◌≤◌, ◌<◌, ◌+◌, ◌-◌, ◌*◌, ◌++◌, ◌∷◌, ◌⊎◌, [], length, replicate, min, count_by, IsSome, IfSome, IfNone, Some, None, true};
+ghost use Rattle.std.specs.Prelude.{◌≡◌, ◌≢◌, ◌≤◌, ◌<◌, ◌+◌, ◌-◌, ◌*◌, ◌++◌, ◌∷◌, ◌⊎◌, [], length, replicate, slice_range, min, count_by, IsSome, IfSome, IfNone, Some, None, true};
+ghost use Rattle.raw_region.specs.Parts.{IsOut};
 ghost use Rattle.std.specs.Bool.{OnTrue, OnFalse};
 ghost use Rattle.heap_model.specs.Bytes.{u32_at};
 ghost use Rattle.heap_model.specs.Chunk.{movable, fixed, need, fixed_lock, is_owned_by, managers_owner, data_owner};
 ghost use Rattle.heap_model.specs.Slots.{IsSlot, is_chained};
 ghost use Rattle.heap_model.specs.MoreTables.{table_need, PutsTable};
 ghost use Rattle.heap_model.specs.Meaning.{LiveChunk};
+ghost use Rattle.heap_model.specs.Lending.{LendsABody, LendsOther, LendsNoneOf};
 ghost use Rattle.heap_model.specs.Heap.{HeapAccepted, directory_of};
 ghost use Rattle.heap_model.specs.Reading.{chunks_of, held};
 ghost use Rattle.heap_model.specs.Space.{NoRun, Short, free_total, moved_bytes, rooms, greatest};
@@ -45,7 +47,7 @@ use crate::walks::free_bytes;
 use chunk_format::{HEADER_SIZE, TABLE_LENGTH, size_of_body};
 use heap_model::{Name, Place};
 use master_table::KnownTables;
-use raw_region::{ByteChange, Region};
+use raw_region::{ByteChange, Part, Region};
 use std::marker::Model;
 
 /// A region whose chunks are found and changed. Contracts see the region's value alone. Any region is taken,
@@ -92,6 +94,7 @@ impl Space {
     /// Takes a region that is a heap, and goes through its chain of tables, so that they are remembered.
     pub fn of_heap(region: Region) -> Space
         requires accepted { HeapAccepted region.bytes }
+        requires lent { LendsABody region }
         ensures { result ≡ region }
     {
         let tables = KnownTables::of(&region);
@@ -124,6 +127,7 @@ impl Space {
     /// the heap is; for any other name the chunks are walked.
     pub fn find(&self, name: Name) -> Option<Found>
         requires accepted { HeapAccepted self.now.bytes }
+        requires lent { LendsABody self.now }
         ensures found { IfSome result (IsFound self.now.bytes name.0) }
         ensures none { IfNone result (held self.now.bytes name.0 ≡ None) }
     {
@@ -134,6 +138,7 @@ impl Space {
     #[inline(always)]
     pub fn in_slot(&self, name: Name) -> Option<Found>
         requires accepted { HeapAccepted self.now.bytes }
+        requires lent { LendsABody self.now }
         ensures found { IfSome result (IsFound self.now.bytes name.0) }
         ensures none { IfNone result (HoldsNothing self.now.bytes name.0) }
     {
@@ -145,6 +150,7 @@ impl Space {
     #[inline(always)]
     pub fn chunk(&self, name: Name) -> Found
         requires accepted { HeapAccepted self.now.bytes }
+        requires lent { LendsABody self.now }
         requires there { IsSome (held self.now.bytes name.0) }
         ensures { IsFound self.now.bytes name.0 result }
     {
@@ -155,6 +161,7 @@ impl Space {
     #[inline(always)]
     pub fn movable(&self, name: Name) -> Found
         requires accepted { HeapAccepted self.now.bytes }
+        requires lent { LendsABody self.now }
         requires there { IsSome (held self.now.bytes name.0) }
         requires movable { (live : LiveChunk) → held self.now.bytes name.0 ≡ Some live
             → live.lock ≢ fixed_lock }
@@ -167,6 +174,7 @@ impl Space {
     /// are none.
     pub fn find_at(&self, place: Place) -> Option<Found>
         requires accepted { HeapAccepted self.now.bytes }
+        requires lent { LendsABody self.now }
         ensures found { IfSome result (IsOne self.now.bytes) }
         ensures there { IfSome result (λ found. found.place.0 ≡ place.0) }
         ensures none { IfNone result (NothingAt self.now.bytes place.0) }
@@ -177,6 +185,7 @@ impl Space {
     /// The name of the directory's chunk, or `Name(0)` where there is none.
     pub fn directory(&self) -> Name
         requires accepted { HeapAccepted self.now.bytes }
+        requires lent { LendsABody self.now }
         ensures { result.0 ≡ directory_of self.now.bytes }
     {
         directory_name(&self.region)
@@ -185,10 +194,12 @@ impl Space {
     /// Makes a chunk of the manager's the directory, or no chunk, where the name is 0.
     pub fn set_directory(&mut self, name: Name)
         requires accepted { HeapAccepted self.old.bytes }
+        requires lent { LendsABody self.old }
         requires managers { (name.0 ≡ 0) ⊎ (owner_under self.old.bytes name.0 ≡ managers_owner) }
         ensures names { NamesDirectory self.old.bytes self.new.bytes name.0 }
         ensures plain { WritesPlain self.old.bytes self.new.bytes }
         ensures rest { self.new ≡ record self.old { bytes = self.new.bytes } }
+        ensures lent { LendsABody self.new }
     {
         name_directory(&mut self.region, name);
     }
@@ -196,6 +207,7 @@ impl Space {
     /// The sizes of the free chunks together, in bytes.
     pub fn free_bytes(&self) -> u32
         requires accepted { HeapAccepted self.now.bytes }
+        requires lent { LendsABody self.now }
         ensures { result ≡ free_total self.now.bytes }
     {
         free_bytes(&self.region)
@@ -205,16 +217,18 @@ impl Space {
     /// 0 where there is no stretch. One walk over the chunks.
     pub fn largest_room(&self) -> u32
         requires accepted { HeapAccepted self.now.bytes }
+        requires lent { LendsABody self.now }
         ensures { result ≡ greatest (rooms self.now.bytes) }
     {
         largest_room(&self.region)
     }
 
-    /// Room for a chunk of `size` bytes, header included: neighbouring free chunks. None where no run of
-    /// such has so many bytes. Of the lists the first chunks are asked; where none has the bytes, the chunks
-    /// are walked.
+    /// Finds room for a chunk of `size` bytes, header included: neighbouring free chunks. None if no run of
+    /// free chunks has `size` bytes. It looks at the first chunks of the lists. If none of them is large enough, it
+    /// walks the chunks.
     pub fn find_room(&self, size: u32) -> Option<Room>
         requires accepted { HeapAccepted self.now.bytes }
+        requires lent { LendsABody self.now }
         requires some_size { 0 < size }
         ensures room { IfSome result (λ room. IsSpot self.now.bytes room.at room.size) }
         ensures enough { IfSome result (λ room. size ≤ room.size) }
@@ -226,6 +240,7 @@ impl Space {
     /// Makes the front of room a movable chunk of `count` zeros and no locks, which the empty slot names.
     pub fn claim(&mut self, room: Room, slot: Name, count: u32, owner: u8)
         requires accepted { HeapAccepted self.old.bytes }
+        requires lent { LendsABody self.old }
         requires room { IsSpot self.old.bytes room.at room.size }
         requires enough { need count ≤ room.size }
         requires slot { IsSlot self.old.bytes slot.0 }
@@ -235,6 +250,7 @@ impl Space {
             (movable (replicate count 0) 0 owner slot.0) }
         ensures plain { WritesPlain self.old.bytes self.new.bytes }
         ensures rest { self.new ≡ record self.old { bytes = self.new.bytes } }
+        ensures lent { LendsABody self.new }
     {
         let kept = take(&mut self.region, &mut self.heads, room, size_of_body(count));
         claim_movable(&mut self.region, room.at, slot, count, owner);
@@ -247,6 +263,7 @@ impl Space {
     /// Makes the front of room a fixed chunk of `count` zeros, and answers its name.
     pub fn claim_fixed(&mut self, room: Room, count: u32, owner: u8) -> Name
         requires accepted { HeapAccepted self.old.bytes }
+        requires lent { LendsABody self.old }
         requires room { IsSpot self.old.bytes room.at room.size }
         requires enough { need count ≤ room.size }
         requires some_owner { 0 < owner }
@@ -256,6 +273,7 @@ impl Space {
         ensures name { result.0 ≡ room.at + HEADER_SIZE }
         ensures plain { WritesPlain self.old.bytes self.new.bytes }
         ensures rest { self.new ≡ record self.old { bytes = self.new.bytes } }
+        ensures lent { LendsABody self.new }
     {
         let kept = take(&mut self.region, &mut self.heads, room, size_of_body(count));
         claim_fixed_at(&mut self.region, room.at, count, owner);
@@ -269,12 +287,14 @@ impl Space {
     /// Makes the front of room a further table of empty slots, the last of the chain.
     pub fn claim_table(&mut self, room: Room)
         requires accepted { HeapAccepted self.old.bytes }
+        requires lent { LendsABody self.old }
         requires chained { is_chained self.old.bytes ≡ true }
         requires room { IsSpot self.old.bytes room.at room.size }
         requires enough { table_need ≤ room.size }
         ensures made { PutsTable self.old.bytes self.new.bytes (room.at + 8) }
         ensures plain { WritesPlain self.old.bytes self.new.bytes }
         ensures rest { self.new ≡ record self.old { bytes = self.new.bytes } }
+        ensures lent { LendsABody self.new }
     {
         let kept = take(
             &mut self.region,
@@ -295,12 +315,15 @@ impl Space {
     #[inline(always)]
     pub fn give_back(&mut self, found: Found) -> u32
         requires accepted { HeapAccepted self.old.bytes }
+        requires lent { LendsABody self.old }
         requires found { IsOne self.old.bytes found }
+        requires other { LendsOther self.old found.place.0 }
         requires no_directory { found.name.0 ≢ directory_of self.old.bytes }
         ensures gone { Alters self.old.bytes self.new.bytes (header_at found) freed }
         ensures free { FreeUpTo self.new.bytes (header_at found) (header_at found + result) }
         ensures plain { WritesPlain self.old.bytes self.new.bytes }
         ensures rest { self.new ≡ record self.old { bytes = self.new.bytes } }
+        ensures lent { LendsABody self.new }
     {
         build(&mut self.region, &mut self.heads, self.built);
         self.built = true;
@@ -308,15 +331,19 @@ impl Space {
     }
 
     /// Makes all chunks of an owner but the manager free, locked and fixed ones too, in one walk over the chunks
-    /// and one that joins free neighbours, and answers how many there were.
+    /// and one that joins free neighbours, and answers how many there were. The caller must ensure that none of them
+    /// is lent.
     pub fn give_back_owned(&mut self, owner: u8) -> u32
         requires accepted { HeapAccepted self.old.bytes }
+        requires lent { LendsABody self.old }
         requires some_owner { 0 < owner }
+        requires none_lent { LendsNoneOf self.old owner }
         ensures gone { Becomes self.old.bytes self.new.bytes
             (owned_freed owner (layout_of self.old.bytes)) }
         ensures count { result ≡ count_by (is_owned_by owner) (layout_of self.old.bytes) }
         ensures plain { WritesPlain self.old.bytes self.new.bytes }
         ensures rest { self.new ≡ record self.old { bytes = self.new.bytes } }
+        ensures lent { LendsABody self.new }
     {
         let count = release_owned(&mut self.region, owner);
         gather(&mut self.region, &mut self.heads);
@@ -327,13 +354,16 @@ impl Space {
     /// Gives a movable chunk another lock count. One of the manager's, whose owner is 0, has none.
     pub fn relock(&mut self, found: Found, lock: u8)
         requires accepted { HeapAccepted self.old.bytes }
+        requires lent { LendsABody self.old }
         requires found { IsOne self.old.bytes found }
         requires movable { found.lock < fixed_lock }
         requires lock { lock < fixed_lock }
+        requires stays { (0 < lock) ⊎ LendsOther self.old found.place.0 }
         requires owned { (lock ≡ 0) ⊎ (0 < found.owner) }
         ensures made { Alters self.old.bytes self.new.bytes (header_at found) (with_lock lock) }
         ensures plain { WritesPlain self.old.bytes self.new.bytes }
         ensures rest { self.new ≡ record self.old { bytes = self.new.bytes } }
+        ensures lent { LendsABody self.new }
     {
         relock_at(&mut self.region, found, lock);
     }
@@ -342,11 +372,13 @@ impl Space {
     #[inline(always)]
     pub fn reown(&mut self, found: Found, owner: u8)
         requires accepted { HeapAccepted self.old.bytes }
+        requires lent { LendsABody self.old }
         requires found { IsOne self.old.bytes found }
         requires owner { CanGoTo self.old.bytes found owner }
         ensures made { Alters self.old.bytes self.new.bytes (header_at found) (with_owner owner) }
         ensures plain { WritesPlain self.old.bytes self.new.bytes }
         ensures rest { self.new ≡ record self.old { bytes = self.new.bytes } }
+        ensures lent { LendsABody self.new }
     {
         reown_at(&mut self.region, found, owner);
     }
@@ -355,12 +387,15 @@ impl Space {
     #[inline(always)]
     pub fn write(&mut self, found: Found, at: u32, bytes: &[u8])
         requires accepted { HeapAccepted self.old.bytes }
+        requires lent { LendsABody self.old }
         requires found { IsOne self.old.bytes found }
+        requires other { LendsOther self.old found.place.0 }
         requires within { at + length bytes.now ≤ found.length }
         ensures made { Alters self.old.bytes self.new.bytes (header_at found)
             (with_bytes at bytes.now) }
         ensures plain { WritesPlain self.old.bytes self.new.bytes }
         ensures rest { self.new ≡ record self.old { bytes = self.new.bytes } }
+        ensures lent { LendsABody self.new }
     {
         self.region
             .write(found.place.0 as usize + at as usize, bytes);
@@ -369,12 +404,15 @@ impl Space {
     /// Writes bytes and then one zero byte over those of a live chunk, from `at` within its body on.
     pub fn write_ended(&mut self, found: Found, at: u32, bytes: &[u8])
         requires accepted { HeapAccepted self.old.bytes }
+        requires lent { LendsABody self.old }
         requires found { IsOne self.old.bytes found }
+        requires other { LendsOther self.old found.place.0 }
         requires within { at + length bytes.now + 1 ≤ found.length }
         ensures made { Alters self.old.bytes self.new.bytes (header_at found)
             (with_bytes at (bytes.now ++ 0 ∷ [])) }
         ensures plain { WritesPlain self.old.bytes self.new.bytes }
         ensures rest { self.new ≡ record self.old { bytes = self.new.bytes } }
+        ensures lent { LendsABody self.new }
     {
         let start = found.place.0 as usize + at as usize;
         self.region.write(start, bytes);
@@ -384,12 +422,15 @@ impl Space {
     /// Makes each of `count` bytes of a live chunk the byte `byte`, from `at` within its body on.
     pub fn fill(&mut self, found: Found, at: u32, count: u32, byte: u8)
         requires accepted { HeapAccepted self.old.bytes }
+        requires lent { LendsABody self.old }
         requires found { IsOne self.old.bytes found }
+        requires other { LendsOther self.old found.place.0 }
         requires within { at + count ≤ found.length }
         ensures made { Alters self.old.bytes self.new.bytes (header_at found)
             (with_bytes at (replicate count byte)) }
         ensures plain { WritesPlain self.old.bytes self.new.bytes }
         ensures rest { self.new ≡ record self.old { bytes = self.new.bytes } }
+        ensures lent { LendsABody self.new }
     {
         self.region
             .fill(found.place.0 as usize + at as usize, count as usize, byte);
@@ -399,21 +440,24 @@ impl Space {
     /// before, also where the two parts overlap.
     pub fn slide_within(&mut self, found: Found, from: u32, to: u32, count: u32)
         requires accepted { HeapAccepted self.old.bytes }
+        requires lent { LendsABody self.old }
         requires found { IsOne self.old.bytes found }
+        requires other { LendsOther self.old found.place.0 }
         requires from_within { from + count ≤ found.length }
         requires to_within { to + count ≤ found.length }
         ensures made { SlidesWithin self.old.bytes self.new.bytes found from to count }
         ensures plain { WritesPlain self.old.bytes self.new.bytes }
         ensures rest { self.new ≡ record self.old
             { bytes = self.new.bytes; slid = self.old.slid + count } }
+        ensures lent { LendsABody self.new }
     {
         let body = found.place.0 as usize;
         self.region
             .slide(body + from as usize, body + to as usize, count as usize);
     }
 
-    /// Of `count` bytes of a live chunk, from `at` within its body on, changes each that stands behind `skip`
-    /// others, or `step` further, or as often that much.
+    /// Changes bytes of a live chunk at equal distances: of the `count` bytes from `at` within its body on, those at
+    /// `skip`, `skip + step`, `skip + 2 * step` ..
     pub fn change_every<C: ByteChange>(
         &mut self,
         found: Found,
@@ -424,27 +468,68 @@ impl Space {
         change: C,
     )
         requires accepted { HeapAccepted self.old.bytes }
+        requires lent { LendsABody self.old }
         requires found { IsOne self.old.bytes found }
+        requires other { LendsOther self.old found.place.0 }
         requires within { at + count ≤ found.length }
         requires step { 0 < step }
         ensures made { ChangesEvery self.old.bytes self.new.bytes found at count skip step
             (C.made change) }
         ensures plain { WritesPlain self.old.bytes self.new.bytes }
         ensures rest { self.new ≡ record self.old { bytes = self.new.bytes } }
+        ensures lent { LendsABody self.new }
     {
         let start = found.place.0 as usize + at as usize;
         self.region.change_every(start, count as usize, skip as usize, step as usize, change);
+    }
+
+    /// Lends the bytes of a live chunk that stays. Zeros stand for them meanwhile. Nothing else is lent.
+    pub fn lend(&mut self, found: Found) -> Part
+        requires accepted { HeapAccepted self.old.bytes }
+        requires none { self.old.lent ≡ None }
+        requires found { IsOne self.old.bytes found }
+        requires stays { 0 < found.lock }
+        ensures part { result.bytes ≡ slice_range self.old.bytes found.place.0 (found.place.0 + found.length) }
+        ensures made { Alters self.old.bytes self.new.bytes (header_at found)
+            (with_bytes 0 (replicate found.length 0)) }
+        ensures plain { WritesPlain self.old.bytes self.new.bytes }
+        ensures out { self.new.lent ≡ Some (record
+            { at = found.place.0; count = found.length; start = result.start }) }
+        ensures rest { self.new ≡ record self.old { bytes = self.new.bytes; lent = self.new.lent } }
+        ensures lent { LendsABody self.new }
+    {
+        self.region
+            .lend(found.place.0 as usize, found.length as usize)
+    }
+
+    /// Takes back what is lent, which is the body of a live chunk.
+    pub fn take_back(&mut self, found: Found, part: Part)
+        requires accepted { HeapAccepted self.old.bytes }
+        requires lent { LendsABody self.old }
+        requires out { IsOut self.old.lent part }
+        requires found { IsOne self.old.bytes found }
+        requires place { IfSome self.old.lent (λ lent. lent.at ≡ found.place.0) }
+        requires whole { length part.bytes ≡ found.length }
+        ensures made { Alters self.old.bytes self.new.bytes (header_at found)
+            (with_bytes 0 part.bytes) }
+        ensures plain { WritesPlain self.old.bytes self.new.bytes }
+        ensures rest { self.new ≡ record self.old { bytes = self.new.bytes; lent = None } }
+    {
+        self.region.take_back(part);
     }
 
     /// Gives a live chunk `count` bytes where it stands, where they fit into what it takes. Bytes that it
     /// gains within its slack are zero, and what it takes no more is free. Nothing moves.
     pub fn shrink(&mut self, found: Found, count: u32)
         requires accepted { HeapAccepted self.old.bytes }
+        requires lent { LendsABody self.old }
         requires found { IsOne self.old.bytes found }
+        requires other { LendsOther self.old found.place.0 }
         requires fits { need count ≤ need found.length }
         ensures made { Shrinks self.old.bytes self.new.bytes (header_at found) count }
         ensures plain { WritesPlain self.old.bytes self.new.bytes }
         ensures rest { self.new ≡ record self.old { bytes = self.new.bytes } }
+        ensures lent { LendsABody self.new }
     {
         let kept = resize_listed(&mut self.region, &mut self.heads, found, count, 0);
         self.built &= kept;
@@ -456,13 +541,16 @@ impl Space {
     #[inline(always)]
     pub fn grow_in_place(&mut self, found: Found, count: u32) -> bool
         requires accepted { HeapAccepted self.old.bytes }
+        requires lent { LendsABody self.old }
         requires found { IsOne self.old.bytes found }
+        requires other { LendsOther self.old found.place.0 }
         ensures made { OnTrue result
             (GrowsInPlace self.old.bytes self.new.bytes (header_at found) count) }
         ensures refused { OnFalse result (self.new ≡ self.old) }
         ensures tells { TellsWhetherInPlace self.old.bytes found (need count) result }
         ensures plain { WritesPlain self.old.bytes self.new.bytes }
         ensures rest { self.new ≡ record self.old { bytes = self.new.bytes } }
+        ensures lent { LendsABody self.new }
     {
         grow_in_place_at(
             &mut self.region,
@@ -477,12 +565,14 @@ impl Space {
     /// bytes were slid, which are those of the chunks that have moved.
     pub fn compact(&mut self) -> u32
         requires accepted { HeapAccepted self.old.bytes }
+        requires lent { LendsABody self.old }
         ensures packed { Becomes self.old.bytes self.new.bytes (packed (chunks_of self.old.bytes)) }
         ensures exact { chunks_of self.new.bytes ≡ packed (chunks_of self.old.bytes) }
         ensures moved { result ≡ moved_bytes self.old.bytes self.new.bytes }
         ensures plain { WritesPlain self.old.bytes self.new.bytes }
         ensures slid { self.new.slid ≡ self.old.slid + result }
         ensures rest { self.new ≡ record self.old { bytes = self.new.bytes; slid = self.new.slid } }
+        ensures lent { LendsABody self.new }
     {
         self.built = true;
         compact(&mut self.region, &mut self.heads)
@@ -491,6 +581,7 @@ impl Space {
     /// The stretch of a movable chunk that was found, which has no locks.
     pub fn stretch_around(&self, found: Found) -> Stretch
         requires accepted { HeapAccepted self.now.bytes }
+        requires lent { LendsABody self.now }
         requires found { IsOne self.now.bytes found }
         requires unlocked { found.lock ≡ 0 }
         ensures around { IsAmong self.now.bytes found result }
@@ -502,6 +593,7 @@ impl Space {
     /// A stretch whose room has `size` bytes. None where the room of every stretch is less.
     pub fn stretch_with_room(&self, size: u32) -> Option<Stretch>
         requires accepted { HeapAccepted self.now.bytes }
+        requires lent { LendsABody self.now }
         requires some_size { 0 < size }
         ensures stretch { IfSome result (IsStretch self.now.bytes) }
         ensures room { IfSome result (HasRoom self.now.bytes size) }
@@ -513,6 +605,7 @@ impl Space {
     /// The sizes of a stretch's free chunks together, in bytes.
     pub fn room_of(&self, stretch: Stretch) -> u32
         requires accepted { HeapAccepted self.now.bytes }
+        requires lent { LendsABody self.now }
         requires stretch { IsStretch self.now.bytes stretch }
         ensures { HasRoomOf self.now.bytes stretch result }
     {
@@ -522,6 +615,7 @@ impl Space {
     /// Packs the chunks of one stretch, and answers how much room, in bytes, is behind them then.
     pub fn pack_stretch(&mut self, stretch: Stretch) -> u32
         requires accepted { HeapAccepted self.old.bytes }
+        requires lent { LendsABody self.old }
         requires stretch { IsStretch self.old.bytes stretch }
         ensures packed { PacksStretch self.old.bytes self.new.bytes stretch }
         ensures room { RoomAtEnd self.old.bytes self.new.bytes stretch result }
@@ -529,6 +623,7 @@ impl Space {
         ensures plain { WritesPlain self.old.bytes self.new.bytes }
         ensures slid { SlidesStretch self.old.bytes stretch self.old.slid self.new.slid }
         ensures rest { self.new ≡ record self.old { bytes = self.new.bytes; slid = self.new.slid } }
+        ensures lent { LendsABody self.new }
     {
         self.built = is_whole(&self.region, stretch);
         self.packed = !self.built;
@@ -539,6 +634,7 @@ impl Space {
     /// the stretch become one, directly behind it. What was found of its chunks may stand elsewhere then.
     pub fn open_behind(&mut self, found: Found, stretch: Stretch)
         requires accepted { HeapAccepted self.old.bytes }
+        requires lent { LendsABody self.old }
         requires among { IsAmong self.old.bytes found stretch }
         ensures opened { OpensBehind self.old.bytes self.new.bytes (header_at found) }
         ensures exact { OpensExactly self.old.bytes self.new.bytes (header_at found) }
@@ -546,6 +642,7 @@ impl Space {
         ensures plain { WritesPlain self.old.bytes self.new.bytes }
         ensures few { self.new.slid ≤ self.old.slid + 2 * (stretch.end - stretch.start) }
         ensures rest { self.new ≡ record self.old { bytes = self.new.bytes; slid = self.new.slid } }
+        ensures lent { LendsABody self.new }
     {
         self.built = is_whole(&self.region, stretch);
         open_in(&mut self.region, &mut self.heads, stretch, found);
@@ -556,6 +653,7 @@ impl Space {
     /// whether there are such. No other chunk moves.
     pub fn relocate(&mut self, found: Found, count: u32) -> bool
         requires accepted { HeapAccepted self.old.bytes }
+        requires lent { LendsABody self.old }
         requires found { IsOne self.old.bytes found }
         requires unlocked { found.lock ≡ 0 }
         ensures moved { OnTrue result (RelocatesToRun self.old.bytes self.new.bytes found count) }
@@ -566,6 +664,7 @@ impl Space {
         ensures plain { WritesPlain self.old.bytes self.new.bytes }
         ensures slid { OnTrue result (self.new.slid ≡ self.old.slid + min found.length count) }
         ensures rest { self.new ≡ record self.old { bytes = self.new.bytes; slid = self.new.slid } }
+        ensures lent { LendsABody self.new }
     {
         let moved = relocate(
             &mut self.region,

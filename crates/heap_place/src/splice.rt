@@ -1,6 +1,8 @@
 //! A free chunk is taken out of its list, wherever it stands there.
+#![tactic(auto, using(laws_heap::proofs::LentBodies::frame_within, laws_heap::proofs::LentBodies::table_within))]
 
 ghost use Rattle.std.specs.Prelude.{◌≡◌, ◌≢◌, ◌<◌, ◌+◌, length, slice_index, IfSome};
+ghost use Rattle.heap_model.specs.Lending.{LendsABody};
 ghost use Rattle.heap_model.specs.Heap.{HeapAccepted};
 ghost use Rattle.heap_place.specs.Lists.{class_count, IsFreeOf, IsFreeChunk, HasLists, AreLists, ButAt, SameChunks};
 ghost use Rattle.heap_place.specs.Splices.{LeadsTo};
@@ -19,12 +21,14 @@ pub(crate) fn take_out(
     probes: usize,
 ) -> bool
     requires accepted { HeapAccepted region.old.bytes }
+    requires lent { LendsABody region.old }
     requires free { IsFreeChunk region.old.bytes at size }
     requires lists { HasLists region.old.bytes heads.old }
     ensures same { SameChunks region.old.bytes region.new.bytes }
     ensures lists { AreLists (ButAt at) region.new.bytes heads.new }
     ensures count { length heads.new ≡ class_count }
     ensures rest { region.new ≡ record region.old { bytes = region.new.bytes } }
+    ensures lent { LendsABody region.new }
 {
     let class = class_of(size);
     if heads[class] == at {
@@ -54,6 +58,7 @@ fn find_before(
     probes: usize,
 ) -> Option<u32>
     requires accepted { HeapAccepted region.now.bytes }
+    requires lent { LendsABody region.now }
     requires lists { HasLists region.now.bytes heads.now }
     requires class { class < class_count }
     requires other { slice_index heads.now class ≢ at }
@@ -76,6 +81,7 @@ fn find_before(
 /// Links the chunk in front of the one at `at` to the one behind it; with 0 in front it is in no list.
 fn link_past(region: &mut Region, heads: &[u32; CLASSES], class: usize, before: u32, at: u32)
     requires accepted { HeapAccepted region.old.bytes }
+    requires lent { LendsABody region.old }
     requires lists { HasLists region.old.bytes heads.now }
     requires class { class < class_count }
     requires leads { LeadsTo region.old.bytes heads.now class before at }
@@ -83,6 +89,7 @@ fn link_past(region: &mut Region, heads: &[u32; CLASSES], class: usize, before: 
     ensures same { SameChunks region.old.bytes region.new.bytes }
     ensures lists { AreLists (ButAt at) region.new.bytes heads.now }
     ensures rest { region.new ≡ record region.old { bytes = region.new.bytes } }
+    ensures lent { LendsABody region.new }
 {
     if before != 0 {
         let next = region.get_u32(at as usize + LINK_AT);

@@ -1,8 +1,10 @@
 //! Stretches: longest runs of neighbouring chunks without one that stays.
+#![tactic(auto, using(laws_heap::proofs::LentBodies::frame_within, laws_heap::proofs::LentBodies::table_within))]
 
 ghost use Rattle.std.specs.Prelude.{◌≡◌, ◌↔◌, ◌<◌, ◌+◌, ◌-◌, length, IsTrue, IfSome, IfNone};
 ghost use Rattle.heap_model.specs.Slots.{area_start};
 ghost use Rattle.heap_model.specs.Space.{Short, rooms, greatest};
+ghost use Rattle.heap_model.specs.Lending.{LendsABody};
 ghost use Rattle.heap_model.specs.Heap.{HeapAccepted};
 ghost use Rattle.heap_place.specs.Found.{IsOne};
 ghost use Rattle.heap_place.specs.Stretches.{IsStretch, IsAmong, HasRoom, HasRoomOf};
@@ -23,6 +25,7 @@ pub struct Stretch {
 /// Whether all chunks are of a stretch.
 pub(crate) fn is_whole(region: &Region, stretch: Stretch) -> bool
     requires accepted { HeapAccepted region.now.bytes }
+    requires lent { LendsABody region.now }
     ensures { IsTrue result
         ↔ (stretch.start ≡ area_start region.now.bytes) × (stretch.end ≡ length region.now.bytes) }
 {
@@ -32,6 +35,7 @@ pub(crate) fn is_whole(region: &Region, stretch: Stretch) -> bool
 /// The stretch of a movable chunk that was found, which has no locks.
 pub(crate) fn stretch_around(region: &Region, found: Found) -> Stretch
     requires accepted { HeapAccepted region.now.bytes }
+    requires lent { LendsABody region.now }
     requires found { IsOne region.now.bytes found }
     requires unlocked { found.lock ≡ 0 }
     ensures around { IsAmong region.now.bytes found result }
@@ -57,6 +61,7 @@ pub(crate) fn stretch_around(region: &Region, found: Found) -> Stretch
 /// The first stretch whose room has `size` bytes. None where every stretch is short of them.
 pub(crate) fn stretch_with_room(region: &Region, size: u32) -> Option<Stretch>
     requires accepted { HeapAccepted region.now.bytes }
+    requires lent { LendsABody region.now }
     requires some_size { 0 < size }
     ensures stretch { IfSome result (IsStretch region.now.bytes) }
     ensures room { IfSome result (HasRoom region.now.bytes size) }
@@ -88,6 +93,7 @@ pub(crate) fn stretch_with_room(region: &Region, size: u32) -> Option<Stretch>
 /// The sizes of a stretch's free chunks together.
 pub(crate) fn room_of_stretch(region: &Region, stretch: Stretch) -> u32
     requires accepted { HeapAccepted region.now.bytes }
+    requires lent { LendsABody region.now }
     requires stretch { IsStretch region.now.bytes stretch }
     ensures { HasRoomOf region.now.bytes stretch result }
 {
@@ -104,6 +110,7 @@ pub(crate) fn room_of_stretch(region: &Region, stretch: Stretch) -> u32
 /// The greatest room that a stretch has, in bytes; 0 where there is no stretch.
 pub(crate) fn largest_room(region: &Region) -> u32
     requires accepted { HeapAccepted region.now.bytes }
+    requires lent { LendsABody region.now }
     ensures { result ≡ greatest (rooms region.now.bytes) }
 {
     let end = region.len() as u32;

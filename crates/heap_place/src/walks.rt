@@ -1,6 +1,8 @@
 //! Walks over all chunks.
+#![tactic(auto, using(laws_heap::proofs::LentBodies::frame_within, laws_heap::proofs::LentBodies::table_within))]
 
 ghost use Rattle.std.specs.Prelude.{◌≡◌, ◌≤◌, ◌<◌, ◌+◌, ◌^◌, length, IfSome, IfNone};
+ghost use Rattle.heap_model.specs.Lending.{LendsABody};
 ghost use Rattle.heap_model.specs.Heap.{HeapAccepted};
 ghost use Rattle.heap_model.specs.Reading.{chunks_of};
 ghost use Rattle.heap_model.specs.Space.{free_total};
@@ -16,6 +18,7 @@ use raw_region::Region;
 #[inline(never)]
 pub(crate) fn find_fixed(region: &Region, name: Name) -> Option<Found>
     requires accepted { HeapAccepted region.now.bytes }
+    requires lent { LendsABody region.now }
     ensures found { IfSome result (IsFound region.now.bytes name.0) }
     ensures there { IfSome result (λ found. found.place.0 ≡ name.0) }
     ensures none { IfNone result
@@ -36,6 +39,7 @@ pub(crate) fn find_fixed(region: &Region, name: Name) -> Option<Found>
 /// The sizes of the free chunks together.
 pub(crate) fn free_bytes(region: &Region) -> u32
     requires accepted { HeapAccepted region.now.bytes }
+    requires lent { LendsABody region.now }
     ensures { result ≡ free_total region.now.bytes }
 {
     let end = region.len() as u32;

@@ -1,6 +1,6 @@
 //! The commands `new` and `check`, over bytes and writers.
 
-ghost use Rattle.std.specs.Prelude.{◌≡◌, IfOk, OnErr, string_bytes};
+ghost use Rattle.std.specs.Prelude.{◌≡◌, IfOk, OnErr, None, string_bytes};
 ghost use Rattle.image_commands.specs.Commands.{EndsCheck, EndsNew, heap_line, summary_lines};
 ghost use Rattle.allowance.specs.Refusals.{GrowthRefused};
 
@@ -78,12 +78,13 @@ pub fn cmd_check_from<A: Allowance, V: Write>(
     }
 }
 
-/// `cmd_check_from`, of an image that lies in a region. It makes no copy of it.
+/// `cmd_check_from`, of an image that lies in a region, of which nothing may be lent. It makes no copy of it.
 pub fn check_region_from<A: Allowance, V: Write>(
     memory: &A,
     region: &Region,
     out: &mut Counted<V>,
 ) -> Status
+    requires whole { region.now.lent ≡ None }
     ensures ends { EndsCheck region.now.bytes V.contents out.old out.new result }
     ensures short { result ≡ Status.NoMemory → A.is_short memory.now }
 {

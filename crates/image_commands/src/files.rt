@@ -1,6 +1,6 @@
 //! The files that a command reads and writes. What keeps one from that is on standard error then.
 
-ghost use Rattle.std.specs.Prelude.{◌≡◌, ◌≤◌, ◌⊎◌, ◌++◌, IfOk, IfErr, codes, decimal, length, string_bytes, vec_len};
+ghost use Rattle.std.specs.Prelude.{◌≡◌, ◌≤◌, ◌⊎◌, ◌++◌, IfOk, IfErr, None, codes, decimal, length, string_bytes, vec_len};
 
 use crate::faults::{STANDARD_INPUT, STANDARD_STREAM, fail, fail_to_read};
 use heap_model::Bytes;
@@ -49,6 +49,7 @@ pub(crate) fn read_file_or_input<R: Files + Input + Eprint + AllocGlobal>(
 /// All of a file, in a region.
 pub fn read_image<R: Files + Eprint + AllocGlobal>(rt: &R, path: &str) -> Result<Region, Status>
     ensures limit { IfOk result (λ region. length region.bytes ≤ INPUT_LIMIT) }
+    ensures whole { IfOk result (λ region. region.lent ≡ None) }
     ensures faults { IfErr result (λ status. (status ≡ Status.ReadFault) ⊎ (status ≡ Status.NoMemory)) }
 {
     let bytes = read_file(rt, path)?;

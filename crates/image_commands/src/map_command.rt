@@ -1,6 +1,6 @@
 //! The command `map`: the picture of an image, as text.
 
-ghost use Rattle.std.specs.Prelude.{◌≡◌, ◌≢◌, Err, IfErr, OnOk, true, false};
+ghost use Rattle.std.specs.Prelude.{◌≡◌, ◌≢◌, Err, IfErr, OnOk, None, true, false};
 ghost use Rattle.heap_model.specs.Store.{Accepted};
 ghost use Rattle.heap_map.specs.Pictures.{IsFaultOf};
 ghost use Rattle.image_commands.specs.Mapping.{EndsMap, PutsMap};
@@ -37,12 +37,13 @@ pub fn cmd_map_from<A: Allowance, V: Write>(
     }
 }
 
-/// `cmd_map_from`, of an image that lies in a region.
+/// `cmd_map_from`, of an image that lies in a region, of which nothing may be lent.
 pub fn map_region_from<A: Allowance, V: Write>(
     memory: &A,
     region: &Region,
     out: &mut Counted<V>,
 ) -> Status
+    requires whole { region.now.lent ≡ None }
     ensures ends { EndsMap region.now.bytes V.contents out.old out.new result }
     ensures short { result ≡ Status.NoMemory → A.is_short memory.now }
 {
@@ -61,6 +62,7 @@ fn put_flushed<A: Allowance, V: Write>(
     region: &Region,
     out: &mut Counted<V>,
 ) -> Result<(), MapFault>
+    requires whole { region.now.lent ≡ None }
     ensures accepted { OnOk result (Accepted region.now.bytes) }
     ensures done { OnOk result (PutsMap region.now.bytes V.contents out.old out.new true) }
     ensures why { IfErr result (IsFaultOf region.now.bytes) }

@@ -1,6 +1,6 @@
 //! The command `migrate`: an image gets a chain of tables.
 
-ghost use Rattle.std.specs.Prelude.{◌≡◌, ◌⊎◌, Err, IfOk, IfErr, OnOk, true, false};
+ghost use Rattle.std.specs.Prelude.{◌≡◌, ◌⊎◌, Err, IfOk, IfErr, OnOk, None, true, false};
 ghost use Rattle.heap_model.specs.Store.{Accepted};
 ghost use Rattle.heap_migration.specs.Stores.{IsMigrated};
 ghost use Rattle.program_io.specs.FaultLines.{PutsBad};
@@ -50,13 +50,14 @@ pub fn cmd_migrate_from<A: Allowance, W: Write, V: Write>(
     }
 }
 
-/// `cmd_migrate_from`, of an image that lies in a region.
+/// `cmd_migrate_from`, of an image that lies in a region, of which nothing may be lent.
 pub fn migrate_region_from<A: Allowance, W: Write, V: Write>(
     memory: &A,
     region: Region,
     image_out: &mut Counted<W>,
     out: &mut Counted<V>,
 ) -> Status
+    requires whole { region.lent ≡ None }
     ensures ends { EndsMigrate region.bytes W.contents image_out.old image_out.new
         V.contents out.old out.new result }
     ensures short { result ≡ Status.NoMemory → A.is_short memory.now }
@@ -77,7 +78,9 @@ fn migrated<A: Allowance, V: Write>(
     region: Region,
     out: &mut Counted<V>,
 ) -> Result<Store, Status>
+    requires whole { region.lent ≡ None }
     ensures store { IfOk result (λ store. IsMigrated region.bytes store.bytes) }
+    ensures whole { IfOk result (λ store. store.lent ≡ None) }
     ensures accepted { OnOk result (Accepted region.bytes) }
     ensures silent { OnOk result (out.new ≡ out.old) }
     ensures faults { IfErr result (λ status. (status ≡ Status.Refused)

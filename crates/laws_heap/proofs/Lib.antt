@@ -1,4 +1,5 @@
 pub mod Frames
+pub mod Lending
 pub mod Chunks
 pub mod Tests
 pub mod Shapes
@@ -32,6 +33,8 @@ pub mod StretchNumbers
 pub mod SlidImages
 pub mod FreeCounts
 pub mod Stretches
+pub mod LentBodies
+pub mod KeptLoans
 pub mod LoweredRoom
 pub mod Unmoved
 pub mod Resizings
@@ -46,5 +49,6 @@ pub mod ChainReads
 pub mod Relinked
 pub mod AddedTables
 pub mod MoreTables
+pub mod LentTables
 pub mod CallFrames
 pub mod Migrations

@@ -61,7 +61,7 @@ halves old mid before after at w =
     let ends = SpelledAll-end old (at + 72) after (length old) back in
     record { front = front; back = back; inside = omega arith; whole = spelled_whole old start before at front (omega arith) }
 
-written_replaces : (old mid : List ℕ) (before after : List Chunk) (at : ℕ) → WritesTable old mid before after at → Replaces old mid before (free 72 ∷ []) (table_chunk ∷ []) after at
+pub written_replaces : (old mid : List ℕ) (before after : List Chunk) (at : ℕ) → WritesTable old mid before after at → Replaces old mid before (free 72 ∷ []) (table_chunk ∷ []) after at
 written_replaces old mid before after at w =
     let there = w.there in
     let inside = (halves old mid before after at w).inside in

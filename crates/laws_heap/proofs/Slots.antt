@@ -5,8 +5,8 @@ use Rattle.std.proofs.lemmas.Bool.{cases_lt}
 use Rattle.std.proofs.lemmas.Bool.Decides.{Decides-or, Decides-eqb, Decides-like}
 use Rattle.std.proofs.lemmas.List.{take_all, take_at, take-take}
 use Rattle.std.specs.Bool.{Decides}
-use Rattle.std.specs.Prelude.{◌⊎◌}
-use Rattle.heap_model.specs.Memory.{Memory, IsWithin}
+use Rattle.std.specs.Prelude.{◌⊎◌, None}
+use Rattle.heap_model.specs.Memory.{Memory, Misses, IsWithin}
 use Rattle.heap_model.specs.Bytes.{u32_at}
 use Rattle.heap_model.specs.Chunk.{Chunk, free, movable, fixed, need, size_of, total, IsLive, Spelled, SpelledAll}
 use Rattle.heap_model.specs.Slots.{Table, Tables, TablesLie, HasTable, slot_count, table_end, head_end, area_start, start_behind, aligned, is_chained, behind_table, first_next, further_tables, tables_of, slots_in_row, slots_further, slots_in, slots_of, slots_total, first_slots, StandsBehind, StandsIn, IsSlot, stands_in, is_slot}
@@ -15,6 +15,7 @@ use Rattle.heap_model.specs.Meaning.{LiveChunk, NamedHere}
 use Rattle.heap_model.specs.Placed.{AnyPlaced, EveryOne}
 use Rattle.heap_model.specs.Layout.{IsFreeAt}
 use Rattle.heap_model.specs.Space.{AllFree, NoneStays}
+use Rattle.laws_heap.proofs.Lending.{all_misses}
 use Rattle.laws_heap.proofs.Frames.{SameBetween, SameBetween-within, u32_at-same, slice-same}
 use Rattle.laws_heap.proofs.Chunks.{Spelled-size, Spelled-same, SpelledAll-end, SpelledAll-split, SpellsAgain, spells_same, seen-next}
 use Rattle.laws_heap.proofs.Placed.{AnyPlaced-split, AnyPlaced-map}
@@ -507,7 +508,18 @@ tables_lie old new len same lie =
 
 -- a slot lies within a memory that has the tables
 pub slot_within : (memory : Memory) (slot : ℕ) → HasTable memory → IsSlot memory.bytes slot → IsWithin memory slot 4
-slot_within memory slot has s = each_slot (λ slot. slot + 4 ≤ length memory.bytes) memory.bytes has.slots slot s
+slot_within memory slot has s = record {
+  inside = each_slot (λ slot. slot + 4 ≤ length memory.bytes) memory.bytes has.lie.slots slot s;
+  misses = each_slot (λ slot. Misses memory.lent slot 4) memory.bytes has.slots_miss slot s;
+}
+
+-- a memory of which nothing is lent has them if they lie within it
+pub whole_table : (memory : Memory) → memory.lent ≡ None → TablesLie memory.bytes → HasTable memory
+whole_table memory none lie = record {
+  lie = lie;
+  first_misses = all_misses memory.lent 0 (head_end memory.bytes) none;
+  slots_miss = every_slot (λ slot. Misses memory.lent slot 4) memory.bytes (λ slot s. all_misses memory.lent slot 4 none);
+}
 
 -- of an image that is no chain
 pub start_counted : (image : List ℕ) (count : ℕ) → is_chained image ≡ false → slot_count image ≡ count → area_start image ≡ start_behind count

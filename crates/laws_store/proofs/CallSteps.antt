@@ -4,6 +4,7 @@ use Rattle.std.proofs.Common.{◌≡◌, ℕ, ◌+◌, List, Bool, true, false, 
 use Rattle.std.specs.Prelude.{if◌then◌else◌, IsErr, IsErrAnd}
 use Rattle.std.specs.Bool.{OnTrue}
 use Rattle.heap_model.specs.Memory.{Memory}
+use Rattle.heap_model.specs.Lending.{KeepsLoan}
 use Rattle.heap_model.specs.Store.{Store, Accepted, store_of}
 use Rattle.heap_model.specs.Refusals.{FirstBrings}
 use Rattle.heap_model.specs.MemorySteps.{reply_of}
@@ -16,6 +17,7 @@ use Rattle.heap_model.specs.declared.call.Call.TheVariants as calls
 use Rattle.heap_model.specs.declared.call.Reply.{Reply}
 use Rattle.heap_model.specs.declared.call.Reply.TheVariants as replies
 use Rattle.heap_model.specs.declared.refusal.Refusal.{Refusal}
+use Rattle.laws_heap.proofs.KeptLoans.{keeps_itself}
 
 pub same_store : (region : Memory) → SameStore (store_of region.bytes) (store_of region.bytes)
 same_store region = record { map = λ name. refl; databases = refl }
@@ -35,6 +37,7 @@ asks region call reply a step = record {
   slots = none_made region call reply step;
   directory = inl refl;
   still = λ name live held locked there. refl;
+  loan = keeps_itself region;
   asks = unchanged (row_of region call).only_asks;
   rest = none_slid (may_slide call);
 } where
@@ -56,9 +59,9 @@ handed_on f call (Ok answer) is does = let no_error = is.0 in absurd cc
 handed_on {A} {old} {new} f call (Err refusal) is does = subst (λ (r : Refusal). DoesInStore old call (replies.Refused r) new) (sym is.1) does
 
 -- a call that leaves some store, and makes no slots
-pub changes : (old new : Memory) (call : Call) (reply : Reply) (store : Store) → ((slots : List ℕ) → LeavesSlots call reply slots slots) → Accepted old.bytes → LeavesStore old.bytes new.bytes store → StoreStep old call reply new → OnTrue (row_of old call).only_asks (new ≡ old)
+pub changes : (old new : Memory) (call : Call) (reply : Reply) (store : Store) → ((slots : List ℕ) → LeavesSlots call reply slots slots) → Accepted old.bytes → LeavesStore old.bytes new.bytes store → StoreStep old call reply new → KeepsLoan old new → OnTrue (row_of old call).only_asks (new ≡ old)
     → new ≡ record old { bytes = new.bytes; slid = if may_slide call then new.slid else old.slid } → DoesInStore old call reply new
-changes old new call reply store none a leaves step asks rest = record {
+changes old new call reply store none a leaves step loan asks rest = record {
   before = a;
   step = step;
   accepted = leaves.accepted;
@@ -66,6 +69,7 @@ changes old new call reply store none a leaves step asks rest = record {
   slots = subst (λ (slots : List ℕ). LeavesSlots call reply (slots_of old.bytes) slots) (sym leaves.slots) (none (slots_of old.bytes));
   directory = inl leaves.directory;
   still = leaves.still;
+  loan = loan;
   asks = asks;
   rest = rest;
 }

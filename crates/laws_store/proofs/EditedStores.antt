@@ -5,7 +5,7 @@ use Rattle.std.proofs.lemmas.List.{get_or-set_same, get_or-set_other, length-set
 use Rattle.std.proofs.lemmas.Option.{slice_get_within, get_or_from_slice_get}
 use Rattle.std.proofs.lemmas.List.Elements.{All-nil, All-cons}
 use Rattle.std.specs.Prelude.{IsSome, All, slice_get}
-use Rattle.heap_model.specs.Chunk.{data_owner}
+use Rattle.heap_model.specs.Chunk.{managers_owner, data_owner}
 use Rattle.heap_model.specs.Bytes.{sized_to}
 use Rattle.heap_model.specs.Meaning.{LiveChunk}
 use Rattle.heap_model.specs.Reading.{held}
@@ -206,23 +206,23 @@ rename_steps old new db change a has l sound free counts =
     let at = number_stands old db has in
     steps old new db at.0 change [] a has at.1 (respell_parts old new db d l sound counts) (names_free old db at.0 d a at.1 free)
 
--- ---- one chunk for data edited
+-- ---- one chunk edited that callers may name
 
-pub chunk_steps : (old new : List ℕ) (name : ℕ) (now : Option LiveChunk) → Accepted old → Leaves old new (updated (held old) name now) → owner_under old name ≡ data_owner → owner_of now ≡ data_owner
+pub callers_steps : (old new : List ℕ) (name : ℕ) (now : Option LiveChunk) → Accepted old → Leaves old new (updated (held old) name now) → owner_under old name ≢ managers_owner → owner_of now ≡ owner_under old name
     → ((before after : LiveChunk) → held old name ≡ Some before → now ≡ Some after → after.lock ≡ before.lock) → LeavesStore old new (with_chunks (store_of old) (updated (callers_map old) name now))
 unfolding owner_under store_of
-chunk_steps old new name now a l was is locks =
+callers_steps old new name now a l was is locks =
     let chunk : (other : ℕ) → other ≡ name → held new other ≡ now = λ other e. l.map other ∙ here (held old) name now other e in
     let rest : (other : ℕ) → other ≢ name → held new other ≡ held old other = λ other ne. l.map other ∙ apart (held old) name now other ne in
     let owner : (other : ℕ) → owner_under new other ≡ owner_under old other = λ other. elim (cases_eq other name) [
-      | inl e ↦ ap owner_of (chunk other e) ∙ is ∙ sym (ap (owner_under old) e ∙ was)
+      | inl e ↦ ap owner_of (chunk other e) ∙ is ∙ sym (ap (owner_under old) e)
       | inr ne ↦ ap owner_of (rest other ne)
     ] in
-    let loose : owner_of now ≢ 0 = λ e. omega arith in
+    let loose : owner_of now ≢ 0 = λ e. was (sym is ∙ e) in
     let has = databases_kept old new (databases old) (has_databases old a) (record {
       heap = l.frame.accepted;
       directory = l.frame.directory;
-      managers = λ other own. rest other (λ e. (let no = sym was ∙ ap (owner_under old) (sym e) ∙ own in omega arith));
+      managers = λ other own. rest other (λ e. was (ap (owner_under old) (sym e) ∙ own));
       owners = λ other. (λ z. sym (owner other) ∙ z, λ z. owner other ∙ z);
       «data» = λ other. (λ z. sym (owner other) ∙ z, λ z. owner other ∙ z);
     }) in
@@ -244,6 +244,11 @@ chunk_steps old new name now a l was is locks =
       still = l.still;
     }
 
+-- one for data
+pub chunk_steps : (old new : List ℕ) (name : ℕ) (now : Option LiveChunk) → Accepted old → Leaves old new (updated (held old) name now) → owner_under old name ≡ data_owner → owner_of now ≡ data_owner
+    → ((before after : LiveChunk) → held old name ≡ Some before → now ≡ Some after → after.lock ≡ before.lock) → LeavesStore old new (with_chunks (store_of old) (updated (callers_map old) name now))
+chunk_steps old new name now a l was is locks = callers_steps old new name now a l (λ e. omega arith) (is ∙ sym was) locks
+
 owner_changed : (change : LiveChunk → LiveChunk) → ((live : LiveChunk) → (change live).owner ≡ live.owner) → (o : Option LiveChunk) → owner_of (changed change o) ≡ owner_of o
 owner_changed change same None = refl
 owner_changed change same (Some live) = same live
@@ -253,14 +258,18 @@ lock_changed change same None before after was is = absurd cc
 lock_changed change same (Some live) before after was is = ap (λ (l : LiveChunk). l.lock) (sym (same_some (change live) after is)) ∙ same live ∙ ap (λ (l : LiveChunk). l.lock) (same_some live before was)
 
 -- a change of it that keeps its owner and its locks
+pub callers_change : (old new : List ℕ) (name : ℕ) (change : LiveChunk → LiveChunk) → ((live : LiveChunk) → (change live).owner ≡ live.owner) → ((live : LiveChunk) → (change live).lock ≡ live.lock) → Accepted old
+    → Leaves old new (changed_at (held old) name change) → owner_under old name ≢ managers_owner → LeavesStore old new (with_chunks (store_of old) (changed_at (callers_map old) name change))
+unfolding owner_under
+callers_change old new name change owner lock a l own =
+    let now : Option LiveChunk = changed change (held old name) in
+    let callers : changed change (held old name) ≡ changed change (callers_map old name) = ap (changed change) (sym (shown (held old name) own)) in
+    subst (λ (o : Option LiveChunk). LeavesStore old new (with_chunks (store_of old) (updated (callers_map old) name o))) callers
+    (callers_steps old new name now a l own (owner_changed change owner (held old name)) (lock_changed change lock (held old name)))
+
 pub change_steps : (old new : List ℕ) (name : ℕ) (change : LiveChunk → LiveChunk) → ((live : LiveChunk) → (change live).owner ≡ live.owner) → ((live : LiveChunk) → (change live).lock ≡ live.lock) → Accepted old
     → Leaves old new (changed_at (held old) name change) → owner_under old name ≡ data_owner → LeavesStore old new (with_chunks (store_of old) (changed_at (callers_map old) name change))
-unfolding owner_under
-change_steps old new name change owner lock a l own =
-    let now : Option LiveChunk = changed change (held old name) in
-    let callers : changed change (held old name) ≡ changed change (callers_map old name) = ap (changed change) (sym (shown (held old name) (λ z. omega arith))) in
-    subst (λ (o : Option LiveChunk). LeavesStore old new (with_chunks (store_of old) (updated (callers_map old) name o))) callers
-    (chunk_steps old new name now a l own (owner_changed change owner (held old name) ∙ own) (lock_changed change lock (held old name)))
+change_steps old new name change owner lock a l own = callers_change old new name change owner lock a l (λ e. omega arith)
 
 -- it has another length
 pub resize_steps : (old new : List ℕ) (name size : ℕ) → Accepted old → Leaves old new (sized (held old) name size) → owner_under old name ≡ data_owner → LeavesStore old new (with_chunks (store_of old) (sized (callers_map old) name size))

@@ -149,6 +149,7 @@ memory_call_steps old new call reply a d =
       slots = frames_slots call reply old.bytes new.bytes d.frame;
       directory = inl head.directory;
       still = d.still;
+      loan = d.loan;
       asks = d.asks;
       rest = d.rest;
     }

@@ -1,12 +1,11 @@
 -- A walk along the words `next` of a chain.
-use Rattle.std.proofs.Common.{◌≡◌, ◌≢◌, ℕ, zero, suc, ◌+◌, ◌<◌, ◌≤◌, List, [], ◌∷◌, length, refl, sym, ap, subst, ◌∙◌, arith}
+use Rattle.std.proofs.Common.{◌≡◌, ◌≢◌, ℕ, zero, suc, ◌<◌, List, [], ◌∷◌, length, refl, sym, ap, subst, ◌∙◌, arith}
 use Rattle.heap_model.specs.Bytes.{u32_at}
 use Rattle.heap_model.specs.Chunk.{Chunk}
-use Rattle.heap_model.specs.Slots.{table_at, table_end, tables_within, first_next, further_tables, area_start}
+use Rattle.heap_model.specs.Slots.{table_at, table_end, tables_within, first_next, further_tables}
 use Rattle.heap_model.specs.Heap.{IsChain, Tiles}
 use Rattle.heap_model.specs.MoreTables.{last_in, last_next}
 use Rattle.laws_heap.proofs.Tables.{ChainStep, chain_step}
-use Rattle.laws_heap.proofs.ChainReads.{table_lies}
 use Rattle.master_table.specs.Table.{IsTiled, tables_from}
 
 -- a word `next` of the chain stands at an offset: the last one is among those that it leads to
@@ -21,16 +20,10 @@ leads_first image at next there is = record {
   chain = λ chunks t. subst (λ (w : ℕ). IsChain image chunks w (tables_from image w)) (sym is) t.chain;
 }
 
-next_step : (image : List ℕ) (at next : ℕ) → LeadsTo image at next → next ≢ 0 → (cs : List Chunk) → Tiles image cs → ChainStep image cs next
+pub next_step : (image : List ℕ) (at next : ℕ) → LeadsTo image at next → next ≢ 0 → (cs : List Chunk) → Tiles image cs → ChainStep image cs next
 next_step image at next l used cs t = chain_step image cs next (let fits = t.head.a_chunk_fits in omega arith) (omega arith) (l.chain cs t)
 
--- the table that it leads to is within the image
-pub leads_within : (image : List ℕ) (at next : ℕ) → IsTiled image → LeadsTo image at next → next ≢ 0 → next + 4 ≤ length image
-leads_within image at next t l used =
-    let high = (table_lies image (area_start image) (length image) (table_at image next) t.0 t.1.area (omega arith) (next_step image at next l used t.0 t.1).first).high in
-    omega arith
-
--- and has the next of these words
+-- the table that it leads to has the next of these words
 pub record LeadsOn (image : List ℕ) (next word : ℕ) (more : ℕ) : Type 0 where
   pub leads : LeadsTo image next word
   pub fewer : length (tables_from image word) < more

@@ -29,11 +29,10 @@ walk_first image next is = record {
 -- the table that it leads to, and the word of that one
 pub record WalkStep (image : List ℕ) (next word : ℕ) : Type 0 where
   pub here : IsTablePlace (further_tables image) next
-  pub inside : next + 4 ≤ length image
   pub walks : WalksTables image word
   pub fewer : length (tables_from image word) < length (tables_from image next)
 
-step_of : (image : List ℕ) (next : ℕ) → WalksTables image next → next ≢ 0 → (cs : List Chunk) → Tiles image cs → ChainStep image cs next
+pub step_of : (image : List ℕ) (next : ℕ) → WalksTables image next → next ≢ 0 → (cs : List Chunk) → Tiles image cs → ChainStep image cs next
 step_of image next w used cs t = chain_step image cs next (let fits = t.head.a_chunk_fits in omega (arith, fits)) (omega arith) (w.chain cs t)
 
 pub walk_on : (image : List ℕ) (next word : ℕ) → IsTiled image → WalksTables image next → next ≢ 0 → word ≡ u32_at image next → WalkStep image next word
@@ -43,7 +42,6 @@ walk_on image next word t w used is =
     let long = ap length same in
     record {
       here = w.within next (subst (λ (ts : List Table). IsTablePlace ts next) (sym same) (inl refl));
-      inside = (table_there image t.0 (table_at image next) t.1 step.first).inside;
       walks = record {
         chain = λ cs u. subst (λ (n : ℕ). IsChain image cs n (tables_from image n)) (sym is) (step_of image next w used cs u).chain;
         within = λ place h. w.within place (subst (λ (ts : List Table). IsTablePlace ts place) (sym same) (inr h));

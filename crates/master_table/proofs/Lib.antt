@@ -4,3 +4,4 @@ pub mod RowLaws
 pub mod ChainLaws
 pub mod FurtherLaws
 pub mod SlotWords
+pub mod LentLaws

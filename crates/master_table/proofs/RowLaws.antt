@@ -39,7 +39,7 @@ first_row image row t first count before next place = record {
 
 -- ---- the numbers of a row
 
-row_slots : (image : List ℕ) (row : Row) (k : ℕ) → IsRow image row → k < row.count → StandsBehind image (row.first + 4 * k) (row.before + k)
+pub row_slots : (image : List ℕ) (row : Row) (k : ℕ) → IsRow image row → k < row.count → StandsBehind image (row.first + 4 * k) (row.before + k)
 row_slots image row k r below =
     let more : ℕ = row.count - k - 1 in
     let e : row.count ≡ k + suc more = omega arith in
@@ -97,6 +97,9 @@ row_bounds image row t r =
     let few = slots_few image t.0 t.1 in
     let most = t.1.head.most in
     record { ends = omega (arith, inside, some); numbers = omega (arith, all, one, two, many, in_front, few); total = omega (arith, all, one, two, many, in_front); small = omega (arith, most) }
+
+pub row_small : (image : List ℕ) (row : Row) → IsTiled image → IsRow image row → row_end row < 2 ^ 32
+row_small image row t r = let b = row_bounds image row t r in let numbers = b.numbers in let small = b.small in omega (arith, numbers, small)
 
 -- ---- the slots of tables one after the other
 

@@ -20,6 +20,12 @@ used_more image k below used here =
     let s = number_stands image k below in
     every_first-more (λ slot. u32_at image slot ≢ 0) image s.0 k s.1 used (here s.0 s.1)
 
+-- the same with an index among the slots after some
+pub used_next : (image : List ℕ) (before index : ℕ) → before + index < slots_total image → UsedBefore image (before + index) → IsUsedAt image (before + index) → UsedBefore image (before + (index + 1))
+used_next image before index below used here =
+    let e : before + index + 1 ≡ before + (index + 1) = omega arith in
+    subst (λ (k : ℕ). UsedBefore image k) e (used_more image (before + index) below used here)
+
 pub used_fewer : (image : List ℕ) (count fewer : ℕ) → fewer ≤ count → UsedBefore image count → UsedBefore image fewer
 used_fewer image count fewer most used =
     every_first_slot (λ slot. u32_at image slot ≢ 0) image fewer (λ slot j s below. each_first_slot (λ slot. u32_at image slot ≢ 0) image slot j count s (omega arith) used)
@@ -37,14 +43,14 @@ not_among-first_empty image slot before first = every_first_slot (λ other. othe
 
 -- ---- after a change
 
--- The first so many slots stay in use where each that was in use, whatever its name is, is so still.
+-- The first `count` slots stay in use if each slot that was in use, whatever its name, is in use still.
 pub used_still : (old new : List ℕ) (count : ℕ) → slots_of new ≡ slots_of old → ((slot : ℕ) → IsSlot old slot → u32_at old slot ≢ 0 → u32_at new slot ≢ 0) → UsedBefore old count → UsedBefore new count
 used_still old new count slots each used =
     let as_old : first_slots new count ≡ first_slots old count = ap (λ (xs : List ℕ). take count xs) slots in
     subst (λ (xs : List ℕ). EveryOne (λ slot. u32_at new slot ≢ 0) xs) (sym as_old)
     (every_first_slot (λ slot. u32_at new slot ≢ 0) old count (λ slot j s below. each slot (stands_slot old slot j s) (each_first_slot (λ slot. u32_at old slot ≢ 0) old slot j count s below used)))
 
--- Or where more stand behind all of them, and those that were in use are.
+-- The same if further slots follow all of them, and those that were in use still are.
 pub used_more_slots : (old new : List ℕ) (count : ℕ) (more : List ℕ) → slots_of new ≡ slots_of old ++ more → count ≤ slots_total old → ((slot : ℕ) → IsSlot old slot → u32_at old slot ≢ 0 → u32_at new slot ≢ 0) → UsedBefore old count → UsedBefore new count
 used_more_slots old new count more slots few each used =
     let as_old : first_slots new count ≡ first_slots old count = ap (λ (xs : List ℕ). take count xs) slots ∙ take-append-le count (slots_of old) more few in

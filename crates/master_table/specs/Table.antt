@@ -18,7 +18,7 @@ IsTiled image = (chunks : List Chunk) × Tiles image chunks
 abbrev pub tables_from : List ℕ → ℕ → List Table
 tables_from image next = tables_within (length image) image next
 
--- one of the further tables has its body at a place, and so many slots stand before its own
+-- one of the further tables has its body at a place, and `before` slots come before its own
 pub record StartsFurther (image : List ℕ) (place before : ℕ) : Type 0 where
   pub front : List Table
   pub table : Table
@@ -27,23 +27,23 @@ pub record StartsFurther (image : List ℕ) (place before : ℕ) : Type 0 where
   pub there : table.place ≡ place
   pub count : before ≡ slot_count image + length (slots_further front)
 
--- a table has its body at a place, the first where that is 0, and so many slots stand before its own
+-- a table has its body at a place, or is the first table and the place is 0; `before` slots come before its own
 abbrev pub StartsAt : List ℕ → ℕ → ℕ → Type 0
 StartsAt image place before = ((place ≡ 0) × (before ≡ 0)) ⊎ StartsFurther image place before
 
--- so much is known of a table
+-- a start is that of a table of the image
 abbrev pub IsStart : List ℕ → TableStart → Type 0
 IsStart image start = StartsAt image start.place start.before
 
--- how many slots stand in front of those of a row, and up to its last
+-- how many slots come before those of a row, and how many up to its last
 abbrev pub row_start : Row → ℕ
 row_start row = row.before
 
 abbrev pub row_end : Row → ℕ
 row_end row = row.before + row.count
 
--- these are slots of the image in a row, with so many in front of them; those of the tables that a word
--- `next` leads to are behind them
+-- these are slots of the image in a row, with `before` slots before them; the slots of the tables that a word
+-- `next` leads to follow them
 pub record IsRow (image : List ℕ) (row : Row) : Type 0 where
   pub front : List ℕ
   pub parts : slots_of image ≡ front ++ (slots_in_row row.first row.count ++ slots_further (tables_from image row.next))
@@ -55,7 +55,7 @@ pub record IsRow (image : List ℕ) (row : Row) : Type 0 where
   pub numbers : row.before + row.count ≡ slot_count image + length (slots_further passed)
   pub start : StartsAt image row.place row.before
 
--- the row of the next table is directly behind another
+-- the row of the next table follows another directly
 pub record Behind (image : List ℕ) (row other : Row) : Type 0 where
   pub is_row : IsRow image other
   pub start : row_start other ≡ row_end row
@@ -69,39 +69,39 @@ count_of table = table.count
 abbrev pub IsOneTable : List ℕ → OneTable → Type 0
 IsOneTable image table = (is_chained image ≡ false) × (count_of table ≡ slot_count image)
 
--- a slot stands there, and holds this place
+-- a slot is there, and holds this place
 pub record HoldsPlace (image : List ℕ) (slot place : ℕ) : Type 0 where
   pub is_slot : IsSlot image slot
   pub held : u32_at image slot ≡ place
   pub some : 0 < place
 
--- no slot stands there, or an empty one
+-- no slot is there, or an empty one
 abbrev pub HoldsNothing : List ℕ → ℕ → Type 0
 HoldsNothing image slot = IsSlot image slot → u32_at image slot ≡ 0
 
--- the first so many slots are in use
+-- the first `count` slots are in use
 abbrev pub UsedBefore : List ℕ → ℕ → Type 0
 UsedBefore image count = EveryOne (λ slot. u32_at image slot ≢ 0) (first_slots image count)
 
--- the first so many slots are others than this name
+-- none of the first `count` slots has this name
 abbrev pub NotAmong : List ℕ → ℕ → ℕ → Type 0
 NotAmong image count name = EveryOne (λ slot. slot ≢ name) (first_slots image count)
 
--- how many of the first so many slots are empty
+-- how many of the first `count` slots are empty
 abbrev pub empty_before : List ℕ → ℕ → ℕ
 empty_before image count = count_by (λ slot. u32_at image slot == 0) (first_slots image count)
 
--- the slot behind so many others is empty, and this is it
+-- the slot with this number is empty, and this is it
 pub record IsEmptyAt (image : List ℕ) (number : ℕ) (free : EmptySlot) : Type 0 where
   pub stands : StandsBehind image free.name.0 number
   pub empty : u32_at image free.name.0 ≡ 0
   pub count : free.before ≡ number
 
--- the slot behind so many others is in use
+-- the slot with this number is in use
 abbrev pub IsUsedAt : List ℕ → ℕ → Type 0
 IsUsedAt image number = (slot : ℕ) → StandsBehind image slot number → u32_at image slot ≢ 0
 
--- the first empty slot, and how many stand before it
+-- the first empty slot, and how many come before it
 pub record IsFirstEmpty (image : List ℕ) (slot before : ℕ) : Type 0 where
   pub stands : StandsBehind image slot before
   pub is_slot : IsSlot image slot

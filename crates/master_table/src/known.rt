@@ -1,7 +1,9 @@
 //! Further tables that are remembered, so that a slot of theirs is found without a walk along the chain.
+#![tactic(auto, using(crate::proofs::LentLaws::frame_of, crate::proofs::LentLaws::head_of))]
 
 ghost use Rattle.std.specs.Prelude.{◌≡◌, ◌<◌, ◌^◌, ℕ, List, IfSome};
 ghost use Rattle.std.specs.Bool.{OnTrue};
+ghost use Rattle.heap_model.specs.Lending.{LendsABody};
 ghost use Rattle.heap_model.specs.Slots.{IsSlot, further_tables};
 ghost use Rattle.heap_model.specs.Heap.{IsTablePlace};
 ghost use Rattle.master_table.specs.Table.{IsTiled};
@@ -15,7 +17,7 @@ use std::marker::Model;
 /// How many tables are remembered at most.
 const ENTRIES: usize = 8_192;
 
-/// An image is seen in blocks of so many bytes. The slots of a table of 15 lie in the block in which its body begins,
+/// An image is divided into blocks of this many bytes. The slots of a table of 15 lie in the block in which its body begins,
 /// and in the next one.
 const BLOCK_SIZE: u32 = TABLE_LENGTH;
 
@@ -50,7 +52,8 @@ impl KnownTables {
     /// The tables of a chain, which is gone through once. A table is left out if it has fewer than 15 slots, or if
     /// others are in all entries that it may be in.
     pub fn of(region: &Region) -> KnownTables
-        requires { IsTiled region.now.bytes }
+        requires tiled { IsTiled region.now.bytes }
+        requires lent { LendsABody region.now }
         ensures { KnowsTables region.now.bytes result }
     {
         let mut known = KnownTables::none();
@@ -65,6 +68,7 @@ impl KnownTables {
     /// Remembers a further table of an image if it has 15 slots or more.
     fn add(&mut self, region: &Region, place: u32)
         requires tiled { IsTiled region.now.bytes }
+        requires lent { LendsABody region.now }
         requires table { IsTablePlace (further_tables region.now.bytes) place }
         requires knows { KnowsTables region.now.bytes self.old }
         ensures { KnowsTables region.now.bytes self.new }

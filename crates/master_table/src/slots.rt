@@ -1,7 +1,10 @@
 //! Slots in rows: those of the first table, and those of each further one along the chain.
+#![tactic(auto, using(crate::proofs::LentLaws::frame_of, crate::proofs::LentLaws::head_of))]
 
-ghost use Rattle.std.specs.Prelude.{◌≡◌, ◌≢◌, ◌<◌, ◌≤◌, ◌==◌, ℕ, List, IfSome, IfNone, false};
+ghost use Rattle.std.specs.Prelude.{◌≡◌, ◌≢◌, ◌<◌, ◌≤◌, ◌==◌, ◌+◌, ◌^◌, ℕ, List, IfSome, IfNone, false};
+ghost use Rattle.heap_model.specs.Bytes.{u32_at};
 ghost use Rattle.heap_model.specs.Frame.{HasFrame};
+ghost use Rattle.heap_model.specs.Lending.{LendsABody};
 ghost use Rattle.heap_model.specs.Slots.{IsSlot, StandsBehind, StandsIn, slots_in_row, slots_total, is_chained};
 ghost use Rattle.master_table.specs.Table.{IsTiled, IsStart};
 
@@ -10,8 +13,8 @@ use chunk_format::{
 };
 use raw_region::Region;
 
-/// Where a table stands: its place, or 0 for the first table, and how many slots stand before its own. What is known of
-/// one is right as long as the image has the same tables, or more.
+/// Where a table is: its place, or 0 for the first table, and how many slots come before its own. A start stays right
+/// as long as the image has the same tables, or more.
 #[derive(Clone, Copy, Debug, PartialEq, Eq)]
 pub struct TableStart {
     place: u32,
@@ -48,6 +51,7 @@ impl Row {
     #[inline]
     pub fn of(region: &Region) -> Row
         requires tiled { IsTiled region.now.bytes }
+        requires lent { LendsABody region.now }
         ensures row { IsRow region.now.bytes result }
         ensures start { row_start result ≡ 0 }
     {
@@ -64,6 +68,7 @@ impl Row {
     #[inline]
     pub(crate) fn at(region: &Region, start: TableStart) -> Row
         requires tiled { IsTiled region.now.bytes }
+        requires lent { LendsABody region.now }
         requires start { IsStart region.now.bytes start }
         ensures row { IsRow region.now.bytes result }
         ensures start { row_start result ≡ start.before }
@@ -81,11 +86,10 @@ impl Row {
         }
     }
 
-    /// Where their table stands.
+    /// Their table.
     #[inline]
-    pub(crate) fn table(self, region: &Region) -> TableStart
-        requires { IsRow region.now.bytes self }
-        ensures { IsStart region.now.bytes result }
+    pub(crate) fn table(self) -> TableStart
+        ensures { (image : List ℕ) → IsRow image self → IsStart image result }
     {
         TableStart {
             place: self.place,
@@ -93,7 +97,7 @@ impl Row {
         }
     }
 
-    /// How many slots stand in front of these in the list.
+    /// How many slots come before these in the list.
     #[inline]
     pub fn start(self) -> u32
         ensures { result ≡ row_start self }
@@ -101,17 +105,38 @@ impl Row {
         self.before
     }
 
-    /// How many slots stand in the list up to the last of these.
+    /// How many slots the list has up to the last of these.
     #[inline]
-    pub fn end(self, region: &Region) -> u32
-        requires tiled { IsTiled region.now.bytes }
-        requires row { IsRow region.now.bytes self }
+    pub fn end(self) -> u32
+        requires { row_end self < 2 ^ 32 }
         ensures { result ≡ row_end self }
     {
         self.before + self.count
     }
 
-    /// Whether no table is behind.
+    /// How many slots the table has.
+    #[inline]
+    pub(crate) fn count(self) -> u32
+        ensures { row_start self + result ≡ row_end self }
+    {
+        self.count
+    }
+
+    /// The word of the slot with an index in the table: a place, or 0 if it is empty. It is read at an offset that is
+    /// a `usize` all along, so that a loop over the index needs no second counter.
+    #[inline]
+    pub(crate) fn word(self, region: &Region, index: u32) -> u32
+        requires tiled { IsTiled region.now.bytes }
+        requires lent { LendsABody region.now }
+        requires row { IsRow region.now.bytes self }
+        requires below { row_start self + index < row_end self }
+        ensures { (slot : ℕ) → StandsBehind region.now.bytes slot (row_start self + index)
+            → result ≡ u32_at region.now.bytes slot }
+    {
+        region.get_u32(self.first as usize + SLOT_SIZE as usize * index as usize)
+    }
+
+    /// Whether their table is the last of the chain.
     #[inline]
     pub fn is_last(self) -> bool
         ensures { result ≡ (self.next == 0) }
@@ -119,10 +144,11 @@ impl Row {
         self.next == 0
     }
 
-    /// The slots of the table behind.
+    /// The slots of the next table.
     #[inline]
     pub fn behind(self, region: &Region) -> Row
         requires tiled { IsTiled region.now.bytes }
+        requires lent { LendsABody region.now }
         requires row { IsRow region.now.bytes self }
         requires more { self.next ≢ 0 }
         ensures { Behind region.now.bytes self result }
@@ -137,7 +163,7 @@ impl Row {
         }
     }
 
-    /// The slot before which so many stand in the list.
+    /// The offset of the slot with a number: that many slots come before it in the list.
     #[inline]
     pub fn slot(self, region: &Region, number: u32) -> u32
         requires tiled { IsTiled region.now.bytes }
@@ -149,7 +175,7 @@ impl Row {
         self.first + SLOT_SIZE * (number - self.before)
     }
 
-    /// How many slots stand in the list before the one at an offset, if it is one of these.
+    /// How many slots come before the one at an offset in the list, if it is one of these.
     #[inline]
     pub fn number(self, region: &Region, slot: u32) -> Option<u32>
         requires tiled { IsTiled region.now.bytes }
@@ -167,10 +193,11 @@ impl Row {
     }
 }
 
-/// How many slots stand in the list before the one at an offset, if one stands there. The tables are
-/// gone through up to the one that has it.
+/// How many slots come before the one at an offset in the list, if a slot is there. It goes through the tables up to
+/// the one that has the slot.
 pub(crate) fn find_number(region: &Region, slot: u32) -> Option<u32>
     requires tiled { IsTiled region.now.bytes }
+    requires lent { LendsABody region.now }
     ensures some { IfSome result (StandsBehind region.now.bytes slot) }
     ensures none { IfNone result (IsSlot region.now.bytes slot → ⊥) }
 {
@@ -213,7 +240,7 @@ impl OneTable {
         self.count as u32
     }
 
-    /// The slot before which so many stand, by its offset.
+    /// The offset of the slot with a number: that many slots come before it.
     #[inline]
     pub fn slot(self, number: u32) -> u32
         requires { number < count_of self }
@@ -222,7 +249,7 @@ impl OneTable {
         FRAME_SIZE + SLOT_SIZE * number
     }
 
-    /// How many slots stand before the one at an offset, if one stands there.
+    /// How many slots come before the one at an offset, if a slot is there.
     #[inline]
     pub fn number(self, slot: u32) -> Option<u32>
         ensures below { IfSome result (λ number. number < count_of self) }

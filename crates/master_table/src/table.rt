@@ -1,7 +1,10 @@
 //! What slots hold.
+#![tactic(auto, using(crate::proofs::LentLaws::frame_of, crate::proofs::LentLaws::table_of, laws_heap::proofs::LentBodies::table_within))]
 
-ghost use Rattle.std.specs.Prelude.{◌≡◌, ◌<◌, ◌≤◌, ◌↔◌, ℕ, List, length, max, MatchOption, IfSome, IfNone, None};
+ghost use Rattle.std.specs.Prelude.{◌≡◌, ◌<◌, ◌≤◌, ◌↔◌, ◌+◌, ℕ, List, length, max, MatchOption, IfSome, IfNone, None};
 ghost use Rattle.heap_model.specs.Bytes.{u32_at, u32_bytes, overwritten};
+ghost use Rattle.heap_model.specs.Memory.{IsWithin};
+ghost use Rattle.heap_model.specs.Lending.{LendsABody};
 ghost use Rattle.heap_model.specs.Slots.{IsSlot, HasTable, StandsBehind, slots_total as model_total};
 ghost use Rattle.heap_model.specs.Heap.{HeapAccepted};
 ghost use Rattle.heap_model.specs.Space.{free_slots};
@@ -18,7 +21,7 @@ use raw_region::Region;
 /// Each place in an image is below this.
 const ABOVE_PLACES: u32 = 0x0100_0000;
 
-/// An empty slot, how many slots stand before it, and its table.
+/// An empty slot, how many slots come before it, and its table.
 #[derive(Clone, Copy, Debug, PartialEq, Eq)]
 pub struct EmptySlot {
     pub name: Name,
@@ -36,31 +39,34 @@ pub fn word_of(region: &Region, slot: u32) -> u32
     region.get_u32(slot as usize)
 }
 
-/// How many slots stand before the one of a name. None where no slot stands there.
+/// How many slots come before the one of a name. None if the name is no slot.
 #[inline(always)]
 pub fn slots_before(region: &Region, name: Name) -> Option<u32>
-    requires { IsTiled region.now.bytes }
+    requires tiled { IsTiled region.now.bytes }
+    requires lent { LendsABody region.now }
     ensures some { IfSome result (StandsBehind region.now.bytes name.0) }
     ensures none { IfNone result (IsSlot region.now.bytes name.0 → ⊥) }
 {
     find_number(region, name.0)
 }
 
-/// At least so many slots stand before the one of a name, where one stands there: of a slot of the first table
-/// just these. The chain isn't gone through, and it isn't asked whether a slot stands there.
+/// A lower bound for how many slots come before the one of a name: for a slot of the first table, their number. It
+/// neither walks along the chain nor tests whether the name is a slot.
 #[inline(always)]
 pub fn least_number(region: &Region, name: Name) -> u32
-    requires { IsTiled region.now.bytes }
+    requires tiled { IsTiled region.now.bytes }
+    requires lent { LendsABody region.now }
     ensures { (number : ℕ) → StandsBehind region.now.bytes name.0 number → result ≤ number }
 {
     let number = name.0.saturating_sub(FRAME_SIZE) / SLOT_SIZE;
     number.min(slot_count(region) as u32)
 }
 
-/// The place that a slot holds. None where no slot stands there, or an empty one.
+/// The place that a slot holds. None if the name is no slot, or an empty one.
 #[inline(always)]
 pub fn resolve(region: &Region, name: Name) -> Option<Place>
-    requires { IsTiled region.now.bytes }
+    requires tiled { IsTiled region.now.bytes }
+    requires lent { LendsABody region.now }
     ensures { MatchOption result (HoldsNothing region.now.bytes name.0)
         (λ place. HoldsPlace region.now.bytes name.0 place.0) }
 {
@@ -75,6 +81,7 @@ pub fn resolve(region: &Region, name: Name) -> Option<Place>
 #[inline(always)]
 pub fn resolve_known(region: &Region, known: &KnownTables, name: Name) -> Option<Place>
     requires accepted { HeapAccepted region.now.bytes }
+    requires lent { LendsABody region.now }
     requires knows { KnowsTables region.now.bytes known.now }
     ensures { MatchOption result (HoldsNothing region.now.bytes name.0)
         (λ place. HoldsPlace region.now.bytes name.0 place.0) }
@@ -90,6 +97,7 @@ pub fn resolve_known(region: &Region, known: &KnownTables, name: Name) -> Option
 #[inline(never)]
 fn resolve_further(region: &Region, known: &KnownTables, name: Name) -> Option<Place>
     requires accepted { HeapAccepted region.now.bytes }
+    requires lent { LendsABody region.now }
     requires knows { KnowsTables region.now.bytes known.now }
     ensures { MatchOption result (HoldsNothing region.now.bytes name.0)
         (λ place. HoldsPlace region.now.bytes name.0 place.0) }
@@ -106,17 +114,23 @@ fn resolve_further(region: &Region, known: &KnownTables, name: Name) -> Option<P
     resolve(region, name)
 }
 
-/// Whether the word in front of an offset is greater than a place, as it is in front of a fixed chunk's body. In front of
-/// a slot stands the word of another, the directory word, or a word `next`.
+/// Whether the word before an offset is greater than a place, as it is before the body of a fixed chunk. The word before
+/// a slot is that of another slot, the directory word or a word `next`. A word that isn't within the region, or is lent,
+/// is not read.
 #[inline]
 fn follows_no_place(region: &Region, at: u32) -> bool
-    requires { HeapAccepted region.now.bytes }
+    requires accepted { HeapAccepted region.now.bytes }
+    requires lent { LendsABody region.now }
     ensures { OnTrue result (IsSlot region.now.bytes at → ⊥) }
 {
     if at < SLOT_SIZE || at as usize > region.len() {
         return false;
     }
-    region.get_u32((at - SLOT_SIZE) as usize) >= ABOVE_PLACES
+    let word = (at - SLOT_SIZE) as usize;
+    if !region.misses(word, SLOT_SIZE as usize) {
+        return false;
+    }
+    region.get_u32(word) >= ABOVE_PLACES
 }
 
 /// The place that a slot holds, if it isn't empty.
@@ -133,31 +147,32 @@ fn place_in(region: &Region, slot: Name) -> Option<Place>
     }
 }
 
-/// The slot of a row before which so many stand, if it is empty.
+/// The slot of a row with an index in its table, if it is empty.
 #[inline]
-fn empty_slot(region: &Region, row: Row, number: u32) -> Option<EmptySlot>
+fn empty_slot(region: &Region, row: Row, index: u32) -> Option<EmptySlot>
     requires tiled { IsTiled region.now.bytes }
+    requires lent { LendsABody region.now }
     requires row { IsRow region.now.bytes row }
-    requires from { row_start row ≤ number }
-    requires below { number < row_end row }
-    ensures some { IfSome result (IsEmptyAt region.now.bytes number) }
+    requires below { row_start row + index < row_end row }
+    ensures some { IfSome result (IsEmptyAt region.now.bytes (row_start row + index)) }
     ensures table { IfSome result (λ slot. IsStart region.now.bytes slot.table) }
-    ensures none { IfNone result (IsUsedAt region.now.bytes number) }
+    ensures none { IfNone result (IsUsedAt region.now.bytes (row_start row + index)) }
 {
-    let slot = row.slot(region, number);
-    if word_of(region, slot) != 0 {
+    if row.word(region, index) != 0 {
         return None;
     }
+    let number = row.start() + index;
     Some(EmptySlot {
-        name: Name(slot),
+        name: Name(row.slot(region, number)),
         before: number,
-        table: row.table(region),
+        table: row.table(),
     })
 }
 
-/// The first empty slot of a row, where all slots in front of one are in use.
+/// The first empty slot of a row from a number on. The slots before that one are in use.
 fn empty_in_row(region: &Region, row: Row, from: u32) -> Option<EmptySlot>
     requires tiled { IsTiled region.now.bytes }
+    requires lent { LendsABody region.now }
     requires row { IsRow region.now.bytes row }
     requires start { row_start row ≤ from }
     requires used { UsedBefore region.now.bytes from }
@@ -165,20 +180,21 @@ fn empty_in_row(region: &Region, row: Row, from: u32) -> Option<EmptySlot>
     ensures none { IfNone result (UsedBefore region.now.bytes (max from (row_end row))) }
     ensures table { IfSome result (λ slot. IsStart region.now.bytes slot.table) }
 {
-    let end = row.end(region);
-    for number in from..end {
-        if let Some(slot) = empty_slot(region, row, number) {
+    let first = from - row.start();
+    for index in first..row.count() {
+        if let Some(slot) = empty_slot(region, row, index) {
             return Some(slot);
         }
     }
     None
 }
 
-/// The first empty slot. The caller shows that the first `from` slots are in use, and so spares the
-/// search from going over these. It begins with the table `start`, unless more than `from` slots come before that
-/// table's own. None exactly where no slot is free.
+/// The first empty slot. The caller proves that the first `from` slots are in use, and the search passes over these. It
+/// begins with the table `start`, unless more than `from` slots come before that table's own. None exactly if no slot is
+/// free.
 pub fn first_empty_slot(region: &Region, start: TableStart, from: u32) -> Option<EmptySlot>
     requires tiled { IsTiled region.now.bytes }
+    requires lent { LendsABody region.now }
     requires start { IsStart region.now.bytes start }
     requires used { UsedBefore region.now.bytes from }
     ensures some { IfSome result (λ slot. IsFirstEmpty region.now.bytes slot.name.0 slot.before) }
@@ -197,9 +213,10 @@ pub fn first_empty_slot(region: &Region, start: TableStart, from: u32) -> Option
     empty_in_row(region, row, at)
 }
 
-/// The slots of a table that is known, or those of the first, if it stands behind so many slots.
+/// The slots of a table that is known, or those of the first table if more than `from` slots come before them.
 fn row_from(region: &Region, start: TableStart, from: u32) -> Row
     requires tiled { IsTiled region.now.bytes }
+    requires lent { LendsABody region.now }
     requires start { IsStart region.now.bytes start }
     ensures row { IsRow region.now.bytes result }
     ensures start { row_start result ≤ from }
@@ -214,19 +231,21 @@ fn row_from(region: &Region, start: TableStart, from: u32) -> Row
 
 /// How many slots there are.
 pub fn slots_total(region: &Region) -> u32
-    requires { IsTiled region.now.bytes }
+    requires tiled { IsTiled region.now.bytes }
+    requires lent { LendsABody region.now }
     ensures { result ≡ model_total region.now.bytes }
 {
     let mut row = Row::of(region);
     while !row.is_last() {
         row = row.behind(region);
     }
-    row.end(region)
+    row.end()
 }
 
 /// How many slots are empty.
 pub fn slots_free(region: &Region) -> u32
-    requires { IsTiled region.now.bytes }
+    requires tiled { IsTiled region.now.bytes }
+    requires lent { LendsABody region.now }
     ensures { result ≡ free_slots region.now.bytes }
 {
     let mut row = Row::of(region);
@@ -238,17 +257,17 @@ pub fn slots_free(region: &Region) -> u32
     count
 }
 
-/// How many slots are empty up to the last one of a row, where so many are in front of its first.
+/// How many slots are empty up to the last one of a row. `before` of them come before its first.
 fn count_empty(region: &Region, row: Row, before: u32) -> u32
     requires tiled { IsTiled region.now.bytes }
+    requires lent { LendsABody region.now }
     requires row { IsRow region.now.bytes row }
     requires before { before ≡ empty_before region.now.bytes (row_start row) }
     ensures { result ≡ empty_before region.now.bytes (row_end row) }
 {
     let mut count = before;
-    let end = row.end(region);
-    for number in row.start()..end {
-        if empty_slot(region, row, number).is_some() {
+    for index in 0..row.count() {
+        if empty_slot(region, row, index).is_some() {
             count += 1;
         }
     }
@@ -258,7 +277,7 @@ fn count_empty(region: &Region, row: Row, before: u32) -> u32
 /// Puts a place into a slot.
 #[inline(always)]
 pub fn set(region: &mut Region, slot: Name, place: Place)
-    requires table { HasTable region.old }
+    requires within { IsWithin region.old slot.0 4 }
     requires slot { IsSlot region.old.bytes slot.0 }
     ensures after { region.new ≡ record region.old
         { bytes = overwritten region.old.bytes slot.0 (u32_bytes place.0) } }
@@ -270,7 +289,7 @@ pub fn set(region: &mut Region, slot: Name, place: Place)
 /// Empties a slot.
 #[inline(always)]
 pub fn clear(region: &mut Region, slot: Name)
-    requires table { HasTable region.old }
+    requires within { IsWithin region.old slot.0 4 }
     requires slot { IsSlot region.old.bytes slot.0 }
     ensures after { region.new ≡ record region.old
         { bytes = overwritten region.old.bytes slot.0 (u32_bytes 0) } }

@@ -10,11 +10,12 @@ use Rattle.heap_model.specs.Meaning.{LiveChunk, NamedHere}
 use Rattle.heap_model.specs.Maps.{callers_map}
 use Rattle.heap_model.specs.Layout.{Alters, with_lock, with_owner, with_bytes}
 use Rattle.heap_model.specs.Refusals.{NoneHolds, FirstBrings}
-use Rattle.heap_model.specs.MemorySteps.{Does, IsNoCaller, ReachesBeyond, text_of, unknown, where_it}
+use Rattle.heap_model.specs.MemorySteps.{Does, IsNoCaller, ReachesBeyond, text_of, unknown, where_it, lent_out}
 use Rattle.heap_model.specs.declared.names.Name.{Name}
 use Rattle.heap_model.specs.declared.call.MemoryCall.TheVariants.{Lock, Unlock, Size, Owner, Locks, Read, Write, Set, StrCopy, SetOwner}
 use Rattle.heap_model.specs.declared.call.Reply.TheVariants.{Refused, Done, Number, Locked, Data}
-use Rattle.heap_model.specs.declared.refusal.Refusal.TheVariants.{OwnedByDatabase, ChunkNotLocked, LockOverflow, ChunkFixed, InvalidOwner, OutOfBounds}
+use Rattle.heap_model.specs.declared.refusal.Refusal.TheVariants.{OwnedByDatabase, ChunkNotLocked, LockOverflow, ChunkFixed, InvalidOwner, OutOfBounds, Lent}
+use Rattle.heap_model.specs.Lending.{IsLent}
 use Rattle.laws_heap.proofs.Frames.{slice-of_slice}
 use Rattle.laws_heap.proofs.FoundChunks.{finds_spelled, finds_body}
 use Rattle.laws_heap.proofs.Exchanges.{ChangesName}
@@ -24,6 +25,7 @@ use Rattle.laws_heap.proofs.OwnedChunks.{not_directory}
 use Rattle.heap_place.proofs.FoundLaws.{name_held}
 use Rattle.heap_place.specs.declared.found.Found.{Found}
 use Rattle.heap_place.specs.Found.{IsFound, CanGoTo}
+use Rattle.mem_manager.proofs.KeptLoans.{keeps_changed, keeps_others}
 use Rattle.mem_manager.proofs.StepWords.{OnlyBytes, known, of_known, not_of_known, is_known, unchanged, refused, altered}
 
 -- ---- the chunk that is there
@@ -96,13 +98,14 @@ locked old new name found count h f positive loose few is ch rest =
       );
       frame = a.leaves.frame;
       still = a.leaves.still;
+      loan = keeps_changed old new name.0 found (record f.live { lock = count }) h (ap (λ (m : Memory). m.lent) rest) f ch refl;
       asks = tt;
       rest = a.rest;
     }
 
-pub unlocked : (old new : Memory) (name : Name) (found : Found) (count : ℕ) → HeapAccepted old.bytes → (f : IsFound old.bytes name.0 found) → 1 ≤ found.owner → found.lock ≢ fixed_lock → found.lock ≢ 0 → count ≡ found.lock - 1
+pub unlocked : (old new : Memory) (name : Name) (found : Found) (count : ℕ) → HeapAccepted old.bytes → (f : IsFound old.bytes name.0 found) → 1 ≤ found.owner → found.lock ≢ fixed_lock → found.lock ≢ 0 → (IsLent old name.0 → ⊥) → count ≡ found.lock - 1
     → ChangesName old.bytes new.bytes name.0 (Some (record f.live { lock = count })) (Some found.place.0) → OnlyBytes old new → Does old (Unlock name) (Number count) new
-unlocked old new name found count h f positive loose some is ch rest =
+unlocked old new name found count h f positive loose some here is ch rest =
     let k = known old.bytes name.0 found h f positive in
     let l = f.lock_is in
     let count_is : count ≡ f.live.lock - 1 = omega arith in
@@ -110,43 +113,45 @@ unlocked old new name found count h f positive loose some is ch rest =
     record {
       before = h;
       step = (
-        (is_known k, (not_of_known (λ live. live.lock ≡ fixed_lock) k (λ e. loose (l ∙ e)), (not_of_known (λ live. live.lock ≡ 0) k (λ e. some (l ∙ e)), tt))),
+        (is_known k, (not_of_known (λ live. live.lock ≡ fixed_lock) k (λ e. loose (l ∙ e)), (not_of_known (λ live. live.lock ≡ 0) k (λ e. some (l ∙ e)), (not_of_known (λ live. IsLent old name.0) k here, tt)))),
         (of_known (λ live. count ≡ live.lock - 1) k count_is, a.leaves.map),
       );
       frame = a.leaves.frame;
       still = a.leaves.still;
+      loan = keeps_others old new name.0 _ _ (ap (λ (m : Memory). m.lent) rest) ch here;
       asks = tt;
       rest = a.rest;
     }
 
-may_write : (image : List ℕ) (name : Name) (found : Found) (at count : ℕ) → HeapAccepted image → (f : IsFound image name.0 found) → 1 ≤ found.owner → found.lock ≢ 0 → (found.length < at + count → ⊥)
-    → NoneHolds (unknown (callers_map image) name.0 ∷ where_it (callers_map image) name.0 (λ live. live.lock ≡ 0) ChunkNotLocked ∷ where_it (callers_map image) name.0 (ReachesBeyond at count) OutOfBounds ∷ [])
-may_write image name found at count h f positive some inside =
-    let k = known image name.0 found h f positive in
+may_write : (old : Memory) (name : Name) (found : Found) (at count : ℕ) → HeapAccepted old.bytes → (f : IsFound old.bytes name.0 found) → 1 ≤ found.owner → found.lock ≢ 0 → (IsLent old name.0 → ⊥) → (found.length < at + count → ⊥)
+    → NoneHolds (unknown (callers_map old.bytes) name.0 ∷ where_it (callers_map old.bytes) name.0 (λ live. live.lock ≡ 0) ChunkNotLocked ∷ lent_out old (callers_map old.bytes) name.0 ∷ where_it (callers_map old.bytes) name.0 (ReachesBeyond at count) OutOfBounds ∷ [])
+may_write old name found at count h f positive some here inside =
+    let k = known old.bytes name.0 found h f positive in
     let n = f.count in
-    (is_known k, (not_of_known (λ live. live.lock ≡ 0) k (λ e. some (f.lock_is ∙ e)), (not_of_known (ReachesBeyond at count) k (λ beyond. inside (omega arith)), tt)))
+    (is_known k, (not_of_known (λ live. live.lock ≡ 0) k (λ e. some (f.lock_is ∙ e)), (not_of_known (λ live. IsLent old name.0) k here, (not_of_known (ReachesBeyond at count) k (λ beyond. inside (omega arith)), tt))))
 
-pub wrote : (old new : Memory) (name : Name) (found : Found) (at : ℕ) (bytes : List ℕ) → HeapAccepted old.bytes → (f : IsFound old.bytes name.0 found) → 1 ≤ found.owner → found.lock ≢ 0 → (found.length < at + length bytes → ⊥)
+pub wrote : (old new : Memory) (name : Name) (found : Found) (at : ℕ) (bytes : List ℕ) → HeapAccepted old.bytes → (f : IsFound old.bytes name.0 found) → 1 ≤ found.owner → found.lock ≢ 0 → (IsLent old name.0 → ⊥) → (found.length < at + length bytes → ⊥)
     → ChangesName old.bytes new.bytes name.0 (Some (record f.live { bytes = overwritten f.live.bytes at bytes })) (Some found.place.0) → OnlyBytes old new → Does old (Write name at bytes) Done new
-wrote old new name found at bytes h f positive some inside ch rest =
+wrote old new name found at bytes h f positive some here inside ch rest =
     let a = altered old new name.0 found (λ live. record live { bytes = overwritten live.bytes at bytes }) h f ch rest in
-    record { before = h; step = (may_write old.bytes name found at (length bytes) h f positive some inside, (tt, a.leaves.map)); frame = a.leaves.frame; still = a.leaves.still; asks = tt; rest = a.rest }
+    record { before = h; step = (may_write old name found at (length bytes) h f positive some here inside, (tt, a.leaves.map)); frame = a.leaves.frame; still = a.leaves.still; loan = keeps_others old new name.0 _ _ (ap (λ (m : Memory). m.lent) rest) ch here; asks = tt; rest = a.rest }
 
-pub filled : (old new : Memory) (name : Name) (found : Found) (at count byte : ℕ) → HeapAccepted old.bytes → (f : IsFound old.bytes name.0 found) → 1 ≤ found.owner → found.lock ≢ 0 → (found.length < at + count → ⊥)
+pub filled : (old new : Memory) (name : Name) (found : Found) (at count byte : ℕ) → HeapAccepted old.bytes → (f : IsFound old.bytes name.0 found) → 1 ≤ found.owner → found.lock ≢ 0 → (IsLent old name.0 → ⊥) → (found.length < at + count → ⊥)
     → ChangesName old.bytes new.bytes name.0 (Some (record f.live { bytes = overwritten f.live.bytes at (replicate count byte) })) (Some found.place.0) → OnlyBytes old new → Does old (Set name at count byte) Done new
-filled old new name found at count byte h f positive some inside ch rest =
+filled old new name found at count byte h f positive some here inside ch rest =
     let a = altered old new name.0 found (λ live. record live { bytes = overwritten live.bytes at (replicate count byte) }) h f ch rest in
-    record { before = h; step = (may_write old.bytes name found at count h f positive some inside, (tt, a.leaves.map)); frame = a.leaves.frame; still = a.leaves.still; asks = tt; rest = a.rest }
+    record { before = h; step = (may_write old name found at count h f positive some here inside, (tt, a.leaves.map)); frame = a.leaves.frame; still = a.leaves.still; loan = keeps_others old new name.0 _ _ (ap (λ (m : Memory). m.lent) rest) ch here; asks = tt; rest = a.rest }
 
-pub text_copied : (old new : Memory) (name : Name) (found : Found) (at : ℕ) (text bytes : List ℕ) → HeapAccepted old.bytes → (f : IsFound old.bytes name.0 found) → 1 ≤ found.owner → found.lock ≢ 0 → bytes ≡ text_of text → (found.length < at + length bytes → ⊥)
+pub text_copied : (old new : Memory) (name : Name) (found : Found) (at : ℕ) (text bytes : List ℕ) → HeapAccepted old.bytes → (f : IsFound old.bytes name.0 found) → 1 ≤ found.owner → found.lock ≢ 0 → (IsLent old name.0 → ⊥) → bytes ≡ text_of text → (found.length < at + length bytes → ⊥)
     → ChangesName old.bytes new.bytes name.0 (Some (record f.live { bytes = overwritten f.live.bytes at bytes })) (Some found.place.0) → OnlyBytes old new → Does old (StrCopy name at text) Done new
-text_copied old new name found at text bytes h f positive some is inside ch rest =
+text_copied old new name found at text bytes h f positive some here is inside ch rest =
     let a = altered old new name.0 found (λ live. record live { bytes = overwritten live.bytes at (text_of text) }) h f (subst (λ (b : List ℕ). ChangesName old.bytes new.bytes name.0 (Some (record f.live { bytes = overwritten f.live.bytes at b })) (Some found.place.0)) is ch) rest in
     record {
       before = h;
-      step = (may_write old.bytes name found at (length (text_of text)) h f positive some (subst (λ (b : List ℕ). found.length < at + length b → ⊥) is inside), (tt, a.leaves.map));
+      step = (may_write old name found at (length (text_of text)) h f positive some here (subst (λ (b : List ℕ). found.length < at + length b → ⊥) is inside), (tt, a.leaves.map));
       frame = a.leaves.frame;
       still = a.leaves.still;
+      loan = keeps_others old new name.0 _ _ (ap (λ (m : Memory). m.lent) rest) ch here;
       asks = tt;
       rest = a.rest;
     }
@@ -161,6 +166,7 @@ reowned_done old new name found owner h f positive other caller ch rest =
       step = ((is_known k, (not_of_known (λ live. live.owner ≡ 15) k (λ e. other (f.owner_is ∙ e)), (caller, tt))), (tt, a.leaves.map));
       frame = a.leaves.frame;
       still = a.leaves.still;
+      loan = keeps_changed old new name.0 found (record f.live { owner = owner }) h (ap (λ (m : Memory). m.lent) rest) f ch refl;
       asks = tt;
       rest = a.rest;
     }
@@ -183,23 +189,40 @@ unlock_none region name found h f positive is =
     let l = f.lock_is in
     refused region (Unlock name) ChunkNotLocked h (let k = known region.bytes name.0 found h f positive in inr (is_known k, inr (not_of_known (λ live. live.lock ≡ fixed_lock) k (λ e. let g : f.live.lock ≡ fixed_lock = e in omega arith), inl (of_known (λ live. live.lock ≡ 0) k (sym l ∙ is), refl))))
 
-pub read_beyond : (region : Memory) (name : Name) (at count : ℕ) (found : Found) → HeapAccepted region.bytes → IsFound region.bytes name.0 found → 1 ≤ found.owner → found.length < at + count → Does region (Read name at count) (Refused OutOfBounds) region
-read_beyond region name at count found h f positive beyond =
+pub read_lent : (region : Memory) (name : Name) (at count : ℕ) (found : Found) → HeapAccepted region.bytes → IsFound region.bytes name.0 found → 1 ≤ found.owner → IsLent region name.0 → Does region (Read name at count) (Refused Lent) region
+read_lent region name at count found h f positive lent =
+    let k = known region.bytes name.0 found h f positive in
+    refused region (Read name at count) Lent h (inr (is_known k, inl (of_known (λ live. IsLent region name.0) k lent, refl)))
+
+pub read_beyond : (region : Memory) (name : Name) (at count : ℕ) (found : Found) → HeapAccepted region.bytes → IsFound region.bytes name.0 found → 1 ≤ found.owner → (IsLent region name.0 → ⊥) → found.length < at + count → Does region (Read name at count) (Refused OutOfBounds) region
+read_beyond region name at count found h f positive here beyond =
     let k = known region.bytes name.0 found h f positive in
     let n = f.count in
-    refused region (Read name at count) OutOfBounds h (inr (is_known k, inl (of_known (ReachesBeyond at count) k (omega arith), refl)))
+    refused region (Read name at count) OutOfBounds h (inr (is_known k, inr (not_of_known (λ live. IsLent region name.0) k here, inl (of_known (ReachesBeyond at count) k (omega arith), refl))))
 
-pub unlocked_write : (image : List ℕ) (name : Name) (found : Found) (at count : ℕ) → HeapAccepted image → IsFound image name.0 found → 1 ≤ found.owner → found.lock ≡ 0
-    → FirstBrings (unknown (callers_map image) name.0 ∷ where_it (callers_map image) name.0 (λ live. live.lock ≡ 0) ChunkNotLocked ∷ where_it (callers_map image) name.0 (ReachesBeyond at count) OutOfBounds ∷ []) ChunkNotLocked
-unlocked_write image name found at count h f positive is =
-    let k = known image name.0 found h f positive in inr (is_known k, inl (of_known (λ live. live.lock ≡ 0) k (sym f.lock_is ∙ is), refl))
+pub unlock_lent : (region : Memory) (name : Name) (found : Found) → HeapAccepted region.bytes → IsFound region.bytes name.0 found → 1 ≤ found.owner → found.lock ≢ fixed_lock → found.lock ≢ 0 → IsLent region name.0 → Does region (Unlock name) (Refused Lent) region
+unlock_lent region name found h f positive loose some is =
+    let l = f.lock_is in
+    let k = known region.bytes name.0 found h f positive in
+    refused region (Unlock name) Lent h (inr (is_known k, inr (not_of_known (λ live. live.lock ≡ fixed_lock) k (λ e. loose (l ∙ e)), inr (not_of_known (λ live. live.lock ≡ 0) k (λ e. some (l ∙ e)), inl (of_known (λ live. IsLent region name.0) k is, refl)))))
 
-pub write_beyond : (image : List ℕ) (name : Name) (found : Found) (at count : ℕ) → HeapAccepted image → IsFound image name.0 found → 1 ≤ found.owner → found.lock ≢ 0 → found.length < at + count
-    → FirstBrings (unknown (callers_map image) name.0 ∷ where_it (callers_map image) name.0 (λ live. live.lock ≡ 0) ChunkNotLocked ∷ where_it (callers_map image) name.0 (ReachesBeyond at count) OutOfBounds ∷ []) OutOfBounds
-write_beyond image name found at count h f positive some beyond =
-    let k = known image name.0 found h f positive in
+pub unlocked_write : (old : Memory) (name : Name) (found : Found) (at count : ℕ) → HeapAccepted old.bytes → IsFound old.bytes name.0 found → 1 ≤ found.owner → found.lock ≡ 0
+    → FirstBrings (unknown (callers_map old.bytes) name.0 ∷ where_it (callers_map old.bytes) name.0 (λ live. live.lock ≡ 0) ChunkNotLocked ∷ lent_out old (callers_map old.bytes) name.0 ∷ where_it (callers_map old.bytes) name.0 (ReachesBeyond at count) OutOfBounds ∷ []) ChunkNotLocked
+unlocked_write old name found at count h f positive is =
+    let k = known old.bytes name.0 found h f positive in inr (is_known k, inl (of_known (λ live. live.lock ≡ 0) k (sym f.lock_is ∙ is), refl))
+
+pub write_lent : (old : Memory) (name : Name) (found : Found) (at count : ℕ) → HeapAccepted old.bytes → IsFound old.bytes name.0 found → 1 ≤ found.owner → found.lock ≢ 0 → IsLent old name.0
+    → FirstBrings (unknown (callers_map old.bytes) name.0 ∷ where_it (callers_map old.bytes) name.0 (λ live. live.lock ≡ 0) ChunkNotLocked ∷ lent_out old (callers_map old.bytes) name.0 ∷ where_it (callers_map old.bytes) name.0 (ReachesBeyond at count) OutOfBounds ∷ []) Lent
+write_lent old name found at count h f positive some lent =
+    let k = known old.bytes name.0 found h f positive in
+    inr (is_known k, inr (not_of_known (λ live. live.lock ≡ 0) k (λ e. some (f.lock_is ∙ e)), inl (of_known (λ live. IsLent old name.0) k lent, refl)))
+
+pub write_beyond : (old : Memory) (name : Name) (found : Found) (at count : ℕ) → HeapAccepted old.bytes → IsFound old.bytes name.0 found → 1 ≤ found.owner → found.lock ≢ 0 → (IsLent old name.0 → ⊥) → found.length < at + count
+    → FirstBrings (unknown (callers_map old.bytes) name.0 ∷ where_it (callers_map old.bytes) name.0 (λ live. live.lock ≡ 0) ChunkNotLocked ∷ lent_out old (callers_map old.bytes) name.0 ∷ where_it (callers_map old.bytes) name.0 (ReachesBeyond at count) OutOfBounds ∷ []) OutOfBounds
+write_beyond old name found at count h f positive some here beyond =
+    let k = known old.bytes name.0 found h f positive in
     let n = f.count in
-    inr (is_known k, inr (not_of_known (λ live. live.lock ≡ 0) k (λ e. some (f.lock_is ∙ e)), inl (of_known (ReachesBeyond at count) k (omega arith), refl)))
+    inr (is_known k, inr (not_of_known (λ live. live.lock ≡ 0) k (λ e. some (f.lock_is ∙ e)), inr (not_of_known (λ live. IsLent old name.0) k here, inl (of_known (ReachesBeyond at count) k (omega arith), refl))))
 
 pub set_owner_database : (region : Memory) (name : Name) (owner : ℕ) (found : Found) → HeapAccepted region.bytes → IsFound region.bytes name.0 found → found.owner ≡ 15 → Does region (SetOwner name owner) (Refused OwnedByDatabase) region
 set_owner_database region name owner found h f is = refused region (SetOwner name owner) OwnedByDatabase h (let k = known region.bytes name.0 found h f (omega arith) in inr (is_known k, inl (of_known (λ live. live.owner ≡ 15) k (sym f.owner_is ∙ is), refl)))
@@ -226,15 +249,15 @@ locks_known region name found h f positive =
     let k = known region.bytes name.0 found h f positive in
     unchanged region (Locks name) (Number found.lock) h ((is_known k, tt), (of_known (λ live. found.lock ≡ live.lock) k f.lock_is, λ n. refl))
 
-pub read_known : (region : Memory) (name : Name) (at count : ℕ) (found : Found) (bytes : List ℕ) → HeapAccepted region.bytes → IsFound region.bytes name.0 found → 1 ≤ found.owner → (found.length < at + count → ⊥)
+pub read_known : (region : Memory) (name : Name) (at count : ℕ) (found : Found) (bytes : List ℕ) → HeapAccepted region.bytes → IsFound region.bytes name.0 found → 1 ≤ found.owner → (IsLent region name.0 → ⊥) → (found.length < at + count → ⊥)
     → bytes ≡ slice_range region.bytes (found.place.0 + at) (found.place.0 + at + count) → Does region (Read name at count) (Data bytes) region
-read_known region name at count found bytes h f positive inside is =
+read_known region name at count found bytes h f positive here inside is =
     let k = known region.bytes name.0 found h f positive in
     let b = body_there region.bytes name.0 found h f in
     let n = f.count in
     let fits : at + count ≤ found.length = omega arith in
     unchanged region (Read name at count) (Data bytes) h (
-      (is_known k, (not_of_known (ReachesBeyond at count) k (λ beyond. inside (omega arith)), (tt, tt))),
+      (is_known k, (not_of_known (λ live. IsLent region name.0) k here, (not_of_known (ReachesBeyond at count) k (λ beyond. inside (omega arith)), (tt, tt)))),
       (
         of_known (λ live. bytes ≡ slice_range live.bytes at (at + count)) k (is ∙ sym (slice-of_slice region.bytes found.place.0 found.length at count fits) ∙ ap (λ (x : List ℕ). slice_range x at (at + count)) b.1),
         λ q. refl,

@@ -11,7 +11,7 @@ use Rattle.heap_model.specs.Heap.{HeapAccepted}
 use Rattle.heap_model.specs.Meaning.{LiveChunk}
 use Rattle.heap_model.specs.Reading.{held}
 use Rattle.heap_model.specs.Maps.{changed}
-use Rattle.heap_model.specs.Space.{ShortFor, FitsInPlace, MovesNothing, free_behind, free_front}
+use Rattle.heap_model.specs.Space.{place_of, ShortFor, FitsInPlace, MovesNothing, free_behind, free_front}
 use Rattle.heap_model.specs.Resizing.{GrowsInPlace}
 use Rattle.heap_model.specs.Refusals.{Check, NoneHolds, FirstBrings, ◌brings◌}
 use Rattle.heap_model.specs.MemorySteps.{Does, Of, IsLocked, reply_of, growth_checks}
@@ -19,7 +19,8 @@ use Rattle.heap_model.specs.declared.names.Name.{Name}
 use Rattle.heap_model.specs.declared.call.MemoryCall.TheVariants.{Resize}
 use Rattle.heap_model.specs.declared.call.Reply.TheVariants.{Refused, Done}
 use Rattle.heap_model.specs.declared.refusal.Refusal.{Refusal}
-use Rattle.heap_model.specs.declared.refusal.Refusal.TheVariants.{OwnedByDatabase, ChunkFixed, ChunkLocked, NotEnoughSpace}
+use Rattle.heap_model.specs.declared.refusal.Refusal.TheVariants.{OwnedByDatabase, ChunkFixed, ChunkLocked, NotEnoughSpace, Lent}
+use Rattle.heap_model.specs.Lending.{IsLent, LendsABody, KeepsLoan}
 use Rattle.laws_heap.proofs.Tests.{cond-true, cond-false}
 use Rattle.laws_heap.proofs.Slots.{slot_alike}
 use Rattle.laws_heap.proofs.SameLayouts.{frame_slots}
@@ -36,6 +37,9 @@ use Rattle.master_table.proofs.TableLaws.{used_still}
 use Rattle.master_table.proofs.RowLaws.{starts_still}
 use Rattle.master_table.specs.declared.slots.TableStart.{TableStart}
 use Rattle.mem_manager.specs.Lookup.{IsManaged}
+use Rattle.mem_manager.specs.Loans.{KnowsLent}
+use Rattle.mem_manager.proofs.KnownLoans.{knows_where}
+use Rattle.mem_manager.proofs.KeptLoans.{keeps_still}
 use Rattle.mem_manager.proofs.StepWords.{known, of_known, not_of_known, is_known, refused, altered, stays_in_place, OnlyBytes}
 use Rattle.mem_manager.proofs.ChunkCalls.{lock_small}
 use Rattle.mem_manager.proofs.SlidChunks.{BytesAndSlid}
@@ -86,28 +90,28 @@ abbrev TooLarge : List ℕ → ℕ → ℕ → LiveChunk → Type 0
 TooLarge image name size live = (live.lock ≡ 0) × (need (length live.bytes) < need size) × ShortFor image name (need size)
 
 -- by what a map has under the name
-abbrev checks_of : List ℕ → ℕ → ℕ → Option LiveChunk → List Check
-checks_of image name size one = (Of one (TooLargeWhereLocked image name size) brings ChunkLocked) ∷ (Of one (TooLarge image name size) brings NotEnoughSpace) ∷ []
+abbrev checks_of : Memory → ℕ → ℕ → Option LiveChunk → List Check
+checks_of old name size one = (Of one (λ live. IsLent old name) brings Lent) ∷ (Of one (TooLargeWhereLocked old.bytes name size) brings ChunkLocked) ∷ (Of one (TooLarge old.bytes name size) brings NotEnoughSpace) ∷ []
 
-pub growth_locked : (image : List ℕ) (found : Found) (size : ℕ) (told : Bool) → HeapAccepted image → IsOne image found → found.lock ≢ 15 → 0 < found.lock → TellsWhetherInPlace image found (need size) told → told ≡ false → FirstBrings (growth_checks image (held image) found.name.0 size) ChunkLocked
-growth_locked image found size told h f loose some tells told_false =
+pub growth_locked : (old : Memory) (found : Found) (size : ℕ) (told : Bool) → HeapAccepted old.bytes → IsOne old.bytes found → (IsLent old found.name.0 → ⊥) → found.lock ≢ 15 → 0 < found.lock → TellsWhetherInPlace old.bytes found (need size) told → told ≡ false → FirstBrings (growth_checks old (held old.bytes) found.name.0 size) ChunkLocked
+growth_locked old found size told h f here loose some tells told_false =
     let lock = f.lock_is in
-    let most = lock_small image found.name.0 found h f in
+    let most = lock_small old.bytes found.name.0 found h f in
     let locked : IsLocked f.live = (omega arith, omega arith) in
-    inl (of_known (TooLargeWhereLocked image found.name.0 size) (one_held image found h f) (locked, too_large image found.name.0 found (need size) told h f loose tells told_false), refl)
+    inr (not_of_known (λ live. IsLent old found.name.0) (one_held old.bytes found h f) here, inl (of_known (TooLargeWhereLocked old.bytes found.name.0 size) (one_held old.bytes found h f) (locked, too_large old.bytes found.name.0 found (need size) told h f loose tells told_false), refl))
 
-pub growth_short : (image : List ℕ) (found : Found) (size : ℕ) (told : Bool) → HeapAccepted image → IsOne image found → found.lock ≢ 15 → found.lock ≡ 0 → TellsWhetherInPlace image found (need size) told → told ≡ false → ShortFor image found.name.0 (need size)
-    → FirstBrings (growth_checks image (held image) found.name.0 size) NotEnoughSpace
-growth_short image found size told h f loose unlocked tells told_false short =
-    let k = one_held image found h f in
+pub growth_short : (old : Memory) (found : Found) (size : ℕ) (told : Bool) → HeapAccepted old.bytes → IsOne old.bytes found → (IsLent old found.name.0 → ⊥) → found.lock ≢ 15 → found.lock ≡ 0 → TellsWhetherInPlace old.bytes found (need size) told → told ≡ false → ShortFor old.bytes found.name.0 (need size)
+    → FirstBrings (growth_checks old (held old.bytes) found.name.0 size) NotEnoughSpace
+growth_short old found size told h f here loose unlocked tells told_false short =
+    let k = one_held old.bytes found h f in
     let lock = f.lock_is in
-    let large = too_large image found.name.0 found (need size) told h f loose tells told_false in
-    inr (not_of_known (TooLargeWhereLocked image found.name.0 size) k (λ t. let some = t.0.0 in omega arith), inl (of_known (TooLarge image found.name.0 size) k (sym f.lock_is ∙ unlocked, omega arith, short), refl))
+    let large = too_large old.bytes found.name.0 found (need size) told h f loose tells told_false in
+    inr (not_of_known (λ live. IsLent old found.name.0) k here, inr (not_of_known (TooLargeWhereLocked old.bytes found.name.0 size) k (λ t. let some = t.0.0 in omega arith), inl (of_known (TooLarge old.bytes found.name.0 size) k (sym f.lock_is ∙ unlocked, omega arith, short), refl)))
 
-growth_passes : (image : List ℕ) (found : Found) (size : ℕ) → HeapAccepted image → (f : IsOne image found) → (TooLargeWhereLocked image found.name.0 size f.live → ⊥) → (ShortFor image found.name.0 (need size) → ⊥) → NoneHolds (growth_checks image (held image) found.name.0 size)
-growth_passes image found size h f reaches room =
-    let k = one_held image found h f in
-    (not_of_known (TooLargeWhereLocked image found.name.0 size) k reaches, (not_of_known (TooLarge image found.name.0 size) k (λ t. room t.2), tt))
+growth_passes : (old : Memory) (found : Found) (size : ℕ) → HeapAccepted old.bytes → (f : IsOne old.bytes found) → (IsLent old found.name.0 → ⊥) → (TooLargeWhereLocked old.bytes found.name.0 size f.live → ⊥) → (ShortFor old.bytes found.name.0 (need size) → ⊥) → NoneHolds (growth_checks old (held old.bytes) found.name.0 size)
+growth_passes old found size h f here reaches room =
+    let k = one_held old.bytes found h f in
+    (not_of_known (λ live. IsLent old found.name.0) k here, (not_of_known (TooLargeWhereLocked old.bytes found.name.0 size) k reaches, (not_of_known (TooLarge old.bytes found.name.0 size) k (λ t. room t.2), tt)))
 
 -- ---- where it stands
 
@@ -122,11 +126,11 @@ not_short image name found size h f loose some =
     when_movable image name found f (λ c g. size ≤ size_of c + free_front g.after → ShortFor image name size → ⊥) loose
     (λ bytes lock owner slot g. fits_not_short_for image name (found.place.0 - 8) size f.live bytes lock owner slot h g some)
 
-pub grown_passes : (image : List ℕ) (found : Found) (size : ℕ) (told : Bool) → HeapAccepted image → IsOne image found → found.lock ≢ 15 → TellsWhetherInPlace image found (need size) told → told ≡ true → NoneHolds (growth_checks image (held image) found.name.0 size)
-grown_passes image found size told h f loose tells told_true =
-    let fits = fits_there image found.name.0 found (need size) told h f loose tells told_true in
-    let enough = (tells_found image found.name.0 found (need size) told f tells).0 (subst (λ (b : Bool). IsTrue b) (sym told_true) refl) in
-    growth_passes image found size h f (λ t. let low = t.1 in omega arith) (not_short image found.name.0 found (need size) h f loose (omega arith) enough)
+pub grown_passes : (old : Memory) (found : Found) (size : ℕ) (told : Bool) → HeapAccepted old.bytes → IsOne old.bytes found → (IsLent old found.name.0 → ⊥) → found.lock ≢ 15 → TellsWhetherInPlace old.bytes found (need size) told → told ≡ true → NoneHolds (growth_checks old (held old.bytes) found.name.0 size)
+grown_passes old found size told h f here loose tells told_true =
+    let fits = fits_there old.bytes found.name.0 found (need size) told h f loose tells told_true in
+    let enough = (tells_found old.bytes found.name.0 found (need size) told f tells).0 (subst (λ (b : Bool). IsTrue b) (sym told_true) refl) in
+    growth_passes old found size h f here (λ t. let low = t.1 in omega arith) (not_short old.bytes found.name.0 found (need size) h f loose (omega arith) enough)
 
 pub grown_leaves : (old new : Memory) (found : Found) (size : ℕ) (told : Bool) → HeapAccepted old.bytes → IsOne old.bytes found → TellsWhetherInPlace old.bytes found (need size) told → told ≡ true → OnTrue told (GrowsInPlace old.bytes new.bytes (found.place.0 - 8) size) → OnlyBytes old new
     → Resized old.bytes new.bytes found.name.0 size
@@ -138,16 +142,16 @@ grown_moves_nothing old new name found size told h f tells told_true grows = sta
 
 -- ---- elsewhere, or once others have made way
 
-pub moved_passes : (image : List ℕ) (found : Found) (size : ℕ) → HeapAccepted image → IsOne image found → found.lock ≡ 0 → (ShortFor image found.name.0 (need size) → ⊥) → NoneHolds (growth_checks image (held image) found.name.0 size)
-moved_passes image found size h f unlocked room = let lock = f.lock_is in growth_passes image found size h f (λ t. let some = t.0.0 in omega arith) room
+pub moved_passes : (old : Memory) (found : Found) (size : ℕ) → HeapAccepted old.bytes → IsOne old.bytes found → (IsLent old found.name.0 → ⊥) → found.lock ≡ 0 → (ShortFor old.bytes found.name.0 (need size) → ⊥) → NoneHolds (growth_checks old (held old.bytes) found.name.0 size)
+moved_passes old found size h f here unlocked room = let lock = f.lock_is in growth_passes old found size h f here (λ t. let some = t.0.0 in omega arith) room
 
 -- ---- the step
 
 abbrev pub PassesAll : Memory → ℕ → ℕ → Type 0
-PassesAll old name size = NoneHolds (growth_checks old.bytes (held old.bytes) name size)
+PassesAll old name size = NoneHolds (growth_checks old (held old.bytes) name size)
 
 abbrev pub BringsOne : Memory → ℕ → ℕ → Refusal → Type 0
-BringsOne old name size refusal = FirstBrings (growth_checks old.bytes (held old.bytes) name size) refusal
+BringsOne old name size refusal = FirstBrings (growth_checks old (held old.bytes) name size) refusal
 
 pub resize_database : (region : Memory) (name : Name) (size : ℕ) (found : Found) → HeapAccepted region.bytes → IsFound region.bytes name.0 found → found.owner ≡ 15 → Does region (Resize name size) (Refused OwnedByDatabase) region
 resize_database region name size found h f is = refused region (Resize name size) OwnedByDatabase h (let k = known region.bytes name.0 found h f (omega arith) in inr (is_known k, inl (of_known (λ live. live.owner ≡ 15) k (sym f.owner_is ∙ is), refl)))
@@ -163,10 +167,25 @@ resize_refused region name size found refusal h f positive other loose brought =
     let k = known region.bytes name.0 found h f positive in
     let same = name_held region.bytes name.0 found h f ∙ sym k in
     refused region (Resize name size) refusal h
-    (inr (is_known k, inr (not_of_known (λ live. live.owner ≡ 15) k (λ e. other (f.owner_is ∙ e)), inr (not_of_known (λ live. live.lock ≡ fixed_lock) k (λ e. loose (f.lock_is ∙ e)), subst (λ (x : Option LiveChunk). FirstBrings (checks_of region.bytes name.0 size x) refusal) same brought))))
+    (inr (is_known k, inr (not_of_known (λ live. live.owner ≡ 15) k (λ e. other (f.owner_is ∙ e)), inr (not_of_known (λ live. live.lock ≡ fixed_lock) k (λ e. loose (f.lock_is ∙ e)), subst (λ (x : Option LiveChunk). FirstBrings (checks_of region name.0 size x) refusal) same brought))))
 
-resize_done : (old new : Memory) (name : Name) (size : ℕ) (found : Found) → HeapAccepted old.bytes → IsFound old.bytes name.0 found → 1 ≤ found.owner → found.owner ≢ 15 → found.lock ≢ 15 → PassesAll old name.0 size → Resized old.bytes new.bytes name.0 size → BytesAndSlid old new → Does old (Resize name size) Done new
-resize_done old new name size found h f positive other loose passes r rest =
+-- what is lent stays so
+each_still : (old new : List ℕ) (name size : ℕ) → Resized old new name size → (other : ℕ) (live : LiveChunk) → other ≢ name → held old other ≡ Some live → held new other ≡ Some live
+each_still old new name size r other live apart was = r.map other ∙ cond-false (other == name) _ _ (grind (arith, nat_tests)) ∙ was
+
+pub keeps_resized : (old new : Memory) (name size : ℕ) → HeapAccepted old.bytes → LendsABody old → new.lent ≡ old.lent → Resized old.bytes new.bytes name size → (IsLent old name → ⊥) → KeepsLoan old new
+keeps_resized old new name size h lends same r here = keeps_still old new h lends same r.still (λ n live is e. elim (cases_eq n name) [
+  | inl this ↦ absurd (here (subst (λ (m : ℕ). IsLent old m) this is))
+  | inr apart ↦ each_still old.bytes new.bytes name size r n live apart e
+])
+
+-- by what is answered
+pub keeps_replied : {A : Type 0} (old new : Memory) (name size : ℕ) (result : Result A Refusal) → HeapAccepted old.bytes → LendsABody old → new.lent ≡ old.lent → OnOk result (Resized old.bytes new.bytes name size) → OnErr result (new ≡ old) → (IsLent old name → ⊥) → KeepsLoan old new
+keeps_replied old new name size (Ok answer) h lends same done kept here = keeps_resized old new name size h lends same done here
+keeps_replied old new name size (Err refusal) h lends same done kept here = subst (λ (m : Memory). KeepsLoan old m) (sym kept) (λ name count is. is)
+
+resize_done : (old new : Memory) (name : Name) (size : ℕ) (found : Found) → HeapAccepted old.bytes → LendsABody old → IsFound old.bytes name.0 found → 1 ≤ found.owner → found.owner ≢ 15 → found.lock ≢ 15 → PassesAll old name.0 size → Resized old.bytes new.bytes name.0 size → BytesAndSlid old new → Does old (Resize name size) Done new
+resize_done old new name size found h lends f positive other loose passes r rest =
     let k = known old.bytes name.0 found h f positive in
     let same = name_held old.bytes name.0 found h f ∙ sym k in
     record {
@@ -176,23 +195,24 @@ resize_done old new name size found h f positive other loose passes r rest =
           is_known k,
           (
             not_of_known (λ live. live.owner ≡ 15) k (λ e. other (f.owner_is ∙ e)),
-            (not_of_known (λ live. live.lock ≡ fixed_lock) k (λ e. loose (f.lock_is ∙ e)), subst (λ (x : Option LiveChunk). NoneHolds (checks_of old.bytes name.0 size x)) same passes),
+            (not_of_known (λ live. live.lock ≡ fixed_lock) k (λ e. loose (f.lock_is ∙ e)), subst (λ (x : Option LiveChunk). NoneHolds (checks_of old name.0 size x)) same passes),
           ),
         ),
         (tt, r.map),
       );
       frame = r.frame;
       still = r.still;
+      loan = keeps_resized old new name.0 size h lends (ap (λ (m : Memory). m.lent) rest) r (λ is. passes.0 (of_known (λ live. IsLent old name.0) (name_held old.bytes name.0 found h f) is));
       asks = tt;
       rest = rest;
     }
 
 -- by what is answered
-pub resize_replied : {A : Type 0} (old new : Memory) (name : Name) (size : ℕ) (found : Found) (result : Result A Refusal) → HeapAccepted old.bytes → IsFound old.bytes name.0 found → 1 ≤ found.owner → found.owner ≢ 15 → found.lock ≢ 15 → OnOk result (Resized old.bytes new.bytes found.name.0 size)
+pub resize_replied : {A : Type 0} (old new : Memory) (name : Name) (size : ℕ) (found : Found) (result : Result A Refusal) → HeapAccepted old.bytes → LendsABody old → IsFound old.bytes name.0 found → 1 ≤ found.owner → found.owner ≢ 15 → found.lock ≢ 15 → OnOk result (Resized old.bytes new.bytes found.name.0 size)
     → OnOk result (PassesAll old found.name.0 size) → OnErr result (new ≡ old) → IfErr result (BringsOne old found.name.0 size) → BytesAndSlid old new → Does old (Resize name size) (reply_of (λ answer. Done) result) new
-resize_replied old new name size found (Ok answer) h f positive other loose done could refused why rest =
-    resize_done old new name size found h f positive other loose (subst (λ (n : ℕ). PassesAll old n size) f.name_is could) (subst (λ (n : ℕ). Resized old.bytes new.bytes n size) f.name_is done) rest
-resize_replied old new name size found (Err refusal) h f positive other loose done could same why rest =
+resize_replied old new name size found (Ok answer) h lends f positive other loose done could refused why rest =
+    resize_done old new name size found h lends f positive other loose (subst (λ (n : ℕ). PassesAll old n size) f.name_is could) (subst (λ (n : ℕ). Resized old.bytes new.bytes n size) f.name_is done) rest
+resize_replied old new name size found (Err refusal) h lends f positive other loose done could same why rest =
     subst (λ (m : Memory). Does old (Resize name size) (Refused refusal) m) (sym same) (resize_refused old name size found refusal h f positive other loose (subst (λ (n : ℕ). BringsOne old n size refusal) f.name_is why))
 
 -- the same slots are in use
@@ -231,3 +251,18 @@ used_resized {start} {freed} old new used name size m r = record {
 pub used_replied : {A : Type 0} {start : TableStart} {freed : ℕ} {names : List ℕ} (old new : Memory) (used name size : ℕ) (result : Result A Refusal) → IsManaged old.bytes used start freed names → OnOk result (Resized old.bytes new.bytes name size) → OnErr result (new ≡ old) → IsManaged new.bytes used start freed names
 used_replied {A} {start} {freed} {names} old new used name size (Ok answer) m done same = used_resized old.bytes new.bytes used name size m done
 used_replied {A} {start} {freed} {names} old new used name size (Err refusal) m done same = subst (λ (r : Memory). IsManaged r.bytes used start freed names) (sym same) m
+
+pub knows_resized : (old new : Memory) (lent : Option Name) (name size : ℕ) → KnowsLent old old.lent lent → new.lent ≡ old.lent → Resized old.bytes new.bytes name size → ((n : Name) → lent ≡ Some n → n.0 ≡ name → ⊥) → KnowsLent new new.lent lent
+knows_resized old new lent name size k same r apart = knows_where old new lent k same (λ n e. still n (apart n e)) where
+  still : (n : Name) → (n.0 ≡ name → ⊥) → (live : LiveChunk) → held old.bytes n.0 ≡ Some live → 0 < live.lock → (held new.bytes n.0 ≡ Some live) × (place_of new.bytes n.0 ≡ place_of old.bytes n.0)
+  still n other live was locked = let now = each_still old.bytes new.bytes name size r n.0 live other was in (now, r.still n.0 live was locked (subst IsSome (sym now) refl))
+
+pub knows_replied : {A : Type 0} (old new : Memory) (lent : Option Name) (name size : ℕ) (result : Result A Refusal) → KnowsLent old old.lent lent → new.lent ≡ old.lent → OnOk result (Resized old.bytes new.bytes name size) → OnErr result (new ≡ old) → ((n : Name) → lent ≡ Some n → n.0 ≡ name → ⊥) → KnowsLent new new.lent lent
+knows_replied old new lent name size (Ok answer) k same done kept apart = knows_resized old new lent name size k same done apart
+knows_replied old new lent name size (Err refusal) k same done kept apart = subst (λ (m : Memory). KnowsLent m m.lent lent) (sym kept) k
+
+pub growth_lent : (old : Memory) (name : ℕ) (found : Found) (size : ℕ) → HeapAccepted old.bytes → IsFound old.bytes name found → IsLent old name → FirstBrings (growth_checks old (held old.bytes) name size) Lent
+growth_lent old name found size h f is = inl (of_known (λ live. IsLent old name) (name_held old.bytes name found h f) is, refl)
+
+pub resize_lent : (region : Memory) (name : Name) (size : ℕ) (found : Found) → HeapAccepted region.bytes → IsFound region.bytes name.0 found → 1 ≤ found.owner → found.owner ≢ 15 → found.lock ≢ 15 → IsLent region name.0 → Does region (Resize name size) (Refused Lent) region
+resize_lent region name size found h f positive other loose is = resize_refused region name size found Lent h f positive other loose (growth_lent region name.0 found size h f is)

@@ -2,7 +2,11 @@ pub mod RememberedNames
 pub mod StepWords
 pub mod ChunkCalls
 pub mod NewChunks
+pub mod CountLaws
 pub mod Texts
+pub mod KnownLoans
+pub mod KeptLoans
+pub mod LoanCalls
 pub mod Places
 pub mod SlidChunks
 pub mod StoreCalls

@@ -1,12 +1,11 @@
 -- The step of the call that makes a further table.
-use Rattle.std.proofs.Common.{true, false, ◌≡◌, ◌≢◌, ℕ, ◌+◌, ◌≤◌, List, [], ◌∷◌, ◌++◌, length, take, refl, sym, ap, subst, ◌∙◌, arith, inl, inr}
-use Rattle.std.proofs.lemmas.List.{take-append-le}
+use Rattle.std.proofs.Common.{◌≡◌, ℕ, ◌+◌, ◌≤◌, List, [], ◌∷◌, Option, refl, sym, ap, subst, ◌∙◌, arith, inl}
 use Rattle.std.specs.Prelude.{IsSome}
 use Rattle.heap_model.specs.Memory.{Memory}
-use Rattle.heap_model.specs.Slots.{is_chained, slots_of, slots_total, IsSlot, area_start}
+use Rattle.heap_model.specs.Slots.{slots_total, area_start}
 use Rattle.heap_model.specs.Heap.{HeapAccepted}
 use Rattle.heap_model.specs.Reading.{chunks_of, held}
-use Rattle.heap_model.specs.Space.{Short, MovesNothing, moved_bytes}
+use Rattle.heap_model.specs.Space.{MovesNothing, moved_bytes}
 use Rattle.heap_model.specs.Packing.{SlidesOneStretch}
 use Rattle.heap_model.specs.MoreTables.{gained, gained_slots, HasNoMore, PutsTable}
 use Rattle.heap_model.specs.MemorySteps.{Does}
@@ -16,19 +15,28 @@ use Rattle.heap_model.specs.declared.refusal.Refusal.TheVariants.{NotEnoughSpace
 use Rattle.laws_heap.proofs.AddedTables.{slots_more}
 use Rattle.laws_heap.proofs.MoreTables.{gains_after, gains_free, gains_slot}
 use Rattle.laws_heap.proofs.SlidImages.{slot_unheld, slides_alike, same_moved}
-use Rattle.master_table.specs.Table.{UsedBefore}
 use Rattle.master_table.proofs.TableLaws.{used_fewer, used_more_slots}
 use Rattle.master_table.proofs.RowLaws.{starts_gained}
 use Rattle.master_table.specs.declared.slots.TableStart.{TableStart}
+use Rattle.heap_model.specs.declared.names.Name.{Name}
+use Rattle.mem_manager.specs.Loans.{KnowsLent}
 use Rattle.mem_manager.specs.Lookup.{IsManaged}
+use Rattle.mem_manager.proofs.KnownLoans.{knows_kept}
+use Rattle.heap_model.specs.Lending.{LendsABody, KeepsLoan}
+use Rattle.laws_heap.proofs.KeptLoans.{keeps_then}
+use Rattle.mem_manager.proofs.KeptLoans.{lent_there, keeps_map}
 use Rattle.mem_manager.proofs.StepWords.{OnlyBytes, refused, still_unmoved}
 use Rattle.mem_manager.proofs.SlidChunks.{BytesAndSlid, rest_then, still_then}
 
 pub more_refused : (region : Memory) → HeapAccepted region.bytes → HasNoMore region.bytes → Does region MoreSlots (Refused NotEnoughSpace) region
 more_refused region h none = refused region MoreSlots NotEnoughSpace h (inl (none, refl))
 
-pub more_made : (old mid new : Memory) (place : ℕ) → HeapAccepted old.bytes → (HasNoMore old.bytes → ⊥) → SlidesOneStretch old.bytes mid.bytes → BytesAndSlid old mid → PutsTable mid.bytes new.bytes place → OnlyBytes mid new → Does old MoreSlots Done new
-more_made old mid new place h can slides first p rest =
+-- what is lent stays so where a table is put
+keeps_put : (old new : Memory) (place : ℕ) → new.lent ≡ old.lent → PutsTable old.bytes new.bytes place → KeepsLoan old new
+keeps_put old new place same p = λ name count is. record { lent = lent_there old new name same (p.places name) is.lent; live = is.live; is_held = p.map name ∙ is.is_held; many = is.many }
+
+pub more_made : (old mid new : Memory) (place : ℕ) → HeapAccepted old.bytes → LendsABody old → (HasNoMore old.bytes → ⊥) → SlidesOneStretch old.bytes mid.bytes → BytesAndSlid old mid → PutsTable mid.bytes new.bytes place → OnlyBytes mid new → Does old MoreSlots Done new
+more_made old mid new place h lends can slides first p rest =
     let alike = slides_alike old.bytes mid.bytes h slides in
     let more = gains_free mid.bytes new.bytes place slides.becomes.frame.accepted p.gains p.map in
     let same = alike.slots in
@@ -37,6 +45,7 @@ more_made old mid new place h can slides first p rest =
       step = ((can, tt), ((tt, omega arith), λ name. p.map name ∙ alike.holds name));
       frame = (place, gains_after old.bytes mid.bytes new.bytes place slides.becomes.frame p.gains);
       still = still_then old.bytes mid.bytes new.bytes alike (still_unmoved mid.bytes new.bytes (λ name was is. p.places name));
+      loan = keeps_then old mid new (keeps_map old mid h lends (ap (λ (m : Memory). m.lent) first) alike.stays alike.holds) (keeps_put mid new place (ap (λ (m : Memory). m.lent) rest) p);
       asks = tt;
       rest = rest_then old mid new first rest;
     }
@@ -55,6 +64,10 @@ used_gained {start} {freed} old new used fewer m most few d =
       free = λ some. gains_slot old.bytes new.bytes d.frame.0 freed g (m.free some);
       known = λ name is. subst IsSome (sym (same name)) (m.known name is);
     }
+
+-- what is lent stays so
+pub knows_gained : (old new : Memory) (lent : Option Name) → KnowsLent old old.lent lent → Does old MoreSlots Done new → KnowsLent new new.lent lent
+knows_gained old new lent k d = knows_kept old new lent k (ap (λ (m : Memory). m.lent) d.rest) d.step.1.1 d.still
 
 -- ---- what moves
 

@@ -20,7 +20,7 @@ use Rattle.heap_model.specs.declared.names.Name.{Name}
 use Rattle.heap_model.specs.declared.call.MemoryCall.TheVariants.{HandleNew, PtrNew, Free, FreeByOwner}
 use Rattle.heap_model.specs.declared.call.Reply.TheVariants.{Refused, Done, Named, Number}
 use Rattle.heap_model.specs.declared.refusal.Refusal.{Refusal}
-use Rattle.heap_model.specs.declared.refusal.Refusal.TheVariants.{OwnedByDatabase, ChunkLocked, NotEnoughSpace}
+use Rattle.heap_model.specs.declared.refusal.Refusal.TheVariants.{OwnedByDatabase, ChunkLocked, NotEnoughSpace, Lent}
 use Rattle.master_table.specs.Table.{NotAmong, UsedBefore, IsStart}
 use Rattle.master_table.proofs.TableLaws.{used_fewer, used_apart}
 use Rattle.laws_heap.proofs.Tests.{cond-true, cond-false}
@@ -41,6 +41,10 @@ use Rattle.master_table.proofs.RowLaws.{starts_still}
 use Rattle.master_table.specs.declared.slots.TableStart.{TableStart}
 use Rattle.mem_manager.specs.Lookup.{IsManaged, IsNextEmpty, IsSlotOrNone, MakesNew, HasNoRoomFor}
 use Rattle.mem_manager.proofs.SlidChunks.{BytesAndSlid, rest_then, held_then, still_then, first_slid, used_slid}
+use Rattle.heap_model.specs.Lending.{IsLent, LendsABody}
+use Rattle.laws_heap.proofs.KeptLoans.{keeps_then}
+use Rattle.mem_manager.proofs.KeptLoans.{keeps_others, keeps_made, keeps_map, keeps_owned, unheld_here}
+use Rattle.heap_model.specs.MemorySteps.{LendsOf}
 use Rattle.mem_manager.proofs.StepWords.{known, of_known, not_of_known, is_known, refused, OnlyBytes, still_others, used_altered, with_names}
 use Rattle.mem_manager.specs.Known.{IsKnown, Remembers}
 use Rattle.mem_manager.proofs.RememberedNames.{remembered_held}
@@ -57,15 +61,22 @@ free_locked region name found h f positive other some below =
     let l = f.lock_is in
     refused region (Free name) ChunkLocked h (inr (is_known k, inr (not_of_known (λ live. live.owner ≡ 15) k (λ e. other (f.owner_is ∙ e)), inl (of_known IsLocked k (omega arith, omega arith), refl))))
 
-pub freed : (old new : Memory) (name : Name) (found : Found) → HeapAccepted old.bytes → IsFound old.bytes name.0 found → 1 ≤ found.owner → found.owner ≢ 15 → (0 < found.lock → found.lock < 15 → ⊥) → ChangesName old.bytes new.bytes name.0 None None → OnlyBytes old new → Does old (Free name) Done new
-freed old new name found h f positive other unlocked ch rest = record {
+pub free_lent : (region : Memory) (name : Name) (found : Found) → HeapAccepted region.bytes → IsFound region.bytes name.0 found → 1 ≤ found.owner → found.owner ≢ 15 → (0 < found.lock → found.lock < 15 → ⊥) → IsLent region name.0 → Does region (Free name) (Refused Lent) region
+free_lent region name found h f positive other unlocked lent =
+    let k = known region.bytes name.0 found h f positive in
+    let l = f.lock_is in
+    refused region (Free name) Lent h (inr (is_known k, inr (not_of_known (λ live. live.owner ≡ 15) k (λ e. other (f.owner_is ∙ e)), inr (not_of_known IsLocked k (λ locked. let some = locked.0 in let below = locked.1 in unlocked (omega (arith, l, some)) (omega (arith, l, below))), inl (of_known (λ live. IsLent region name.0) k lent, refl)))))
+
+pub freed : (old new : Memory) (name : Name) (found : Found) → HeapAccepted old.bytes → IsFound old.bytes name.0 found → 1 ≤ found.owner → found.owner ≢ 15 → (0 < found.lock → found.lock < 15 → ⊥) → (IsLent old name.0 → ⊥) → ChangesName old.bytes new.bytes name.0 None None → OnlyBytes old new → Does old (Free name) Done new
+freed old new name found h f positive other unlocked here ch rest = record {
   before = h;
   step = (
-    (is_known k, (not_of_known (λ live. live.owner ≡ 15) k (λ e. other (f.owner_is ∙ e)), (not_of_known IsLocked k (λ locked. locks f.live.lock f.lock_is locked), tt))),
+    (is_known k, (not_of_known (λ live. live.owner ≡ 15) k (λ e. other (f.owner_is ∙ e)), (not_of_known IsLocked k (λ locked. locks f.live.lock f.lock_is locked), (not_of_known (λ live. IsLent old name.0) k here, tt)))),
     (tt, held_updated old.bytes new.bytes name.0 None None ch),
   );
   frame = ch.frame;
   still = still_others old.bytes new.bytes name.0 None None ch (inr refl);
+  loan = keeps_others old new name.0 None None (ap (λ (m : Memory). m.lent) rest) ch here;
   asks = tt;
   rest = rest;
 } where
@@ -105,17 +116,18 @@ new_left old mid new size owner name there h empty slides ch =
     }
 
 -- the step, where the owner is one for callers
-pub new_step : (old new : Memory) (size owner : ℕ) (result : Result Name Refusal) → HeapAccepted old.bytes → (IsNoCaller owner → ⊥) → IfOk result (λ name. MakesNew old.bytes new.bytes name.0 size owner) → OnOk result (HasNoRoomFor old.bytes size → ⊥) → OnErr result (HasNoRoomFor old.bytes size)
+pub new_step : (old new : Memory) (size owner : ℕ) (result : Result Name Refusal) → HeapAccepted old.bytes → LendsABody old → (IsNoCaller owner → ⊥) → IfOk result (λ name. MakesNew old.bytes new.bytes name.0 size owner) → OnOk result (HasNoRoomFor old.bytes size → ⊥) → OnErr result (HasNoRoomFor old.bytes size)
     → IfErr result (λ refusal. refusal ≡ NotEnoughSpace) → OnErr result (new ≡ old) → BytesAndSlid old new → Does old (HandleNew size owner) (reply_of (λ name. Named name) result) new
-new_step old new size owner (Ok name) h caller made had no_room refusal refused_is rest = record {
+new_step old new size owner (Ok name) h lends caller made had no_room refusal refused_is rest = record {
   before = h;
   step = ((caller, (had, tt)), (made.fresh, made.leaves.map));
   frame = made.leaves.frame;
   still = made.leaves.still;
+  loan = keeps_made old new size owner name.0 h lends (ap (λ (m : Memory). m.lent) rest) made;
   asks = tt;
   rest = rest;
 }
-new_step old new size owner (Err brought) h caller made had no_room refusal refused_is rest =
+new_step old new size owner (Err brought) h lends caller made had no_room refusal refused_is rest =
     subst (λ (r : Refusal). Does old (HandleNew size owner) (Refused r) new) (sym refusal) (subst (λ (m : Memory). Does old (HandleNew size owner) (Refused NotEnoughSpace) m) (sym refused_is) (refused old (HandleNew size owner) NotEnoughSpace h (inr (caller, inl (no_room, refl)))))
 
 -- what changes is its name, which stood for nothing
@@ -164,15 +176,17 @@ start_made old new table name size owner starts made = starts_still old new tabl
 pub ptr_short : (region : Memory) (size owner : ℕ) → HeapAccepted region.bytes → (IsNoCaller owner → ⊥) → Short region.bytes (need size) → Does region (PtrNew size owner) (Refused NotEnoughSpace) region
 ptr_short region size owner h caller none = refused region (PtrNew size owner) NotEnoughSpace h (inr (caller, inl (none, refl)))
 
-pub ptr_made : (old mid new : Memory) (size owner : ℕ) (name : Name) (there : Option ℕ) → HeapAccepted old.bytes → (IsNoCaller owner → ⊥) → (Short old.bytes (need size) → ⊥) → held mid.bytes name.0 ≡ None → SlidesOneStretch old.bytes mid.bytes → BytesAndSlid old mid
+pub ptr_made : (old mid new : Memory) (size owner : ℕ) (name : Name) (there : Option ℕ) → HeapAccepted old.bytes → LendsABody old → (IsNoCaller owner → ⊥) → (Short old.bytes (need size) → ⊥) → held mid.bytes name.0 ≡ None → SlidesOneStretch old.bytes mid.bytes → BytesAndSlid old mid
     → ChangesName mid.bytes new.bytes name.0 (Some (zeros size fixed_lock owner)) there → OnlyBytes mid new → Does old (PtrNew size owner) (Named name) new
-ptr_made old mid new size owner name there h caller room empty slides first ch rest =
+ptr_made old mid new size owner name there h lends caller room empty slides first ch rest =
     let alike = slides_alike old.bytes mid.bytes h slides in
     record {
       before = h;
       step = ((caller, (room, tt)), (sym (alike.holds name.0) ∙ empty, held_then old.bytes mid.bytes new.bytes name.0 (Some (zeros size fixed_lock owner)) there alike ch));
       frame = frame_then old.bytes mid.bytes new.bytes slides.becomes.frame ch.frame;
       still = still_then old.bytes mid.bytes new.bytes alike (still_others mid.bytes new.bytes name.0 (Some (zeros size fixed_lock owner)) there ch (inl empty));
+      loan = keeps_then old mid new (keeps_map old mid h lends (ap (λ (m : Memory). m.lent) first) alike.stays alike.holds)
+          (keeps_others mid new name.0 (Some (zeros size fixed_lock owner)) there (ap (λ (m : Memory). m.lent) rest) ch (unheld_here mid name.0 empty));
       asks = tt;
       rest = rest_then old mid new first rest;
     }
@@ -189,15 +203,20 @@ ptr_changes old new at room size owner h caller r fits x =
 
 -- ---- all chunks of an owner
 
-pub owner_freed : (old new : Memory) (owner count : ℕ) → HeapAccepted old.bytes → (IsNoCaller owner → ⊥) → Becomes old.bytes new.bytes (owned_freed owner (layout_of old.bytes)) → count ≡ count_by (is_owned_by owner) (layout_of old.bytes) → OnlyBytes old new → Does old (FreeByOwner owner) (Number count) new
-owner_freed old new owner count h caller b counted rest = record {
+pub owner_freed : (old new : Memory) (owner count : ℕ) → HeapAccepted old.bytes → LendsABody old → (IsNoCaller owner → ⊥) → (LendsOf old (callers_map old.bytes) owner → ⊥) → Becomes old.bytes new.bytes (owned_freed owner (layout_of old.bytes)) → count ≡ count_by (is_owned_by owner) (layout_of old.bytes) → OnlyBytes old new → Does old (FreeByOwner owner) (Number count) new
+owner_freed old new owner count h lends caller here b counted rest = record {
   before = h;
-  step = ((caller, tt), (counted ∙ owned-merged owner (chunks_of old.bytes), λ name. owned_held old.bytes new.bytes owner name h b));
+  step = ((caller, (here, tt)), (counted ∙ owned-merged owner (chunks_of old.bytes), λ name. owned_held old.bytes new.bytes owner name h b));
   frame = b.frame;
   still = λ name live held_there locked is_there. owned_place old.bytes new.bytes owner name h b is_there;
+  loan = keeps_owned old new owner h lends caller (ap (λ (m : Memory). m.lent) rest) here b;
   asks = tt;
   rest = rest;
 }
+
+-- nothing is known then
+pub managed_anew : (new : List ℕ) (names : List ℕ) (start : TableStart) → HeapAccepted new → IsStart new start → ((name : ℕ) → IsKnown names name → ⊥) → IsManaged new 0 start 0 names
+managed_anew new names start h starts none = record { accepted = h; in_use = tt; starts = starts; free = λ some. absurd (omega (arith, some)); known = λ name is. absurd (none name is) }
 
 -- ---- where chunks of one stretch have slid before
 

@@ -35,7 +35,7 @@ refused_unknown image name found (Ok own) h f managers = tt
 refused_unknown image name found (Err refusal) h f managers = managers_unknown image name found h f managers
 
 -- what callers may name is held
-callers_held : (x : Option LiveChunk) (live : LiveChunk) → not_owned 0 x ≡ Some live → x ≡ Some live
+pub callers_held : (x : Option LiveChunk) (live : LiveChunk) → not_owned 0 x ≡ Some live → x ≡ Some live
 callers_held None live e = e
 callers_held (Some own) live e = kept (own.owner == 0) e where
   kept : (b : Bool) → cond b None (Some own) ≡ Some live → Some own ≡ Some live
@@ -43,7 +43,7 @@ callers_held (Some own) live e = kept (own.owner == 0) e where
   kept false f = f
 
 -- a caller's is not the manager's
-not_managers : (live : LiveChunk) → not_owned 0 (Some live) ≡ Some live → live.owner ≢ 0
+pub not_managers : (live : LiveChunk) → not_owned 0 (Some live) ≡ Some live → live.owner ≢ 0
 not_managers live e none = let gone = sym (cond-true (live.owner == 0) None (Some live) (eq-eqb live.owner 0 none)) ∙ e in absurd cc
 
 -- where a place has no chunk, or one of the manager's, no caller's chunk is there

@@ -76,6 +76,7 @@ unchanged region call reply h step = record {
   step = step;
   frame = frames_same region call reply h step;
   still = λ name live held_there locked there. refl;
+  loan = λ name count is. is;
   asks = asks_same (row_of region call).only_asks region;
   rest = nothing_slid (may_slide call) region;
 }

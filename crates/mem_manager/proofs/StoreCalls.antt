@@ -1,5 +1,6 @@
 -- What the calls for the store leave behind.
-use Rattle.std.proofs.Common.{◌≡◌, ◌≢◌, ℕ, ◌+◌, ◌-◌, ◌<◌, ◌≤◌, List, length, Some, None, refl, sym, ap, subst, ◌∙◌, arith, inr, length-take, length-drop}
+use Rattle.std.proofs.Common.{◌≡◌, ◌≢◌, ℕ, ◌+◌, ◌-◌, ◌<◌, ◌≤◌, List, ◌++◌, length, Some, None, refl, sym, ap, subst, ◌∙◌, arith, inr, length-take, length-drop}
+use Rattle.std.proofs.lemmas.List.{append-nil, drop_all}
 use Rattle.std.specs.Prelude.{slice_range, IsSome}
 use Rattle.heap_model.specs.Memory.{Memory}
 use Rattle.heap_model.specs.Bytes.{overwritten}
@@ -79,6 +80,11 @@ lock_viewed region value name found live same h f is = f.lock_is ∙ ap (λ (x :
 pub write_viewed : (region value : Memory) (new : List ℕ) (name : ℕ) (found : Found) (at : ℕ) (bytes : List ℕ) → region ≡ value → HeapAccepted region.bytes → (f : IsFound region.bytes name found) → at + length bytes ≤ length (bytes_under value.bytes name) → Alters region.bytes new (found.place.0 - 8) (with_bytes at bytes)
     → ChangesName region.bytes new name (Some (record f.live { bytes = overwritten f.live.bytes at bytes })) (Some found.place.0)
 write_viewed region value new name found at bytes same h f within made = write_changes region.bytes new name found at bytes h f (within_viewed region value name found (at + length bytes) same h f within) made
+
+-- all of a chunk's bytes are written
+pub all_written : (old part : List ℕ) → length part ≡ length old → overwritten old 0 part ≡ part
+unfolding overwritten
+all_written old part len = ap (λ (xs : List ℕ). part ++ xs) (drop_all (0 + length part) old (omega arith)) ∙ append-nil part
 
 -- where the name is known to be a movable one's
 pub loose_found : (image : List ℕ) (name : ℕ) (found : Found) → HeapAccepted image → IsFound image name found → IsMovable image name → found.lock ≢ fixed_lock

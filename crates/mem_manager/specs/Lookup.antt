@@ -1,19 +1,22 @@
 -- What a heap keeps beside its region, and which name has its chunk at a place.
 use Rattle.std.specs.Prelude.{◌≡◌, ◌≢◌, ◌<◌, ◌⊎◌, ℕ, List, Some, None}
+use Rattle.heap_model.specs.Memory.{Memory}
 use Rattle.heap_model.specs.Bytes.{u32_at}
 use Rattle.heap_model.specs.Slots.{IsSlot}
 use Rattle.heap_model.specs.Heap.{HeapAccepted}
 use Rattle.heap_model.specs.Meaning.{LiveChunk}
-use Rattle.heap_model.specs.Chunk.{fixed_lock, need}
+use Rattle.heap_model.specs.Chunk.{fixed_lock, need, managers_owner}
 use Rattle.heap_model.specs.Reading.{held, chunks_of}
 use Rattle.heap_model.specs.Maps.{callers_map, made}
 use Rattle.heap_model.specs.Space.{place_of, free_slots, Short, NoRun, FitsInPlace, MovesNothing}
+use Rattle.heap_model.specs.Store.{owner_under}
+use Rattle.heap_model.specs.Lending.{IsLent}
 use Rattle.heap_model.specs.Leaving.{Leaves}
 use Rattle.heap_model.specs.Refusals.{Check}
 use Rattle.heap_model.specs.MemorySteps.{growth_checks}
 use Rattle.master_table.specs.Table.{UsedBefore, IsStart}
 use Rattle.master_table.specs.declared.slots.TableStart.{TableStart}
-use Rattle.heap_place.specs.declared.found.Found.{Found}
+pub use Rattle.heap_place.specs.declared.found.Found.{Found}
 use Rattle.heap_place.specs.Found.{IsFound}
 use Rattle.mem_manager.specs.Known.{KnowsHeld}
 
@@ -53,6 +56,10 @@ pub record StandsAs (image : List ℕ) (name : ℕ) (found : Found) : Type 0 whe
   pub is : IsFound image name found
   pub movable : found.lock ≢ fixed_lock
 
+-- A name's body may be read and written, since it is not lent. One of the manager's never is, as no caller can name it.
+pub record IsHere (memory : Memory) (name : ℕ) : Type 0 where
+  pub not_lent : owner_under memory.bytes name ≢ managers_owner → IsLent memory name → ⊥
+
 -- ---- what the calls for the store leave
 
 -- a movable chunk of so many zeros was made under a name that stood for nothing
@@ -73,5 +80,5 @@ abbrev pub MovesOnlyToGrow : List ℕ → List ℕ → ℕ → ℕ → Type 0
 MovesOnlyToGrow old new name size = FitsInPlace old name (need size) → MovesNothing old new
 
 -- whether a name's chunk can have so many bytes
-abbrev pub checks_of_growth : List ℕ → ℕ → ℕ → List Check
-checks_of_growth image name size = growth_checks image (held image) name size
+abbrev pub checks_of_growth : Memory → ℕ → ℕ → List Check
+checks_of_growth memory name size = growth_checks memory (held memory.bytes) name size

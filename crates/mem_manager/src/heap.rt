@@ -1,7 +1,7 @@
 //! The heap. The calls of its manager stand in the modules below: those that ask, that change a chunk
-//! where it stands, that make and free chunks, and that move them.
+//! where it stands, that make and free chunks, that move them, and that take bytes out and put them back.
 
-ghost use Rattle.std.specs.Prelude.{◌≡◌, IfOk, IfErr, OnOk, OnErr};
+ghost use Rattle.std.specs.Prelude.{◌≡◌, ◌≢◌, IfOk, IfErr, OnOk, OnErr, None};
 ghost use Rattle.heap_model.specs.Heap.{HeapAccepted};
 ghost use Rattle.heap_check.specs.Faults.{IsFirstFault};
 
@@ -9,6 +9,7 @@ mod asking;
 mod changing;
 mod found;
 mod lending;
+mod loans;
 mod making;
 mod managing;
 mod moving;
@@ -23,9 +24,9 @@ use std::fmt;
 use std::marker::Model;
 use thiserror::Error;
 
-/// A region that is an accepted heap. Contracts see the region's value alone. What a call for callers
-/// can't do it refuses; the calls for the store above refuse want of room, and a locked chunk that would have
-/// to move, and ask all else of their caller.
+/// A region that is an accepted heap. Contracts see the region's value alone. A call for callers refuses what it can't do;
+/// `adopt` and `put_back` have preconditions. The calls for the store above return only `NotEnoughSpace`, and `sys_resize`
+/// also `Lent` and `ChunkLocked`: everything else is a precondition.
 #[derive(Drop)]
 pub struct Heap {
     space: Space,
@@ -38,17 +39,21 @@ pub struct Heap {
     freed: Name,
     /// Names of fixed chunks that were found, so that they aren't looked for again.
     known: KnownNames,
+    /// The name of the chunk whose bytes are out.
+    lent: Option<Name>,
 }
 
 impl Model for Heap {
     ghost use Rattle.heap_model.specs.Memory.{Memory};
     ghost use Rattle.mem_manager.specs.Lookup.{IsManaged};
+    ghost use Rattle.mem_manager.specs.Loans.{KnowsLent};
 
     ghost Value = { Memory };
 
     ghost view = { λ heap. heap.space };
 
-    ghost invariant = { λ heap. IsManaged heap.space.bytes heap.used heap.start heap.freed.0 heap.known };
+    ghost invariant = { λ heap. IsManaged heap.space.bytes heap.used heap.start heap.freed.0 heap.known
+        × KnowsLent heap.space heap.space.lent heap.lent };
 }
 
 /// Where the body of a chunk is that was locked, and its lock count now.
@@ -77,6 +82,7 @@ impl fmt::Debug for NotAHeap {
 impl Heap {
     /// Takes a region that is an accepted heap, and hands back any other.
     pub fn adopt(region: Region) -> Result<Heap, NotAHeap>
+        requires { region.lent ≡ None }
         ensures accepted { OnOk result (HeapAccepted region.bytes) }
         ensures same { IfOk result (λ heap. heap ≡ region) }
         ensures refused { OnErr result (HeapAccepted region.bytes → ⊥) }
@@ -90,16 +96,24 @@ impl Heap {
                 start: TableStart::first(),
                 freed: Name(0),
                 known: KnownNames::none(),
+                lent: None,
             }),
             Err(fault) => Err(NotAHeap { fault, region }),
         }
     }
 
-    /// Gives the region back.
-    pub fn into_region(self) -> Region
-        ensures same { result ≡ self }
-        ensures accepted { HeapAccepted result.bytes }
+    /// Returns the region. If a part of it is lent, returns the heap instead.
+    pub fn into_region(self) -> Result<Region, Heap>
+        ensures same { IfOk result (λ region. region ≡ self) }
+        ensures accepted { IfOk result (λ region. HeapAccepted region.bytes) }
+        ensures whole { OnOk result (self.lent ≡ None) }
+        ensures lent { OnErr result (self.lent ≢ None) }
+        ensures handed_back { IfErr result (λ heap. heap ≡ self) }
     {
-        self.space.into_region()
+        if self.lent.is_some() {
+            return Err(self);
+        }
+        let Heap { space, .. } = self;
+        Ok(space.into_region())
     }
 }

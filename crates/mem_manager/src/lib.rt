@@ -7,11 +7,14 @@
 #![tactic(auto)]
 
 mod bounds;
+mod counting;
 mod heap;
 mod known;
+mod loan;
 mod lookup;
 
 pub use bounds::check_owner;
 pub use chunk_format::{DATA_OWNER, FIXED_LOCK, MANAGERS_OWNER};
 pub use heap::{Heap, Locked, NotAHeap};
 pub use heap_place::Found;
+pub use loan::Loan;

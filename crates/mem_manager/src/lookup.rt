@@ -1,8 +1,9 @@
 //! What a name stands for, and which refusals a chunk brings.
 
-ghost use Rattle.std.specs.Prelude.{◌≡◌, ◌≢◌, ◌≤◌, ℕ, IsSome, IfSome, IfNone, IfOk, OnOk, IfErr, OnErr, None};
+ghost use Rattle.std.specs.Prelude.{◌≡◌, ◌≢◌, ◌≤◌, ℕ, IsSome, IfSome, IfNone, IfOk, OnOk, IfErr, OnErr, Some, None};
 ghost use Rattle.std.specs.Bool.{OnTrue, OnFalse};
 ghost use Rattle.heap_model.specs.Chunk.{fixed_lock, data_owner};
+ghost use Rattle.heap_model.specs.Lending.{LendsABody};
 ghost use Rattle.heap_model.specs.Heap.{HeapAccepted};
 ghost use Rattle.heap_model.specs.Reading.{held};
 ghost use Rattle.heap_model.specs.Maps.{callers_map};
@@ -21,6 +22,7 @@ use heap_place::{Found, Space};
 #[inline(always)]
 pub(crate) fn named(space: &Space, known: &KnownNames, name: Name) -> Option<Found>
     requires accepted { HeapAccepted space.now.bytes }
+    requires lent { LendsABody space.now }
     requires known { KnowsHeld space.now.bytes known.now }
     ensures found { IfSome result (IsFound space.now.bytes name.0) }
     ensures none { IfNone result (held space.now.bytes name.0 ≡ None) }
@@ -39,6 +41,7 @@ pub(crate) fn named(space: &Space, known: &KnownNames, name: Name) -> Option<Fou
 #[inline(never)]
 fn is_fixed(space: &Space, known: &KnownNames, name: Name) -> bool
     requires accepted { HeapAccepted space.now.bytes }
+    requires lent { LendsABody space.now }
     requires known { KnowsHeld space.now.bytes known.now }
     ensures there { OnTrue result (IsSome (held space.now.bytes name.0)) }
     ensures none { OnFalse result (held space.now.bytes name.0 ≡ None) }
@@ -56,6 +59,7 @@ fn is_fixed(space: &Space, known: &KnownNames, name: Name) -> bool
 #[inline(always)]
 pub(crate) fn find(space: &Space, known: &KnownNames, name: Name) -> Result<Found, Refusal>
     requires accepted { HeapAccepted space.now.bytes }
+    requires lent { LendsABody space.now }
     requires known { KnowsHeld space.now.bytes known.now }
     ensures found { IfOk result (IsFound space.now.bytes name.0) }
     ensures callers { IfOk result (λ found. 1 ≤ found.owner) }
@@ -79,6 +83,7 @@ pub(crate) fn find_again(
     name: Name,
 ) -> Result<Found, Refusal>
     requires accepted { HeapAccepted space.now.bytes }
+    requires lent { LendsABody space.now }
     requires known { KnowsHeld space.now.bytes known.old }
     ensures found { IfOk result (IsFound space.now.bytes name.0) }
     ensures callers { IfOk result (λ found. 1 ≤ found.owner) }
@@ -113,6 +118,7 @@ fn callers(found: Found) -> Result<Found, Refusal>
 /// The name of the caller's chunk whose body is at a place.
 pub(crate) fn name_at(space: &Space, known: &KnownNames, place: Place) -> Result<Name, Refusal>
     requires accepted { HeapAccepted space.now.bytes }
+    requires lent { LendsABody space.now }
     requires known { KnowsHeld space.now.bytes known.now }
     ensures there { IfOk result (λ name. IsThere space.now.bytes place.0 name.0) }
     ensures none { OnErr result (IsNowhere space.now.bytes (callers_map space.now.bytes) place.0) }
@@ -127,6 +133,7 @@ pub(crate) fn name_at(space: &Space, known: &KnownNames, place: Place) -> Result
 /// The chunk whose body is at a place, whoever owns it. The place of a fixed chunk is its name too.
 fn placed(space: &Space, known: &KnownNames, place: Place) -> Option<Found>
     requires accepted { HeapAccepted space.now.bytes }
+    requires lent { LendsABody space.now }
     requires known { KnowsHeld space.now.bytes known.now }
     ensures found { IfSome result (IsOne space.now.bytes) }
     ensures there { IfSome result (λ found. found.place.0 ≡ place.0) }
@@ -176,6 +183,19 @@ pub(crate) fn check_locked(found: Found) -> Result<(), Refusal>
 {
     if found.lock == 0 {
         return Err(Refusal::ChunkNotLocked);
+    }
+    Ok(())
+}
+
+/// Refuses a chunk whose bytes are lent.
+#[inline]
+pub(crate) fn check_here(lent: Option<Name>, found: Found) -> Result<(), Refusal>
+    ensures ok { OnOk result (lent ≡ Some found.name → ⊥) }
+    ensures err { OnErr result (lent ≡ Some found.name) }
+    ensures refusal { IfErr result (λ refusal. refusal ≡ Refusal.Lent) }
+{
+    if lent == Some(found.name) {
+        return Err(Refusal::Lent);
     }
     Ok(())
 }

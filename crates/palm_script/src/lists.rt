@@ -1,10 +1,11 @@
 //! Lists of calls, one behind another.
 
-ghost use Rattle.std.specs.Prelude.{◌≡◌, All, IfErr, IfOk, OnErr};
+ghost use Rattle.std.specs.Prelude.{◌≡◌, All, IfErr, IfOk, OnErr, None};
 ghost use Rattle.heap_model.specs.Runs.{Run};
 ghost use Rattle.heap_model.specs.declared.call.Reply.{Reply};
 ghost use Rattle.heap_model.specs.declared.refusal.Refusal.{Refusal};
 ghost use Rattle.palm_script.specs.Headline.{AnswersAsRun, HandsBack, WantsMemory};
+ghost use Rattle.palm_script.specs.Loans.{LoanStays, RunsOnLoan};
 ghost use Rattle.allowance.specs.Refusals.{GrowthRefused};
 
 use crate::calls::do_call_from;
@@ -23,6 +24,8 @@ pub struct OutOfMemory;
 
 /// Does the calls of a list, and answers the reply to each. A call that is refused doesn't end the run.
 ///
+/// A loan may be out. It stays out, and its holder alone has its bytes.
+///
 /// Room for all replies is taken before the first call. Behind it memory is taken by `read`, `import` and
 /// `export` alone; where it is refused, so is the call.
 pub fn run_calls(
@@ -31,6 +34,8 @@ pub fn run_calls(
     calls: &[Call],
 ) -> Result<Vec<Reply>, OutOfMemory>
     ensures run { IfOk result (λ replies. Run store.old calls.now replies.items store.new) }
+    ensures loan { IfOk result (λ replies. RunsOnLoan store.old calls.now replies.items store.new) }
+    ensures stays { LoanStays store.old store.new }
     ensures none_done { OnErr result (store.new ≡ store.old) }
     ensures short { OnErr result GrowthRefused }
     ensures no_memory { IfOk result (λ replies. All
@@ -47,6 +52,8 @@ pub fn run_calls_from<A: Allowance>(
     calls: &[Call],
 ) -> Result<Vec<Reply>, OutOfMemory>
     ensures run { IfOk result (λ replies. Run store.old calls.now replies.items store.new) }
+    ensures loan { IfOk result (λ replies. RunsOnLoan store.old calls.now replies.items store.new) }
+    ensures stays { LoanStays store.old store.new }
     ensures none_done { OnErr result (store.new ≡ store.old) }
     ensures short { OnErr result (A.is_short memory.now) }
     ensures no_memory { IfOk result (λ replies. All
@@ -87,7 +94,9 @@ pub fn check_and_run(
     region: Region,
     calls: &[Call],
 ) -> Result<(Store, Vec<Reply>), NotRun>
+    requires { region.lent ≡ None }
     ensures run { IfOk result (λ done. AnswersAsRun region calls.now done.1.items done.0) }
+    ensures whole { IfOk result (λ done. done.0.lent ≡ None) }
     ensures not_run { IfErr result (HandsBack region) }
     ensures short { IfErr result (λ error. WantsMemory error → GrowthRefused) }
     ensures no_memory { IfOk result (λ done. All (λ reply.
@@ -103,7 +112,9 @@ pub fn check_and_run_from<A: Allowance>(
     region: Region,
     calls: &[Call],
 ) -> Result<(Store, Vec<Reply>), NotRun>
+    requires { region.lent ≡ None }
     ensures run { IfOk result (λ done. AnswersAsRun region calls.now done.1.items done.0) }
+    ensures whole { IfOk result (λ done. done.0.lent ≡ None) }
     ensures not_run { IfErr result (HandsBack region) }
     ensures short { IfErr result (λ error. WantsMemory error → A.is_short memory.now) }
     ensures no_memory { IfOk result (λ done. All (λ reply.

@@ -6,6 +6,7 @@ ghost use Rattle.std.specs.Option.{option_to_list};
 ghost use Rattle.script_calls.specs.Lines.{BreaksOff, BreaksOffShort, RunsThrough, RunsThroughShort};
 ghost use Rattle.script_calls.specs.Lines.{no_database, no_name};
 ghost use Rattle.allowance.specs.Refusals.{GrowthRefused};
+ghost use Rattle.palm_script.specs.Loans.{LoanStays};
 
 use crate::lines::do_line;
 use allowance::{Allowance, filled, room_for, zeros};
@@ -47,6 +48,7 @@ pub fn run<W: Write>(
     ensures memory { result ≡ Err RunFault.OutOfMemory
         → (store.new ≡ store.old) × (out.new ≡ out.old) }
     ensures no_memory { result ≡ Err RunFault.OutOfMemory → GrowthRefused }
+    ensures stays { LoanStays store.old store.new }
     ensures ok_short { IfOk result (λ files. RunsThroughShort GrowthRefused W.contents
         inputs.now script.now store.old out.old store.new out.new files.items) }
     ensures write_short { result ≡ Err RunFault.Write → BreaksOffShort GrowthRefused
@@ -71,6 +73,7 @@ pub fn run_from<A: Allowance, W: Write>(
     ensures memory { result ≡ Err RunFault.OutOfMemory
         → (store.new ≡ store.old) × (out.new ≡ out.old) }
     ensures no_memory { result ≡ Err RunFault.OutOfMemory → A.is_short memory.now }
+    ensures stays { LoanStays store.old store.new }
     ensures ok_short { IfOk result (λ files. RunsThroughShort (A.is_short memory.now) W.contents
         inputs.now script.now store.old out.old store.new out.new files.items) }
     ensures write_short { result ≡ Err RunFault.Write → BreaksOffShort (A.is_short memory.now)

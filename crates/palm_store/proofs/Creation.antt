@@ -7,6 +7,7 @@ use Rattle.std.proofs.lemmas.List.Quantifiers.{all_pairs_push}
 use Rattle.std.specs.Prelude.{IsTrue, ◌⊎◌, if◌then◌else◌, All}
 use Rattle.std.specs.List.{filter_map, flat_map}
 use Rattle.heap_model.specs.Memory.{Memory}
+use Rattle.heap_model.specs.Lending.{KeepsLoan}
 use Rattle.heap_model.specs.Bytes.{u32_bytes}
 use Rattle.heap_model.specs.DatabaseFields.{header_size}
 use Rattle.heap_model.specs.Heap.{HeapAccepted, directory_of}
@@ -43,7 +44,8 @@ use Rattle.laws_store.proofs.CallSteps.{refused}
 use Rattle.laws_store.proofs.ChangeSteps.{create_steps, same_steps}
 use Rattle.palm_store.specs.Directory.{ListsNew}
 use Rattle.palm_store.proofs.Maps.{owner_held, owner_none, owner_alike, bytes_held, owned, held_some, still_through}
-use Rattle.palm_store.proofs.ListedSlots.{chunk_of, put_here, put_apart, all_written, lock_of}
+use Rattle.mem_manager.proofs.StoreCalls.{all_written}
+use Rattle.palm_store.proofs.ListedSlots.{chunk_of, put_here, put_apart, lock_of}
 
 -- ---- the header is written
 
@@ -245,8 +247,8 @@ unfolding store_of
 below_most image room many = omega arith
 
 pub created : (old new : Memory) (db : Db) (name : List ℕ) (kind creator : ℕ) (resources : Bool) (date : ℕ) → Accepted old.bytes → ListsNew old.bytes new.bytes db.0 (spelled (empty_database name kind creator resources date)) → DatabaseFits (empty_database name kind creator resources date)
-    → length (listed old.bytes) < most_databases → (IsTaken (store_of old.bytes) 0 name → ⊥) → new ≡ record old { bytes = new.bytes; slid = new.slid } → DoesInStore old (calls.Database (Create name kind creator resources date)) (replies.Database db) new
-created old new db name kind creator resources date a l fits few free rest =
+    → length (listed old.bytes) < most_databases → (IsTaken (store_of old.bytes) 0 name → ⊥) → KeepsLoan old new → new ≡ record old { bytes = new.bytes; slid = new.slid } → DoesInStore old (calls.Database (Create name kind creator resources date)) (replies.Database db) new
+created old new db name kind creator resources date a l fits few free loan rest =
     let one : StoredDatabase = record { db = db.0; database = empty_database name kind creator resources date } in
     let count = length-numbers (databases old.bytes) in
     let as_listed = ap length (listed_numbers old.bytes) in
@@ -260,15 +262,16 @@ created old new db name kind creator resources date a l fits few free rest =
       slots = l.slots;
       directory = elim l.directory [ inl stays ↦ inl stays | inr begins ↦ inr (begins.0, tt) ];
       still = l.still;
+      loan = loan;
       asks = tt;
       rest = rest;
     }
 
 -- where there was no room all is as before
 pub not_created : (old new : Memory) (name : List ℕ) (kind creator : ℕ) (resources : Bool) (date : ℕ) (refusal : Refusal) → Accepted old.bytes → IsDatabaseName name → length (listed old.bytes) < most_databases → (IsTaken (store_of old.bytes) 0 name → ⊥)
-    → (free_slots old.bytes < create_slots old.bytes) ⊎ Stuck (rooms old.bytes) (create_parts old.bytes) → refusal ≡ NotEnoughSpace → Leaves old.bytes new.bytes (held old.bytes) → new ≡ record old { bytes = new.bytes; slid = new.slid }
+    → (free_slots old.bytes < create_slots old.bytes) ⊎ Stuck (rooms old.bytes) (create_parts old.bytes) → refusal ≡ NotEnoughSpace → Leaves old.bytes new.bytes (held old.bytes) → KeepsLoan old new → new ≡ record old { bytes = new.bytes; slid = new.slid }
     → DoesInStore old (calls.Database (Create name kind creator resources date)) (replies.Refused refusal) new
-not_created old new name kind creator resources date refusal a named few free lacks is l rest =
+not_created old new name kind creator resources date refusal a named few free lacks is l loan rest =
     let has = same_steps old.bytes new.bytes a l.frame l.map in
     let count = length-numbers (databases old.bytes) in
     let as_listed = ap length (listed_numbers old.bytes) in
@@ -282,6 +285,7 @@ not_created old new name kind creator resources date refusal a named few free la
       slots = l.frame.slots;
       directory = inl l.frame.directory;
       still = l.still;
+      loan = loan;
       asks = tt;
       rest = rest;
     }
@@ -334,9 +338,3 @@ empty_fits name kind creator resources date named kind_fits creator_fits date_fi
 pub header_spells : (database : Database ℕ) → database.entries ≡ [] → spelled database ≡ header_bytes database
 unfolding spelled
 header_spells database empty = ap (λ (entries : List (Entry ℕ)). header_bytes database ++ flat_map entry_bytes entries) empty ∙ append-nil (header_bytes database)
-
--- ---- what the call answers
-
--- a write after calls that may have slid chunks
-pub then_written : (old mid new : Memory) → mid ≡ record old { bytes = mid.bytes; slid = mid.slid } → new ≡ record mid { bytes = new.bytes } → new ≡ record old { bytes = new.bytes; slid = new.slid }
-then_written old mid new first second = refl

@@ -1,5 +1,7 @@
 -- The data of an entry that takes another size: what refuses it, and what is left.
 use Rattle.std.proofs.Common.{◌≡◌, ℕ, ◌+◌, ◌<◌, List, ◌∷◌, [], length, Option, sym, subst, ◌∙◌}
+use Rattle.heap_model.specs.Memory.{Memory}
+use Rattle.heap_model.specs.Lending.{IsLent}
 use Rattle.heap_model.specs.Meaning.{LiveChunk}
 use Rattle.heap_model.specs.Reading.{held}
 use Rattle.heap_model.specs.Chunk.{need, data_owner}
@@ -10,29 +12,30 @@ use Rattle.heap_model.specs.Refusals.{Check, ◌brings◌, NoneHolds, FirstBring
 use Rattle.heap_model.specs.Store.{owner_under, store_of}
 use Rattle.heap_model.specs.EntrySteps.{with_chunks, LeavesStore}
 use Rattle.heap_model.specs.declared.refusal.Refusal.{Refusal}
-use Rattle.heap_model.specs.declared.refusal.Refusal.TheVariants.{ChunkLocked, NotEnoughSpace}
+use Rattle.heap_model.specs.declared.refusal.Refusal.TheVariants.{ChunkLocked, NotEnoughSpace, Lent}
 use Rattle.palm_store.specs.EntryCalls.{checks_of_growth, data_sized}
 use Rattle.palm_store.proofs.DataChunks.{for_data, data_callers}
 
 -- ---- the checks, by what the name stands for
 
-checks : List ℕ → Option LiveChunk → ℕ → ℕ → List Check
-checks image o name size =
-    (Of o (λ live. IsLocked live × (need (length live.bytes) + free_behind image name < need size)) brings ChunkLocked)
-    ∷ (Of o (λ live. (live.lock ≡ 0) × (need (length live.bytes) < need size) × ShortFor image name (need size)) brings NotEnoughSpace)
+checks : Memory → Option LiveChunk → ℕ → ℕ → List Check
+checks old o name size =
+    (Of o (λ live. IsLent old name) brings Lent)
+    ∷ (Of o (λ live. IsLocked live × (need (length live.bytes) + free_behind old.bytes name < need size)) brings ChunkLocked)
+    ∷ (Of o (λ live. (live.lock ≡ 0) × (need (length live.bytes) < need size) × ShortFor old.bytes name (need size)) brings NotEnoughSpace)
     ∷ []
 
 -- callers may name data, so for it the checks are the same
 same_chunk : (image : List ℕ) (name : ℕ) → owner_under image name ≡ data_owner → held image name ≡ callers_map image name
 same_chunk image name own = (let chunk = for_data image name own in chunk.there ∙ sym (data_callers image name chunk))
 
-pub none_for_callers : (image : List ℕ) (name size : ℕ) → owner_under image name ≡ data_owner → NoneHolds (growth_checks image (held image) name size) → NoneHolds (checks_of_growth image name size)
+pub none_for_callers : (old : Memory) (name size : ℕ) → owner_under old.bytes name ≡ data_owner → NoneHolds (growth_checks old (held old.bytes) name size) → NoneHolds (checks_of_growth old name size)
 unfolding checks store_of
-none_for_callers image name size own none = subst (λ (o : Option LiveChunk). NoneHolds (checks image o name size)) (same_chunk image name own) none
+none_for_callers old name size own none = subst (λ (o : Option LiveChunk). NoneHolds (checks old o name size)) (same_chunk old.bytes name own) none
 
-pub first_for_callers : (image : List ℕ) (name size : ℕ) (refusal : Refusal) → owner_under image name ≡ data_owner → FirstBrings (growth_checks image (held image) name size) refusal → FirstBrings (checks_of_growth image name size) refusal
+pub first_for_callers : (old : Memory) (name size : ℕ) (refusal : Refusal) → owner_under old.bytes name ≡ data_owner → FirstBrings (growth_checks old (held old.bytes) name size) refusal → FirstBrings (checks_of_growth old name size) refusal
 unfolding checks store_of
-first_for_callers image name size refusal own first = subst (λ (o : Option LiveChunk). FirstBrings (checks image o name size) refusal) (same_chunk image name own) first
+first_for_callers old name size refusal own first = subst (λ (o : Option LiveChunk). FirstBrings (checks old o name size) refusal) (same_chunk old.bytes name own) first
 
 -- ---- what is left
 

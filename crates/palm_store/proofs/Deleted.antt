@@ -4,6 +4,7 @@ use Rattle.std.proofs.lemmas.Bool.{cases_eq, cases_lt}
 use Rattle.std.specs.Prelude.{◌==◌, if◌then◌else◌, Any}
 use Rattle.std.specs.Option.{is_some}
 use Rattle.heap_model.specs.Memory.{Memory}
+use Rattle.heap_model.specs.Lending.{KeepsLoan}
 use Rattle.heap_model.specs.Heap.{HeapAccepted, directory_of}
 use Rattle.heap_model.specs.Meaning.{LiveChunk}
 use Rattle.heap_model.specs.Reading.{held}
@@ -13,7 +14,7 @@ use Rattle.heap_model.specs.Lists.{times}
 use Rattle.heap_model.specs.Leaving.{Leaves}
 use Rattle.heap_model.specs.Database.{Database, data_in}
 use Rattle.heap_model.specs.MemorySteps.{Of, IsLocked}
-use Rattle.heap_model.specs.Store.{StoredDatabase, owner_under, directory_bytes, database_under, Accepted, store_of}
+use Rattle.heap_model.specs.Store.{StoredDatabase, owner_of, owner_under, directory_bytes, database_under, Accepted, store_of}
 use Rattle.heap_model.specs.StoreWords.{OfDatabase, In, all_gone, with_number}
 use Rattle.heap_model.specs.StoreSteps.{DoesInStore}
 use Rattle.heap_model.specs.declared.names.Db.{Db}
@@ -32,13 +33,17 @@ use Rattle.palm_store.specs.Databases.{named_under}
 use Rattle.palm_store.specs.Directory.{Unlists}
 use Rattle.palm_store.proofs.Maps.{kept, is_gone, owned}
 use Rattle.palm_store.proofs.ListedSlots.{few_bytes, lock_of}
-use Rattle.palm_store.proofs.NamedChunks.{no_chunk, freed_one, freed_more}
+use Rattle.palm_store.proofs.NamedChunks.{number_unnamed, no_chunk, freed_one, freed_more}
 use Rattle.palm_store.proofs.Deletion.{went, directory_kept, index_inside, drops, clears}
 
 -- ---- the header goes too
 
 pub header_other : (old mid : List ℕ) (db : ℕ) → Accepted old → HasNumber old db → Leaves old mid (all_gone (held old) (named_under old db)) → db ≢ directory_of mid
 header_other old mid db a has l e = let slot = number_slot old db a has in slot.other (e ∙ l.frame.directory)
+
+pub header_left : (old mid : List ℕ) (db : ℕ) → Accepted old → HasNumber old db → Leaves old mid (all_gone (held old) (named_under old db)) → owner_under mid db ≡ 0
+unfolding owner_under
+header_left old mid db a has l = ap owner_of (kept old mid (named_under old db) db l (number_unnamed old db a has)) ∙ (number_slot old db a has).owner
 
 freed_alike : (old new one other : List ℕ) → ((name : ℕ) → times name one ≡ times name other) → Leaves old new (all_gone (held old) one) → Leaves old new (all_gone (held old) other)
 freed_alike old new one other alike l = record { map = λ name. l.map name ∙ ap (λ (n : ℕ). if n == 0 then held old name else None) (alike name); frame = l.frame; still = l.still }
@@ -120,9 +125,9 @@ is_there : (image : List ℕ) (db : ℕ) → HasNumber image db → with_number 
 is_there image db has none = (let apart = sym (has_number_is image db has) ∙ none in absurd cc)
 
 pub deleted : (old mid new : Memory) (db : Db) (index : ℕ) → Accepted old.bytes → HasNumber old.bytes db.0 → IsListedAt old.bytes db.0 index → (HasLocked old.bytes (named_under old.bytes db.0) → ⊥)
-    → Leaves old.bytes mid.bytes (all_gone (held old.bytes) (went (database_under old.bytes db.0))) → Unlists mid.bytes new.bytes index → DoesInStore old (calls.Database (Delete db)) replies.Done new
+    → Leaves old.bytes mid.bytes (all_gone (held old.bytes) (went (database_under old.bytes db.0))) → Unlists mid.bytes new.bytes index → KeepsLoan old new → new ≡ record old { bytes = new.bytes; slid = new.slid } → DoesInStore old (calls.Database (Delete db)) replies.Done new
 unfolding store_of
-deleted old mid new db index a has at free l u =
+deleted old mid new db index a has at free l u loan rest =
     let one : StoredDatabase = database_under old.bytes db.0 in
     let s = stands old.bytes db.0 index at in
     let left = drop_steps old.bytes new.bytes db index one a refl (drops old.bytes mid.bytes new.bytes index one a s l u) (clears old.bytes mid.bytes new.bytes index one a s l u) in
@@ -133,9 +138,10 @@ deleted old mid new db index a has at free l u =
       len = u.len ∙ l.frame.len;
       slots = u.slots ∙ l.frame.slots;
       directory = inl (u.directory ∙ l.frame.directory);
+      loan = loan;
       still = still_left old.bytes mid.bytes new.bytes (went one) index a.heap l u;
       asks = tt;
-      rest = refl;
+      rest = rest;
     }
 
 pub not_deleted : (old : Memory) (db : Db) → Accepted old.bytes → HasNumber old.bytes db.0 → HasLocked old.bytes (named_under old.bytes db.0) → DoesInStore old (calls.Database (Delete db)) (replies.Refused ChunkLocked) old
@@ -150,6 +156,7 @@ not_deleted old db a has locked =
       slots = refl;
       directory = inl refl;
       still = λ name live e locked there. refl;
+      loan = λ name count is. is;
       asks = tt;
       rest = refl;
     }

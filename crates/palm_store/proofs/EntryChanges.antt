@@ -30,7 +30,8 @@ use Rattle.laws_store.proofs.Entries.{raised_sound, replaced_is, replaced_kept, 
 use Rattle.mem_manager.specs.Lookup.{IsMovable}
 use Rattle.database_edits.specs.Edits.{counted, counted_if, with_moved, entry_moved, entry_written, entry_removed}
 use Rattle.palm_store.specs.Databases.{HasNumber}
-use Rattle.palm_store.specs.EntryCalls.{IsEntryData, raised_if}
+use Rattle.palm_store.specs.EntryCalls.{IsEntryData, HasLockedData, raised_if}
+use Rattle.heap_model.specs.MemorySteps.{Of, IsLocked}
 use Rattle.palm_store.proofs.DataChunks.{for_data, data_callers, data_movable, data_no_directory}
 use Rattle.palm_store.proofs.TwoSteps.{rewritten_apart, respelled_then, none_made, none_made_by, no_chunk}
 
@@ -168,6 +169,16 @@ pub slot_movable : (old mid : List ℕ) (db : Db) (index slot : ℕ) (entry : En
 slot_movable old mid db index slot entry d a has at is l some =
     let movable = data_movable old slot a.heap (for_data old slot (slot_owner old db index slot entry a has at is some)) in
     record { live = movable.live; is_held = slot_kept old mid db index slot entry d a has at is l ∙ movable.is_held; movable = movable.movable }
+
+-- nor is it locked, where the data isn't
+pub slot_unlocked : (old mid : List ℕ) (db : Db) (index slot : ℕ) (entry : Entry ℕ) (d : Database ℕ) → Accepted old → HasNumber old db.0 → slice_get (database_here old db.0).entries index ≡ Some entry → slot ≡ entry_data entry → Respells old mid db.0 d → (HasLockedData old db index → ⊥) → 0 < slot
+    → Of (held mid slot) IsLocked → ⊥
+unfolding store_of
+slot_unlocked old mid db index slot entry d a has at is l none some locked =
+    let chunk = for_data old slot (slot_owner old db index slot entry a has at is some) in
+    let shown : callers_map old slot ≡ held old slot = data_callers old slot chunk ∙ sym chunk.there in
+    let named : slot ≡ data_under (store_of old) db index = is ∙ sym (data_here old db index entry has at) in
+    none (subst (λ (name : ℕ). Of (callers_map old name) IsLocked) named (subst (λ (o : Option LiveChunk). Of o IsLocked) (slot_kept old mid db index slot entry d a has at is l ∙ sym shown) locked))
 
 -- ---- the data of an entry freed
 

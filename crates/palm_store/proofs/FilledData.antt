@@ -1,7 +1,7 @@
 -- Data that is written whole, and what callers see of the bytes of a chunk.
 use Rattle.std.proofs.Common.{◌≡◌, ◌≢◌, ℕ, List, [], length, Option, Some, None, refl, sym, ap, subst, ◌∙◌, arith, inl, inr}
 use Rattle.std.proofs.lemmas.Bool.{cases_eq}
-use Rattle.heap_model.specs.Chunk.{data_owner}
+use Rattle.heap_model.specs.Chunk.{managers_owner, data_owner}
 use Rattle.heap_model.specs.Bytes.{overwritten}
 use Rattle.heap_model.specs.Heap.{HeapAccepted}
 use Rattle.heap_model.specs.Meaning.{LiveChunk}
@@ -13,12 +13,12 @@ use Rattle.heap_model.specs.Store.{bytes_of, bytes_under, owner_under, Accepted,
 use Rattle.heap_model.specs.EntrySteps.{LeavesStore}
 use Rattle.laws_heap.proofs.Meanings.{held-zero}
 use Rattle.laws_store.proofs.Edited.{hidden, shown}
-use Rattle.laws_store.proofs.EditedStores.{change_steps}
+use Rattle.laws_store.proofs.EditedStores.{change_steps, callers_change}
 use Rattle.mem_manager.specs.Lookup.{IsMovable}
 use Rattle.palm_store.specs.Files.{IsDataName, HasDataOf, data_filled}
 use Rattle.palm_store.proofs.DataChunks.{for_data, data_movable}
 use Rattle.palm_store.proofs.Maps.{owner_held, bytes_held}
-use Rattle.palm_store.proofs.ListedSlots.{all_written}
+use Rattle.mem_manager.proofs.StoreCalls.{all_written}
 
 -- ---- what callers see
 
@@ -44,18 +44,19 @@ pub record HoldsDataOf (image : List ℕ) (name count : ℕ) : Type 0 where
   pub live : LiveChunk
   pub there : held image name ≡ Some live
   pub own : live.owner ≡ data_owner
+  pub loose : live.lock ≡ 0
   pub long : length live.bytes ≡ count
 
 pub data_held : (image : List ℕ) (name count : ℕ) → HasDataOf image name count → HoldsDataOf image name count
 unfolding store_of
 data_held image name count has = by (held image name) refl has where
-  by : (o : Option LiveChunk) → held image name ≡ o → Of (not_owned 0 o) (λ live. (live.owner ≡ data_owner) × (length live.bytes ≡ count)) → HoldsDataOf image name count
+  by : (o : Option LiveChunk) → held image name ≡ o → Of (not_owned 0 o) (λ live. (live.owner ≡ data_owner) × (live.lock ≡ 0) × (length live.bytes ≡ count)) → HoldsDataOf image name count
   by None e is = absurd is
   by (Some live) e is = elim (cases_eq live.owner 0) [
-    | inl managers ↦ absurd (subst (λ (o : Option LiveChunk). Of o (λ one. (one.owner ≡ data_owner) × (length one.bytes ≡ count))) (hidden (Some live) managers) is)
+    | inl managers ↦ absurd (subst (λ (o : Option LiveChunk). Of o (λ one. (one.owner ≡ data_owner) × (one.lock ≡ 0) × (length one.bytes ≡ count))) (hidden (Some live) managers) is)
     | inr callers ↦
-        let is_data : (live.owner ≡ data_owner) × (length live.bytes ≡ count) = subst (λ (o : Option LiveChunk). Of o (λ one. (one.owner ≡ data_owner) × (length one.bytes ≡ count))) (shown (Some live) callers) is in
-        record { live = live; there = e; own = is_data.0; long = is_data.1 }
+        let is_data : (live.owner ≡ data_owner) × (live.lock ≡ 0) × (length live.bytes ≡ count) = subst (λ (o : Option LiveChunk). Of o (λ one. (one.owner ≡ data_owner) × (one.lock ≡ 0) × (length one.bytes ≡ count))) (shown (Some live) callers) is in
+        record { live = live; there = e; own = is_data.0; loose = is_data.1; long = is_data.2 }
   ]
 
 pub filled_movable : (image : List ℕ) (name count : ℕ) → HeapAccepted image → HasDataOf image name count → IsMovable image name
@@ -81,3 +82,8 @@ filled_steps old new name bytes accepted has l =
     let d = data_held old name (length bytes) has in
     change_steps old new name (λ live. record live { bytes = bytes }) (λ live. refl) (λ live. refl) accepted
     (put_whole old new name bytes d.live d.there (sym d.long) l) (owner_held old name d.live d.there ∙ d.own)
+
+-- the same of any chunk that callers may name
+pub rewritten_steps : (old new : List ℕ) (name : ℕ) (bytes : List ℕ) → Accepted old → owner_under old name ≢ managers_owner → Leaves old new (rewritten (held old) name bytes) → LeavesStore old new (data_filled (store_of old) name bytes)
+unfolding store_of
+rewritten_steps old new name bytes accepted own l = callers_change old new name (λ live. record live { bytes = bytes }) (λ live. refl) (λ live. refl) accepted l own

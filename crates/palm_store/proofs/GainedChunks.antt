@@ -8,6 +8,7 @@ use Rattle.std.specs.List.{AllZip}
 use Rattle.heap_model.specs.Chunk.{need}
 use Rattle.heap_model.specs.Heap.{HeapAccepted, directory_of}
 use Rattle.heap_model.specs.Meaning.{LiveChunk, ChunkMap}
+use Rattle.heap_model.specs.MemorySteps.{Of, IsLocked}
 use Rattle.heap_model.specs.Reading.{held}
 use Rattle.heap_model.specs.Space.{rooms}
 use Rattle.heap_model.specs.Lists.{times}
@@ -173,6 +174,7 @@ makes_one old new name size h m lowers =
 pub own_chunks : (old new : List ℕ) (sizes : List (Option ℕ)) (names : List ℕ) → HeapAccepted old → MakesAll old new sizes names → AreOwnChunks new names
 own_chunks old new sizes names h m = record {
   movable = λ name some at. (let is = gained (held old) (held new) sizes names m.gains.each name some at in record { live = zeros_of is.size; is_held = is.there; movable = λ e. omega arith });
+  unlocked = λ name some at locked. (let is = gained (held old) (held new) sizes names m.gains.each name some at in let held_fast = (subst (λ (o : Option LiveChunk). Of o IsLocked) is.there locked).0 in omega arith);
   once = m.gains.once;
   no_directory = λ name some at e.
       let is = gained (held old) (held new) sizes names m.gains.each name some at in
@@ -229,6 +231,12 @@ own_movable old mid names index name own l at some =
     let once = own.once name some in
     let m = own.movable name some (omega arith) in
     record { live = m.live; is_held = kept old mid (take index names) name l (omega arith) ∙ m.is_held; movable = m.movable }
+
+pub own_unlocked : (old mid : List ℕ) (names : List ℕ) (index name : ℕ) → AreOwnChunks old names → Leaves old mid (all_gone (held old) (take index names)) → IsAt names index name → 0 < name → Of (held mid name) IsLocked → ⊥
+own_unlocked old mid names index name own l at some locked =
+    let passed = passed_once names index name at in
+    let once = own.once name some in
+    own.unlocked name some (omega arith) (subst (λ (o : Option LiveChunk). Of o IsLocked) (kept old mid (take index names) name l (omega arith)) locked)
 
 pub own_beside : (old mid : List ℕ) (names : List ℕ) (index name : ℕ) → AreOwnChunks old names → Leaves old mid (all_gone (held old) (take index names)) → IsAt names index name → 0 < name → name ≡ directory_of mid → ⊥
 own_beside old mid names index name own l at some e = (let passed = passed_once names index name at in own.no_directory name some (omega arith) (e ∙ l.frame.directory))

@@ -2,6 +2,7 @@
 use Rattle.std.proofs.Common.{◌≡◌, ℕ, List, length, refl, sym, ap, subst, ◌∙◌, inl}
 use Rattle.heap_model.specs.Bytes.{overwritten}
 use Rattle.heap_model.specs.Memory.{Memory}
+use Rattle.heap_model.specs.Lending.{KeepsLoan}
 use Rattle.heap_model.specs.Reading.{held}
 use Rattle.heap_model.specs.Maps.{put}
 use Rattle.heap_model.specs.Leaving.{Leaves, database_here}
@@ -72,8 +73,8 @@ has_set old new db info a s =
     let body : List ℕ = overwritten (bytes_under old db) 0 s.bytes in
     rename_steps old new db (with_info info) a s.number (put_respells old new db s.bytes (with_info info (database_here old db)) s.leaves s.spelled.bytes_are) (sound_set old body db info a s.number s.spelled) s.free (λ q some. refl)
 
-pub set_step : (old new : Memory) (db : Db) (info : DbInfo) → Accepted old.bytes → Sets old.bytes new.bytes db.0 info → new ≡ record old { bytes = new.bytes } → DoesInStore old (calls.Database (SetInfo db info)) replies.Done new
-set_step old new db info a s rest =
+pub set_step : (old new : Memory) (db : Db) (info : DbInfo) → Accepted old.bytes → Sets old.bytes new.bytes db.0 info → KeepsLoan old new → new ≡ record old { bytes = new.bytes } → DoesInStore old (calls.Database (SetInfo db info)) replies.Done new
+set_step old new db info a s loan rest =
     let has = has_set old.bytes new.bytes db.0 info a s in
     let found = has_number_is old.bytes db.0 s.number in
     let name = s.name in
@@ -85,6 +86,7 @@ set_step old new db info a s rest =
       slots = s.leaves.frame.slots;
       directory = inl s.leaves.frame.directory;
       still = s.leaves.still;
+      loan = loan;
       asks = tt;
       rest = rest;
     }

@@ -33,3 +33,5 @@ pub mod EntriesChanged
 pub mod AccessChecks
 pub mod TwoChanges
 pub mod SearchLaws
+pub mod Rests
+pub mod Loans

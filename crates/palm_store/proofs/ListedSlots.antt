@@ -7,6 +7,8 @@ use Rattle.std.proofs.lemmas.List.{append-nil, take_all, drop_all, length-replic
 use Rattle.std.proofs.Math.Seq.{take-append_seam}
 use Rattle.heap_model.specs.Bytes.{u32_at, u32_bytes, overwritten, sized_to}
 use Rattle.heap_model.specs.Heap.{HeapAccepted, directory_of}
+use Rattle.heap_model.specs.Memory.{Memory}
+use Rattle.heap_model.specs.Lending.{IsLent}
 use Rattle.heap_model.specs.Meaning.{LiveChunk}
 use Rattle.heap_model.specs.Reading.{chunks_of, held}
 use Rattle.heap_model.specs.Slots.{area_start}
@@ -31,6 +33,7 @@ use Rattle.heap_model.specs.declared.refusal.Refusal.{Refusal}
 use Rattle.heap_model.specs.declared.refusal.Refusal.TheVariants.{NotEnoughSpace}
 use Rattle.laws_store.proofs.Parts.{made_then_short}
 use Rattle.mem_manager.specs.Lookup.{IsMovable}
+use Rattle.mem_manager.proofs.StoreCalls.{all_written}
 use Rattle.palm_store.specs.Directory.{ListsLast, ListsNew, HasNoRoomToList}
 use Rattle.laws_store.proofs.Edited.{here as updated_here, apart as updated_apart}
 use Rattle.palm_store.proofs.Numbers.{no_directory}
@@ -71,11 +74,6 @@ one_live e = cc
 
 pub lock_of : (image : List ℕ) (name : ℕ) (one other : LiveChunk) → held image name ≡ Some one → one.lock ≡ 0 → held image name ≡ Some other → other.lock ≡ 0
 lock_of image name one other e none f = ap (λ (l : LiveChunk). l.lock) (one_live (sym f ∙ e)) ∙ none
-
--- all of a chunk's bytes are written
-pub all_written : (old part : List ℕ) → length part ≡ length old → overwritten old 0 part ≡ part
-unfolding overwritten
-all_written old part len = ap (λ (xs : List ℕ). part ++ xs) (drop_all (0 + length part) old (omega arith)) ∙ append-nil part
 
 -- bytes that were written behind those of a chunk that grew for them
 pub more_written : (old part : List ℕ) → overwritten (sized_to old (length old + length part)) (length old) part ≡ old ++ part
@@ -265,31 +263,40 @@ no_listing old mid slot h m lowers lacks = by (directory_of old == 0) refl where
             inr (made_then_short old mid (need header_size) (directory_of old) (length (directory_bytes old) + 4) o.live m.leaves.frame.accepted lowers o.there there (managers_loose old (directory_of old) o.live h o.there o.own) short)
       ]
 
--- what refuses a chunk without a lock to grow is want of room
-pub growth_short : (image : List ℕ) (name size : ℕ) (live : LiveChunk) (refusal : Refusal) → held image name ≡ Some live → live.lock ≡ 0 → FirstBrings (growth_checks image (held image) name size) refusal
-    → (refusal ≡ NotEnoughSpace) × (need (length live.bytes) < need size) × ShortFor image name (need size)
-growth_short image name size live refusal e loose brings = elim brings [
-  | inl locked ↦ (let is = subst (λ (o : Option LiveChunk). Of o (λ (x : LiveChunk). IsLocked x × (need (length x.bytes) + free_behind image name < need size))) e locked.0 in let held_fast = is.0 in absurd (omega arith))
-  | inr more ↦ elim more.1 [
-    | inl short ↦ (let is = subst (λ (o : Option LiveChunk). Of o (λ (x : LiveChunk). (x.lock ≡ 0) × (need (length x.bytes) < need size) × ShortFor image name (need size))) e short.0 in (short.1, is.1, is.2))
-    | inr none ↦ absurd none.1
-  ]
-]
+-- what refuses a chunk without a lock to grow is want of room, where it isn't lent
+pub growth_short : (old : Memory) (name size : ℕ) (live : LiveChunk) (refusal : Refusal) → held old.bytes name ≡ Some live → live.lock ≡ 0 → (IsLent old name → ⊥) → FirstBrings (growth_checks old (held old.bytes) name size) refusal
+    → (refusal ≡ NotEnoughSpace) × (need (length live.bytes) < need size) × ShortFor old.bytes name (need size)
+growth_short old name size live refusal e loose here brings =
+    let image = old.bytes in
+    elim brings [
+      | inl lent ↦ absurd (here (subst (λ (o : Option LiveChunk). Of o (λ (x : LiveChunk). IsLent old name)) e lent.0))
+      | inr rest ↦ elim rest.1 [
+        | inl locked ↦ (let is = subst (λ (o : Option LiveChunk). Of o (λ (x : LiveChunk). IsLocked x × (need (length x.bytes) + free_behind image name < need size))) e locked.0 in let held_fast = is.0 in absurd (omega arith))
+        | inr more ↦ elim more.1 [
+          | inl short ↦ (let is = subst (λ (o : Option LiveChunk). Of o (λ (x : LiveChunk). (x.lock ≡ 0) × (need (length x.bytes) < need size) × ShortFor image name (need size))) e short.0 in (short.1, is.1, is.2))
+          | inr none ↦ absurd none.1
+        ]
+      ]
+    ]
 
 -- ---- the directory that there is
 
 pub the_directory : (image : List ℕ) (name : ℕ) → HeapAccepted image → 0 < directory_of image → name ≡ directory_of image → Owned image name 0
 the_directory image name h some is = owned image name 0 (ap (owner_under image) is ∙ directory_owner image h some) (omega arith)
 
+pub directory_owned : (image : List ℕ) (name : ℕ) → HeapAccepted image → 0 < directory_of image → name ≡ directory_of image → owner_under image name ≡ 0
+directory_owned image name h some is = ap (owner_under image) is ∙ directory_owner image h some
+
 -- a chunk without a lock is a movable one
 pub loose_movable : (image : List ℕ) (name : ℕ) (live : LiveChunk) → held image name ≡ Some live → live.lock ≡ 0 → IsMovable image name
 loose_movable image name live there loose = record { live = live; is_held = there; movable = λ e. omega arith }
 
 -- a chunk that was made has no lock
+pub made_chunk : (old new : List ℕ) (name size owner : ℕ) → MakesNew old new name size owner → held new name ≡ Some (record { bytes = replicate size 0; lock = 0; owner = owner })
+made_chunk old new name size owner m = m.leaves.map name ∙ updated_here (held old) name (Some (record { bytes = replicate size 0; lock = 0; owner = owner })) name refl
+
 pub made_movable : (old new : List ℕ) (name size owner : ℕ) → MakesNew old new name size owner → IsMovable new name
-made_movable old new name size owner m =
-    let chunk : LiveChunk = record { bytes = replicate size 0; lock = 0; owner = owner } in
-    loose_movable new name chunk (m.leaves.map name ∙ updated_here (held old) name (Some chunk) name refl) refl
+made_movable old new name size owner m = loose_movable new name (record { bytes = replicate size 0; lock = 0; owner = owner }) (made_chunk old new name size owner m) refl
 
 pub directory_loose : (image : List ℕ) (name : ℕ) → HeapAccepted image → Owned image name 0 → IsMovable image name
 directory_loose image name h o = loose_movable image name o.live o.there (managers_loose image name o.live h o.there o.own)

@@ -15,7 +15,8 @@ use Rattle.heap_model.specs.Maps.{gone, not_owned, callers_map}
 use Rattle.heap_model.specs.Lists.{same, times}
 use Rattle.heap_model.specs.Leaving.{Leaves}
 use Rattle.heap_model.specs.Database.{entry_data, data_in, database_in, entry_in, entry_count_in, resources_in, entry_offset, IsSpelled}
-use Rattle.heap_model.specs.Store.{bytes_under, owner_under, database_under, Accepted}
+use Rattle.heap_model.specs.Store.{bytes_under, owner_of, owner_under, database_under, Accepted}
+use Rattle.heap_model.specs.MemorySteps.{Of, IsLocked}
 use Rattle.heap_model.specs.StoreWords.{all_gone}
 use Rattle.laws_heap.proofs.SameLayouts.{same_frame, frame_then}
 use Rattle.laws_heap.proofs.FoundChunks.{callers_some}
@@ -178,6 +179,10 @@ header_held old mid db index a has l =
     let part = times_take db index (named_under old db) in
     kept old mid (take index (named_under old db)) db l (omega arith)
 
+pub header_owner : (old mid : List ℕ) (db index : ℕ) → Accepted old → HasNumber old db → Leaves old mid (all_gone (held old) (take index (named_under old db))) → owner_under mid db ≡ 0
+unfolding owner_under
+header_owner old mid db index a has l = ap owner_of (header_held old mid db index a has l) ∙ (number_slot old db a has).owner
+
 pub header_like : (old mid : List ℕ) (db index : ℕ) → Accepted old → HasNumber old db → Leaves old mid (all_gone (held old) (take index (named_under old db))) → bytes_under mid db ≡ bytes_under old db
 header_like old mid db index a has l = bytes_like old mid db (header_held old mid db index a has l)
 
@@ -200,8 +205,8 @@ pub slot_movable : (image : List ℕ) (db index slot : ℕ) → Accepted image �
 slot_movable image db index slot a has at some = data_movable image slot a.heap (for_data image slot (slot_owner image db index slot a has at some))
 
 -- it isn't freed with those before it
-pub slot_left : (old mid : List ℕ) (db index slot : ℕ) → Accepted old → HasNumber old db → Leaves old mid (all_gone (held old) (take index (named_under old db))) → IsNamedAt old db index slot → 0 < slot → IsMovable mid slot
-slot_left old mid db index slot a has l at some =
+slot_same : (old mid : List ℕ) (db index slot : ℕ) → Accepted old → HasNumber old db → Leaves old mid (all_gone (held old) (take index (named_under old db))) → IsNamedAt old db index slot → 0 < slot → held mid slot ≡ held old slot
+slot_same old mid db index slot a has l at some =
     let names : List ℕ = named_under old db in
     let once = named_once old db slot a has some in
     let part = times_take slot (index + 1) names in
@@ -209,8 +214,12 @@ slot_left old mid db index slot a has l at some =
     let both = times-append slot (take index names) (get_or names index 0 ∷ []) in
     let last = times-cons slot (get_or names index 0) [] in
     let yes = same-yes (get_or names index 0) slot (sym at.is) in
+    kept old mid (take index names) slot l (omega arith)
+
+pub slot_left : (old mid : List ℕ) (db index slot : ℕ) → Accepted old → HasNumber old db → Leaves old mid (all_gone (held old) (take index (named_under old db))) → IsNamedAt old db index slot → 0 < slot → IsMovable mid slot
+slot_left old mid db index slot a has l at some =
     let m = slot_movable old db index slot a has at some in
-    record { live = m.live; is_held = kept old mid (take index names) slot l (omega arith) ∙ m.is_held; movable = m.movable }
+    record { live = m.live; is_held = slot_same old mid db index slot a has l at some ∙ m.is_held; movable = m.movable }
 
 pub slot_other : (old mid : List ℕ) (db index slot : ℕ) → Accepted old → HasNumber old db → directory_of mid ≡ directory_of old → IsNamedAt old db index slot → 0 < slot → slot ≡ directory_of mid → ⊥
 slot_other old mid db index slot a has word at some directory =
@@ -237,6 +246,12 @@ freed_next old mid new db index slot at l m =
 
 pub any_at : (P : ℕ → Type 0) (names : List ℕ) (index name : ℕ) → index < length names → name ≡ get_or names index 0 → P name → Any P names
 any_at P names index name below is p = (index, name, below, get_or_default_zero names index name below ∙ sym is, p)
+
+-- nor is it locked, where none of them was
+pub slot_unlocked : (old mid : List ℕ) (db index slot : ℕ) → Accepted old → HasNumber old db → Leaves old mid (all_gone (held old) (take index (named_under old db))) → IsNamedAt old db index slot → (Any (λ (name : ℕ). Of (callers_map old name) IsLocked) (named_under old db) → ⊥) → 0 < slot → Of (held mid slot) IsLocked → ⊥
+slot_unlocked old mid db index slot a has l at none some locked =
+    let same = slot_same old mid db index slot a has l at some in
+    none (any_at (λ (name : ℕ). Of (callers_map old name) IsLocked) (named_under old db) index slot at.below at.is (subst (λ (o : Option LiveChunk). Of o IsLocked) (same ∙ sym (slot_shown old db index slot a has at)) locked))
 
 pub none_of : (P : ℕ → Type 0) (names : List ℕ) → ((k : ℕ) → k < length names → P (get_or names k 0) → ⊥) → Any P names → ⊥
 none_of P names none any =

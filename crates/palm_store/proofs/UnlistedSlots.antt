@@ -4,6 +4,8 @@ use Rattle.std.specs.Prelude.{slice_range, IfErr, IsOk}
 use Rattle.heap_model.specs.Bytes.{overwritten, sized_to}
 use Rattle.heap_model.specs.Chunk.{need}
 use Rattle.heap_model.specs.Heap.{HeapAccepted, directory_of}
+use Rattle.heap_model.specs.Memory.{Memory}
+use Rattle.heap_model.specs.Lending.{IsLent}
 use Rattle.heap_model.specs.Meaning.{LiveChunk}
 use Rattle.heap_model.specs.Reading.{held}
 use Rattle.heap_model.specs.Maps.{put, sized}
@@ -38,9 +40,9 @@ never_refused (Ok done) refuses why never = refl
 never_refused (Err refusal) refuses why never = absurd (never refusal why)
 
 -- a chunk without a lock is not refused to shrink
-pub shrinks : (image : List ℕ) (name size : ℕ) (live : LiveChunk) (refusal : Refusal) → held image name ≡ Some live → live.lock ≡ 0 → size ≤ length live.bytes → FirstBrings (growth_checks image (held image) name size) refusal → ⊥
-shrinks image name size live refusal e loose fewer brings =
-    let short = (growth_short image name size live refusal e loose brings).1 in
+pub shrinks : (old : Memory) (name size : ℕ) (live : LiveChunk) (refusal : Refusal) → held old.bytes name ≡ Some live → live.lock ≡ 0 → (IsLent old name → ⊥) → size ≤ length live.bytes → FirstBrings (growth_checks old (held old.bytes) name size) refusal → ⊥
+shrinks old name size live refusal e loose here fewer brings =
+    let short = (growth_short old name size live refusal e loose here brings).1 in
     let least = need_least size (length live.bytes) fewer in
     omega (arith, short, least)
 
@@ -78,6 +80,7 @@ pub record Slid (image : List ℕ) (name long : ℕ) : Type 0 where
   pub live : LiveChunk
   pub there : held image name ≡ Some live
   pub loose : live.lock ≡ 0
+  pub own : live.owner ≡ 0
   pub size : length live.bytes ≡ long
 
 pub directory_slid : (old mid : List ℕ) (directory at stop : ℕ) → HeapAccepted old → 0 < directory_of old → directory ≡ directory_of old → at + 4 ≤ length (bytes_under old directory) → stop ≡ length (bytes_under old directory)
@@ -90,6 +93,7 @@ directory_slid old mid directory at stop h some is inside stop_is p =
       live = record o.live { bytes = overwritten o.live.bytes at part };
       there = put_here old mid directory at part o.live p o.there;
       loose = managers_loose old directory o.live h o.there o.own;
+      own = o.own;
       size = ap (λ (xs : List ℕ). length (overwritten xs at part)) (sym bytes)
           ∙ ap (λ (k : ℕ). length (overwritten (bytes_under old directory) at (slice_range (bytes_under old directory) (at + 4) k))) stop_is ∙ length-slid (bytes_under old directory) at 4 inside;
     }

@@ -71,8 +71,8 @@ checks_of_attaching image db = attaching_checks image (store_of image) db
 abbrev pub checks_of_giving : List ℕ → ℕ → List Check
 checks_of_giving image name = giving_checks (store_of image).map name []
 
-abbrev pub checks_of_growth : List ℕ → ℕ → ℕ → List Check
-checks_of_growth image name size = growth_checks image (store_of image).map name size
+abbrev pub checks_of_growth : Memory → ℕ → ℕ → List Check
+checks_of_growth memory name size = growth_checks memory (store_of memory.bytes).map name size
 
 -- ---- what a call leaves
 

@@ -10,9 +10,9 @@ use Rattle.heap_model.specs.EntrySteps.{with_chunks}
 abbrev pub IsDataName : List ℕ → ℕ → Type 0
 IsDataName image name = (name ≡ 0) ⊎ (owner_under image name ≡ data_owner)
 
--- a name stands for a chunk for data of so many bytes
+-- a name stands for a chunk for data of so many bytes, which has no lock
 abbrev pub HasDataOf : List ℕ → ℕ → ℕ → Type 0
-HasDataOf image name count = Of ((store_of image).map name) (λ live. (live.owner ≡ data_owner) × (length live.bytes ≡ count))
+HasDataOf image name count = Of ((store_of image).map name) (λ live. (live.owner ≡ data_owner) × (live.lock ≡ 0) × (length live.bytes ≡ count))
 
 -- a store where the chunk under a name has these bytes
 abbrev pub data_filled : Store → ℕ → List ℕ → Store

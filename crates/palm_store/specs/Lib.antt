@@ -10,6 +10,7 @@ pub mod Replies
 pub mod KnownIds
 pub mod AttributeChanges
 pub mod Files
+pub mod Loans
 pub mod Found
 pub mod Checks
 pub mod Search

@@ -14,6 +14,7 @@ use Rattle.heap_model.specs.Lists.{times, Distinct}
 use Rattle.heap_model.specs.Database.{DatabaseHeader, Entry, a_record, a_resource, Database, has_resources, is_deleted, IsDatabaseName, entry_offset}
 use Rattle.heap_model.specs.UniqueIds.{greatest_id}
 use Rattle.heap_model.specs.Rooms.{Part, taken_by, rooms_for, LowersOne, KeepsStretches, Stuck}
+use Rattle.heap_model.specs.MemorySteps.{Of, IsLocked}
 use Rattle.heap_model.specs.Refusals.{Check, ◌brings◌}
 use Rattle.heap_model.specs.Store.{Store, directory_bytes, most_databases, Accepted, store_of}
 use Rattle.heap_model.specs.StoreWords.{may_run_out}
@@ -197,9 +198,10 @@ pub record MakesAndLists (old new : List ℕ) (slot : ℕ) (sizes : List (Option
   pub makes : MakesAll old mid sizes names
   pub lists : ListsLast mid new slot
 
--- Chunks of their own are under these names, where one isn't 0: each name stands there once, and none is the
+-- Chunks of their own are under these names, where one isn't 0: each name stands there once, and none is locked or the
 -- directory's.
 pub record AreOwnChunks (image : List ℕ) (names : List ℕ) : Type 0 where
   pub movable : (name : ℕ) → 0 < name → 0 < times name names → IsMovable image name
+  pub unlocked : (name : ℕ) → 0 < name → 0 < times name names → Of (held image name) IsLocked → ⊥
   pub once : (name : ℕ) → 0 < name → times name names ≤ 1
   pub no_directory : (name : ℕ) → 0 < name → 0 < times name names → name ≢ directory_of image

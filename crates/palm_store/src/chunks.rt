@@ -1,11 +1,13 @@
 //! The chunk of a slot that a database has, or of a name that it is to have.
 
 ghost use Rattle.std.specs.Prelude.{◌≡◌, ◌<◌, OnOk, IfErr};
+ghost use Rattle.heap_model.specs.Lending.{KeepsLoan};
 ghost use Rattle.heap_model.specs.Heap.{HeapAccepted, directory_of};
 ghost use Rattle.heap_model.specs.Reading.{held};
 ghost use Rattle.heap_model.specs.Space.{MovesNothing};
 ghost use Rattle.heap_model.specs.Maps.{gone};
 ghost use Rattle.heap_model.specs.Leaving.{Leaves};
+ghost use Rattle.heap_model.specs.MemorySteps.{Of, IsLocked};
 ghost use Rattle.heap_model.specs.Refusals.{NoneHolds, FirstBrings};
 ghost use Rattle.mem_manager.specs.Lookup.{IsMovable};
 ghost use Rattle.palm_store.specs.EntryCalls.{MayBeGiven, checks_of_giving};
@@ -13,14 +15,16 @@ ghost use Rattle.palm_store.specs.EntryCalls.{MayBeGiven, checks_of_giving};
 use heap_model::{Name, Refusal};
 use mem_manager::{DATA_OWNER, FIXED_LOCK, Heap, MANAGERS_OWNER};
 
-/// Frees the chunk of a slot, if there is one.
+/// Frees the chunk of a slot, if there is one. It has no lock, so that it isn't lent.
 #[inline(always)]
 pub(crate) fn free_chunk_of(heap: &mut Heap, slot: Name)
     requires heap { HeapAccepted heap.old.bytes }
     requires movable { 0 < slot.0 → IsMovable heap.old.bytes slot.0 }
+    requires unlocked { 0 < slot.0 → Of (held heap.old.bytes slot.0) IsLocked → ⊥ }
     requires no_directory { 0 < slot.0 → slot.0 ≡ directory_of heap.old.bytes → ⊥ }
     ensures leaves { Leaves heap.old.bytes heap.new.bytes (gone (held heap.old.bytes) slot.0) }
     ensures unmoved { MovesNothing heap.old.bytes heap.new.bytes }
+    ensures loan { KeepsLoan heap.old heap.new }
     ensures rest { heap.new ≡ record heap.old { bytes = heap.new.bytes } }
 {
     if slot.0 != 0 {

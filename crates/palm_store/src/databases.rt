@@ -14,7 +14,7 @@ mod setting;
 mod whole;
 
 pub(crate) use blocks::{block_in, find_writable_block, give_block, take_block};
-pub(crate) use clearing::{free_data, has_locked};
+pub(crate) use clearing::{free_data, has_lent, has_locked};
 pub(crate) use completing::{list_whole, write_whole};
 pub(crate) use creating::{empty_header, list_new};
 pub(crate) use deleting::unlist;

@@ -8,7 +8,7 @@
 //! A call on entries, whose crates are record_db and resource_db, looks first whether the database is there and
 //! holds entries of the kind, and, if it changes it, whether it may be written; then, where it takes an index,
 //! whether there are so many. `open_entries` and `find_entry` are these checks, in the order of the call's row.
-#![tactic(auto)]
+#![tactic(auto, using(laws_heap::proofs::KeptLoans::keeps_then, laws_heap::proofs::KeptLoans::keeps_itself))]
 
 mod chunks;
 mod databases;
@@ -22,10 +22,10 @@ pub use databases::{BlockSizes, WholeEntry};
 pub use entries::{EntryInfo, FoundEntry, NewEntry};
 pub use heap_migration::MigrateFault;
 pub use locks::is_locked;
-pub use mem_manager::{FIXED_LOCK, Found, Locked, check_owner};
+pub use mem_manager::{FIXED_LOCK, Found, Loan, Locked, check_owner};
 pub use opening::{
     Access, EntryAt, EntryKind, Opened, count_entries, find_entry, open_database, open_entries,
 };
 pub use palm_text::{WriteFault, put_all};
-pub use store::{NotAStore, Store};
+pub use store::{ImageFault, NotAStore, Store};
 pub use store_check::{StoreFault, StoreSummary};

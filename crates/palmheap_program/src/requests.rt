@@ -5,7 +5,9 @@ ghost use Rattle.clap.specs.Values.{kind_of};
 
 use crate::scripts::run_script;
 use clap::error::ErrorKind;
-use image_commands::{STANDARD_OUTPUT, canonical, check, fail, list, map, migrate, new};
+use image_commands::{
+    STANDARD_OUTPUT, canonical, check, fail, list, map, migrate, new, pack, unpack,
+};
 use program_io::command_line::{self, Request};
 use program_io::{Status, report_write_fault};
 use std::io::Input;
@@ -31,6 +33,8 @@ pub fn run<R: Files + Input + Print + Eprint + AllocGlobal>(rt: &R, words: &[Str
         Ok(Request::Map { image }) => map(rt, image),
         Ok(Request::List { file }) => list(rt, file),
         Ok(Request::Canonical { file, out }) => canonical(rt, file, out),
+        Ok(Request::Unpack { file, folder }) => unpack(rt, file, folder),
+        Ok(Request::Pack { folder, out }) => pack(rt, folder, out),
         Err(error) => answer(rt, &error),
     }
 }

@@ -1,6 +1,6 @@
 //! The command `run`: a script, run on an image.
 
-ghost use Rattle.std.specs.Prelude.{◌≡◌, ◌≢◌, ◌⊎◌, Ok, Err, IfOk, IfErr, OnOk, true, false};
+ghost use Rattle.std.specs.Prelude.{◌≡◌, ◌≢◌, ◌⊎◌, Ok, Err, IfOk, IfErr, OnOk, None, true, false};
 ghost use Rattle.heap_model.specs.Store.{Accepted};
 ghost use Rattle.script_lines.specs.Reading.{read_script};
 ghost use Rattle.palmheap_program.specs.Runs.{EndsEarly, EndsRun, PrintingFails, PutsRefusal, RunBreaksOffShort};
@@ -74,7 +74,7 @@ pub fn cmd_run_from<A: Allowance, W: Write, V: Write>(
     }
 }
 
-/// `cmd_run_from`, on an image that lies in a region. It makes no copy of it.
+/// `cmd_run_from`, on an image that lies in a region, of which nothing may be lent. It makes no copy of it.
 pub fn run_region_from<A: Allowance, W: Write, V: Write>(
     memory: &A,
     region: Region,
@@ -84,6 +84,7 @@ pub fn run_region_from<A: Allowance, W: Write, V: Write>(
     files: &mut Vec<Bytes>,
     out: &mut Counted<V>,
 ) -> Status
+    requires whole { region.lent ≡ None }
     ensures ends { EndsRun region.bytes script.now inputs.now V.contents out.old out.new
         W.contents image_out.old image_out.new files.new.items result }
     ensures files_kept { result ≢ Status.Done → files.new ≡ files.old }
@@ -109,6 +110,7 @@ fn read<'a, A: Allowance, V: Write>(
     script: &'a [u8],
     out: &mut Counted<V>,
 ) -> Result<(Store, Script<'a>), Status>
+    requires whole { region.lent ≡ None }
     ensures store { IfOk result (λ read. read.0 ≡ region) }
     ensures accepted { OnOk result (Accepted region.bytes) }
     ensures script { IfOk result (λ read. read_script script.now ≡ Ok read.1) }
@@ -139,7 +141,7 @@ fn read<'a, A: Allowance, V: Write>(
     }
 }
 
-/// Runs a script on a store, prints its reply lines, and then writes the image.
+/// Runs a script on a store of which nothing is lent, prints its reply lines, and then writes the image.
 fn run_script<A: Allowance, W: Write, V: Write>(
     memory: &A,
     mut store: Store,
@@ -149,6 +151,7 @@ fn run_script<A: Allowance, W: Write, V: Write>(
     files: &mut Vec<Bytes>,
     out: &mut Counted<V>,
 ) -> Status
+    requires whole { store.lent ≡ None }
     ensures statuses { (result ≡ Status.Done) ⊎ (result ≡ Status.WriteFault)
         ⊎ (result ≡ Status.NoMemory) }
     ensures done { result ≡ Status.Done → RunsAndWrites (Unit {0}) inputs.now script.now store
@@ -188,6 +191,7 @@ fn print_replies<A: Allowance, V: Write>(
     inputs: &[Bytes],
     out: &mut Counted<V>,
 ) -> Result<Vec<Bytes>, Status>
+    ensures lent { store.new.lent ≡ store.old.lent }
     ensures ok { IfOk result (λ files. RunsAndFlushes (Unit {0}) V.contents inputs.now script.now
         store.old out.old store.new out.new files.items true) }
     ensures faults { IfErr result (λ status.

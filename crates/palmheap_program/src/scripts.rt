@@ -1,6 +1,6 @@
 //! The command `run`.
 
-ghost use Rattle.std.specs.Prelude.{◌≡◌, ◌≢◌, ◌⊎◌, IfErr};
+ghost use Rattle.std.specs.Prelude.{◌≡◌, ◌≢◌, ◌⊎◌, IfErr, None};
 
 use crate::run_command::run_region_from;
 use heap_model::Bytes;
@@ -50,6 +50,7 @@ fn run_to<R: Files + Print + Eprint + AllocGlobal>(
     inputs: &[Bytes],
     path: &str,
 ) -> Result<Vec<Bytes>, Status>
+    requires { image.lent ≡ None }
     ensures { IfErr result (λ status. (status ≡ Status.Refused)
         ⊎ (status ≡ Status.WriteFault) ⊎ (status ≡ Status.NoMemory)) }
 {

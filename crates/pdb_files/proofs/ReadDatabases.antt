@@ -6,6 +6,7 @@ use Rattle.std.proofs.lemmas.List.{length-map, get_or-map, ext_get_or, get_or_de
 use Rattle.std.proofs.lemmas.List.FromFn.{length-map-range_with_len}
 use Rattle.heap_model.specs.Chunk.{data_owner}
 use Rattle.heap_model.specs.Memory.{Memory}
+use Rattle.heap_model.specs.Lending.{KeepsLoan}
 use Rattle.heap_model.specs.Lists.{times}
 use Rattle.heap_model.specs.Meaning.{LiveChunk, ChunkMap}
 use Rattle.heap_model.specs.MemorySteps.{Of}
@@ -29,6 +30,7 @@ use Rattle.palm_store.specs.declared.databases.whole.WholeEntry.{WholeEntry}
 use Rattle.palm_store.specs.declared.databases.whole.WholeEntry.TheVariants as whole
 use Rattle.palm_store.specs.EntryCalls.{LeavesChanged}
 use Rattle.palm_store.specs.WholeDatabases.{data_sizes, id_asked, entry_named, entries_named, whole_database, whole_size, RunsOut, IsGained, GainsZeros, MakesWhole, checks_of_whole}
+use Rattle.palm_store.proofs.Rests.{then_written}
 use Rattle.palm_store.proofs.WholeSteps.{whole_data}
 use Rattle.pdb_files.specs.declared.importing.plan.Plan.{Plan}
 use Rattle.pdb_files.specs.Plans.{IsPlannedAs, IsPlan}
@@ -160,8 +162,8 @@ still_filled old mid new names still refills name live there locked stays =
 
 pub imported : (old mid new : Memory) (file : List ℕ) (db : Db) (plan : Plan) (names : List ℕ) → Accepted old.bytes → HasNoFault file → (IsTaken (store_of old.bytes) 0 (name_in file) → ⊥) → length (store_of old.bytes).databases < most_databases → IsPlan file plan
     → MakesWhole old.bytes mid.bytes db.0 plan.info plan.sizes plan.entries.items names → Refills mid.bytes new.bytes names → length names ≡ 2 + length plan.entries.items → AreFilled (store_of new.bytes).map (blocks_in file) names (length names)
-    → mid ≡ record old { bytes = mid.bytes; slid = mid.slid } → new ≡ record mid { bytes = new.bytes } → DoesInStore old (calls.File (Import file)) (replies.Database db) new
-imported old mid new file db plan names a good free few is makes refills many filled first second = record {
+    → KeepsLoan old new → mid ≡ record old { bytes = mid.bytes; slid = mid.slid } → new ≡ record mid { bytes = new.bytes } → DoesInStore old (calls.File (Import file)) (replies.Database db) new
+imported old mid new file db plan names a good free few is makes refills many filled loan first second = record {
   before = a;
   step = (good_none file _ good (free, ((λ most. omega arith), (tt, (tt, tt)))), (makes.fresh, gains_read old.bytes mid.bytes new.bytes file db.0 plan names good is makes refills many filled));
   accepted = refills.accepted;
@@ -169,11 +171,10 @@ imported old mid new file db plan names a good free few is makes refills many fi
   slots = refills.slots ∙ makes.slots;
   directory = elim makes.directory [ inl stays ↦ inl (refills.directory ∙ stays) | inr begins ↦ inr (begins, tt) ];
   still = still_filled old.bytes mid.bytes new.bytes names makes.still refills;
+  loan = loan;
   asks = tt;
   rest = then_written old mid new first second;
-} where
-  then_written : (old mid new : Memory) → mid ≡ record old { bytes = mid.bytes; slid = mid.slid } → new ≡ record mid { bytes = new.bytes } → new ≡ record old { bytes = new.bytes; slid = new.slid }
-  then_written old mid new first second = refl
+}
 
 -- ---- what is refused
 
@@ -183,9 +184,9 @@ no_memory_left old file a good free few = refused old (calls.File (Import file))
 
 -- where there was no room all is as before
 pub no_room_left : (old new : Memory) (file : List ℕ) (plan : Plan) (refusal : Refusal) → Accepted old.bytes → HasNoFault file → (IsTaken (store_of old.bytes) 0 (name_in file) → ⊥) → length (store_of old.bytes).databases < most_databases → IsPlan file plan
-    → FirstBrings (checks_of_whole old.bytes plan.info plan.sizes plan.entries.items) refusal → LeavesChanged old new (λ store. store) → StoreAsBefore old new → new ≡ record old { bytes = new.bytes; slid = new.slid }
+    → FirstBrings (checks_of_whole old.bytes plan.info plan.sizes plan.entries.items) refusal → LeavesChanged old new (λ store. store) → StoreAsBefore old new → KeepsLoan old new → new ≡ record old { bytes = new.bytes; slid = new.slid }
     → DoesInStore old (calls.File (Import file)) (replies.Refused refusal) new
-no_room_left old new file plan refusal a good free few is why leaves before rest = record {
+no_room_left old new file plan refusal a good free few is why leaves before loan rest = record {
   before = a;
   step = (good_brings file _ refusal good (lacking why), before);
   accepted = leaves.accepted;
@@ -193,6 +194,7 @@ no_room_left old new file plan refusal a good free few is why leaves before rest
   slots = leaves.slots;
   directory = inl leaves.directory;
   still = leaves.still;
+  loan = loan;
   asks = tt;
   rest = rest;
 } where

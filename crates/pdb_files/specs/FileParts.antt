@@ -1,6 +1,8 @@
 -- The parts of the file of a database, which is given by its bytes as they lie in an image.
 use Rattle.std.specs.Prelude.{◌≡◌, ◌+◌, ◌<◌, ◌^◌, ℕ, List, map, Option, All}
 use Rattle.std.specs.List.{flat_map}
+use Rattle.heap_model.specs.Memory.{Memory}
+use Rattle.heap_model.specs.Lending.{IsLent}
 use Rattle.heap_model.specs.Meaning.{ChunkMap}
 use Rattle.heap_model.specs.Database.{Database, Entry, entry_data, entry_with, header_bytes, entry_bytes, data_in, database_in, IsSpelled, HasShape}
 use Rattle.heap_model.specs.Store.{bytes_named, content, store_of}
@@ -17,16 +19,21 @@ block_under image slot = bytes_named (store_of image).map slot
 abbrev pub content_of : List ℕ → List ℕ → Database (Option (List ℕ))
 content_of image bytes = content (store_of image).map (database_in bytes)
 
--- the database that these bytes spell names chunks for data alone
-abbrev pub NamesData : List ℕ → List ℕ → Type 0
-NamesData image bytes = All (IsDataName image) (data_in (database_in bytes))
+-- a database names this, and its bytes may be read: it isn't lent
+pub record MayBeRead (memory : Memory) (slot : ℕ) : Type 0 where
+  pub named : IsDataName memory.bytes slot
+  pub here : IsLent memory slot → ⊥
 
--- the bytes are those of a database, whose file is short enough for offsets of four bytes
-pub record IsExportable (image bytes : List ℕ) : Type 0 where
+-- the database that these bytes spell names chunks for data alone, of which none is lent
+abbrev pub NamesData : Memory → List ℕ → Type 0
+NamesData memory bytes = All (MayBeRead memory) (data_in (database_in bytes))
+
+-- the bytes are those of a database of which no block is lent, whose file is short enough for offsets of four bytes
+pub record IsExportable (memory : Memory) (bytes : List ℕ) : Type 0 where
   pub shape : HasShape bytes
   pub spelled : IsSpelled (database_in bytes) bytes
-  pub names : NamesData image bytes
-  pub short : file_size (content_of image bytes) < 2 ^ 32
+  pub names : NamesData memory bytes
+  pub short : file_size (content_of memory.bytes bytes) < 2 ^ 32
 
 -- the offsets in the header of a database's file, and where the data of its entries begins
 pub record ArePlaces (database : Database (Option (List ℕ))) (places : Places) : Type 0 where

@@ -1,10 +1,11 @@
 //! Writing the file of a database.
 
-ghost use Rattle.std.specs.Prelude.{◌≡◌, ◌↔◌, ◌<◌, ℕ, None, Err, is_ok, length, IfOk, OnErr};
+ghost use Rattle.std.specs.Prelude.{◌≡◌, ◌↔◌, ◌<◌, ℕ, None, Err, is_ok, length, IfOk, OnErr, Any};
 ghost use Rattle.palm_text.specs.Counted.{Writes};
-ghost use Rattle.heap_model.specs.Database.{Database};
+ghost use Rattle.heap_model.specs.Database.{Database, data_in};
+ghost use Rattle.heap_model.specs.Lending.{IsLent};
 ghost use Rattle.heap_model.specs.Store.{store_of, content};
-ghost use Rattle.heap_model.specs.StoreWords.{with_number};
+ghost use Rattle.heap_model.specs.StoreWords.{In, with_number};
 ghost use Rattle.heap_model.specs.Files.{file_of};
 ghost use Rattle.heap_model.specs.MemorySteps.{reply_of};
 ghost use Rattle.heap_model.specs.StoreSteps.{DoesInStore};
@@ -33,18 +34,26 @@ pub enum ExportFault {
     /// The store has no database of this number.
     #[error("NoSuchDatabase")]
     NoSuchDatabase,
+    /// A block of the database is lent.
+    #[error("Lent")]
+    Lent,
     /// A write failed, or took 0 bytes.
     #[error("a write failed")]
     Write,
 }
 
 /// Writes the file of a database, PDB or PRC, and answers how many bytes it has. Takes no memory, and
-/// flushes nothing. Where a write fails or takes 0 bytes, a front of the file was written.
+/// flushes nothing. Where a write fails or takes 0 bytes, a front of the file was written. Where a block of the
+/// database is lent, nothing is.
 pub fn export<W: Write>(store: &Store, db: Db, out: &mut Counted<W>) -> Result<u32, ExportFault>
     ensures unknown { (result ≡ Err ExportFault.NoSuchDatabase)
         ↔ (with_number (store_of store.now.bytes) db.0 ≡ None) }
+    ensures lent { (result ≡ Err ExportFault.Lent)
+        ↔ In (store_of store.now.bytes) db (λ database. Any (IsLent store.now) (data_in database)) }
     ensures untouched { result ≡ Err ExportFault.NoSuchDatabase → out.new ≡ out.old }
+    ensures unwritten { result ≡ Err ExportFault.Lent → out.new ≡ out.old }
     ensures written { (database : Database ℕ) → HasDatabase store.now.bytes db.0 database
+        → (Any (IsLent store.now) (data_in database) → ⊥)
         → Writes W.contents out.old out.new
         (file_of (content (store_of store.now.bytes).map database)) (is_ok result) }
     ensures size { IfOk result (λ count.
@@ -54,6 +63,9 @@ pub fn export<W: Write>(store: &Store, db: Db, out: &mut Counted<W>) -> Result<u
     let Some(bytes) = store.database_bytes(db) else {
         return Err(ExportFault::NoSuchDatabase);
     };
+    if store.lends_data(db) {
+        return Err(ExportFault::Lent);
+    }
     match put_file(store, bytes, out) {
         Ok(()) => Ok(file_size(store, bytes)),
         Err(_) => Err(ExportFault::Write),
@@ -63,7 +75,7 @@ pub fn export<W: Write>(store: &Store, db: Db, out: &mut Counted<W>) -> Result<u
 /// The file of a database as bytes, for which memory is taken once. Only a refused growth is answered by
 /// `OutOfMemory`.
 ///
-/// Refused: `NoSuchDatabase`, `OutOfMemory`.
+/// Refused: `NoSuchDatabase`; `Lent`, where a block of the database is lent; `OutOfMemory`.
 pub fn exported<A: Allowance>(memory: &A, store: &Store, db: Db) -> Result<Bytes, Refusal>
     ensures does { DoesInStore store.now (calls.Call.File (FileCall.Export db))
         (reply_of (λ bytes. Reply.Data bytes) result) store.now }
@@ -72,6 +84,9 @@ pub fn exported<A: Allowance>(memory: &A, store: &Store, db: Db) -> Result<Bytes
     let Some(bytes) = store.database_bytes(db) else {
         return Err(Refusal::NoSuchDatabase);
     };
+    if store.lends_data(db) {
+        return Err(Refusal::Lent);
+    }
     match file_bytes(memory, store, bytes) {
         Ok(file) => Ok(file),
         Err(AllocError) => Err(Refusal::OutOfMemory),
@@ -80,7 +95,7 @@ pub fn exported<A: Allowance>(memory: &A, store: &Store, db: Db) -> Result<Bytes
 
 /// The file of a database, given by its bytes.
 fn file_bytes<A: Allowance>(memory: &A, store: &Store, bytes: &[u8]) -> Result<Bytes, AllocError>
-    requires { IsExportable store.now.bytes bytes.now }
+    requires { IsExportable store.now bytes.now }
     ensures file { IfOk result (λ file. file ≡ file_of (content_of store.now.bytes bytes.now)) }
     ensures short { OnErr result (A.is_short memory.now) }
 {

@@ -32,7 +32,7 @@ resource_id true file at given block e = refl
 resource_id false file at given block e = absurd cc
 
 -- they are those that are given
-ids_read : (file ids : List ℕ) (seed last : ℕ) → HaveIds seed (unique_ids (database_in file)) ids last → filter_map unique_id (entries_read file ids) ≡ ids
+pub ids_read : (file ids : List ℕ) (seed last : ℕ) → HaveIds seed (unique_ids (database_in file)) ids last → filter_map unique_id (entries_read file ids) ≡ ids
 ids_read file ids seed last have =
     let long = given_long (kept_ids [] (unique_ids (database_in file))) [] seed (unique_ids (database_in file)) ids last have in
     let many = length-entries_read file ids in

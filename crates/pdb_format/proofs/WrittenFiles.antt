@@ -16,7 +16,7 @@ use Rattle.heap_model.specs.Database.{DatabaseHeader, Database, Entry, a_record,
 use Rattle.heap_model.specs.Store.{unique_id, unique_ids}
 use Rattle.heap_model.specs.Files.{entries_end, IsOutside, IsBadInfo, HasBadOffset, HasNoFault, offsets_in, HaveIds, idle_attributes, idle_entry, idle, IsReadAs, Reads, block_size, block_offset, entries_with_offsets, with_offsets, first_block, file_of}
 use Rattle.laws_store.proofs.Spellings.{length-spelled}
-use Rattle.pdb_format.specs.Writable.{IsWritableEntry, file_size, IsWritable}
+use Rattle.pdb_format.specs.Writable.{IsWritableEntry, file_size, IsWritable, HasFile, IsKeptAs, IsReadBack}
 use Rattle.pdb_format.proofs.FaultLaws.{HasGoodHead, no_fault}
 use Rattle.pdb_format.proofs.WrittenOffsets.{all_bytes, running, size_more, offset_most}
 use Rattle.pdb_format.proofs.WrittenBlocks.{blocks_read}
@@ -156,7 +156,7 @@ placed_offsets d =
 length-placed : (d : Database (Option (List ℕ))) → length (placed d).entries ≡ length d.entries
 length-placed d = length-with_offsets (data_from d) (map idle_entry d.entries) ∙ length-map d.entries idle_entry
 
-placed_fits : (d : Database (Option (List ℕ))) → IsWritable d → DatabaseFits (placed d)
+placed_fits : (d : Database (Option (List ℕ))) → HasFile d → DatabaseFits (placed d)
 placed_fits d is =
     let all = total d in
     let size = is.size in
@@ -177,7 +177,7 @@ placed_fits d is =
 front : Database (Option (List ℕ)) → List ℕ
 front d = spelled (placed d) ++ 0 ∷ 0 ∷ []
 
-length-front : (d : Database (Option (List ℕ))) → IsWritable d → length (front d) ≡ first_block d
+length-front : (d : Database (Option (List ℕ))) → HasFile d → length (front d) ≡ first_block d
 unfolding front
 length-front d is =
     let both = length-append (spelled (placed d)) (0 ∷ 0 ∷ []) in
@@ -190,37 +190,37 @@ file_parts d =
     ap (λ (xs : List (Option (List ℕ))). spelled (placed d) ++ 0 ∷ 0 ∷ all_bytes xs) (sym (data_idle d))
     ∙ sym (append_assoc (spelled (placed d)) (0 ∷ 0 ∷ []) (all_bytes (data_in (idle d))))
 
-headed : (d : Database (Option (List ℕ))) → IsWritable d → IsHeaded (file_of d) (placed d)
+headed : (d : Database (Option (List ℕ))) → HasFile d → IsHeaded (file_of d) (placed d)
 unfolding file_of
 headed d is = spelled_heads (placed d) (0 ∷ 0 ∷ all_bytes (data_in d)) (placed_fits d is)
 
 -- how long the file is, and where its entries end
-pub length-file : (d : Database (Option (List ℕ))) → IsWritable d → length (file_of d) ≡ file_size d
-length-file d is =
+pub length-of_file : (d : Database (Option (List ℕ))) → HasFile d → length (file_of d) ≡ file_size d
+length-of_file d is =
     let long = ap length (file_parts d) ∙ length-append (front d) (all_bytes (data_in (idle d))) in
     let first = length-front d is in
     let same = ap (λ (xs : List (Option (List ℕ))). length (all_bytes xs)) (data_idle d) in
     omega arith
 
-end_at : (d : Database (Option (List ℕ))) → IsWritable d → entries_end (file_of d) + 2 ≡ first_block d
+end_at : (d : Database (Option (List ℕ))) → HasFile d → entries_end (file_of d) + 2 ≡ first_block d
 end_at d is =
     let head = headed d is in
     ap (λ (n : ℕ). n + 2) (ap (λ (r : Bool). entry_offset r (entry_count_in (file_of d))) head.resources
     ∙ ap (entry_offset (has_resources d.header.attributes)) (head.count ∙ length-placed d))
 
-header_there : (d : Database (Option (List ℕ))) → IsWritable d → header_in (file_of d) ≡ d.header
+header_there : (d : Database (Option (List ℕ))) → HasFile d → header_in (file_of d) ≡ d.header
 unfolding database_in
 header_there d is = ap (λ (x : Database ℕ). x.header) (headed d is).is
 
-app_there : (d : Database (Option (List ℕ))) → IsWritable d → u32_at (file_of d) 52 ≡ block_offset (first_block d) d.app_info
+app_there : (d : Database (Option (List ℕ))) → HasFile d → u32_at (file_of d) 52 ≡ block_offset (first_block d) d.app_info
 unfolding database_in
 app_there d is = ap (λ (x : Database ℕ). x.app_info) (headed d is).is
 
-sort_there : (d : Database (Option (List ℕ))) → IsWritable d → u32_at (file_of d) 56 ≡ block_offset (first_block d + block_size d.app_info) d.sort_info
+sort_there : (d : Database (Option (List ℕ))) → HasFile d → u32_at (file_of d) 56 ≡ block_offset (first_block d + block_size d.app_info) d.sort_info
 unfolding database_in
 sort_there d is = ap (λ (x : Database ℕ). x.sort_info) (headed d is).is
 
-name_there : (d : Database (Option (List ℕ))) → IsWritable d → name_in (file_of d) ≡ d.header.name
+name_there : (d : Database (Option (List ℕ))) → HasFile d → name_in (file_of d) ≡ d.header.name
 unfolding header_in
 name_there d is = ap (λ (h : DatabaseHeader). h.name) (header_there d is)
 
@@ -237,10 +237,10 @@ not_truncated file header ends (inr less) = omega arith
 not_empty : (name other : List ℕ) → 0 < length name → other ≡ name → other ≡ [] → ⊥
 not_empty name other some e none = let zero_long : length name ≡ 0 = ap length (sym e ∙ none) in omega arith
 
-good_head : (d : Database (Option (List ℕ))) → IsWritable d → HasGoodHead (file_of d)
+good_head : (d : Database (Option (List ℕ))) → HasFile d → HasGoodHead (file_of d)
 good_head d is =
     let file : List ℕ = file_of d in
-    let long = length-file d is in
+    let long = length-of_file d is in
     let ends = end_at d is in
     let least = at_least_header (resources_in file) (entry_count_in file) in
     let all = total d in
@@ -252,19 +252,30 @@ good_head d is =
       sort_info = λ bad. good_info file (first_block d + block_size d.app_info) d.sort_info (omega arith) (omega arith) (subst (IsBadInfo file) (sort_there d is) bad);
     }
 
-good_entry : (d : Database (Option (List ℕ))) (index : ℕ) → IsWritable d → index < entry_count_in (file_of d) → HasBadOffset (file_of d) (entry_in (file_of d) index) → ⊥
+good_entry : (d : Database (Option (List ℕ))) (index : ℕ) → HasFile d → index < entry_count_in (file_of d) → HasBadOffset (file_of d) (entry_in (file_of d) index) → ⊥
 good_entry d index is below bad =
     let file : List ℕ = file_of d in
     let head = headed d is in
-    let long = length-file d is in
+    let long = length-of_file d is in
     let ends = end_at d is in
     let all = total d in
     let count = head.count in
     let good = good_offsets (has_resources d.header.attributes) file (data_from d) d.entries is.entries (omega arith) (omega arith) in
     good index (a_record 0 0 0) (omega arith) (subst (HasBadOffset file) (head.entry index (a_record 0 0 0) (omega arith)) bad)
 
+pub file_good : (d : Database (Option (List ℕ))) → HasFile d → HasNoFault (file_of d)
+file_good d is = no_fault (file_of d) (good_head d is) (λ index below bad. good_entry d index is below bad.1)
+
+-- ---- a database that can be written
+
+pub has_file : (d : Database (Option (List ℕ))) → IsWritable d → HasFile d
+has_file d is = record { name = is.name; header = is.header; entries = is.entries; entry_count = is.entry_count; size = is.size }
+
+pub length-file : (d : Database (Option (List ℕ))) → IsWritable d → length (file_of d) ≡ file_size d
+length-file d is = length-of_file d (has_file d is)
+
 pub written_good : (d : Database (Option (List ℕ))) → IsWritable d → HasNoFault (file_of d)
-written_good d is = no_fault (file_of d) (good_head d is) (λ index below bad. good_entry d index is below bad.1)
+written_good d is = file_good d (has_file d is)
 
 -- ---- what is read
 
@@ -278,27 +289,84 @@ header_from h g e = subst (λ (g : DatabaseHeader). h ≡ record g { seed = with
 idle_ids : (d : Database (Option (List ℕ))) → unique_ids (idle d) ≡ unique_ids d
 idle_ids d = ids_idle d.entries
 
-file_ids : (d : Database (Option (List ℕ))) → IsWritable d → unique_ids (database_in (file_of d)) ≡ unique_ids (idle d)
+file_ids : (d : Database (Option (List ℕ))) → HasFile d → unique_ids (database_in (file_of d)) ≡ unique_ids (idle d)
 file_ids d is = ap (λ (x : Database ℕ). unique_ids x) (headed d is).is ∙ ids_same (data_from d) d.entries
 
-file_offsets : (d : Database (Option (List ℕ))) → IsWritable d → offsets_in (file_of d) ≡ running (length (front d)) (data_in (idle d))
+file_offsets : (d : Database (Option (List ℕ))) → HasFile d → offsets_in (file_of d) ≡ running (length (front d)) (data_in (idle d))
 file_offsets d is =
     ap (λ (x : Database ℕ). data_in x) (headed d is).is ∙ placed_offsets d ∙ ap (λ (n : ℕ). running n (data_in (idle d))) (sym (length-front d is))
 
-pub written_reads : (d : Database (Option (List ℕ))) → IsWritable d → Reads (file_of d) (idle d)
-written_reads d is =
+pub file_reads : (d : Database (Option (List ℕ))) → HasFile d → All (λ id. id ≢ 0) (unique_ids d) → Distinct (unique_ids d) → Reads (file_of d) (idle d)
+file_reads d is none_zero distinct =
     let file : List ℕ = file_of d in
     let there = header_there d is in
     let first = length-front d is in
     record {
-      good = written_good d is;
+      good = file_good d is;
       last_seed = seed_in d.header.seed;
       ids = ids_from (seed_in (header_in file).seed) (seed_in d.header.seed) (unique_ids (database_in file)) (unique_ids (idle d))
           (ap (λ (h : DatabaseHeader). seed_in h.seed) there) (file_ids d is)
           (ids_stay (seed_in d.header.seed) (unique_ids (idle d))
-          (subst (λ (ids : List ℕ). All (λ id. id ≢ 0) ids) (sym (idle_ids d)) is.none_zero)
-          (subst (λ (ids : List ℕ). Distinct ids) (sym (idle_ids d)) is.distinct));
+          (subst (λ (ids : List ℕ). All (λ id. id ≢ 0) ids) (sym (idle_ids d)) none_zero)
+          (subst (λ (ids : List ℕ). Distinct ids) (sym (idle_ids d)) distinct));
       header = header_from d.header (header_in file) there;
       entries = subst (λ (es : List (Entry ℕ)). AllZip IsReadAs es (idle d).entries) (sym (ap (λ (x : Database ℕ). x.entries) (headed d is).is)) (read_as (data_from d) d.entries);
       blocks = blocks_read file (front d) (data_in (idle d)) (omega arith) (file_parts d) (file_offsets d is);
+    }
+
+pub written_reads : (d : Database (Option (List ℕ))) → IsWritable d → Reads (file_of d) (idle d)
+written_reads d is = file_reads d (has_file d is) is.none_zero is.distinct
+
+-- ---- a file of a database of which no record is busy
+
+entries_idle_twice : (es : List (Entry (Option (List ℕ)))) → map idle_entry (map idle_entry es) ≡ map idle_entry es
+entries_idle_twice [] = refl
+entries_idle_twice (a_record attributes id block ∷ es) =
+    ap (λ (a : ℕ). a_record a id block ∷ map idle_entry (map idle_entry es)) (sym (idle_twice attributes))
+    ∙ ap (λ (xs : List (Entry (Option (List ℕ)))). a_record (idle_attributes attributes) id block ∷ xs) (entries_idle_twice es)
+entries_idle_twice (a_resource kind id block ∷ es) = ap (λ (xs : List (Entry (Option (List ℕ)))). a_resource kind id block ∷ xs) (entries_idle_twice es)
+
+with_entries : Database (Option (List ℕ)) → List (Entry (Option (List ℕ))) → Database (Option (List ℕ))
+with_entries d es = record d { entries = es }
+
+idle_again : (d : Database (Option (List ℕ))) → idle (idle d) ≡ idle d
+unfolding with_entries
+idle_again d = ap (with_entries d) (entries_idle_twice d.entries)
+
+first_idle : (d : Database (Option (List ℕ))) → first_block (idle d) ≡ first_block d
+first_idle d = ap (λ (n : ℕ). entry_offset (has_resources d.header.attributes) n + 2) (length-map d.entries idle_entry)
+
+-- busy bits make no other file
+pub idle_file : (d : Database (Option (List ℕ))) → file_of (idle d) ≡ file_of d
+unfolding file_of
+idle_file d =
+    ap (λ (at : ℕ). spelled (with_offsets at (idle (idle d))) ++ 0 ∷ 0 ∷ all_bytes (data_in (idle d))) (first_idle d)
+    ∙ ap (λ (x : Database (Option (List ℕ))). spelled (with_offsets (first_block d) x) ++ 0 ∷ 0 ∷ all_bytes (data_in (idle d))) (idle_again d)
+    ∙ ap (λ (xs : List (Option (List ℕ))). spelled (with_offsets (first_block d) (idle d)) ++ 0 ∷ 0 ∷ all_bytes xs) (data_idle d)
+
+-- ---- a database with any IDs
+
+kept_as : (at : ℕ) (es fs : List (Entry (Option (List ℕ)))) → AllZip IsReadAs (entries_with_offsets at (map idle_entry es)) fs → AllZip IsKeptAs es fs
+kept_as at [] [] all = tt
+kept_as at [] (f ∷ fs) all = absurd all
+kept_as at (a_record attributes id block ∷ es) [] all = absurd all
+kept_as at (a_resource kind id block ∷ es) [] all = absurd all
+kept_as at (a_record attributes id block ∷ es) (a_record other_attributes other_id other_block ∷ fs) all = (all.0 ∙ sym (idle_twice attributes), kept_as (at + block_size block) es fs all.1)
+kept_as at (a_record attributes id block ∷ es) (a_resource other_kind other_id other_block ∷ fs) all = absurd all.0
+kept_as at (a_resource kind id block ∷ es) (a_record other_attributes other_id other_block ∷ fs) all = absurd all.0
+kept_as at (a_resource kind id block ∷ es) (a_resource other_kind other_id other_block ∷ fs) all = (all.0, kept_as (at + block_size block) es fs all.1)
+
+-- its file is read back as it, with the IDs that are given
+pub read_back : (d e : Database (Option (List ℕ))) → HasFile d → Reads (file_of d) e → IsReadBack d e
+read_back d e is reads =
+    let file : List ℕ = file_of d in
+    let there = header_there d is in
+    let first = length-front d is in
+    record {
+      last_seed = reads.last_seed;
+      ids = subst (λ (h : DatabaseHeader). HaveIds (seed_in h.seed) (unique_ids d) (unique_ids e) reads.last_seed) there
+          (subst (λ (ids : List ℕ). HaveIds (seed_in (header_in file).seed) ids (unique_ids e) reads.last_seed) (file_ids d is ∙ idle_ids d) reads.ids);
+      header = subst (λ (h : DatabaseHeader). e.header ≡ record h { seed = with_seed h.seed reads.last_seed }) there reads.header;
+      entries = kept_as (data_from d) d.entries e.entries (subst (λ (es : List (Entry ℕ)). AllZip IsReadAs es e.entries) (ap (λ (x : Database ℕ). x.entries) (headed d is).is) reads.entries);
+      blocks = reads.blocks ∙ sym (blocks_read file (front d) (data_in (idle d)) (omega arith) (file_parts d) (file_offsets d is)) ∙ data_idle d;
     }

@@ -1,11 +1,12 @@
 -- Which databases are written to files: those whose content can stand in an accepted image.
 use Rattle.std.specs.Prelude.{◌≡◌, ◌≢◌, ◌<◌, ◌+◌, ◌-◌, ◌^◌, ℕ, Bool, true, false, List, length, Option, None, All}
-use Rattle.std.specs.List.{flat_map}
+use Rattle.std.specs.List.{AllZip, flat_map}
 use Rattle.heap_model.specs.Bytes.{AreBytes}
 use Rattle.heap_model.specs.Lists.{Distinct}
+use Rattle.heap_model.specs.UniqueIds.{seed_in, with_seed}
 use Rattle.heap_model.specs.Database.{Database, Entry, a_record, a_resource, data_in, has_resources, is_deleted, IsDatabaseName, HeaderFits, entry_offset}
 use Rattle.heap_model.specs.Store.{unique_ids}
-use Rattle.heap_model.specs.Files.{block_bytes, first_block}
+use Rattle.heap_model.specs.Files.{HaveIds, block_bytes, first_block, idle_attributes}
 
 -- The entry is a resource, or else a record, and its numbers have room in their fields. A resource has data,
 -- and so has a record that isn't deleted.
@@ -36,3 +37,30 @@ pub record IsWritable (database : Database (Option (List ℕ))) : Type 0 where
   pub distinct : Distinct (unique_ids database)
   pub blocks : All (λ block. AreBytes (block_bytes block)) (data_in database)
   pub size : file_size database < 2 ^ 32
+
+-- The same without a word on the IDs of its records and on the bytes of its blocks: it has a file, which may be read as
+-- another database.
+pub record HasFile (database : Database (Option (List ℕ))) : Type 0 where
+  pub name : IsDatabaseName database.header.name
+  pub header : HeaderFits database.header
+  pub entries : All (IsWritableEntry (has_resources database.header.attributes)) database.entries
+  pub entry_count : length database.entries < 2 ^ 16
+  pub size : file_size database < 2 ^ 32
+
+-- ---- what is read of its file
+
+-- an entry is read back as this one, whatever the ID of a record is then, and whatever the data is
+abbrev pub IsKeptAs : Entry (Option (List ℕ)) → Entry (Option (List ℕ)) → Type 0
+IsKeptAs (a_record attributes id block) (a_record other_attributes other_id other_block) = other_attributes ≡ idle_attributes attributes
+IsKeptAs (a_record attributes id block) (a_resource other_kind other_id other_block) = ⊥
+IsKeptAs (a_resource kind id block) (a_record other_attributes other_id other_block) = ⊥
+IsKeptAs (a_resource kind id block) (a_resource other_kind other_id other_block) = (other_kind ≡ kind) × (other_id ≡ id)
+
+-- The database that its file is read as. A record with the ID 0, or with that of an earlier record, has a free one, no
+-- record is busy, and the seed is the ID that was given last. All else is the same, and so are all blocks.
+pub record IsReadBack (database read : Database (Option (List ℕ))) : Type 0 where
+  pub last_seed : ℕ
+  pub ids : HaveIds (seed_in database.header.seed) (unique_ids database) (unique_ids read) last_seed
+  pub header : read.header ≡ record database.header { seed = with_seed database.header.seed last_seed }
+  pub entries : AllZip IsKeptAs database.entries read.entries
+  pub blocks : data_in read ≡ data_in database

@@ -21,3 +21,4 @@ pub use laws::{
     contents_are_short, contents_are_writable, files_are_read, files_are_read_once,
     written_files_are_read, written_files_have_their_size,
 };
+pub use starts::{offset_of, rank_count};

@@ -26,8 +26,10 @@ impl Start {
     }
 }
 
-/// How many blocks a file may have: its info blocks, and one for each entry.
-pub(crate) fn rank_count(file: &[u8]) -> u32
+/// Returns how many blocks a file may have: its info blocks, and one for each entry.
+///
+/// The rank of a block is 0 for the AppInfo block and 1 for the SortInfo block. The data of entry I has rank I + 2.
+pub fn rank_count(file: &[u8]) -> u32
     requires { HasNoFault file.now }
     ensures is { result ≡ length (offsets_in file.now) }
     ensures most { result ≤ 65537 }
@@ -35,8 +37,8 @@ pub(crate) fn rank_count(file: &[u8]) -> u32
     entry_count(file) as u32 + INFO_BLOCKS as u32
 }
 
-/// The offset of the block of a rank, or 0.
-fn offset_of(file: &[u8], rank: u32) -> u32
+/// Returns the offset of the block of a rank in bytes, as the file has it. It is 0 if there is no such block.
+pub fn offset_of(file: &[u8], rank: u32) -> u32
     requires good { HasNoFault file.now }
     requires inside { rank < length (offsets_in file.now) }
     requires few { rank ≤ 65536 }

@@ -39,6 +39,14 @@ pub enum Request<'a> {
         file: &'a str,
         out: &'a str,
     },
+    Unpack {
+        file: &'a str,
+        folder: &'a str,
+    },
+    Pack {
+        folder: &'a str,
+        out: &'a str,
+    },
 }
 
 /// A command: its word, its help, and its arguments in order.
@@ -68,7 +76,7 @@ enum Count {
 }
 
 /// Every command.
-const COMMANDS: [CommandRow; 7] = [
+const COMMANDS: [CommandRow; 9] = [
     CommandRow {
         name: "new",
         about: "Writes an image with nothing in it, and prints 'ok'",
@@ -170,6 +178,39 @@ const COMMANDS: [CommandRow; 7] = [
             },
         ],
     },
+    CommandRow {
+        name: "unpack",
+        about: "Takes a PDB or PRC file apart into a text and a file for each block",
+        after_help: Some(FOLDERS),
+        arguments: &[
+            DATABASE_FILE,
+            Argument {
+                name: "DIR",
+                count: Count::One,
+                values: ValueParser::String,
+                help: "Folder to make. There must be none of that name",
+            },
+        ],
+    },
+    CommandRow {
+        name: "pack",
+        about: "Puts a PDB or PRC file together from a folder that 'unpack' made",
+        after_help: Some(FOLDERS),
+        arguments: &[
+            Argument {
+                name: "DIR",
+                count: Count::One,
+                values: ValueParser::String,
+                help: "Folder with the text 'database' and the parts that it names",
+            },
+            Argument {
+                name: "FILE",
+                count: Count::One,
+                values: ValueParser::String,
+                help: "File for the database. One that is there is replaced, once the new one is whole",
+            },
+        ],
+    },
 ];
 
 const DATABASE_FILE: Argument = Argument {
@@ -197,9 +238,9 @@ movable chunks, and a directory lists them.
 
 Exit status:
   0  done
-  1  the image or the script was refused; standard output says why: 'bad' and the first fault
-     in the image, or 'bad TooLarge' if 'migrate' would make it too large, or 'line', the number of
-     the first faulty line and what is wrong in it
+  1  the image, the file or the text was refused; standard output says why: 'bad' and the first fault,
+     or 'bad TooLarge' if 'migrate' or 'pack' would make it too large, or 'line', the number of the
+     first faulty line and what is wrong in it
   2  the words were refused, or there is no image of that SIZE with that many SLOTS
   3  a file could not be read or written, or is longer than 16777216 bytes; or standard output
      could not be written
@@ -330,6 +371,34 @@ the first with an ID keeps it, and the others get free ones. The name is filled 
 A file that cannot be read as a database is refused as by 'palmheap list', and nothing is written. If OUT is
 '-', the new file goes to standard output, and what is printed goes to standard error.";
 
+const FOLDERS: &str = "\
+For example, 'palmheap unpack MemoDB.pdb memos' makes the folder memos with the file 00000, which has the
+data of the first record, and with the text 'database':
+
+  name \"MemoDB\"
+  attributes 0000
+  version 0
+  created 3878595035
+  modified 0
+  backup 0
+  number 0
+  type \"DATA\"
+  creator \"memo\"
+  seed 00000000
+  app none
+  sort none
+  record 01 1 00000
+
+It prints 'ok' with the number of files. The attributes of a database and of a record and the seed are in hex.
+Dates are seconds since 1904-01-01. 'app' and 'sort' have the names of the files with the info blocks, or 'none'. A
+record has its attributes, its ID and the name of its file, a resource its type, its id and the name of its file.
+
+Change files and lines, and put lines in or take them out: 'palmheap pack memos new.pdb' writes the database and
+prints 'ok' with its length. A record with the ID 0 gets a free one. Only a record with the attribute 80, which is
+deleted, may have 'none' for its file. The name of a file has letters, digits, '_', '-' and '.', and begins with a
+letter, a digit or '_'. A line that is empty or starts with '#' is passed over. For a faulty line 'pack' prints 'line',
+its number and what is wrong in it, and the exit status is 1.";
+
 /// What the words of a command line ask for. The first word is the program's own name.
 ///
 /// The error is also a request for help or for the version.
@@ -364,6 +433,8 @@ fn requested<'a>(
         Some(("map", given)) => Ok(map_requested(given)),
         Some(("list", given)) => Ok(list_requested(given)),
         Some(("canonical", given)) => Ok(canonical_requested(given)),
+        Some(("unpack", given)) => Ok(unpack_requested(given)),
+        Some(("pack", given)) => Ok(pack_requested(given)),
         _ => Ok(None),
     }
 }
@@ -422,6 +493,20 @@ fn canonical_requested<'a>(given: &ArgMatches<'a>) -> Option<Request<'a>> {
     Some(Request::Canonical {
         file: given.get_str("FILE")?,
         out: given.get_str("OUT")?,
+    })
+}
+
+fn unpack_requested<'a>(given: &ArgMatches<'a>) -> Option<Request<'a>> {
+    Some(Request::Unpack {
+        file: given.get_str("FILE")?,
+        folder: given.get_str("DIR")?,
+    })
+}
+
+fn pack_requested<'a>(given: &ArgMatches<'a>) -> Option<Request<'a>> {
+    Some(Request::Pack {
+        folder: given.get_str("DIR")?,
+        out: given.get_str("FILE")?,
     })
 }
 

@@ -1,10 +1,8 @@
 -- What a part of a list reads as, and what a list is once a part of it is written.
-use Rattle.std.proofs.Common.{◌≡◌, ℕ, zero, suc, ◌+◌, ◌-◌, ◌<◌, ◌≤◌, List, ◌++◌, length, take, drop, replicate, slice_range, refl, sym, ap, ◌∙◌, append_assoc, arith, length-take, length-drop, take-add}
-use Rattle.std.proofs.lemmas.List.{drop-drop, drop-take, take-take, take-append-drop, drop_all, append-nil, get_or-drop, get_or-take, length-replicate}
-use Rattle.heap_model.specs.Bytes.{u16_at, u32_at, u16_bytes, u32_bytes, overwritten}
-use Rattle.raw_region.specs.ByteChanges.{changed_every}
-use Rattle.raw_region.proofs.ChangeLaws.{length-changed_every}
-use Rattle.byteorder.specs.Endian.{big_number, big_from, big_bytes}
+use Rattle.std.proofs.Common.{◌≡◌, ℕ, zero, suc, ◌+◌, ◌-◌, ◌<◌, ◌≤◌, List, ◌++◌, length, take, drop, slice_range, refl, sym, ap, ◌∙◌, append_assoc, arith, length-take, length-drop, take-add}
+use Rattle.std.proofs.lemmas.List.{drop-drop, drop-take, take-take, take-append-drop, drop_all, append-nil, get_or-drop, get_or-take}
+use Rattle.heap_model.specs.Bytes.{u16_at, u32_at, overwritten}
+use Rattle.byteorder.specs.Endian.{big_number, big_from}
 
 -- a number within the k bytes at an offset is the number there
 big_from-part : (i n k at : ℕ) (bytes : List ℕ) → i + n ≤ k
@@ -46,49 +44,17 @@ overwritten_by_part old at k new part is many =
 length-taken : (old : List ℕ) (at n : ℕ) → at + n ≤ length old → length (take n (drop at old)) ≡ n
 length-taken old at n within = simp (length-take, length-drop) (omega arith)
 
-length-part : (old : List ℕ) (at n : ℕ) → at + n ≤ length old
+pub length-part : (old : List ℕ) (at n : ℕ) → at + n ≤ length old
     → length (take (at + n - at) (drop at old)) ≡ n
 length-part old at n within = length-taken old at (at + n - at) (omega arith) ∙ omega arith
 
 -- a part that is written up to its end keeps nothing
-part-written : (old new : List ℕ) (at n : ℕ) → at + n ≤ length old
+pub part-written : (old new : List ℕ) (at n : ℕ) → at + n ≤ length old
     → new ++ drop n (take (at + n - at) (drop at old)) ≡ new
 part-written old new at n within =
     let part = take (at + n - at) (drop at old) in
     let all : length part ≤ n = omega (arith, length-part old at n within) in
     rw (drop_all n part all, append-nil) refl
-
-pub overwritten_by_u16 : (old new : List ℕ) (at n : ℕ) → at + 2 ≤ length old
-    → new ≡ big_bytes 2 n ++ drop 2 (take (at + 2 - at) (drop at old))
-    → take at old ++ (new ++ drop (at + 2 - at) (drop at old)) ≡ overwritten old at (u16_bytes n)
-unfolding u16_bytes
-overwritten_by_u16 old new at n within is =
-    let number = big_bytes 2 n in
-    overwritten_by_part old at _ new number (is ∙ part-written old number at 2 within) (omega arith)
-
-pub overwritten_by_u32 : (old new : List ℕ) (at n : ℕ) → at + 4 ≤ length old
-    → new ≡ big_bytes 4 n ++ drop 4 (take (at + 4 - at) (drop at old))
-    → take at old ++ (new ++ drop (at + 4 - at) (drop at old)) ≡ overwritten old at (u32_bytes n)
-unfolding u32_bytes
-overwritten_by_u32 old new at n within is =
-    let number = big_bytes 4 n in
-    overwritten_by_part old at _ new number (is ∙ part-written old number at 4 within) (omega arith)
-
-pub overwritten_by_fill : (old new : List ℕ) (at n byte : ℕ) → at + n ≤ length old
-    → new ≡ replicate (length (take (at + n - at) (drop at old))) byte
-    → take at old ++ (new ++ drop (at + n - at) (drop at old))
-    ≡ overwritten old at (replicate n byte)
-overwritten_by_fill old new at n byte within is =
-    let filled : new ≡ replicate n byte = rw (length-part old at n within) at is in
-    overwritten_by_part old at _ new _ filled (omega (arith, length-replicate n byte))
-
-pub overwritten_by_change : (old new : List ℕ) (at n skip step : ℕ) (change : ℕ → ℕ) → at + n ≤ length old
-    → new ≡ changed_every change step skip (take (at + n - at) (drop at old))
-    → take at old ++ (new ++ drop (at + n - at) (drop at old))
-    ≡ overwritten old at (changed_every change step skip (slice_range old at (at + n)))
-overwritten_by_change old new at n skip step change within is =
-    let part = take (at + n - at) (drop at old) in
-    overwritten_by_part old at _ new (changed_every change step skip part) is (omega (arith, length-changed_every change step skip part, length-part old at n within))
 
 -- a list whose n bytes at an offset are now those that were at another
 pub overwritten_by_slide : (old new : List ℕ) (from to n : ℕ) → from + n ≤ length old
@@ -137,7 +103,7 @@ overwritten_in_part old part bytes at n by inside is =
     rw (is, start, front, sym end) (simp append_assoc refl)
 
 -- a list of which k bytes slid within a part
-slid_in_part : (old part : List ℕ) (at n low high k : ℕ)
+pub slid_in_part : (old part : List ℕ) (at n low high k : ℕ)
     → at + n ≤ length old → low + k ≤ n → high + k ≤ n
     → part ≡ overwritten (take n (drop at old)) high (take k (drop low (take n (drop at old))))
     → take at old ++ (part ++ drop n (drop at old)) ≡ overwritten old (at + high) (take k (drop (at + low) old))

@@ -35,7 +35,7 @@ impl<A: Allocator> Model for Lease<A> {
 }
 
 impl Room {
-    /// A block of so many bytes, or `None` where memory is refused.
+    /// A block of `size` bytes, or `None` if the allocation failed.
     pub(crate) fn new<A: Allocator>(alloc: &A, size: usize) -> Option<(Room, Lease<A>)>
         requires { (0 < size) × (size < 2 ^ 63) }
         ensures { IfSome result (λ made. (made.0.size ≡ size) × (made.1.alloc ≡ alloc.now)

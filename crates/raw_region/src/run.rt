@@ -1,13 +1,14 @@
 //! Bytes in a row behind a raw pointer.
 //!
 //! A run knows nothing of where its block begins or ends, so a part of a block is a run too. That is
-//! how a part of a region can be lent: the bytes of a run are those before a part, the part and those
-//! behind it, each a run of its own, and put together again they are what the three hold by then.
-//! The laws `cut_at` and `joined_at` of `proofs/Loans.antt` say so of what a run owns. The right to
-//! free the block stays with the region meanwhile, and can't be used before the parts are joined.
+//! how a part of a region is lent: a run is cut into the bytes before a part, the part and those after
+//! it, each a run of its own. Joined again, they are what the three have by then. The laws `cut_at` and
+//! `joined_at` of `proofs/Loans.antt` say so of what a run owns. The right to free the block stays with
+//! the region meanwhile, and can't be used before the parts are joined.
 
-ghost use Rattle.std.specs.Prelude.{◌≡◌, ◌<◌, ◌^◌, ℕ, List, [], length};
+ghost use Rattle.std.specs.Prelude.{◌≡◌, ◌+◌, ◌<◌, ◌≤◌, ◌^◌, ◌++◌, ℕ, List, [], length, take, drop};
 ghost use Rattle.raw_region.specs.Ownership.{bytes_at, bytes_lent};
+ghost use denote.RawPtr.{◌+ₚ◌};
 
 use crate::room::Room;
 use std::marker::Model;
@@ -71,6 +72,36 @@ impl Run {
         Run {
             ptr: &raw mut none as *mut u8,
             len: 0,
+        }
+    }
+
+    /// The first `at` bytes, and the others.
+    pub(crate) fn cut(self, at: usize) -> (Run, Run)
+        requires { at ≤ length self.bytes }
+        ensures first { (result.0.ptr ≡ self.ptr) × (result.0.len ≡ at) × (result.0.bytes ≡ take at self.bytes) }
+        ensures rest { (result.1.ptr ≡ self.ptr +ₚ at) × (result.1.len + at ≡ self.len) × (result.1.bytes ≡ drop at self.bytes) }
+    {
+        let Run { ptr, len } = self;
+        let rest = unsafe { ptr.add(at) };
+        (
+            Run { ptr, len: at },
+            Run {
+                ptr: rest,
+                len: len - at,
+            },
+        )
+    }
+
+    /// These bytes and those after them.
+    pub(crate) fn joined(self, rest: Run) -> Run
+        requires { (rest.ptr ≡ self.ptr +ₚ self.len) × (self.len + rest.len < 2 ^ 63) }
+        ensures { (result.ptr ≡ self.ptr) × (result.len ≡ self.len + rest.len) × (result.bytes ≡ self.bytes ++ rest.bytes) }
+    {
+        let Run { ptr, len } = self;
+        let Run { ptr: _, len: more } = rest;
+        Run {
+            ptr,
+            len: len + more,
         }
     }
 }

@@ -1,6 +1,7 @@
 //! Categories of records: those of one are counted, moved to another, or deleted.
 
 ghost use Rattle.std.specs.Prelude.{◌≡◌, false, [], ◌∷◌, OnOk, OnErr, IfErr, IfSome, IfNone};
+ghost use Rattle.heap_model.specs.Lending.{KeepsLoan};
 ghost use Rattle.heap_model.specs.Store.{Accepted, store_of};
 ghost use Rattle.heap_model.specs.Refusals.{NoneHolds, FirstBrings};
 ghost use Rattle.heap_model.specs.EntrySteps.{MakesNone};
@@ -115,6 +116,7 @@ fn delete_all_of(store: &mut Store, db: Db, chunk: Found, category: u8)
         (λ before. category_deleted before db category) }
     ensures stands { StandsAs store.new.bytes db.0 chunk }
     ensures none_made { MakesNone store.old.bytes store.new.bytes }
+    ensures loan { KeepsLoan store.old store.new }
     ensures rest { store.new ≡ record store.old { bytes = store.new.bytes } }
 {
     let mut from = 0;

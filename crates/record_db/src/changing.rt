@@ -2,6 +2,7 @@
 
 ghost use Rattle.std.specs.Prelude.{◌≡◌, ◌<◌, false, Some, length, bit_or, OnErr};
 ghost use Rattle.heap_model.specs.Database.{a_record};
+ghost use Rattle.heap_model.specs.Lending.{KeepsLoan};
 ghost use Rattle.heap_model.specs.Store.{Accepted, store_of};
 ghost use Rattle.heap_model.specs.EntrySteps.{entry_under, entry_changed, with_attributes, MakesNone};
 ghost use Rattle.heap_model.specs.RecordSteps.{id_set};
@@ -170,6 +171,7 @@ fn mark(store: &mut Store, db: Db, index: u32, live: LiveRecord, bits: RecordAtt
         (λ store. raised_if counts (entry_changed store db index
         (with_attributes (λ attributes. bit_or attributes bits.0))) db) }
     ensures none_made { MakesNone store.old.bytes store.new.bytes }
+    ensures loan { KeepsLoan store.old store.new }
     ensures rest { store.new ≡ record store.old { bytes = store.new.bytes } }
 {
     let marked = EntryInfo::Record {

@@ -36,9 +36,9 @@ pub fn new_record(store: &mut Store, db: Db, at: u32, size: u32) -> Result<(u32,
 
 /// Gives the data of a record so many bytes: its first ones, or all of them and zeros behind them.
 ///
-/// Refused: `NoSuchDatabase`, `NotRecordDatabase`, `ReadOnly`, `IndexOutOfRange`, `RecordDeleted`; where the data has
-/// to grow `ChunkLocked`, if it is locked and doesn't fit in its place, and `NotEnoughSpace`. Then nothing has
-/// changed.
+/// Refused: `NoSuchDatabase`, `NotRecordDatabase`, `ReadOnly`, `IndexOutOfRange`, `RecordDeleted`, `Lent`; where the
+/// data has to grow `ChunkLocked`, if it is locked and doesn't fit in its place, and `NotEnoughSpace`. Then nothing
+/// has changed.
 pub fn resize_record(store: &mut Store, db: Db, index: u32, size: u32) -> Result<(), Refusal>
     ensures does { DoesRecord store.old (RecordCall.Resize db index size)
         (done_or_refused result) store.new }

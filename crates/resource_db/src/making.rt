@@ -42,8 +42,8 @@ pub fn new_resource(
 
 /// Gives the data of a resource so many bytes: its first ones, or all of them and zeros behind them.
 ///
-/// Refused: `NoSuchDatabase`, `NotResourceDatabase`, `ReadOnly`, `IndexOutOfRange`; where the data has to grow
-/// `ChunkLocked`, if it is locked and doesn't fit in its place, and `NotEnoughSpace`. Then nothing has changed.
+/// Refused: `NoSuchDatabase`, `NotResourceDatabase`, `ReadOnly`, `IndexOutOfRange`, `Lent`; where the data has to
+/// grow `ChunkLocked`, if it is locked and doesn't fit in its place, and `NotEnoughSpace`. Then nothing has changed.
 pub fn resize_resource(store: &mut Store, db: Db, index: u32, size: u32) -> Result<(), Refusal>
     ensures does { DoesResource store.old (ResourceCall.Resize db index size)
         (done_or_refused result) store.new }

@@ -54,6 +54,10 @@ spelled_number word = if bytes_eq (take 2 word) (codes "0x") then number_in 16 8
 abbrev pub number_below : ℕ → List ℕ → Option ℕ
 number_below limit word = below limit (spelled_number word)
 
+-- a number below a limit in hex without `0x`: one to eight digits
+abbrev pub hex_below : ℕ → List ℕ → Option ℕ
+hex_below limit word = below limit (number_in 16 8 word)
+
 -- bytes: hex digits, at least two, or `-` for none
 abbrev pub spelled_bytes : List ℕ → Option (List ℕ)
 spelled_bytes word = if bytes_eq word (codes "-") then Some [] else if length word == 0 then None else hex_bytes word

@@ -3,7 +3,7 @@
 ghost use Rattle.std.specs.Prelude.{◌≡◌, ◌<◌, ◌≤◌, ◌^◌, false, true, MatchOption};
 ghost use Rattle.std.specs.List.{list_all};
 ghost use Rattle.script_lines.specs.Spellings as spellings;
-ghost use Rattle.script_lines.specs.Spellings.{below, number_behind, number_below};
+ghost use Rattle.script_lines.specs.Spellings.{below, hex_below, number_behind, number_below};
 ghost use Rattle.script_lines.specs.Spellings.{is_quoted, spelled_bytes, spelled_text};
 ghost use Rattle.script_lines.specs.Spellings.{spelled_flag, spelled_four, spelled_which};
 
@@ -79,7 +79,7 @@ fn number_in(base: u64, digits: &[u8]) -> Option<u32>
 }
 
 /// The number that a word spells.
-pub(crate) fn number_of(word: &[u8]) -> Option<u32>
+pub fn number_of(word: &[u8]) -> Option<u32>
     ensures { result ≡ number_below (2 ^ 32) word.now }
 {
     if let Some(digits) = word.strip_prefix(b"0x") {
@@ -94,6 +94,30 @@ pub(crate) fn number_of(word: &[u8]) -> Option<u32>
     number_in(10, word)
 }
 
+/// The number that a word of one to eight hex digits spells.
+pub fn hex_of(word: &[u8]) -> Option<u32>
+    ensures { result ≡ hex_below (2 ^ 32) word.now }
+{
+    if word.is_empty() || word.len() > 8 {
+        return None;
+    }
+    number_in(16, word)
+}
+
+/// The number below 2^16 that hex digits spell.
+pub fn hex_short_of(word: &[u8]) -> Option<u16>
+    ensures { result ≡ hex_below (2 ^ 16) word.now }
+{
+    u16::try_from(hex_of(word)?).ok()
+}
+
+/// The number below 2^8 that hex digits spell.
+pub fn hex_byte_of(word: &[u8]) -> Option<u8>
+    ensures { result ≡ hex_below (2 ^ 8) word.now }
+{
+    u8::try_from(hex_of(word)?).ok()
+}
+
 /// The number below 2^8 that a word spells.
 pub(crate) fn byte_of(word: &[u8]) -> Option<u8>
     ensures { result ≡ number_below (2 ^ 8) word.now }
@@ -102,7 +126,7 @@ pub(crate) fn byte_of(word: &[u8]) -> Option<u8>
 }
 
 /// The number below 2^16 that a word spells.
-pub(crate) fn short_of(word: &[u8]) -> Option<u16>
+pub fn short_of(word: &[u8]) -> Option<u16>
     ensures { result ≡ number_below (2 ^ 16) word.now }
 {
     u16::try_from(number_of(word)?).ok()
@@ -155,7 +179,7 @@ fn inside_quotes(word: &[u8]) -> Option<&[u8]>
 }
 
 /// The text that a word spells.
-pub(crate) fn text_of(word: &[u8]) -> Option<LentBytes<'_>>
+pub fn text_of(word: &[u8]) -> Option<LentBytes<'_>>
     ensures { result ≡ spelled_text word.now }
 {
     if let Some(digits) = word.strip_prefix(b"x:") {
@@ -169,7 +193,7 @@ pub(crate) fn text_of(word: &[u8]) -> Option<LentBytes<'_>>
 }
 
 /// The four bytes of the text that a word spells, if it has so many, as a number.
-pub(crate) fn four_bytes_of(word: &[u8]) -> Option<u32>
+pub fn four_bytes_of(word: &[u8]) -> Option<u32>
     ensures { result ≡ spelled_four word.now }
 {
     let text = text_of(word)?;

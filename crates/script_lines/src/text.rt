@@ -41,12 +41,14 @@ fn without_return(line: &[u8]) -> &[u8]
 
 /// The first line of a text, and what follows it.
 #[derive(Clone, Copy)]
-pub(crate) struct LineCut<'a> {
+pub struct LineCut<'a> {
     pub line: &'a [u8],
     pub rest: &'a [u8],
 }
 
-pub(crate) fn cut_line(text: &[u8]) -> LineCut<'_>
+/// Cuts the first line off a text that isn't empty. The line comes without the carriage return and the line feed at
+/// its end.
+pub fn cut_line(text: &[u8]) -> LineCut<'_>
     requires { 0 < length text.now }
     ensures { CutsLine text.now result }
 {
@@ -100,7 +102,7 @@ fn quote_end(text: &[u8]) -> usize
 }
 
 /// Whether a line has no words, or its first word starts with `#`.
-pub(crate) fn is_passed_over(line: &[u8]) -> bool
+pub fn is_passed_over(line: &[u8]) -> bool
     ensures { result ≡ words.is_passed_over line.now }
 {
     let (_, words) = line.split_at(blank_end(line));
@@ -122,7 +124,7 @@ fn ends_word(text: &[u8]) -> bool
 
 /// The first word of a text.
 #[derive(Clone, Copy)]
-pub(crate) enum WordCut<'a> {
+pub enum WordCut<'a> {
     /// There is none.
     Absent,
     /// It is a quoted word that isn't closed, or isn't followed by a space, a tab or the end.
@@ -132,7 +134,7 @@ pub(crate) enum WordCut<'a> {
 }
 
 /// The first word of a text.
-pub(crate) fn cut_word(text: &[u8]) -> WordCut<'_>
+pub fn cut_word(text: &[u8]) -> WordCut<'_>
     ensures { CutsWord text.now result }
 {
     let (_, front) = text.split_at(blank_end(text));
@@ -157,7 +159,7 @@ pub(crate) fn cut_word(text: &[u8]) -> WordCut<'_>
 }
 
 /// How many words a line has, or the number of its first broken word, counted from 1.
-pub(crate) fn count_words(line: &[u8]) -> Result<usize, usize>
+pub fn count_words(line: &[u8]) -> Result<usize, usize>
     ensures { result ≡ word_count (words_of line.now) }
 {
     let mut rest = line;

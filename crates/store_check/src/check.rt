@@ -1,6 +1,7 @@
 //! The check of a whole image.
+#![tactic(auto, using(laws_heap::proofs::Lending::all_within, laws_heap::proofs::Lending::all_misses))]
 
-ghost use Rattle.std.specs.Prelude.{◌≡◌, ◌≤◌, ◌*◌, ◌⊎◌, [], ◌∷◌, List, length, Err, IfOk, IfErr, OnOk};
+ghost use Rattle.std.specs.Prelude.{◌≡◌, ◌≤◌, ◌*◌, ◌⊎◌, [], ◌∷◌, List, length, Err, IfOk, IfErr, OnOk, None};
 ghost use Rattle.heap_model.specs.Bytes.{AreBytes};
 ghost use Rattle.heap_model.specs.Heap.{HeapAccepted, directory_of};
 ghost use Rattle.heap_model.specs.Store.{directory_bytes, listed, most_databases, Accepted};
@@ -38,6 +39,7 @@ use std::alloc::Global;
 /// image, which are up to 8 MiB, and then a bit for each number up to the greatest ID, 32 KiB at least and
 /// 2 MiB at most, and changes nothing. Only where memory is refused does it answer `OutOfMemory`.
 pub fn check_store(alloc: Global, region: &Region) -> Result<StoreSummary, StoreFault>
+    requires whole { region.now.lent ≡ None }
     ensures accepted { OnOk result (Accepted region.now.bytes) }
     ensures summary { IfOk result (Summarizes region.now.bytes) }
     ensures fault { IfErr result (IsAnswered region.now.bytes) }
@@ -52,6 +54,7 @@ pub fn check_store_from<A: Allowance>(
     memory: &A,
     region: &Region,
 ) -> Result<StoreSummary, StoreFault>
+    requires whole { region.now.lent ≡ None }
     ensures accepted { OnOk result (Accepted region.now.bytes) }
     ensures summary { IfOk result (Summarizes region.now.bytes) }
     ensures fault { IfErr result (IsAnswered region.now.bytes) }
@@ -68,6 +71,7 @@ pub fn check_store_from<A: Allowance>(
 /// The same of an image of so many words that memory is taken for the marks of owners, once its heap is
 /// known to be accepted.
 fn check_large<A: Allowance>(memory: &A, region: &Region) -> Result<StoreSummary, StoreFault>
+    requires whole { region.now.lent ≡ None }
     ensures accepted { OnOk result (Accepted region.now.bytes) }
     ensures summary { IfOk result (Summarizes region.now.bytes) }
     ensures fault { IfErr result (IsAnswered region.now.bytes) }
@@ -91,6 +95,7 @@ fn check_noting<A: Allowance>(
     region: &Region,
     owners: &mut [u8],
 ) -> Result<StoreSummary, StoreFault>
+    requires whole { region.now.lent ≡ None }
     requires room { model_needed region.now.bytes ≤ length owners.old }
     requires clear { NoneMarked owners.old }
     ensures accepted { OnOk result (Accepted region.now.bytes) }
@@ -113,6 +118,7 @@ fn check_databases<A: Allowance>(
     region: &Region,
     owners: &[u8],
 ) -> Result<u32, StoreFault>
+    requires whole { region.now.lent ≡ None }
     requires accepted { HeapAccepted region.now.bytes }
     requires owners { HasOwners region.now.bytes owners.now }
     ensures accepted { OnOk result (Accepted region.now.bytes) }
@@ -132,6 +138,7 @@ fn check_with_table<A: Allowance>(
     owners: &[u8],
     table: &mut [Body],
 ) -> Result<u32, StoreFault>
+    requires whole { region.now.lent ≡ None }
     requires accepted { HeapAccepted region.now.bytes }
     requires owners { HasOwners region.now.bytes owners.now }
     requires table { most_databases ≤ length table.old }
@@ -151,6 +158,7 @@ fn check_with_table<A: Allowance>(
 
 /// The numbers in a region are bytes: it is known of those that a slice has.
 fn know_bytes(region: &Region)
+    requires whole { region.now.lent ≡ None }
     ensures { AreBytes region.now.bytes }
 {
     let _bytes = region.as_slice();
@@ -164,6 +172,7 @@ fn check_marks<A: Allowance>(
     owners: &[u8],
     table: &mut [Body],
 ) -> Result<(), StoreFault>
+    requires whole { region.now.lent ≡ None }
     requires accepted { HeapAccepted region.now.bytes }
     requires owners { HasOwners region.now.bytes owners.now }
     requires table { most_databases ≤ length table.old }
@@ -189,6 +198,7 @@ fn check_with_marks(
     marks: &mut [u8],
     table: &mut [Body],
 ) -> Result<(), StoreFault>
+    requires whole { region.now.lent ≡ None }
     requires accepted { HeapAccepted region.now.bytes }
     requires owners { HasOwners region.now.bytes owners.now }
     requires room { HasRoom region.now.bytes (length marks.old) }
@@ -221,6 +231,7 @@ fn check_listed(
     marks: &mut [u8],
     table: &mut [Body],
 ) -> Result<(), StoreFault>
+    requires whole { region.now.lent ≡ None }
     requires accepted { HeapAccepted region.now.bytes }
     requires owners { HasOwners region.now.bytes owners.now }
     requires room { HasRoom region.now.bytes (length marks.old) }
@@ -250,6 +261,7 @@ fn check_listed(
 
 /// How many bytes a set takes that has room for all IDs, and for the numbers of names.
 fn set_size(region: &Region, headers: &[Body]) -> usize
+    requires whole { region.now.lent ≡ None }
     requires listed { AreListed region.now.bytes headers.now }
     requires headers { HaveHeaders region.now.bytes }
     ensures ids { HasRoomForAll region.now.bytes result }
@@ -265,6 +277,7 @@ fn check_ids_and_names<A: Allowance>(
     region: &Region,
     headers: &[Body],
 ) -> Result<(), StoreFault>
+    requires whole { region.now.lent ≡ None }
     requires listed { AreListed region.now.bytes headers.now }
     requires headers { HaveHeaders region.now.bytes }
     ensures fault { IfErr result (IsFirstOr (own_faults region.now.bytes)) }
@@ -279,6 +292,7 @@ fn check_ids_and_names<A: Allowance>(
 
 /// Looks for the faults of IDs and names, with this set of numbers, which is empty.
 fn check_with_set(region: &Region, headers: &[Body], seen: &mut [u8]) -> Result<(), StoreFault>
+    requires whole { region.now.lent ≡ None }
     requires listed { AreListed region.now.bytes headers.now }
     requires headers { HaveHeaders region.now.bytes }
     requires ids { HasRoomForAll region.now.bytes (length seen.old) }

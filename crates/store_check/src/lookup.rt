@@ -1,6 +1,7 @@
 //! The chunks of the manager: where their bodies are, by their slots, and the bytes there.
+#![tactic(auto, using(laws_heap::proofs::Lending::all_within, laws_heap::proofs::Lending::all_misses))]
 
-ghost use Rattle.std.specs.Prelude.{◌≡◌, ◌≤◌, ◌<◌, ◌+◌, length, slice_range};
+ghost use Rattle.std.specs.Prelude.{◌≡◌, ◌≤◌, ◌<◌, ◌+◌, length, slice_range, None};
 ghost use Rattle.heap_model.specs.Chunk.{managers_owner};
 ghost use Rattle.heap_model.specs.Heap.{HeapAccepted};
 ghost use Rattle.heap_model.specs.Store.{owner_under, directory_bytes};
@@ -39,6 +40,7 @@ fn as_movable(header: Header, place: Place) -> Option<Body>
 
 /// The body of a chunk of the manager's: its slot holds the place.
 fn body_under(region: &Region, slot: u32) -> Body
+    requires whole { region.now.lent ≡ None }
     requires accepted { HeapAccepted region.now.bytes }
     requires managers { owner_under region.now.bytes slot ≡ managers_owner }
     ensures { HasBody region.now.bytes slot result }
@@ -50,7 +52,8 @@ fn body_under(region: &Region, slot: u32) -> Body
 /// The bytes of a body.
 #[inline]
 pub(crate) fn bytes_of(region: &Region, body: Body) -> &[u8]
-    requires { body.place.0 + body.length ≤ length region.now.bytes }
+    requires whole { region.now.lent ≡ None }
+    requires inside { body.place.0 + body.length ≤ length region.now.bytes }
     ensures { result.now ≡ slice_range region.now.bytes
         body.place.0 (body.place.0 + body.length) }
 {
@@ -59,7 +62,8 @@ pub(crate) fn bytes_of(region: &Region, body: Body) -> &[u8]
 
 /// The bytes of the directory. There are none where the directory word is 0.
 pub(crate) fn directory_in(region: &Region) -> &[u8]
-    requires { HeapAccepted region.now.bytes }
+    requires whole { region.now.lent ≡ None }
+    requires accepted { HeapAccepted region.now.bytes }
     ensures { result.now ≡ directory_bytes region.now.bytes }
 {
     let slot = directory(region);
@@ -71,6 +75,7 @@ pub(crate) fn directory_in(region: &Region) -> &[u8]
 
 /// The body under the word of an index in the directory: the header of that database and its entries.
 pub(crate) fn find_header(region: &Region, directory: &[u8], db: usize) -> Body
+    requires whole { region.now.lent ≡ None }
     requires listing { IsListing region.now.bytes directory.now }
     requires below { db < model_count region.now.bytes }
     ensures { HasBody region.now.bytes (listed_at region.now.bytes db) result }
@@ -81,6 +86,7 @@ pub(crate) fn find_header(region: &Region, directory: &[u8], db: usize) -> Body
 /// The bytes of the header of the database of an index, and of its entries.
 #[inline]
 pub(crate) fn header_of<'a>(region: &'a Region, headers: &[Body], db: usize) -> &'a [u8]
+    requires whole { region.now.lent ≡ None }
     requires listed { AreListed region.now.bytes headers.now }
     requires below { db < length headers.now }
     ensures { result.now ≡ header_at region.now.bytes db }

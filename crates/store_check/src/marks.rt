@@ -1,6 +1,7 @@
 //! Marks for the words where slots can stand: how often each was met, two standing for more.
+#![tactic(auto, using(laws_heap::proofs::Lending::all_within, laws_heap::proofs::Lending::all_misses))]
 
-ghost use Rattle.std.specs.Prelude.{◌≡◌, ◌≤◌, ◌<◌, ◌*◌, ◌^◌, ◌↔◌, ℕ, [], ◌∷◌, List, length, IsTrue, IfOk, OnErr};
+ghost use Rattle.std.specs.Prelude.{◌≡◌, ◌≤◌, ◌<◌, ◌*◌, ◌^◌, ◌↔◌, ℕ, [], ◌∷◌, List, length, IsTrue, IfOk, OnErr, None};
 ghost use Rattle.heap_model.specs.Slots.{slot_size};
 ghost use Rattle.heap_model.specs.Heap.{HeapAccepted};
 ghost use Rattle.heap_model.specs.Lists.{times};
@@ -16,7 +17,8 @@ use std::alloc::AllocError;
 /// How many marks are taken for an image: one for each slot of an only table, and with a chain of tables
 /// one for each word of the image.
 pub(crate) fn mark_count(region: &Region) -> usize
-    requires { HeapAccepted region.now.bytes }
+    requires whole { region.now.lent ≡ None }
+    requires accepted { HeapAccepted region.now.bytes }
     ensures room { HasRoom region.now.bytes result }
     ensures most { slot_size * result ≤ length region.now.bytes }
 {

@@ -1,6 +1,7 @@
 //! The words of the directory: the slots of the headers.
+#![tactic(auto, using(laws_heap::proofs::Lending::all_within, laws_heap::proofs::Lending::all_misses))]
 
-ghost use Rattle.std.specs.Prelude.{◌≡◌, ◌<◌, ◌⊎◌, ◌↔◌, ℕ, List, [], ◌∷◌, length, IsTrue, IfSome, IfNone};
+ghost use Rattle.std.specs.Prelude.{◌≡◌, ◌<◌, ◌⊎◌, ◌↔◌, ℕ, List, [], ◌∷◌, length, IsTrue, IfSome, IfNone, None};
 ghost use Rattle.heap_model.specs.Chunk.{managers_owner};
 ghost use Rattle.heap_model.specs.Heap.{HeapAccepted, directory_of};
 ghost use Rattle.heap_model.specs.Lists.{times};
@@ -33,6 +34,7 @@ fn is_other_or_marked(slot: u32, owners: &[u8], marks: &[u8]) -> bool
 /// The first bad word of the directory, where its own slot is marked. All that it lists is then marked
 /// too.
 pub(crate) fn find_bad_slot(region: &Region, owners: &[u8], marks: &mut [u8]) -> Option<StoreFault>
+    requires whole { region.now.lent ≡ None }
     requires accepted { HeapAccepted region.now.bytes }
     requires owners { HasOwners region.now.bytes owners.now }
     requires room { HasRoom region.now.bytes (length marks.old) }

@@ -1,7 +1,9 @@
 //! A call on a store, and the same on the plain model beside it.
 
+ghost use Rattle.std.specs.Prelude.{◌≡◌, IfOk, None};
+
 use crate::draw::{database_call, file_call, memory_call, record_call, resource_call};
-use heap_model::{Call, Reply};
+use heap_model::{Call, Name, Place, Refusal, Reply};
 use palm_script::do_call;
 use palm_store::Store;
 use palm_text::Counted;
@@ -53,7 +55,9 @@ impl Beside {
         store: &mut Store,
         spot: &str,
         call: &Call,
-    ) -> Result<Reply, Fail> {
+    ) -> Result<Reply, Fail>
+        ensures { store.new.lent ≡ store.old.lent }
+    {
         let reply = do_call(alloc, store, call);
         let after = image_of(alloc, store)?;
         check(
@@ -69,6 +73,37 @@ impl Beside {
         Ok(reply)
     }
 
+    /// The same while the bytes under a name are out. They are put back after the call, as they were, and must stand
+    /// where they stood.
+    pub fn call_lent(
+        &mut self,
+        alloc: Global,
+        store: &mut Store,
+        name: Name,
+        spot: &str,
+        call: &Call,
+    ) -> Result<Reply, Fail>
+        requires { store.old.lent ≡ None }
+        ensures { store.new.lent ≡ None }
+    {
+        let reply = reply_while_lent(alloc, store, name, call)?;
+        let after = image_of(alloc, store)?;
+        let bytes = Vec::from_slice(alloc, self.plain.take_out(name)?)?;
+        check(
+            alloc,
+            spot,
+            &mut self.plain,
+            call,
+            &reply,
+            &self.image,
+            &after,
+        )?;
+        self.plain.put_back(&bytes);
+        check_stays(alloc, spot, name, &self.image, &after)?;
+        self.image = after;
+        Ok(reply)
+    }
+
     /// An image must be accepted and mean just the model's store.
     pub fn check_meant(&self, alloc: Global, image: &[u8]) -> Result<(), Fail> {
         store_of(alloc, image)?;
@@ -76,6 +111,41 @@ impl Beside {
         let difference = difference(alloc, "what is left", &self.plain, &image)?;
         equal("what is left", difference, None)
     }
+}
+
+/// Does a call on a store while the bytes under a name are out, and puts them back.
+fn reply_while_lent(
+    alloc: Global,
+    store: &mut Store,
+    name: Name,
+    call: &Call,
+) -> Result<Reply, Refusal>
+    requires { store.old.lent ≡ None }
+    ensures { store.new.lent ≡ None }
+{
+    let loan = store.take_out(name)?;
+    let reply = do_call(alloc, store, call);
+    store.put_back(loan);
+    Ok(reply)
+}
+
+/// The body of a name must have the place and the length that it had.
+fn check_stays(
+    alloc: Global,
+    spot: &str,
+    name: Name,
+    before: &[u8],
+    after: &[u8],
+) -> Result<(), Fail> {
+    let before = Image::decode(alloc, before)?;
+    let after = Image::decode(alloc, after)?;
+    equal(spot, body_of(&after, name), body_of(&before, name))
+}
+
+/// Where the body of a name stands, and how long it is.
+pub fn body_of(image: &Image, name: Name) -> Option<(Place, usize)> {
+    let piece = image.piece(name)?;
+    Some((piece.place, piece.live?.bytes.len()))
 }
 
 /// Does a call on the model. The replies must be the same, the image must be accepted and mean just the
@@ -114,7 +184,9 @@ fn difference(
 }
 
 /// The store of an image.
-pub fn store_of(alloc: Global, image: &[u8]) -> Result<Store, Fail> {
+pub fn store_of(alloc: Global, image: &[u8]) -> Result<Store, Fail>
+    ensures { IfOk result (λ made. made.lent ≡ None) }
+{
     match Store::check(alloc, Region::from_bytes(alloc, image)?) {
         Ok(store) => Ok(store),
         Err(_) => Err("no store")?,
@@ -128,9 +200,4 @@ pub fn image_of(alloc: Global, store: &Store) -> Result<Vec<u8>, Fail> {
         Ok(()) => Ok(written.into_inner()),
         Err(_) => Err("no image")?,
     }
-}
-
-/// The bytes of a region.
-pub fn bytes_of(region: &Region) -> &[u8] {
-    region.slice(0, region.len())
 }

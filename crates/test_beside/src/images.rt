@@ -1,6 +1,5 @@
 //! Images that lists of calls start from.
 
-use crate::beside::bytes_of;
 use std::alloc::Global;
 use std::test::Fail;
 use test_support::changed_words;
@@ -44,7 +43,7 @@ pub const MIXED: &str = "50484931 00000400 0011 0000 00000010 \
 /// A blank image.
 pub fn blank_image(alloc: Global, size: u32, slots: u16) -> Result<Vec<u8>, Fail> {
     let region = changed_words(alloc, size, slots, &[])?;
-    Ok(Vec::from_slice(alloc, bytes_of(&region))?)
+    Ok(Vec::from_slice(alloc, region.as_slice())?)
 }
 
 /// A blank image with a chain of tables: behind the slots the word `next` is 0.

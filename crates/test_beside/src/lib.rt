@@ -19,10 +19,10 @@ mod images;
 mod outcomes;
 mod verdicts;
 
-pub use beside::{Beside, bytes_of, image_of, store_of};
+pub use beside::{Beside, body_of, image_of, store_of};
 pub use counts::{Counts, Outcome};
 pub use draw::memory_call;
 pub use images::{MIXED, blank_image, chained_image};
 pub use outcomes::OUTCOMES;
-pub use palm_script::do_call;
+pub use palm_script::{do_call, run_calls};
 pub use verdicts::{Verdict, agreed_verdict};

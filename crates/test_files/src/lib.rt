@@ -12,4 +12,6 @@ mod changes;
 #[cfg(test)]
 mod listings;
 #[cfg(test)]
+mod parts;
+#[cfg(test)]
 mod samples;

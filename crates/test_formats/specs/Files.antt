@@ -1,5 +1,5 @@
 -- Files to try the definitions on.
-use Rattle.std.specs.Prelude.{◌+◌, ◌-◌, ◌++◌, ℕ, List, [], ◌∷◌, length, replicate, codes}
+use Rattle.std.specs.Prelude.{◌-◌, ◌++◌, ℕ, List, [], ◌∷◌, length, replicate, codes}
 use Rattle.heap_model.specs.Bytes.{u16_bytes, u32_bytes}
 use Rattle.heap_model.specs.Database.{DatabaseHeader}
 use Rattle.test_formats.specs.HeapImages.{words}

@@ -1,5 +1,7 @@
 //! Each byte of an image with a database, set to each other value.
 
+ghost use Rattle.std.specs.Prelude.{◌≡◌, None};
+
 use crate::stores::listed_store;
 use palm_script::{Script, parse, run};
 use palm_store::Store;
@@ -126,14 +128,18 @@ fn replies(alloc: Global, calls: &[(&str, &str)]) -> Result<String, Fail> {
 }
 
 /// Runs calls on a store, and answers what they print. What they leave is a store.
-fn run_on(alloc: Global, mut store: Store, calls: &Script<'_>) -> Result<Vec<u8>, Fail> {
+fn run_on(alloc: Global, mut store: Store, calls: &Script<'_>) -> Result<Vec<u8>, Fail>
+    requires { store.lent ≡ None }
+{
     let said = printed(alloc, &mut store, calls)?;
     store_of(alloc, &image_of(alloc, &store)?)?;
     Ok(said)
 }
 
 /// What calls print on a store.
-fn printed(alloc: Global, store: &mut Store, calls: &Script<'_>) -> Result<Vec<u8>, Fail> {
+fn printed(alloc: Global, store: &mut Store, calls: &Script<'_>) -> Result<Vec<u8>, Fail>
+    ensures { store.new.lent ≡ store.old.lent }
+{
     let mut out = Counted::new(Vec::new(alloc));
     run(alloc, store, calls, &[], &mut out)?;
     Ok(out.into_inner())

@@ -1,17 +1,20 @@
 //! A list of calls that is drawn call by call along the plain model, and then run as a whole.
 
+ghost use Rattle.std.specs.Prelude.{◌≡◌, None};
+
 use heap_model::{Call, Name, Place, Reply};
 use palm_script::run_calls;
 use palm_store::Store;
 use rand_pcg::Pcg32;
 use std::alloc::{AllocError, Global};
+use std::marker::Model;
 use std::test::*;
 use test_beside::{Beside, Counts, image_of, store_of};
 use test_model::Image;
 use test_support::equal;
 
-/// The list so far. Its calls were done one by one on a store beside the plain model, since what can be named depends
-/// on the calls before.
+/// The list so far. Its calls were done one by one on a store next to the plain model, since what can be named depends
+/// on the calls before. Nothing is lent of the store.
 #[derive(Drop)]
 pub(crate) struct Drawn {
     /// The image that the list begins with.
@@ -23,6 +26,17 @@ pub(crate) struct Drawn {
     store: Store,
     /// Chunks that were locked or fixed behind each call since the list was run last, and where they were then.
     staying: Vec<(Name, Place)>,
+}
+
+impl Model for Drawn {
+    ghost use Rattle.std.specs.Prelude.{◌≡◌, None};
+    ghost use Rattle.heap_model.specs.Memory.{Memory};
+
+    ghost Value = { Memory };
+
+    ghost view = { λ drawn. drawn.store };
+
+    ghost invariant = { λ drawn. drawn.store.lent ≡ None };
 }
 
 impl Drawn {

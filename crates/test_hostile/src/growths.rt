@@ -1,6 +1,9 @@
 //! Each growth is refused in turn: want of memory is answered where one was, and nothing was done then; and nowhere
 //! else.
 
+ghost use Rattle.std.specs.Prelude.{◌≡◌, IfOk, IfErr, None};
+ghost use Rattle.palm_script.specs.Headline.{HandsBack};
+
 use crate::stores::{
     CARRIED, WRITTEN, has_image, input_files, listed_store, store_behind, with_database,
 };
@@ -130,7 +133,9 @@ fn ran_with(
     alloc: Global,
     store: &mut Store,
     text: &str,
-) -> Result<(Option<RunFault>, Vec<u8>), Fail> {
+) -> Result<(Option<RunFault>, Vec<u8>), Fail>
+    ensures { store.new.lent ≡ store.old.lent }
+{
     let script = parse(alloc, text.as_bytes())?;
     let inputs = input_files(alloc)?;
     let mut out = Counted::new(Vec::new(alloc));
@@ -160,14 +165,20 @@ fn list_with(memory: &RefusesOne, alloc: Global) -> Result<Came, Fail> {
 }
 
 /// Whether the list wants memory.
-fn wants_list(memory: &RefusesOne, store: &mut Store) -> bool {
+fn wants_list(memory: &RefusesOne, store: &mut Store) -> bool
+    ensures { store.new.lent ≡ store.old.lent }
+{
     matches!(
         run_calls_from(memory, store, &calls_in_list()),
         Err(OutOfMemory)
     )
 }
 
-fn run_list(memory: &RefusesOne, region: Region) -> Result<(Store, Vec<Reply>), NotRun> {
+fn run_list(memory: &RefusesOne, region: Region) -> Result<(Store, Vec<Reply>), NotRun>
+    requires { region.lent ≡ None }
+    ensures run { IfOk result (λ made. made.0.lent ≡ None) }
+    ensures not_run { IfErr result (HandsBack region) }
+{
     check_and_run_from(memory, region, &calls_in_list())
 }
 
@@ -194,14 +205,18 @@ fn call_with(
     alloc: Global,
     mut store: Store,
     call: &Call,
-) -> Result<Came, Fail> {
+) -> Result<Came, Fail>
+    requires { store.lent ≡ None }
+{
     let image = image_of(alloc, &store)?;
     let is_want = wants_call(memory, &mut store, call);
     came_of(memory, alloc, &store, &image, is_want)
 }
 
 /// Whether a call wants memory.
-fn wants_call(memory: &RefusesOne, store: &mut Store, call: &Call) -> bool {
+fn wants_call(memory: &RefusesOne, store: &mut Store, call: &Call) -> bool
+    ensures { store.new.lent ≡ store.old.lent }
+{
     do_call_from(memory, store, call) == Reply::Refused(Refusal::OutOfMemory)
 }
 

@@ -1,5 +1,7 @@
 //! Images and scripts at their limits: no want of memory is invented for them.
 
+ghost use Rattle.std.specs.Prelude.{◌≡◌, IfOk, None};
+
 use heap_model::{Call, MemoryCall, Name, Reply};
 use image_commands::cmd_check;
 use palm_script::{do_call, run_calls};
@@ -121,7 +123,9 @@ const READ: Call = Call::Memory(MemoryCall::Read {
 });
 
 /// A store with the largest chunk alone.
-fn with_largest(alloc: Global) -> Result<Store, Fail> {
+fn with_largest(alloc: Global) -> Result<Store, Fail>
+    ensures { IfOk result (λ made. made.lent ≡ None) }
+{
     let mut store = store_of(alloc, &blank_image(alloc, MOST, 1)?)?;
     let made = store.handle_new(LARGEST, 1);
     equal("the chunk", made, Ok(Name(16)))?;

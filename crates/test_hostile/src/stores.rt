@@ -1,5 +1,7 @@
 //! Stores behind scripts and files, and the scripts and files.
 
+ghost use Rattle.std.specs.Prelude.{◌≡◌, IfOk, None};
+
 use heap_model::{Bytes, Db};
 use palm_script::{RunFault, parse, run};
 use palm_store::Store;
@@ -29,7 +31,9 @@ pub(crate) fn input_files(alloc: Global) -> Result<Vec<Bytes>, Fail> {
 }
 
 /// The store of a listed image.
-pub(crate) fn listed_store(alloc: Global, listing: &str) -> Result<Store, Fail> {
+pub(crate) fn listed_store(alloc: Global, listing: &str) -> Result<Store, Fail>
+    ensures { IfOk result (λ made. made.lent ≡ None) }
+{
     store_of(alloc, &bytes_of(alloc, listing)?)
 }
 
@@ -38,14 +42,18 @@ pub(crate) fn store_behind(
     alloc: Global,
     listing: &str,
     script: &str,
-) -> Result<(Store, Vec<u8>), Fail> {
+) -> Result<(Store, Vec<u8>), Fail>
+    ensures { IfOk result (λ made. made.0.lent ≡ None) }
+{
     let mut store = listed_store(alloc, listing)?;
     let said = printed(alloc, &mut store, script)?;
     Ok((store, said))
 }
 
 /// What a script prints that is run on a store.
-fn printed(alloc: Global, store: &mut Store, text: &str) -> Result<Vec<u8>, Fail> {
+fn printed(alloc: Global, store: &mut Store, text: &str) -> Result<Vec<u8>, Fail>
+    ensures { store.new.lent ≡ store.old.lent }
+{
     let mut out = Counted::new(Vec::new(alloc));
     match ran(alloc, store, text, &mut out)? {
         None => Ok(out.into_inner()),
@@ -59,14 +67,18 @@ pub(crate) fn ran<W: Write>(
     store: &mut Store,
     text: &str,
     out: &mut Counted<W>,
-) -> Result<Option<RunFault>, Fail> {
+) -> Result<Option<RunFault>, Fail>
+    ensures { store.new.lent ≡ store.old.lent }
+{
     let script = parse(alloc, text.as_bytes())?;
     let inputs = input_files(alloc)?;
     Ok(run(alloc, store, &script, &inputs, out).err())
 }
 
 /// A store with the database of a file, and the number of that.
-pub(crate) fn with_database(alloc: Global, listing: &str) -> Result<(Store, Db), Fail> {
+pub(crate) fn with_database(alloc: Global, listing: &str) -> Result<(Store, Db), Fail>
+    ensures { IfOk result (λ made. made.0.lent ≡ None) }
+{
     let mut store = listed_store(alloc, WIDE)?;
     let db = import(alloc, &mut store, &bytes_of(alloc, listing)?)?;
     Ok((store, db))

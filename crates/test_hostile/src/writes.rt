@@ -1,6 +1,8 @@
 //! Each write fails in turn: what was written is a front of what was to be, nothing is written behind it, and what a
 //! run did is what the lines did whose reply was begun.
 
+ghost use Rattle.std.specs.Prelude.{◌≡◌};
+
 use crate::stores::{
     CARRIED, WRITTEN, has_image, input_files, listed_store, ran, store_behind, with_database,
 };
@@ -188,7 +190,9 @@ fn cut_run(
     store: &mut Store,
     text: &str,
     cut: Cut,
-) -> Result<(Option<RunFault>, Narrow), Fail> {
+) -> Result<(Option<RunFault>, Narrow), Fail>
+    ensures { store.new.lent ≡ store.old.lent }
+{
     let mut out = narrow(alloc, cut);
     let fault = ran(alloc, store, text, &mut out)?;
     Ok((fault, out.into_inner()))

@@ -12,4 +12,5 @@ mod hostile;
 mod images;
 mod linked;
 mod lists;
+mod loans;
 mod moving;

@@ -7,6 +7,7 @@ mod full;
 mod images;
 mod known;
 mod lists;
+mod loans;
 mod steps;
 mod taken;
 mod whole;

@@ -96,6 +96,9 @@ impl PlainStore {
         let Ok(names) = database.names(alloc) else {
             return Err(Refusal::OutOfMemory);
         };
+        for name in &names {
+            self.heap.check_there(*name)?;
+        }
         let Ok(mut file) = vec![in alloc; 0; database.front_length()] else {
             return Err(Refusal::OutOfMemory);
         };

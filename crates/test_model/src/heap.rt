@@ -19,6 +19,8 @@ pub struct Chunk {
 #[derive(Drop)]
 pub struct PlainHeap {
     pub(crate) chunks: BTreeMap<u32, Chunk>,
+    /// The name of the chunk whose bytes are lent, if there is one. What stands for them meanwhile means nothing.
+    pub(crate) lent: Option<Name>,
 }
 
 impl PlainHeap {
@@ -47,7 +49,7 @@ impl PlainHeap {
                 chunks.insert(live.name.0, chunk).map_err(AllocError::from)?;
             }
         }
-        Ok(PlainHeap { chunks })
+        Ok(PlainHeap { chunks, lent: None })
     }
 
     /// Frees chunks. Refused where one of them is locked.

@@ -22,6 +22,7 @@ mod file_calls;
 mod giving_calls;
 mod heap;
 mod image;
+mod loans;
 mod memory_calls;
 mod parts;
 mod record_calls;

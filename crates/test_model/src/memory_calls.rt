@@ -134,6 +134,8 @@ impl PlainHeap {
         size: u32,
         before: &Image,
     ) -> Result<Reply, Refusal> {
+        self.check_movable(name)?;
+        self.check_there(name)?;
         let chunk = self.chunk_mut(name)?;
         check_length(chunk.lock, name, need(size), before)?;
         match chunk.bytes.resize(size as usize, 0) {
@@ -144,6 +146,9 @@ impl PlainHeap {
 
     fn free(&mut self, name: Name) -> Result<Reply, Refusal> {
         self.check_callers(name)?;
+        if !self.is_locked(name) {
+            self.check_there(name)?;
+        }
         self.free_all(&[name])?;
         Ok(Reply::Done)
     }
@@ -164,12 +169,13 @@ impl PlainHeap {
     }
 
     fn unlock(&mut self, name: Name) -> Result<Reply, Refusal> {
-        let chunk = self.chunk_mut(name)?;
-        match chunk.lock {
-            FIXED => return Err(Refusal::ChunkFixed),
-            0 => return Err(Refusal::ChunkNotLocked),
-            lock => chunk.lock = lock - 1,
+        self.check_movable(name)?;
+        if self.chunk(name)?.lock == 0 {
+            return Err(Refusal::ChunkNotLocked);
         }
+        self.check_there(name)?;
+        let chunk = self.chunk_mut(name)?;
+        chunk.lock = chunk.lock.saturating_sub(1);
         Ok(Reply::Number(u32::from(chunk.lock)))
     }
 
@@ -187,8 +193,10 @@ impl PlainHeap {
     }
 
     fn read(&self, alloc: Global, name: Name, at: u32, count: u32) -> Result<Reply, Refusal> {
+        let chunk = self.chunk(name)?;
+        self.check_there(name)?;
         let end = at as usize + count as usize;
-        let Some(part) = self.chunk(name)?.bytes.as_slice().get(at as usize..end) else {
+        let Some(part) = chunk.bytes.as_slice().get(at as usize..end) else {
             return Err(Refusal::OutOfBounds);
         };
         match Vec::from_slice(alloc, part) {
@@ -198,7 +206,7 @@ impl PlainHeap {
     }
 
     fn write(&mut self, name: Name, at: u32, bytes: &[u8]) -> Result<Reply, Refusal> {
-        let part = self.chunk_mut(name)?.part_mut(at, bytes.len())?;
+        let part = self.part_mut(name, at, bytes.len())?;
         if part.len() == bytes.len() {
             part.copy_from_slice(bytes);
         }
@@ -206,9 +214,7 @@ impl PlainHeap {
     }
 
     fn set(&mut self, name: Name, at: u32, count: u32, byte: u8) -> Result<Reply, Refusal> {
-        self.chunk_mut(name)?
-            .part_mut(at, count as usize)?
-            .fill(byte);
+        self.part_mut(name, at, count as usize)?.fill(byte);
         Ok(Reply::Done)
     }
 
@@ -235,9 +241,12 @@ impl PlainHeap {
         }
     }
 
-    /// Frees all chunks of an owner, locked and fixed ones too.
+    /// Frees all chunks of an owner, locked and fixed ones too. None is freed where one of them is lent.
     fn free_by_owner(&mut self, owner: u8) -> Result<Reply, Refusal> {
         check_owner(owner)?;
+        if self.lends_of(owner) {
+            return Err(Refusal::Lent);
+        }
         let before = self.chunks.len();
         self.chunks.retain(|_, chunk| chunk.owner != owner);
         Ok(number(before.saturating_sub(self.chunks.len())))
@@ -250,17 +259,29 @@ impl PlainHeap {
         }
         Ok(())
     }
-}
 
-impl Chunk {
-    /// So many bytes from an offset on, to be written over, which a chunk without a lock doesn't allow.
+    /// Refuses a fixed chunk.
+    fn check_movable(&self, name: Name) -> Result<(), Refusal> {
+        if self.chunk(name)?.lock == FIXED {
+            return Err(Refusal::ChunkFixed);
+        }
+        Ok(())
+    }
+
+    /// So many bytes of a chunk from an offset on, to be written over, which a chunk without a lock doesn't allow.
     /// A fixed chunk counts as locked.
-    fn part_mut(&mut self, at: u32, count: usize) -> Result<&mut [u8], Refusal> {
-        if self.lock == 0 {
+    fn part_mut(&mut self, name: Name, at: u32, count: usize) -> Result<&mut [u8], Refusal> {
+        if self.chunk(name)?.lock == 0 {
             return Err(Refusal::ChunkNotLocked);
         }
+        self.check_there(name)?;
         let end = (at as usize).saturating_add(count);
-        match self.bytes.as_mut_slice().get_mut(at as usize..end) {
+        match self
+            .chunk_mut(name)?
+            .bytes
+            .as_mut_slice()
+            .get_mut(at as usize..end)
+        {
             Some(part) => Ok(part),
             None => Err(Refusal::OutOfBounds),
         }
@@ -279,13 +300,10 @@ fn more_slots(before: &Image) -> Result<Reply, Refusal> {
     Ok(Reply::Done)
 }
 
-/// Refuses a length of so many bytes with the header. A locked chunk grows in its place alone, over the free chunks
+/// Refuses a length of so many bytes with the header, for a chunk that isn't fixed. A locked chunk grows in its place alone, over the free chunks
 /// directly behind it. One without a lock grows wherever a stretch has room, its own size being room in its own
 /// stretch.
 fn check_length(lock: u8, name: Name, need: u64, before: &Image) -> Result<(), Refusal> {
-    if lock == FIXED {
-        return Err(Refusal::ChunkFixed);
-    }
     if lock > 0 && need > before.size_with_behind(name) {
         return Err(Refusal::ChunkLocked);
     }

@@ -81,6 +81,21 @@ impl PlainStore {
         answer.unwrap_or_else(Reply::Refused)
     }
 
+    /// Takes the bytes of a chunk out, as `PlainHeap` does.
+    pub fn take_out(&mut self, name: Name) -> Result<&[u8], Refusal> {
+        self.heap.take_out(name)
+    }
+
+    /// Puts the bytes of the lent chunk back.
+    pub fn put_back(&mut self, bytes: &[u8]) {
+        self.heap.put_back(bytes);
+    }
+
+    /// The name of the chunk whose bytes are lent.
+    pub fn lent(&self) -> Option<Name> {
+        self.heap.lent()
+    }
+
     /// The database of a number.
     pub(crate) fn database(&self, db: Db) -> Result<&Database, Refusal> {
         for database in &self.databases {

@@ -10,7 +10,7 @@ pub(crate) enum Output {
 }
 
 /// The words of each run behind the program's own name, and what becomes of what it prints.
-pub(crate) static CASES: [(&str, Output); 46] = [
+pub(crate) static CASES: [(&str, Output); 59] = [
     // images that are made, or that there are not
     ("new 64 1 out.img", Taken),
     ("new 127 4 out.img", Taken),
@@ -67,6 +67,21 @@ pub(crate) static CASES: [(&str, Output); 46] = [
     ("canonical - -", Taken),
     ("canonical - -", Refused),
     ("canonical damaged.pdb -", Taken),
+    // files that are taken apart, or not: a damaged one, and folders that are there or can't be made
+    ("unpack order.pdb out", Taken),
+    ("unpack tiny.prc out", Taken),
+    ("unpack - out", Taken),
+    ("unpack damaged.pdb out", Taken),
+    ("unpack order.pdb parts", Taken),
+    ("unpack order.pdb none/out", Taken),
+    ("unpack order.pdb out", Refused),
+    // files that are put together, or not: a name that climbs, a part that is no file, and no folder
+    ("pack parts out.pdb", Taken),
+    ("pack climbs out.pdb", Taken),
+    ("pack nested out.pdb", Taken),
+    ("pack none out.pdb", Taken),
+    ("pack parts none/out.pdb", Taken),
+    ("pack parts out.pdb", Refused),
     // words that ask for no command
     ("check", Taken),
     ("--version", Taken),

@@ -1,6 +1,6 @@
 //! The folder that the runs are done in.
 
-use crate::inputs::{INPUTS, TAKEN};
+use crate::inputs::{FOLDERS, INPUTS};
 use std::rt::{Env, Files};
 use std::test::Fail;
 use std::{env, fs};
@@ -28,11 +28,13 @@ pub(crate) fn leave<R: Files + Env + AllocGlobal>(rt: &R) -> Result<(), Fail> {
 
 /// Writes the files that each run finds.
 pub(crate) fn fill<R: Files + AllocGlobal>(rt: &R) -> Result<(), Fail> {
+    for folder in &FOLDERS {
+        if !fs::exists(rt, *folder)? {
+            fs::create_dir(rt, *folder)?;
+        }
+    }
     for (name, content) in &INPUTS {
         fs::write(rt, *name, content.bytes(rt.alloc())?.as_slice())?;
-    }
-    if !fs::exists(rt, TAKEN)? {
-        fs::create_dir(rt, TAKEN)?;
     }
     Ok(())
 }
@@ -42,10 +44,28 @@ pub(crate) fn show_changes<R: Files + Print + AllocGlobal + Clone + Drop>(
     rt: &R,
 ) -> Result<(), Fail> {
     show_gone(rt)?;
-    for name in &names(rt)? {
-        show_file(rt, name.as_str())?;
+    for name in &names(rt, ".")? {
+        show_entry(rt, name.as_str())?;
     }
     Ok(())
+}
+
+/// Shows a file, or the files of a folder, that isn't as `fill` writes it, and removes it.
+fn show_entry<R: Files + Print + AllocGlobal + Clone + Drop>(
+    rt: &R,
+    name: &str,
+) -> Result<(), Fail> {
+    if !fs::metadata(rt, name)?.is_dir() {
+        return show_file(rt, name);
+    }
+    if FOLDERS.iter().any(|folder| *folder == name) {
+        return Ok(());
+    }
+    println!(rt; "{name}, a folder:")?;
+    for file in &names(rt, name)? {
+        show_file(rt, format!(in rt.alloc(); "{name}/{file}")?.as_str())?;
+    }
+    Ok(fs::remove_dir(rt, name)?)
 }
 
 /// Shows which of the files that `fill` writes are gone.
@@ -58,10 +78,10 @@ fn show_gone<R: Files + Print>(rt: &R) -> Result<(), Fail> {
     Ok(())
 }
 
-/// The names of all that is in the folder, in order.
-fn names<R: Files + AllocGlobal + Clone + Drop>(rt: &R) -> Result<Vec<String>, Fail> {
+/// The names of all that is in a folder, in order.
+fn names<R: Files + AllocGlobal + Clone + Drop>(rt: &R, folder: &str) -> Result<Vec<String>, Fail> {
     let mut names = Vec::new(rt.alloc());
-    for entry in fs::read_dir(rt, ".")? {
+    for entry in fs::read_dir(rt, folder)? {
         names.push(String::from_str(rt.alloc(), entry?.file_name())?)?;
     }
     names.sort()?;
@@ -70,9 +90,6 @@ fn names<R: Files + AllocGlobal + Clone + Drop>(rt: &R) -> Result<Vec<String>, F
 
 /// Shows a file that isn't as `fill` writes it, and removes it.
 fn show_file<R: Files + Print + AllocGlobal>(rt: &R, name: &str) -> Result<(), Fail> {
-    if name == TAKEN && fs::metadata(rt, name)?.is_dir() {
-        return Ok(());
-    }
     let bytes = fs::read(rt, name)?;
     if !is_as_it_was(rt, name, bytes.as_slice())? {
         show_bytes(rt, name, bytes.as_slice())?;

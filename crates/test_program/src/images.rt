@@ -5,7 +5,9 @@ use crate::changes::{Parts, change, drawn};
 use rand_pcg::Pcg32;
 use std::alloc::Global;
 use std::test::Fail;
-use test_beside::{Beside, MIXED, Verdict, agreed_verdict, blank_image, chained_image, store_of};
+use test_beside::{
+    Beside, MIXED, Verdict, agreed_verdict, blank_image, chained_image, image_of, store_of,
+};
 use test_support::{DATABASE, TWO_DATABASES, bytes_of};
 
 /// How many images come of each store by changes.
@@ -58,7 +60,7 @@ fn do_calls(
         let call = beside.any_call(random, alloc)?;
         beside.call_on(alloc, &mut store, spot, &call)?;
     }
-    beside.check_meant(alloc, store.into_region().as_slice())?;
+    beside.check_meant(alloc, &image_of(alloc, &store)?)?;
     Ok(beside.image)
 }
 

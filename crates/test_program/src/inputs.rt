@@ -28,7 +28,7 @@ impl Content {
 const ROOM: &str = "50484931 00000200 000C 0000 00000000 00*48 800001C0 00*444";
 
 /// The files, each behind its name.
-pub(crate) static INPUTS: [(&str, Content); 12] = [
+pub(crate) static INPUTS: [(&str, Content); 17] = [
     ("blank.img", Listing(BLANK, "")),
     ("room.img", Listing(ROOM, "")),
     ("records.img", Listing(DATABASE, "")),
@@ -47,8 +47,36 @@ pub(crate) static INPUTS: [(&str, Content); 12] = [
         Text("import d 2\nimport e 1\nexport d\nexport e\nexport e\ndbcount\n"),
     ),
     ("calls.txt", Text("freebytes\n")),
+    // a database of two records, one of them deleted, and an AppInfo block
+    (
+        "parts/database",
+        Text(
+            "# from a list\nname \"Parts\"\nattributes 0008\nversion 1\ncreated 1\nmodified 2\n\
+            backup 3\nnumber 4\ntype \"DATA\"\ncreator \"test\"\nseed 5\napp info\nsort none\n\
+            record 40 0 a.txt\nrecord 80 7 none\n",
+        ),
+    ),
+    ("parts/info", Text("app info")),
+    ("parts/a.txt", Text("data of a record")),
+    // a part that would be outside the folder
+    (
+        "climbs/database",
+        Text(
+            "name \"Climbs\"\nattributes 0\nversion 0\ncreated 0\nmodified 0\nbackup 0\nnumber 0\n\
+            type \"DATA\"\ncreator \"test\"\nseed 0\napp none\nsort ../order.pdb\n",
+        ),
+    ),
+    // a part that is a folder
+    (
+        "nested/database",
+        Text(
+            "name \"Nested\"\nattributes 1\nversion 0\ncreated 0\nmodified 0\nbackup 0\nnumber 0\n\
+            type \"DATA\"\ncreator \"test\"\nseed 0\napp none\nsort none\nresource \"tSTR\" 1 data\n",
+        ),
+    ),
     ("faulty.txt", Text("dbcount\nfrob\n")),
 ];
 
-/// A folder that each run finds, in the place of the second file that a script exports.
-pub(crate) const TAKEN: &str = "full.img.2";
+/// The folders that each run finds. The first is in the place of the second file that a script exports, and the last in the
+/// place of a part.
+pub(crate) static FOLDERS: [&str; 5] = ["full.img.2", "parts", "climbs", "nested", "nested/data"];

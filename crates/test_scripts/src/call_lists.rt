@@ -115,9 +115,14 @@ fn every_growth_of_a_list_may_be_refused(rt: HostRuntime) -> Result<(), Fail> {
 fn an_image_is_checked_for_a_list(rt: HostRuntime) -> Result<(), Fail> {
     let region = image(rt.alloc(), BLANK, "")?;
     let calls = [Call::Database(DatabaseCall::Count)];
-    let (store, replies) = check_and_run(rt.alloc(), region, &calls)?;
-    let came = (replies.as_slice(), store.free_bytes());
-    equal("replies", came, (&[Reply::Number(0)], 96))
+    match check_and_run(rt.alloc(), region, &calls) {
+        Ok((store, replies)) => {
+            let came = (replies.as_slice(), store.free_bytes());
+            equal("replies", came, (&[Reply::Number(0)], 96))
+        }
+        Err(NotRun::NotAStore(_)) => Err("no store")?,
+        Err(NotRun::OutOfMemory(_)) => Err("no memory")?,
+    }
 }
 
 /// What is wrong with a region that is no accepted image is said.

@@ -1,29 +1,49 @@
 //! Memory that is refused, calls that are done one by one, and a reply line that breaks off.
 
+ghost use Rattle.std.specs.Prelude.{◌≡◌, IfOk, None};
+
 use crate::call_lists::PLACES;
 use chunk_format::blank;
 use heap_model::{Bytes, Call, DatabaseCall, DbName, MemoryCall, Name, Reply};
 use palm_script::{RunFault, Script, do_call, do_call_from, parse, run, run_from};
 use palm_store::Store;
 use palm_text::Counted;
+use raw_region::Region;
 use std::alloc::{AllocError, Global};
 use std::io::Write;
 use std::test::Fail;
 use test_support::{BLANK, RefusesOne, equal, image};
 
+/// The store of a region.
+fn accepted(alloc: Global, region: Region) -> Result<Store, Fail>
+    requires { region.lent ≡ None }
+    ensures { IfOk result (λ made. made.lent ≡ None) }
+{
+    match Store::check(alloc, region) {
+        Ok(store) => Ok(store),
+        Err(_) => Err("no store")?,
+    }
+}
+
 /// The store of a listed image.
-pub(crate) fn listed_store(alloc: Global, listing: &str) -> Result<Store, Fail> {
-    Ok(Store::check(alloc, image(alloc, listing, "")?)?)
+pub(crate) fn listed_store(alloc: Global, listing: &str) -> Result<Store, Fail>
+    ensures { IfOk result (λ made. made.lent ≡ None) }
+{
+    accepted(alloc, image(alloc, listing, "")?)
 }
 
 /// A store of 128 bytes with 4 slots, and one free chunk of 96.
-pub(crate) fn small_store(alloc: Global) -> Result<Store, Fail> {
+pub(crate) fn small_store(alloc: Global) -> Result<Store, Fail>
+    ensures { IfOk result (λ made. made.lent ≡ None) }
+{
     listed_store(alloc, BLANK)
 }
 
 /// A store of so many bytes with 4 slots, and nothing in it.
-pub(crate) fn blank_store(alloc: Global, size: u32) -> Result<Store, Fail> {
-    Ok(Store::check(alloc, blank(alloc, size, 4)?)?)
+pub(crate) fn blank_store(alloc: Global, size: u32) -> Result<Store, Fail>
+    ensures { IfOk result (λ made. made.lent ≡ None) }
+{
+    accepted(alloc, blank(alloc, size, 4)?)
 }
 
 const SCRIPT: &str = "new a 10 1\nlock a\nread a 0 2\n";
@@ -37,7 +57,9 @@ fn run_with<W: Write>(
     store: &mut Store,
     script: &Script<'_>,
     out: W,
-) -> (Ended, W) {
+) -> (Ended, W)
+    ensures { store.new.lent ≡ store.old.lent }
+{
     let mut out = Counted::new(out);
     let ended = match run_from(memory, store, script, &[], &mut out) {
         Ok(files) => Ok(files.len()),
@@ -83,7 +105,9 @@ fn refused_memory_leaves_all_as_it_was(rt: HostRuntime) -> Result<(), Fail> {
 }
 
 /// Makes a chunk of so many bytes.
-fn chunk_of(store: &mut Store, length: u32) -> Result<Name, Fail> {
+fn chunk_of(store: &mut Store, length: u32) -> Result<Name, Fail>
+    ensures { store.new.lent ≡ store.old.lent }
+{
     Ok(store.handle_new(length, 1)?)
 }
 
@@ -143,7 +167,9 @@ fn length_of(reply: &Reply) -> Option<usize> {
 }
 
 /// A read of so many bytes from a chunk is answered by as many.
-fn check_count(alloc: Global, store: &mut Store, name: Name, count: u32) -> Result<(), Fail> {
+fn check_count(alloc: Global, store: &mut Store, name: Name, count: u32) -> Result<(), Fail>
+    ensures { store.new.lent ≡ store.old.lent }
+{
     let call = Call::Memory(MemoryCall::Read { name, at: 0, count });
     let length = length_of(&do_call(alloc, store, &call));
     equal("bytes", length, Some(count as usize))
@@ -224,7 +250,9 @@ fn put_replies(
     text: &mut String,
     store: &mut Store,
     calls: &[Call],
-) -> Result<(), AllocError> {
+) -> Result<(), AllocError>
+    ensures { store.new.lent ≡ store.old.lent }
+{
     for call in calls {
         let reply = do_call(alloc, store, call);
         write!(text, "{reply:?}; ")?;
@@ -238,7 +266,9 @@ pub(crate) fn check_calls(
     store: &mut Store,
     lists: &[&[Call]],
     wanted: &str,
-) -> Result<(), Fail> {
+) -> Result<(), Fail>
+    ensures { store.new.lent ≡ store.old.lent }
+{
     let mut text = String::new(alloc);
     for calls in lists {
         put_replies(alloc, &mut text, store, calls)?;
@@ -289,7 +319,9 @@ fn run_cut(
     store: &mut Store,
     script: &Script<'_>,
     room: &mut [u8; 4],
-) -> Option<RunFault> {
+) -> Option<RunFault>
+    ensures { store.new.lent ≡ store.old.lent }
+{
     let mut out = Counted::new(room.as_mut_slice());
     let ran = run(alloc, store, script, &[], &mut out);
     drop(out.into_inner());

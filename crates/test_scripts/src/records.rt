@@ -1,5 +1,7 @@
 //! Records: the lines that make, use, change, move and delete them.
 
+ghost use Rattle.std.specs.Prelude.{◌≡◌};
+
 use crate::calls::{check_calls, creation, listed_store};
 use crate::commands::check_image;
 use crate::runs::{check_lines, check_runs};
@@ -328,7 +330,9 @@ fn calls_on(db: Db) -> [Call; 9] {
 }
 
 /// A chunk is no database: calls of each kind say so.
-fn check_no_database(alloc: Global, store: &mut Store, number: u32) -> Result<(), Fail> {
+fn check_no_database(alloc: Global, store: &mut Store, number: u32) -> Result<(), Fail>
+    ensures { store.new.lent ≡ store.old.lent }
+{
     let said = "Refused(NoSuchDatabase); ".repeat(alloc, 9)?;
     check_calls(alloc, store, &[&calls_on(Db(number))], said.as_str())
 }

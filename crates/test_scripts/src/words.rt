@@ -37,12 +37,14 @@ fn shown(alloc: Global, request: &Request) -> Result<String, AllocError> {
         Request::Map { image } => format!(in alloc; "map {image}\n"),
         Request::List { file } => format!(in alloc; "list {file}\n"),
         Request::Canonical { file, out } => format!(in alloc; "canonical {file} {out}\n"),
+        Request::Unpack { file, folder } => format!(in alloc; "unpack {file} {folder}\n"),
+        Request::Pack { folder, out } => format!(in alloc; "pack {folder} {out}\n"),
     }
 }
 
 /// Words, and how what comes of them begins, and what stands in it: commands, words that are refused,
 /// and help.
-static CASES: [(&str, &str, &str); 31] = [
+static CASES: [(&str, &str, &str); 33] = [
     ("palmheap new 128 4 a.img", "new 128 4 a.img\n", ""),
     (
         "palmheap new 4294967295 65535 --  -a",
@@ -68,6 +70,12 @@ static CASES: [(&str, &str, &str); 31] = [
         "canonical memo.pdb new.pdb\n",
         "",
     ),
+    (
+        "palmheap unpack memo.pdb memos",
+        "unpack memo.pdb memos\n",
+        "",
+    ),
+    ("palmheap pack memos memo.pdb", "pack memos memo.pdb\n", ""),
     (
         "palmheap migrate a.img",
         "2 error: the following required arguments were not provided:\n  <OUT>\n",

@@ -1,6 +1,9 @@
 //! Heap images and files of databases: listings in hex, and small blank images in which words are changed.
 //!
 //! One of the listings is the worked image of docs/FORMAT.md.
+#![tactic(auto, using(laws_heap::proofs::Lending::all_within))]
+
+ghost use Rattle.std.specs.Prelude.{◌≡◌, IfOk, None};
 
 use chunk_format::blank;
 use raw_region::Region;
@@ -87,7 +90,9 @@ pub fn bytes_of(alloc: Global, listing: &str) -> Result<Vec<u8>, Fail> {
 
 /// The image of a listing with bytes changed: each change is an offset and the hex that stands there
 /// instead, as `27: 00, 172: FF000000`.
-pub fn image(alloc: Global, listing: &str, changes: &str) -> Result<Region, Fail> {
+pub fn image(alloc: Global, listing: &str, changes: &str) -> Result<Region, Fail>
+    ensures whole { IfOk result (λ region. region.lent ≡ None) }
+{
     let mut region = Region::from_bytes(alloc, bytes_of(alloc, listing)?.as_slice())?;
     for change in changes.split(", ") {
         if let Some((at, hex)) = change.split_once(": ") {
@@ -108,7 +113,9 @@ pub fn changed_words(
     size: u32,
     slots: u16,
     words: &[(usize, u32)],
-) -> Result<Region, Fail> {
+) -> Result<Region, Fail>
+    ensures whole { IfOk result (λ region. region.lent ≡ None) }
+{
     let mut region = blank(alloc, size, slots)?;
     for (at, word) in words {
         if *at > region.len() || region.len() - *at < 4 {

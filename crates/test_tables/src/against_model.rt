@@ -1,4 +1,7 @@
 //! Images with a chain in which words are changed, by the check of heaps and by the plain model.
+#![tactic(auto, using(laws_heap::proofs::Lending::all_within))]
+
+ghost use Rattle.std.specs.Prelude.{◌≡◌, IfOk, None};
 
 use crate::images::{TABLE, image, put_word};
 use heap_check::{HeapFault, check_heap};
@@ -17,7 +20,9 @@ enum Said {
     OtherFault,
 }
 
-fn said_by_check(region: &Region) -> Said {
+fn said_by_check(region: &Region) -> Said
+    requires { region.now.lent ≡ None }
+{
     match check_heap(region) {
         Ok(_) => Said::Accepted,
         Err(HeapFault::BadTable(index)) => Said::BadTable(index),
@@ -25,7 +30,9 @@ fn said_by_check(region: &Region) -> Said {
     }
 }
 
-fn said_by_model(alloc: Global, region: &Region) -> Result<Said, Fail> {
+fn said_by_model(alloc: Global, region: &Region) -> Result<Said, Fail>
+    requires { region.now.lent ≡ None }
+{
     match Image::decode(alloc, region.as_slice()) {
         Ok(_) => Ok(Said::Accepted),
         Err(Unreadable::Memory) => Err("no memory")?,
@@ -35,7 +42,9 @@ fn said_by_model(alloc: Global, region: &Region) -> Result<Said, Fail> {
 }
 
 /// What both say of an image.
-fn agreed<D: Display + Drop>(alloc: Global, spot: D, region: &Region) -> Result<Said, Fail> {
+fn agreed<D: Display + Drop>(alloc: Global, spot: D, region: &Region) -> Result<Said, Fail>
+    requires { region.now.lent ≡ None }
+{
     let said = said_by_check(region);
     equal(spot, said, said_by_model(alloc, region)?)?;
     Ok(said)
@@ -68,7 +77,9 @@ static TABLES: [(u32, u32); 22] = [
     (136, 0x8000_0018),
 ];
 
-fn tables(alloc: Global) -> Result<Region, Fail> {
+fn tables(alloc: Global) -> Result<Region, Fail>
+    ensures { IfOk result (λ region. region.lent ≡ None) }
+{
     image(alloc, 160, &TABLES)
 }
 

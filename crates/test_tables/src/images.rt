@@ -1,4 +1,7 @@
 //! Images with a chain of tables, word by word.
+#![tactic(auto, using(laws_heap::proofs::Lending::all_within))]
+
+ghost use Rattle.std.specs.Prelude.{◌≡◌, IfOk, None};
 
 use raw_region::Region;
 use std::alloc::Global;
@@ -9,7 +12,9 @@ pub(crate) const TABLE: u32 = 0xF000_0000;
 
 /// An image of a size with one slot in the first table and a word `next` at 20, so that its chunks begin at 24, where
 /// words are changed.
-pub(crate) fn image(alloc: Global, size: u32, words: &[(u32, u32)]) -> Result<Region, Fail> {
+pub(crate) fn image(alloc: Global, size: u32, words: &[(u32, u32)]) -> Result<Region, Fail>
+    ensures { IfOk result (λ region. region.lent ≡ None) }
+{
     let mut region = Region::zeroed(alloc, size)?;
     put_words(&mut region, &[(0, 0x5048_4932), (4, size), (8, 0x1_0000)])?;
     put_words(&mut region, words)?;
@@ -17,7 +22,10 @@ pub(crate) fn image(alloc: Global, size: u32, words: &[(u32, u32)]) -> Result<Re
 }
 
 /// Changes words of an image, each by its offset.
-pub(crate) fn put_words(region: &mut Region, words: &[(u32, u32)]) -> Result<(), Fail> {
+pub(crate) fn put_words(region: &mut Region, words: &[(u32, u32)]) -> Result<(), Fail>
+    requires { region.old.lent ≡ None }
+    ensures { region.new.lent ≡ None }
+{
     for (at, word) in words {
         put_word(region, *at, *word)?;
     }
@@ -25,7 +33,10 @@ pub(crate) fn put_words(region: &mut Region, words: &[(u32, u32)]) -> Result<(),
 }
 
 /// Changes the word at an offset.
-pub(crate) fn put_word(region: &mut Region, at: u32, word: u32) -> Result<(), Fail> {
+pub(crate) fn put_word(region: &mut Region, at: u32, word: u32) -> Result<(), Fail>
+    requires { region.old.lent ≡ None }
+    ensures { region.new.lent ≡ None }
+{
     let at = at as usize;
     if at > region.len() || region.len() - at < 4 {
         return Err("a word beyond the end")?;

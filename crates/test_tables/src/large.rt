@@ -1,4 +1,7 @@
 //! The largest images: with as many tables as there can be, and with one table of as many slots.
+#![tactic(auto, using(laws_heap::proofs::Lending::all_within))]
+
+ghost use Rattle.std.specs.Prelude.{◌≡◌, IfOk, None};
 
 use crate::chains::counted;
 use crate::images::{TABLE, image, put_word, put_words};
@@ -24,7 +27,9 @@ fn place_of(number: u32) -> u32 {
 }
 
 /// An image full of so many tables of one slot. Each leads to the one before it, so that the chain begins at the last.
-fn many_tables(alloc: Global, count: u32) -> Result<Region, Fail> {
+fn many_tables(alloc: Global, count: u32) -> Result<Region, Fail>
+    ensures { IfOk result (λ region. region.lent ≡ None) }
+{
     let last = place_of(count.saturating_sub(1));
     let mut region = image(alloc, last.saturating_add(8), &[(20, last)])?;
     for number in 0..count {
@@ -68,7 +73,9 @@ const SLOTS: u32 = 4_194_291;
 const LAST: u32 = MOST;
 
 /// An image with a table of as many slots as there can be, whose last one holds the place of a chunk of no bytes.
-fn many_slots(alloc: Global) -> Result<Region, Fail> {
+fn many_slots(alloc: Global) -> Result<Region, Fail>
+    ensures { IfOk result (λ region. region.lent ≡ None) }
+{
     let size = MOST - 8 - 24;
     let slot = 32 + 4 * SLOTS;
     let words = [

@@ -1,5 +1,7 @@
 //! Tables that are made while calls go on.
 
+ghost use Rattle.std.specs.Prelude.{◌≡◌, IfOk, None};
+
 use crate::images::image;
 use chunk_format::blank;
 use heap_model::{Name, Place, Refusal};
@@ -11,21 +13,39 @@ use test_support::equal;
 
 /// The heap of a blank image with a chain of tables and one slot, by its size and the first word of its chunk, which
 /// begins at 24.
-fn heap(alloc: Global, size: u32, chunk: u32) -> Result<Heap, Fail> {
+fn heap(alloc: Global, size: u32, chunk: u32) -> Result<Heap, Fail>
+    ensures { IfOk result (λ heap. heap.lent ≡ None) }
+{
     adopted(image(alloc, size, &[(24, chunk)])?)
 }
 
 /// The heap of a region.
-fn adopted(region: Region) -> Result<Heap, Fail> {
+fn adopted(region: Region) -> Result<Heap, Fail>
+    requires { region.lent ≡ None }
+    ensures { IfOk result (λ heap. heap.lent ≡ None) }
+{
     match Heap::adopt(region) {
         Ok(heap) => Ok(heap),
         Err(_) => Err("no heap")?,
     }
 }
 
+/// The region of a heap.
+fn region_of(heap: Heap) -> Result<Region, Fail>
+    requires { heap.lent ≡ None }
+    ensures { IfOk result (λ region. region.lent ≡ None) }
+{
+    match heap.into_region() {
+        Ok(region) => Ok(region),
+        Err(_) => Err("a body is lent")?,
+    }
+}
+
 /// What a heap counts, and the image behind it, checked anew.
-fn counts(heap: Heap) -> Result<[u32; 5], Fail> {
-    let heap = adopted(heap.into_region())?;
+fn counts(heap: Heap) -> Result<[u32; 5], Fail>
+    requires { heap.lent ≡ None }
+{
+    let heap = adopted(region_of(heap)?)?;
     let s = heap.summary();
     Ok([s.size, s.slots, s.movable, s.fixed, s.free])
 }
@@ -90,7 +110,9 @@ fn slots_of_each_table_are_given(rt: HostRuntime) -> Result<(), Fail> {
 }
 
 /// Whether each chunk of a heap is found under its name, and freed.
-fn check_names(heap: &mut Heap, names: &[Name]) -> Result<(), Fail> {
+fn check_names(heap: &mut Heap, names: &[Name]) -> Result<(), Fail>
+    ensures { heap.new.lent ≡ heap.old.lent }
+{
     for name in names {
         equal(format_args!("size of {}", name.0), heap.size(*name), Ok(8))?;
     }
@@ -114,14 +136,17 @@ fn slots_are_found_that_no_one_remembers(rt: HostRuntime) -> Result<(), Fail> {
     }
     assert!(rt; names[14] == Name(36 + 4 * 14));
     assert!(rt; names[15] == Name(36 + 524_288));
-    let mut again = adopted(Region::from_bytes(rt.alloc(), heap.into_region().as_slice())?)?;
+    let region = region_of(heap)?;
+    let mut again = adopted(Region::from_bytes(rt.alloc(), region.as_slice())?)?;
     check_names(&mut again, &names)?;
     assert_eq!(rt; counts(again)?, [1_200_000, 31, 1, 2, 675_616]);
     Ok(())
 }
 
 /// Every call refuses a name that no chunk of a caller has.
-fn check_no_name(heap: &mut Heap, name: Name) -> Result<(), Fail> {
+fn check_no_name(heap: &mut Heap, name: Name) -> Result<(), Fail>
+    ensures { heap.new.lent ≡ heap.old.lent }
+{
     let wrong = Refusal::InvalidHandle;
     let answers = [
         heap.free(name).err(),

@@ -1,13 +1,16 @@
 //! Heaps of which calls that walk through all chunks get a copy.
 
-use crate::memory::load::{Load, OWNER};
+ghost use Rattle.std.specs.Prelude.{◌≡◌, IfOk, None};
+
+use crate::memory::load::{Load, OWNER, region_of};
 use crate::work::Work;
-use anyhow::Result;
+use anyhow::{Result, bail};
 use chunk_format::blank;
 use heap_model::Name;
 use mem_manager::Heap;
 use raw_region::Region;
 use std::alloc::{AllocError, Global};
+use std::marker::Model;
 
 /// What the small free chunks of one class and the large ones have in their bodies: with their headers 64 and 120
 /// bytes.
@@ -42,9 +45,23 @@ pub(crate) struct Original {
 
 impl Original {
     /// A copy of the heap.
-    pub(crate) fn copy(&self, alloc: Global) -> Result<Heap> {
+    pub(crate) fn copy(&self, alloc: Global) -> Result<Heap>
+        requires { self.now.region.lent ≡ None }
+        ensures { IfOk result (λ heap. heap.lent ≡ None) }
+    {
         let region = Region::from_bytes(alloc, self.region.as_slice())?;
-        Ok(Heap::adopt(region)?)
+        adopted(region)
+    }
+}
+
+/// The heap of a region.
+pub(crate) fn adopted(region: Region) -> Result<Heap>
+    requires { region.lent ≡ None }
+    ensures { IfOk result (λ heap. heap.lent ≡ None) }
+{
+    match Heap::adopt(region) {
+        Ok(heap) => Ok(heap),
+        Err(error) => bail!("{}", error.fault),
     }
 }
 
@@ -56,15 +73,12 @@ pub(crate) const TABLES_APART: u32 = 1_021;
 
 /// Returns a heap with one slot in its first table and `tables` further tables. A chunk of fewer than `most_between` bytes
 /// was made after each of these and freed at the end, unless that is 0.
-pub(crate) fn chained_heap(
-    alloc: Global,
-    size: u32,
-    tables: u16,
-    most_between: u32,
-) -> Result<Heap> {
+pub(crate) fn chained_heap(alloc: Global, size: u32, tables: u16, most_between: u32) -> Result<Heap>
+    ensures { IfOk result (λ heap. heap.lent ≡ None) }
+{
     let mut region = blank(alloc, size, 1)?;
     region.write(0, &CHAINED_MAGIC);
-    let mut heap = Heap::adopt(region)?;
+    let mut heap = adopted(region)?;
     let mut between = Vec::new(alloc);
     for table in 0..u32::from(tables) {
         heap.more_slots()?;
@@ -79,7 +93,10 @@ pub(crate) fn chained_heap(
 }
 
 /// A heap that chunks nearly fill, one under each slot, of which every second is free.
-pub(crate) fn full(alloc: Global, blank: Heap, work: Work<'_>) -> Result<Original, AllocError> {
+pub(crate) fn full(alloc: Global, blank: Heap, work: Work<'_>) -> Result<Original, AllocError>
+    requires { blank.lent ≡ None }
+    ensures { IfOk result (λ full. full.region.lent ≡ None) }
+{
     let mut load = Load::new(alloc, blank, most_when_full(work));
     load.make(work.slots)?;
     load.free_every_second();
@@ -103,7 +120,10 @@ fn most_when_full(work: Work<'_>) -> u16 {
 /// A heap whose free chunks are small, but for a few large ones in their middle. Between two of them stands a chunk
 /// of no bytes, which is kept, and nothing else is free. There is a chunk under each slot before half of them are
 /// freed.
-pub(crate) fn one_class(alloc: Global, blank: Heap, slots: u16) -> Result<Original, AllocError> {
+pub(crate) fn one_class(alloc: Global, blank: Heap, slots: u16) -> Result<Original, AllocError>
+    requires { blank.lent ≡ None }
+    ensures { IfOk result (λ made. made.region.lent ≡ None) }
+{
     let pairs = usize::from(slots / 2);
     let mut original = OneClass {
         heap: blank,
@@ -123,6 +143,17 @@ struct OneClass {
     large: usize,
     freed: Vec<Name>,
     kept: Vec<Kept>,
+}
+
+impl Model for OneClass {
+    ghost use Rattle.std.specs.Prelude.{◌≡◌, None};
+    ghost use Rattle.heap_model.specs.Memory.{Memory};
+
+    ghost Value = { Memory };
+
+    ghost view = { λ made. made.heap };
+
+    ghost invariant = { λ made. made.heap.lent ≡ None };
 }
 
 impl OneClass {
@@ -154,9 +185,11 @@ impl OneClass {
         }
     }
 
-    fn into_original(self) -> Original {
+    fn into_original(self) -> Original
+        ensures { result.region.lent ≡ None }
+    {
         Original {
-            region: self.heap.into_region(),
+            region: region_of(self.heap),
             kept: self.kept,
             large: self.large,
         }

@@ -1,5 +1,7 @@
 //! A heap that is under load: its chunks are made, freed and asked for in a fixed order.
 
+ghost use Rattle.std.specs.Prelude.{◌≡◌, None};
+
 use crate::memory::heaps::Kept;
 use crate::memory::numbers::Numbers;
 use crate::timing::{Sum, Sums};
@@ -7,6 +9,7 @@ use heap_model::{Name, Refusal};
 use mem_manager::{Heap, Locked};
 use raw_region::Region;
 use std::alloc::{AllocError, Global};
+use std::marker::Model;
 
 /// The owner of all chunks.
 pub(crate) const OWNER: u8 = 1;
@@ -23,9 +26,10 @@ pub(crate) enum Call {
     Locks,
     Read,
     Write,
+    TakeOutAndPutBack,
 }
 
-/// A heap, the handles of its chunks, and the sum of all replies to the calls so far.
+/// A heap of which nothing is lent between two calls here, the handles of its chunks, and the sum of all replies to the calls so far.
 #[derive(Drop)]
 pub(crate) struct Load {
     heap: Heap,
@@ -38,9 +42,22 @@ pub(crate) struct Load {
     replies: Sum,
 }
 
+impl Model for Load {
+    ghost use Rattle.std.specs.Prelude.{◌≡◌, None};
+    ghost use Rattle.heap_model.specs.Memory.{Memory};
+
+    ghost Value = { Memory };
+
+    ghost view = { λ load. load.heap };
+
+    ghost invariant = { λ load. load.heap.lent ≡ None };
+}
+
 impl Load {
-    /// No chunks yet, which are to be of 0 to so many bytes.
-    pub(crate) fn new(alloc: Global, heap: Heap, most: u16) -> Load {
+    /// No chunks yet, which are to have from 0 to `most` bytes.
+    pub(crate) fn new(alloc: Global, heap: Heap, most: u16) -> Load
+        requires { heap.lent ≡ None }
+    {
         Load {
             heap,
             most,
@@ -98,7 +115,8 @@ impl Load {
         Ok(())
     }
 
-    /// Locks the chunks that have 16 bytes once more, where they are to be written.
+    /// Locks the chunks that have 16 bytes once more, if they are to be written. They stay locked, so that their bytes
+    /// may be taken out.
     pub(crate) fn prepare(&mut self, call: Call) {
         if let Call::Write = call {
             self.lock_wide();
@@ -120,6 +138,7 @@ impl Load {
             Call::LockAndUnlock => 2 * self.handles.len() as u128,
             Call::Size | Call::Owner | Call::Locks => self.handles.len() as u128,
             Call::Read | Call::Write => self.wide.len() as u128,
+            Call::TakeOutAndPutBack => 2 * self.wide.len() as u128,
         }
     }
 
@@ -133,6 +152,7 @@ impl Load {
                 Call::Locks => self.ask_locks(),
                 Call::Read => self.read(),
                 Call::Write => self.write((pass % 256) as u8),
+                Call::TakeOutAndPutBack => self.take_out_and_put_back(),
             }
         }
     }
@@ -180,9 +200,22 @@ impl Load {
         }
     }
 
+    /// Takes the bytes of each chunk out and puts them back, and adds up the first and the last.
+    fn take_out_and_put_back(&mut self) {
+        for name in &self.wide {
+            match self.heap.take_out(*name) {
+                Ok(loan) => {
+                    self.replies.add_ends(loan.slice(0, loan.len()));
+                    self.heap.put_back(loan);
+                }
+                Err(refusal) => self.replies.add_refusal(refusal),
+            }
+        }
+    }
+
     /// Adds the sum of all replies, and that of the words of the heap.
     pub(crate) fn add_to(self, sums: &mut Sums) {
-        sums.add(self.replies, self.heap.into_region().as_slice());
+        sums.add(self.replies, region_of(self.heap).as_slice());
     }
 
     /// The chunks of every second handle, the second among them.
@@ -199,8 +232,21 @@ impl Load {
         Ok(kept)
     }
 
-    pub(crate) fn into_region(self) -> Region {
-        self.heap.into_region()
+    pub(crate) fn into_region(self) -> Region
+        ensures { result.lent ≡ None }
+    {
+        region_of(self.heap)
+    }
+}
+
+/// The region of a heap of which nothing is lent.
+pub(crate) fn region_of(heap: Heap) -> Region
+    requires { heap.lent ≡ None }
+    ensures { result ≡ heap }
+{
+    match heap.into_region() {
+        Ok(region) => region,
+        Err(_) => unreachable!(),
     }
 }
 

@@ -1,6 +1,8 @@
 //! Calls that walk through a heap whose room lies between its chunks, or move these, and orders of calls for which
 //! lists of free chunks help least.
 
+ghost use Rattle.std.specs.Prelude.{◌≡◌};
+
 use crate::memory::heaps::{LARGE, Original, SMALL};
 use crate::memory::load::OWNER;
 use crate::timing::Sum;
@@ -37,7 +39,9 @@ pub(crate) enum Walk {
 impl Original {
     /// Makes a copy of the heap ready: it is parted where stretches are to be compacted, and the chunks between the
     /// first free ones are freed where they are to be taken by one.
-    pub(crate) fn prepare(&self, heap: &mut Heap, walk: Walk) {
+    pub(crate) fn prepare(&self, heap: &mut Heap, walk: Walk)
+        ensures { heap.new.lent ≡ heap.old.lent }
+    {
         match walk {
             Walk::HandleNew => self.part(heap),
             Walk::OverManyFreed => self.free_first(heap),
@@ -46,7 +50,9 @@ impl Original {
     }
 
     /// Locks chunks of a heap that part it into stretches of about as many chunks each.
-    fn part(&self, heap: &mut Heap) {
+    fn part(&self, heap: &mut Heap)
+        ensures { heap.new.lent ≡ heap.old.lent }
+    {
         let step = (self.kept.len() / STRETCHES).max(1);
         for kept in self.kept.iter().step_by(step) {
             if heap.lock(kept.name).is_err() {
@@ -55,7 +61,9 @@ impl Original {
         }
     }
 
-    fn free_first(&self, heap: &mut Heap) {
+    fn free_first(&self, heap: &mut Heap)
+        ensures { heap.new.lent ≡ heap.old.lent }
+    {
         for kept in self.kept.iter().take(self.freed()) {
             if heap.free(kept.name).is_err() {
                 return;
@@ -84,7 +92,9 @@ impl Original {
     }
 
     /// Does the calls, and answers the sum of their replies.
-    pub(crate) fn walk(&self, heap: &mut Heap, walk: Walk) -> Sum {
+    pub(crate) fn walk(&self, heap: &mut Heap, walk: Walk) -> Sum
+        ensures { heap.new.lent ≡ heap.old.lent }
+    {
         let mut replies = Sum(0);
         match walk {
             Walk::LargestStretch => replies.add(heap.largest_stretch()),
@@ -100,33 +110,43 @@ impl Original {
     }
 
     /// Makes chunks that take three quarters of the room of a stretch each.
-    fn make_large(&self, heap: &mut Heap, replies: &mut Sum) {
+    fn make_large(&self, heap: &mut Heap, replies: &mut Sum)
+        ensures { heap.new.lent ≡ heap.old.lent }
+    {
         let size = self.bytes() / (2 * STRETCHES as u32) / 4 * 3;
         for _ in 0..STRETCHES / 2 {
             replies.add_name(heap.handle_new(size, OWNER));
         }
     }
 
-    fn resize_each(&self, heap: &mut Heap, replies: &mut Sum) {
+    fn resize_each(&self, heap: &mut Heap, replies: &mut Sum)
+        ensures { heap.new.lent ≡ heap.old.lent }
+    {
         for kept in &self.kept {
             replies.add_done(heap.resize(kept.name, kept.length.saturating_add(8)));
             replies.add_done(heap.resize(kept.name, kept.length));
         }
     }
 
-    fn resize_one(&self, heap: &mut Heap, replies: &mut Sum) {
+    fn resize_one(&self, heap: &mut Heap, replies: &mut Sum)
+        ensures { heap.new.lent ≡ heap.old.lent }
+    {
         if let Some(kept) = self.kept.get(self.kept.len() / 2) {
             replies.add_done(heap.resize(kept.name, self.bytes() / 4));
         }
     }
 
-    fn make_far(&self, heap: &mut Heap, replies: &mut Sum) {
+    fn make_far(&self, heap: &mut Heap, replies: &mut Sum)
+        ensures { heap.new.lent ≡ heap.old.lent }
+    {
         for _ in 0..self.large {
             replies.add_name(heap.handle_new(LARGE, OWNER));
         }
     }
 
-    fn resize_in_turn(&self, heap: &mut Heap, replies: &mut Sum) {
+    fn resize_in_turn(&self, heap: &mut Heap, replies: &mut Sum)
+        ensures { heap.new.lent ≡ heap.old.lent }
+    {
         for kept in self.kept.iter().take(self.large) {
             replies.add_done(heap.resize(kept.name, LARGE));
             replies.add_name(heap.handle_new(SMALL - 16, OWNER));
@@ -134,7 +154,9 @@ impl Original {
     }
 
     /// Makes a chunk that takes the room of those that were freed, and of the free ones beside them.
-    fn make_over(&self, heap: &mut Heap, replies: &mut Sum) {
+    fn make_over(&self, heap: &mut Heap, replies: &mut Sum)
+        ensures { heap.new.lent ≡ heap.old.lent }
+    {
         let freed = self.freed().min(u32::MAX as usize) as u32;
         let size = freed.saturating_mul(SMALL + 16);
         replies.add_name(heap.handle_new(size.saturating_add(SMALL), OWNER));

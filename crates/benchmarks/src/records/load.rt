@@ -1,5 +1,8 @@
 //! Databases under load: their entries are made, moved, taken out and asked for in a fixed order.
 
+ghost use Rattle.std.specs.Prelude.{◌≡◌, None};
+
+use crate::records::region_of;
 use crate::records::resources::ResourceLoad;
 use crate::timing::{Sum, Sums};
 use crate::work::Work;
@@ -9,6 +12,7 @@ use record_db::{
     attach, delete_category, detach, find_by_id, move_category, move_record, new_record,
     num_in_category, num_records, record_info, remove, set_record_info,
 };
+use std::marker::Model;
 
 /// An index behind all records.
 const END: u32 = 0xFFFF;
@@ -68,7 +72,7 @@ impl Call {
     }
 }
 
-/// A store with a database, and the sum of all replies to the calls so far.
+/// A store of which nothing is lent, with a database, and the sum of all replies to the calls so far.
 #[derive(Drop)]
 pub(crate) struct Load {
     store: Store,
@@ -79,9 +83,22 @@ pub(crate) struct Load {
     resources: ResourceLoad,
 }
 
+impl Model for Load {
+    ghost use Rattle.std.specs.Prelude.{◌≡◌, None};
+    ghost use Rattle.heap_model.specs.Memory.{Memory};
+
+    ghost Value = { Memory };
+
+    ghost view = { λ load. load.store };
+
+    ghost invariant = { λ load. load.store.lent ≡ None };
+}
+
 impl Load {
     /// A load on a database that has no records yet, and on one of resources.
-    pub(crate) fn new(store: Store, db: Db, resources: ResourceLoad) -> Load {
+    pub(crate) fn new(store: Store, db: Db, resources: ResourceLoad) -> Load
+        requires { store.lent ≡ None }
+    {
         Load {
             store,
             db,
@@ -294,7 +311,7 @@ impl Load {
 
     /// Adds the sums of all replies, and those of the words of the images.
     pub(crate) fn add_to(self, sums: &mut Sums) {
-        sums.add(self.replies, self.store.into_region().as_slice());
+        sums.add(self.replies, region_of(self.store).as_slice());
         self.resources.add_to(sums);
     }
 }

@@ -1,11 +1,15 @@
 //! A database of resources under load: they are made, searched for and taken out in a fixed order.
 
+ghost use Rattle.std.specs.Prelude.{◌≡◌, None};
+
+use crate::records::region_of;
 use crate::timing::{Sum, Sums};
 use heap_model::{Db, ResourceInfo};
 use palm_store::Store;
 use resource_db::{
     find_resource, find_type, new_resource, num_resources, remove_resource, resource_info,
 };
+use std::marker::Model;
 
 /// The most bytes of a resource.
 const MOST_BYTES: u32 = 64;
@@ -16,7 +20,7 @@ const KINDS: [u32; 2] = [0x636F_6465, 0x7453_5452];
 /// How many IDs there are.
 const IDS: u32 = 0x1_0000;
 
-/// A store with a database of resources, and the sum of all replies to the calls so far.
+/// A store of which nothing is lent, with a database of resources, and the sum of all replies to the calls so far.
 #[derive(Drop)]
 pub(crate) struct ResourceLoad {
     store: Store,
@@ -26,9 +30,22 @@ pub(crate) struct ResourceLoad {
     replies: Sum,
 }
 
+impl Model for ResourceLoad {
+    ghost use Rattle.std.specs.Prelude.{◌≡◌, None};
+    ghost use Rattle.heap_model.specs.Memory.{Memory};
+
+    ghost Value = { Memory };
+
+    ghost view = { λ load. load.store };
+
+    ghost invariant = { λ load. load.store.lent ≡ None };
+}
+
 impl ResourceLoad {
     /// A load on a database that has no resources yet.
-    pub(crate) fn new(store: Store, db: Db) -> ResourceLoad {
+    pub(crate) fn new(store: Store, db: Db) -> ResourceLoad
+        requires { store.lent ≡ None }
+    {
         ResourceLoad {
             store,
             db,
@@ -95,6 +112,6 @@ impl ResourceLoad {
 
     /// Adds the sum of all replies, and that of the words of the image.
     pub(crate) fn add_to(self, sums: &mut Sums) {
-        sums.add(self.replies, self.store.into_region().as_slice());
+        sums.add(self.replies, region_of(self.store).as_slice());
     }
 }

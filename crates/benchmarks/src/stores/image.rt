@@ -1,5 +1,7 @@
 //! Images with databases, written out chunk by chunk.
 
+ghost use Rattle.std.specs.Prelude.{◌≡◌, IfOk, None};
+
 use raw_region::Region;
 use std::alloc::{AllocError, Global};
 
@@ -56,7 +58,9 @@ impl Store {
     /// The image. Its slots are the directory's, those of the headers and those of the data, in this order,
     /// and all are in use. The chunks for data are as long as all of them can be, and what is left behind
     /// them is a free chunk.
-    pub(crate) fn image(self, alloc: Global) -> Result<Region, AllocError> {
+    pub(crate) fn image(self, alloc: Global) -> Result<Region, AllocError>
+        ensures { IfOk result (λ region. region.lent ≡ None) }
+    {
         let slots = self.data_chunks().wrapping_add(self.first_data());
         let mut chunks = Chunks::new(alloc, slots);
         self.add_lists(alloc, &mut chunks)?;
@@ -188,7 +192,9 @@ impl Chunks {
     }
 
     /// The image of these chunks, with a free one behind them where there is room.
-    fn into_region(self, alloc: Global, size: u32) -> Result<Region, AllocError> {
+    fn into_region(self, alloc: Global, size: u32) -> Result<Region, AllocError>
+        ensures { IfOk result (λ region. region.lent ≡ None) }
+    {
         let mut bytes = Vec::new(alloc);
         self.put_image(&mut bytes, size)?;
         Region::from_bytes(alloc, bytes.as_slice())

@@ -1,4 +1,5 @@
 //! Calls that ask of a heap and leave it as it is.
+#![tactic(auto, using(crate::proofs::KnownLoans::knows_lends, crate::proofs::KnownLoans::known_other, laws_heap::proofs::LentBodies::table_within))]
 
 ghost use Rattle.std.specs.Prelude.{◌≡◌, ◌≢◌, ◌≤◌, ◌<◌, Err};
 ghost use Rattle.heap_model.specs.MemorySteps.{Does, reply_of};
@@ -8,7 +9,7 @@ ghost use Rattle.mem_manager.specs.Replies.{number_or_refused, name_or_refused};
 
 use crate::bounds::check_range;
 use crate::heap::Heap;
-use crate::lookup::{find, name_at};
+use crate::lookup::{check_here, find, name_at};
 use heap_model::{Name, Place, Refusal};
 
 impl Heap {
@@ -44,13 +45,14 @@ impl Heap {
 
     /// `count` bytes of a chunk, from `at` within it on, as they lie in the image. Takes no memory.
     ///
-    /// Refused: `InvalidHandle`, `OutOfBounds`.
+    /// Refused: `InvalidHandle`, `Lent`, `OutOfBounds`.
     pub fn read(&self, name: Name, at: u32, count: u32) -> Result<&[u8], Refusal>
         ensures does { Does self.now (MemoryCall.Read name at count)
             (reply_of (λ bytes. Reply.Data bytes.now) result) self.now }
         ensures takes_no_memory { result ≢ Err Refusal.OutOfMemory }
     {
         let found = find(&self.space, &self.known, name)?;
+        check_here(self.lent, found)?;
         check_range(at, count as usize, found.length)?;
         let start = found.place.0 as usize + at as usize;
         Ok(self.space.region().slice(start, count as usize))

@@ -1,4 +1,5 @@
 //! Calls that change a chunk where it stands.
+#![tactic(auto, using(crate::proofs::KnownLoans::knows_lends, crate::proofs::KnownLoans::known_other, laws_heap::proofs::LentBodies::table_within))]
 
 ghost use Rattle.std.specs.Prelude.{◌≡◌, ◌≤◌, ◌<◌};
 ghost use Rattle.heap_model.specs.MemorySteps.{Does};
@@ -7,7 +8,7 @@ ghost use Rattle.mem_manager.specs.Replies.{done_or_refused, number_or_refused, 
 
 use crate::bounds::{before_zero, check_ended_range, check_owner, check_range};
 use crate::heap::{Heap, Locked};
-use crate::lookup::{check_callers, check_locked, check_movable, find, find_again};
+use crate::lookup::{check_callers, check_here, check_locked, check_movable, find, find_again};
 use heap_model::{Name, Refusal};
 
 /// The most locks that a movable chunk can have.
@@ -36,13 +37,14 @@ impl Heap {
 
     /// Takes one lock off a movable chunk, and answers how many are left.
     ///
-    /// Refused: `InvalidHandle`, `ChunkFixed`, `ChunkNotLocked`.
+    /// Refused: `InvalidHandle`, `ChunkFixed`, `ChunkNotLocked`, `Lent`.
     pub fn unlock(&mut self, name: Name) -> Result<u8, Refusal>
         ensures { Does self.old (MemoryCall.Unlock name) (number_or_refused result) self.new }
     {
         let found = find(&self.space, &self.known, name)?;
         check_movable(found)?;
         check_locked(found)?;
+        check_here(self.lent, found)?;
         let count = found.lock - 1;
         self.space.relock(found, count);
         Ok(count)
@@ -50,13 +52,14 @@ impl Heap {
 
     /// Writes bytes over those of a locked or fixed chunk, from `at` within it on.
     ///
-    /// Refused: `InvalidHandle`, `ChunkNotLocked`, `OutOfBounds`.
+    /// Refused: `InvalidHandle`, `ChunkNotLocked`, `Lent`, `OutOfBounds`.
     pub fn write(&mut self, name: Name, at: u32, bytes: &[u8]) -> Result<(), Refusal>
         ensures { Does self.old (MemoryCall.Write name at bytes.now)
             (done_or_refused result) self.new }
     {
         let found = find_again(&self.space, &mut self.known, name)?;
         check_locked(found)?;
+        check_here(self.lent, found)?;
         check_range(at, bytes.len(), found.length)?;
         self.space.write(found, at, bytes);
         Ok(())
@@ -64,13 +67,14 @@ impl Heap {
 
     /// Makes each of `count` bytes of a locked or fixed chunk the byte `byte`, from `at` within it on.
     ///
-    /// Refused: `InvalidHandle`, `ChunkNotLocked`, `OutOfBounds`.
+    /// Refused: `InvalidHandle`, `ChunkNotLocked`, `Lent`, `OutOfBounds`.
     pub fn set(&mut self, name: Name, at: u32, count: u32, byte: u8) -> Result<(), Refusal>
         ensures { Does self.old (MemoryCall.Set name at count byte)
             (done_or_refused result) self.new }
     {
         let found = find_again(&self.space, &mut self.known, name)?;
         check_locked(found)?;
+        check_here(self.lent, found)?;
         check_range(at, count as usize, found.length)?;
         self.space.fill(found, at, count, byte);
         Ok(())
@@ -79,13 +83,14 @@ impl Heap {
     /// Writes the bytes of `text` in front of its first zero byte, all if it has none, and then one zero
     /// byte, over those of a locked or fixed chunk, from `at` within it on.
     ///
-    /// Refused: `InvalidHandle`, `ChunkNotLocked`, `OutOfBounds`, for which the zero byte counts.
+    /// Refused: `InvalidHandle`, `ChunkNotLocked`, `Lent`, `OutOfBounds`, for which the zero byte counts.
     pub fn str_copy(&mut self, name: Name, at: u32, text: &[u8]) -> Result<(), Refusal>
         ensures { Does self.old (MemoryCall.StrCopy name at text.now)
             (done_or_refused result) self.new }
     {
         let found = find_again(&self.space, &mut self.known, name)?;
         check_locked(found)?;
+        check_here(self.lent, found)?;
         let part = before_zero(text);
         check_ended_range(at, part.len(), found.length)?;
         self.space.write_ended(found, at, part);

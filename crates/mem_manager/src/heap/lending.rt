@@ -1,19 +1,22 @@
 //! What a heap lends and tells to the store above, of any chunk.
+#![tactic(auto, using(crate::proofs::KnownLoans::knows_lends, crate::proofs::KnownLoans::known_other, laws_heap::proofs::LentBodies::table_within))]
 
 ghost use Rattle.std.specs.Prelude.{◌≡◌, ◌≢◌, IsSome, Some, None, IfSome, IfNone};
 ghost use Rattle.heap_model.specs.Chunk.{fixed_lock};
+ghost use Rattle.heap_model.specs.Lending.{IsLent, LendsOther};
 ghost use Rattle.heap_model.specs.Heap.{HeapAccepted};
 ghost use Rattle.heap_model.specs.Meaning.{LiveChunk};
 ghost use Rattle.heap_model.specs.Reading.{held};
 ghost use Rattle.heap_model.specs.Store.{bytes_under, owner_under};
 ghost use Rattle.heap_check.specs.Summary.{Summarizes};
 ghost use Rattle.heap_place.specs.Found.{IsFound, IsOne};
-ghost use Rattle.mem_manager.specs.Lookup.{IsMovable, StandsAs};
+ghost use Rattle.mem_manager.specs.Lookup.{IsMovable, StandsAs, IsHere};
 
+use crate::counting::count_chunks;
 use crate::heap::Heap;
 use crate::known::KnownNames;
 use crate::lookup::named;
-use heap_check::{Summary, check_heap};
+use heap_check::Summary;
 use heap_model::Name;
 use heap_place::{Found, Space};
 use master_table::TableStart;
@@ -23,6 +26,7 @@ impl Heap {
     /// Takes a region whose caller knows that it is an accepted heap, without a look at more than its chain of tables.
     pub fn of_accepted(region: Region) -> Heap
         requires accepted { HeapAccepted region.bytes }
+        requires whole { region.lent ≡ None }
         ensures same { result ≡ region }
     {
         Heap {
@@ -31,6 +35,7 @@ impl Heap {
             start: TableStart::first(),
             freed: Name(0),
             known: KnownNames::none(),
+            lent: None,
         }
     }
 
@@ -38,11 +43,12 @@ impl Heap {
     pub fn summary(&self) -> Summary
         ensures { Summarizes self.now.bytes result }
     {
-        check_heap(self.space.region()).unwrap()
+        count_chunks(self.space.region())
     }
 
     /// The bytes of the image.
     pub fn image(&self) -> &[u8]
+        requires { self.now.lent ≡ None }
         ensures { result.now ≡ self.now.bytes }
     {
         let region = self.space.region();
@@ -59,6 +65,8 @@ impl Heap {
             (live : LiveChunk) → held self.now.bytes name.0 ≡ Some live → found.lock ≡ live.lock) }
         ensures stands { IfSome result (λ found.
             found.lock ≢ fixed_lock → StandsAs self.now.bytes name.0 found) }
+        ensures unlocked { IfSome result (λ found.
+            found.lock ≡ 0 → IsLent self.now name.0 → ⊥) }
         ensures there { IfSome result (λ found. IsSome (held self.now.bytes name.0)) }
         ensures none { IfNone result (held self.now.bytes name.0 ≡ None) }
     {
@@ -69,7 +77,8 @@ impl Heap {
     #[inline(always)]
     pub fn sys_locks(&self, name: Name) -> u8
         requires there { IsSome (held self.now.bytes name.0) }
-        ensures { (live : LiveChunk) → held self.now.bytes name.0 ≡ Some live → result ≡ live.lock }
+        ensures is { (live : LiveChunk) → held self.now.bytes name.0 ≡ Some live → result ≡ live.lock }
+        ensures unlocked { result ≡ 0 → IsLent self.now name.0 → ⊥ }
     {
         self.space.chunk(name).lock
     }
@@ -77,7 +86,8 @@ impl Heap {
     /// The bytes of a movable chunk, as they lie in the image.
     #[inline(always)]
     pub fn sys_body(&self, name: Name) -> &[u8]
-        requires { IsMovable self.now.bytes name.0 }
+        requires movable { IsMovable self.now.bytes name.0 }
+        requires here { IsHere self.now name.0 }
         ensures { result.now ≡ bytes_under self.now.bytes name.0 }
     {
         self.body_of(self.space.movable(name))
@@ -86,7 +96,8 @@ impl Heap {
     /// The bytes of a chunk that was found.
     #[inline(always)]
     pub(crate) fn body_of(&self, found: Found) -> &[u8]
-        requires { IsOne self.now.bytes found }
+        requires found { IsOne self.now.bytes found }
+        requires other { LendsOther self.now found.place.0 }
         ensures { result.now ≡ bytes_under self.now.bytes found.name.0 }
     {
         let at = found.place.0 as usize;

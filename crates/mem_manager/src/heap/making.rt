@@ -1,7 +1,9 @@
 //! Calls that make chunks and free them.
+#![tactic(auto, using(crate::proofs::KnownLoans::knows_lends, crate::proofs::KnownLoans::known_other, laws_heap::proofs::LentBodies::table_within, laws_heap::proofs::LentBodies::frame_within))]
 
 ghost use Rattle.std.specs.Prelude.{◌≡◌, ◌≤◌, ◌<◌, ◌+◌, ◌↔◌, ℕ, List, IfSome, IfOk, OnOk, IfErr, OnErr, None};
 ghost use Rattle.heap_model.specs.Chunk.{need, data_owner};
+ghost use Rattle.heap_model.specs.Lending.{LendsABody};
 ghost use Rattle.heap_model.specs.Heap.{HeapAccepted};
 ghost use Rattle.heap_model.specs.Reading.{chunks_of};
 ghost use Rattle.heap_model.specs.Space.{NoRun, Short, free_slots, MovesOneStretch, moved_bytes};
@@ -19,7 +21,7 @@ ghost use Rattle.mem_manager.specs.Lookup.{IsNextEmpty, IsSlotOrNone, MakesNew, 
 use crate::bounds::check_owner;
 use crate::heap::Heap;
 use crate::known::KnownNames;
-use crate::lookup::{check_callers, find};
+use crate::lookup::{check_callers, check_here, find};
 use chunk_format::{FIXED_LOCK, MANAGERS_OWNER, TABLE_LENGTH, chunk_size, is_chained, slot_count};
 use heap_compact::make_room;
 use heap_model::{Name, Refusal};
@@ -93,7 +95,7 @@ impl Heap {
 
     /// Frees a chunk that is a caller's and has no lock; a fixed one may be freed.
     ///
-    /// Refused: `InvalidHandle`, `OwnedByDatabase`, `ChunkLocked`.
+    /// Refused: `InvalidHandle`, `OwnedByDatabase`, `ChunkLocked`, `Lent`.
     #[inline(always)]
     pub fn free(&mut self, name: Name) -> Result<(), Refusal>
         ensures { Does self.old (MemoryCall.Free name) (done_or_refused result) self.new }
@@ -127,6 +129,7 @@ impl Heap {
         if found.lock > 0 && found.lock < FIXED_LOCK {
             return Err(Refusal::ChunkLocked);
         }
+        check_here(self.lent, found)?;
         self.used = used_without(self.space.region(), self.used, name);
         self.freed = freed_slot(self.space.region(), self.freed, found);
         self.known.forget(name);
@@ -136,13 +139,19 @@ impl Heap {
 
     /// Frees all chunks of an owner, 1 to 14, locked and fixed ones too, and answers how many there were.
     ///
-    /// Refused: `InvalidOwner`.
+    /// Refused: `InvalidOwner`; `Lent`, if one of them is lent. Then nothing has changed.
     pub fn free_by_owner(&mut self, owner: u8) -> Result<u32, Refusal>
         ensures { Does self.old (MemoryCall.FreeByOwner owner) (number_or_refused result) self.new }
     {
-        let space = &mut self.space;
+        // The heap is looked at, so that its invariant is known.
+        let _ = &self.space;
         check_owner(owner)?;
-        let count = space.give_back_owned(owner);
+        if let Some(name) = self.lent {
+            if self.space.chunk(name).owner == owner {
+                return Err(Refusal::Lent);
+            }
+        }
+        let count = self.space.give_back_owned(owner);
         self.used = 0;
         self.start = TableStart::first();
         self.freed = Name(0);
@@ -160,6 +169,7 @@ pub(crate) fn next_empty_slot(
     freed: Name,
 ) -> Option<EmptySlot>
     requires accepted { HeapAccepted region.now.bytes }
+    requires lent { LendsABody region.now }
     requires in_use { UsedBefore region.now.bytes used }
     requires start { IsStart region.now.bytes start }
     requires freed { IsSlotOrNone region.now.bytes freed.0 }
@@ -185,6 +195,7 @@ pub(crate) fn make_movable(
     owner: u8,
 ) -> Result<EmptySlot, Refusal>
     requires accepted { HeapAccepted space.old.bytes }
+    requires lent { LendsABody space.old }
     requires some { IfSome found (λ slot. IsNextEmpty space.old.bytes slot.name.0 slot.before) }
     requires none { (found ≡ None) ↔ (free_slots space.old.bytes ≡ 0) }
     requires table { IfSome found (λ slot. IsStart space.old.bytes slot.table) }
@@ -212,6 +223,7 @@ pub(crate) fn make_movable(
 /// Makes a further table of empty slots, as `Heap::more_slots` does.
 fn make_table(space: &mut Space) -> Result<(), Refusal>
     requires accepted { HeapAccepted space.old.bytes }
+    requires lent { LendsABody space.old }
     ensures does { Does space.old MemoryCall.MoreSlots (done_or_refused result) space.new }
     ensures unmoved { MovesOnlyForRoom space.old.bytes space.new.bytes gained_length }
     ensures one_stretch { MovesOneStretch space.old.bytes space.new.bytes }
@@ -229,6 +241,7 @@ fn make_table(space: &mut Space) -> Result<(), Refusal>
 /// Room for a chunk of `size` bytes, for which one stretch is packed where it has to be.
 fn room_for(space: &mut Space, size: u32) -> Result<Room, Refusal>
     requires accepted { HeapAccepted space.old.bytes }
+    requires lent { LendsABody space.old }
     ensures room { IfOk result (λ room. IsSpot space.new.bytes room.at room.size) }
     ensures enough { IfOk result (λ room. need size ≤ room.size) }
     ensures not_short { OnOk result (Short space.old.bytes (need size) → ⊥) }
@@ -239,6 +252,7 @@ fn room_for(space: &mut Space, size: u32) -> Result<Room, Refusal>
     ensures slides { SlidesOneStretch space.old.bytes space.new.bytes }
     ensures once { space.new.slid ≡ space.old.slid + moved_bytes space.old.bytes space.new.bytes }
     ensures rest { space.new ≡ record space.old { bytes = space.new.bytes; slid = space.new.slid } }
+    ensures lent { LendsABody space.new }
 {
     let Some(needed) = chunk_size(size) else {
         return Err(Refusal::NotEnoughSpace);
@@ -251,7 +265,8 @@ fn room_for(space: &mut Space, size: u32) -> Result<Room, Refusal>
 /// fewer.
 #[inline(always)]
 pub(crate) fn used_without(region: &Region, used: u32, name: Name) -> u32
-    requires { IsTiled region.now.bytes }
+    requires tiled { IsTiled region.now.bytes }
+    requires lent { LendsABody region.now }
     ensures fewer { result ≤ used }
     ensures apart { NotAmong region.now.bytes result name.0 }
 {
@@ -263,6 +278,7 @@ pub(crate) fn used_without(region: &Region, used: u32, name: Name) -> u32
 #[inline(always)]
 pub(crate) fn freed_slot(region: &Region, freed: Name, found: Found) -> Name
     requires accepted { HeapAccepted region.now.bytes }
+    requires lent { LendsABody region.now }
     requires found { IsOne region.now.bytes found }
     requires freed { IsSlotOrNone region.now.bytes freed.0 }
     ensures { IsSlotOrNone region.now.bytes result.0 }

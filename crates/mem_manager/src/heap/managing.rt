@@ -1,17 +1,18 @@
 //! Calls for the store above, on its own chunks and on those of databases, whose owners are 0 and 15.
-//! Their callers show what they ask: nothing is refused but want of room, and a locked chunk that would
-//! have to move.
+//! They have preconditions. Only `sys_new` refuses, with `NotEnoughSpace`.
+#![tactic(auto, using(crate::proofs::KnownLoans::knows_lends, crate::proofs::KnownLoans::known_other, laws_heap::proofs::LentBodies::table_within))]
 
 ghost use Rattle.std.specs.Prelude.{◌≡◌, ◌≢◌, ◌≤◌, ◌<◌, ◌+◌, length, slice_range, IsSome, IfOk, IfErr, OnOk, OnErr};
 ghost use Rattle.heap_model.specs.Chunk.{need, managers_owner, data_owner};
 ghost use Rattle.heap_model.specs.Rooms.{Lowers};
 ghost use Rattle.heap_model.specs.Heap.{directory_of};
+ghost use Rattle.heap_model.specs.Lending.{KeepsLoan};
 ghost use Rattle.heap_model.specs.Reading.{held};
 ghost use Rattle.heap_model.specs.Space.{MovesOneStretch, moved_bytes};
 ghost use Rattle.heap_model.specs.Maps.{reowned};
 ghost use Rattle.heap_model.specs.Store.{bytes_under, owner_under};
 ghost use Rattle.heap_model.specs.Leaving.{Leaves, NamesDirectory};
-ghost use Rattle.mem_manager.specs.Lookup.{IsMovable, MakesNew, HasNoRoomFor, MovesOnlyForRoom};
+ghost use Rattle.mem_manager.specs.Lookup.{IsMovable, IsHere, MakesNew, HasNoRoomFor, MovesOnlyForRoom};
 
 use crate::heap::Heap;
 use crate::heap::making::{make_movable, next_empty_slot};
@@ -32,6 +33,7 @@ impl Heap {
         ensures one_stretch { MovesOneStretch self.old.bytes self.new.bytes }
         ensures lowers { OnOk result (Lowers self.old.bytes self.new.bytes (need size)) }
         ensures once { self.new.slid ≡ self.old.slid + moved_bytes self.old.bytes self.new.bytes }
+        ensures loan { KeepsLoan self.old self.new }
         ensures rest { self.new ≡ record self.old { bytes = self.new.bytes; slid = self.new.slid } }
     {
         let found = next_empty_slot(self.space.region(), self.used, self.start, self.freed);
@@ -45,6 +47,7 @@ impl Heap {
     pub fn sys_read(&self, name: Name, at: u32, count: u32) -> &[u8]
         requires there { IsSome (held self.now.bytes name.0) }
         requires within { at + count ≤ length (bytes_under self.now.bytes name.0) }
+        requires here { IsHere self.now name.0 }
         ensures { result.now ≡ slice_range (bytes_under self.now.bytes name.0) at (at + count) }
     {
         let found = self.space.chunk(name);
@@ -61,6 +64,7 @@ impl Heap {
         requires most_owner { owner ≤ data_owner }
         ensures leaves { Leaves self.old.bytes self.new.bytes
             (reowned (held self.old.bytes) name.0 owner) }
+        ensures loan { KeepsLoan self.old self.new }
         ensures rest { self.new ≡ record self.old { bytes = self.new.bytes } }
     {
         let found = self.space.movable(name);
@@ -78,6 +82,7 @@ impl Heap {
     pub fn set_directory(&mut self, name: Name)
         requires managers { owner_under self.old.bytes name.0 ≡ managers_owner }
         ensures names { NamesDirectory self.old.bytes self.new.bytes name.0 }
+        ensures loan { KeepsLoan self.old self.new }
         ensures rest { self.new ≡ record self.old { bytes = self.new.bytes } }
     {
         self.space.set_directory(name);

@@ -1,7 +1,9 @@
 //! Calls that move chunks.
+#![tactic(auto, using(crate::proofs::KnownLoans::knows_lends, crate::proofs::KnownLoans::known_other, laws_heap::proofs::LentBodies::table_within))]
 
 ghost use Rattle.std.specs.Prelude.{◌≡◌, ◌≢◌, ◌+◌, OnOk, OnErr, IfErr};
 ghost use Rattle.heap_model.specs.Chunk.{fixed_lock};
+ghost use Rattle.heap_model.specs.Lending.{LendsABody, LendsOther};
 ghost use Rattle.heap_model.specs.Heap.{HeapAccepted};
 ghost use Rattle.heap_model.specs.Space.{MovesOneStretchAnd};
 ghost use Rattle.heap_model.specs.Reading.{chunks_of};
@@ -16,7 +18,7 @@ ghost use Rattle.heap_compact.specs.Resized.{Resized};
 ghost use Rattle.mem_manager.specs.Lookup.{MovesOnlyToGrow, checks_of_growth};
 
 use crate::heap::Heap;
-use crate::lookup::{check_callers, check_movable, find};
+use crate::lookup::{check_callers, check_here, check_movable, find};
 use heap_compact::{Space, resize_by_moving};
 use heap_model::{Name, Refusal};
 use heap_place::Found;
@@ -36,7 +38,7 @@ impl Heap {
     /// Gives a chunk `size` bytes: its first ones, or all of them and zeros behind. Where it has them with
     /// what is free directly behind it, nothing moves; else it may move, and others of one stretch.
     ///
-    /// Refused: `InvalidHandle`, `OwnedByDatabase`, `ChunkFixed`; `ChunkLocked`, where it is locked and
+    /// Refused: `InvalidHandle`, `OwnedByDatabase`, `ChunkFixed`, `Lent`; `ChunkLocked`, where it is locked and
     /// would have to move; `NotEnoughSpace`, where it is not locked and no stretch has the room, its own
     /// bytes counted as room of its own stretch. Then nothing has changed.
     pub fn resize(&mut self, name: Name, size: u32) -> Result<(), Refusal>
@@ -49,6 +51,7 @@ impl Heap {
         let found = find(&self.space, &self.known, name)?;
         check_callers(found)?;
         check_movable(found)?;
+        check_here(self.lent, found)?;
         resize_found(&mut self.space, found, size)
     }
 }
@@ -57,13 +60,15 @@ impl Heap {
 #[inline(always)]
 pub(crate) fn resize_found(space: &mut Space, found: Found, size: u32) -> Result<(), Refusal>
     requires accepted { HeapAccepted space.old.bytes }
+    requires lent { LendsABody space.old }
+    requires other { LendsOther space.old found.place.0 }
     requires found { IsOne space.old.bytes found }
     requires movable { found.lock ≢ fixed_lock }
     ensures done { OnOk result (Resized space.old.bytes space.new.bytes found.name.0 size) }
-    ensures could { OnOk result (NoneHolds (checks_of_growth space.old.bytes found.name.0 size)) }
+    ensures could { OnOk result (NoneHolds (checks_of_growth space.old found.name.0 size)) }
     ensures refused { OnErr result (space.new ≡ space.old) }
     ensures why { IfErr result
-        (λ refusal. FirstBrings (checks_of_growth space.old.bytes found.name.0 size) refusal) }
+        (λ refusal. FirstBrings (checks_of_growth space.old found.name.0 size) refusal) }
     ensures unmoved { MovesOnlyToGrow space.old.bytes space.new.bytes found.name.0 size }
     ensures one_stretch { MovesOneStretchAnd space.old.bytes space.new.bytes found.name.0 }
     ensures rest { space.new ≡ record space.old { bytes = space.new.bytes; slid = space.new.slid } }

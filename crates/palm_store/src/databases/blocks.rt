@@ -1,6 +1,7 @@
 //! The info blocks of a database: chunks for data that its header names.
 
 ghost use Rattle.std.specs.Prelude.{◌≡◌, ◌<◌, ◌≤◌, length, OnOk, IfOk, IfErr};
+ghost use Rattle.heap_model.specs.Lending.{KeepsLoan};
 ghost use Rattle.heap_model.specs.DatabaseFields.{header_size};
 ghost use Rattle.heap_model.specs.Database.{database_in};
 ghost use Rattle.heap_model.specs.DatabaseSteps.{info_block, info_block_set, info_block_taken};
@@ -72,6 +73,7 @@ pub(crate) fn give_block(heap: &mut Heap, db: Db, chunk: Found, which: Which, na
     ensures given { LeavesStore heap.old.bytes heap.new.bytes
         (raised (info_block_set (store_of heap.old.bytes) db which name.0) db) }
     ensures none_made { MakesNone heap.old.bytes heap.new.bytes }
+    ensures loan { KeepsLoan heap.old heap.new }
     ensures rest { heap.new ≡ record heap.old { bytes = heap.new.bytes } }
 {
     write_block(heap, db, chunk, which, name.0);
@@ -90,6 +92,7 @@ pub(crate) fn take_block(heap: &mut Heap, db: Db, found: FoundBlock, which: Whic
     ensures taken { LeavesStore heap.old.bytes heap.new.bytes
         (raised (info_block_taken (store_of heap.old.bytes) db which owner) db) }
     ensures none_made { MakesNone heap.old.bytes heap.new.bytes }
+    ensures loan { KeepsLoan heap.old heap.new }
     ensures rest { heap.new ≡ record heap.old { bytes = heap.new.bytes } }
 {
     write_block(heap, db, found.chunk, which, 0);

@@ -1,6 +1,7 @@
 //! The chunks that a database names: whether one is locked, and all of them freed.
 
 ghost use Rattle.std.specs.Prelude.{◌≡◌, ◌<◌, ◌↔◌, length, slice_index, IsTrue, Any};
+ghost use Rattle.heap_model.specs.Lending.{IsLent, KeepsLoan};
 ghost use Rattle.heap_model.specs.Heap.{HeapAccepted};
 ghost use Rattle.heap_model.specs.Reading.{held};
 ghost use Rattle.heap_model.specs.Maps.{callers_map};
@@ -76,14 +77,36 @@ pub(crate) fn has_locked(heap: &Heap, db: Db, chunk: Found) -> bool
     false
 }
 
-/// Frees all chunks that a database names. Its own stays where it is, with its bytes.
+/// Whether a database names the chunk whose body is lent.
+pub(crate) fn has_lent(heap: &Heap, db: Db, chunk: Found) -> bool
+    requires accepted { Accepted heap.now.bytes }
+    requires number { HasNumber heap.now.bytes db.0 }
+    requires chunk { StandsAs heap.now.bytes db.0 chunk }
+    ensures { IsTrue result ↔ Any (IsLent heap.now) (named_under heap.now.bytes db.0) }
+{
+    let Some(lent) = heap.lent() else {
+        return false;
+    };
+    let body = header_in(heap, db, chunk);
+    for index in 0..slot_count(body) {
+        if slot_at(body, index) == lent {
+            return true;
+        }
+    }
+    false
+}
+
+/// Frees all chunks that a database names, of which none is locked. Its own stays where it is, with its bytes.
 pub(crate) fn free_data(heap: &mut Heap, db: Db, chunk: Found)
     requires accepted { Accepted heap.old.bytes }
     requires number { HasNumber heap.old.bytes db.0 }
     requires chunk { StandsAs heap.old.bytes db.0 chunk }
+    requires unlocked { Any (λ name. Of (callers_map heap.old.bytes name) IsLocked)
+        (named_under heap.old.bytes db.0) → ⊥ }
     ensures leaves { Leaves heap.old.bytes heap.new.bytes
         (all_gone (held heap.old.bytes) (named_under heap.old.bytes db.0)) }
     ensures stands { StandsAs heap.new.bytes db.0 chunk }
+    ensures loan { KeepsLoan heap.old heap.new }
     ensures rest { heap.new ≡ record heap.old { bytes = heap.new.bytes } }
 {
     let count = slot_count(header_in(heap, db, chunk));

@@ -1,6 +1,7 @@
 //! A database that is made: its slot in the directory, and its header.
 
 ghost use Rattle.std.specs.Prelude.{◌≡◌, ◌<◌, ◌≤◌, ◌+◌, ◌⊎◌, length, replicate, IfOk, IfErr, OnOk, OnErr, ◌*◌};
+ghost use Rattle.heap_model.specs.Lending.{KeepsLoan};
 ghost use Rattle.heap_model.specs.Bytes.{u32_bytes};
 ghost use Rattle.heap_model.specs.Chunk.{need, managers_owner};
 ghost use Rattle.heap_model.specs.Heap.{HeapAccepted, directory_of};
@@ -39,6 +40,7 @@ fn begin_directory(heap: &mut Heap, slot: Name) -> Result<(), Refusal>
     ensures no_room { OnErr result (HasNoRoomFor heap.old.bytes SLOT_SIZE) }
     ensures refusal { IfErr result (λ refusal. refusal ≡ Refusal.NotEnoughSpace) }
     ensures refused { OnErr result (heap.new ≡ heap.old) }
+    ensures loan { KeepsLoan heap.old heap.new }
     ensures rest { heap.new ≡ record heap.old { bytes = heap.new.bytes; slid = heap.new.slid } }
 {
     let directory = heap.sys_new(SLOT_SIZE as u32, MANAGERS_OWNER)?;
@@ -58,6 +60,7 @@ fn extend_directory(heap: &mut Heap, slot: Name) -> Result<(), Refusal>
         (need (length (directory_bytes heap.old.bytes) + SLOT_SIZE))) }
     ensures refusal { IfErr result (λ refusal. refusal ≡ Refusal.NotEnoughSpace) }
     ensures refused { OnErr result (heap.new ≡ heap.old) }
+    ensures loan { KeepsLoan heap.old heap.new }
     ensures rest { heap.new ≡ record heap.old { bytes = heap.new.bytes; slid = heap.new.slid } }
 {
     let directory = heap.directory();
@@ -77,6 +80,7 @@ pub(crate) fn list_last(heap: &mut Heap, slot: Name) -> Result<(), Refusal>
     ensures no_room { OnErr result (HasNoRoomToList heap.old.bytes) }
     ensures refusal { IfErr result (λ refusal. refusal ≡ Refusal.NotEnoughSpace) }
     ensures refused { OnErr result (heap.new ≡ heap.old) }
+    ensures loan { KeepsLoan heap.old heap.new }
     ensures rest { heap.new ≡ record heap.old { bytes = heap.new.bytes; slid = heap.new.slid } }
 {
     if heap.directory().0 == 0 {
@@ -96,6 +100,7 @@ pub(crate) fn list_new(heap: &mut Heap) -> Result<Name, Refusal>
         ⊎ Stuck (rooms heap.old.bytes) (create_parts heap.old.bytes)) }
     ensures refusal { IfErr result (λ refusal. refusal ≡ Refusal.NotEnoughSpace) }
     ensures refused { OnErr result (Leaves heap.old.bytes heap.new.bytes (held heap.old.bytes)) }
+    ensures loan { KeepsLoan heap.old heap.new }
     ensures rest { heap.new ≡ record heap.old { bytes = heap.new.bytes; slid = heap.new.slid } }
 {
     let slot = heap.sys_new(HEADER_SIZE as u32, MANAGERS_OWNER)?;

@@ -1,6 +1,7 @@
 //! A database that is deleted: its slot in the directory.
 
 ghost use Rattle.std.specs.Prelude.{◌≡◌, ◌<◌, ◌≤◌, ◌+◌, ◌*◌, length};
+ghost use Rattle.heap_model.specs.Lending.{KeepsLoan};
 ghost use Rattle.heap_model.specs.Heap.{HeapAccepted, directory_of};
 ghost use Rattle.heap_model.specs.Store.{directory_bytes, listed_size, most_databases};
 ghost use Rattle.palm_store.specs.Directory.{Unlists};
@@ -15,6 +16,7 @@ pub(crate) fn unlist(heap: &mut Heap, index: u32)
     requires few { length (directory_bytes heap.old.bytes) ≤ listed_size * most_databases }
     requires inside { SLOT_SIZE * index + SLOT_SIZE ≤ length (directory_bytes heap.old.bytes) }
     ensures unlists { Unlists heap.old.bytes heap.new.bytes index }
+    ensures loan { KeepsLoan heap.old heap.new }
     ensures rest { heap.new ≡ record heap.old { bytes = heap.new.bytes; slid = heap.new.slid } }
 {
     let directory = heap.directory();

@@ -1,6 +1,7 @@
 //! Chunks of zeros for the data of a new database, made one after the other.
 
 ghost use Rattle.std.specs.Prelude.{◌≡◌, ◌+◌, [], ◌∷◌, length, IfOk, IfErr, OnOk, OnErr};
+ghost use Rattle.heap_model.specs.Lending.{KeepsLoan};
 ghost use Rattle.heap_model.specs.Heap.{HeapAccepted};
 ghost use Rattle.heap_model.specs.Reading.{held};
 ghost use Rattle.heap_model.specs.Leaving.{Leaves};
@@ -23,6 +24,7 @@ fn make_sized(heap: &mut Heap, size: Option<u32>) -> Result<Name, Refusal>
         (RunsOut heap.old.bytes (length (makings (size ∷ []))) (makings (size ∷ []))) }
     ensures refusal { IfErr result (λ refusal. refusal ≡ Refusal.NotEnoughSpace) }
     ensures refused { OnErr result (heap.new ≡ heap.old) }
+    ensures loan { KeepsLoan heap.old heap.new }
     ensures rest { heap.new ≡ record heap.old { bytes = heap.new.bytes; slid = heap.new.slid } }
 {
     match size {
@@ -37,6 +39,7 @@ pub(crate) fn free_named(heap: &mut Heap, names: &[Name])
     requires own { AreOwnChunks heap.old.bytes (numbers_in names.now) }
     ensures leaves { Leaves heap.old.bytes heap.new.bytes
         (all_gone (held heap.old.bytes) (numbers_in names.now)) }
+    ensures loan { KeepsLoan heap.old heap.new }
     ensures rest { heap.new ≡ record heap.old { bytes = heap.new.bytes } }
 {
     for index in 0..names.len() {
@@ -62,6 +65,7 @@ pub(crate) fn make_data(
         (makings (data_sizes blocks entries.now))) }
     ensures refusal { IfErr result (λ refusal. refusal ≡ Refusal.NotEnoughSpace) }
     ensures refused { OnErr result (Leaves heap.old.bytes heap.new.bytes (held heap.old.bytes)) }
+    ensures loan { KeepsLoan heap.old heap.new }
     ensures rest { heap.new ≡ record heap.old { bytes = heap.new.bytes; slid = heap.new.slid } }
 {
     for index in 0..names.len() {

@@ -1,6 +1,7 @@
 //! Entries that are made.
 
 ghost use Rattle.std.specs.Prelude.{◌≡◌, ◌⊎◌, ℕ, ◌<◌, ◌≤◌, [], ◌∷◌, length, IfOk, OnOk, OnErr, IfErr};
+ghost use Rattle.heap_model.specs.Lending.{KeepsLoan};
 ghost use Rattle.heap_model.specs.Reading.{held};
 ghost use Rattle.heap_model.specs.Space.{free_slots, rooms};
 ghost use Rattle.heap_model.specs.Rooms.{making, Stuck};
@@ -51,6 +52,7 @@ pub(crate) fn put_in(
         (making size ∷ entry_growth heap.old.bytes (store_of heap.old.bytes) db ∷ [])) }
     ensures refusal { IfErr result (λ refusal. refusal ≡ Refusal.NotEnoughSpace) }
     ensures refused { OnErr result (Leaves heap.old.bytes heap.new.bytes (held heap.old.bytes)) }
+    ensures loan { KeepsLoan heap.old heap.new }
     ensures rest { heap.new ≡ record heap.old { bytes = heap.new.bytes; slid = heap.new.slid } }
 {
     let name = heap.sys_new(size, DATA_OWNER)?;
@@ -91,6 +93,7 @@ pub(crate) fn take_in(
         (entry_growth heap.old.bytes (store_of heap.old.bytes) db ∷ [])) }
     ensures refusal { IfErr result (λ refusal. refusal ≡ Refusal.NotEnoughSpace) }
     ensures refused { OnErr result (heap.new ≡ heap.old) }
+    ensures loan { KeepsLoan heap.old heap.new }
     ensures rest { heap.new ≡ record heap.old { bytes = heap.new.bytes; slid = heap.new.slid } }
 {
     insert_entry(heap, db, chunk, at as u16, with_slot(entry, name))?;

@@ -40,7 +40,7 @@ impl Store {
 
     /// `count` bytes of a chunk, from `at` within it on, as they lie in the image. Takes no memory.
     ///
-    /// Refused: `InvalidHandle`, `OutOfBounds`.
+    /// Refused: `InvalidHandle`, `Lent`, `OutOfBounds`.
     pub fn read(&self, name: Name, at: u32, count: u32) -> Result<&[u8], Refusal>
         ensures does { DoesMemory self.now (MemoryCall.Read name at count)
             (reply_of (λ bytes. Reply.Data bytes.now) result) self.now }

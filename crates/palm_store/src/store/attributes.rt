@@ -1,6 +1,7 @@
 //! The attributes of all records of a database, changed by one call.
 
 ghost use Rattle.std.specs.Prelude.{◌≡◌, false, map};
+ghost use Rattle.heap_model.specs.Lending.{KeepsLoan};
 ghost use Rattle.heap_model.specs.EntrySteps.{with_attributes, with_entries, MakesNone};
 ghost use Rattle.mem_manager.specs.Lookup.{StandsAs};
 ghost use Rattle.palm_store.specs.AttributeChanges.{MayChange};
@@ -25,6 +26,7 @@ impl Store {
             (λ store. with_entries store db (map (with_attributes (C.made change)))) }
         ensures stands { StandsAs self.new.bytes db.0 chunk }
         ensures none_made { MakesNone self.old.bytes self.new.bytes }
+        ensures loan { KeepsLoan self.old self.new }
         ensures rest { self.new ≡ record self.old { bytes = self.new.bytes } }
     {
         change_attributes(&mut self.heap, db, chunk, change);

@@ -24,7 +24,7 @@ impl Store {
 
     /// Takes one lock off a movable chunk, and answers how many are left.
     ///
-    /// Refused: `InvalidHandle`, `ChunkFixed`, `ChunkNotLocked`.
+    /// Refused: `InvalidHandle`, `ChunkFixed`, `ChunkNotLocked`, `Lent`.
     pub fn unlock(&mut self, name: Name) -> Result<u8, Refusal>
         ensures { DoesMemory self.old (MemoryCall.Unlock name) (number_or_refused result) self.new }
     {
@@ -33,7 +33,7 @@ impl Store {
 
     /// Writes bytes over those of a locked or fixed chunk, from `at` within it on.
     ///
-    /// Refused: `InvalidHandle`, `ChunkNotLocked`, `OutOfBounds`.
+    /// Refused: `InvalidHandle`, `ChunkNotLocked`, `Lent`, `OutOfBounds`.
     pub fn write(&mut self, name: Name, at: u32, bytes: &[u8]) -> Result<(), Refusal>
         ensures { DoesMemory self.old (MemoryCall.Write name at bytes.now)
             (done_or_refused result) self.new }
@@ -43,7 +43,7 @@ impl Store {
 
     /// Makes each of `count` bytes of a locked or fixed chunk the byte `byte`, from `at` within it on.
     ///
-    /// Refused: `InvalidHandle`, `ChunkNotLocked`, `OutOfBounds`.
+    /// Refused: `InvalidHandle`, `ChunkNotLocked`, `Lent`, `OutOfBounds`.
     pub fn set(&mut self, name: Name, at: u32, count: u32, byte: u8) -> Result<(), Refusal>
         ensures { DoesMemory self.old (MemoryCall.Set name at count byte)
             (done_or_refused result) self.new }
@@ -54,7 +54,7 @@ impl Store {
     /// Writes the bytes of `text` in front of its first zero byte, all if it has none, and then one zero
     /// byte, over those of a locked or fixed chunk, from `at` within it on.
     ///
-    /// Refused: `InvalidHandle`, `ChunkNotLocked`, `OutOfBounds`, for which the zero byte counts.
+    /// Refused: `InvalidHandle`, `ChunkNotLocked`, `Lent`, `OutOfBounds`, for which the zero byte counts.
     pub fn str_copy(&mut self, name: Name, at: u32, text: &[u8]) -> Result<(), Refusal>
         ensures { DoesMemory self.old (MemoryCall.StrCopy name at text.now)
             (done_or_refused result) self.new }

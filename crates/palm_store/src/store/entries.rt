@@ -2,6 +2,7 @@
 //! name: all else their callers show.
 
 ghost use Rattle.std.specs.Prelude.{◌≡◌, ◌≢◌, ◌<◌, ◌≤◌, None, length, false, IfSome, IfNone, IfOk, OnOk, OnErr, IfErr};
+ghost use Rattle.heap_model.specs.Lending.{KeepsLoan};
 ghost use Rattle.heap_model.specs.Chunk.{need};
 ghost use Rattle.heap_model.specs.Reading.{held};
 ghost use Rattle.heap_model.specs.Space.{FitsInPlace, MovesNothing, MovesOneStretchAnd};
@@ -128,6 +129,7 @@ impl Store {
         ensures as_before { OnErr result (StoreAsBefore self.old self.new) }
         ensures untouched { IfErr result (λ refusal.
             refusal ≢ Refusal.NotEnoughSpace → self.new ≡ self.old) }
+        ensures loan { KeepsLoan self.old self.new }
         ensures rest { self.new ≡ record self.old { bytes = self.new.bytes; slid = self.new.slid } }
     {
         if count_entries(&self.heap, db, chunk) >= MOST_ENTRIES {
@@ -175,6 +177,7 @@ impl Store {
         ensures could { OnOk result (NoneHolds (checks_of_attaching self.old.bytes db)) }
         ensures why { IfErr result (FirstBrings (checks_of_attaching self.old.bytes db)) }
         ensures refused { OnErr result (self.new ≡ self.old) }
+        ensures loan { KeepsLoan self.old self.new }
         ensures rest { self.new ≡ record self.old { bytes = self.new.bytes; slid = self.new.slid } }
     {
         if count_entries(&self.heap, db, chunk) >= MOST_ENTRIES {
@@ -189,18 +192,19 @@ impl Store {
     /// Gives the data of an entry, by its name, so many bytes: its first ones, or all of them and zeros behind
     /// them.
     ///
-    /// Refused, where the data has to grow: `ChunkLocked`, where it is locked and doesn't fit in its place;
+    /// Refused: `Lent`; where the data has to grow, `ChunkLocked`, where it is locked and doesn't fit in its place, and
     /// `NotEnoughSpace`. Then nothing has changed.
     pub fn entry_resize(&mut self, name: Name, size: u32) -> Result<(), Refusal>
         requires own { IsEntryData self.old.bytes name.0 }
         ensures done { OnOk result
             (LeavesChanged self.old self.new (λ store. data_sized store name.0 size)) }
-        ensures could { OnOk result (NoneHolds (checks_of_growth self.old.bytes name.0 size)) }
-        ensures why { IfErr result (FirstBrings (checks_of_growth self.old.bytes name.0 size)) }
+        ensures could { OnOk result (NoneHolds (checks_of_growth self.old name.0 size)) }
+        ensures why { IfErr result (FirstBrings (checks_of_growth self.old name.0 size)) }
         ensures refused { OnErr result (self.new ≡ self.old) }
         ensures unmoved { FitsInPlace self.old.bytes name.0 (need size)
             → MovesNothing self.old.bytes self.new.bytes }
         ensures one_stretch { MovesOneStretchAnd self.old.bytes self.new.bytes name.0 }
+        ensures loan { KeepsLoan self.old self.new }
         ensures rest { self.new ≡ record self.old { bytes = self.new.bytes; slid = self.new.slid } }
     {
         let found = self.heap.sys_find(name);
@@ -218,6 +222,7 @@ impl Store {
         ensures set { LeavesChanged self.old self.new
             (λ store. raised_if counts (entry_informed store db index info) db) }
         ensures none_made { MakesNone self.old.bytes self.new.bytes }
+        ensures loan { KeepsLoan self.old self.new }
         ensures rest { self.new ≡ record self.old { bytes = self.new.bytes } }
     {
         let entry = entry_with(read_entry(&self.heap, db, chunk, index), info);
@@ -248,6 +253,7 @@ impl Store {
         ensures swapped { LeavesChanged self.old self.new
             (λ store. raised (entry_given store db index info name.0 owner) db) }
         ensures none_made { MakesNone self.old.bytes self.new.bytes }
+        ensures loan { KeepsLoan self.old self.new }
         ensures rest { self.new ≡ record self.old { bytes = self.new.bytes } }
     {
         let was = read_entry(&self.heap, db, chunk, index);
@@ -269,6 +275,7 @@ impl Store {
         ensures moved { LeavesChanged self.old self.new
             (λ store. raised (entry_moved store db from to) db) }
         ensures none_made { MakesNone self.old.bytes self.new.bytes }
+        ensures loan { KeepsLoan self.old self.new }
         ensures rest { self.new ≡ record self.old { bytes = self.new.bytes; slid = self.new.slid } }
     {
         move_entry(&mut self.heap, db, chunk, from as u16, to as u16);
@@ -287,6 +294,7 @@ impl Store {
             (λ store. raised_if counts (data_freed store db index) db) }
         ensures stands { StandsAs self.new.bytes db.0 chunk }
         ensures none_made { MakesNone self.old.bytes self.new.bytes }
+        ensures loan { KeepsLoan self.old self.new }
         ensures rest { self.new ≡ record self.old { bytes = self.new.bytes } }
     {
         let entry = read_entry(&self.heap, db, chunk, index);
@@ -314,6 +322,7 @@ impl Store {
         ensures dropped { LeavesChanged self.old self.new
             (λ store. raised (dropped_to store db index owner) db) }
         ensures none_made { MakesNone self.old.bytes self.new.bytes }
+        ensures loan { KeepsLoan self.old self.new }
         ensures rest { self.new ≡ record self.old { bytes = self.new.bytes; slid = self.new.slid } }
     {
         let slot = Name(read_entry(&self.heap, db, chunk, index).slot());
@@ -332,6 +341,7 @@ impl Store {
         ensures counted { LeavesChanged self.old self.new (λ store. raised store db) }
         ensures none_made { MakesNone self.old.bytes self.new.bytes }
         ensures unmoved { MovesNothing self.old.bytes self.new.bytes }
+        ensures loan { KeepsLoan self.old self.new }
         ensures rest { self.new ≡ record self.old { bytes = self.new.bytes } }
     {
         count_change(&mut self.heap, db, chunk);

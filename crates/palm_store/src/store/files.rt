@@ -1,16 +1,18 @@
 //! Calls for a crate that reads databases from files and writes them to files. They refuse nothing: what they
 //! ask their callers show.
 
-ghost use Rattle.std.specs.Prelude.{◌≡◌, None, length, IfSome, IfNone};
+ghost use Rattle.std.specs.Prelude.{◌≡◌, ◌↔◌, None, length, IfSome, IfNone, IsTrue, Any};
+ghost use Rattle.heap_model.specs.Lending.{IsLent, KeepsLoan};
 ghost use Rattle.heap_model.specs.Space.{MovesNothing};
 ghost use Rattle.heap_model.specs.Database.{HasShape, IsSpelled, database_in};
 ghost use Rattle.heap_model.specs.Store.{Accepted, bytes_of, store_of};
 ghost use Rattle.heap_model.specs.StoreWords.{with_number};
-ghost use Rattle.palm_store.specs.Databases.{HasDatabase};
+ghost use Rattle.palm_store.specs.Databases.{HasNumber, HasDatabase, named_under};
 ghost use Rattle.palm_store.specs.EntryCalls.{LeavesChanged};
 ghost use Rattle.palm_store.specs.Files.{IsDataName, HasDataOf, data_filled};
 
-use crate::lookup::find_header;
+use crate::databases::has_lent;
+use crate::lookup::{chunk_of, find_header};
 use crate::store::Store;
 use heap_model::{Db, Name};
 
@@ -31,7 +33,8 @@ impl Store {
     /// The bytes of a chunk that a database names, as they lie in the image. There are none under `Name(0)`,
     /// which stands where it has no chunk.
     pub fn chunk_bytes(&self, name: Name) -> &[u8]
-        requires { IsDataName self.now.bytes name.0 }
+        requires names { IsDataName self.now.bytes name.0 }
+        requires here { IsLent self.now name.0 → ⊥ }
         ensures { result.now ≡ bytes_of ((store_of self.now.bytes).map name.0) }
     {
         if name.0 == 0 {
@@ -41,12 +44,21 @@ impl Store {
         }
     }
 
-    /// Writes bytes over all of a chunk for data: an info block of a database, or the data of an entry.
+    /// Whether a database names the chunk whose body is lent.
+    pub fn lends_data(&self, db: Db) -> bool
+        requires { HasNumber self.now.bytes db.0 }
+        ensures { IsTrue result ↔ Any (IsLent self.now) (named_under self.now.bytes db.0) }
+    {
+        has_lent(&self.heap, db, chunk_of(&self.heap, db))
+    }
+
+    /// Writes bytes over all of a chunk for data without a lock: an info block of a database, or the data of an entry.
     pub fn fill_data(&mut self, name: Name, bytes: &[u8])
         requires { HasDataOf self.old.bytes name.0 (length bytes.now) }
         ensures filled { LeavesChanged self.old self.new
             (λ store. data_filled store name.0 bytes.now) }
         ensures unmoved { MovesNothing self.old.bytes self.new.bytes }
+        ensures loan { KeepsLoan self.old self.new }
         ensures rest { self.new ≡ record self.old { bytes = self.new.bytes } }
     {
         let chunk = self.heap.sys_find(name);

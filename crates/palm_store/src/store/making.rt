@@ -67,7 +67,7 @@ impl Store {
 
     /// Frees a chunk that is a caller's and has no lock; a fixed one may be freed.
     ///
-    /// Refused: `InvalidHandle`, `OwnedByDatabase`, `ChunkLocked`.
+    /// Refused: `InvalidHandle`, `OwnedByDatabase`, `ChunkLocked`, `Lent`.
     pub fn free(&mut self, name: Name) -> Result<(), Refusal>
         ensures { DoesMemory self.old (MemoryCall.Free name) (done_or_refused result) self.new }
     {
@@ -76,7 +76,7 @@ impl Store {
 
     /// Frees all chunks of an owner, 1 to 14, locked and fixed ones too, and answers how many there were.
     ///
-    /// Refused: `InvalidOwner`.
+    /// Refused: `InvalidOwner`; `Lent`, if one of them is lent. Then nothing has changed.
     pub fn free_by_owner(&mut self, owner: u8) -> Result<u32, Refusal>
         ensures { DoesMemory self.old (MemoryCall.FreeByOwner owner)
             (number_or_refused result) self.new }
@@ -98,7 +98,7 @@ impl Store {
     /// Gives a chunk `size` bytes: its first ones, or all of them and zeros behind. Where it has them with
     /// what is free directly behind it, nothing moves; else it may move, and others of one stretch.
     ///
-    /// Refused: `InvalidHandle`, `OwnedByDatabase`, `ChunkFixed`; `ChunkLocked`, where it is locked and
+    /// Refused: `InvalidHandle`, `OwnedByDatabase`, `ChunkFixed`, `Lent`; `ChunkLocked`, where it is locked and
     /// would have to move; `NotEnoughSpace`, where it is not locked and no stretch has the room, its own
     /// bytes counted as room of its own stretch. Then nothing has changed.
     pub fn resize(&mut self, name: Name, size: u32) -> Result<(), Refusal>

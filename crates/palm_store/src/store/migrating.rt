@@ -1,13 +1,15 @@
 //! A store gets a chain of master pointer tables.
 
-ghost use Rattle.std.specs.Prelude.{◌≡◌, ◌↔◌, IfOk, IfErr, OnOk, true};
+ghost use Rattle.std.specs.Prelude.{◌≡◌, ◌≢◌, ◌↔◌, IfOk, IfErr, OnOk, None, true};
 ghost use Rattle.heap_model.specs.Slots.{is_chained};
+ghost use Rattle.heap_model.specs.Store.{Accepted};
 ghost use Rattle.heap_migration.specs.Stores.{IsMigrated, IsTooLarge};
 ghost use Rattle.allowance.specs.Refusals.{GrowthRefused};
 
 use crate::store::Store;
 use allowance::Allowance;
 use heap_migration::{MigrateFault, migrate_from};
+use raw_region::Region;
 use std::alloc::Global;
 
 impl Store {
@@ -18,13 +20,17 @@ impl Store {
     /// Takes memory for the new image, and frees the old one.
     ///
     /// # Errors
-    /// `TooLarge` if the new image would be larger than 16,777,208 bytes, and `OutOfMemory` if an allocation failed.
-    /// The store comes back with either, unchanged.
+    /// `Lent` if a body is lent, `TooLarge` if the new image would be larger than 16,777,208 bytes, and `OutOfMemory`
+    /// if an allocation failed. The store comes back with each, unchanged.
     pub fn migrate(self, alloc: Global) -> Result<Store, (MigrateFault, Store)>
         ensures migrated { IfOk result (λ store. IsMigrated self.bytes store.bytes) }
         ensures chained { is_chained self.bytes ≡ true → IfOk result (λ store. store ≡ self) }
         ensures fits { OnOk result (IsTooLarge self.bytes → ⊥) }
-        ensures too_large { IfErr result (λ error.
+        ensures stays_whole { IfOk result (λ store. store.lent ≡ None) }
+        ensures whole { OnOk result (self.lent ≡ None) }
+        ensures lent { IfErr result (λ error.
+            (error.0 ≡ MigrateFault.Lent) ↔ (self.lent ≢ None)) }
+        ensures too_large { self.lent ≡ None → IfErr result (λ error.
             (error.0 ≡ MigrateFault.TooLarge) ↔ IsTooLarge self.bytes) }
         ensures handed_back { IfErr result (λ error. error.1 ≡ self) }
         ensures no_memory { IfErr result (λ error.
@@ -38,15 +44,40 @@ impl Store {
         ensures migrated { IfOk result (λ store. IsMigrated self.bytes store.bytes) }
         ensures chained { is_chained self.bytes ≡ true → IfOk result (λ store. store ≡ self) }
         ensures fits { OnOk result (IsTooLarge self.bytes → ⊥) }
-        ensures too_large { IfErr result (λ error.
+        ensures stays_whole { IfOk result (λ store. store.lent ≡ None) }
+        ensures whole { OnOk result (self.lent ≡ None) }
+        ensures lent { IfErr result (λ error.
+            (error.0 ≡ MigrateFault.Lent) ↔ (self.lent ≢ None)) }
+        ensures too_large { self.lent ≡ None → IfErr result (λ error.
             (error.0 ≡ MigrateFault.TooLarge) ↔ IsTooLarge self.bytes) }
         ensures handed_back { IfErr result (λ error. error.1 ≡ self) }
         ensures no_memory { IfErr result (λ error.
             error.0 ≡ MigrateFault.OutOfMemory → A.is_short memory.now) }
     {
-        match migrate_from(memory, self.into_region()) {
-            Ok(region) => Ok(Store::of_accepted(region)),
-            Err((fault, region)) => Err((fault, Store::of_accepted(region))),
+        match self.into_region() {
+            Ok(region) => migrate_region(memory, region),
+            Err(store) => Err((MigrateFault::Lent, store)),
         }
+    }
+}
+
+/// Migrates a region of which nothing is lent.
+fn migrate_region<A: Allowance>(memory: &A, region: Region) -> Result<Store, (MigrateFault, Store)>
+    requires accepted { Accepted region.bytes }
+    requires whole { region.lent ≡ None }
+    ensures migrated { IfOk result (λ store. IsMigrated region.bytes store.bytes) }
+    ensures chained { is_chained region.bytes ≡ true → IfOk result (λ store. store ≡ region) }
+    ensures fits { OnOk result (IsTooLarge region.bytes → ⊥) }
+    ensures stays_whole { IfOk result (λ store. store.lent ≡ None) }
+    ensures not_lent { IfErr result (λ error. error.0 ≢ MigrateFault.Lent) }
+    ensures too_large { IfErr result (λ error.
+        (error.0 ≡ MigrateFault.TooLarge) ↔ IsTooLarge region.bytes) }
+    ensures handed_back { IfErr result (λ error. error.1 ≡ region) }
+    ensures no_memory { IfErr result (λ error.
+        error.0 ≡ MigrateFault.OutOfMemory → A.is_short memory.now) }
+{
+    match migrate_from(memory, region) {
+        Ok(region) => Ok(Store::of_accepted(region)),
+        Err((fault, region)) => Err((fault, Store::of_accepted(region))),
     }
 }

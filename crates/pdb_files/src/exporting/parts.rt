@@ -25,7 +25,7 @@ pub(crate) fn put_file<W: Write>(
     bytes: &[u8],
     out: &mut Counted<W>,
 ) -> Result<(), WriteFault>
-    requires { IsExportable store.now.bytes bytes.now }
+    requires { IsExportable store.now bytes.now }
     ensures { Writes W.contents out.old out.new
         (file_of (content_of store.now.bytes bytes.now)) (is_ok result) }
 {
@@ -62,7 +62,7 @@ fn put_entries<W: Write>(
     out: &mut Counted<W>,
 ) -> Result<(), WriteFault>
     requires shape { HasShape bytes.now }
-    requires names { NamesData store.now.bytes bytes.now }
+    requires names { NamesData store.now bytes.now }
     requires short { first + length (data_text (content_of store.now.bytes bytes.now).entries)
         < 2 ^ 32 }
     ensures { Writes W.contents out.old out.new
@@ -100,7 +100,7 @@ fn in_file(entry: DbEntry, at: u32) -> DbEntry
 /// Writes the blocks.
 fn put_blocks<W: Write>(store: &Store, bytes: &[u8], out: &mut Counted<W>) -> Result<(), WriteFault>
     requires shape { HasShape bytes.now }
-    requires names { NamesData store.now.bytes bytes.now }
+    requires names { NamesData store.now bytes.now }
     ensures { Writes W.contents out.old out.new
         (flat_map block_bytes (data_in (content_of store.now.bytes bytes.now))) (is_ok result) }
 {
@@ -112,7 +112,7 @@ fn put_blocks<W: Write>(store: &Store, bytes: &[u8], out: &mut Counted<W>) -> Re
 /// Writes the data of the entries.
 fn put_data<W: Write>(store: &Store, bytes: &[u8], out: &mut Counted<W>) -> Result<(), WriteFault>
     requires shape { HasShape bytes.now }
-    requires names { NamesData store.now.bytes bytes.now }
+    requires names { NamesData store.now bytes.now }
     ensures { Writes W.contents out.old out.new
         (data_text (content_of store.now.bytes bytes.now).entries) (is_ok result) }
 {

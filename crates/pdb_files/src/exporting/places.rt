@@ -5,8 +5,7 @@ ghost use Rattle.heap_model.specs.Meaning.{ChunkMap};
 ghost use Rattle.heap_model.specs.Store.{bytes_named};
 ghost use Rattle.heap_model.specs.Files as files;
 ghost use Rattle.pdb_format.specs.Writable as sizes;
-ghost use Rattle.palm_store.specs.Files.{IsDataName};
-ghost use Rattle.pdb_files.specs.FileParts.{block_under, content_of, IsExportable, ArePlaces};
+ghost use Rattle.pdb_files.specs.FileParts.{block_under, content_of, MayBeRead, IsExportable, ArePlaces};
 
 use db_format::{app_info, entries_end, entry_count, entry_slot, has_resources, sort_info};
 use heap_model::Name;
@@ -24,7 +23,7 @@ pub(crate) struct Places {
 /// The block that a slot stands for; no bytes, where there is none.
 #[inline]
 pub(crate) fn block(store: &Store, slot: u32) -> &[u8]
-    requires { IsDataName store.now.bytes slot }
+    requires { MayBeRead store.now slot }
     ensures { result.now ≡ files.block_bytes (block_under store.now.bytes slot) }
 {
     if slot == 0 {
@@ -37,7 +36,7 @@ pub(crate) fn block(store: &Store, slot: u32) -> &[u8]
 /// How many bytes it has.
 #[inline]
 pub(crate) fn block_size(store: &Store, slot: u32) -> u32
-    requires own { IsDataName store.now.bytes slot }
+    requires own { MayBeRead store.now slot }
     requires short { files.block_size (block_under store.now.bytes slot) < 2 ^ 32 }
     ensures { result ≡ files.block_size (block_under store.now.bytes slot) }
 {
@@ -54,7 +53,7 @@ pub(crate) fn block_offset(at: u32, slot: u32) -> u32
 
 /// Where the first block stands in the file of a database: behind the entries and two bytes.
 fn first_block(store: &Store, bytes: &[u8]) -> u32
-    requires { IsExportable store.now.bytes bytes.now }
+    requires { IsExportable store.now bytes.now }
     ensures { result ≡ files.first_block (content_of store.now.bytes bytes.now) }
 {
     (entries_end(bytes) + 2) as u32
@@ -62,7 +61,7 @@ fn first_block(store: &Store, bytes: &[u8]) -> u32
 
 /// Where the blocks stand in the file of a database, given by its bytes.
 pub(crate) fn find_places(store: &Store, bytes: &[u8]) -> Places
-    requires { IsExportable store.now.bytes bytes.now }
+    requires { IsExportable store.now bytes.now }
     ensures { ArePlaces (content_of store.now.bytes bytes.now) result }
 {
     let app_at = first_block(store, bytes);
@@ -78,7 +77,7 @@ pub(crate) fn find_places(store: &Store, bytes: &[u8]) -> Places
 
 /// How many bytes the file of a database has, given by its bytes.
 pub(crate) fn file_size(store: &Store, bytes: &[u8]) -> u32
-    requires { IsExportable store.now.bytes bytes.now }
+    requires { IsExportable store.now bytes.now }
     ensures { result ≡ length (files.file_of (content_of store.now.bytes bytes.now)) }
 {
     let resources = has_resources(bytes);

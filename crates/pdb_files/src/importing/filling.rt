@@ -1,6 +1,7 @@
 //! The bytes of a file's blocks, written into the chunks of the database that was made of it.
 
 ghost use Rattle.std.specs.Prelude.{◌≡◌, ◌<◌, ◌≤◌, ℕ, length, map, All};
+ghost use Rattle.heap_model.specs.Lending.{KeepsLoan};
 ghost use Rattle.heap_model.specs.Lists.{times};
 ghost use Rattle.heap_model.specs.Store.{Accepted, store_of};
 ghost use Rattle.pdb_format.specs.Blocks.{bytes_at, IsWithin};
@@ -23,6 +24,7 @@ pub(super) fn fill_blocks(store: &mut Store, file: &[u8], blocks: &[Option<Block
     ensures filled { AreFilled (store_of store.new.bytes).map
         (map (bytes_at file.now) blocks.now) (numbers_in names.now) (length names.now) }
     ensures refills { Refills store.old.bytes store.new.bytes (numbers_in names.now) }
+    ensures loan { KeepsLoan store.old store.new }
     ensures rest { store.new ≡ record store.old { bytes = store.new.bytes } }
 {
     for index in 0..names.len() {

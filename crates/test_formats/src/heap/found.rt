@@ -1,11 +1,15 @@
 //! What the checker finds, as text.
 
+ghost use Rattle.std.specs.Prelude.{◌≡◌, None};
+
 use heap_check::{Summary, check_heap};
 use raw_region::Region;
 use std::alloc::{AllocError, Global};
 
 /// What the checker finds: the counts of an accepted heap, or the text of its first fault.
-pub(crate) fn found(alloc: Global, region: &Region) -> Result<String, AllocError> {
+pub(crate) fn found(alloc: Global, region: &Region) -> Result<String, AllocError>
+    requires { region.now.lent ≡ None }
+{
     match check_heap(region) {
         Ok(summary) => counts_of(alloc, summary),
         Err(fault) => format!(in alloc; "{fault}"),

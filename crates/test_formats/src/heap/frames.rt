@@ -1,6 +1,7 @@
 //! Frames and blank images.
+#![tactic(auto, using(laws_heap::proofs::Lending::all_within))]
 
-ghost use Rattle.std.specs.Prelude.{◌≡◌, length, IfOk};
+ghost use Rattle.std.specs.Prelude.{◌≡◌, length, IfOk, None};
 
 use chunk_format::{
     BlankFault, area_start, blank, blank_from, directory, has_magic, head_end, reserved,
@@ -13,7 +14,8 @@ use test_support::{BLANK, RefusesOne, bytes_of, equal};
 
 /// 16 bytes of which only the slot count isn't zero.
 pub(crate) fn frame_of(alloc: Global, slots: u16) -> Result<Region, Fail>
-    ensures { IfOk result (λ region. length region.bytes ≡ 16) }
+    ensures len { IfOk result (λ region. length region.bytes ≡ 16) }
+    ensures whole { IfOk result (λ region. region.lent ≡ None) }
 {
     let mut region = Region::zeroed(alloc, 16)?;
     region.put_u16(8, slots);
@@ -96,10 +98,20 @@ static LIMITS: [(u32, u16, BlankFault); 7] = [
 #[test]
 fn a_blank_image_has_its_limits(rt: HostRuntime) -> Result<(), Fail> {
     for (size, slots, fault) in &LIMITS {
-        let found = blank(rt.alloc(), *size, *slots).err();
+        let found = fault_of(blank(rt.alloc(), *size, *slots));
         check_fault(found, *size, *slots, *fault)?;
     }
     Ok(())
+}
+
+/// Why there is no image, if there is none.
+fn fault_of(made: Result<Region, BlankFault>) -> Option<BlankFault>
+    requires { IfOk made (λ region. region.lent ≡ None) }
+{
+    match made {
+        Ok(_) => None,
+        Err(fault) => Some(fault),
+    }
 }
 
 fn check_fault(
@@ -124,7 +136,7 @@ static WITHOUT_MEMORY: [(u32, u16, BlankFault); 3] = [
 
 fn fault_without(alloc: Global, size: u32, slots: u16) -> Option<BlankFault> {
     let memory = RefusesOne::behind(alloc, 0);
-    blank_from(&memory, size, slots).err()
+    fault_of(blank_from(&memory, size, slots))
 }
 
 #[test]

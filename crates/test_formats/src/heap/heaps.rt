@@ -1,6 +1,7 @@
 //! Heaps by their words, and calls on chunks by their names.
+#![tactic(auto, using(laws_heap::proofs::Lending::all_within, laws_heap::proofs::LentBodies::none_lends))]
 
-ghost use Rattle.std.specs.Prelude.{◌<◌};
+ghost use Rattle.std.specs.Prelude.{◌<◌, ◌≡◌, IfOk, None};
 
 use chunk_format::{chunk_size, directory};
 use heap_check::check_heap;
@@ -14,11 +15,13 @@ use std::test::Fail;
 use test_support::changed_words;
 
 /// A blank image of 128 bytes with 4 slots in which words are changed.
-pub(crate) fn image(alloc: Global, words: &[(usize, u32)]) -> Result<Region, Fail> {
+pub(crate) fn image(alloc: Global, words: &[(usize, u32)]) -> Result<Region, Fail>
+    ensures { IfOk result (λ region. region.lent ≡ None) }
+{
     changed_words(alloc, 128, 4, words)
 }
 
-/// A space whose region the checker accepted. The calls keep it so.
+/// A space whose region the checker accepted, and of which nothing is lent. The calls keep it so.
 #[derive(Drop)]
 pub(crate) struct CheckedSpace {
     space: Space,
@@ -32,7 +35,9 @@ impl Model for CheckedSpace {
 
     ghost view = { λ checked. checked.space };
 
-    ghost invariant = { λ checked. HeapAccepted checked.space.bytes };
+    ghost use Rattle.std.specs.Prelude.{◌≡◌, None};
+
+    ghost invariant = { λ checked. HeapAccepted checked.space.bytes × (checked.space.lent ≡ None) };
 }
 
 /// A blank heap of 128 bytes with 4 slots in which words are changed, which the checker accepts.
@@ -41,7 +46,9 @@ pub(crate) fn heap(alloc: Global, words: &[(usize, u32)]) -> Result<CheckedSpace
 }
 
 /// The space of a region that the checker accepts.
-pub(crate) fn accepted(region: Region) -> Result<CheckedSpace, Fail> {
+pub(crate) fn accepted(region: Region) -> Result<CheckedSpace, Fail>
+    requires { region.lent ≡ None }
+{
     match check_heap(&region) {
         Ok(_) => Ok(CheckedSpace {
             space: Space::new(region),
@@ -51,7 +58,9 @@ pub(crate) fn accepted(region: Region) -> Result<CheckedSpace, Fail> {
 }
 
 impl CheckedSpace {
-    pub(crate) fn region(&self) -> &Region {
+    pub(crate) fn region(&self) -> &Region
+        ensures { result.now.lent ≡ None }
+    {
         self.space.region()
     }
 

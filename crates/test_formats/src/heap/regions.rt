@@ -1,4 +1,7 @@
-//! Numbers and bytes of a region.
+//! Numbers and bytes of a region, and parts that it lends.
+#![tactic(auto, using(laws_heap::proofs::Lending::all_within))]
+
+ghost use Rattle.std.specs.Prelude.{◌≡◌, None};
 
 use raw_region::Region;
 use std::test::*;
@@ -64,11 +67,10 @@ fn slides_bytes_where_they_overlap(rt: HostRuntime) -> Result<(), Fail> {
 }
 
 /// Slides so many bytes from one offset to another.
-fn check_slide(
-    mut region: Region,
-    (from, to, n): (usize, usize, usize),
-    after: &[u8],
-) -> Result<(), Fail> {
+fn check_slide(mut region: Region, slide: (usize, usize, usize), after: &[u8]) -> Result<(), Fail>
+    requires { region.lent ≡ None }
+{
+    let (from, to, n) = slide;
     let most = region.len();
     if from > most || to > most || n > most - from || n > most - to {
         return Err("bytes beyond the end")?;
@@ -79,4 +81,17 @@ fn check_slide(
         region.as_slice(),
         after,
     )
+}
+
+#[test]
+fn lends_a_part(rt: HostRuntime) -> Result<(), Fail> {
+    let mut region = Region::from_bytes(rt.alloc(), b"abcdefgh")?;
+    let mut part = region.lend(2, 3);
+    part.write(1, b"XY");
+    let there = part.len() == 3 && part.slice(2, 1) == b"Y".as_slice();
+    let missed = region.misses(1, 1) && !region.misses(1, 2) && region.misses(5, 3);
+    region.slide(0, 6, 2);
+    region.take_back(part);
+    equal("part", (there, missed), (true, true))?;
+    equal("bytes", region.as_slice(), b"abcXYfab".as_slice())
 }

@@ -1,5 +1,7 @@
 //! The bytes that a chunk leaves which gets another length, where it stands or elsewhere.
 
+ghost use Rattle.std.specs.Prelude.{◌≡◌, IfOk, None};
+
 use crate::heap::heaps::{CheckedSpace, accepted};
 use heap_model::Name;
 use raw_region::Region;
@@ -31,7 +33,11 @@ type Frame = (&'static str, &'static str);
 type Case = (Resize, Chunks, bool, Chunks);
 
 /// The image of chunks in a frame.
-fn heap_of(alloc: Global, (front, back): Frame, (chunks, changes): Chunks) -> Result<Region, Fail> {
+fn heap_of(alloc: Global, frame: Frame, given: Chunks) -> Result<Region, Fail>
+    ensures { IfOk result (λ region. region.lent ≡ None) }
+{
+    let (front, back) = frame;
+    let (chunks, changes) = given;
     let listing = format!(in alloc; "{front} {chunks} {back}")?;
     image(alloc, listing.as_str(), changes)
 }
@@ -48,10 +54,13 @@ fn resize(space: &mut CheckedSpace, (way, name, count): Resize) -> Option<bool> 
 /// Does a resize on a space, which must leave this image.
 fn check_resize(
     space: &mut CheckedSpace,
-    (way, name, count): Resize,
+    change: Resize,
     can: bool,
     left: &Region,
-) -> Result<(), Fail> {
+) -> Result<(), Fail>
+    requires { left.now.lent ≡ None }
+{
+    let (way, name, count) = change;
     let told = resize(space, (way, name, count));
     equal(
         format_args!("{name}, {count} bytes"),

@@ -1,5 +1,7 @@
 //! Slots of an only table.
+#![tactic(auto, using(laws_heap::proofs::Lending::all_within, laws_heap::proofs::LentBodies::none_lends))]
 
+ghost use Rattle.std.specs.Prelude.{◌≡◌, None};
 ghost use Rattle.heap_model.specs.Heap.{HeapAccepted};
 
 use crate::heap::frames::frame_of;
@@ -127,7 +129,9 @@ fn a_slot_resolves_to_its_place(rt: HostRuntime) -> Result<(), Fail> {
 }
 
 /// The number of a slot, and the place that it holds.
-fn look_up(region: &Region, name: Name) -> Result<(Option<u32>, Option<Place>), Fail> {
+fn look_up(region: &Region, name: Name) -> Result<(Option<u32>, Option<Place>), Fail>
+    requires { region.now.lent ≡ None }
+{
     match check_heap(region) {
         Ok(_) => Ok((slots_before(region, name), resolve(region, name))),
         Err(_) => Err("no heap")?,
@@ -156,7 +160,9 @@ fn check_first(
 }
 
 /// The first empty slot of a heap. A search that begins at it finds it again.
-fn first_empty(region: &Region) -> Result<Option<EmptySlot>, Fail> {
+fn first_empty(region: &Region) -> Result<Option<EmptySlot>, Fail>
+    requires { region.now.lent ≡ None }
+{
     match check_heap(region) {
         Ok(_) => {
             let first = first_empty_slot(region, TableStart::first(), 0);
@@ -174,7 +180,10 @@ fn first_empty(region: &Region) -> Result<Option<EmptySlot>, Fail> {
 }
 
 /// Puts a place into a slot of a heap, or empties it.
-fn put(region: &mut Region, slot: Name, place: Option<Place>) -> Result<(), Fail> {
+fn put(region: &mut Region, slot: Name, place: Option<Place>) -> Result<(), Fail>
+    requires { region.old.lent ≡ None }
+    ensures { region.new.lent ≡ None }
+{
     match check_heap(region) {
         Ok(_) => put_in(region, slot, place),
         Err(_) => Err("no heap")?,
@@ -182,7 +191,9 @@ fn put(region: &mut Region, slot: Name, place: Option<Place>) -> Result<(), Fail
 }
 
 fn put_in(region: &mut Region, slot: Name, place: Option<Place>) -> Result<(), Fail>
-    requires { HeapAccepted region.old.bytes }
+    requires accepted { HeapAccepted region.old.bytes }
+    requires whole { region.old.lent ≡ None }
+    ensures { region.new.lent ≡ None }
 {
     match slots_before(region, slot) {
         Some(_) => {

@@ -1,4 +1,7 @@
 //! Images as large as they come.
+#![tactic(auto, using(laws_heap::proofs::Lending::all_within))]
+
+ghost use Rattle.std.specs.Prelude.{◌≡◌, IfOk, None};
 
 use crate::store::found::text_of;
 use raw_region::Region;
@@ -8,7 +11,10 @@ use store_check::check_store;
 use test_support::equal;
 
 /// Writes a word, if it lies in the region.
-fn put(region: &mut Region, at: u32, word: u32) -> Result<(), Fail> {
+fn put(region: &mut Region, at: u32, word: u32) -> Result<(), Fail>
+    requires { region.old.lent ≡ None }
+    ensures { region.new.lent ≡ None }
+{
     let at = at as usize;
     if at > region.len() || region.len() - at < 4 {
         return Err("a word beyond the end")?;
@@ -18,7 +24,10 @@ fn put(region: &mut Region, at: u32, word: u32) -> Result<(), Fail> {
 }
 
 /// Writes words, one behind the other.
-fn put_all(region: &mut Region, at: u32, words: &[u32]) -> Result<(), Fail> {
+fn put_all(region: &mut Region, at: u32, words: &[u32]) -> Result<(), Fail>
+    requires { region.old.lent ≡ None }
+    ensures { region.new.lent ≡ None }
+{
     let mut next = at;
     for word in words {
         put(region, next, *word)?;
@@ -55,7 +64,9 @@ static HEADS: [(u32, &[u32]); 6] = [
 ];
 
 /// An image with these, and records without a byte.
-fn many_records(alloc: Global) -> Result<Region, Fail> {
+fn many_records(alloc: Global) -> Result<Region, Fail>
+    ensures { IfOk result (λ region. region.lent ≡ None) }
+{
     let mut region = Region::zeroed(alloc, MOST)?;
     put_heads(&mut region)?;
     for index in 0..65_533 {
@@ -64,7 +75,10 @@ fn many_records(alloc: Global) -> Result<Region, Fail> {
     Ok(region)
 }
 
-fn put_heads(region: &mut Region) -> Result<(), Fail> {
+fn put_heads(region: &mut Region) -> Result<(), Fail>
+    requires { region.old.lent ≡ None }
+    ensures { region.new.lent ≡ None }
+{
     for (at, words) in &HEADS {
         put_all(region, *at, words)?;
     }
@@ -72,7 +86,10 @@ fn put_heads(region: &mut Region) -> Result<(), Fail> {
 }
 
 /// The record behind so many others: its entry, its slot and its chunk.
-fn put_record(region: &mut Region, index: u32) -> Result<(), Fail> {
+fn put_record(region: &mut Region, index: u32) -> Result<(), Fail>
+    requires { region.old.lent ≡ None }
+    ensures { region.new.lent ≡ None }
+{
     let (slot, at) = (
         index.wrapping_mul(4).wrapping_add(24),
         index.wrapping_mul(8).wrapping_add(CHUNKS),
@@ -96,17 +113,19 @@ static OF_MANY_RECORDS: [(&[(u32, u32)], &str); 4] = [
 ];
 
 /// What is found in an image in which words are changed.
-fn check_found(
-    alloc: Global,
-    mut region: Region,
-    (changes, text): (&[(u32, u32)], &str),
-) -> Result<(), Fail> {
+fn check_found(alloc: Global, mut region: Region, row: (&[(u32, u32)], &str)) -> Result<(), Fail>
+    requires { region.lent ≡ None }
+{
+    let (changes, text) = row;
     change(&mut region, changes)?;
     let found = text_of(alloc, check_store(alloc, &region))?;
     equal(format_args!("{changes:?}"), found.as_str(), text)
 }
 
-fn change(region: &mut Region, changes: &[(u32, u32)]) -> Result<(), Fail> {
+fn change(region: &mut Region, changes: &[(u32, u32)]) -> Result<(), Fail>
+    requires { region.old.lent ≡ None }
+    ensures { region.new.lent ≡ None }
+{
     for (at, word) in changes {
         put(region, *at, *word)?;
     }
@@ -122,7 +141,9 @@ fn many_records_are_checked(rt: HostRuntime) -> Result<(), Fail> {
 }
 
 /// An image of so many databases without records.
-fn many_databases(alloc: Global, count: u16) -> Result<Region, Fail> {
+fn many_databases(alloc: Global, count: u16) -> Result<Region, Fail>
+    ensures { IfOk result (λ region. region.lent ≡ None) }
+{
     let length = 4 * count as u32;
     let room = (length + 7) / 8 * 8;
     let headers = 4_128 + room;
@@ -138,7 +159,10 @@ fn many_databases(alloc: Global, count: u16) -> Result<Region, Fail> {
 }
 
 /// The database behind so many others: its slot, its number in the directory, and its chunk with its name.
-fn put_database(region: &mut Region, headers: u32, index: u32) -> Result<(), Fail> {
+fn put_database(region: &mut Region, headers: u32, index: u32) -> Result<(), Fail>
+    requires { region.old.lent ≡ None }
+    ensures { region.new.lent ≡ None }
+{
     let (place, slot) = (
         index.wrapping_mul(4),
         index.wrapping_mul(4).wrapping_add(20),

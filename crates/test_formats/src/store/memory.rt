@@ -1,5 +1,7 @@
 //! Memory that is refused.
 
+ghost use Rattle.std.specs.Prelude.{◌≡◌, None};
+
 use crate::store::found::text_of;
 use raw_region::Region;
 use std::alloc::{AllocError, Global};
@@ -23,7 +25,9 @@ static GRANTED: [Granted; 8] = [
 ];
 
 /// What is found where so many growths are granted.
-fn found_with(alloc: Global, granted: u32, region: &Region) -> Result<String, AllocError> {
+fn found_with(alloc: Global, granted: u32, region: &Region) -> Result<String, AllocError>
+    requires { region.now.lent ≡ None }
+{
     let memory = RefusesOne::behind(alloc, granted);
     let found = check_store_from(&memory, region);
     text_of(alloc, found)

@@ -1,5 +1,7 @@
 //! Files of databases that were made by calls, byte for byte.
 
+ghost use Rattle.std.specs.Prelude.{◌≡◌};
+
 use crate::files::stores::blank_store;
 use heap_model::{Db, DbName, Name, Refusal, Which};
 use palm_store::Store;
@@ -25,7 +27,9 @@ const RESOURCES: &str = "50 00*31 \
     72756e";
 
 /// Writes bytes over a chunk while it is locked.
-fn fill(store: &mut Store, name: Name, bytes: &[u8]) -> Result<(), Refusal> {
+fn fill(store: &mut Store, name: Name, bytes: &[u8]) -> Result<(), Refusal>
+    ensures { store.new.lent ≡ store.old.lent }
+{
     store.lock(name)?;
     store.write(name, 0, bytes)?;
     store.unlock(name)?;
@@ -33,21 +37,27 @@ fn fill(store: &mut Store, name: Name, bytes: &[u8]) -> Result<(), Refusal> {
 }
 
 /// Makes an info block of a database.
-fn make_block(store: &mut Store, db: Db, which: Which, bytes: &[u8]) -> Result<(), Refusal> {
+fn make_block(store: &mut Store, db: Db, which: Which, bytes: &[u8]) -> Result<(), Refusal>
+    ensures { store.new.lent ≡ store.old.lent }
+{
     let name = store.handle_new(bytes.len().min(9) as u32, 1)?;
     fill(store, name, bytes)?;
     store.set_info_block(db, which, name)
 }
 
 /// Makes a record behind the others.
-fn make_record(store: &mut Store, db: Db, bytes: &[u8]) -> Result<(), Refusal> {
+fn make_record(store: &mut Store, db: Db, bytes: &[u8]) -> Result<(), Refusal>
+    ensures { store.new.lent ≡ store.old.lent }
+{
     let (_, name) = new_record(store, db, 9, bytes.len().min(9) as u32)?;
     fill(store, name, bytes)
 }
 
 /// Makes a database with both info blocks and four records: of the first a caller holds the data, the second is
 /// archived and still in use, the third has no data any more, and the last has no byte.
-fn make_records(store: &mut Store) -> Result<Db, Refusal> {
+fn make_records(store: &mut Store) -> Result<Db, Refusal>
+    ensures { store.new.lent ≡ store.old.lent }
+{
     let db = store.create(
         &DbName::of(b"Notes"),
         0x4441_5441,
@@ -62,14 +72,18 @@ fn make_records(store: &mut Store) -> Result<Db, Refusal> {
     Ok(db)
 }
 
-fn make_four(store: &mut Store, db: Db) -> Result<(), Refusal> {
+fn make_four(store: &mut Store, db: Db) -> Result<(), Refusal>
+    ensures { store.new.lent ≡ store.old.lent }
+{
     make_record(store, db, b"first")?;
     make_record(store, db, b"kept")?;
     make_record(store, db, b"gone")?;
     make_record(store, db, b"")
 }
 
-fn change_four(store: &mut Store, db: Db) -> Result<(), Refusal> {
+fn change_four(store: &mut Store, db: Db) -> Result<(), Refusal>
+    ensures { store.new.lent ≡ store.old.lent }
+{
     archive(store, db, 1)?;
     delete(store, db, 2)?;
     release(store, db, 0, false)?;
@@ -78,7 +92,9 @@ fn change_four(store: &mut Store, db: Db) -> Result<(), Refusal> {
 }
 
 /// Makes a database with two resources, the second of which has no byte.
-fn make_resources(store: &mut Store) -> Result<Db, Refusal> {
+fn make_resources(store: &mut Store) -> Result<Db, Refusal>
+    ensures { store.new.lent ≡ store.old.lent }
+{
     let db = store.create(&DbName::of(b"P"), 0x6170_706C, 0x5465_7374, true, 5)?;
     let (_, code) = new_resource(store, db, 0x636F_6465, 1, 3)?;
     fill(store, code, b"run")?;

@@ -1,5 +1,7 @@
 //! Databases that are read from files, entry by entry and byte by byte.
 
+ghost use Rattle.std.specs.Prelude.{◌≡◌};
+
 use crate::files::stores::blank_store;
 use heap_model::{Db, DbInfo, DbName, FileFault, Name, RecordInfo, Refusal, ResourceInfo, Which};
 use palm_store::Store;
@@ -62,7 +64,9 @@ fn import_listed(
     alloc: Global,
     store: &mut Store,
     listing: &str,
-) -> Result<Result<Db, Refusal>, Fail> {
+) -> Result<Result<Db, Refusal>, Fail>
+    ensures { store.new.lent ≡ store.old.lent }
+{
     Ok(import(alloc, store, &bytes_of(alloc, listing)?))
 }
 
@@ -72,17 +76,18 @@ fn check_import(
     store: &mut Store,
     listing: &str,
     refusal: Option<Refusal>,
-) -> Result<(), Fail> {
+) -> Result<(), Fail>
+    ensures { store.new.lent ≡ store.old.lent }
+{
     let answer = import_listed(alloc, store, listing)?;
     equal(listing, answer.err(), refusal)
 }
 
 /// A listed file is read, and the records of its database are these.
-fn check_read(
-    alloc: Global,
-    store: &mut Store,
-    (listing, records): (&str, &[Read]),
-) -> Result<(), Fail> {
+fn check_read(alloc: Global, store: &mut Store, row: (&str, &[Read])) -> Result<(), Fail>
+    ensures { store.new.lent ≡ store.old.lent }
+{
+    let (listing, records) = row;
     let db = import_listed(alloc, store, listing)??;
     check_records(alloc, store, db, records)
 }
@@ -136,11 +141,10 @@ fn check_bytes(alloc: Global, store: &Store, name: Name, listing: &str) -> Resul
 }
 
 /// A listed file is read, and info blocks of its database have these bytes.
-fn check_blocks(
-    alloc: Global,
-    store: &mut Store,
-    (listing, blocks): (&str, &[(Which, &str)]),
-) -> Result<(), Fail> {
+fn check_blocks(alloc: Global, store: &mut Store, row: (&str, &[(Which, &str)])) -> Result<(), Fail>
+    ensures { store.new.lent ≡ store.old.lent }
+{
+    let (listing, blocks) = row;
     let db = import_listed(alloc, store, listing)??;
     for (which, bytes) in blocks {
         check_bytes(alloc, store, store.info_block(db, *which)?, bytes)?;
@@ -227,7 +231,9 @@ fn the_seed_goes_on(rt: HostRuntime) -> Result<(), Fail> {
 }
 
 /// A record that is made comes behind the two that were read, and has the first ID that is free behind the seed.
-fn check_new(store: &mut Store, db: Db) -> Result<(), Fail> {
+fn check_new(store: &mut Store, db: Db) -> Result<(), Fail>
+    ensures { store.new.lent ≡ store.old.lent }
+{
     let (index, name) = new_record(store, db, 65_535, 0)?;
     let made = RecordInfo {
         attributes: 0x60,
@@ -324,7 +330,9 @@ fn check_short(alloc: Global, size: u32, slots: u16) -> Result<(), Fail> {
     take_four_slots(&mut store)
 }
 
-fn take_four_slots(store: &mut Store) -> Result<(), Fail> {
+fn take_four_slots(store: &mut Store) -> Result<(), Fail>
+    ensures { store.new.lent ≡ store.old.lent }
+{
     for _ in 0..4 {
         store.handle_new(0, 1)?;
     }

@@ -25,7 +25,10 @@ impl Finding for Adopting {
     fn is_right(&self, alloc: Global, image: &[u8]) -> Result<bool, Fail> {
         let (is_taken, region) = match Heap::adopt(Region::from_bytes(alloc, image)?) {
             Ok(heap) => (true, heap.into_region()),
-            Err(refused) => (false, refused.region),
+            Err(refused) => (false, Ok(refused.region)),
+        };
+        let Ok(region) = region else {
+            return Ok(false);
         };
         Ok(is_taken == is_read(alloc, image)? && region.as_slice() == image)
     }

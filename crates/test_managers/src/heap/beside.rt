@@ -1,25 +1,32 @@
 //! A call on a heap, and the same on the plain model beside it.
 
+ghost use Rattle.std.specs.Prelude.{◌≡◌, IfOk, None};
+
 use crate::heap::calls::do_call;
 use crate::heap::linked::{are_built, class_with_a_gap};
-use heap_model::{MemoryCall, Reply};
+use heap_model::{MemoryCall, Name, Refusal, Reply};
 use mem_manager::Heap;
 use raw_region::Region;
 use std::alloc::Global;
 use std::test::*;
+use test_beside::body_of;
 use test_model::{Image, PlainHeap, broken_rule};
 use test_support::equal;
 
-/// A heap, and beside it all chunks that it holds, and whether the lists of its free chunks are built.
+/// A heap of which nothing is lent, and beside it all chunks that it holds, and whether the lists of its free chunks are
+/// built.
 #[derive(Drop)]
 pub(crate) struct Beside {
     heap: Heap,
     chunks: PlainHeap,
     are_built: bool,
+    ghost whole: { heap.lent ≡ None },
 }
 
 impl Beside {
-    pub(crate) fn new(alloc: Global, region: Region) -> Result<Beside, Fail> {
+    pub(crate) fn new(alloc: Global, region: Region) -> Result<Beside, Fail>
+        requires { region.lent ≡ None }
+    {
         let chunks = PlainHeap::of(alloc, &Image::decode(alloc, region.as_slice())?)?;
         Ok(Beside {
             heap: adopt(region)?,
@@ -51,6 +58,36 @@ impl Beside {
         let reply = do_call(alloc, &mut self.heap, call);
         self.check(alloc, spot, (call, &reply), &before)?;
         Ok(reply)
+    }
+
+    /// Does a call on both while the bytes under a name are out. They are put back after it, as they were.
+    pub(crate) fn call_lent(
+        &mut self,
+        alloc: Global,
+        name: Name,
+        spot: &str,
+        call: &MemoryCall,
+    ) -> Result<Reply, Fail> {
+        let before = Vec::from_slice(alloc, self.heap.image())?;
+        let reply = reply_while_lent(alloc, &mut self.heap, name, call)?;
+        let bytes = Vec::from_slice(alloc, self.chunks.take_out(name)?)?;
+        self.check(alloc, spot, (call, &reply), &before)?;
+        self.chunks.put_back(&bytes);
+        self.check_stays(alloc, spot, name, &before)?;
+        Ok(reply)
+    }
+
+    /// The chunk of a name must have its place and its length of an earlier image.
+    fn check_stays(
+        &self,
+        alloc: Global,
+        spot: &str,
+        name: Name,
+        before: &[u8],
+    ) -> Result<(), Fail> {
+        let before = Image::decode(alloc, before)?;
+        let after = Image::decode(alloc, self.heap.image())?;
+        equal(spot, body_of(&after, name), body_of(&before, name))
     }
 
     /// Checks a call that was done on the heap, with the image that was there before.
@@ -105,8 +142,27 @@ fn check_left(alloc: Global, spot: &str, are_built: bool, image: &Image) -> Resu
     Ok(())
 }
 
+/// Does a call on a heap while the bytes under a name are out, and puts them back.
+fn reply_while_lent(
+    alloc: Global,
+    heap: &mut Heap,
+    name: Name,
+    call: &MemoryCall,
+) -> Result<Reply, Refusal>
+    requires { heap.old.lent ≡ None }
+    ensures { heap.new.lent ≡ None }
+{
+    let loan = heap.take_out(name)?;
+    let reply = do_call(alloc, heap, call);
+    heap.put_back(loan);
+    Ok(reply)
+}
+
 /// The heap of a region.
-pub(crate) fn adopt(region: Region) -> Result<Heap, Fail> {
+pub(crate) fn adopt(region: Region) -> Result<Heap, Fail>
+    requires { region.lent ≡ None }
+    ensures { IfOk result (λ heap. heap.lent ≡ None) }
+{
     match Heap::adopt(region) {
         Ok(heap) => Ok(heap),
         Err(_) => Err("no heap")?,

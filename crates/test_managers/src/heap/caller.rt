@@ -15,6 +15,7 @@ fn new_note(heap: &mut Heap, text: &[u8]) -> Result<Name, Refusal>
     ensures accepted { HeapAccepted heap.new.bytes }
     ensures len { length heap.new.bytes ≡ length heap.old.bytes }
     ensures directory { directory_of heap.new.bytes ≡ directory_of heap.old.bytes }
+    ensures lent { heap.new.lent ≡ heap.old.lent }
 {
     let name = heap.handle_new(32, 1)?;
     heap.lock(name)?;

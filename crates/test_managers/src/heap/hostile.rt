@@ -1,6 +1,8 @@
 //! Heaps whose free chunks are as bad as can be: of one class that has room in its last one alone, of 8 bytes
 //! each, unjoined, with second words that lead anywhere.
 
+ghost use Rattle.std.specs.Prelude.{◌≡◌, IfOk, None};
+
 use crate::heap::beside::{Beside, adopt};
 use crate::heap::by_hand::check_on;
 use crate::heap::calls::do_call;
@@ -14,24 +16,33 @@ use std::test::*;
 use test_support::changed_words;
 
 /// Does the call of a line on a heap, with no model beside it.
-fn check_line(alloc: Global, heap: &mut Heap, line: &str) -> Result<(), Fail> {
+fn check_line(alloc: Global, heap: &mut Heap, line: &str) -> Result<(), Fail>
+    ensures { heap.new.lent ≡ heap.old.lent }
+{
     let (call, right) = sides_of(line)?;
     let reply = do_call(alloc, heap, &memory_call_of(alloc, call)?);
     check_reply(alloc, line, &reply, right)
 }
 
 /// Does the calls of some lines on one heap, and sees that its image is a heap still.
-fn check_alone(alloc: Global, region: Region, lines: &str) -> Result<(), Fail> {
+fn check_alone(alloc: Global, region: Region, lines: &str) -> Result<(), Fail>
+    requires { region.lent ≡ None }
+{
     let mut heap = adopt(region)?;
     for line in lines.lines() {
         check_line(alloc, &mut heap, line.trim())?;
     }
-    adopt(heap.into_region())?;
+    match heap.into_region() {
+        Ok(region) => adopt(region)?,
+        Err(_) => Err("a body is lent")?,
+    };
     Ok(())
 }
 
 /// A heap of so many free chunks of 16 bytes, each with a fixed one of 8 bytes behind it, and a last one of 24.
-fn scattered(alloc: Global, count: u32) -> Result<Region, Fail> {
+fn scattered(alloc: Global, count: u32) -> Result<Region, Fail>
+    ensures { IfOk result (λ region. region.lent ≡ None) }
+{
     let mut words = Vec::new(alloc);
     let mut at = 32usize;
     for _ in 0..count {
@@ -65,7 +76,9 @@ fn the_last_of_a_list_has_the_room(rt: HostRuntime) -> Result<(), Fail> {
 }
 
 /// An image of 28 free chunks of 8 bytes, each with this second word.
-fn unjoined(alloc: Global, second: u32) -> Result<Region, Fail> {
+fn unjoined(alloc: Global, second: u32) -> Result<Region, Fail>
+    ensures { IfOk result (λ made. made.lent ≡ None) }
+{
     let mut words = Vec::new(alloc);
     for number in 0..28usize {
         let at = number.saturating_mul(8).saturating_add(32);

@@ -1,5 +1,7 @@
 //! Lists of calls that look random, on a heap and on the plain model beside it.
 
+ghost use Rattle.std.specs.Prelude.{◌≡◌, None};
+
 use crate::heap::beside::Beside;
 use crate::heap::images::{FIVE, LARGE, ODD};
 use heap_model::MemoryCall;
@@ -33,12 +35,10 @@ fn step(
 /// Does a list of calls that a seed gives, each on the image that the one before left: on a heap that is adopted
 /// for it, if `anew`, and else on one heap from end to end. Where a chunk is placed may differ between the two,
 /// so each call is held against the model alone.
-fn run_list(
-    alloc: Global,
-    region: Region,
-    (seed, count): (u64, u32),
-    anew: bool,
-) -> Result<(), Fail> {
+fn run_list(alloc: Global, region: Region, list: (u64, u32), anew: bool) -> Result<(), Fail>
+    requires { region.lent ≡ None }
+{
+    let (seed, count) = list;
     let mut random = Pcg32::new(seed, 1);
     let mut beside = Beside::new(alloc, region)?;
     for number in 0..count {

@@ -1,5 +1,7 @@
 //! As many databases as there may be, as many records, and as many resources as there are slots for.
 
+ghost use Rattle.std.specs.Prelude.{◌≡◌};
+
 use crate::notation::{check_reply, sides_of};
 use crate::store::calls::call_of;
 use crate::store::images::{crowded_program, full_database, with_databases};
@@ -7,7 +9,7 @@ use crate::store::steps::{Step, check_anew};
 use palm_store::Store;
 use std::alloc::Global;
 use std::test::*;
-use test_beside::{bytes_of, do_call, image_of, store_of};
+use test_beside::{do_call, image_of, store_of};
 
 /// The last of 1,024 databases is made, and no other; then the first goes, and another gets its number.
 static LAST_DATABASES: [Step; 9] = [
@@ -86,12 +88,17 @@ fn every_slot_is_a_resource(rt: HostRuntime) -> Result<(), Fail> {
     for line in CROWDED.lines() {
         check_alone(rt.alloc(), &mut store, line.trim())?;
     }
-    store_of(rt.alloc(), bytes_of(&store.into_region()))?;
+    match store.into_region() {
+        Ok(region) => store_of(rt.alloc(), region.as_slice())?,
+        Err(_) => Err("a body is lent")?,
+    };
     Ok(())
 }
 
 /// Does the call of a line on a store, with no model beside it.
-fn check_alone(alloc: Global, store: &mut Store, line: &str) -> Result<(), Fail> {
+fn check_alone(alloc: Global, store: &mut Store, line: &str) -> Result<(), Fail>
+    ensures { store.new.lent ≡ store.old.lent }
+{
     let (call, right) = sides_of(line)?;
     let reply = do_call(alloc, store, &call_of(alloc, call)?);
     check_reply(alloc, line, &reply, right)

@@ -1,5 +1,7 @@
 //! Images that tests start from.
 
+ghost use Rattle.std.specs.Prelude.{◌≡◌, IfOk, None};
+
 use heap_model::DbName;
 use palm_store::Store;
 use std::alloc::Global;
@@ -50,7 +52,9 @@ pub(crate) fn full_database(alloc: Global) -> Result<Vec<u8>, Fail> {
 }
 
 /// A store with so many databases, whose names are the numbers from 1 on.
-pub(crate) fn with_databases(alloc: Global, count: u32) -> Result<Store, Fail> {
+pub(crate) fn with_databases(alloc: Global, count: u32) -> Result<Store, Fail>
+    ensures { IfOk result (λ made. made.lent ≡ None) }
+{
     let mut store = store_of(alloc, &blank_image(alloc, 200_000, 1_100)?)?;
     for number in 1..=count {
         let name = format!(in alloc; "{number}")?;

@@ -1,5 +1,7 @@
 //! Calls with the replies that they must have, as rows, which are done on a store and on the plain model beside it.
 
+ghost use Rattle.std.specs.Prelude.{◌≡◌};
+
 use crate::notation::{check_reply, sides_of};
 use crate::store::calls::call_of;
 use heap_model::{
@@ -38,7 +40,9 @@ fn check(
     beside: &mut Beside,
     call: &Call,
     reply: &str,
-) -> Result<(), Fail> {
+) -> Result<(), Fail>
+    ensures { store.new.lent ≡ store.old.lent }
+{
     let said = beside.call_on(alloc, store, about, call)?;
     check_reply(alloc, format_args!("{about}: {call:?}"), &said, reply)
 }
@@ -50,7 +54,9 @@ fn check_line(
     store: &mut Store,
     beside: &mut Beside,
     line: &str,
-) -> Result<(), Fail> {
+) -> Result<(), Fail>
+    ensures { store.new.lent ≡ store.old.lent }
+{
     let (call, reply) = sides_of(line)?;
     check(alloc, about, store, beside, &call_of(alloc, call)?, reply)
 }
@@ -78,7 +84,9 @@ fn check_read(
     beside: &mut Beside,
     listing: &str,
     reply: &str,
-) -> Result<(), Fail> {
+) -> Result<(), Fail>
+    ensures { store.new.lent ≡ store.old.lent }
+{
     let import = Call::File(FileCall::Import(file(alloc, listing)?));
     check(alloc, about, store, beside, &import, reply)
 }
@@ -91,7 +99,9 @@ fn check_written(
     beside: &mut Beside,
     db: Db,
     listing: &str,
-) -> Result<(), Fail> {
+) -> Result<(), Fail>
+    ensures { store.new.lent ≡ store.old.lent }
+{
     let export = Call::File(FileCall::Export(db));
     let said = beside.call_on(alloc, store, about, &export)?;
     equal(about, said, Reply::Data(file(alloc, listing)?))
@@ -105,7 +115,9 @@ fn check_id(
     beside: &mut Beside,
     db: Db,
     id: u32,
-) -> Result<(), Fail> {
+) -> Result<(), Fail>
+    ensures { store.new.lent ≡ store.old.lent }
+{
     let new = Call::Record(RecordCall::New { db, at: 0, size: 0 });
     beside.call_on(alloc, store, about, &new)?;
     let ask = Call::Record(RecordCall::Info(db, 0));
@@ -123,7 +135,9 @@ fn unlock(
     beside: &mut Beside,
     name: Name,
     count: u32,
-) -> Result<(), Fail> {
+) -> Result<(), Fail>
+    ensures { store.new.lent ≡ store.old.lent }
+{
     let call = Call::Memory(MemoryCall::Unlock(name));
     for left in (0..count).rev() {
         let said = beside.call_on(alloc, store, about, &call)?;
@@ -138,7 +152,9 @@ fn check_step(
     store: &mut Store,
     beside: &mut Beside,
     step: &Step,
-) -> Result<(), Fail> {
+) -> Result<(), Fail>
+    ensures { store.new.lent ≡ store.old.lent }
+{
     match step {
         Step::Does(line) => check_line(alloc, about, store, beside, line),
         Step::Creates(name, reply) => check(alloc, about, store, beside, &creation(name), reply),

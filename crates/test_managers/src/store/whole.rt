@@ -1,6 +1,6 @@
 //! Databases that are made whole, and found again as they were asked for.
 
-ghost use Rattle.std.specs.Prelude.{◌≡◌, length, take};
+ghost use Rattle.std.specs.Prelude.{◌≡◌, length, take, IfOk, None};
 ghost use Rattle.heap_model.specs.DatabaseFields.{name_size};
 
 use crate::store::images::with_databases;
@@ -35,7 +35,8 @@ fn info_of_two(name: &[u8], attributes: u16) -> DbInfo
 /// Makes a database with an AppInfo block of 3 bytes and two records, one of which is deleted and has no data.
 fn make_records(store: &mut Store, names: &mut [Name]) -> Result<Db, Refusal>
     requires { length names.old ≡ 4 }
-    ensures { length names.new ≡ 4 }
+    ensures len { length names.new ≡ 4 }
+    ensures lent { store.new.lent ≡ store.old.lent }
 {
     let blocks = BlockSizes {
         app_info: Some(3),
@@ -59,7 +60,8 @@ fn make_records(store: &mut Store, names: &mut [Name]) -> Result<Db, Refusal>
 /// Makes a database with a SortInfo block without a byte and two resources of one type and ID.
 fn make_resources(store: &mut Store, names: &mut [Name]) -> Result<Db, Refusal>
     requires { length names.old ≡ 4 }
-    ensures { length names.new ≡ 4 }
+    ensures len { length names.new ≡ 4 }
+    ensures lent { store.new.lent ≡ store.old.lent }
 {
     let blocks = BlockSizes {
         app_info: None,
@@ -81,7 +83,9 @@ fn make_resources(store: &mut Store, names: &mut [Name]) -> Result<Db, Refusal>
 }
 
 /// A blank store of 400 bytes with 20 slots.
-fn small_store(alloc: Global) -> Result<Store, Fail> {
+fn small_store(alloc: Global) -> Result<Store, Fail>
+    ensures { IfOk result (λ made. made.lent ≡ None) }
+{
     store_of(alloc, &blank_image(alloc, 400, 20)?)
 }
 

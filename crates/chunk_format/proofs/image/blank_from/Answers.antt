@@ -20,7 +20,7 @@ write_blank-requires-clause-planned g c =
     }
 
 pub returns-clause-accepted : goal.returns-clause-accepted
-returns-clause-accepted g c = blank_accepted c.args.size c.args.slots c.write_blank.new.region.bytes c.write_blank.ensures
+returns-clause-accepted g c = blank_accepted c.args.size c.args.slots c.write_blank.new.region.bytes c.write_blank.ensures.blank
 
 pub returns-clause-empty : goal.returns-clause-empty
-returns-clause-empty g c = blank_empty c.args.size c.args.slots c.write_blank.new.region.bytes c.write_blank.ensures
+returns-clause-empty g c = blank_empty c.args.size c.args.slots c.write_blank.new.region.bytes c.write_blank.ensures.blank

@@ -5,7 +5,11 @@ use Rattle.heap_model.specs.Pairing.{HoldsBody}
 use Rattle.laws_heap.proofs.Slots.{stands_slot, slot_facts}
 use Rattle.heap_check.proofs.SlotLaws.{first_of_number}
 use Rattle.heap_check.proofs.ChainedLaws.{held_more, marked_bare}
+use Rattle.master_table.proofs.RowLaws.{row_small}
 use Rattle.heap_check.proofs.chained.first_marked.Goals as goal
+
+pub end-end-requires : goal.end-end-requires
+end-end-requires c = row_small c.args.region.now.bytes c.args.row (chunks_of c.args.region.now.bytes, c.requires.tiles) c.requires.row
 
 pub has-requires : goal.has-requires
 has-requires c =

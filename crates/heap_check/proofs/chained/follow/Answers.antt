@@ -1,4 +1,5 @@
 use Rattle.std.proofs.Common.{refl, arith}
+use Rattle.laws_heap.proofs.Lending.{all_within}
 use Rattle.heap_check.proofs.FollowLaws.{followed_none, followed_more, followed_bound, table_inside, followed_bad, followed_all}
 use Rattle.heap_check.proofs.chained.follow.Goals as goal
 
@@ -32,7 +33,7 @@ overflow_add-chain-in-loop-next c =
 pub get_u32-next-requires : goal.get_u32-next-requires
 get_u32-next-requires c =
     let inside = table_inside c.args.region.now.bytes c.loop-next.next c.in-Some.count c.loop-next.marks c.take_table.new.marks c.requires.found.spelled c.in-Some.ensures.some in
-    omega arith
+    all_within c.args.region.now c.loop-next.next 4 c.requires.whole (omega (arith, inside))
 
 pub loop-next-smaller : goal.loop-next-smaller
 loop-next-smaller c =

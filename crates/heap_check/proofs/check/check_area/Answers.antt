@@ -3,23 +3,24 @@ use Rattle.std.proofs.lemmas.List.{length-map}
 use Rattle.std.proofs.lemmas.Bool.{false≢true}
 use Rattle.heap_check.proofs.CheckLaws.{surveyed_mismatch, surveyed_without, surveyed_owner, passed_paired, passed_directory, passed_heap}
 use Rattle.laws_heap.proofs.OneTable.{one_total, one_lies}
+use Rattle.laws_heap.proofs.Slots.{whole_table}
 use Rattle.heap_check.proofs.OwnerLaws.{all_owners}
 use Rattle.heap_check.proofs.check.check_area.Goals as goal
 
 pub survey_chunks-requires-clause-has_table : goal.survey_chunks-requires-clause-has_table
-survey_chunks-requires-clause-has_table g c = let fits = c.requires.head.a_chunk_fits in one_lies c.args.region.now.bytes c.requires.plain (omega arith)
+survey_chunks-requires-clause-has_table g c = let fits = c.requires.head.a_chunk_fits in whole_table c.args.region.now c.requires.whole (one_lies c.args.region.now.bytes c.requires.plain (omega arith))
 
 pub survey_chunks-requires-clause-room : goal.survey_chunks-requires-clause-room
 survey_chunks-requires-clause-room g c = let total = one_total c.args.region.now.bytes c.requires.plain in omega (arith, total)
 
 pub find_unmarked-requires-clause-has_table : goal.find_unmarked-requires-clause-has_table
-find_unmarked-requires-clause-has_table g c = let fits = c.requires.head.a_chunk_fits in one_lies c.args.region.now.bytes c.requires.plain (omega arith)
+find_unmarked-requires-clause-has_table g c = let fits = c.requires.head.a_chunk_fits in whole_table c.args.region.now c.requires.whole (one_lies c.args.region.now.bytes c.requires.plain (omega arith))
 
 pub find_unmarked-requires-clause-room : goal.find_unmarked-requires-clause-room
 find_unmarked-requires-clause-room g c = let total = one_total c.args.region.now.bytes c.requires.plain in omega (arith, total)
 
 pub has_directory-requires-clause-has_table : goal.has_directory-requires-clause-has_table
-has_directory-requires-clause-has_table g c = let fits = c.requires.head.a_chunk_fits in one_lies c.args.region.now.bytes c.requires.plain (omega arith)
+has_directory-requires-clause-has_table g c = let fits = c.requires.head.a_chunk_fits in whole_table c.args.region.now c.requires.whole (one_lies c.args.region.now.bytes c.requires.plain (omega arith))
 
 pub returns-in-Some-clause-fault : goal.returns-in-Some-clause-fault
 returns-in-Some-clause-fault g c = surveyed_mismatch c.args.region.now.bytes c.in-Ok.survey _ c.in-Some.slot c.requires.plain c.requires.head c.in-Ok.ensures.surveyed c.in-Some.ensures.some

@@ -1,4 +1,5 @@
-use Rattle.heap_compact.proofs.ResizedLaws.{loose_there, loose_lock, grown_resized, resized_named}
+use Rattle.heap_place.proofs.LentLaws.{loose_other}
+use Rattle.heap_compact.proofs.ResizedLaws.{one_of, loose_there, loose_lock, grown_resized, resized_named}
 use Rattle.heap_compact.proofs.growing.grow_named.Goals as goal
 
 pub returns-clause-resized : goal.returns-clause-resized
@@ -15,3 +16,8 @@ returns-clause-alone c =
 
 pub chunk-found-requires-clause-there : goal.chunk-found-requires-clause-there
 chunk-found-requires-clause-there c = loose_there c.args.space.now.bytes c.args.name.0 c.requires.loose
+
+pub grow_in_place-requires-clause-other : goal.grow_in_place-requires-clause-other
+grow_in_place-requires-clause-other c =
+    loose_other c.args.space.now c.chunk-found.result c.requires.lent (one_of c.args.space.now.bytes c.args.name.0 c.chunk-found.result c.chunk-found.ensures)
+    (loose_lock c.args.space.now.bytes c.args.name.0 c.chunk-found.result c.requires.accepted c.requires.loose c.chunk-found.ensures)

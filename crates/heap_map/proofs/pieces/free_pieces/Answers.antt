@@ -6,10 +6,10 @@ use Rattle.heap_map.proofs.PieceLaws.{HaveMet, met_start, met_small, met_step, f
 use Rattle.heap_map.proofs.pieces.free_pieces.Goals as goal
 
 pub loop-at-init : goal.loop-at-init
-loop-at-init c = met_start c.args.region.now.bytes c.new-pieces.result c.area_start-at.result c.requires c.area_start-at.ensures c.new-pieces.ensures
+loop-at-init c = met_start c.args.region.now.bytes c.new-pieces.result c.area_start-at.result c.requires.accepted c.area_start-at.ensures c.new-pieces.ensures
 
 pub at_with_size-header-requires-clause-chunk : goal.at_with_size-header-requires-clause-chunk
-at_with_size-header-requires-clause-chunk c = passed_there c.args.region.now.bytes (HaveMet c.loop-at.pieces) c.loop-at.at (read_heap c.args.region.now.bytes c.requires).tiles c.loop-at.invariant (omega arith)
+at_with_size-header-requires-clause-chunk c = passed_there c.args.region.now.bytes (HaveMet c.loop-at.pieces) c.loop-at.at (read_heap c.args.region.now.bytes c.requires.accepted).tiles c.loop-at.invariant (omega arith)
 
 pub add-requires : goal.add-requires
 add-requires c =
@@ -18,7 +18,7 @@ add-requires c =
     let fits = small.1 in
     let size = passed_size c.args.region.now.bytes c.loop-at.at c.at_with_size-header.result.0 c.at_with_size-header.ensures.header in
     let inside = size.1 in
-    let most = c.requires.1.tiles.head.most in
+    let most = c.requires.accepted.1.tiles.head.most in
     let within = free_size_by c.at_with_size-header.result.0 in
     record { few = omega arith; fits = omega arith }
 
@@ -32,7 +32,7 @@ pub end-requires : goal.end-requires
 end-requires c =
     let few = (met_small c.args.region.now.bytes c.loop-at.pieces c.loop-at.at c.loop-at.invariant).0 in
     let inside = c.loop-at.invariant.inside in
-    let most = c.requires.1.tiles.head.most in
+    let most = c.requires.accepted.1.tiles.head.most in
     omega arith
 
 pub returns-clause-count : goal.returns-clause-count

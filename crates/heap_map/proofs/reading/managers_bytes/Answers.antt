@@ -1,13 +1,14 @@
 use Rattle.std.proofs.Common.{◌+◌, ◌∙◌, ℕ, inl, ap, arith}
 use Rattle.std.specs.Prelude.{slice_range}
-use Rattle.laws_heap.proofs.Slots.{tiled_table}
+use Rattle.laws_heap.proofs.Lending.{all_within}
+use Rattle.laws_heap.proofs.Slots.{tiled_table, whole_table}
 use Rattle.laws_store.proofs.Owners.{owned_slot}
 use Rattle.store_check.proofs.LookupLaws.{managers_held}
 use Rattle.heap_map.proofs.ReadingLaws.{live_is, live_there, bytes_there}
 use Rattle.heap_map.proofs.reading.managers_bytes.Goals as goal
 
 pub word_of-place-requires-clause-table : goal.word_of-place-requires-clause-table
-word_of-place-requires-clause-table c = tiled_table c.args.region.now.bytes c.requires.accepted.0 c.requires.accepted.1.tiles
+word_of-place-requires-clause-table c = whole_table c.args.region.now c.requires.whole (tiled_table c.args.region.now.bytes c.requires.accepted.0 c.requires.accepted.1.tiles)
 
 pub word_of-place-requires-clause-slot : goal.word_of-place-requires-clause-slot
 word_of-place-requires-clause-slot c = owned_slot c.args.region.now.bytes c.args.slot c.requires.accepted (inl c.requires.managers)
@@ -26,7 +27,7 @@ slice-requires c =
     let live = live_is image c.args.slot c.word_of-place.result c.requires.accepted s in
     let long = (c.live_fields-length.ensures s.live.bytes s.live.lock s.live.owner live.0 live.1).0 in
     let inside = (bytes_there image c.args.slot c.word_of-place.result c.requires.accepted s).1 in
-    omega (arith, long, inside)
+    all_within c.args.region.now c.word_of-place.result c.live_fields-length.result.length c.requires.whole (omega (arith, long, inside))
 
 pub returns : goal.returns
 returns c =

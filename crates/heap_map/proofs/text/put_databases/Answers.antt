@@ -17,7 +17,7 @@ loop-db-init g c = λ new ok w. w
 pub put_database-requires-clause-whole : goal.put_database-requires-clause-whole
 put_database-requires-clause-whole g c =
     let len : length c.directory_in-directory.result.now ≡ length (directory_bytes c.args.region.now.bytes) = ap length c.directory_in-directory.ensures in
-    subst IsWhole (sym c.header_in.ensures) (header_whole c.args.region.now.bytes c.loop-db.db c.requires (omega arith))
+    subst IsWhole (sym c.header_in.ensures) (header_whole c.args.region.now.bytes c.loop-db.db c.requires.accepted (omega arith))
 
 pub loop-db-preserved : goal.loop-db-preserved
 loop-db-preserved g c = λ new ok w.
@@ -53,11 +53,11 @@ returns g c =
 pub overflow_cast-db : goal.overflow_cast-db
 overflow_cast-db g c =
     let len : length c.directory_in-directory.result.now ≡ length (directory_bytes c.args.region.now.bytes) = ap length c.directory_in-directory.ensures in
-    let few = few_listed c.args.region.now.bytes c.requires in
+    let few = few_listed c.args.region.now.bytes c.requires.accepted in
     omega arith
 
 pub overflow_add-db : goal.overflow_add-db
 overflow_add-db g c =
     let len : length c.directory_in-directory.result.now ≡ length (directory_bytes c.args.region.now.bytes) = ap length c.directory_in-directory.ensures in
-    let few = few_listed c.args.region.now.bytes c.requires in
+    let few = few_listed c.args.region.now.bytes c.requires.accepted in
     omega arith

@@ -10,4 +10,4 @@ returns-clause-bytes g c =
     let mid : List ℕ = c.write_head.new.grown.bytes in
     let grown : List ℕ = c.write_chunks.new.grown.bytes in
     let is : c.growth-by.result ≡ growth_of image = c.growth-by.ensures.is ∙ ap growth c.slot_count.ensures in
-    migrated_bytes image mid grown c.requires.accepted c.requires.one_table (subst (λ (n : ℕ). HasHead image mid n) is c.write_head.ensures) (subst (λ (n : ℕ). WroteChunks image mid grown n) is c.write_chunks.ensures)
+    migrated_bytes image mid grown c.requires.accepted c.requires.one_table (subst (λ (n : ℕ). HasHead image mid n) is c.write_head.ensures.wrote) (subst (λ (n : ℕ). WroteChunks image mid grown n) is c.write_chunks.ensures.wrote)

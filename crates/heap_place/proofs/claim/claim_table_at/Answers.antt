@@ -1,6 +1,10 @@
-use Rattle.std.proofs.Common.{◌+◌, ap, arith}
+use Rattle.std.proofs.Common.{◌+◌, ◌∙◌, ap, arith}
 use Rattle.heap_model.specs.Memory.{Memory}
-use Rattle.laws_heap.proofs.MoreTables.{written_new, written_chained}
+use Rattle.laws_heap.proofs.MoreTables.{written_new, written_chained, second_adds}
+use Rattle.laws_heap.proofs.Lending.{part_within, part_misses}
+use Rattle.laws_heap.proofs.LentBodies.{still_within}
+use Rattle.laws_heap.proofs.LentTables.{written_lends, added_lends}
+use Rattle.heap_place.proofs.LentLaws.{free_within, free_misses}
 use Rattle.heap_place.proofs.CutLaws.{cut_facts}
 use Rattle.heap_place.proofs.NewTables.{table_written, table_lays, table_claimed}
 use Rattle.heap_place.proofs.claim.claim_table_at.Goals as goal
@@ -23,6 +27,30 @@ pub add_table-requires-clause-table : goal.add_table-requires-clause-table
 add_table-requires-clause-table c =
     written_new c.args.region.now.bytes c.fill.new.self.bytes c.requires.free.before c.requires.free.after c.args.at
     (table_written c.args.region.now.bytes c.write.new.region.bytes c.fill.new.self.bytes c.args.at c.requires.accepted c.requires.chained c.requires.free (ap (λ (m : Memory). m.bytes) c.write.ensures.after) c.write.ensures.spelled (ap (λ (m : Memory). m.bytes) c.fill.ensures.after))
+
+pub write-requires-clause-misses : goal.write-requires-clause-misses
+write-requires-clause-misses c = part_misses c.args.region.now.lent c.args.at 72 c.args.at 8 (free_misses c.args.region.now c.args.at 72 c.requires.lent c.requires.free) (omega arith) (omega arith)
+
+pub fill-requires : goal.fill-requires
+fill-requires c =
+    let w = free_within c.args.region.now c.args.at 72 c.requires.accepted c.requires.lent c.requires.free in
+    part_within c.write.new.region c.args.at 72 (c.args.at + 8) 64 (still_within c.args.region.now c.write.new.region c.args.at 72 w (ap (λ (m : Memory). m.lent) c.write.ensures.after) c.write.ensures.len) (omega arith) (omega arith)
+
+pub add_table-requires-clause-lent : goal.add_table-requires-clause-lent
+add_table-requires-clause-lent c =
+    written_lends c.args.region.now c.fill.new.self c.requires.free.before c.requires.free.after c.args.at
+    (table_written c.args.region.now.bytes c.write.new.region.bytes c.fill.new.self.bytes c.args.at c.requires.accepted c.requires.chained c.requires.free (ap (λ (m : Memory). m.bytes) c.write.ensures.after) c.write.ensures.spelled (ap (λ (m : Memory). m.bytes) c.fill.ensures.after))
+    c.requires.lent (ap (λ (m : Memory). m.lent) c.fill.ensures.after ∙ ap (λ (m : Memory). m.lent) c.write.ensures.after)
+
+pub returns-clause-lent : goal.returns-clause-lent
+returns-clause-lent c =
+    added_lends c.fill.new.self c.add_table.new.region (c.args.at + 8)
+    (second_adds c.args.region.now.bytes c.fill.new.self.bytes c.add_table.new.region.bytes c.requires.free.before c.requires.free.after c.args.at
+    (table_lays c.args.region.now.bytes c.write.new.region.bytes c.fill.new.self.bytes c.add_table.new.region.bytes c.args.at c.requires.accepted c.requires.chained c.requires.free (ap (λ (m : Memory). m.bytes) c.write.ensures.after) c.write.ensures.spelled
+    (ap (λ (m : Memory). m.bytes) c.fill.ensures.after) (ap (λ (m : Memory). m.bytes) c.add_table.ensures.after)))
+    (written_lends c.args.region.now c.fill.new.self c.requires.free.before c.requires.free.after c.args.at
+    (table_written c.args.region.now.bytes c.write.new.region.bytes c.fill.new.self.bytes c.args.at c.requires.accepted c.requires.chained c.requires.free (ap (λ (m : Memory). m.bytes) c.write.ensures.after) c.write.ensures.spelled (ap (λ (m : Memory). m.bytes) c.fill.ensures.after))
+    c.requires.lent (ap (λ (m : Memory). m.lent) c.fill.ensures.after ∙ ap (λ (m : Memory). m.lent) c.write.ensures.after)) (ap (λ (m : Memory). m.lent) c.add_table.ensures.after)
 
 pub returns-clause-made : goal.returns-clause-made
 returns-clause-made c =

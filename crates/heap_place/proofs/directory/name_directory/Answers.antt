@@ -2,6 +2,8 @@ use Rattle.std.proofs.Common.{ap, arith}
 use Rattle.heap_model.specs.Memory.{Memory}
 use Rattle.laws_heap.proofs.Directory.{directory_written}
 use Rattle.heap_place.proofs.WithinLaws.{keeps_directory}
+use Rattle.laws_heap.proofs.Directory.{named_start}
+use Rattle.heap_place.proofs.LentLaws.{placed_lends}
 use Rattle.heap_place.proofs.directory.name_directory.Goals as goal
 
 pub returns-clause-names : goal.returns-clause-names
@@ -14,3 +16,8 @@ pub returns-clause-keeps : goal.returns-clause-keeps
 returns-clause-keeps c =
     keeps_directory c.args.region.now.bytes c.put_directory.new.region.bytes c.args.name.0 c.requires.accepted (ap (λ (m : Memory). m.bytes) c.put_directory.ensures.after)
     (directory_written c.args.region.now.bytes c.put_directory.new.region.bytes c.args.name.0 c.requires.accepted (ap (λ (m : Memory). m.bytes) c.put_directory.ensures.after) (let small = c.well_formed in omega arith) c.requires.managers).0
+
+pub returns-clause-lent : goal.returns-clause-lent
+returns-clause-lent c =
+    let n = returns-clause-names c in
+    placed_lends c.args.region.now c.put_directory.new.region c.requires.lent (ap (λ (m : Memory). m.lent) c.put_directory.ensures.after) n.chunks (named_start c.args.region.now.bytes c.put_directory.new.region.bytes c.args.name.0 n)

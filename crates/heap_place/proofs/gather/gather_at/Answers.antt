@@ -5,6 +5,7 @@ use Rattle.heap_place.proofs.KeepLaws.{links_chunk, links_plain}
 use Rattle.heap_place.proofs.SpotLaws.{cut_chunk}
 use Rattle.heap_place.proofs.TakeLaws.{chunk_inside}
 use Rattle.heap_place.proofs.GatherLaws.{bound_chunk, bound_spot, spot_least, chunk_bound, header_bound, gathered_lists, passed_lists}
+use Rattle.heap_place.proofs.RunLaws.{bound_misses}
 use Rattle.heap_place.proofs.gather.gather_at.Goals as goal
 
 pub at_with_size-taken-requires-clause-chunk : goal.at_with_size-taken-requires-clause-chunk
@@ -68,3 +69,6 @@ pub returns-clause-plain : goal.returns-clause-plain
 returns-clause-plain c =
     plain_then c.args.region.now.bytes c.cut.new.region.bytes c.push.new.region.bytes c.cut.ensures.plain
     (links_plain c.cut.new.region.bytes c.push.new.region.bytes c.args.at _ c.push.ensures.pushed.links)
+
+pub at_with_size-taken-requires-clause-misses : goal.at_with_size-taken-requires-clause-misses
+at_with_size-taken-requires-clause-misses c = bound_misses c.args.region.now c.args.at c.requires.accepted c.requires.lent c.requires.bound c.requires.inside

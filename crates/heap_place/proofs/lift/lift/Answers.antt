@@ -1,18 +1,31 @@
-use Rattle.std.proofs.Common.{◌+◌, [], ap, arith}
-use Rattle.heap_model.specs.Memory.{Memory}
+use Rattle.std.proofs.Common.{◌+◌, ◌-◌, [], sym, ap, subst, arith, ◌∙◌}
+use Rattle.std.specs.Prelude.{Option}
+use Rattle.heap_model.specs.Memory.{Memory, Lent, Misses}
 use Rattle.heap_place.proofs.CopyLaws.{lift_bounds, carried_up}
 use Rattle.heap_place.proofs.LiftLaws.{lift_done}
+use Rattle.laws_heap.proofs.Lending.{part_within, part_misses}
+use Rattle.laws_heap.proofs.LentBodies.{table_within}
+use Rattle.heap_place.proofs.LentLifts.{lifted_within, lifted_lends, table_still}
 use Rattle.heap_place.proofs.lift.lift.Goals as goal
 
 pub slide-requires-clause-from : goal.slide-requires-clause-from
 slide-requires-clause-from c =
     let b = lift_bounds c.args.region.now.bytes c.args.start c.args.end c.args.gap c.requires.accepted c.requires.behind in
-    let up = b.up in let inside = b.inside in omega arith
+    let up = b.up in
+    part_within c.args.region.now c.args.start (c.args.end - c.args.start + c.args.gap) _ _ (lifted_within c.args.region.now c.args.start c.args.end c.args.gap c.requires.accepted c.requires.lent c.requires.behind) (omega arith) (omega (arith, up))
 
 pub slide-requires-clause-to : goal.slide-requires-clause-to
 slide-requires-clause-to c =
     let b = lift_bounds c.args.region.now.bytes c.args.start c.args.end c.args.gap c.requires.accepted c.requires.behind in
-    let up = b.up in let inside = b.inside in omega arith
+    let up = b.up in
+    part_within c.args.region.now c.args.start (c.args.end - c.args.start + c.args.gap) _ _ (lifted_within c.args.region.now c.args.start c.args.end c.args.gap c.requires.accepted c.requires.lent c.requires.behind) (omega arith) (omega (arith, up))
+
+pub write-requires-clause-misses : goal.write-requires-clause-misses
+write-requires-clause-misses c =
+    let b = lift_bounds c.args.region.now.bytes c.args.start c.args.end c.args.gap c.requires.accepted c.requires.behind in
+    let least = b.least in
+    let w = lifted_within c.args.region.now c.args.start c.args.end c.args.gap c.requires.accepted c.requires.lent c.requires.behind in
+    subst (λ (x : Option Lent). Misses x c.args.start 8) (sym c.slide.ensures.lent) (part_misses c.args.region.now.lent c.args.start (c.args.end - c.args.start + c.args.gap) c.args.start 8 w.misses (omega arith) (omega (arith, least)))
 
 pub write-requires-clause-inside : goal.write-requires-clause-inside
 write-requires-clause-inside c =
@@ -29,8 +42,8 @@ overflow_add-end c =
     let b = lift_bounds c.args.region.now.bytes c.args.start c.args.end c.args.gap c.requires.accepted c.requires.behind in
     let inside = b.inside in let most = b.most in omega arith
 
-pub mend-requires : goal.mend-requires
-mend-requires c =
+pub mend-requires-clause-carried : goal.mend-requires-clause-carried
+mend-requires-clause-carried c =
     let b = c.requires.behind in
     let to = b.behind.to in
     record {
@@ -44,6 +57,21 @@ mend-requires c =
       ends = omega (arith, to);
     }
 
+pub mend-requires-clause-table : goal.mend-requires-clause-table
+mend-requires-clause-table c =
+    let b = c.requires.behind in
+    let up = carried_up c.args.region.now.bytes c.slide.new.self.bytes c.write.new.region.bytes b.before b.mid b.after c.args.start c.args.end c.args.gap c.requires.accepted b.behind
+    c.slide.ensures.bytes (ap (λ (m : Memory). m.bytes) c.write.ensures.after) c.write.ensures.spelled in
+    table_still c.args.region.now c.write.new.region (table_within c.args.region.now c.requires.accepted c.requires.lent) (ap (λ (m : Memory). m.lent) c.write.ensures.after ∙ c.slide.ensures.lent) up.len up.tables
+
+pub mend-requires-clause-misses : goal.mend-requires-clause-misses
+mend-requires-clause-misses c =
+    let b = lift_bounds c.args.region.now.bytes c.args.start c.args.end c.args.gap c.requires.accepted c.requires.behind in
+    let up = b.up in
+    let w = lifted_within c.args.region.now c.args.start c.args.end c.args.gap c.requires.accepted c.requires.lent c.requires.behind in
+    subst (λ (x : Option Lent). Misses x (c.args.start + c.args.gap) (c.args.end + c.args.gap - (c.args.start + c.args.gap))) (sym (ap (λ (m : Memory). m.lent) c.write.ensures.after ∙ c.slide.ensures.lent))
+    (part_misses c.args.region.now.lent c.args.start (c.args.end - c.args.start + c.args.gap) (c.args.start + c.args.gap) (c.args.end + c.args.gap - (c.args.start + c.args.gap)) w.misses (omega arith) (omega (arith, up)))
+
 pub returns-clause-lifted : goal.returns-clause-lifted
 returns-clause-lifted c = λ before mid after b.
     let to = b.to in
@@ -55,3 +83,6 @@ returns-clause-lifted c = λ before mid after b.
     (carried_up c.args.region.now.bytes c.slide.new.self.bytes c.write.new.region.bytes before mid after c.args.start c.args.end c.args.gap c.requires.accepted b
     c.slide.ensures.bytes (ap (λ (m : Memory). m.bytes) c.write.ensures.after) c.write.ensures.spelled)
     (omega (arith, to))) (omega (arith, inside, most)) b.live b.loose
+
+pub returns-clause-lent : goal.returns-clause-lent
+returns-clause-lent c = lifted_lends c.args.region.now c.mend.new.region c.args.start c.args.end c.args.gap c.requires.lent (c.mend.ensures.out ∙ ap (λ (m : Memory). m.lent) c.write.ensures.after ∙ c.slide.ensures.lent) c.requires.behind (returns-clause-lifted c)

@@ -4,12 +4,15 @@ use Rattle.heap_model.specs.Reading.{size_field}
 use Rattle.heap_place.specs.Lists.{IsFreeChunk}
 use Rattle.heap_place.proofs.TakeLaws.{spot_front, chunk_inside}
 use Rattle.heap_place.proofs.AlikeLaws.{taken_outside}
+use Rattle.laws_heap.proofs.Lending.{part_within}
+use Rattle.heap_place.proofs.LentLaws.{free_within}
 use Rattle.heap_place.proofs.lists.unlink.Goals as goal
 
 pub size_at-requires : goal.size_at-requires
 size_at-requires c =
-    let s = chunk_inside c.args.region.now.bytes c.args.room.at _ c.requires.accepted (spot_front c.args.region.now.bytes c.args.room.at c.args.room.size c.requires.accepted c.requires.some c.requires.room) in
-    let inside = s.0 in let least = s.1 in omega arith
+    let b = spot_front c.args.region.now.bytes c.args.room.at c.args.room.size c.requires.accepted c.requires.some c.requires.room in
+    let least = (chunk_inside c.args.region.now.bytes c.args.room.at _ c.requires.accepted b).1 in
+    part_within c.args.region.now c.args.room.at _ c.args.room.at 4 (free_within c.args.region.now c.args.room.at _ c.requires.accepted c.requires.lent b) (omega arith) (omega (arith, least))
 
 pub take_out-requires-clause-free : goal.take_out-requires-clause-free
 take_out-requires-clause-free c =

@@ -1,6 +1,7 @@
 use Rattle.std.proofs.Common.{◌-◌, refl, sym, subst, ◌∙◌}
 use Rattle.std.specs.Prelude.{IsSome}
 use Rattle.heap_place.proofs.LookupLaws.{header_read, fixed_has_chunk, fixed_header, fixed_is_found}
+use Rattle.laws_heap.proofs.LentBodies.{found_within}
 use Rattle.heap_place.proofs.lookup.fixed_at.Goals as goal
 
 pub at-header-requires-clause-chunk : goal.at-header-requires-clause-chunk
@@ -14,3 +15,6 @@ pub returns : goal.returns
 returns c =
     fixed_is_found c.args.region.now.bytes c.args.name c.unwrap.result c.requires.fixed
     (sym (c.as_fixed.ensures ∙ fixed_header c.args.region.now.bytes c.args.name c.at-header.result c.requires.accepted c.requires.fixed (header_read c.args.region.now.bytes (c.args.name.0 - 8) c.at-header.result c.at-header.ensures)) ∙ c.unwrap.ensures)
+
+pub at-header-requires-clause-misses : goal.at-header-requires-clause-misses
+at-header-requires-clause-misses c = (found_within c.args.region.now c.args.name.0 c.requires.fixed.live _ (c.args.name.0 - 8) c.requires.accepted c.requires.lent c.requires.fixed.finds).misses

@@ -1,7 +1,9 @@
-use Rattle.std.proofs.Common.{◌≡◌, sym, subst, ◌∙◌, arith}
+use Rattle.std.proofs.Common.{◌≡◌, sym, subst, ◌∙◌, arith, ◌-◌}
 use Rattle.heap_model.specs.Bytes.{u32_at}
 use Rattle.master_table.specs.Table.{HoldsPlace}
 use Rattle.heap_place.proofs.LookupLaws.{slot_unread, low_holds_none, other_holds_none, elsewhere_holds_none, slot_one, movable_place}
+use Rattle.laws_heap.proofs.LentBodies.{found_within}
+use Rattle.laws_heap.proofs.FoundChunks.{in_slot}
 use Rattle.heap_place.proofs.lookup.in_slot_at.Goals as goal
 
 pub returns-then-place-lt-HEADER_SIZE-clause-none : goal.returns-then-place-lt-HEADER_SIZE-clause-none
@@ -31,3 +33,10 @@ pub returns-in_default-2-clause-none : goal.returns-in_default-2-clause-none
 returns-in_default-2-clause-none c =
     elsewhere_holds_none c.args.region.now.bytes c.args.place c.in-Some-as_movable.found c.in-Some.header c.requires.accepted (sym c.in-Some.is ∙ c.read.ensures.is) (sym c.as_movable.ensures ∙ c.in-Some-as_movable.is)
     (λ holds. let none : u32_at c.args.region.now.bytes c.in-Some-as_movable.found.name.0 ≡ 0 = c.in_default.ensures holds.is_slot in let held = holds.held in let some = holds.some in omega arith)
+
+pub returns-then-not-misses-clause-none : goal.returns-then-not-misses-clause-none
+returns-then-not-misses-clause-none c = λ name holds.
+    let i = in_slot c.args.region.now.bytes name c.args.place.0 c.requires.accepted holds.is_slot holds.held holds.some in
+    let yes = c.misses.ensures.1 (found_within c.args.region.now name i.live _ (c.args.place.0 - 8) c.requires.accepted c.requires.lent i.finds).misses in
+    let no = c.if-not-misses.true in
+    absurd cc

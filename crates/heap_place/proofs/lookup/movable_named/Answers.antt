@@ -1,4 +1,3 @@
-use Rattle.laws_heap.proofs.Slots.{tiled_table}
 use Rattle.std.proofs.Common.{ℕ, sym, subst}
 use Rattle.master_table.specs.Table.{HoldsPlace}
 use Rattle.heap_place.proofs.LookupLaws.{movable_holds_place}
@@ -11,6 +10,3 @@ pub held_by-requires-clause-holds : goal.held_by-requires-clause-holds
 held_by-requires-clause-holds c =
     let holds = movable_holds_place c.args.region.now.bytes c.args.name.0 c.requires.accepted c.requires.there c.requires.movable in
     subst (λ (p : ℕ). HoldsPlace c.args.region.now.bytes c.args.name.0 p) (sym c.word_of.ensures) holds
-
-pub word_of-requires-clause-table : goal.word_of-requires-clause-table
-word_of-requires-clause-table c = tiled_table c.args.region.now.bytes c.requires.accepted.0 c.requires.accepted.1.tiles

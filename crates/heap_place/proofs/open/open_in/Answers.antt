@@ -2,15 +2,16 @@ use Rattle.std.proofs.Common.{◌-◌, ◌+◌, ap, arith}
 use Rattle.heap_model.specs.Memory.{Memory}
 use Rattle.heap_model.specs.Packing.{lives}
 use Rattle.heap_place.proofs.ExactLaws.{exactly_linked}
-use Rattle.heap_place.proofs.StretchLaws.{stretch_run, among_stretch, moves_few, packed_frame, slot_then, table_then, numbers, room_behind, opened_some, opened_none}
+use Rattle.heap_place.proofs.StretchLaws.{stretch_run, among_stretch, moves_few, packed_frame, slot_then, numbers, room_behind, opened_some, opened_none}
 use Rattle.heap_place.proofs.LiftLaws.{lifted_room}
+use Rattle.laws_heap.proofs.LentBodies.{table_within}
 use Rattle.heap_place.proofs.open.open_in.Goals as goal
 
 pub pack-room-requires-clause-run : goal.pack-room-requires-clause-run
 pack-room-requires-clause-run c = let a = c.requires.among in record { before = a.before; mid = _; after = a.after; run = stretch_run c.args.region.now.bytes _ _ _ c.args.stretch a.is }
 
 pub word_of-place-requires-clause-table : goal.word_of-place-requires-clause-table
-word_of-place-requires-clause-table c = table_then c.args.region.now.bytes c.pack-room.new.region.bytes (c.args.found.place.0 - 8) c.args.found.name.0 c.args.found.length c.args.stretch c.pack-room.result.room c.requires.accepted c.requires.among c.pack-room.ensures.packed c.pack-room.ensures.room
+word_of-place-requires-clause-table c = table_within c.pack-room.new.region ((packed_frame c.args.region.now.bytes c.pack-room.new.region.bytes (c.args.found.place.0 - 8) c.args.found.name.0 c.args.found.length c.args.stretch c.pack-room.result.room c.requires.accepted c.requires.among c.pack-room.ensures.packed c.pack-room.ensures.room).accepted) c.pack-room.ensures.lent
 
 pub word_of-place-requires-clause-slot : goal.word_of-place-requires-clause-slot
 word_of-place-requires-clause-slot c = slot_then c.args.region.now.bytes c.pack-room.new.region.bytes (c.args.found.place.0 - 8) c.args.found.name.0 c.args.found.length c.args.stretch c.pack-room.result.room c.requires.accepted c.requires.among c.pack-room.ensures.packed c.pack-room.ensures.room

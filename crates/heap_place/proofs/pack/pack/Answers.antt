@@ -1,4 +1,4 @@
-use Rattle.std.proofs.Common.{◌-◌, ◌++◌, ap, ◌∙◌, arith}
+use Rattle.std.proofs.Common.{◌-◌, ◌++◌, ap, ◌∙◌, arith, refl}
 use Rattle.heap_model.specs.Memory.{Memory}
 use Rattle.heap_model.specs.Packing.{packed}
 use Rattle.heap_place.specs.Gathers.{Before}
@@ -8,7 +8,7 @@ use Rattle.heap_place.proofs.PackLaws.{packing_start, packing_more, packing_acce
 use Rattle.heap_place.proofs.pack.pack.Goals as goal
 
 pub loop-at-init : goal.loop-at-init
-loop-at-init c = (packing_start c.args.region.now.bytes c.args.start c.args.end c.requires.accepted, omega arith, new_lists (Before (c.args.start - 0)) c.args.region.now.bytes)
+loop-at-init c = (packing_start c.args.region.now.bytes c.args.start c.args.end c.requires.accepted, omega arith, new_lists (Before (c.args.start - 0)) c.args.region.now.bytes, c.requires.lent, refl)
 
 pub pack_one-step-requires-clause-accepted : goal.pack_one-step-requires-clause-accepted
 pack_one-step-requires-clause-accepted c = packing_accepted c.args.region.now.bytes c.loop-at.region.bytes c.args.start c.args.end c.loop-at.at c.loop-at.slid c.loop-at.room c.loop-at.invariant.0 c.requires.run
@@ -44,6 +44,8 @@ loop-at-preserved c =
       packing_more c.args.region.now.bytes c.loop-at.region.bytes c.pack_one-step.new.region.bytes c.args.start c.args.end c.loop-at.at c.loop-at.slid c.loop-at.room c.pack_one-step.result.size c.pack_one-step.result.slid c.pack_one-step.result.room c.loop-at.invariant.0 (omega arith) c.pack_one-step.ensures.packed,
       omega (arith, slid, before),
       c.pack_one-step.ensures.lists,
+      c.pack_one-step.ensures.lent,
+      c.pack_one-step.ensures.out ∙ c.loop-at.invariant.4,
     )
 
 pub push_room-requires-clause-accepted : goal.push_room-requires-clause-accepted

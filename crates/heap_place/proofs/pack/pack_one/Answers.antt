@@ -6,6 +6,8 @@ use Rattle.heap_place.proofs.PackLaws.{behind_spelled, join_writable, packed_fre
 use Rattle.heap_place.specs.Gathers.{Before}
 use Rattle.heap_place.proofs.ListLaws.{lists_weaker}
 use Rattle.heap_place.proofs.GatherLaws.{kept_lists}
+use Rattle.heap_place.proofs.PackLaws.{behind_misses, join_misses}
+use Rattle.heap_place.proofs.LentRuns.{packed_lends}
 use Rattle.heap_place.proofs.pack.pack_one.Goals as goal
 use Rattle.heap_place.proofs.pack.pack_one.Goals.{then-stays-via-then-stays, then-stays-via-else-stays+then-room-eq0}
 
@@ -64,3 +66,22 @@ returns-clause-packed c = λ before chunk after b.
 pub returns-clause-lists : goal.returns-clause-lists
 returns-clause-lists c =
     kept_lists c.args.region.now.bytes c.drop_one.new.region.bytes c.args.heads.now (c.args.at - c.args.room) (c.args.at + c.at_with_size-header.result.1 - c.args.room) (omega arith) c.drop_one.ensures.keeps c.requires.lists
+
+pub at_with_size-header-requires-clause-misses : goal.at_with_size-header-requires-clause-misses
+at_with_size-header-requires-clause-misses c =
+    let b = c.requires.behind in
+    behind_misses c.args.region.now b.before b.chunk b.after c.args.at c.args.room c.requires.accepted c.requires.lent b.behind
+
+pub returns-in-Free-clause-lent : goal.returns-in-Free-clause-lent
+returns-in-Free-clause-lent c =
+    let b = c.requires.behind in
+    packed_lends c.args.region.now c.write.new.region b.before b.chunk b.after c.args.at c.args.room c.requires.lent (ap (λ (m : Memory). m.lent) c.write.ensures.after) b.behind (returns-in-Free-clause-packed c b.before b.chunk b.after b.behind).becomes
+
+pub write-requires-clause-misses : goal.write-requires-clause-misses
+write-requires-clause-misses c =
+    let b = c.requires.behind in
+    join_misses c.args.region.now b.before b.chunk b.after c.args.at c.args.room c.in-Free.size c.requires.accepted c.requires.lent b.behind
+    (subst (λ (h : Header). HasHeader c.args.region.now.bytes c.args.at h) c.in-Free.is c.at_with_size-header.ensures.header)
+
+pub drop_one-requires-clause-loose : goal.drop_one-requires-clause-loose
+drop_one-requires-clause-loose c = λ stay. let is = c.stays.ensures.1 stay in let isnt = c.if-stays.false in cc

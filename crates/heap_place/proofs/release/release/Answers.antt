@@ -3,6 +3,10 @@ use Rattle.heap_model.specs.Memory.{Memory}
 use Rattle.heap_place.proofs.FoundLaws.{found_inside}
 use Rattle.heap_place.proofs.ReleaseLaws.{given_size, own_slot_stays, emptied_movable, emptied_fixed, gave_back_found}
 use Rattle.heap_place.proofs.RunLaws.{from_bound, bound_behind}
+use Rattle.laws_heap.proofs.LentBodies.{slot_still_within}
+use Rattle.heap_place.proofs.LentLaws.{one_within, one_freed_lends}
+use Rattle.heap_place.proofs.ReleaseLaws.{own_slot_is}
+use Rattle.heap_place.proofs.RunLaws.{bound_misses}
 use Rattle.heap_place.proofs.release.release.Goals as goal
 
 pub size_of_body-size-requires : goal.size_of_body-size-requires
@@ -31,11 +35,12 @@ write-requires-clause-writable c =
     let s = given_size c.args.region.now.bytes c.args.found c.size_of_body-size.result c.free_size.result c.requires.accepted c.requires.found c.size_of_body-size.ensures c.free_size.ensures in
     let least = s.0 in let inside = s.1 in let most = s.3 in (omega arith, s.2, omega arith)
 
-pub clear-requires-clause-table : goal.clear-requires-clause-table
-clear-requires-clause-table c = (own_slot_stays c.args.region.now.bytes c.write.new.region.bytes c.args.found (c.size_of_body-size.result + c.free_size.result) c.requires.accepted c.requires.found c.if-found-ne-FIXED_LOCK.true (ap (λ (m : Memory). m.bytes) c.write.ensures.after)).0
-
 pub clear-requires-clause-slot : goal.clear-requires-clause-slot
 clear-requires-clause-slot c = (own_slot_stays c.args.region.now.bytes c.write.new.region.bytes c.args.found (c.size_of_body-size.result + c.free_size.result) c.requires.accepted c.requires.found c.if-found-ne-FIXED_LOCK.true (ap (λ (m : Memory). m.bytes) c.write.ensures.after)).1
+
+pub clear-requires-clause-within : goal.clear-requires-clause-within
+clear-requires-clause-within c =
+    slot_still_within c.args.region.now c.write.new.region c.args.found.name.0 c.requires.accepted c.requires.lent (own_slot_is c.args.region.now.bytes c.args.found c.requires.accepted c.requires.found c.if-found-ne-FIXED_LOCK.true) (ap (λ (m : Memory). m.lent) c.write.ensures.after) ((own_slot_stays c.args.region.now.bytes c.write.new.region.bytes c.args.found (c.size_of_body-size.result + c.free_size.result) c.requires.accepted c.requires.found c.if-found-ne-FIXED_LOCK.true (ap (λ (m : Memory). m.bytes) c.write.ensures.after)).0) (clear-requires-clause-slot c)
 
 pub returns-then-found-ne-FIXED_LOCK-clause-gone : goal.returns-then-found-ne-FIXED_LOCK-clause-gone
 returns-then-found-ne-FIXED_LOCK-clause-gone c =
@@ -69,3 +74,15 @@ returns-else-found-ne-FIXED_LOCK-clause-plain c =
 
 pub free_size-requires-clause-chunks : goal.free_size-requires-clause-chunks
 free_size-requires-clause-chunks c = from_bound c.args.region.now.bytes (c.args.found.place.0 - 8 + c.size_of_body-size.result) c.requires.accepted (bound_behind c.args.region.now.bytes c.args.found c.size_of_body-size.result c.size_of_body-size.ensures c.requires.found)
+
+pub write-requires-clause-misses : goal.write-requires-clause-misses
+write-requires-clause-misses c = (one_within c.args.region.now c.args.found c.requires.accepted c.requires.lent c.requires.found).misses
+
+pub returns-then-found-ne-FIXED_LOCK-clause-lent : goal.returns-then-found-ne-FIXED_LOCK-clause-lent
+returns-then-found-ne-FIXED_LOCK-clause-lent c = one_freed_lends c.args.region.now c.clear.new.region c.args.found c.requires.accepted c.requires.lent (ap (λ (m : Memory). m.lent) c.clear.ensures.after ∙ ap (λ (m : Memory). m.lent) c.write.ensures.after) c.requires.found (returns-then-found-ne-FIXED_LOCK-clause-gone c) c.requires.other
+
+pub returns-else-found-ne-FIXED_LOCK-clause-lent : goal.returns-else-found-ne-FIXED_LOCK-clause-lent
+returns-else-found-ne-FIXED_LOCK-clause-lent c = one_freed_lends c.args.region.now c.write.new.region c.args.found c.requires.accepted c.requires.lent (ap (λ (m : Memory). m.lent) c.write.ensures.after) c.requires.found (returns-else-found-ne-FIXED_LOCK-clause-gone c) c.requires.other
+
+pub free_size-requires-clause-misses : goal.free_size-requires-clause-misses
+free_size-requires-clause-misses c inside = bound_misses c.args.region.now (c.args.found.place.0 - 8 + c.size_of_body-size.result) c.requires.accepted c.requires.lent (bound_behind c.args.region.now.bytes c.args.found c.size_of_body-size.result c.size_of_body-size.ensures c.requires.found) inside

@@ -1,9 +1,12 @@
-use Rattle.std.proofs.Common.{sym, ap, ◌∙◌}
+use Rattle.std.proofs.Common.{sym, ap, ◌∙◌, ℕ, ◌+◌, subst, arith}
 use Rattle.laws_heap.proofs.Plain.{plain_then}
 use Rattle.heap_place.specs.declared.found.Found.{Found}
 use Rattle.heap_place.specs.Lists.{Any}
 use Rattle.heap_place.proofs.ListLaws.{lists_kept}
 use Rattle.heap_place.proofs.RelocateLaws.{stand_apart, relocated_found, slot_emptied, freed_keeps, owner_fits}
+use Rattle.heap_model.specs.Memory.{Memory}
+use Rattle.heap_model.specs.Lending.{LendsOther}
+use Rattle.heap_place.proofs.LentLaws.{other_still, loose_other, spot_other}
 use Rattle.heap_place.proofs.relocate.relocate_other.Goals as goal
 
 pub copy_bytes-requires-clause-accepted : goal.copy_bytes-requires-clause-accepted
@@ -56,3 +59,18 @@ release_listed-requires-clause-lists c = lists_kept Any c.stand_in_at-there.new.
 
 pub returns-clause-lists : goal.returns-clause-lists
 returns-clause-lists c = lists_kept Any c.release_listed.new.region.bytes c.take_name.new.region.bytes c.release_listed.new.heads c.take_name.ensures.keeps c.release_listed.ensures.lists
+
+pub copy_bytes-requires-clause-other_from : goal.copy_bytes-requires-clause-other_from
+copy_bytes-requires-clause-other_from c = other_still c.args.region.now c.stand_in_at-there.new.region c.args.found.place.0 (ap (λ (m : Memory). m.lent) c.stand_in_at-there.ensures.rest) (loose_other c.args.region.now c.args.found c.requires.lent c.requires.found c.requires.unlocked)
+
+pub copy_bytes-requires-clause-other_to : goal.copy_bytes-requires-clause-other_to
+copy_bytes-requires-clause-other_to c =
+    let enough = c.requires.enough in
+    subst (λ (n : ℕ). LendsOther c.stand_in_at-there.new.region n) (sym (ap (λ (x : Found). x.place.0) c.stand_in_at-there.ensures.is))
+    (other_still c.args.region.now c.stand_in_at-there.new.region (c.args.room.at + 8) (ap (λ (m : Memory). m.lent) c.stand_in_at-there.ensures.rest) (spot_other c.args.region.now c.args.room.at c.args.room.size c.requires.lent c.requires.room (omega (arith, enough))))
+
+pub release_listed-requires-clause-other : goal.release_listed-requires-clause-other
+release_listed-requires-clause-other c = other_still c.stand_in_at-there.new.region c.copy_bytes.new.region c.args.found.place.0 c.copy_bytes.ensures.out (other_still c.args.region.now c.stand_in_at-there.new.region c.args.found.place.0 (ap (λ (m : Memory). m.lent) c.stand_in_at-there.ensures.rest) (loose_other c.args.region.now c.args.found c.requires.lent c.requires.found c.requires.unlocked))
+
+pub take_name-requires-clause-other : goal.take_name-requires-clause-other
+take_name-requires-clause-other c = other_still c.copy_bytes.new.region c.release_listed.new.region _ (ap (λ (m : Memory). m.lent) c.release_listed.ensures.rest) (other_still c.stand_in_at-there.new.region c.copy_bytes.new.region _ c.copy_bytes.ensures.out (subst (λ (n : ℕ). LendsOther c.stand_in_at-there.new.region n) (sym (ap (λ (x : Found). x.place.0) c.stand_in_at-there.ensures.is)) (other_still c.args.region.now c.stand_in_at-there.new.region (c.args.room.at + 8) (ap (λ (m : Memory). m.lent) c.stand_in_at-there.ensures.rest) (spot_other c.args.region.now c.args.room.at c.args.room.size c.requires.lent c.requires.room (let enough = c.requires.enough in omega (arith, enough))))))

@@ -1,7 +1,9 @@
-use Rattle.std.proofs.Common.{ap, inl, refl, arith}
+use Rattle.std.proofs.Common.{ap, inl, refl, arith, ◌∙◌}
 use Rattle.heap_model.specs.Memory.{Memory}
 use Rattle.heap_place.proofs.FoundLaws.{found_inside}
 use Rattle.heap_place.proofs.RelocateLaws.{named_there, named_writable, header_table}
+use Rattle.laws_heap.proofs.LentBodies.{slot_still_within}
+use Rattle.heap_place.proofs.LentLaws.{one_within, one_altered_lends, name_size}
 use Rattle.heap_place.proofs.relocate.take_name.Goals as goal
 
 pub write-requires-clause-inside : goal.write-requires-clause-inside
@@ -12,11 +14,12 @@ write-requires-clause-writable c =
     let w = named_writable c.args.region.now.bytes c.args.there c.args.slot.0 c.requires.accepted c.requires.found c.requires.slot in
     (w.0, omega arith, c.requires.owner, inl refl, w.1, w.2)
 
-pub set-requires-clause-table : goal.set-requires-clause-table
-set-requires-clause-table c = (header_table c.args.region.now.bytes c.write.new.region.bytes c.args.there c.args.owner c.args.slot.0 c.requires.accepted c.requires.found c.requires.slot (ap (λ (m : Memory). m.bytes) c.write.ensures.after)).0
-
 pub set-requires-clause-slot : goal.set-requires-clause-slot
 set-requires-clause-slot c = (header_table c.args.region.now.bytes c.write.new.region.bytes c.args.there c.args.owner c.args.slot.0 c.requires.accepted c.requires.found c.requires.slot (ap (λ (m : Memory). m.bytes) c.write.ensures.after)).1
+
+pub set-requires-clause-within : goal.set-requires-clause-within
+set-requires-clause-within c =
+    slot_still_within c.args.region.now c.write.new.region c.args.slot.0 c.requires.accepted c.requires.lent c.requires.slot (ap (λ (m : Memory). m.lent) c.write.ensures.after) ((header_table c.args.region.now.bytes c.write.new.region.bytes c.args.there c.args.owner c.args.slot.0 c.requires.accepted c.requires.found c.requires.slot (ap (λ (m : Memory). m.bytes) c.write.ensures.after)).0) (set-requires-clause-slot c)
 
 pub returns-clause-made : goal.returns-clause-made
 returns-clause-made c =
@@ -32,3 +35,9 @@ pub returns-clause-keeps : goal.returns-clause-keeps
 returns-clause-keeps c =
     (named_there c.args.region.now.bytes c.write.new.region.bytes c.set.new.region.bytes c.args.there c.args.owner c.args.slot.0 c.requires.accepted c.requires.found c.requires.fixed c.requires.slot c.requires.empty
     (ap (λ (m : Memory). m.bytes) c.write.ensures.after) c.write.ensures.spelled (ap (λ (m : Memory). m.bytes) c.set.ensures.after)).2
+
+pub write-requires-clause-misses : goal.write-requires-clause-misses
+write-requires-clause-misses c = (one_within c.args.region.now c.args.there c.requires.accepted c.requires.lent c.requires.found).misses
+
+pub returns-clause-lent : goal.returns-clause-lent
+returns-clause-lent c = one_altered_lends c.args.region.now c.set.new.region c.args.there _ c.requires.accepted c.requires.lent (ap (λ (m : Memory). m.lent) c.set.ensures.after ∙ ap (λ (m : Memory). m.lent) c.write.ensures.after) c.requires.found (returns-clause-made c) (name_size c.args.owner c.args.slot.0 c.requires.found.chunk) c.requires.other

@@ -1,8 +1,9 @@
-use Rattle.std.proofs.Common.{◌<◌, ◌+◌, ◌-◌, sym, subst, arith}
+use Rattle.std.proofs.Common.{◌<◌, ◌+◌, ◌++◌, ◌-◌, sym, subst, arith}
 use Rattle.chunk_format.specs.Header.{size_by}
 use Rattle.heap_model.specs.Layout.{IsRoom}
 use Rattle.heap_place.specs.Search.{Searched}
 use Rattle.heap_place.proofs.RoomLaws.{search_start, search_there, search_fits, search_size, search_more, search_found, search_none}
+use Rattle.laws_heap.proofs.LentBodies.{walked_misses}
 use Rattle.heap_place.proofs.room.find_room.Goals as goal
 
 pub loop-at-init : goal.loop-at-init
@@ -48,3 +49,6 @@ loop-at-preserved c =
 
 pub returns-clause-none : goal.returns-clause-none
 returns-clause-none c = search_none c.args.region.now.bytes c.args.size c.loop-at.at c.loop-at.run_size c.requires.accepted c.requires.some_size c.loop-at.invariant (omega arith)
+
+pub at_with_size-header-requires-clause-misses : goal.at_with_size-header-requires-clause-misses
+at_with_size-header-requires-clause-misses c = walked_misses c.args.region.now (c.loop-at.invariant.front ++ c.loop-at.invariant.run) c.loop-at.at c.requires.accepted c.requires.lent c.loop-at.invariant.spelled (omega arith)

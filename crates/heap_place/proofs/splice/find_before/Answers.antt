@@ -1,14 +1,17 @@
-use Rattle.std.proofs.Common.{ℕ, sym, subst, ◌∙◌, arith}
+use Rattle.std.proofs.Common.{ℕ, sym, subst, ◌∙◌, arith, ◌+◌}
 use Rattle.heap_place.specs.Splices.{Looking}
 use Rattle.heap_place.proofs.SpliceLaws.{look_more, looked_free}
 use Rattle.heap_place.proofs.TakeLaws.{begun_chunk, chunk_inside}
+use Rattle.laws_heap.proofs.Lending.{part_within}
+use Rattle.heap_place.proofs.LentLaws.{free_within}
 use Rattle.heap_place.proofs.splice.find_before.Goals as goal
 
 pub get_u32-next-requires : goal.get_u32-next-requires
 get_u32-next-requires c =
     let f = looked_free c.args.region.now.bytes c.args.heads.now c.args.class c.loop.here c.args.at c.loop.invariant c.if-here-eq0.false in
-    let s = chunk_inside c.args.region.now.bytes c.loop.here _ c.requires.accepted (begun_chunk c.args.region.now.bytes c.loop.here c.requires.accepted f.begins) in
-    let inside = s.0 in let least = s.1 in omega arith
+    let b = begun_chunk c.args.region.now.bytes c.loop.here c.requires.accepted f.begins in
+    let least = (chunk_inside c.args.region.now.bytes c.loop.here _ c.requires.accepted b).1 in
+    part_within c.args.region.now c.loop.here _ (c.loop.here + 4) 4 (free_within c.args.region.now c.loop.here _ c.requires.accepted c.requires.lent b) (omega arith) (omega (arith, least))
 
 pub loop-preserved : goal.loop-preserved
 loop-preserved c =

@@ -1,10 +1,12 @@
-use Rattle.std.proofs.Common.{ℕ, sym, subst, arith}
+use Rattle.std.proofs.Common.{ℕ, sym, subst, arith, ◌+◌}
 use Rattle.std.specs.Prelude.{slice_set}
 use Rattle.heap_place.specs.Lists.{AreLists, ButAt}
 use Rattle.heap_place.proofs.ListLaws.{popped}
 use Rattle.heap_place.proofs.KeepLaws.{free_there, free_small}
 use Rattle.heap_place.proofs.TakeLaws.{chunk_inside}
 use Rattle.heap_place.proofs.AlikeLaws.{chunk_of_class}
+use Rattle.laws_heap.proofs.Lending.{part_within}
+use Rattle.heap_place.proofs.LentLaws.{free_within}
 use Rattle.heap_place.proofs.splice.take_out.Goals as goal
 
 pub class_of-class-requires-clause-least : goal.class_of-class-requires-clause-least
@@ -15,8 +17,8 @@ class_of-class-requires-clause-small c = let small = free_small c.args.region.no
 
 pub get_u32-requires : goal.get_u32-requires
 get_u32-requires c =
-    let s = chunk_inside c.args.region.now.bytes c.args.at c.args.size c.requires.accepted c.requires.free in
-    let inside = s.0 in let least = s.1 in omega arith
+    let least = (chunk_inside c.args.region.now.bytes c.args.at c.args.size c.requires.accepted c.requires.free).1 in
+    part_within c.args.region.now c.args.at c.args.size (c.args.at + 4) 4 (free_within c.args.region.now c.args.at c.args.size c.requires.accepted c.requires.lent c.requires.free) (omega arith) (omega (arith, least))
 
 pub returns-then-heads-class-clause-lists : goal.returns-then-heads-class-clause-lists
 returns-then-heads-class-clause-lists c =

@@ -5,6 +5,7 @@ use Rattle.heap_place.specs.Search.{Passed}
 use Rattle.heap_place.specs.Stretches.{HaveRooms}
 use Rattle.heap_place.proofs.WalkLaws.{passed_there, passed_size, free_fits_by}
 use Rattle.heap_place.proofs.LargestLaws.{rooms_start, rooms_fit, rooms_closed, rooms_more, rooms_all}
+use Rattle.laws_heap.proofs.LentBodies.{walked_misses}
 use Rattle.heap_place.proofs.stretch.largest_room.Goals as goal
 use Rattle.heap_place.proofs.stretch.largest_room.Goals.{then-stays, else-stays}
 
@@ -41,3 +42,6 @@ loop-at-preserved c =
 
 pub returns : goal.returns
 returns c = c.max.ensures ∙ rooms_all c.args.region.now.bytes c.loop-at.largest c.loop-at.room c.loop-at.at c.requires.accepted c.loop-at.invariant (omega arith)
+
+pub at_with_size-header-requires-clause-misses : goal.at_with_size-header-requires-clause-misses
+at_with_size-header-requires-clause-misses c = walked_misses c.args.region.now c.loop-at.invariant.front c.loop-at.at c.requires.accepted c.requires.lent c.loop-at.invariant.spelled (omega arith)

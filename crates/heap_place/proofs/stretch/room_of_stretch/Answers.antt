@@ -1,6 +1,7 @@
 use Rattle.std.proofs.Common.{arith}
 use Rattle.heap_place.proofs.WalkLaws.{free_fits_by}
 use Rattle.heap_place.proofs.StretchRoomLaws.{summed_chunk, summed_fits, summed_more, summed_all}
+use Rattle.heap_place.proofs.StretchRoomLaws.{summed_misses}
 use Rattle.heap_place.proofs.stretch.room_of_stretch.Goals as goal
 
 pub at_with_size-header-requires-clause-chunk : goal.at_with_size-header-requires-clause-chunk
@@ -25,3 +26,6 @@ loop-at-preserved c =
 
 pub returns : goal.returns
 returns c = summed_all c.args.region.now.bytes c.args.stretch c.loop-at.at c.loop-at.room c.requires.accepted c.loop-at.invariant (omega arith)
+
+pub at_with_size-header-requires-clause-misses : goal.at_with_size-header-requires-clause-misses
+at_with_size-header-requires-clause-misses c = summed_misses c.args.region.now c.args.stretch c.loop-at.at c.loop-at.room c.requires.accepted c.requires.lent c.requires.stretch c.loop-at.invariant c.loop-at-test.true

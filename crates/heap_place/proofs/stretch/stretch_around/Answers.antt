@@ -1,7 +1,8 @@
-use Rattle.std.proofs.Common.{◌+◌, ◌-◌, sym, subst, arith}
+use Rattle.std.proofs.Common.{◌+◌, ◌++◌, ◌-◌, sym, subst, arith}
 use Rattle.heap_place.specs.Stretches.{SeenUpTo}
 use Rattle.heap_place.proofs.SeenLaws.{unlocked, seen_start, seen_chunk, seen_more, seen_stay, seen_found, seen_all}
 use Rattle.heap_place.proofs.StretchLaws.{among_stretch}
+use Rattle.laws_heap.proofs.LentBodies.{walked_misses}
 use Rattle.heap_place.proofs.stretch.stretch_around.Goals as goal
 use Rattle.heap_place.proofs.stretch.stretch_around.Goals.{then-stays+else-here-at, else-stays}
 
@@ -40,3 +41,6 @@ returns-then-here-at-clause-stretch c = among_stretch c.args.region.now.bytes (c
 
 pub returns-clause-stretch : goal.returns-clause-stretch
 returns-clause-stretch c = among_stretch c.args.region.now.bytes (c.args.found.place.0 - 8) c.args.found.name.0 c.args.found.length _ (seen_all c.args.region.now.bytes (c.args.found.place.0 - 8) c.args.found.name.0 c.args.found.length c.loop-here.start c.loop-here.here c.requires.accepted (unlocked c.args.region.now.bytes c.args.found c.requires.found c.requires.unlocked) c.loop-here.invariant (omega arith))
+
+pub at_with_size-header-requires-clause-misses : goal.at_with_size-header-requires-clause-misses
+at_with_size-header-requires-clause-misses c = walked_misses c.args.region.now (c.loop-here.invariant.closed ++ c.loop-here.invariant.run) c.loop-here.here c.requires.accepted c.requires.lent c.loop-here.invariant.spelled (omega arith)

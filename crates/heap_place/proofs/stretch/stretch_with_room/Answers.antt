@@ -1,7 +1,8 @@
-use Rattle.std.proofs.Common.{◌+◌, sym, subst, arith}
+use Rattle.std.proofs.Common.{◌+◌, ◌++◌, sym, subst, arith}
 use Rattle.heap_place.specs.Stretches.{SeenRooms}
 use Rattle.heap_place.proofs.SeenLaws.{seen_chunk, seen_size}
 use Rattle.heap_place.proofs.RoomyLaws.{rooms_start, rooms_more, rooms_closed, rooms_low, room_found, room_last, room_none, room_stretch}
+use Rattle.laws_heap.proofs.LentBodies.{walked_misses}
 use Rattle.heap_place.proofs.stretch.stretch_with_room.Goals as goal
 use Rattle.heap_place.proofs.stretch.stretch_with_room.Goals.{then-stays+else-room-size, else-stays}
 
@@ -45,3 +46,6 @@ returns-then-room-size-clause-stretch c = room_stretch c.args.region.now.bytes c
 
 pub returns-then-room-size-2-clause-stretch : goal.returns-then-room-size-2-clause-stretch
 returns-then-room-size-2-clause-stretch c = room_stretch c.args.region.now.bytes c.args.size _ (room_last c.args.region.now.bytes c.args.size c.loop-here.start c.loop-here.here c.loop-here.room c.requires.accepted c.loop-here.invariant (omega arith) (omega arith))
+
+pub at_with_size-header-requires-clause-misses : goal.at_with_size-header-requires-clause-misses
+at_with_size-header-requires-clause-misses c = walked_misses c.args.region.now (c.loop-here.invariant.seen.closed ++ c.loop-here.invariant.seen.run) c.loop-here.here c.requires.accepted c.requires.lent c.loop-here.invariant.seen.spelled (omega arith)

@@ -3,6 +3,7 @@ use Rattle.heap_place.specs.Found.{NoneFixedAs}
 use Rattle.heap_place.specs.Search.{Passed}
 use Rattle.heap_place.proofs.WalkLaws.{passed_there, passed_all}
 use Rattle.heap_place.proofs.LookupLaws.{fixed_found, fixed_there, fixed_passed}
+use Rattle.laws_heap.proofs.LentBodies.{walked_misses}
 use Rattle.heap_place.proofs.walks.find_fixed.Goals as goal
 
 pub at_with_size-header-requires-clause-chunk : goal.at_with_size-header-requires-clause-chunk
@@ -26,3 +27,6 @@ returns-clause-none c = passed_all c.args.region.now.bytes (NoneFixedAs c.args.r
 pub returns-in-Some-clause-there : goal.returns-in-Some-clause-there
 returns-in-Some-clause-there c =
     fixed_there c.loop-at.at c.args.name c.at_with_size-header.result.0 c.in-Some.found c.args.region.now.bytes c.at_with_size-header.ensures.header (sym c.as_fixed.ensures ∙ c.in-Some.is)
+
+pub at_with_size-header-requires-clause-misses : goal.at_with_size-header-requires-clause-misses
+at_with_size-header-requires-clause-misses c = walked_misses c.args.region.now c.loop-at.invariant.front c.loop-at.at c.requires.accepted c.requires.lent c.loop-at.invariant.spelled (omega arith)

@@ -1,6 +1,7 @@
 use Rattle.std.proofs.Common.{◌+◌, sym, subst, arith}
 use Rattle.heap_place.specs.Search.{Passed, AreFree, free_by}
 use Rattle.heap_place.proofs.WalkLaws.{passed_there, passed_size, passed_all, free_fits, free_fits_by, free_passed}
+use Rattle.laws_heap.proofs.LentBodies.{walked_misses}
 use Rattle.heap_place.proofs.walks.free_bytes.Goals as goal
 
 pub at_with_size-header-requires-clause-chunk : goal.at_with_size-header-requires-clause-chunk
@@ -25,3 +26,6 @@ loop-at-preserved c =
 
 pub returns : goal.returns
 returns c = sym (passed_all c.args.region.now.bytes (AreFree c.loop-at.count) c.loop-at.at c.requires.accepted c.loop-at.invariant (omega arith))
+
+pub at_with_size-header-requires-clause-misses : goal.at_with_size-header-requires-clause-misses
+at_with_size-header-requires-clause-misses c = walked_misses c.args.region.now c.loop-at.invariant.front c.loop-at.at c.requires.accepted c.requires.lent c.loop-at.invariant.spelled (omega arith)

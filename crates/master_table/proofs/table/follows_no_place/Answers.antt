@@ -4,9 +4,16 @@ use Rattle.heap_model.specs.Slots.{IsSlot}
 use Rattle.master_table.proofs.SlotWords.{slot_front}
 use Rattle.master_table.proofs.table.follows_no_place.Goals as goal
 
+pub get_u32-requires : goal.get_u32-requires
+get_u32-requires c =
+    let low = c.if-at-lt-SLOT_SIZE.false in
+    let high = c.if-at-len.false in
+    let len = c.len.ensures in
+    record { inside = omega (arith, low, high, len); misses = c.misses.ensures.0 c.if-not-misses.false }
+
 pub returns : goal.returns
 returns c = OnTrue_from _ (IsSlot c.args.region.now.bytes c.args.at → ⊥) (λ is slot.
     let high : 16777216 ≤ c.get_u32.result = leb-true _ _ is in
-    let low = slot_front c.args.region.now.bytes c.args.at c.requires slot in
+    let low = slot_front c.args.region.now.bytes c.args.at c.requires.accepted slot in
     let same = c.get_u32.ensures in
     absurd (omega (arith, high, low, same)))

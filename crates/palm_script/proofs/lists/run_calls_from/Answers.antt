@@ -3,6 +3,7 @@ use Rattle.std.proofs.lemmas.List.Elements.{All-push}
 use Rattle.heap_model.specs.declared.call.Reply.{Reply}
 use Rattle.heap_model.specs.declared.call.Reply.TheVariants.{Refused}
 use Rattle.heap_model.specs.declared.refusal.Refusal.TheVariants.{OutOfMemory}
+use Rattle.palm_script.proofs.LoanLaws.{run_stays, runs_on_loan}
 use Rattle.palm_script.proofs.RunLaws.{goes_on-one, goes_on-end}
 use Rattle.palm_script.proofs.lists.run_calls_from.Goals as goal
 
@@ -16,6 +17,14 @@ loop-call-preserved g c = record {
 
 pub returns-clause-run : goal.returns-clause-run
 returns-clause-run g c = goes_on-end c.args.store.now c.args.calls.now c.loop-call.call-index c.loop-call.replies.items c.loop-call.store c.loop-call-test.false c.loop-call.invariant.goes_on
+
+pub returns-clause-loan : goal.returns-clause-loan
+returns-clause-loan g c = runs_on_loan c.args.store.now c.args.calls.now c.loop-call.replies.items c.loop-call.store
+    (goes_on-end c.args.store.now c.args.calls.now c.loop-call.call-index c.loop-call.replies.items c.loop-call.store c.loop-call-test.false c.loop-call.invariant.goes_on)
+
+pub returns-clause-stays : goal.returns-clause-stays
+returns-clause-stays g c = run_stays c.args.store.now c.args.calls.now c.loop-call.replies.items c.loop-call.store
+    (goes_on-end c.args.store.now c.args.calls.now c.loop-call.call-index c.loop-call.replies.items c.loop-call.store c.loop-call-test.false c.loop-call.invariant.goes_on)
 
 pub returns-clause-no_memory : goal.returns-clause-no_memory
 returns-clause-no_memory g c = c.loop-call.invariant.no_memory

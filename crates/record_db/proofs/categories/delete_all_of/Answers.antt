@@ -1,6 +1,7 @@
 use Rattle.std.proofs.Common.{◌≡◌, ◌∙◌, length, Option, refl, ap, arith}
 use Rattle.heap_model.specs.Store.{StoredDatabase, store_of}
 use Rattle.heap_model.specs.EntrySteps.{entries_of, entries_in}
+use Rattle.laws_heap.proofs.KeptLoans.{keeps_itself, keeps_then}
 use Rattle.laws_store.proofs.CallSteps.{kept_then}
 use Rattle.palm_store.proofs.EntriesHere.{count_fits}
 use Rattle.palm_store.proofs.OpenedEntries.{here}
@@ -15,6 +16,7 @@ loop-index-init c =
       within = omega arith;
       stands = c.requires.chunk;
       none_made = λ name there. there;
+      loan = keeps_itself c.args.store.now;
       rest = refl;
     }
 
@@ -67,6 +69,7 @@ loop-index-preserved c =
       within = omega (arith, count, below);
       stands = c.entry_free_data.ensures.stands;
       none_made = λ name there. c.loop-index.invariant.none_made name (c.entry_free_data.ensures.none_made name there);
+      loan = keeps_then c.args.store.now c.loop-index.store c.entry_free_data.new.self c.loop-index.invariant.loan c.entry_free_data.ensures.loan;
       rest = kept_then c.args.store.now c.loop-index.store c.entry_free_data.new.self c.loop-index.invariant.rest c.entry_free_data.ensures.rest;
     }
 

@@ -1,5 +1,6 @@
 -- Of the records in front of where the search goes on those of the category are deleted, and nothing else has changed.
 use Rattle.std.proofs.Common.{◌≡◌, ◌≤◌, ◌-◌, length}
+use Rattle.heap_model.specs.Lending.{KeepsLoan}
 use Rattle.heap_model.specs.Store.{store_of}
 use Rattle.heap_model.specs.EntrySteps.{entries_in, MakesNone}
 use Rattle.palm_store.specs.Found.{StandsAs}
@@ -12,6 +13,7 @@ invariant-loop-index l = record {
   within : l.from ≤ length (entries_in (store_of l.initial.store.bytes) l.db);
   stands : StandsAs l.store.bytes l.db.0 l.chunk;
   none_made : MakesNone l.initial.store.bytes l.store.bytes;
+  loan : KeepsLoan l.initial.store l.store;
   rest : l.store ≡ record l.initial.store { bytes = l.store.bytes };
 }
 

@@ -28,4 +28,4 @@ returns-clause-does c =
     let no : is_busy c.in_ok-live.live.attributes ≡ false = sym c.is_busy.ensures ∙ c.if-is_busy.false in
     absurd cc) in
     changes c.args.store.now c.mark.new.store (calls.Record (Get c.args.db c.args.index)) (Named c.in_ok-live.live.«data») _ (λ slots. refl) found.accepted leaves
-    ((none.0, (none.1.0, (none.1.1.0, (none.1.1.1.0, (free, tt))))), (sym (ap data_of_entry is), leaves.same)) tt c.mark.ensures.rest
+    ((none.0, (none.1.0, (none.1.1.0, (none.1.1.1.0, (free, tt))))), (sym (ap data_of_entry is), leaves.same)) c.mark.ensures.loan tt c.mark.ensures.rest

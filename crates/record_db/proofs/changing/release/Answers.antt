@@ -28,4 +28,4 @@ returns-clause-does c =
     let is = info_is (entry_under (store_of c.args.store.now.bytes) c.args.db c.args.index) c.in_ok-found.found.info found.is in
     let leaves = attributes_set false c.args.store.now.bytes c.entry_set.new.self.bytes c.args.db c.args.index c.in_ok-found.found.info.attributes c.in_ok-found.found.info.id is.0 c.released.result (released c.args.dirty)
     found.accepted found.known is.1 c.released.ensures c.entry_set.ensures.set in
-    changes c.args.store.now c.entry_set.new.self (calls.Record (Release c.args.db c.args.index c.args.dirty)) Done _ (λ slots. refl) found.accepted leaves (found.passes, (tt, leaves.same)) tt c.entry_set.ensures.rest
+    changes c.args.store.now c.entry_set.new.self (calls.Record (Release c.args.db c.args.index c.args.dirty)) Done _ (λ slots. refl) found.accepted leaves (found.passes, (tt, leaves.same)) c.entry_set.ensures.loan tt c.entry_set.ensures.rest

@@ -33,7 +33,7 @@ returns-clause-does c =
     let locked = locked_data c.args.store.now.bytes c.args.db c.args.index c.in_ok-found.found.info found.accepted found.is in
     let leaves = c.entry_drop.ensures.dropped in
     changes c.args.store.now c.entry_drop.new.self (calls.Record (Remove c.args.db c.args.index)) Done _ (λ slots. refl) found.accepted leaves
-    ((none.0, (none.1.0, (none.1.1.0, (none.1.1.1.0, ((λ is. (let yes = c.has_locked.ensures.1 (locked.0 is) in let no = c.if-has_locked.false in absurd cc)), tt))))), (tt, leaves.same)) tt refl
+    ((none.0, (none.1.0, (none.1.1.0, (none.1.1.1.0, ((λ is. (let yes = c.has_locked.ensures.1 (locked.0 is) in let no = c.if-has_locked.false in absurd cc)), tt))))), (tt, leaves.same)) c.entry_drop.ensures.loan tt c.entry_drop.ensures.rest
 
 pub returns-then-has_locked-clause-refused : goal.returns-then-has_locked-clause-refused
 returns-then-has_locked-clause-refused c = refl

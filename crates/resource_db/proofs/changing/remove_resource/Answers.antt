@@ -55,4 +55,4 @@ returns-clause-does c =
         ),
       ),
       (tt, leaves.same),
-    ) tt refl
+    ) c.entry_drop.ensures.loan tt c.entry_drop.ensures.rest

@@ -1,11 +1,11 @@
 use Rattle.std.proofs.Common.{inl, arith}
-use Rattle.laws_heap.proofs.Slots.{tiled_table}
+use Rattle.laws_heap.proofs.Slots.{tiled_table, whole_table}
 use Rattle.laws_store.proofs.Owners.{owned_slot}
 use Rattle.store_check.proofs.LookupLaws.{managers_held, held_chunk, body_found, is_some_matched, matched_value}
 use Rattle.store_check.proofs.lookup.body_under.Goals as goal
 
 pub word_of-requires-clause-table : goal.word_of-requires-clause-table
-word_of-requires-clause-table c = tiled_table c.args.region.now.bytes c.requires.accepted.0 c.requires.accepted.1.tiles
+word_of-requires-clause-table c = whole_table c.args.region.now c.requires.whole (tiled_table c.args.region.now.bytes c.requires.accepted.0 c.requires.accepted.1.tiles)
 
 pub word_of-requires-clause-slot : goal.word_of-requires-clause-slot
 word_of-requires-clause-slot c = owned_slot c.args.region.now.bytes c.args.slot c.requires.accepted (inl c.requires.managers)

@@ -1,17 +1,16 @@
-use Rattle.std.proofs.Common.{ℕ, ◌≡◌, ◌+◌, length, replicate, ap, ◌∙◌, arith}
+use Rattle.std.proofs.Common.{ℕ, ◌+◌, replicate, ap, ◌∙◌, arith, subst, sym}
 use Rattle.heap_model.specs.Memory.{Memory}
 use Rattle.heap_model.specs.Bytes.{overwritten}
-use Rattle.heap_place.proofs.FoundLaws.{bytes_inside}
 use Rattle.heap_place.proofs.AlterLaws.{filled_there}
 use Rattle.heap_place.proofs.WithinLaws.{filled_lists}
+use Rattle.heap_model.specs.Memory.{IsWithin}
+use Rattle.heap_place.proofs.LentLaws.{one_body_within, one_written_lends}
+use Rattle.std.proofs.lemmas.List.{length-replicate}
 use Rattle.heap_place.proofs.KeptLaws.{viewed_kept}
 use Rattle.heap_place.proofs.space.Space.fill.Goals as goal
 
 pub fill-requires : goal.fill-requires
-fill-requires c =
-    let e = bytes_inside c.args.self.now.bytes c.args.found c.requires.accepted c.requires.found in
-    let within = c.requires.within in
-    let n : length c.self.inside.region.bytes ≡ length c.args.self.now.bytes = ap (λ (m : Memory). length m.bytes) c.self.view_is in omega arith
+fill-requires c = subst (λ (m : Memory). IsWithin m (c.args.found.place.0 + c.args.at) (c.args.count)) (sym c.self.view_is) (one_body_within c.args.self.now c.args.found c.args.at (c.args.count) c.requires.accepted c.requires.lent c.requires.found c.requires.other c.requires.within)
 
 pub returns-clause-made : goal.returns-clause-made
 returns-clause-made c =
@@ -29,3 +28,9 @@ invariant_of-self c = record {
   tables = viewed_kept c.args.self.now c.self.inside.region c.fill.new.self.bytes c.self.inside.tables c.self.view_is ((filled_there c.args.self.now.bytes c.fill.new.self.bytes c.args.found c.args.at c.args.count c.args.byte c.requires.accepted c.requires.found c.requires.within
       (ap (λ (m : Memory). m.bytes) c.fill.ensures.after ∙ ap (λ (m : Memory). overwritten m.bytes (c.args.found.place.0 + c.args.at) (replicate {A = ℕ} c.args.count c.args.byte)) c.self.view_is)).0).frame c.self.invariant.tables;
 }
+
+pub returns-clause-lent : goal.returns-clause-lent
+returns-clause-lent c =
+    let many = length-replicate c.args.count c.args.byte in
+    let within = c.requires.within in
+    one_written_lends c.args.self.now c.fill.new.self c.args.found c.args.at (replicate c.args.count c.args.byte) c.requires.accepted c.requires.lent (ap (λ (m : Memory). m.lent) c.fill.ensures.after ∙ (ap (λ (m : Memory). m.lent) c.self.view_is)) c.requires.found (returns-clause-made c) (omega (arith, many, within)) c.requires.other

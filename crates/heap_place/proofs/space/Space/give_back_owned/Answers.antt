@@ -1,10 +1,14 @@
-use Rattle.std.proofs.Common.{subst}
+use Rattle.std.proofs.Common.{sym, subst}
 use Rattle.heap_model.specs.Memory.{Memory}
+use Rattle.heap_model.specs.Lending.{LendsNoneOf}
 use Rattle.heap_model.specs.Layout.{Becomes, layout_of, owned_freed, WritesPlain}
 use Rattle.laws_heap.proofs.Plain.{plain_then}
 use Rattle.heap_place.proofs.GatherLaws.{becomes_twice}
 use Rattle.heap_place.proofs.KeptLaws.{viewed_kept}
 use Rattle.heap_place.proofs.space.Space.give_back_owned.Goals as goal
+
+pub release_owned-count-requires-clause-none_lent : goal.release_owned-count-requires-clause-none_lent
+release_owned-count-requires-clause-none_lent c = subst (λ (m : Memory). LendsNoneOf m c.args.owner) (sym c.self.view_is) c.requires.none_lent
 
 pub returns-clause-gone : goal.returns-clause-gone
 returns-clause-gone c =

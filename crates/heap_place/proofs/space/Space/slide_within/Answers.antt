@@ -1,22 +1,18 @@
-use Rattle.std.proofs.Common.{◌≡◌, length, ap, arith}
+use Rattle.std.proofs.Common.{◌≡◌, length, ap, arith, ◌∙◌, subst, sym, ◌+◌, ℕ, List, slice_range}
 use Rattle.heap_model.specs.Memory.{Memory}
 use Rattle.heap_place.proofs.FoundLaws.{bytes_inside}
 use Rattle.heap_place.proofs.AlterLaws.{slid_there}
 use Rattle.heap_place.proofs.WithinLaws.{slid_lists}
+use Rattle.heap_model.specs.Memory.{IsWithin}
+use Rattle.heap_place.proofs.LentLaws.{one_body_within, one_written_lends, length-slice}
 use Rattle.heap_place.proofs.KeptLaws.{viewed_kept}
 use Rattle.heap_place.proofs.space.Space.slide_within.Goals as goal
 
 pub slide-requires-clause-from : goal.slide-requires-clause-from
-slide-requires-clause-from c =
-    let e = bytes_inside c.args.self.now.bytes c.args.found c.requires.accepted c.requires.found in
-    let within = c.requires.from_within in
-    let n : length c.self.inside.region.bytes ≡ length c.args.self.now.bytes = ap (λ (m : Memory). length m.bytes) c.self.view_is in omega arith
+slide-requires-clause-from c = subst (λ (m : Memory). IsWithin m (c.args.found.place.0 + c.args.from) (c.args.count)) (sym c.self.view_is) (one_body_within c.args.self.now c.args.found c.args.from (c.args.count) c.requires.accepted c.requires.lent c.requires.found c.requires.other c.requires.from_within)
 
 pub slide-requires-clause-to : goal.slide-requires-clause-to
-slide-requires-clause-to c =
-    let e = bytes_inside c.args.self.now.bytes c.args.found c.requires.accepted c.requires.found in
-    let within = c.requires.to_within in
-    let n : length c.self.inside.region.bytes ≡ length c.args.self.now.bytes = ap (λ (m : Memory). length m.bytes) c.self.view_is in omega arith
+slide-requires-clause-to c = subst (λ (m : Memory). IsWithin m (c.args.found.place.0 + c.args.to) (c.args.count)) (sym c.self.view_is) (one_body_within c.args.self.now c.args.found c.args.to (c.args.count) c.requires.accepted c.requires.lent c.requires.found c.requires.other c.requires.to_within)
 
 pub returns-clause-made : goal.returns-clause-made
 returns-clause-made c =
@@ -31,3 +27,12 @@ invariant_of-self c = record {
   lists = slid_lists c.args.self.now c.self.inside.region c.slide.new.self.bytes c.self.inside.heads c.args.found c.args.from c.args.to c.args.count c.self.view_is c.requires.accepted c.requires.found c.requires.from_within c.requires.to_within c.slide.ensures.bytes c.self.invariant.lists;
   tables = viewed_kept c.args.self.now c.self.inside.region c.slide.new.self.bytes c.self.inside.tables c.self.view_is ((slid_there c.args.self.now c.self.inside.region c.slide.new.self.bytes c.args.found c.args.from c.args.to c.args.count c.self.view_is c.requires.accepted c.requires.found c.requires.from_within c.requires.to_within c.slide.ensures.bytes).0).frame c.self.invariant.tables;
 }
+
+pub returns-clause-lent : goal.returns-clause-lent
+returns-clause-lent c =
+    let inside = bytes_inside c.args.self.now.bytes c.args.found c.requires.accepted c.requires.found in
+    let from = c.requires.from_within in
+    let to = c.requires.to_within in
+    let part : List ℕ = slice_range c.args.self.now.bytes (c.args.found.place.0 + c.args.from) (c.args.found.place.0 + c.args.from + c.args.count) in
+    let many : length part ≡ c.args.count = length-slice c.args.self.now.bytes (c.args.found.place.0 + c.args.from) c.args.count (omega (arith, inside, from)) in
+    one_written_lends c.args.self.now c.slide.new.self c.args.found c.args.to part c.requires.accepted c.requires.lent (c.slide.ensures.lent ∙ (ap (λ (m : Memory). m.lent) c.self.view_is)) c.requires.found (returns-clause-made c) (omega (arith, many, to)) c.requires.other

@@ -1,17 +1,15 @@
-use Rattle.std.proofs.Common.{◌≡◌, ◌+◌, length, ap, ◌∙◌, arith}
+use Rattle.std.proofs.Common.{◌+◌, length, ap, ◌∙◌, subst, sym}
 use Rattle.heap_model.specs.Memory.{Memory}
 use Rattle.heap_model.specs.Bytes.{overwritten}
-use Rattle.heap_place.proofs.FoundLaws.{bytes_inside}
 use Rattle.heap_place.proofs.AlterLaws.{written_there}
 use Rattle.heap_place.proofs.WithinLaws.{body_lists}
+use Rattle.heap_model.specs.Memory.{IsWithin}
+use Rattle.heap_place.proofs.LentLaws.{one_body_within, one_written_lends}
 use Rattle.heap_place.proofs.KeptLaws.{viewed_kept}
 use Rattle.heap_place.proofs.space.Space.write.Goals as goal
 
 pub write-requires : goal.write-requires
-write-requires c =
-    let e = bytes_inside c.args.self.now.bytes c.args.found c.requires.accepted c.requires.found in
-    let within = c.requires.within in
-    let n : length c.self.inside.region.bytes ≡ length c.args.self.now.bytes = ap (λ (m : Memory). length m.bytes) c.self.view_is in omega arith
+write-requires c = subst (λ (m : Memory). IsWithin m (c.args.found.place.0 + c.args.at) (length c.args.bytes.now)) (sym c.self.view_is) (one_body_within c.args.self.now c.args.found c.args.at (length c.args.bytes.now) c.requires.accepted c.requires.lent c.requires.found c.requires.other c.requires.within)
 
 pub returns-clause-made : goal.returns-clause-made
 returns-clause-made c =
@@ -29,3 +27,6 @@ invariant_of-self c = record {
   tables = viewed_kept c.args.self.now c.self.inside.region c.write.new.self.bytes c.self.inside.tables c.self.view_is ((written_there c.args.self.now.bytes c.write.new.self.bytes c.args.found c.args.at c.args.bytes.now c.requires.accepted c.requires.found c.requires.within
       (ap (λ (m : Memory). m.bytes) c.write.ensures.after ∙ ap (λ (m : Memory). overwritten m.bytes (c.args.found.place.0 + c.args.at) c.args.bytes.now) c.self.view_is)).0).frame c.self.invariant.tables;
 }
+
+pub returns-clause-lent : goal.returns-clause-lent
+returns-clause-lent c = one_written_lends c.args.self.now c.write.new.self c.args.found c.args.at c.args.bytes.now c.requires.accepted c.requires.lent (ap (λ (m : Memory). m.lent) c.write.ensures.after ∙ (ap (λ (m : Memory). m.lent) c.self.view_is)) c.requires.found (returns-clause-made c) c.requires.within c.requires.other

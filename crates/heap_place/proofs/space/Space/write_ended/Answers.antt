@@ -1,24 +1,24 @@
-use Rattle.std.proofs.Common.{◌≡◌, ◌+◌, length, ap, ◌∙◌, arith}
+use Rattle.std.proofs.Common.{◌≡◌, ◌+◌, length, ap, ◌∙◌, arith, subst, sym, ℕ, ◌++◌, [], ◌∷◌, length-append}
 use Rattle.heap_model.specs.Memory.{Memory}
 use Rattle.heap_model.specs.Bytes.{overwritten}
-use Rattle.heap_place.proofs.FoundLaws.{bytes_inside}
 use Rattle.heap_place.proofs.AlterLaws.{ended_there}
 use Rattle.heap_place.proofs.WithinLaws.{ended_lists}
+use Rattle.heap_model.specs.Memory.{IsWithin}
+use Rattle.heap_place.proofs.LentLaws.{one_body_within, one_written_lends}
+use Rattle.laws_heap.proofs.LentBodies.{still_within}
 use Rattle.heap_place.proofs.KeptLaws.{viewed_kept}
 use Rattle.heap_place.proofs.space.Space.write_ended.Goals as goal
 
 pub write-requires : goal.write-requires
-write-requires c =
-    let e = bytes_inside c.args.self.now.bytes c.args.found c.requires.accepted c.requires.found in
-    let within = c.requires.within in
-    let n : length c.self.inside.region.bytes ≡ length c.args.self.now.bytes = ap (λ (m : Memory). length m.bytes) c.self.view_is in omega arith
+write-requires c = let within = c.requires.within in subst (λ (m : Memory). IsWithin m (c.args.found.place.0 + c.args.at) (length c.args.bytes.now)) (sym c.self.view_is) (one_body_within c.args.self.now c.args.found c.args.at (length c.args.bytes.now) c.requires.accepted c.requires.lent c.requires.found c.requires.other (omega (arith, within)))
 
 pub fill-requires : goal.fill-requires
 fill-requires c =
-    let e = bytes_inside c.args.self.now.bytes c.args.found c.requires.accepted c.requires.found in
     let within = c.requires.within in
-    let n : length c.self.inside.region.bytes ≡ length c.args.self.now.bytes = ap (λ (m : Memory). length m.bytes) c.self.view_is in
-    let len = c.write.ensures.len in omega arith
+    let e : c.args.found.place.0 + (c.args.at + length c.args.bytes.now) ≡ c.args.found.place.0 + c.args.at + length c.args.bytes.now = omega arith in
+    still_within c.args.self.now c.write.new.self (c.args.found.place.0 + c.args.at + length c.args.bytes.now) 1
+    (subst (λ (n : ℕ). IsWithin c.args.self.now n 1) e (one_body_within c.args.self.now c.args.found (c.args.at + length c.args.bytes.now) 1 c.requires.accepted c.requires.lent c.requires.found c.requires.other (omega (arith, within))))
+    (ap (λ (m : Memory). m.lent) c.write.ensures.after ∙ (ap (λ (m : Memory). m.lent) c.self.view_is)) (c.write.ensures.len ∙ ap (λ (m : Memory). length m.bytes) c.self.view_is)
 
 pub returns-clause-made : goal.returns-clause-made
 returns-clause-made c =
@@ -39,3 +39,9 @@ invariant_of-self c = record {
       (ap (λ (m : Memory). m.bytes) c.write.ensures.after ∙ ap (λ (m : Memory). overwritten m.bytes (c.args.found.place.0 + c.args.at) c.args.bytes.now) c.self.view_is)
       (ap (λ (m : Memory). m.bytes) c.fill.ensures.after)).0).frame c.self.invariant.tables;
 }
+
+pub returns-clause-lent : goal.returns-clause-lent
+returns-clause-lent c =
+    let within = c.requires.within in
+    let many = length-append c.args.bytes.now (0 ∷ []) in
+    one_written_lends c.args.self.now c.fill.new.self c.args.found c.args.at (c.args.bytes.now ++ 0 ∷ []) c.requires.accepted c.requires.lent (ap (λ (m : Memory). m.lent) c.fill.ensures.after ∙ ap (λ (m : Memory). m.lent) c.write.ensures.after ∙ (ap (λ (m : Memory). m.lent) c.self.view_is)) c.requires.found (returns-clause-made c) (omega (arith, many, within)) c.requires.other

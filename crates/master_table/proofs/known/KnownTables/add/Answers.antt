@@ -1,5 +1,6 @@
 use Rattle.std.proofs.Common.{arith}
 use Rattle.master_table.proofs.FurtherLaws.{further_stands, further_long, table_live, knows_more}
+use Rattle.master_table.proofs.LentLaws.{further_reads}
 use Rattle.master_table.proofs.known.KnownTables.add.Goals as goal
 
 pub overflow_sub-place : goal.overflow_sub-place
@@ -7,6 +8,9 @@ overflow_sub-place c = (further_stands c.args.region.now.bytes c.args.place c.re
 
 pub live_fields-requires-clause-live : goal.live_fields-requires-clause-live
 live_fields-requires-clause-live c = let s = further_stands c.args.region.now.bytes c.args.place c.requires.tiled c.requires.table in table_live c.args.region.now.bytes c.args.place s.0 s.1
+
+pub live_fields-requires-clause-misses : goal.live_fields-requires-clause-misses
+live_fields-requires-clause-misses c = (further_reads c.args.region.now c.args.place c.requires.tiled c.requires.lent c.requires.table).header.misses
 
 pub returns-then-live_fields-ge-TABLE_LENGTH : goal.returns-then-live_fields-ge-TABLE_LENGTH
 returns-then-live_fields-ge-TABLE_LENGTH c =

@@ -1,5 +1,6 @@
 use Rattle.std.proofs.Common.{refl, sym, ◌∙◌, arith}
 use Rattle.master_table.proofs.RowLaws.{further_start, first_start, start_stands, start_row, has_live}
+use Rattle.master_table.proofs.LentLaws.{next_reads}
 use Rattle.master_table.proofs.slots.Row.at.Goals as goal
 
 pub returns-then-start-eq0-clause-start : goal.returns-then-start-eq0-clause-start
@@ -14,6 +15,11 @@ pub live_fields-fields-requires-clause-live : goal.live_fields-fields-requires-c
 live_fields-fields-requires-clause-live c =
     let s = further_start c.args.region.now.bytes c.args.start.place c.args.start.before c.requires.start c.if-start-eq0.false in
     has_live c.args.region.now.bytes c.args.start.place (start_stands c.args.region.now.bytes c.args.start.place c.args.start.before c.requires.tiled s).next
+
+pub live_fields-fields-requires-clause-misses : goal.live_fields-fields-requires-clause-misses
+live_fields-fields-requires-clause-misses c =
+    let s = further_start c.args.region.now.bytes c.args.start.place c.args.start.before c.requires.start c.if-start-eq0.false in
+    (next_reads c.args.region.now c.args.start.place c.requires.tiled c.requires.lent (start_stands c.args.region.now.bytes c.args.start.place c.args.start.before c.requires.tiled s).next).header.misses
 
 pub overflow_add-result : goal.overflow_add-result
 overflow_add-result c =
@@ -33,7 +39,7 @@ overflow_sub-result c =
 pub get_u32-requires : goal.get_u32-requires
 get_u32-requires c =
     let s = further_start c.args.region.now.bytes c.args.start.place c.args.start.before c.requires.start c.if-start-eq0.false in
-    (start_stands c.args.region.now.bytes c.args.start.place c.args.start.before c.requires.tiled s).next.stands.inside
+    (next_reads c.args.region.now c.args.start.place c.requires.tiled c.requires.lent (start_stands c.args.region.now.bytes c.args.start.place c.args.start.before c.requires.tiled s).next).next
 
 pub returns-clause-row : goal.returns-clause-row
 returns-clause-row c =

@@ -1,5 +1,6 @@
 use Rattle.std.proofs.Common.{arith, refl}
 use Rattle.master_table.proofs.RowLaws.{row_bounds, next_stands, has_live, row_behind}
+use Rattle.master_table.proofs.LentLaws.{next_reads}
 use Rattle.master_table.proofs.slots.Row.behind.Goals as goal
 
 pub overflow_sub-self : goal.overflow_sub-self
@@ -7,6 +8,9 @@ overflow_sub-self c = (next_stands c.args.region.now.bytes c.args.self c.require
 
 pub live_fields-fields-requires-clause-live : goal.live_fields-fields-requires-clause-live
 live_fields-fields-requires-clause-live c = has_live c.args.region.now.bytes c.args.self.next (next_stands c.args.region.now.bytes c.args.self c.requires.tiled c.requires.row c.requires.more)
+
+pub live_fields-fields-requires-clause-misses : goal.live_fields-fields-requires-clause-misses
+live_fields-fields-requires-clause-misses c = (next_reads c.args.region.now c.args.self.next c.requires.tiled c.requires.lent (next_stands c.args.region.now.bytes c.args.self c.requires.tiled c.requires.row c.requires.more)).header.misses
 
 pub overflow_add-result : goal.overflow_add-result
 overflow_add-result c =
@@ -30,7 +34,7 @@ overflow_add-result-2 c =
     omega arith
 
 pub get_u32-requires : goal.get_u32-requires
-get_u32-requires c = (next_stands c.args.region.now.bytes c.args.self c.requires.tiled c.requires.row c.requires.more).stands.inside
+get_u32-requires c = (next_reads c.args.region.now c.args.self.next c.requires.tiled c.requires.lent (next_stands c.args.region.now.bytes c.args.self c.requires.tiled c.requires.row c.requires.more)).next
 
 pub returns : goal.returns
 returns c =

@@ -1,4 +1,4 @@
-use Rattle.std.proofs.Common.{◌≢◌, ◌+◌, refl, subst, arith}
+use Rattle.std.proofs.Common.{◌≡◌, ◌≢◌, ◌+◌, ◌<◌, refl, subst, ap, arith}
 use Rattle.heap_model.specs.Memory.{Memory}
 use Rattle.heap_model.specs.MemorySteps.{Does}
 use Rattle.heap_model.specs.declared.call.MemoryCall.TheVariants.{Lock}
@@ -6,20 +6,21 @@ use Rattle.heap_model.specs.declared.call.Reply.{Reply}
 use Rattle.heap_model.specs.declared.refusal.Refusal.{Refusal}
 use Rattle.mem_manager.proofs.StepWords.{handed_on, used_altered, one_of}
 use Rattle.mem_manager.proofs.ChunkCalls.{lock_fixed, lock_full, lock_small, relock_changes, locked}
+use Rattle.mem_manager.proofs.KnownLoans.{knows_changed}
 use Rattle.mem_manager.proofs.heap.Heap.lock.Goals as goal
 
 pub returns-in_err-check_movable : goal.returns-in_err-check_movable
 returns-in_err-check_movable c =
     handed_on (λ locked. Reply.Locked locked.place locked.count) c.from_residual-in_err-check_movable.result c.self.view_is (let e = c.from_residual-in_err-check_movable.ensures in (e.0, e.1)) c.in_err-check_movable.ensures.refusal
-    (lock_fixed c.self.inside.space c.args.name c.in_ok-found.found c.self.invariant.accepted c.in_ok-found.ensures.found c.in_ok-found.ensures.callers c.in_err-check_movable.ensures.err)
+    (lock_fixed c.self.inside.space c.args.name c.in_ok-found.found c.self.invariant.0.accepted c.in_ok-found.ensures.found c.in_ok-found.ensures.callers c.in_err-check_movable.ensures.err)
 
 pub returns-then-found-eq-MOST_LOCKS : goal.returns-then-found-eq-MOST_LOCKS
 returns-then-found-eq-MOST_LOCKS c =
-    subst (λ (m : Memory). Does m (Lock c.args.name) (Reply.Refused Refusal.LockOverflow) m) c.self.view_is (lock_full c.self.inside.space c.args.name c.in_ok-found.found c.self.invariant.accepted c.in_ok-found.ensures.found c.in_ok-found.ensures.callers c.if-found-eq-MOST_LOCKS.true)
+    subst (λ (m : Memory). Does m (Lock c.args.name) (Reply.Refused Refusal.LockOverflow) m) c.self.view_is (lock_full c.self.inside.space c.args.name c.in_ok-found.found c.self.invariant.0.accepted c.in_ok-found.ensures.found c.in_ok-found.ensures.callers c.if-found-eq-MOST_LOCKS.true)
 
 pub overflow_add-count : goal.overflow_add-count
 overflow_add-count c =
-    let most = lock_small c.self.inside.space.bytes c.args.name.0 c.in_ok-found.found c.self.invariant.accepted c.in_ok-found.ensures.found in
+    let most = lock_small c.self.inside.space.bytes c.args.name.0 c.in_ok-found.found c.self.invariant.0.accepted c.in_ok-found.ensures.found in
     let loose = c.in_ok-check_movable.ensures.ok in
     omega arith
 
@@ -28,24 +29,32 @@ relock-requires-clause-found c = one_of c.in_ok-found.ensures.found
 
 pub relock-requires-clause-movable : goal.relock-requires-clause-movable
 relock-requires-clause-movable c =
-    let most = lock_small c.self.inside.space.bytes c.args.name.0 c.in_ok-found.found c.self.invariant.accepted c.in_ok-found.ensures.found in
+    let most = lock_small c.self.inside.space.bytes c.args.name.0 c.in_ok-found.found c.self.invariant.0.accepted c.in_ok-found.ensures.found in
     let loose = c.in_ok-check_movable.ensures.ok in
     omega arith
 
 pub relock-requires-clause-lock : goal.relock-requires-clause-lock
 relock-requires-clause-lock c =
-    let most = lock_small c.self.inside.space.bytes c.args.name.0 c.in_ok-found.found c.self.invariant.accepted c.in_ok-found.ensures.found in
+    let most = lock_small c.self.inside.space.bytes c.args.name.0 c.in_ok-found.found c.self.invariant.0.accepted c.in_ok-found.ensures.found in
     let loose = c.in_ok-check_movable.ensures.ok in
     let few : c.in_ok-found.found.lock ≢ 14 = c.if-found-eq-MOST_LOCKS.false in
     omega arith
 
 pub invariant_of-self : goal.invariant_of-self
-invariant_of-self c =
-    let f = c.in_ok-found.ensures.found in
-    used_altered c.self.inside.space.bytes c.relock.new.self.bytes c.self.inside.used c.args.name.0 _ _ c.self.invariant (relock_changes c.self.inside.space.bytes c.relock.new.self.bytes c.args.name.0 c.in_ok-found.found (c.in_ok-found.found.lock + 1) c.self.invariant.accepted f c.in_ok-check_movable.ensures.ok c.relock.ensures.made)
+invariant_of-self c = (
+  let f = c.in_ok-found.ensures.found in
+      used_altered c.self.inside.space.bytes c.relock.new.self.bytes c.self.inside.used c.args.name.0 _ _ c.self.invariant.0 (relock_changes c.self.inside.space.bytes c.relock.new.self.bytes c.args.name.0 c.in_ok-found.found (c.in_ok-found.found.lock + 1) c.self.invariant.0.accepted f c.in_ok-check_movable.ensures.ok c.relock.ensures.made),
+  (let f = c.in_ok-found.ensures.found in
+      let caller = c.in_ok-found.ensures.callers in
+      let own = f.owner_is in
+      let more : 0 < c.in_ok-found.found.lock + 1 = omega arith in
+      knows_changed c.self.inside.space c.relock.new.self c.self.inside.lent c.args.name.0 c.in_ok-found.found _ c.self.invariant.0.accepted c.self.invariant.1 (ap (λ (m : Memory). m.lent) c.relock.ensures.rest) f
+      (relock_changes c.self.inside.space.bytes c.relock.new.self.bytes c.args.name.0 c.in_ok-found.found (c.in_ok-found.found.lock + 1) c.self.invariant.0.accepted f c.in_ok-check_movable.ensures.ok c.relock.ensures.made)
+      (λ none. let z : f.live.owner ≡ 0 = none in omega (arith, z, own, caller)) refl (λ locked. more)),
+)
 
 pub returns : goal.returns
 returns c =
     let f = c.in_ok-found.ensures.found in
     subst (λ (m : Memory). Does m (Lock c.args.name) (Reply.Locked c.in_ok-found.found.place (c.in_ok-found.found.lock + 1)) c.relock.new.self) c.self.view_is
-    (locked c.self.inside.space c.relock.new.self c.args.name c.in_ok-found.found (c.in_ok-found.found.lock + 1) c.self.invariant.accepted f c.in_ok-found.ensures.callers c.in_ok-check_movable.ensures.ok c.if-found-eq-MOST_LOCKS.false refl (relock_changes c.self.inside.space.bytes c.relock.new.self.bytes c.args.name.0 c.in_ok-found.found (c.in_ok-found.found.lock + 1) c.self.invariant.accepted f c.in_ok-check_movable.ensures.ok c.relock.ensures.made) c.relock.ensures.rest)
+    (locked c.self.inside.space c.relock.new.self c.args.name c.in_ok-found.found (c.in_ok-found.found.lock + 1) c.self.invariant.0.accepted f c.in_ok-found.ensures.callers c.in_ok-check_movable.ensures.ok c.if-found-eq-MOST_LOCKS.false refl (relock_changes c.self.inside.space.bytes c.relock.new.self.bytes c.args.name.0 c.in_ok-found.found (c.in_ok-found.found.lock + 1) c.self.invariant.0.accepted f c.in_ok-check_movable.ensures.ok c.relock.ensures.made) c.relock.ensures.rest)

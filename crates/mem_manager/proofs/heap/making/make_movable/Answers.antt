@@ -1,6 +1,4 @@
-use Rattle.std.proofs.Common.{◌≡◌, ◌+◌, Some, None, sym, ap, ◌∙◌, inl, inr}
-use Rattle.heap_model.specs.Memory.{Memory}
-use Rattle.heap_model.specs.Space.{free_slots}
+use Rattle.std.proofs.Common.{◌≡◌, ◌+◌, Some, None, sym, ◌∙◌, inl, inr}
 use Rattle.master_table.specs.declared.table.EmptySlot.{EmptySlot}
 use Rattle.mem_manager.proofs.NewChunks.{new_left, new_claimed, new_lowers, new_unheld, used_made, as_next, as_start, start_made}
 use Rattle.mem_manager.proofs.SlidChunks.{nothing_slides, once_then, first_slid, made_moves_nothing, nothing_then, one_stretch_then, itself_one}

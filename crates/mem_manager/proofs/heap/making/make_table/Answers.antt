@@ -25,7 +25,7 @@ returns-in_err-room-clause-does c =
 pub returns-clause-does : goal.returns-clause-does
 returns-clause-does c =
     let chained : is_chained c.args.space.now.bytes ≡ true = ap (λ (m : Memory). is_chained m.bytes) (sym c.region.ensures) ∙ sym c.is_chained.ensures ∙ c.if-not-is_chained.false in
-    more_made c.args.space.now c.room_for.new.space c.claim_table.new.self (c.in_ok-room.room.at + 8) c.requires.accepted
+    more_made c.args.space.now c.room_for.new.space c.claim_table.new.self (c.in_ok-room.room.at + 8) c.requires.accepted c.requires.lent
     (λ none. elim none [ inl plain ↦ false≢true (sym plain ∙ chained) | inr short ↦ c.in_ok-room.ensures.not_short short ])
     c.room_for.ensures.slides c.room_for.ensures.rest c.claim_table.ensures.made c.claim_table.ensures.rest
 

@@ -1,12 +1,9 @@
 use Rattle.std.proofs.Common.{◌≡◌, Some, None, sym, ◌∙◌, arith}
 use Rattle.heap_model.specs.Bytes.{u32_at}
-use Rattle.laws_heap.proofs.Slots.{slot_stands, tiled_table}
+use Rattle.laws_heap.proofs.Slots.{slot_stands}
 use Rattle.master_table.specs.declared.table.EmptySlot.{EmptySlot}
 use Rattle.master_table.proofs.CountLaws.{some_free}
 use Rattle.mem_manager.proofs.heap.making.next_empty_slot.Goals as goal
-
-pub word_of-requires-clause-table : goal.word_of-requires-clause-table
-word_of-requires-clause-table c = tiled_table c.args.region.now.bytes c.requires.accepted.0 c.requires.accepted.1.tiles
 
 some_slot : (s : EmptySlot) → Some s ≡ None → ⊥
 some_slot s e = absurd cc

@@ -6,6 +6,7 @@ use Rattle.heap_compact.specs.Resized.{IsLoose, Resized}
 use Rattle.heap_compact.proofs.ResizedLaws.{is_loose}
 use Rattle.laws_heap.proofs.Unmoved.{nothing_alone, itself_alone}
 use Rattle.mem_manager.proofs.Growth.{never_fits, growth_locked, growth_short, grown_passes, grown_leaves, grown_moves_nothing, moved_passes}
+use Rattle.mem_manager.proofs.KnownLoans.{other_not_lent}
 use Rattle.mem_manager.proofs.heap.moving.resize_found.Goals as goal
 
 pub returns-then-grow_in_place-clause-done : goal.returns-then-grow_in_place-clause-done
@@ -13,7 +14,7 @@ returns-then-grow_in_place-clause-done c =
     grown_leaves c.args.space.now c.grow_in_place.new.self c.args.found c.args.size c.grow_in_place.result c.requires.accepted c.requires.found c.grow_in_place.ensures.tells c.if-grow_in_place.true c.grow_in_place.ensures.made c.grow_in_place.ensures.rest
 
 pub returns-then-grow_in_place-clause-could : goal.returns-then-grow_in_place-clause-could
-returns-then-grow_in_place-clause-could c = grown_passes c.args.space.now.bytes c.args.found c.args.size c.grow_in_place.result c.requires.accepted c.requires.found c.requires.movable c.grow_in_place.ensures.tells c.if-grow_in_place.true
+returns-then-grow_in_place-clause-could c = grown_passes c.args.space.now c.args.found c.args.size c.grow_in_place.result c.requires.accepted c.requires.found (other_not_lent c.args.space.now c.args.found c.requires.accepted c.requires.found c.requires.other) c.requires.movable c.grow_in_place.ensures.tells c.if-grow_in_place.true
 
 pub returns-then-grow_in_place-clause-unmoved : goal.returns-then-grow_in_place-clause-unmoved
 returns-then-grow_in_place-clause-unmoved c fits =
@@ -26,7 +27,7 @@ returns-then-grow_in_place-clause-one_stretch c =
 
 pub returns-then-found-gt0-clause-why : goal.returns-then-found-gt0-clause-why
 returns-then-found-gt0-clause-why c =
-    growth_locked c.args.space.now.bytes c.args.found c.args.size c.grow_in_place.result c.requires.accepted c.requires.found c.requires.movable c.if-found-gt0.true c.grow_in_place.ensures.tells c.if-grow_in_place.false
+    growth_locked c.args.space.now c.args.found c.args.size c.grow_in_place.result c.requires.accepted c.requires.found (other_not_lent c.args.space.now c.args.found c.requires.accepted c.requires.found c.requires.other) c.requires.movable c.if-found-gt0.true c.grow_in_place.ensures.tells c.if-grow_in_place.false
 
 pub returns-then-found-gt0-clause-one_stretch : goal.returns-then-found-gt0-clause-one_stretch
 returns-then-found-gt0-clause-one_stretch c =
@@ -40,7 +41,7 @@ resize_by_moving-requires-clause-loose c =
 pub returns-then-not-resize_by_moving-clause-why : goal.returns-then-not-resize_by_moving-clause-why
 returns-then-not-resize_by_moving-clause-why c =
     let none : c.args.found.lock ≡ 0 = let low = c.if-found-gt0.false in omega arith in
-    growth_short c.args.space.now.bytes c.args.found c.args.size c.grow_in_place.result c.requires.accepted c.requires.found c.requires.movable none c.grow_in_place.ensures.tells c.if-grow_in_place.false
+    growth_short c.args.space.now c.args.found c.args.size c.grow_in_place.result c.requires.accepted c.requires.found (other_not_lent c.args.space.now c.args.found c.requires.accepted c.requires.found c.requires.other) c.requires.movable none c.grow_in_place.ensures.tells c.if-grow_in_place.false
     (subst (λ (m : Memory). ShortFor m.bytes c.args.found.name.0 (need c.args.size)) c.if-grow_in_place.ensures.refused c.if-not-resize_by_moving.ensures.short)
 
 pub returns-then-not-resize_by_moving-clause-one_stretch : goal.returns-then-not-resize_by_moving-clause-one_stretch
@@ -53,7 +54,7 @@ returns-clause-done c = subst (λ (m : Memory). Resized m.bytes c.resize_by_movi
 pub returns-clause-could : goal.returns-clause-could
 returns-clause-could c =
     let none : c.args.found.lock ≡ 0 = let low = c.if-found-gt0.false in omega arith in
-    moved_passes c.args.space.now.bytes c.args.found c.args.size c.requires.accepted c.requires.found none
+    moved_passes c.args.space.now c.args.found c.args.size c.requires.accepted c.requires.found (other_not_lent c.args.space.now c.args.found c.requires.accepted c.requires.found c.requires.other) none
     (λ short. c.if-not-resize_by_moving.ensures.not_short (subst (λ (m : Memory). ShortFor m.bytes c.args.found.name.0 (need c.args.size)) (sym c.if-grow_in_place.ensures.refused) short))
 
 pub returns-clause-unmoved : goal.returns-clause-unmoved

@@ -2,6 +2,7 @@
 use Rattle.palm_store.proofs.GivenData.{given, given_kept, given_movable, given_no_directory, written_then_owned, owned_none}
 use Rattle.palm_store.proofs.InfoBlocks.{set_block_steps}
 use Rattle.laws_store.proofs.Numbered.{accepted_spells}
+use Rattle.laws_heap.proofs.KeptLoans.{keeps_then}
 use Rattle.palm_store.proofs.databases.blocks.give_block.Goals as goal
 
 pub write_block-requires-clause-spells : goal.write_block-requires-clause-spells
@@ -26,3 +27,6 @@ returns-clause-none_made c =
     let g = given c.args.heap.now.bytes c.args.name.0 c.requires.given in
     owned_none c.args.heap.now.bytes c.sys_set_owner.new.self.bytes c.args.db.0 c.args.name.0 15 _ g.live c.requires.accepted c.requires.number g.there
     (written_then_owned c.args.heap.now.bytes c.write_block.new.heap.bytes c.sys_set_owner.new.self.bytes c.args.db.0 c.args.name.0 15 _ c.write_block.ensures.written c.sys_set_owner.ensures.leaves)
+
+pub returns-clause-loan : goal.returns-clause-loan
+returns-clause-loan c = keeps_then c.args.heap.now c.write_block.new.heap c.sys_set_owner.new.self c.write_block.ensures.loan c.sys_set_owner.ensures.loan

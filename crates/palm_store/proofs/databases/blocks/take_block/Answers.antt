@@ -3,6 +3,7 @@ use Rattle.palm_store.proofs.DataChunks.{for_data}
 use Rattle.palm_store.proofs.GivenData.{written_then_owned, owned_none}
 use Rattle.palm_store.proofs.InfoBlocks.{is_block, block_movable, block_no_directory, take_block_steps}
 use Rattle.laws_store.proofs.Numbered.{accepted_spells}
+use Rattle.laws_heap.proofs.KeptLoans.{keeps_then}
 use Rattle.palm_store.proofs.databases.blocks.take_block.Goals as goal
 
 pub write_block-requires-clause-spells : goal.write_block-requires-clause-spells
@@ -30,3 +31,6 @@ returns-clause-none_made c =
     let chunk = for_data c.args.heap.now.bytes c.args.found.name.0 block.own in
     owned_none c.args.heap.now.bytes c.sys_set_owner.new.self.bytes c.args.db.0 c.args.found.name.0 c.args.owner _ chunk.live c.requires.accepted c.requires.number chunk.there
     (written_then_owned c.args.heap.now.bytes c.write_block.new.heap.bytes c.sys_set_owner.new.self.bytes c.args.db.0 c.args.found.name.0 c.args.owner _ c.write_block.ensures.written c.sys_set_owner.ensures.leaves)
+
+pub returns-clause-loan : goal.returns-clause-loan
+returns-clause-loan c = keeps_then c.args.heap.now c.write_block.new.heap c.sys_set_owner.new.self c.write_block.ensures.loan c.sys_set_owner.ensures.loan

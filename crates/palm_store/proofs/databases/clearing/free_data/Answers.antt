@@ -4,11 +4,13 @@ use Rattle.heap_model.specs.Database.{IsSpelled, database_in, data_in}
 use Rattle.laws_store.proofs.CallSteps.{kept_then}
 use Rattle.mem_manager.proofs.StoreCalls.{stands_still}
 use Rattle.palm_store.proofs.Numbers.{number_spelled}
-use Rattle.palm_store.proofs.NamedChunks.{freed_none, freed_one, freed_next, named_at, header_held, header_like, slot_left, slot_other}
+use Rattle.palm_store.proofs.NamedChunks.{freed_none, freed_one, freed_next, named_at, header_held, header_owner, header_like, slot_left, slot_unlocked, slot_other}
+use Rattle.laws_heap.proofs.KeptLoans.{keeps_itself, keeps_then}
+use Rattle.palm_store.proofs.Loans.{managers_here}
 use Rattle.palm_store.proofs.databases.clearing.free_data.Goals as goal
 
 pub loop-index-init : goal.loop-index-init
-loop-index-init c = record { leaves = freed_none c.args.heap.now.bytes c.requires.accepted.heap; stands = c.requires.chunk; rest = refl }
+loop-index-init c = record { leaves = freed_none c.args.heap.now.bytes c.requires.accepted.heap; stands = c.requires.chunk; loan = keeps_itself c.args.heap.now; rest = refl }
 
 pub slot_at-slot-requires-clause-spelled : goal.slot_at-slot-requires-clause-spelled
 slot_at-slot-requires-clause-spelled c =
@@ -28,6 +30,12 @@ free_chunk_of-requires-clause-movable c some =
     (c.sys_body_found.ensures ∙ header_like c.args.heap.now.bytes c.loop-index.heap.bytes c.args.db.0 c.loop-index.index c.requires.accepted c.requires.number c.loop-index.invariant.leaves) c.slot_count-count.ensures c.loop-index-test.true c.slot_at-slot.ensures in
     slot_left c.args.heap.now.bytes c.loop-index.heap.bytes c.args.db.0 c.loop-index.index c.slot_at-slot.result.0 c.requires.accepted c.requires.number c.loop-index.invariant.leaves at some
 
+pub free_chunk_of-requires-clause-unlocked : goal.free_chunk_of-requires-clause-unlocked
+free_chunk_of-requires-clause-unlocked c some =
+    let at = named_at c.args.heap.now.bytes c.header_in.result.now c.sys_body_found.result.now c.args.db.0 c.loop-index.index c.slot_count-count.result c.slot_at-slot.result.0 c.header_in.ensures.is
+    (c.sys_body_found.ensures ∙ header_like c.args.heap.now.bytes c.loop-index.heap.bytes c.args.db.0 c.loop-index.index c.requires.accepted c.requires.number c.loop-index.invariant.leaves) c.slot_count-count.ensures c.loop-index-test.true c.slot_at-slot.ensures in
+    slot_unlocked c.args.heap.now.bytes c.loop-index.heap.bytes c.args.db.0 c.loop-index.index c.slot_at-slot.result.0 c.requires.accepted c.requires.number c.loop-index.invariant.leaves at c.requires.unlocked some
+
 pub free_chunk_of-requires-clause-no_directory : goal.free_chunk_of-requires-clause-no_directory
 free_chunk_of-requires-clause-no_directory c some directory =
     let at = named_at c.args.heap.now.bytes c.header_in.result.now c.sys_body_found.result.now c.args.db.0 c.loop-index.index c.slot_count-count.result c.slot_at-slot.result.0 c.header_in.ensures.is
@@ -44,5 +52,9 @@ loop-index-preserved c =
       stands = stands_still c.loop-index.heap.bytes c.free_chunk_of.new.heap.bytes c.args.db.0 c.args.chunk c.loop-index.invariant.leaves.frame.accepted next.frame.accepted c.loop-index.invariant.stands
           (header_held c.args.heap.now.bytes c.free_chunk_of.new.heap.bytes c.args.db.0 (c.loop-index.index + 1) c.requires.accepted c.requires.number next
           ∙ sym (header_held c.args.heap.now.bytes c.loop-index.heap.bytes c.args.db.0 c.loop-index.index c.requires.accepted c.requires.number c.loop-index.invariant.leaves)) c.free_chunk_of.ensures.unmoved;
+      loan = keeps_then c.args.heap.now c.loop-index.heap c.free_chunk_of.new.heap c.loop-index.invariant.loan c.free_chunk_of.ensures.loan;
       rest = kept_then c.args.heap.now c.loop-index.heap c.free_chunk_of.new.heap c.loop-index.invariant.rest c.free_chunk_of.ensures.rest;
     }
+
+pub sys_body_found-requires-clause-here : goal.sys_body_found-requires-clause-here
+sys_body_found-requires-clause-here c = managers_here c.loop-index.heap c.args.db.0 (header_owner c.args.heap.now.bytes c.loop-index.heap.bytes c.args.db.0 c.loop-index.index c.requires.accepted c.requires.number c.loop-index.invariant.leaves)

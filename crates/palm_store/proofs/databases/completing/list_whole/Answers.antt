@@ -1,8 +1,11 @@
 -- The header's chunk is made, then the data, and then the slot is listed; or all of it is freed again.
-use Rattle.std.proofs.Common.{sym, subst, ◌≤◌, ◌∙◌, List, length, ℕ}
+use Rattle.std.proofs.Common.{refl, sym, subst, ◌≤◌, ◌∙◌, List, length, ℕ}
 use Rattle.palm_store.specs.WholeDatabases.{data_sizes, numbers_in}
 use Rattle.palm_store.proofs.ListedSlots.{few_bytes, made_directory, made_movable, fresh_apart}
 use Rattle.palm_store.proofs.WholeChunks.{no_rest_room, listed_whole}
+use Rattle.palm_store.proofs.ListedSlots.{made_here}
+use Rattle.palm_store.proofs.Loans.{owned_here}
+use Rattle.laws_heap.proofs.KeptLoans.{keeps_then}
 use Rattle.palm_store.proofs.databases.completing.list_whole.Goals as goal
 
 pub make_data_and_list-requires-clause-few : goal.make_data_and_list-requires-clause-few
@@ -25,3 +28,10 @@ returns-in-Err-clause-no_room c =
 pub returns-clause-lists : goal.returns-clause-lists
 returns-clause-lists c =
     listed_whole c.args.heap.now.bytes c.sys_new.new.self.bytes c.make_data_and_list.new.heap.bytes c.in_ok-slot.slot.0 c.args.size (data_sizes c.args.blocks c.args.entries.now) (numbers_in c.make_data_and_list.new.names) c.requires.accepted.heap c.in_ok-slot.ensures.made c.in_default.ensures.lists
+
+pub sys_free-requires-clause-here : goal.sys_free-requires-clause-here
+sys_free-requires-clause-here c =
+    owned_here c.make_data_and_list.new.heap c.in_ok-slot.slot.0 _ (c.in-Err.ensures.refused.map c.in_ok-slot.slot.0 ∙ made_here c.args.heap.now.bytes c.sys_new.new.self.bytes c.in_ok-slot.slot.0 c.args.size c.in_ok-slot.ensures.made) refl
+
+pub returns-clause-loan : goal.returns-clause-loan
+returns-clause-loan c = keeps_then c.args.heap.now c.sys_new.new.self c.make_data_and_list.new.heap c.sys_new.ensures.loan c.make_data_and_list.ensures.loan

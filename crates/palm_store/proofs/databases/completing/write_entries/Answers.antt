@@ -6,10 +6,13 @@ use Rattle.db_format.specs.EitherEntry.{entry_of}
 use Rattle.laws_store.proofs.CallSteps.{kept_then}
 use Rattle.palm_store.specs.WholeDatabases.{numbers_in}
 use Rattle.palm_store.proofs.WholeBytes.{writes_none, entry_at, writes_inside, writes_more, writes_all, writes_fits}
+use Rattle.laws_heap.proofs.KeptLoans.{keeps_itself, keeps_then}
+use Rattle.palm_store.proofs.WholeBytes.{body_now}
+use Rattle.palm_store.proofs.Loans.{managers_here}
 use Rattle.palm_store.proofs.databases.completing.write_entries.Goals as goal
 
 pub loop-index-init : goal.loop-index-init
-loop-index-init c = record { writes = writes_none c.args.heap.now.bytes c.args.slot.0 c.args.resources c.args.entries.now (numbers_in c.args.names.now) c.requires.heap c.requires.owner; stands = c.requires.stands; rest = refl }
+loop-index-init c = record { writes = writes_none c.args.heap.now.bytes c.args.slot.0 c.args.resources c.args.entries.now (numbers_in c.args.names.now) c.requires.heap c.requires.owner; stands = c.requires.stands; loan = keeps_itself c.args.heap.now; rest = refl }
 
 pub sys_write-requires-clause-within : goal.sys_write-requires-clause-within
 sys_write-requires-clause-within c =
@@ -32,6 +35,7 @@ loop-index-preserved c =
       writes = writes_more c.args.heap.now.bytes c.loop-index.heap.bytes c.sys_write.new.self.bytes c.args.slot.0 c.args.resources c.args.entries.now (numbers_in c.args.names.now) c.loop-index.index (entry_of c.named_entry-entry.result) c.entry_offset-at.result c.as_slice.result.now
           c.requires.heap c.requires.owner c.requires.body c.loop-index.invariant.writes at c.entry_offset-at.ensures (c.as_slice.ensures ∙ c.to_bytes.ensures.is) c.sys_write.ensures.leaves;
       stands = c.sys_write.ensures.stands;
+      loan = keeps_then c.args.heap.now c.loop-index.heap c.sys_write.new.self c.loop-index.invariant.loan c.sys_write.ensures.loan;
       rest = kept_then c.args.heap.now c.loop-index.heap c.sys_write.new.self c.loop-index.invariant.rest c.sys_write.ensures.rest;
     }
 
@@ -46,3 +50,6 @@ returns-clause-fits c =
     let most = c.loop-index.auto.index-end in
     let least = c.loop-index-test.false in
     writes_fits c.args.heap.now.bytes c.loop-index.heap.bytes c.args.slot.0 c.args.resources c.args.entries.now (numbers_in c.args.names.now) c.loop-index.index c.loop-index.invariant.writes (omega (arith, most, least))
+
+pub sys_write-requires-clause-here : goal.sys_write-requires-clause-here
+sys_write-requires-clause-here c = managers_here c.loop-index.heap c.args.slot.0 (body_now c.args.heap.now.bytes c.loop-index.heap.bytes c.args.slot.0 _ c.requires.owner c.loop-index.invariant.writes.leaves).owner

@@ -1,6 +1,7 @@
 -- The entries that were passed are written behind the header, and nothing else has changed.
 use Rattle.palm_store.proofs.WholeBytes.{Writes}
 use Rattle.std.proofs.Common.{◌≡◌}
+use Rattle.heap_model.specs.Lending.{KeepsLoan}
 use Rattle.mem_manager.specs.Lookup.{StandsAs}
 use Rattle.palm_store.specs.WholeDatabases.{numbers_in}
 use Rattle.palm_store.proofs.databases.completing.write_entries.Given as goal
@@ -9,5 +10,6 @@ abbrev pub invariant-loop-index : goal.invariant-loop-index
 invariant-loop-index l = record {
   writes : Writes l.fn.heap.bytes l.heap.bytes l.slot.0 l.resources l.entries (numbers_in l.names) l.index;
   stands : StandsAs l.heap.bytes l.slot.0 l.chunk;
+  loan : KeepsLoan l.fn.heap l.heap;
   rest : l.heap ≡ record l.fn.heap { bytes = l.heap.bytes };
 }

@@ -9,6 +9,7 @@ use Rattle.laws_store.proofs.Spellings.{length-header_bytes}
 use Rattle.database_edits.proofs.Chunks.{is_movable}
 use Rattle.palm_store.specs.WholeDatabases.{numbers_in, entries_named, whole_database}
 use Rattle.palm_store.proofs.WholeBytes.{length-named, puts_front, start_room, then_rebodied, whole_header, whole_spelled, whole_fits}
+use Rattle.palm_store.proofs.Loans.{managers_here}
 use Rattle.palm_store.proofs.databases.completing.write_whole.Goals as goal
 
 pub sys_find-chunk-requires : goal.sys_find-chunk-requires
@@ -47,3 +48,6 @@ returns-clause-fits c =
     let many = length-named c.args.entries.now (drop 2 names) in
     let few = c.requires.whole.few in
     whole_fits c.named_header-header.result c.to_bytes.result d has c.to_bytes.ensures.written c.requires.whole.name (omega (arith, many, few)) (rw (← c.has_resources-resources.ensures) c.write_entries.ensures.fits)
+
+pub sys_write-requires-clause-here : goal.sys_write-requires-clause-here
+sys_write-requires-clause-here c = managers_here c.args.heap.now c.args.slot.0 c.requires.owner

@@ -5,6 +5,8 @@ use Rattle.heap_model.specs.Bytes.{overwritten}
 use Rattle.laws_heap.proofs.Frames.{length-u32_bytes}
 use Rattle.palm_store.proofs.ListedSlots.{made_here, put_here, begun, chunk_of, loose_movable}
 use Rattle.palm_store.proofs.Maps.{bytes_held, owner_held}
+use Rattle.palm_store.proofs.Loans.{owned_here}
+use Rattle.laws_heap.proofs.KeptLoans.{keeps_then}
 use Rattle.palm_store.proofs.databases.creating.begin_directory.Goals as goal
 
 pub sys_find-chunk-requires : goal.sys_find-chunk-requires
@@ -27,3 +29,11 @@ set_directory-requires c = record {
 pub returns-clause-lists : goal.returns-clause-lists
 returns-clause-lists c = begun c.args.heap.now.bytes c.sys_new.new.self.bytes c.sys_write.new.self.bytes c.set_directory.new.self.bytes c.in_ok-directory.directory.0 c.args.slot.0 c.slot_bytes.result c.requires.heap c.requires.none c.in_ok-directory.ensures.made
     c.sys_write.ensures.leaves c.set_directory.ensures.names c.slot_bytes.ensures
+
+pub sys_write-requires-clause-here : goal.sys_write-requires-clause-here
+sys_write-requires-clause-here c = owned_here c.sys_new.new.self c.in_ok-directory.directory.0 (chunk_of (replicate 4 0)) (made_here c.args.heap.now.bytes c.sys_new.new.self.bytes c.in_ok-directory.directory.0 4 c.in_ok-directory.ensures.made) refl
+
+pub returns-clause-loan : goal.returns-clause-loan
+returns-clause-loan c =
+    keeps_then c.args.heap.now c.sys_write.new.self c.set_directory.new.self
+    (keeps_then c.args.heap.now c.sys_new.new.self c.sys_write.new.self c.sys_new.ensures.loan c.sys_write.ensures.loan) c.set_directory.ensures.loan

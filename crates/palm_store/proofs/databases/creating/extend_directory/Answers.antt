@@ -8,7 +8,9 @@ use Rattle.heap_model.specs.Store.{directory_bytes}
 use Rattle.heap_model.specs.declared.refusal.Refusal.TheVariants.{NotEnoughSpace}
 use Rattle.laws_store.proofs.NewDatabases.{managers_loose}
 use Rattle.laws_heap.proofs.Results.{if_err, on_err}
-use Rattle.palm_store.proofs.ListedSlots.{the_directory, directory_loose, loose_movable, directory_few, directory_short, grown_room, growth_short, sized_here, extended}
+use Rattle.palm_store.proofs.ListedSlots.{the_directory, directory_owned, directory_loose, loose_movable, directory_few, directory_short, grown_room, growth_short, sized_here, extended}
+use Rattle.palm_store.proofs.Loans.{managers_here, owned_here}
+use Rattle.laws_heap.proofs.KeptLoans.{keeps_then}
 use Rattle.palm_store.proofs.databases.creating.extend_directory.Goals as goal
 
 pub sys_find-chunk-requires : goal.sys_find-chunk-requires
@@ -26,14 +28,14 @@ returns-in_err-sys_resize-clause-no_room c =
     let loose = managers_loose c.args.heap.now.bytes c.directory-directory.result.0 o.live c.requires.heap o.there o.own in
     on_err (ShortFor c.args.heap.now.bytes (directory_of c.args.heap.now.bytes) (need (length (directory_bytes c.args.heap.now.bytes) + 4))) c.from_residual.result
     (directory_short c.args.heap.now.bytes c.sys_body_found.result.now c.directory-directory.result.0 (length c.sys_body_found.result.now + 4) c.directory-directory.ensures c.sys_body_found.ensures refl
-    (growth_short c.args.heap.now.bytes c.directory-directory.result.0 (length c.sys_body_found.result.now + 4) o.live c.in_err-sys_resize.field-0.0 o.there loose c.in_err-sys_resize.ensures.why).2)
+    (growth_short c.args.heap.now c.directory-directory.result.0 (length c.sys_body_found.result.now + 4) o.live c.in_err-sys_resize.field-0.0 o.there loose (c.sys_resize.ensures.managers (directory_owned c.args.heap.now.bytes c.directory-directory.result.0 c.requires.heap c.requires.some c.directory-directory.ensures)) c.in_err-sys_resize.ensures.why).2)
 
 pub returns-in_err-sys_resize-clause-refusal : goal.returns-in_err-sys_resize-clause-refusal
 returns-in_err-sys_resize-clause-refusal c =
     let o = the_directory c.args.heap.now.bytes c.directory-directory.result.0 c.requires.heap c.requires.some c.directory-directory.ensures in
     let loose = managers_loose c.args.heap.now.bytes c.directory-directory.result.0 o.live c.requires.heap o.there o.own in
     if_err (λ refusal. refusal ≡ NotEnoughSpace) c.from_residual.result (let e = c.from_residual.ensures in (e.0, e.1))
-    (growth_short c.args.heap.now.bytes c.directory-directory.result.0 (length c.sys_body_found.result.now + 4) o.live c.in_err-sys_resize.field-0.0 o.there loose c.in_err-sys_resize.ensures.why).0
+    (growth_short c.args.heap.now c.directory-directory.result.0 (length c.sys_body_found.result.now + 4) o.live c.in_err-sys_resize.field-0.0 o.there loose (c.sys_resize.ensures.managers (directory_owned c.args.heap.now.bytes c.directory-directory.result.0 c.requires.heap c.requires.some c.directory-directory.ensures)) c.in_err-sys_resize.ensures.why).0
 
 pub sys_find-grown-requires : goal.sys_find-grown-requires
 sys_find-grown-requires c =
@@ -49,3 +51,14 @@ sys_write-requires-clause-within c =
 pub returns-clause-lists : goal.returns-clause-lists
 returns-clause-lists c = extended c.args.heap.now.bytes c.sys_resize.new.self.bytes c.sys_write.new.self.bytes c.directory-directory.result.0 c.args.slot.0 (length c.sys_body_found.result.now + 4) (length c.sys_body_found.result.now) c.slot_bytes.result c.requires.heap c.requires.some
     c.directory-directory.ensures (ap length c.sys_body_found.ensures) refl c.in_ok-sys_resize.ensures.done c.sys_write.ensures.leaves c.slot_bytes.ensures
+
+pub sys_body_found-requires-clause-here : goal.sys_body_found-requires-clause-here
+sys_body_found-requires-clause-here c = managers_here c.args.heap.now c.directory-directory.result.0 (directory_owned c.args.heap.now.bytes c.directory-directory.result.0 c.requires.heap c.requires.some c.directory-directory.ensures)
+
+pub sys_write-requires-clause-here : goal.sys_write-requires-clause-here
+sys_write-requires-clause-here c =
+    let o = the_directory c.args.heap.now.bytes c.directory-directory.result.0 c.requires.heap c.requires.some c.directory-directory.ensures in
+    owned_here c.sys_resize.new.self c.directory-directory.result.0 _ (sized_here c.args.heap.now.bytes c.sys_resize.new.self.bytes c.directory-directory.result.0 (length c.sys_body_found.result.now + 4) o.live c.in_ok-sys_resize.ensures.done o.there) o.own
+
+pub returns-clause-loan : goal.returns-clause-loan
+returns-clause-loan c = keeps_then c.args.heap.now c.sys_resize.new.self c.sys_write.new.self c.sys_resize.ensures.loan c.sys_write.ensures.loan

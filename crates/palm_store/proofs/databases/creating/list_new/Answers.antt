@@ -1,5 +1,5 @@
 -- A header's chunk is made, and then listed; or freed again, and then all is held that was held.
-use Rattle.std.proofs.Common.{sym, subst, ℕ, List, length, ◌≤◌, ◌≢◌}
+use Rattle.std.proofs.Common.{refl, sym, subst, ℕ, List, length, ◌≤◌, ◌≢◌}
 use Rattle.heap_model.specs.Memory.{Memory}
 use Rattle.heap_model.specs.Heap.{directory_of}
 use Rattle.heap_model.specs.Maps.{gone}
@@ -7,6 +7,10 @@ use Rattle.heap_model.specs.Leaving.{Leaves}
 use Rattle.heap_model.specs.Reading.{held}
 use Rattle.mem_manager.specs.Lookup.{IsMovable}
 use Rattle.palm_store.proofs.ListedSlots.{made_movable, listed_new, made_directory, few_bytes, given_back, no_listing, fresh_apart}
+use Rattle.mem_manager.specs.Lookup.{IsHere}
+use Rattle.palm_store.proofs.ListedSlots.{made_here}
+use Rattle.palm_store.proofs.Loans.{owned_here}
+use Rattle.laws_heap.proofs.KeptLoans.{keeps_then}
 use Rattle.palm_store.proofs.databases.creating.list_new.Goals as goal
 
 pub list_last-requires-clause-few : goal.list_last-requires-clause-few
@@ -31,3 +35,16 @@ returns-in-Err-clause-refused c =
 
 pub returns-clause-lists : goal.returns-clause-lists
 returns-clause-lists c = listed_new c.args.heap.now.bytes c.sys_new.new.self.bytes c.list_last.new.heap.bytes c.in_ok-slot.slot.0 78 c.requires.accepted.heap c.in_ok-slot.ensures.made c.in_default.ensures.lists
+
+pub sys_free-requires-clause-here : goal.sys_free-requires-clause-here
+sys_free-requires-clause-here c =
+    subst (λ (m : Memory). IsHere m c.in_ok-slot.slot.0) (sym c.in-Err.ensures.refused)
+    (owned_here c.sys_new.new.self c.in_ok-slot.slot.0 _ (made_here c.args.heap.now.bytes c.sys_new.new.self.bytes c.in_ok-slot.slot.0 78 c.in_ok-slot.ensures.made) refl)
+
+pub returns-clause-loan : goal.returns-clause-loan
+returns-clause-loan c = keeps_then c.args.heap.now c.sys_new.new.self c.list_last.new.heap c.sys_new.ensures.loan c.list_last.ensures.loan
+
+pub returns-in-Err-clause-loan : goal.returns-in-Err-clause-loan
+returns-in-Err-clause-loan c =
+    keeps_then c.args.heap.now c.list_last.new.heap c.sys_free.new.self
+    (keeps_then c.args.heap.now c.sys_new.new.self c.list_last.new.heap c.sys_new.ensures.loan c.list_last.ensures.loan) c.sys_free.ensures.loan

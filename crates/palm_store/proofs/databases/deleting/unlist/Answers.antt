@@ -1,5 +1,5 @@
 -- The directory has no lock, and a chunk without one is never refused to shrink.
-use Rattle.std.proofs.Common.{refl, ap, subst, ◌≡◌, ◌+◌, ◌-◌, ◌*◌, arith, ℕ, length, Result}
+use Rattle.std.proofs.Common.{refl, ap, subst, ◌∙◌, ◌≡◌, ◌+◌, ◌-◌, ◌*◌, arith, ℕ, length, Result}
 use Rattle.std.specs.Prelude.{OnOk}
 use Rattle.heap_model.specs.Leaving.{Leaves}
 use Rattle.heap_model.specs.Maps.{sized}
@@ -8,8 +8,11 @@ use Rattle.heap_model.specs.Reading.{held}
 use Rattle.heap_model.specs.Refusals.{FirstBrings}
 use Rattle.heap_model.specs.declared.refusal.Refusal.{Refusal}
 use Rattle.heap_model.specs.Store.{bytes_under}
-use Rattle.palm_store.proofs.ListedSlots.{the_directory, directory_loose}
+use Rattle.palm_store.proofs.ListedSlots.{the_directory, directory_owned, directory_loose}
 use Rattle.palm_store.proofs.UnlistedSlots.{never_refused, shrinks, unlisted, directory_slid, directory_long}
+use Rattle.palm_store.proofs.Maps.{owner_held}
+use Rattle.palm_store.proofs.Loans.{managers_here}
+use Rattle.laws_heap.proofs.KeptLoans.{keeps_then}
 use Rattle.palm_store.proofs.databases.deleting.unlist.Goals as goal
 
 pub sys_find-chunk-requires : goal.sys_find-chunk-requires
@@ -46,8 +49,8 @@ unwrap-requires c =
     let s = directory_slid c.args.heap.now.bytes c.sys_slide.new.self.bytes c.directory-directory.result.0 (4 * c.args.index) (4 * c.args.index + 4 + (length c.sys_body_found.result.now - (4 * c.args.index + 4))) c.requires.heap c.requires.some c.directory-directory.ensures
     (omega (arith, long, inside, body)) (omega (arith, long, inside, body)) c.sys_slide.ensures.leaves in
     let size = s.size in
-    never_refused c.sys_resize.result (FirstBrings (growth_checks c.sys_slide.new.self.bytes (held c.sys_slide.new.self.bytes) c.directory-directory.result.0 (length c.sys_body_found.result.now - 4))) c.sys_resize.ensures.why
-    (λ refusal why. shrinks c.sys_slide.new.self.bytes c.directory-directory.result.0 (length c.sys_body_found.result.now - 4) s.live refusal s.there s.loose (omega (arith, size, body)) why)
+    never_refused c.sys_resize.result (FirstBrings (growth_checks c.sys_slide.new.self (held c.sys_slide.new.self.bytes) c.directory-directory.result.0 (length c.sys_body_found.result.now - 4))) c.sys_resize.ensures.why
+    (λ refusal why. shrinks c.sys_slide.new.self c.directory-directory.result.0 (length c.sys_body_found.result.now - 4) s.live refusal s.there s.loose (c.sys_resize.ensures.managers (owner_held c.sys_slide.new.self.bytes c.directory-directory.result.0 s.live s.there ∙ s.own)) (omega (arith, size, body)) why)
 
 pub returns-clause-unlists : goal.returns-clause-unlists
 returns-clause-unlists c =
@@ -57,3 +60,12 @@ returns-clause-unlists c =
     unlisted c.args.heap.now.bytes c.sys_slide.new.self.bytes c.sys_resize.new.self.bytes c.directory-directory.result.0 c.args.index (4 * c.args.index) (4 * c.args.index + 4 + (length c.sys_body_found.result.now - (4 * c.args.index + 4)))
     (length c.sys_body_found.result.now - 4) c.requires.heap c.requires.some c.directory-directory.ensures refl (omega (arith, long, inside, body)) (omega (arith, long, inside, body)) (ap (λ (k : ℕ). k - 4) body) c.sys_slide.ensures.leaves
     (subst (λ (result : Result Unit Refusal). OnOk result (Leaves c.sys_slide.new.self.bytes c.sys_resize.new.self.bytes (sized (held c.sys_slide.new.self.bytes) c.directory-directory.result.0 (length c.sys_body_found.result.now - 4)))) c.unwrap.ensures c.sys_resize.ensures.done)
+
+pub sys_body_found-requires-clause-here : goal.sys_body_found-requires-clause-here
+sys_body_found-requires-clause-here c = managers_here c.args.heap.now c.directory-directory.result.0 (directory_owned c.args.heap.now.bytes c.directory-directory.result.0 c.requires.heap c.requires.some c.directory-directory.ensures)
+
+pub sys_slide-requires-clause-here : goal.sys_slide-requires-clause-here
+sys_slide-requires-clause-here c = managers_here c.args.heap.now c.directory-directory.result.0 (directory_owned c.args.heap.now.bytes c.directory-directory.result.0 c.requires.heap c.requires.some c.directory-directory.ensures)
+
+pub returns-clause-loan : goal.returns-clause-loan
+returns-clause-loan c = keeps_then c.args.heap.now c.sys_slide.new.self c.sys_resize.new.self c.sys_slide.ensures.loan c.sys_resize.ensures.loan

@@ -1,5 +1,5 @@
 -- The header spells what it spelled while the chunk is made; where it can't grow, the chunk is freed again.
-use Rattle.std.proofs.Common.{◌≤◌, ◌<◌, ◌≢◌, ◌∙◌, sym, ap, subst, ℕ, List, length}
+use Rattle.std.proofs.Common.{◌≡◌, ◌≤◌, ◌<◌, ◌≢◌, ◌∙◌, Some, replicate, refl, sym, ap, subst, ℕ, List, length}
 use Rattle.heap_model.specs.Memory.{Memory}
 use Rattle.heap_model.specs.Heap.{directory_of}
 use Rattle.heap_model.specs.Reading.{held}
@@ -15,6 +15,10 @@ use Rattle.database_edits.proofs.Databases.{managers}
 use Rattle.palm_store.proofs.ListedSlots.{made_movable}
 use Rattle.palm_store.proofs.EntriesHere.{index_most}
 use Rattle.palm_store.proofs.NewEntries.{spells_still, database_still, made_no_directory, puts_in, no_header_room, given_back}
+use Rattle.heap_model.specs.Chunk.{data_owner}
+use Rattle.heap_model.specs.Heap.{HeapAccepted}
+use Rattle.palm_store.proofs.ListedSlots.{made_chunk}
+use Rattle.palm_store.proofs.Loans.{loose_here}
 use Rattle.palm_store.proofs.entries.making.put_in.Goals as goal
 
 pub sys_find-chunk-requires : goal.sys_find-chunk-requires
@@ -62,3 +66,9 @@ pub returns-clause-puts : goal.returns-clause-puts
 returns-clause-puts c =
     puts_in c.args.heap.now.bytes c.sys_new.new.self.bytes c.insert_entry.new.heap.bytes c.args.db.0 c.args.at (entry_with (λ (none : ℕ). c.in_ok-name.name.0) (entry_of c.args.entry)) (entry_of c.with_slot.result) c.in_ok-name.name.0 c.args.size
     (accepted_spells c.args.heap.now.bytes c.args.db.0 c.requires.accepted c.requires.number) c.in_ok-name.ensures.made c.with_slot.ensures.is c.in_default.ensures.inserted
+
+pub sys_free-requires-clause-here : goal.sys_free-requires-clause-here
+sys_free-requires-clause-here c =
+    let made = made_chunk c.args.heap.now.bytes c.sys_new.new.self.bytes c.in_ok-name.name.0 c.args.size data_owner c.in_ok-name.ensures.made in
+    let there = subst (λ (m : Memory). held m.bytes c.in_ok-name.name.0 ≡ Some (record { bytes = replicate c.args.size 0; lock = 0; owner = data_owner })) (sym c.in-Err.ensures.refused) made in
+    loose_here c.insert_entry.new.heap c.in_ok-name.name.0 c.sys_find-made.result _ (subst (λ (m : Memory). HeapAccepted m.bytes) (sym c.in-Err.ensures.refused) c.in_ok-name.ensures.made.leaves.frame.accepted) c.sys_find-made.ensures.stands there refl c.sys_find-made.ensures.unlocked

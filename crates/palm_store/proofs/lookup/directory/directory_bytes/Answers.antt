@@ -1,9 +1,13 @@
 use Rattle.std.proofs.Common.{[], sym, ◌∙◌}
 use Rattle.palm_store.proofs.Numbers.{no_directory, directory_movable, directory_read, counts}
+use Rattle.palm_store.proofs.Loans.{directory_here}
 use Rattle.palm_store.proofs.lookup.directory.directory_bytes.Goals as goal
 
-pub sys_body-requires : goal.sys_body-requires
-sys_body-requires c = directory_movable c.args.heap.now.bytes _ c.requires.heap c.directory-directory.ensures c.if-directory-eq0.false
+pub sys_body-requires-clause-here : goal.sys_body-requires-clause-here
+sys_body-requires-clause-here c = directory_here c.args.heap.now _ c.requires.heap c.directory-directory.ensures c.if-directory-eq0.false
+
+pub sys_body-requires-clause-movable : goal.sys_body-requires-clause-movable
+sys_body-requires-clause-movable c = directory_movable c.args.heap.now.bytes _ c.requires.heap c.directory-directory.ensures c.if-directory-eq0.false
 
 pub returns-then-directory-eq0-clause-is : goal.returns-then-directory-eq0-clause-is
 returns-then-directory-eq0-clause-is c = sym (no_directory c.args.heap.now.bytes c.requires.heap (sym c.directory-directory.ensures ∙ c.if-directory-eq0.true))

@@ -1,4 +1,5 @@
 use Rattle.palm_store.proofs.Numbers.{number_spelled, number_shape}
+use Rattle.palm_store.proofs.Loans.{number_here}
 use Rattle.palm_store.proofs.lookup.header.header_in.Goals as goal
 
 pub returns-clause-spelled : goal.returns-clause-spelled
@@ -6,3 +7,6 @@ returns-clause-spelled c = rw c.sys_body_found.ensures (number_spelled c.args.he
 
 pub returns-clause-shape : goal.returns-clause-shape
 returns-clause-shape c = rw c.sys_body_found.ensures (number_shape c.args.heap.now.bytes c.args.db.0 c.requires.accepted c.requires.number)
+
+pub sys_body_found-requires-clause-here : goal.sys_body_found-requires-clause-here
+sys_body_found-requires-clause-here c = number_here c.args.heap.now c.args.db.0 c.requires.accepted c.requires.number

@@ -37,3 +37,6 @@ pub returns-clause-none_made : goal.returns-clause-none_made
 returns-clause-none_made g c =
     let number : HasNumber c.self.inside.heap.bytes c.args.db.0 = rw c.self.view_is c.requires.number in
     rw (← c.self.view_is) (respelled_none c.self.inside.heap.bytes c.change_attributes.new.heap.bytes c.args.db.0 _ c.self.invariant.accepted number c.change_attributes.ensures.changed)
+
+pub returns-clause-loan : goal.returns-clause-loan
+returns-clause-loan g c = rw (← c.self.view_is) c.change_attributes.ensures.loan

@@ -1,8 +1,12 @@
 -- Where nothing is locked, all that goes is freed before the slot is taken out of the directory.
 use Rattle.std.proofs.lemmas.Bool.{both_ways}
 use Rattle.palm_store.proofs.MemoryCalls.{viewed, ask_viewed}
-use Rattle.palm_store.proofs.Deleted.{header_other, all_freed, lists_still, deleted, not_deleted}
+use Rattle.palm_store.proofs.Deleted.{header_other, header_left, all_freed, lists_still, deleted, not_deleted}
 use Rattle.palm_store.proofs.KnownIds.{nothing_known}
+use Rattle.laws_heap.proofs.KeptLoans.{keeps_then}
+use Rattle.laws_store.proofs.CallSteps.{kept_then}
+use Rattle.palm_store.proofs.Rests.{then_moved}
+use Rattle.palm_store.proofs.Loans.{managers_here}
 use Rattle.palm_store.proofs.store.Store.delete_database.Goals as goal
 
 pub returns-then-has_locked-clause-does : goal.returns-then-has_locked-clause-does
@@ -23,12 +27,22 @@ pub invariant_of-self : goal.invariant_of-self
 invariant_of-self c =
     let freed = all_freed c.self.inside.heap.bytes c.free_data.new.heap.bytes c.sys_free.new.self.bytes c.args.db.0 c.free_data.ensures.leaves c.sys_free.ensures.leaves in
     let does = deleted c.self.inside.heap c.sys_free.new.self c.unlist.new.heap c.args.db c.index_of-index.result c.self.invariant.accepted c.in_ok-chunk.ensures.known c.index_of-index.ensures
-    (λ locked. both_ways _ c.if-has_locked.false (c.has_locked.ensures.1 locked)) freed c.unlist.ensures.unlists in
+    (λ locked. both_ways _ c.if-has_locked.false (c.has_locked.ensures.1 locked)) freed c.unlist.ensures.unlists
+    (keeps_then c.self.inside.heap c.sys_free.new.self c.unlist.new.heap (keeps_then c.self.inside.heap c.free_data.new.heap c.sys_free.new.self c.free_data.ensures.loan c.sys_free.ensures.loan) c.unlist.ensures.loan)
+    (then_moved c.self.inside.heap c.sys_free.new.self c.unlist.new.heap (kept_then c.self.inside.heap c.free_data.new.heap c.sys_free.new.self c.free_data.ensures.rest c.sys_free.ensures.rest) c.unlist.ensures.rest) in
     nothing_known _ does.accepted
 
 pub returns-clause-does : goal.returns-clause-does
 returns-clause-does c =
     let freed = all_freed c.self.inside.heap.bytes c.free_data.new.heap.bytes c.sys_free.new.self.bytes c.args.db.0 c.free_data.ensures.leaves c.sys_free.ensures.leaves in
     let does = deleted c.self.inside.heap c.sys_free.new.self c.unlist.new.heap c.args.db c.index_of-index.result c.self.invariant.accepted c.in_ok-chunk.ensures.known c.index_of-index.ensures
-    (λ locked. both_ways _ c.if-has_locked.false (c.has_locked.ensures.1 locked)) freed c.unlist.ensures.unlists in
+    (λ locked. both_ways _ c.if-has_locked.false (c.has_locked.ensures.1 locked)) freed c.unlist.ensures.unlists
+    (keeps_then c.self.inside.heap c.sys_free.new.self c.unlist.new.heap (keeps_then c.self.inside.heap c.free_data.new.heap c.sys_free.new.self c.free_data.ensures.loan c.sys_free.ensures.loan) c.unlist.ensures.loan)
+    (then_moved c.self.inside.heap c.sys_free.new.self c.unlist.new.heap (kept_then c.self.inside.heap c.free_data.new.heap c.sys_free.new.self c.free_data.ensures.rest c.sys_free.ensures.rest) c.unlist.ensures.rest) in
     viewed c.self.inside.heap c.args.self.now c.unlist.new.heap _ _ c.self.view_is does
+
+pub free_data-requires-clause-unlocked : goal.free_data-requires-clause-unlocked
+free_data-requires-clause-unlocked c locked = both_ways _ c.if-has_locked.false (c.has_locked.ensures.1 locked)
+
+pub sys_free-requires-clause-here : goal.sys_free-requires-clause-here
+sys_free-requires-clause-here c = managers_here c.free_data.new.heap c.args.db.0 (header_left c.self.inside.heap.bytes c.free_data.new.heap.bytes c.args.db.0 c.self.invariant.accepted c.in_ok-chunk.ensures.known c.free_data.ensures.leaves)

@@ -1,5 +1,5 @@
 use Rattle.std.proofs.Common.{◌<◌, arith, sym, subst, ℕ, List, Option, length}
-use Rattle.std.specs.Prelude.{IfSome}
+use Rattle.std.specs.Prelude.{IfSome, IfNone}
 use Rattle.heap_model.specs.Maps.{gone}
 use Rattle.heap_model.specs.Leaving.{Leaves}
 use Rattle.heap_model.specs.Reading.{held}
@@ -9,9 +9,11 @@ use Rattle.db_format.specs.EitherEntry.{entry_of}
 use Rattle.laws_store.proofs.Numbered.{accepted_spells}
 use Rattle.palm_store.specs.EntryInfos.{MayOwn, dropped_to}
 use Rattle.palm_store.proofs.EntriesHere.{count_fits, index_below}
-use Rattle.palm_store.proofs.EntryChanges.{drop_steps, hand_over_steps, slot_movable, slot_no_directory, slot_some}
+use Rattle.palm_store.proofs.EntryChanges.{drop_steps, hand_over_steps, slot_movable, slot_unlocked, slot_no_directory, slot_some}
 use Rattle.palm_store.specs.Databases.{HasNumber}
 use Rattle.palm_store.proofs.KnownIds.{go_free}
+use Rattle.laws_heap.proofs.KeptLoans.{keeps_then}
+use Rattle.palm_store.specs.EntryCalls.{HasLockedData}
 use Rattle.palm_store.proofs.store.Store.entry_drop.Goals as goal
 
 pub overflow_cast-index : goal.overflow_cast-index
@@ -131,3 +133,16 @@ returns-in-Some-clause-none_made c =
     let there = subst (λ (owner : Option ℕ). IfSome owner (λ o. 0 < data_under (store_of image) c.args.db c.args.index)) c.in-Some.is there_is in
     (hand_over_steps image mid new c.args.db c.args.index c.in-Some.owner c.slot.result (entry_of c.read_entry.result) c.self.invariant.accepted number c.read_entry.ensures.is c.slot.ensures (index_below image c.args.db c.args.index number inside) there may.0 may.1
     c.remove_entry.ensures.removed c.sys_set_owner.ensures.leaves).1)
+
+pub free_chunk_of-requires-clause-unlocked : goal.free_chunk_of-requires-clause-unlocked
+free_chunk_of-requires-clause-unlocked c =
+    let number : HasNumber c.self.inside.heap.bytes c.args.db.0 = rw c.self.view_is c.requires.number in
+    let unlocked : IfNone c.args.owner (HasLockedData c.self.inside.heap.bytes c.args.db c.args.index → ⊥) = rw c.self.view_is c.requires.unlocked in
+    slot_unlocked c.self.inside.heap.bytes c.remove_entry.new.heap.bytes c.args.db c.args.index c.slot.result _ _ c.self.invariant.accepted number c.read_entry.ensures.is c.slot.ensures c.remove_entry.ensures.removed
+    (subst (λ (owner : Option ℕ). IfNone owner (HasLockedData c.self.inside.heap.bytes c.args.db c.args.index → ⊥)) c.in-None.is unlocked)
+
+pub returns-in-None-clause-loan : goal.returns-in-None-clause-loan
+returns-in-None-clause-loan c = rw (← c.self.view_is) (keeps_then c.self.inside.heap c.remove_entry.new.heap c.free_chunk_of.new.heap c.remove_entry.ensures.loan c.free_chunk_of.ensures.loan)
+
+pub returns-in-Some-clause-loan : goal.returns-in-Some-clause-loan
+returns-in-Some-clause-loan c = rw (← c.self.view_is) (keeps_then c.self.inside.heap c.remove_entry.new.heap c.sys_set_owner.new.self c.remove_entry.ensures.loan c.sys_set_owner.ensures.loan)

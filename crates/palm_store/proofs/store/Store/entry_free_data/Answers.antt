@@ -8,13 +8,15 @@ use Rattle.db_format.specs.EitherEntry.{entry_of}
 use Rattle.laws_store.proofs.Numbered.{accepted_spells}
 use Rattle.mem_manager.proofs.StoreCalls.{stands_still}
 use Rattle.palm_store.proofs.EntriesHere.{count_fits, fits_here, index_below}
-use Rattle.palm_store.proofs.EntryChanges.{free_steps, slot_owner, slot_movable, slot_no_directory}
+use Rattle.palm_store.proofs.EntryChanges.{free_steps, slot_owner, slot_movable, slot_unlocked, slot_no_directory}
 use Rattle.laws_store.proofs.Edited.{apart as updated_apart}
 use Rattle.palm_store.proofs.EntryChanges.{name_apart}
 use Rattle.palm_store.proofs.EntryInfos.{emptied_names, emptied_id, emptied_data}
 use Rattle.heap_model.specs.Store.{store_of}
 use Rattle.palm_store.specs.Databases.{HasNumber}
 use Rattle.palm_store.proofs.KnownIds.{change_free, emptied_gets}
+use Rattle.laws_heap.proofs.KeptLoans.{keeps_then}
+use Rattle.palm_store.specs.EntryCalls.{HasLockedData}
 use Rattle.palm_store.proofs.store.Store.entry_free_data.Goals as goal
 
 pub overflow_cast-index : goal.overflow_cast-index
@@ -98,3 +100,12 @@ returns-clause-stands c =
     let freed = c.free_chunk_of.ensures.leaves in
     stands_still c.write_entry.new.heap.bytes c.free_chunk_of.new.heap.bytes c.args.db.0 c.args.chunk c.write_entry.ensures.written.frame.accepted freed.frame.accepted c.write_entry.ensures.stands
     (freed.map c.args.db.0 ∙ updated_apart (held c.write_entry.new.heap.bytes) c.slot.result None c.args.db.0 (λ same. apart (sym same))) c.free_chunk_of.ensures.unmoved
+
+pub free_chunk_of-requires-clause-unlocked : goal.free_chunk_of-requires-clause-unlocked
+free_chunk_of-requires-clause-unlocked c =
+    let number : HasNumber c.self.inside.heap.bytes c.args.db.0 = rw c.self.view_is c.requires.number in
+    let unlocked : HasLockedData c.self.inside.heap.bytes c.args.db c.args.index → ⊥ = rw c.self.view_is c.requires.unlocked in
+    slot_unlocked c.self.inside.heap.bytes c.write_entry.new.heap.bytes c.args.db c.args.index c.slot.result _ _ c.self.invariant.accepted number c.read_entry-entry.ensures.is c.slot.ensures c.write_entry.ensures.written unlocked
+
+pub returns-clause-loan : goal.returns-clause-loan
+returns-clause-loan c = rw (← c.self.view_is) (keeps_then c.self.inside.heap c.write_entry.new.heap c.free_chunk_of.new.heap c.write_entry.ensures.loan c.free_chunk_of.ensures.loan)

@@ -62,3 +62,6 @@ pub returns-clause-none_made : goal.returns-clause-none_made
 returns-clause-none_made c =
     let number : HasNumber c.self.inside.heap.bytes c.args.db.0 = rw c.self.view_is c.requires.number in
     rw (← c.self.view_is) (respelled_none c.self.inside.heap.bytes c.move_entry.new.heap.bytes c.args.db.0 _ c.self.invariant.accepted number c.move_entry.ensures.moved)
+
+pub returns-clause-loan : goal.returns-clause-loan
+returns-clause-loan c = rw (← c.self.view_is) c.move_entry.ensures.loan

@@ -63,3 +63,9 @@ returns-clause-made c =
     let few : length (entries_in (store_of image) c.args.db) < most_entries = omega (arith, count, below) in
     new_steps image c.put_in.new.heap.bytes c.args.db c.args.at c.args.entry (entry_of c.new_entry-made.result.entry) _ c.in_ok-name.name.0 c.args.size c.self.invariant.accepted number c.new_entry-made.ensures.is c.in_ok-name.ensures.puts
     (c.new_entry-made.ensures.kind ∙ kind) (c.in_ok-name.ensures.name_fits c.new_entry-made.ensures.fits) inside few)
+
+pub returns-clause-loan : goal.returns-clause-loan
+returns-clause-loan c = rw (← c.self.view_is) c.put_in.ensures.loan
+
+pub returns-in_err-name-clause-loan : goal.returns-in_err-name-clause-loan
+returns-in_err-name-clause-loan c = rw (← c.self.view_is) c.put_in.ensures.loan

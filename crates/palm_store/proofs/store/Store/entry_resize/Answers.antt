@@ -30,11 +30,17 @@ returns-clause-done c =
 pub returns-clause-could : goal.returns-clause-could
 returns-clause-could c =
     let own : IsEntryData c.self.inside.heap.bytes c.args.name.0 = rw c.self.view_is c.requires.own in
-    rw (← c.self.view_is) (none_for_callers c.self.inside.heap.bytes c.args.name.0 c.args.size (named_owner c.self.inside.heap.bytes c.args.name.0 c.self.invariant.accepted own) c.in_ok-sys_resize.ensures.could)
+    rw (← c.self.view_is) (none_for_callers c.self.inside.heap c.args.name.0 c.args.size (named_owner c.self.inside.heap.bytes c.args.name.0 c.self.invariant.accepted own) c.in_ok-sys_resize.ensures.could)
 
 pub returns-in_err-sys_resize-clause-why : goal.returns-in_err-sys_resize-clause-why
 returns-in_err-sys_resize-clause-why c =
     let own : IsEntryData c.self.inside.heap.bytes c.args.name.0 = rw c.self.view_is c.requires.own in
     let e = c.from_residual.ensures in
-    rw (← c.self.view_is) (if_err (FirstBrings (checks_of_growth c.self.inside.heap.bytes c.args.name.0 c.args.size)) c.from_residual.result (e.0, e.1)
-    (first_for_callers c.self.inside.heap.bytes c.args.name.0 c.args.size c.in_err-sys_resize.field-0.0 (named_owner c.self.inside.heap.bytes c.args.name.0 c.self.invariant.accepted own) c.in_err-sys_resize.ensures.why))
+    rw (← c.self.view_is) (if_err (FirstBrings (checks_of_growth c.self.inside.heap c.args.name.0 c.args.size)) c.from_residual.result (e.0, e.1)
+    (first_for_callers c.self.inside.heap c.args.name.0 c.args.size c.in_err-sys_resize.field-0.0 (named_owner c.self.inside.heap.bytes c.args.name.0 c.self.invariant.accepted own) c.in_err-sys_resize.ensures.why))
+
+pub returns-clause-loan : goal.returns-clause-loan
+returns-clause-loan c = rw (← c.self.view_is) c.sys_resize.ensures.loan
+
+pub returns-in_err-sys_resize-clause-loan : goal.returns-in_err-sys_resize-clause-loan
+returns-in_err-sys_resize-clause-loan c = rw (← c.self.view_is) c.sys_resize.ensures.loan

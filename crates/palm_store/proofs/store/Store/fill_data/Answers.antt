@@ -1,8 +1,9 @@
 use Rattle.std.proofs.Common.{length, arith}
 use Rattle.heap_model.specs.Store.{store_of}
 use Rattle.palm_store.specs.Files.{HasDataOf}
-use Rattle.palm_store.proofs.FilledData.{filled_movable, data_long, filled_steps}
+use Rattle.palm_store.proofs.FilledData.{data_held, filled_movable, data_long, filled_steps}
 use Rattle.palm_store.proofs.KnownIds.{stand_still}
+use Rattle.palm_store.proofs.Loans.{loose_here}
 use Rattle.palm_store.proofs.store.Store.fill_data.Goals as goal
 
 pub sys_find-chunk-requires : goal.sys_find-chunk-requires
@@ -29,3 +30,12 @@ returns-clause-filled c =
 
 pub returns-clause-unmoved : goal.returns-clause-unmoved
 returns-clause-unmoved c = rw (← c.self.view_is) c.sys_write.ensures.unmoved
+
+pub sys_write-requires-clause-here : goal.sys_write-requires-clause-here
+sys_write-requires-clause-here c =
+    let has : HasDataOf c.self.inside.heap.bytes c.args.name.0 (length c.args.bytes.now) = rw c.self.view_is c.requires in
+    let d = data_held c.self.inside.heap.bytes c.args.name.0 (length c.args.bytes.now) has in
+    loose_here c.self.inside.heap c.args.name.0 c.sys_find-chunk.result d.live c.self.invariant.accepted.heap c.sys_find-chunk.ensures.stands d.there d.loose c.sys_find-chunk.ensures.unlocked
+
+pub returns-clause-loan : goal.returns-clause-loan
+returns-clause-loan c = rw (← c.self.view_is) c.sys_write.ensures.loan

@@ -13,6 +13,7 @@ use Rattle.palm_store.proofs.MemoryCalls.{viewed, ask_viewed}
 use Rattle.palm_store.proofs.Creation.{not_taken}
 use Rattle.palm_store.proofs.HeaderInfos.{with_info, set_spelled, set_step}
 use Rattle.palm_store.proofs.KnownIds.{nothing_known}
+use Rattle.palm_store.proofs.Loans.{number_here}
 use Rattle.palm_store.proofs.store.Store.set_database_info.Goals as goal
 
 pub invariant_of-self : goal.invariant_of-self
@@ -31,7 +32,7 @@ invariant_of-self c =
       bytes = c.to_bytes.result;
       spelled = subst (λ (bytes : List ℕ). IsSpelled (with_info c.args.info.now (database_in bytes)) (overwritten bytes 0 c.to_bytes.result)) body spelled;
       leaves = c.sys_write.ensures.leaves;
-    }) c.sys_write.ensures.rest in
+    }) c.sys_write.ensures.loan c.sys_write.ensures.rest in
     nothing_known _ does.accepted
 
 pub returns-clause-does : goal.returns-clause-does
@@ -50,7 +51,7 @@ returns-clause-does c =
       bytes = c.to_bytes.result;
       spelled = subst (λ (bytes : List ℕ). IsSpelled (with_info c.args.info.now (database_in bytes)) (overwritten bytes 0 c.to_bytes.result)) body spelled;
       leaves = c.sys_write.ensures.leaves;
-    }) c.sys_write.ensures.rest in
+    }) c.sys_write.ensures.loan c.sys_write.ensures.rest in
     viewed c.self.inside.heap c.args.self.now c.sys_write.new.self _ _ c.self.view_is does
 
 pub returns-then-has_other_name-clause-does : goal.returns-then-has_other_name-clause-does
@@ -60,3 +61,6 @@ returns-then-has_other_name-clause-does c =
     let taken : IsTaken (store_of image) c.args.db.0 c.args.info.now.name = subst (λ (name : List ℕ). IsTaken (store_of image) c.args.db.0 name) c.as_slice-2.ensures.is (c.has_other_name.ensures.0 c.if-has_other_name.true) in
     ask_viewed c.self.inside.heap c.args.self.now _ _ c.self.view_is
     (refused c.self.inside.heap (calls.Database (SetInfo c.args.db c.args.info.now)) AlreadyExists c.self.invariant.accepted (inr (known_number image c.args.db c.in_ok-chunk.ensures.known, inr ((λ bad. bad named), inl (taken, refl)))))
+
+pub sys_write-requires-clause-here : goal.sys_write-requires-clause-here
+sys_write-requires-clause-here c = number_here c.self.inside.heap c.args.db.0 c.self.invariant.accepted c.in_ok-chunk.ensures.known

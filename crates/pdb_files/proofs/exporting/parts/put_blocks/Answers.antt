@@ -14,10 +14,10 @@ use Rattle.pdb_files.proofs.OwnBlocks.{app_own, sort_own}
 use Rattle.pdb_files.proofs.exporting.parts.put_blocks.Goals as goal
 
 pub block-requires : goal.block-requires
-block-requires g c = app_own c.args.store.now.bytes c.args.bytes.now c.app_info.result c.requires.names c.app_info.ensures
+block-requires g c = app_own c.args.store.now c.args.bytes.now c.app_info.result c.requires.names c.app_info.ensures
 
 pub block-requires-2 : goal.block-requires-2
-block-requires-2 g c = sort_own c.args.store.now.bytes c.args.bytes.now c.sort_info.result c.requires.names c.sort_info.ensures
+block-requires-2 g c = sort_own c.args.store.now c.args.bytes.now c.sort_info.result c.requires.names c.sort_info.ensures
 
 pub returns-in_err-put_all : goal.returns-in_err-put_all
 returns-in_err-put_all g c =

@@ -10,7 +10,7 @@ use Rattle.pdb_files.proofs.exporting.parts.put_data.Goals as goal
 pub block-requires : goal.block-requires
 block-requires g c =
     let below : c.loop-index.index < entry_count_in c.args.bytes.now = omega arith in
-    entry_own c.args.store.now.bytes c.args.bytes.now c.loop-index.index c.entry_slot.result c.requires.names below c.entry_slot.ensures
+    entry_own c.args.store.now c.args.bytes.now c.loop-index.index c.entry_slot.result c.requires.names below c.entry_slot.ensures
 
 pub returns-in_err-put_all : goal.returns-in_err-put_all
 returns-in_err-put_all g c =

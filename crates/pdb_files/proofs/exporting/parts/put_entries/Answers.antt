@@ -12,7 +12,7 @@ use Rattle.pdb_files.proofs.exporting.parts.put_entries.Goals as goal
 pub block_size-size-requires-clause-own : goal.block_size-size-requires-clause-own
 block_size-size-requires-clause-own g c =
     let below : c.loop-index.index < entry_count_in c.args.bytes.now = omega arith in
-    entry_own c.args.store.now.bytes c.args.bytes.now c.loop-index.index c.slot.result c.requires.names below (c.slot.ensures ∙ ap entry_data c.read-entry.ensures.is)
+    entry_own c.args.store.now c.args.bytes.now c.loop-index.index c.slot.result c.requires.names below (c.slot.ensures ∙ ap entry_data c.read-entry.ensures.is)
 
 pub block_size-size-requires-clause-short : goal.block_size-size-requires-clause-short
 block_size-size-requires-clause-short g c =

@@ -17,7 +17,7 @@ loop-index-init c =
 pub block_size-size-requires-clause-own : goal.block_size-size-requires-clause-own
 block_size-size-requires-clause-own c =
     let below : c.loop-index.index < entry_count_in c.args.bytes.now = omega arith in
-    entry_own c.args.store.now.bytes c.args.bytes.now c.loop-index.index c.entry_slot.result c.requires.names below c.entry_slot.ensures
+    entry_own c.args.store.now c.args.bytes.now c.loop-index.index c.entry_slot.result c.requires.names below c.entry_slot.ensures
 
 pub block_size-size-requires-clause-short : goal.block_size-size-requires-clause-short
 block_size-size-requires-clause-short c =

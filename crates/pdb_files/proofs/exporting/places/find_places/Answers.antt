@@ -10,7 +10,7 @@ use Rattle.pdb_files.proofs.OwnBlocks.{app_own, sort_own}
 use Rattle.pdb_files.proofs.exporting.places.find_places.Goals as goal
 
 pub block_size-requires-clause-own : goal.block_size-requires-clause-own
-block_size-requires-clause-own c = app_own c.args.store.now.bytes c.args.bytes.now c.app_info-app_info.result c.requires.names c.app_info-app_info.ensures
+block_size-requires-clause-own c = app_own c.args.store.now c.args.bytes.now c.app_info-app_info.result c.requires.names c.app_info-app_info.ensures
 
 pub block_size-requires-clause-short : goal.block_size-requires-clause-short
 block_size-requires-clause-short c =
@@ -25,7 +25,7 @@ overflow_add-sort_at c =
     omega (arith, size_parts d, app, c.requires.short, c.block_size.ensures, c.first_block-app_at.ensures)
 
 pub block_size-requires-2-clause-own : goal.block_size-requires-2-clause-own
-block_size-requires-2-clause-own c = sort_own c.args.store.now.bytes c.args.bytes.now c.sort_info-sort_info.result c.requires.names c.sort_info-sort_info.ensures
+block_size-requires-2-clause-own c = sort_own c.args.store.now c.args.bytes.now c.sort_info-sort_info.result c.requires.names c.sort_info-sort_info.ensures
 
 pub block_size-requires-2-clause-short : goal.block_size-requires-2-clause-short
 block_size-requires-2-clause-short c =

@@ -46,7 +46,7 @@ loop-index-preserved c =
           let is = block_at c.args.file.now c.args.blocks.now c.loop-index.index (Some w.in-Some.block) (omega arith) w.in-Some.is in
           let leaves = subst (λ (name : ℕ). LeavesStore c.loop-index.store.bytes w.fill_data.new.self.bytes (data_filled (store_of c.loop-index.store.bytes) name bytes)) (sym (name_at c.args.names.now c.loop-index.index (record { 0 = 0 }) inside)) w.fill_data.ensures.filled in
           subst (λ (store : Memory). IsFilling c.args.store.now store blocks names (c.loop-index.index + 1)) (sym w.store-is)
-          (one_more c.args.store.now c.loop-index.store w.fill_data.new.self blocks names c.loop-index.index bytes c.requires.once (omega arith) is leaves w.fill_data.ensures.unmoved w.fill_data.ensures.rest c.loop-index.invariant)
+          (one_more c.args.store.now c.loop-index.store w.fill_data.new.self blocks names c.loop-index.index bytes c.requires.once (omega arith) is leaves w.fill_data.ensures.unmoved w.fill_data.ensures.loan w.fill_data.ensures.rest c.loop-index.invariant)
       | in_default w ↦
           let is = block_at c.args.file.now c.args.blocks.now c.loop-index.index None (omega arith) (search rules) in
           subst (λ (store : Memory). IsFilling c.args.store.now store blocks names (c.loop-index.index + 1)) (sym w.store-is)

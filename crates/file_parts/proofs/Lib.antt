@@ -1,0 +1,13 @@
+pub mod EntryLines
+pub mod GoodWords
+pub mod ListedEntries
+pub mod Names
+pub mod PackedBack
+pub mod PackedEntries
+pub mod PackedFiles
+pub mod PartsBack
+pub mod ReadTexts
+pub mod TextLaws
+pub mod Wholes
+pub mod UnpackedBack
+pub mod WordTexts

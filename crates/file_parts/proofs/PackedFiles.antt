@@ -1,0 +1,63 @@
+-- Where the blocks of a packed database stand, and the blocks one after the other.
+use Rattle.std.proofs.Common.{◌≡◌, ℕ, zero, suc, ◌+◌, ◌<◌, ◌≤◌, Option, None, List, [], ◌∷◌, ◌++◌, length, get_or, drop, map, refl, sym, ap, ◌∙◌, arith, add-one, drop-cons}
+use Rattle.std.proofs.lemmas.List.{length-map, drop_all}
+use Rattle.heap_model.specs.Database.{Database, entry_data, data_in}
+use Rattle.heap_model.specs.Files.{block_bytes, block_size, first_block}
+use Rattle.pdb_format.specs.Writable.{file_size}
+use Rattle.pdb_format.proofs.WrittenOffsets.{all_bytes, size_more}
+use Rattle.file_parts.specs.declared.listed.Listed.{Listed}
+use Rattle.file_parts.specs.declared.packing.PackFault.{PackFault}
+use Rattle.file_parts.specs.declared.packing.PackFault.TheVariants.{TooLarge, OutOfMemory}
+use Rattle.file_parts.specs.Listed.{entry_listed, entries_listed, database_listed}
+use Rattle.file_parts.specs.Packing.{IsRefusedFor, filled, part_at, packed}
+use Rattle.file_parts.proofs.PackedEntries.{block_filled, length-packed}
+
+-- a larger file is refused as well
+pub refused_more : (n m : ℕ) (fault : PackFault) → n ≤ m → IsRefusedFor n fault → IsRefusedFor m fault
+refused_more n m TooLarge less is = omega arith
+refused_more n m OutOfMemory less is = tt
+
+-- the blocks are all within the file
+pub sizes : (d : Database (Option (List ℕ))) → file_size d ≡ first_block d + (block_size d.app_info + (block_size d.sort_info + length (all_bytes (map entry_data d.entries))))
+sizes d =
+    let one = size_more d.app_info (d.sort_info ∷ map entry_data d.entries) in
+    let two = size_more d.sort_info (map entry_data d.entries) in
+    omega arith
+
+-- the block of a rank
+block_packed : (listed : Listed) (parts : List (List ℕ)) (rank : ℕ) → rank < length (data_in (database_listed listed))
+    → get_or (data_in (packed listed parts)) rank None ≡ filled (part_at parts rank) (get_or (data_in (database_listed listed)) rank None)
+block_packed listed parts zero inside = refl
+block_packed listed parts (suc zero) inside = refl
+block_packed listed parts (suc (suc k)) inside =
+    let long = length-map (entries_listed listed.entries.items) (entry_data {Data = Option (List ℕ)}) in
+    let next : 2 + k ≡ suc (suc k) = omega arith in
+    block_filled parts 2 k (entries_listed listed.entries.items) (omega arith)
+    ∙ ap (λ (r : ℕ). filled (part_at parts r) (get_or (map entry_data (entries_listed listed.entries.items)) k None)) next
+
+pub count_packed : (listed : Listed) (parts : List (List ℕ)) → length (data_in (packed listed parts)) ≡ length (data_in (database_listed listed))
+count_packed listed parts =
+    let one = length-map (packed listed parts).entries (entry_data {Data = Option (List ℕ)}) in
+    let two = length-map (entries_listed listed.entries.items) (entry_data {Data = Option (List ℕ)}) in
+    let three = length-packed listed.entries.items parts in
+    let four = length-map listed.entries.items entry_listed in
+    omega arith
+
+blocks_from : (blocks : List (Option (List ℕ))) (i : ℕ) → i < length blocks → all_bytes (drop i blocks) ≡ block_bytes (get_or blocks i None) ++ all_bytes (drop (i + 1) blocks)
+blocks_from blocks i inside = rw (add-one, drop-cons blocks i None) refl
+
+-- the blocks from a rank on
+abbrev pub blocks_on : Listed → List (List ℕ) → ℕ → List ℕ
+blocks_on listed parts rank = all_bytes (drop rank (data_in (packed listed parts)))
+
+pub block_here : (listed : Listed) (parts : List (List ℕ)) (rank : ℕ) (bytes : List ℕ) → rank < length (data_in (database_listed listed)) → bytes ≡ block_bytes (filled (part_at parts rank) (get_or (data_in (database_listed listed)) rank None))
+    → blocks_on listed parts rank ≡ bytes ++ blocks_on listed parts (rank + 1)
+block_here listed parts rank bytes inside is =
+    let count = count_packed listed parts in
+    blocks_from (data_in (packed listed parts)) rank (omega arith)
+    ∙ ap (λ (xs : List ℕ). xs ++ blocks_on listed parts (rank + 1)) (ap block_bytes (block_packed listed parts rank inside) ∙ sym is)
+
+pub blocks_end : (listed : Listed) (parts : List (List ℕ)) (rank : ℕ) → length (data_in (database_listed listed)) ≤ rank → blocks_on listed parts rank ≡ []
+blocks_end listed parts rank past =
+    let count = count_packed listed parts in
+    ap all_bytes (drop_all rank (data_in (packed listed parts)) (omega arith))

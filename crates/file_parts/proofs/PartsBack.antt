@@ -1,0 +1,139 @@
+-- The text and the parts of a database give it back.
+use Rattle.std.proofs.Common.{◌≡◌, ℕ, zero, suc, ◌+◌, ◌/◌, ◌%◌, ◌<◌, ◌≤◌, Bool, true, false, Option, Some, None, List, [], ◌∷◌, ◌++◌, length, map, take, refl, sym, ap, ◌∙◌, arith, append_assoc, length-append}
+use Rattle.std.specs.Prelude.{All, Ok, ◌==◌}
+use Rattle.std.proofs.Math.Seq.{get_or-append_seam}
+use Rattle.std.proofs.lemmas.Fmt.{decimal_digit}
+use Rattle.std.proofs.lemmas.List.Elements.{All-head, All-tail, All-nil, All-cons}
+use Rattle.heap_model.specs.Bytes.{AreBytes}
+use Rattle.heap_model.specs.Database.{Database, Entry, a_record, a_resource, entry_data, entry_with, data_in, has_resources, name_in}
+use Rattle.heap_model.specs.Files.{block_bytes}
+use Rattle.pdb_format.specs.Writable.{IsWritableEntry, HasFile}
+use Rattle.file_parts.specs.Texts.{app_name, sort_name, entry_name, named, named_entries, with_names, database_text}
+use Rattle.file_parts.specs.Words.{begins_name, is_name_byte, spelled_part}
+use Rattle.file_parts.specs.Reading.{read_database}
+use Rattle.file_parts.specs.Packing.{filled, part_at, filled_entries, with_parts}
+use Rattle.file_parts.specs.Laws.{IsPartName, IsNamedEntry, HasText}
+use Rattle.file_parts.proofs.Names.{name_good}
+use Rattle.file_parts.proofs.TextLaws.{texts_are_read}
+
+-- ---- the parts
+
+filled_named : (name : List ℕ) (block : Option (List ℕ)) → filled (block_bytes block) (named name block) ≡ block
+filled_named name None = refl
+filled_named name (Some bytes) = refl
+
+filled_entry : (name : List ℕ) (e : Entry (Option (List ℕ))) → entry_with (filled (block_bytes (entry_data e))) (entry_with (named name) e) ≡ e
+filled_entry name (a_record attributes id block) = ap (λ (b : Option (List ℕ)). a_record attributes id b) (filled_named name block)
+filled_entry name (a_resource kind id block) = ap (λ (b : Option (List ℕ)). a_resource kind id b) (filled_named name block)
+
+all_blocks : List (Entry (Option (List ℕ))) → List (List ℕ)
+all_blocks es = map block_bytes (map entry_data es)
+
+entries_filled : (front : List (List ℕ)) (index rank : ℕ) (es : List (Entry (Option (List ℕ)))) → length front ≡ rank → filled_entries (front ++ all_blocks es) rank (named_entries index es) ≡ es
+unfolding all_blocks
+entries_filled front index rank [] long = refl
+entries_filled front index rank (e ∷ es) long =
+    let block : List ℕ = block_bytes (entry_data e) in
+    let more = length-append front (block ∷ []) in
+    let here : part_at (front ++ block ∷ all_blocks es) rank ≡ block = ap (λ (r : ℕ). part_at (front ++ block ∷ all_blocks es) r) (sym long) ∙ get_or-append_seam front block (all_blocks es) [] in
+    let joined : front ++ block ∷ all_blocks es ≡ (front ++ block ∷ []) ++ all_blocks es = sym (append_assoc front (block ∷ []) (all_blocks es)) in
+    ap (λ (bytes : List ℕ). entry_with (filled bytes) (entry_with (named (entry_name index)) e) ∷ filled_entries (front ++ block ∷ all_blocks es) (rank + 1) (named_entries (index + 1) es)) here
+    ∙ ap (λ (one : Entry (Option (List ℕ))). one ∷ filled_entries (front ++ block ∷ all_blocks es) (rank + 1) (named_entries (index + 1) es)) (filled_entry (entry_name index) e)
+    ∙ ap (λ (parts : List (List ℕ)). e ∷ filled_entries parts (rank + 1) (named_entries (index + 1) es)) joined
+    ∙ ap (λ (xs : List (Entry (Option (List ℕ)))). e ∷ xs) (entries_filled (front ++ block ∷ []) (index + 1) (rank + 1) es (omega arith))
+
+whole : Database (Option (List ℕ)) → Option (List ℕ) → Option (List ℕ) → List (Entry (Option (List ℕ))) → Database (Option (List ℕ))
+whole d app sort entries = record { header = d.header; app_info = app; sort_info = sort; entries = entries }
+
+pub parts_back : (d : Database (Option (List ℕ))) → with_parts (map block_bytes (data_in d)) (with_names d) ≡ d
+unfolding all_blocks whole
+parts_back d =
+    let entries = entries_filled (block_bytes d.app_info ∷ block_bytes d.sort_info ∷ []) 0 2 d.entries refl in
+    ap (λ (es : List (Entry (Option (List ℕ)))). whole d (filled (block_bytes d.app_info) (named app_name d.app_info)) (filled (block_bytes d.sort_info) (named sort_name d.sort_info)) es) entries
+    ∙ ap (λ (app : Option (List ℕ)). whole d app (filled (block_bytes d.sort_info) (named sort_name d.sort_info)) d.entries) (filled_named app_name d.app_info)
+    ∙ ap (λ (sort : Option (List ℕ)). whole d d.app_info sort d.entries) (filled_named sort_name d.sort_info)
+
+-- ---- the names
+
+five : (a b c d e : ℕ) → List ℕ
+five a b c d e = (48 + a) ∷ (48 + b) ∷ (48 + c) ∷ (48 + d) ∷ (48 + e) ∷ []
+
+begins : (d : ℕ) → d < 10 → begins_name (48 + d) ≡ true
+begins d small = grind arith
+
+goes_on : (d : ℕ) → d < 10 → is_name_byte (48 + d) ≡ true
+goes_on d small = grind arith
+
+not_d : (d : ℕ) → d < 10 → (48 + d == 100) ≡ false
+not_d d small = grind arith
+
+not_n : (d : ℕ) → d < 10 → (48 + d == 110) ≡ false
+not_n d small = grind arith
+
+five_named : (a b c d e : ℕ) → a < 10 → b < 10 → c < 10 → d < 10 → e < 10 → spelled_part (five a b c d e) ≡ Some (Some (five a b c d e))
+unfolding five
+five_named a b c d e first second third fourth fifth =
+    rw (not_n a first, not_d a first, begins a first, goes_on b second, goes_on c third, goes_on d fourth, goes_on e fifth) refl
+
+entry_five : (index : ℕ) → index < 100000 → entry_name index ≡ five (index / 10000) (index / 1000 % 10) (index / 100 % 10) (index / 10 % 10) (index % 10)
+unfolding five
+entry_five index small =
+    rw (decimal_digit (index / 10000) (omega arith), decimal_digit (index / 1000 % 10) (omega arith), decimal_digit (index / 100 % 10) (omega arith), decimal_digit (index / 10 % 10) (omega arith), decimal_digit (index % 10) (omega arith)) refl
+
+entry_named : (index : ℕ) → index < 100000 → spelled_part (entry_name index) ≡ Some (Some (entry_name index))
+entry_named index small =
+    rw (entry_five index small) (five_named (index / 10000) (index / 1000 % 10) (index / 100 % 10) (index / 10 % 10) (index % 10) (omega arith) (omega arith) (omega arith) (omega arith) (omega arith))
+
+named_part : (name : List ℕ) (block : Option (List ℕ)) → spelled_part name ≡ Some (Some name) → IsPartName (named name block)
+named_part name None is = tt
+named_part name (Some bytes) is = is
+
+named_none : (name : List ℕ) (block : Option (List ℕ)) → named name block ≡ None → block ≡ None
+named_none name None e = refl
+named_none name (Some bytes) e = absurd cc
+
+one_named : (r : Bool) (index : ℕ) (e : Entry (Option (List ℕ))) → index < 100000 → IsWritableEntry r e → IsNamedEntry r (entry_with (named (entry_name index)) e)
+one_named false index (a_record attributes id block) small is = (is.0, is.1, named_part (entry_name index) block (entry_named index small), λ none. is.2 (named_none (entry_name index) block none))
+one_named true index (a_record attributes id block) small is = absurd is
+one_named false index (a_resource kind id block) small is = absurd is
+one_named true index (a_resource kind id block) small is = (is.0, is.1, named_part (entry_name index) block (entry_named index small), λ none. is.2 (named_none (entry_name index) block none))
+
+all_named : (r : Bool) (index : ℕ) (es : List (Entry (Option (List ℕ)))) → index + length es ≤ 100000 → All (IsWritableEntry r) es → All (IsNamedEntry r) (named_entries index es)
+all_named r index [] small all = All-nil (IsNamedEntry r)
+all_named r index (e ∷ es) small all =
+    All-cons (IsNamedEntry r) (entry_with (named (entry_name index)) e) (named_entries (index + 1) es)
+    (one_named r index e (omega arith) (All-head (IsWritableEntry r) e es all))
+    (all_named r (index + 1) es (omega arith) (All-tail (IsWritableEntry r) e es all))
+
+length-named : (index : ℕ) (es : List (Entry (Option (List ℕ)))) → length (named_entries index es) ≡ length es
+length-named index [] = refl
+length-named index (e ∷ es) = let ih = length-named (index + 1) es in omega arith
+
+-- ---- the text
+
+front_bytes : (n : ℕ) (xs : List ℕ) → AreBytes xs → AreBytes (take n xs)
+front_bytes zero xs are k = omega arith
+front_bytes (suc n) [] are k = omega arith
+front_bytes (suc n) (x ∷ xs) are zero = are 0
+front_bytes (suc n) (x ∷ xs) are (suc k) = front_bytes n xs (λ i. are (suc i)) k
+
+pub name_bytes : (file : List ℕ) → AreBytes file → AreBytes (name_in file)
+unfolding name_in
+name_bytes file are = front_bytes _ (take 31 file) (front_bytes 31 file are)
+
+has_text : (d : Database (Option (List ℕ))) → HasFile d → AreBytes d.header.name → HasText (with_names d)
+has_text d is bytes =
+    let few = is.entry_count in
+    let long = length-named 0 d.entries in
+    record {
+      name = name_good d.header.name is.name;
+      bytes = bytes;
+      header = is.header;
+      app_info = named_part app_name d.app_info refl;
+      sort_info = named_part sort_name d.sort_info refl;
+      entries = all_named (has_resources d.header.attributes) 0 d.entries (omega arith) is.entries;
+      few = omega arith;
+    }
+
+pub text_back : (d : Database (Option (List ℕ))) → HasFile d → AreBytes d.header.name → read_database (database_text (with_names d)) ≡ Ok (with_names d)
+text_back d is bytes = texts_are_read (with_names d) (has_text d is bytes)

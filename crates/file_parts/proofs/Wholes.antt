@@ -1,0 +1,17 @@
+-- The whole text of a database that is read.
+use Rattle.std.proofs.Common.{◌≡◌, ℕ, List, ◌++◌, None, get_or, ap}
+use Rattle.std.specs.Prelude.{codes}
+use Rattle.heap_model.specs.Database.{DatabaseHeader}
+use Rattle.heap_model.specs.Files.{blocks_in}
+use Rattle.pdb_format.specs.ReadFiles.{header_read, entries_read, database_read}
+use Rattle.file_parts.specs.Texts.{app_name, sort_name, named, named_entries, with_names, header_lines, info_line, info_lines, entry_lines, body_lines, database_text}
+
+-- the lines after those of the header
+abbrev pub rest_of : List ℕ → List ℕ → List ℕ
+rest_of file ids =
+    (info_line (codes "app") (named app_name (get_or (blocks_in file) 0 None)) ++ info_line (codes "sort") (named sort_name (get_or (blocks_in file) 1 None)))
+    ++ entry_lines (named_entries 0 (entries_read file ids))
+
+pub text_is : (file ids : List ℕ) (seed : ℕ) (header : DatabaseHeader) → header ≡ header_read file seed → header_lines header ++ rest_of file ids ≡ database_text (with_names (database_read file ids seed))
+unfolding database_read database_text body_lines info_lines
+text_is file ids seed header is = ap (λ (h : DatabaseHeader). header_lines h ++ rest_of file ids) is

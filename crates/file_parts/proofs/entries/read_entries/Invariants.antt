@@ -1,0 +1,16 @@
+use Rattle.std.proofs.Common.{◌≡◌, ◌≤◌, [], length}
+use Rattle.std.specs.Prelude.{All}
+use Rattle.file_parts.specs.Listed.{IsGoodEntry, entries_listed}
+use Rattle.file_parts.specs.Reading.{read_entries}
+use Rattle.file_parts.proofs.entries.read_entries.Given as goal
+
+-- what is read goes on from the entries so far
+abbrev pub invariant-loop-line : goal.invariant-loop-line
+invariant-loop-line g l = record {
+  goes_on : read_entries l.resources [] l.fn.lines.number l.fn.lines.texts ≡ read_entries l.resources (entries_listed l.entries.items) l.lines.number l.lines.texts;
+  few : length l.entries.items ≤ 65535;
+  good : All (IsGoodEntry l.resources) l.entries.items;
+}
+
+abbrev pub decreases-loop-line : goal.decreases-loop-line
+decreases-loop-line g l = length l.lines.texts

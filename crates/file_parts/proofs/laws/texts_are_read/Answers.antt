@@ -1,0 +1,5 @@
+use Rattle.file_parts.proofs.TextLaws as laws
+use Rattle.file_parts.proofs.laws.texts_are_read.Goals as goal
+
+pub returns : goal.returns
+returns c = laws.texts_are_read

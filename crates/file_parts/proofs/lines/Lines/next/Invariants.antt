@@ -1,0 +1,15 @@
+use Rattle.std.proofs.Common.{◌≡◌, ◌+◌, ◌<◌, ◌^◌, length}
+use Rattle.std.specs.Str.Lines.{lines}
+use Rattle.file_parts.specs.Reading.{next_of}
+use Rattle.file_parts.proofs.lines.Lines.next.Given as goal
+
+-- the lines before these are passed over
+abbrev pub invariant-loop-self : goal.invariant-loop-self
+invariant-loop-self l = record {
+  next : next_of l.fn.self.number l.fn.self.texts ≡ next_of l.self-inside.number (lines l.self-inside.rest.now);
+  count : l.self-inside.number + length (lines l.self-inside.rest.now) ≡ l.fn.self.number + length l.fn.self.texts;
+  within : l.self-inside.number + length l.self-inside.rest.now < 2 ^ 63;
+}
+
+abbrev pub decreases-loop-self : goal.decreases-loop-self
+decreases-loop-self l = length l.self-inside.rest.now

@@ -1,0 +1,13 @@
+use Rattle.std.proofs.Common.{◌≡◌, ◌+◌, ◌≤◌, ◌++◌, length, drop}
+use Rattle.pdb_format.specs.FileTexts.{data_text, entries_text}
+use Rattle.canonical_file.specs.Canonical.{most_bytes}
+use Rattle.file_parts.specs.Packing.{packed_entries}
+use Rattle.file_parts.proofs.packing.append_entries.Given as goal
+
+-- The entries that are left make the text whole, and their data ends with all of the data.
+abbrev pub invariant-loop-index : goal.invariant-loop-index
+invariant-loop-index g l = record {
+  text : l.bytes.items ++ entries_text l.at (drop l.index (packed_entries l.entries l.parts)) ≡ l.fn.bytes.items ++ entries_text l.first (packed_entries l.entries l.parts);
+  size : l.at + length (data_text (drop l.index (packed_entries l.entries l.parts))) ≡ l.first + length (data_text (packed_entries l.entries l.parts));
+  most : l.at ≤ most_bytes;
+}

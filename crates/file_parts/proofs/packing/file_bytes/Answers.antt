@@ -1,0 +1,23 @@
+use Rattle.std.proofs.Common.{◌++◌, ◌∷◌, [], ℕ, List, sym, ap, ◌∙◌}
+use Rattle.pdb_format.specs.FileTexts.{blocks_text, entries_text, header_text}
+use Rattle.pdb_format.proofs.FileParts.{file_parts}
+use Rattle.file_parts.specs.declared.entries.ListedEntry.{ListedEntry}
+use Rattle.file_parts.specs.Packing.{packed, packed_entries}
+use Rattle.file_parts.proofs.PackedEntries.{joined}
+use Rattle.file_parts.proofs.packing.file_bytes.Goals as goal
+
+pub returns-clause-file : goal.returns-clause-file
+returns-clause-file g c =
+    let listed = c.args.listed.now in
+    let parts = c.args.parts.now in
+    let d = packed listed parts in
+    let places = c.in_ok-places.places in
+    let are = c.in_ok-places.ensures.are in
+    let entries : List ℕ = entries_text places.entries (packed_entries c.as_slice.result.now parts) in
+    let end : List ℕ = 0 ∷ 0 ∷ [] ++ blocks_text d in
+    joined c.new-bytes.result.items c.append.new.bytes.items c.append_entries.new.bytes.items c.append-2.new.bytes.items c.append_blocks.new.bytes.items c.header_bytes.result entries (0 ∷ 0 ∷ []) (blocks_text d)
+    c.new-bytes.ensures.items c.in_ok-append.ensures.items c.in_ok-append_entries.ensures.items c.in_ok-append-2.ensures.items c.in_ok-append_blocks.ensures.items
+    ∙ ap (λ (xs : List ℕ). xs ++ (entries ++ end)) (c.header_bytes.ensures parts are)
+    ∙ ap (λ (items : List ListedEntry). header_text d ++ (entries_text places.entries (packed_entries items parts) ++ end)) c.as_slice.ensures.value
+    ∙ ap (λ (at : ℕ). header_text d ++ (entries_text at d.entries ++ end)) are.entries
+    ∙ sym (file_parts d)

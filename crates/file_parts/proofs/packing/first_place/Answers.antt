@@ -1,0 +1,12 @@
+use Rattle.std.proofs.Common.{◌+◌, ℕ, List, Bool, length, sym, ap, ◌∙◌}
+use Rattle.heap_model.specs.Database.{entry_offset, has_resources}
+use Rattle.file_parts.specs.declared.entries.ListedEntry.{ListedEntry}
+use Rattle.file_parts.proofs.PackedEntries.{length-packed}
+use Rattle.file_parts.proofs.packing.first_place.Goals as goal
+
+pub returns-clause-is : goal.returns-clause-is
+returns-clause-is c = λ parts.
+    let items : List ListedEntry = c.args.listed.now.entries.items in
+    let r : Bool = has_resources c.args.listed.now.header.attributes in
+    let count = ap (λ (xs : List ListedEntry). length xs) c.as_slice.ensures.value ∙ sym (length-packed items parts) in
+    ap (λ (n : ℕ). n + 2) (c.entry_offset.ensures ∙ ap (λ (r : Bool). entry_offset r (length c.as_slice.result.now)) c.has_resources.ensures ∙ ap (entry_offset r) count)

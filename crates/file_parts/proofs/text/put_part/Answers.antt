@@ -1,0 +1,10 @@
+use Rattle.std.proofs.Common.{List, ℕ, subst}
+use Rattle.std.specs.Prelude.{is_ok}
+use Rattle.palm_text.specs.Counted.{Writes}
+use Rattle.file_parts.proofs.EntryLines.{part_joined}
+use Rattle.file_parts.proofs.text.put_part.Goals as goal
+
+pub returns-in-Some : goal.returns-in-Some
+returns-in-Some g c = λ file.
+    subst (λ (text : List ℕ). Writes g.W.Write.contents c.args.out.now c.put_pieces-in-Some.new.out text (is_ok c.put_pieces-in-Some.result))
+    (part_joined c.args.index c.from-index.result file c.args.block c.in-Some.field-0 c.from-index.ensures c.in-Some.is) c.put_pieces-in-Some.ensures

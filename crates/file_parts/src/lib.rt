@@ -1,0 +1,40 @@
+//! PDB and PRC files, taken apart into files of a folder, and put together from them.
+//!
+//! The folder has the text `database` and a file for each block, a *part*:
+//!
+//! ```text
+//! name "MemoDB"
+//! attributes 0000
+//! version 0
+//! created 3878595035
+//! modified 0
+//! backup 0
+//! number 0
+//! type "DATA"
+//! creator "memo"
+//! seed 00000001
+//! app none
+//! sort none
+//! record 01 1 00000
+//! ```
+//!
+//! `specs/Texts.antt` defines the text: start there. No folder is known here: parts are names and bytes.
+#![tactic(auto)]
+
+mod entries;
+mod header;
+mod laws;
+mod lines;
+mod listed;
+mod packing;
+mod part_file;
+mod text;
+mod unpacked;
+mod words;
+
+pub use laws::texts_are_read;
+pub use listed::{Listed, read_listed};
+pub use packing::{PackFault, pack};
+pub use part_file::PartFile;
+pub use text::put_database;
+pub use unpacked::{Part, PartName, UnpackFault, Unpacked, unpack};

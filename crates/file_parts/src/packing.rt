@@ -1,0 +1,289 @@
+//! Files that are put together.
+
+ghost use Rattle.std.specs.Prelude.{◌≡◌, ◌<◌, ◌≤◌, ◌+◌, ◌++◌, ℕ, List, All, length, Err, IfOk, OnOk, IfErr};
+ghost use Rattle.heap_model.specs.Database.{entry_with};
+ghost use Rattle.heap_model.specs.Files as files;
+ghost use Rattle.heap_model.specs.Files.{block_bytes, file_of, first_block, idle_entry};
+ghost use Rattle.db_format.specs.EitherEntry.{HasFittingId, entry_of};
+ghost use Rattle.pdb_format.specs.Writable.{file_size};
+ghost use Rattle.pdb_format.specs.FileTexts.{blocks_text, data_text, entries_text, header_text};
+ghost use Rattle.canonical_file.specs.Canonical.{IsCanonical, most_bytes};
+ghost use Rattle.file_parts.specs.Laws.{UnpacksBack};
+ghost use Rattle.file_parts.specs.Listed.{IsListed, entry_listed};
+ghost use Rattle.file_parts.specs.Packing.{ArePlaces, HasPartsOf, IsRefusedFor, filled, packed, packed_entries, part_at};
+
+use crate::entries::ListedEntry;
+use crate::listed::Listed;
+use crate::part_file::PartFile;
+use allowance::Allowance;
+use bitflags::Flags;
+use canonical_file::canonical_bytes;
+use db_format::{
+    DbAttrs, DbEntry, HEADER_SIZE, INFO_BLOCKS, RecordAttrs, RecordEntry, ResourceEntry,
+    entry_offset,
+};
+use heap_model::Bytes;
+use thiserror::Error;
+
+/// The most bytes that a file may have.
+const MOST_BYTES: u32 = 16_777_216;
+
+/// Why no file was put together.
+#[derive(Clone, Copy, Debug, PartialEq, Eq, Error)]
+pub enum PackFault {
+    /// The file would have more than 16,777,216 bytes.
+    #[error("TooLarge")]
+    TooLarge,
+    /// An allocation failed.
+    #[error("OutOfMemory")]
+    OutOfMemory,
+}
+
+/// Where the blocks begin: AppInfo, SortInfo, and the data of the entries.
+#[derive(Clone, Copy)]
+pub(crate) struct Places {
+    pub(crate) app: u32,
+    pub(crate) sort: u32,
+    pub(crate) entries: u32,
+}
+
+/// Returns the bytes of a part: none if there is no part.
+fn bytes_of<'a>(part: &Option<PartFile<'_>>, bytes: &'a Bytes) -> &'a [u8]
+    ensures { result.now ≡ block_bytes (filled bytes.now part.now) }
+{
+    match part {
+        Some(_) => bytes.as_slice(),
+        None => &[],
+    }
+}
+
+/// Returns the bytes of the part of a rank: none if there is no part.
+fn part_bytes<'a>(part: &Option<PartFile<'_>>, parts: &'a [Bytes], rank: usize) -> &'a [u8]
+    requires { rank < length parts.now }
+    ensures { result.now ≡ block_bytes (filled (part_at parts.now rank) part.now) }
+{
+    bytes_of(part, &parts[rank])
+}
+
+/// Returns the offset of a part that begins at one, or 0 if there is no part.
+fn offset_of(at: u32, part: &Option<PartFile<'_>>) -> u32
+    ensures { (bytes : List ℕ) → result ≡ files.block_offset at (filled bytes part.now) }
+{
+    match part {
+        Some(_) => at,
+        None => 0,
+    }
+}
+
+/// Returns where a block ends that begins at an offset.
+fn end_of(at: u32, block: &[u8]) -> Result<u32, PackFault>
+    requires { at ≤ most_bytes }
+    ensures is { IfOk result (λ end. end ≡ at + length block.now) }
+    ensures most { IfOk result (λ end. end ≤ most_bytes) }
+    ensures large { IfErr result (IsRefusedFor (at + length block.now)) }
+    ensures takes_no_memory { IfErr result (λ fault. fault ≡ PackFault.TooLarge) }
+{
+    if block.len() > (MOST_BYTES - at) as usize {
+        return Err(PackFault::TooLarge);
+    }
+    Ok(at + block.len() as u32)
+}
+
+/// Returns where the first block begins: after the entries and two bytes.
+fn first_place(listed: &Listed<'_>) -> u32
+    requires { IsListed listed.now }
+    ensures is { (parts : List (List ℕ)) → result ≡ first_block (packed listed.now parts) }
+    ensures most { result ≤ most_bytes }
+{
+    let count = listed.entries.as_slice().len() as u16;
+    (entry_offset(DbAttrs(listed.header.attributes).has_resources(), count) + 2) as u32
+}
+
+/// Returns where the blocks of the file begin.
+fn find_places(listed: &Listed<'_>, parts: &[Bytes]) -> Result<Places, PackFault>
+    requires { HasPartsOf listed.now parts.now }
+    ensures are { IfOk result (ArePlaces (packed listed.now parts.now)) }
+    ensures large { IfErr result (IsRefusedFor (file_size (packed listed.now parts.now))) }
+    ensures takes_no_memory { IfErr result (λ fault. fault ≡ PackFault.TooLarge) }
+{
+    let app = first_place(listed);
+    match end_of(app, part_bytes(&listed.infos.app, parts, 0)) {
+        Ok(sort) => find_entries(listed, parts, app, sort),
+        Err(fault) => Err(fault),
+    }
+}
+
+/// Returns where the blocks of the file begin, of which these are known.
+fn find_entries(
+    listed: &Listed<'_>,
+    parts: &[Bytes],
+    app: u32,
+    sort: u32,
+) -> Result<Places, PackFault>
+    requires parts { HasPartsOf listed.now parts.now }
+    requires app { app ≡ first_block (packed listed.now parts.now) }
+    requires sort { sort ≡ app + files.block_size (packed listed.now parts.now).app_info }
+    requires most { sort ≤ most_bytes }
+    ensures are { IfOk result (ArePlaces (packed listed.now parts.now)) }
+    ensures large { IfErr result (IsRefusedFor (file_size (packed listed.now parts.now))) }
+    ensures takes_no_memory { IfErr result (λ fault. fault ≡ PackFault.TooLarge) }
+{
+    match end_of(sort, part_bytes(&listed.infos.sort, parts, 1)) {
+        Ok(entries) => Ok(Places { app, sort, entries }),
+        Err(fault) => Err(fault),
+    }
+}
+
+/// Returns the bytes of the header of the file.
+fn header_bytes(listed: &Listed<'_>, places: Places) -> [u8; HEADER_SIZE]
+    requires { IsListed listed.now }
+    ensures { (parts : List (List ℕ)) → ArePlaces (packed listed.now parts) places
+        → result ≡ header_text (packed listed.now parts) }
+{
+    let mut header = listed.header;
+    header.app_info = offset_of(places.app, &listed.infos.app);
+    header.sort_info = offset_of(places.sort, &listed.infos.sort);
+    header.entry_count = listed.entries.as_slice().len() as u16;
+    header.to_bytes()
+}
+
+/// Returns an entry as the file has it: no record is busy, and its data begins at an offset.
+fn placed(listed: &ListedEntry<'_>, at: u32) -> DbEntry
+    requires { HasFittingId listed.now.entry }
+    ensures is { (bytes : List ℕ) → entry_of result
+        ≡ entry_with (files.block_offset at) (idle_entry (entry_with (filled bytes) (entry_listed listed.now))) }
+    ensures id { HasFittingId result }
+{
+    match listed.entry {
+        DbEntry::Record(record) => {
+            DbEntry::Record(RecordEntry {
+                attributes: record.attributes.difference(RecordAttrs::BUSY),
+                id: record.id,
+                slot: offset_of(at, &listed.part),
+            })
+        }
+        DbEntry::Resource(resource) => {
+            DbEntry::Resource(ResourceEntry {
+                kind: resource.kind,
+                id: resource.id,
+                slot: offset_of(at, &listed.part),
+            })
+        }
+    }
+}
+
+/// Puts bytes after others.
+fn append<A: Allowance>(memory: &A, bytes: &mut Vec<u8>, more: &[u8]) -> Result<(), PackFault>
+    ensures items { OnOk result (bytes.new.items ≡ bytes.old.items ++ more.now) }
+    ensures memory { IfErr result (λ fault. fault ≡ PackFault.OutOfMemory) }
+    ensures short { IfErr result (λ _. A.is_short memory.now) }
+{
+    match allowance::extend(memory, bytes, more) {
+        Ok(()) => Ok(()),
+        Err(_) => Err(PackFault::OutOfMemory),
+    }
+}
+
+/// Puts the entries, whose data begins at `first`, after other bytes.
+fn append_entries<A: Allowance>(
+    memory: &A,
+    entries: &[ListedEntry<'_>],
+    parts: &[Bytes],
+    first: u32,
+    bytes: &mut Vec<u8>,
+) -> Result<(), PackFault>
+    requires good { All (λ entry. HasFittingId entry.entry) entries.now }
+    requires count { length parts.now ≡ 2 + length entries.now }
+    requires first { first ≤ most_bytes }
+    ensures items { OnOk result (bytes.new.items
+        ≡ bytes.old.items ++ entries_text first (packed_entries entries.now parts.now)) }
+    ensures most { OnOk result
+        (first + length (data_text (packed_entries entries.now parts.now)) ≤ most_bytes) }
+    ensures large { IfErr result
+        (IsRefusedFor (first + length (data_text (packed_entries entries.now parts.now)))) }
+    ensures short { result ≡ Err PackFault.OutOfMemory → A.is_short memory.now }
+{
+    let mut at = first;
+    for index in 0..entries.len() {
+        let entry = &entries[index];
+        append(memory, bytes, placed(entry, at).to_bytes().as_slice())?;
+        at = match end_of(at, part_bytes(&entry.part, parts, INFO_BLOCKS + index)) {
+            Ok(end) => end,
+            Err(fault) => return Err(fault),
+        };
+    }
+    Ok(())
+}
+
+/// Puts the blocks after other bytes.
+fn append_blocks<A: Allowance>(
+    memory: &A,
+    listed: &Listed<'_>,
+    parts: &[Bytes],
+    bytes: &mut Vec<u8>,
+) -> Result<(), PackFault>
+    requires { HasPartsOf listed.now parts.now }
+    ensures items { OnOk result (bytes.new.items
+        ≡ bytes.old.items ++ blocks_text (packed listed.now parts.now)) }
+    ensures memory { IfErr result (λ fault. fault ≡ PackFault.OutOfMemory) }
+    ensures short { IfErr result (λ _. A.is_short memory.now) }
+{
+    for rank in 0..parts.len() {
+        append(memory, bytes, part_bytes(listed.part(rank), parts, rank))?;
+    }
+    Ok(())
+}
+
+/// Returns the file of the database that the parts spell.
+fn file_bytes<A: Allowance>(
+    memory: &A,
+    listed: &Listed<'_>,
+    parts: &[Bytes],
+) -> Result<Vec<u8>, PackFault>
+    requires { HasPartsOf listed.now parts.now }
+    ensures file { IfOk result (λ bytes. bytes.items ≡ file_of (packed listed.now parts.now)) }
+    ensures most { OnOk result (file_size (packed listed.now parts.now) ≤ most_bytes) }
+    ensures large { IfErr result (IsRefusedFor (file_size (packed listed.now parts.now))) }
+    ensures short { result ≡ Err PackFault.OutOfMemory → A.is_short memory.now }
+{
+    let places = find_places(listed, parts)?;
+    let mut bytes = Vec::new(memory.allocator());
+    append(memory, &mut bytes, &header_bytes(listed, places))?;
+    append_entries(
+        memory,
+        listed.entries.as_slice(),
+        parts,
+        places.entries,
+        &mut bytes,
+    )?;
+    append(memory, &mut bytes, &[0, 0])?;
+    append_blocks(memory, listed, parts, &mut bytes)?;
+    Ok(bytes)
+}
+
+/// Puts the parts of a listed database together, by their ranks: returns the canonical form of the file of the database.
+/// Parts that the list doesn't have are passed over.
+///
+/// # Errors
+///
+/// `TooLarge` if the file would have more than 16,777,216 bytes; `OutOfMemory`.
+pub fn pack<A: Allowance>(
+    memory: &A,
+    listed: &Listed<'_>,
+    parts: &[Bytes],
+) -> Result<Vec<u8>, PackFault>
+    requires { HasPartsOf listed.now parts.now }
+    ensures canonical { IfOk result (λ bytes.
+        IsCanonical (file_of (packed listed.now parts.now)) bytes.items) }
+    ensures unpacks { IfOk result (λ bytes.
+        UnpacksBack (packed listed.now parts.now) bytes.items) }
+    ensures fits { OnOk result (file_size (packed listed.now parts.now) ≤ most_bytes) }
+    ensures large { IfErr result (IsRefusedFor (file_size (packed listed.now parts.now))) }
+    ensures short { result ≡ Err PackFault.OutOfMemory → A.is_short memory.now }
+{
+    let file = file_bytes(memory, listed, parts)?;
+    match canonical_bytes(memory, &file) {
+        Ok(bytes) => Ok(bytes),
+        Err(_) => Err(PackFault::OutOfMemory),
+    }
+}

@@ -1,0 +1,301 @@
+//! The text `database`.
+
+ghost use Rattle.std.specs.Prelude.{◌≡◌, ◌<◌, ◌++◌, ℕ, List, Option, None, codes, is_ok, slice_index_or};
+ghost use Rattle.heap_model.specs.Database.{Database, entry_count_in, entry_with};
+ghost use Rattle.heap_model.specs.Files.{HasNoFault, Reads, blocks_in};
+ghost use Rattle.db_format.specs.Headers.{header_of};
+ghost use Rattle.db_format.specs.EitherEntry.{entry_of};
+ghost use Rattle.palm_text.specs.Counted.{Writes};
+ghost use Rattle.pdb_format.specs.ReadFiles as reading;
+ghost use Rattle.pdb_format.specs.ReadFiles.{HasIdsFor, entries_read, entry_read_at};
+ghost use Rattle.pdb_format.specs.Blocks.{bytes_at};
+ghost use Rattle.canonical_file.specs.Canonical.{HasBlocks};
+ghost use Rattle.file_parts.specs.Texts.{app_name, database_text, entry_lines, entry_name, entry_values, header_lines};
+ghost use Rattle.file_parts.specs.Texts.{info_line, named, named_entries, part_text, sort_name, with_names};
+ghost use Rattle.file_parts.specs.Unpacking.{IsUnpacked, database_of, line_at};
+
+use crate::unpacked::Unpacked;
+use bitflags::Flags;
+use db_format::{DbEntry, DbHeader, INFO_BLOCKS, RecordAttrs, RecordEntry, SEEDS, entry_count};
+use palm_text::{Counted, Piece, WriteFault, put_pieces};
+use pdb_format::Block;
+use std::io::Write;
+
+/// Writes the lines of the values of a header.
+fn put_header<'a, W: Write>(out: &mut Counted<W>, header: &'a DbHeader) -> Result<(), WriteFault>
+    ensures { Writes W.contents out.old out.new (header_lines (header_of header.now)) (is_ok result) }
+{
+    put_pieces(
+        out,
+        &[
+            Piece::Text(b"name "),
+            Piece::Spelled(header.name.name()),
+            Piece::Text(b"\nattributes "),
+            Piece::Hex16(header.attributes),
+            Piece::Text(b"\nversion "),
+            Piece::Number(u32::from(header.version)),
+            Piece::Text(b"\ncreated "),
+            Piece::Number(header.creation_date),
+            Piece::Text(b"\nmodified "),
+            Piece::Number(header.modification_date),
+            Piece::Text(b"\nbackup "),
+            Piece::Number(header.backup_date),
+            Piece::Text(b"\nnumber "),
+            Piece::Number(header.modification_number),
+            Piece::Text(b"\ntype "),
+            Piece::FourBytes(header.kind),
+            Piece::Text(b"\ncreator "),
+            Piece::FourBytes(header.creator),
+            Piece::Text(b"\nseed "),
+            Piece::Hex32(header.seed),
+            Piece::Text(b"\n"),
+        ],
+    )
+}
+
+/// Writes the line of an info block: its word is the name of its part too.
+fn put_info<W: Write>(
+    out: &mut Counted<W>,
+    word: &[u8],
+    block: Option<Block>,
+) -> Result<(), WriteFault>
+    ensures { (file : List ℕ) → Writes W.contents out.old out.new
+        (info_line word.now (named word.now (bytes_at file block))) (is_ok result) }
+{
+    match block {
+        None => put_pieces(out, &[Piece::Text(word), Piece::Text(b" none\n")]),
+        Some(_) => put_pieces(
+            out,
+            &[
+                Piece::Text(word),
+                Piece::Text(b" "),
+                Piece::Text(word),
+                Piece::Text(b"\n"),
+            ],
+        ),
+    }
+}
+
+/// Writes what an entry is, and its values.
+fn put_values<W: Write>(out: &mut Counted<W>, entry: DbEntry) -> Result<(), WriteFault>
+    ensures { (part : Option (List ℕ)) → Writes W.contents out.old out.new
+        (entry_values (entry_with (λ _. part) (entry_of entry))) (is_ok result) }
+{
+    match entry {
+        DbEntry::Record(record) => put_pieces(
+            out,
+            &[
+                Piece::Text(b"record "),
+                Piece::Hex8(record.attributes.0),
+                Piece::Text(b" "),
+                Piece::Number(record.id),
+            ],
+        ),
+        DbEntry::Resource(resource) => put_pieces(
+            out,
+            &[
+                Piece::Text(b"resource "),
+                Piece::FourBytes(resource.kind),
+                Piece::Text(b" "),
+                Piece::Number(u32::from(resource.id)),
+            ],
+        ),
+    }
+}
+
+/// Writes the end of the line of an entry: the name of its part.
+fn put_part<W: Write>(
+    out: &mut Counted<W>,
+    index: u16,
+    block: Option<Block>,
+) -> Result<(), WriteFault>
+    ensures { (file : List ℕ) → Writes W.contents out.old out.new
+        (part_text (named (entry_name index) (bytes_at file block))) (is_ok result) }
+{
+    let index = u32::from(index);
+    match block {
+        None => put_pieces(out, &[Piece::Text(b" none\n")]),
+        Some(_) => put_pieces(
+            out,
+            &[
+                Piece::Text(b" "),
+                Piece::Number(index / 10_000),
+                Piece::Number(index / 1_000 % 10),
+                Piece::Number(index / 100 % 10),
+                Piece::Number(index / 10 % 10),
+                Piece::Number(index % 10),
+                Piece::Text(b"\n"),
+            ],
+        ),
+    }
+}
+
+/// Returns the entry of an index as it is read: no record is busy, and each has the ID that it gets.
+fn entry_at(file: &[u8], ids: &[u32], index: u16) -> DbEntry
+    requires good { HasNoFault file.now }
+    requires ids { HasIdsFor file.now ids.now }
+    requires inside { index < entry_count_in file.now }
+    ensures { (part : Option (List ℕ)) → entry_with (λ _. part) (entry_of result)
+        ≡ entry_with (λ _. part) (entry_read_at file.now ids.now index) }
+{
+    match DbEntry::read(file, index) {
+        DbEntry::Record(record) => {
+            DbEntry::Record(RecordEntry {
+                attributes: record.attributes.difference(RecordAttrs::BUSY),
+                id: ids[index as usize],
+                slot: record.slot,
+            })
+        }
+        DbEntry::Resource(resource) => DbEntry::Resource(resource),
+    }
+}
+
+/// Writes the line of the entry of an index.
+fn put_entry<W: Write>(
+    out: &mut Counted<W>,
+    file: &[u8],
+    blocks: &[Option<Block>],
+    ids: &[u32],
+    index: u16,
+) -> Result<(), WriteFault>
+    requires blocks { HasBlocks file.now blocks.now }
+    requires ids { HasIdsFor file.now ids.now }
+    requires inside { index < entry_count_in file.now }
+    ensures { Writes W.contents out.old out.new (line_at file.now ids.now index) (is_ok result) }
+{
+    let block = blocks[INFO_BLOCKS + index as usize];
+    match put_values(out, entry_at(file, ids, index)) {
+        Ok(()) => put_part(out, index, block),
+        Err(fault) => Err(fault),
+    }
+}
+
+/// Writes the lines of all entries.
+fn put_entries<W: Write>(
+    out: &mut Counted<W>,
+    file: &[u8],
+    blocks: &[Option<Block>],
+    ids: &[u32],
+) -> Result<(), WriteFault>
+    requires blocks { HasBlocks file.now blocks.now }
+    requires ids { HasIdsFor file.now ids.now }
+    ensures { Writes W.contents out.old out.new
+        (entry_lines (named_entries 0 (entries_read file.now ids.now))) (is_ok result) }
+{
+    for index in 0..entry_count(file) {
+        match put_entry(out, file, blocks, ids, index) {
+            Ok(()) => {}
+            Err(fault) => return Err(fault),
+        }
+    }
+    Ok(())
+}
+
+/// Writes the line of the AppInfo block.
+fn put_app<W: Write>(
+    out: &mut Counted<W>,
+    file: &[u8],
+    blocks: &[Option<Block>],
+) -> Result<(), WriteFault>
+    requires { HasBlocks file.now blocks.now }
+    ensures { Writes W.contents out.old out.new
+        (info_line (codes "app") (named app_name (slice_index_or (blocks_in file.now) 0 None))) (is_ok result) }
+{
+    put_info(out, b"app", blocks[0])
+}
+
+/// Writes the line of the SortInfo block.
+fn put_sort<W: Write>(
+    out: &mut Counted<W>,
+    file: &[u8],
+    blocks: &[Option<Block>],
+) -> Result<(), WriteFault>
+    requires { HasBlocks file.now blocks.now }
+    ensures { Writes W.contents out.old out.new
+        (info_line (codes "sort") (named sort_name (slice_index_or (blocks_in file.now) 1 None))) (is_ok result) }
+{
+    put_info(out, b"sort", blocks[1])
+}
+
+/// Writes the lines of the info blocks.
+fn put_infos<W: Write>(
+    out: &mut Counted<W>,
+    file: &[u8],
+    blocks: &[Option<Block>],
+) -> Result<(), WriteFault>
+    requires { HasBlocks file.now blocks.now }
+    ensures { Writes W.contents out.old out.new (info_line (codes "app")
+        (named app_name (slice_index_or (blocks_in file.now) 0 None))
+        ++ info_line (codes "sort") (named sort_name (slice_index_or (blocks_in file.now) 1 None)))
+        (is_ok result) }
+{
+    match put_app(out, file, blocks) {
+        Ok(()) => put_sort(out, file, blocks),
+        Err(fault) => Err(fault),
+    }
+}
+
+/// Writes the lines after those of the header.
+fn put_body<W: Write>(
+    out: &mut Counted<W>,
+    file: &[u8],
+    blocks: &[Option<Block>],
+    ids: &[u32],
+) -> Result<(), WriteFault>
+    requires blocks { HasBlocks file.now blocks.now }
+    requires ids { HasIdsFor file.now ids.now }
+    ensures { Writes W.contents out.old out.new ((info_line (codes "app")
+        (named app_name (slice_index_or (blocks_in file.now) 0 None))
+        ++ info_line (codes "sort") (named sort_name (slice_index_or (blocks_in file.now) 1 None)))
+        ++ entry_lines (named_entries 0 (entries_read file.now ids.now))) (is_ok result) }
+{
+    match put_infos(out, file, blocks) {
+        Ok(()) => put_entries(out, file, blocks, ids),
+        Err(fault) => Err(fault),
+    }
+}
+
+/// Returns the header as it is read: with the last seed that was given.
+fn header_read(file: &[u8], unpacked: &Unpacked) -> DbHeader
+    requires { IsUnpacked file.now unpacked.now }
+    ensures { header_of result ≡ reading.header_read file.now unpacked.now.given.seed }
+{
+    let mut header = DbHeader::read(file);
+    header.seed = header.seed / SEEDS * SEEDS + unpacked.given.seed;
+    header
+}
+
+/// Writes the text of the database that a file is read as, with the names of its parts.
+fn put_text<W: Write>(
+    out: &mut Counted<W>,
+    file: &[u8],
+    unpacked: &Unpacked,
+) -> Result<(), WriteFault>
+    requires { IsUnpacked file.now unpacked.now }
+    ensures { Writes W.contents out.old out.new
+        (database_text (with_names (database_of file.now unpacked.now))) (is_ok result) }
+{
+    match put_header(out, &header_read(file, unpacked)) {
+        Ok(()) => put_body(
+            out,
+            file,
+            unpacked.blocks.as_slice(),
+            unpacked.given.ids.as_slice(),
+        ),
+        Err(fault) => Err(fault),
+    }
+}
+
+/// Writes the text `database` of a file that was taken apart. Flushes nothing, and takes no memory. After a write that
+/// fails, nothing more is written.
+pub fn put_database<W: Write>(
+    out: &mut Counted<W>,
+    file: &[u8],
+    unpacked: &Unpacked,
+) -> Result<(), WriteFault>
+    requires { IsUnpacked file.now unpacked.now }
+    ensures { (database : Database (Option (List ℕ))) → Reads file.now database
+        → Writes W.contents out.old out.new (database_text (with_names database)) (is_ok result) }
+{
+    put_text(out, file, unpacked)
+}

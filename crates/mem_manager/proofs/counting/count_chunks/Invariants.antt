@@ -1,0 +1,10 @@
+use Rattle.std.proofs.Common.{◌-◌, length}
+use Rattle.heap_place.specs.Search.{Passed}
+use Rattle.mem_manager.specs.Counting.{AreCounted}
+use Rattle.mem_manager.proofs.counting.count_chunks.Given as goal
+
+abbrev pub invariant-loop-at : goal.invariant-loop-at
+invariant-loop-at l = Passed l.region.bytes (AreCounted l.counts) l.at
+
+abbrev pub decreases-loop-at : goal.decreases-loop-at
+decreases-loop-at l = length l.region.bytes - l.at

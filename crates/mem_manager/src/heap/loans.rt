@@ -1,0 +1,59 @@
+//! Bytes of chunks are taken out, and put back.
+#![tactic(auto, using(crate::proofs::KnownLoans::knows_lends, crate::proofs::KnownLoans::known_other, laws_heap::proofs::LentBodies::table_within))]
+
+ghost use Rattle.std.specs.Prelude.{◌≡◌, ◌≢◌, ℕ, IfSome, OnSome, IfNone, IfOk, OnErr, IfErr, None};
+ghost use Rattle.heap_model.specs.Chunk.{managers_owner};
+ghost use Rattle.heap_model.specs.Lending.{IsLent};
+ghost use Rattle.heap_model.specs.Refusals.{FirstBrings};
+ghost use Rattle.heap_model.specs.Store.{owner_under};
+ghost use Rattle.raw_region.specs.Parts.{IsOut};
+ghost use Rattle.mem_manager.specs.Loans.{out_checks, TakesOut, PutsBack};
+
+use crate::heap::Heap;
+use crate::loan::Loan;
+use crate::lookup::{check_locked, find};
+use heap_model::{Name, Refusal};
+
+impl Heap {
+    /// Takes the bytes of a locked or fixed chunk out. The heap has zeros in their place until they are put back, and
+    /// lends no others. It takes no memory, and copies no byte.
+    ///
+    /// Refused: `InvalidHandle`, `ChunkNotLocked`; `Lent`, if a loan is out.
+    pub fn take_out(&mut self, name: Name) -> Result<Loan, Refusal>
+        ensures taken { IfOk result (λ loan. TakesOut self.old self.new name loan) }
+        ensures refused { OnErr result (self.new ≡ self.old) }
+        ensures why { IfErr result (λ refusal. FirstBrings (out_checks self.old name.0) refusal) }
+    {
+        let found = find(&self.space, &self.known, name)?;
+        check_locked(found)?;
+        if self.lent.is_some() {
+            return Err(Refusal::Lent);
+        }
+        self.lent = Some(name);
+        let part = self.space.lend(found);
+        Ok(Loan { name, part })
+    }
+
+    /// Puts the bytes of a loan back.
+    pub fn put_back(&mut self, loan: Loan)
+        requires out { IsOut self.old.lent loan.part }
+        requires name { IsLent self.old loan.name.0 }
+        ensures back { PutsBack self.old self.new loan }
+        ensures owned { owner_under self.old.bytes loan.name.0 ≢ managers_owner }
+    {
+        let Loan { name, part } = loan;
+        let found = self.space.chunk(name);
+        self.lent = None;
+        self.space.take_back(found, part);
+    }
+
+    /// The name of the chunk whose bytes are out, if there is one.
+    pub fn lent(&self) -> Option<Name>
+        ensures lent { IfSome result (λ name. IsLent self.now name.0) }
+        ensures alone { IfSome result (λ name. (other : ℕ) → IsLent self.now other → other ≡ name.0) }
+        ensures some { OnSome result (self.now.lent ≢ None) }
+        ensures none { IfNone result (self.now.lent ≡ None) }
+    {
+        self.lent
+    }
+}

@@ -1,0 +1,58 @@
+//! The bytes of a chunk that are taken out of a heap for a while.
+
+ghost use Rattle.std.specs.Prelude.{◌≡◌, ◌+◌, ◌≤◌, length, slice_range};
+ghost use Rattle.heap_model.specs.Bytes.{overwritten};
+
+use heap_model::Name;
+use raw_region::Part;
+use std::marker::Model;
+
+/// The bytes of a chunk, owned apart from its heap. They are put back by `Heap::put_back`: a loan can't be dropped.
+pub struct Loan {
+    pub(crate) name: Name,
+    pub(crate) part: Part,
+}
+
+impl Model for Loan {
+    ghost use Rattle.mem_manager.specs.Loans.{OnLoan};
+
+    ghost Value = { OnLoan };
+
+    ghost view = { λ loan. record { name = loan.name; part = loan.part } };
+}
+
+impl Loan {
+    /// The name of the chunk.
+    pub fn name(&self) -> Name
+        ensures { result ≡ self.now.name }
+    {
+        self.name
+    }
+
+    /// How many bytes there are.
+    pub fn len(&self) -> usize
+        ensures { result ≡ length self.now.part.bytes }
+    {
+        self.part.len()
+    }
+
+    /// The `n` bytes at `at`.
+    pub fn slice(&self, at: usize, n: usize) -> &[u8]
+        requires { at + n ≤ length self.now.part.bytes }
+        ensures { result.now ≡ slice_range self.now.part.bytes at (at + n) }
+    {
+        self.part.slice(at, n)
+    }
+
+    /// Copies `bytes` over those of the loan, the first of them to `at`.
+    pub fn write(&mut self, at: usize, bytes: &[u8])
+        requires { at + length bytes.now ≤ length self.old.part.bytes }
+        ensures after { self.new ≡ record self.old {
+          part = record self.old.part
+              { bytes = overwritten self.old.part.bytes at bytes.now };
+        } }
+        ensures len { length self.new.part.bytes ≡ length self.old.part.bytes }
+    {
+        self.part.write(at, bytes);
+    }
+}

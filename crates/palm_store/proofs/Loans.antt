@@ -1,0 +1,104 @@
+-- What is not lent: chunks of the manager's, and those without a lock.
+use Rattle.std.proofs.Common.{◌≡◌, ◌≢◌, ℕ, ◌<◌, List, Option, Some, refl, sym, ap, subst, ◌∙◌, arith, inl, inr}
+use Rattle.std.proofs.lemmas.Bool.{cases_eq}
+use Rattle.heap_model.specs.Memory.{Memory, Lent}
+use Rattle.heap_model.specs.Heap.{HeapAccepted, directory_of}
+use Rattle.heap_model.specs.Lending.{IsLent, IsBodyOf}
+use Rattle.heap_model.specs.Meaning.{LiveChunk}
+use Rattle.heap_model.specs.MemorySteps.{Of, IsLocked}
+use Rattle.heap_model.specs.Reading.{held}
+use Rattle.heap_model.specs.Store.{owner_under, Accepted}
+use Rattle.laws_store.proofs.Owners.{directory_owner}
+use Rattle.mem_manager.specs.Lookup.{Found, IsHere, IsMovable, StandsAs}
+use Rattle.mem_manager.proofs.ChunkCalls.{lock_small}
+use Rattle.mem_manager.proofs.StoreCalls.{lock_viewed}
+use Rattle.palm_store.specs.Databases.{HasNumber}
+use Rattle.palm_store.proofs.Maps.{owner_held}
+use Rattle.palm_store.proofs.Numbers.{number_slot}
+use Rattle.std.specs.Prelude.{Result, Ok, Err, IfOk, OnErr, None, replicate, length}
+use Rattle.heap_model.specs.Chunk.{managers_owner}
+use Rattle.heap_model.specs.Maps.{callers_map}
+use Rattle.heap_model.specs.Store.{bytes_of, bytes_under, store_of}
+use Rattle.heap_model.specs.declared.names.Name.{Name}
+use Rattle.heap_model.specs.declared.refusal.Refusal.{Refusal}
+use Rattle.laws_store.proofs.Edited.{shown}
+use Rattle.laws_store.proofs.MemoryCalls.{known_owner}
+use Rattle.mem_manager.specs.Loans as loans
+use Rattle.mem_manager.specs.Loans.{OnLoan}
+use Rattle.palm_store.specs.declared.entries.known.KnownIds.{KnownIds}
+use Rattle.palm_store.specs.KnownIds.{IsStore}
+use Rattle.palm_store.specs.Loans.{TakesOut}
+use Rattle.palm_store.proofs.FilledData.{rewritten_steps}
+use Rattle.palm_store.proofs.KnownIds.{stand_still}
+
+-- where nothing is lent
+pub none_lent : (memory : Memory) (name : ℕ) → memory.lent ≡ None → IsLent memory name → ⊥
+none_lent memory name none lent = subst (λ (x : Option Lent). IsBodyOf memory.bytes name x) none lent
+
+-- ---- chunks of the manager's
+
+pub managers_here : (memory : Memory) (name : ℕ) → owner_under memory.bytes name ≡ 0 → IsHere memory name
+managers_here memory name own = record { not_lent = λ other lent. other own }
+
+pub owned_here : (memory : Memory) (name : ℕ) (live : LiveChunk) → held memory.bytes name ≡ Some live → live.owner ≡ 0 → IsHere memory name
+owned_here memory name live there own = managers_here memory name (owner_held memory.bytes name live there ∙ own)
+
+pub number_here : (memory : Memory) (db : ℕ) → Accepted memory.bytes → HasNumber memory.bytes db → IsHere memory db
+number_here memory db a has = managers_here memory db (number_slot memory.bytes db a has).owner
+
+pub directory_here : (memory : Memory) (name : ℕ) → HeapAccepted memory.bytes → name ≡ directory_of memory.bytes → name ≢ 0 → IsHere memory name
+directory_here memory name h is some = managers_here memory name (ap (owner_under memory.bytes) is ∙ directory_owner memory.bytes h (omega arith))
+
+-- ---- chunks without a lock
+
+pub loose_here : (memory : Memory) (name : ℕ) (found : Found) (live : LiveChunk) → HeapAccepted memory.bytes → StandsAs memory.bytes name found → held memory.bytes name ≡ Some live → live.lock ≡ 0 → (found.lock ≡ 0 → IsLent memory name → ⊥) → IsHere memory name
+loose_here memory name found live h s there none unlocked = record { not_lent = λ other lent. unlocked (lock_viewed memory memory name found live refl h s.is there ∙ none) lent }
+
+-- a movable one that isn't locked has none
+pub unlocked_here : (memory : Memory) (name : ℕ) (found : Found) → HeapAccepted memory.bytes → StandsAs memory.bytes name found → IsMovable memory.bytes name → (Of (held memory.bytes name) IsLocked → ⊥) → (found.lock ≡ 0 → IsLent memory name → ⊥) → IsHere memory name
+unlocked_here memory name found h s m not_locked unlocked = record { not_lent = λ other lent. unlocked no_lock lent } where
+  lock : found.lock ≡ m.live.lock
+  lock = lock_viewed memory memory name found m.live refl h s.is m.is_held
+
+  least : 0 < found.lock → ⊥
+  least some =
+      let most = lock_small memory.bytes name found h s.is in
+      let loose = s.movable in
+      let is = lock in
+      not_locked (subst (λ (o : Option LiveChunk). Of o IsLocked) (sym m.is_held) (omega (arith, some, is), omega (arith, most, loose, is)))
+
+  no_lock : found.lock ≡ 0
+  no_lock = elim (cases_eq found.lock 0) [ inl none ↦ none | inr some ↦ absurd (least (omega (arith, some))) ]
+
+-- ---- bytes that are taken out
+
+-- what is taken out has an owner other than the manager, so the store has it
+pub out_owned : (image : List ℕ) (name : ℕ) → (callers_map image name ≡ None → ⊥) → owner_under image name ≢ managers_owner
+unfolding owner_under
+out_owned image name known = known_owner (held image name) known
+
+pub out_bytes : (image : List ℕ) (name : ℕ) → owner_under image name ≢ managers_owner → bytes_under image name ≡ bytes_of ((store_of image).map name)
+unfolding store_of owner_under bytes_under
+out_bytes image name own = sym (ap bytes_of (shown (held image name) own))
+
+pub takes_out : (old new : Memory) (name : Name) (result : Result OnLoan Refusal) → Accepted old.bytes → IfOk result (λ loan. loans.TakesOut old new name loan) → IfOk result (λ loan. TakesOut old new name loan)
+takes_out old new name (Ok loan) a t =
+    let own = out_owned old.bytes name.0 t.could.0 in
+    record {
+      could = t.could;
+      name_is = t.name_is;
+      bytes = t.bytes ∙ out_bytes old.bytes name.0 own;
+      leaves = rewritten_steps old.bytes new.bytes name.0 (replicate (length loan.part.bytes) 0) a own t.leaves;
+      out = t.out;
+      is_lent = t.is_lent;
+      unmoved = t.unmoved;
+      rest = t.rest;
+    }
+takes_out old new name (Err refusal) a t = tt
+
+-- the store is one still
+pub takes_replied : (old new : Memory) (name : Name) (known : KnownIds) (result : Result OnLoan Refusal) → IsStore old.bytes known → IfOk result (λ loan. loans.TakesOut old new name loan) → OnErr result (new ≡ old) → IsStore new.bytes known
+takes_replied old new name known (Ok loan) s t same =
+    let left = (takes_out old new name (Ok loan) s.accepted t).leaves in
+    record { accepted = left.accepted; free = stand_still (store_of old.bytes) (store_of new.bytes) known left.same.databases s.free }
+takes_replied old new name known (Err refusal) s t same = subst (λ (m : Memory). IsStore m.bytes known) (sym same) s

@@ -1,0 +1,19 @@
+use Rattle.heap_model.specs.Store.{store_of}
+use Rattle.palm_store.proofs.FilledData.{rewritten_steps}
+use Rattle.palm_store.proofs.KnownIds.{stand_still}
+use Rattle.palm_store.proofs.store.Store.put_back.Goals as goal
+
+pub invariant_of-self : goal.invariant_of-self
+invariant_of-self c =
+    let own = c.put_back.ensures.owned in
+    let left = rewritten_steps c.self.inside.heap.bytes c.put_back.new.self.bytes c.args.loan.name.0 c.args.loan.part.bytes c.self.invariant.accepted own c.put_back.ensures.back.leaves in
+    record { accepted = left.accepted; free = stand_still (store_of c.self.inside.heap.bytes) (store_of c.put_back.new.self.bytes) c.self.inside.known left.same.databases c.self.invariant.free }
+
+pub returns : goal.returns
+returns c =
+    let own = c.put_back.ensures.owned in
+    rw (← c.self.view_is) (record {
+      leaves = rewritten_steps c.self.inside.heap.bytes c.put_back.new.self.bytes c.args.loan.name.0 c.args.loan.part.bytes c.self.invariant.accepted own c.put_back.ensures.back.leaves;
+      unmoved = c.put_back.ensures.back.unmoved;
+      rest = c.put_back.ensures.back.rest;
+    })

@@ -1,0 +1,25 @@
+//! What is lent of a region.
+
+ghost use Rattle.std.specs.Prelude.{◌≡◌, ◌+◌, ◌<◌, ◌^◌, IfSome, IfNone, Some};
+ghost use Rattle.raw_region.specs.Gaps.{MissesPart};
+
+/// So many bytes from an offset on.
+#[derive(Clone, Copy)]
+pub(crate) struct Gap {
+    pub(crate) at: usize,
+    pub(crate) count: usize,
+}
+
+/// What is lent, unless the `n` bytes at `at` miss it.
+#[inline]
+pub(crate) fn met(lent: Option<Gap>, at: usize, n: usize) -> Option<Gap>
+    requires small { at + n < 2 ^ 64 }
+    ensures none { IfNone result (MissesPart lent at n) }
+    ensures some { IfSome result (λ gap. (lent ≡ Some gap) × (MissesPart lent at n → ⊥)) }
+{
+    let gap = lent?;
+    if at + n <= gap.at || at >= gap.at && at - gap.at >= gap.count {
+        return None;
+    }
+    Some(gap)
+}

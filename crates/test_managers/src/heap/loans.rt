@@ -1,0 +1,368 @@
+//! Bodies that are lent: the calls that are refused meanwhile, and all others, which go on as if nothing were lent.
+
+ghost use Rattle.std.specs.Prelude.{◌≡◌, None};
+ghost use Rattle.heap_model.specs.Lending.{KeepsLoan};
+
+use crate::heap::beside::{Beside, adopt};
+use crate::heap::by_hand::{check_lent_on, check_on};
+use crate::heap::calls::do_call;
+use crate::heap::images::{CHAINED, FIVE, LARGE, ODD};
+use heap_model::{Bytes, MemoryCall, Name, Refusal};
+use mem_manager::Heap;
+use rand::RngExt;
+use rand_pcg::Pcg32;
+use raw_region::Region;
+use std::alloc::Global;
+use std::test::*;
+use test_beside::memory_call;
+use test_model::Image;
+use test_support::{BLANK, equal, image};
+
+/// What an example is about, the listing of its image, lines, the name whose bytes are lent then, and the lines of the
+/// calls that are done meanwhile.
+type Example = (&'static str, &'static str, &'static str, u32, &'static str);
+
+/// A chunk of 10 bytes with a lock, a free one of 16, one of owner 2 with 16 bytes, and 24 bytes that are free.
+const TO_BE_LENT: &str = "handle_new 10 1 = named 16
+    lock 16 = at 40 locks 1
+    handle_new 8 1 = named 20
+    handle_new 16 2 = named 24
+    free 20 = done";
+
+/// Each refusal comes in its order: 27 comes after 1, 2, 4 and 6, and before 3 and 9 but in `free`.
+const OF_MOVABLE: &str = "read 16 0 1 = refused Lent
+    read 16 11 0 = refused Lent
+    read 20 0 1 = refused InvalidHandle
+    write 16 0: 41 = refused Lent
+    write 16 10: 41 = refused Lent
+    write 24 0: 41 = refused ChunkNotLocked
+    set 16 0 1 1 = refused Lent
+    set 16 0 99 1 = refused Lent
+    str_copy 16 0: 78 = refused Lent
+    str_copy 16 9: 7878 = refused Lent
+    unlock 16 = refused Lent
+    unlock 24 = refused ChunkNotLocked
+    free 16 = refused ChunkLocked
+    resize 16 10 = refused Lent
+    resize 16 0 = refused Lent
+    resize 16 99 = refused Lent
+    resize 24 99 = refused NotEnoughSpace
+    free_by_owner 0 = refused InvalidOwner
+    free_by_owner 1 = refused Lent
+    more_slots = refused NotEnoughSpace";
+
+/// The chunk behind the free one slides to the lent one, and grows and goes.
+const GOES_ON: &str = "lock 16 = at 40 locks 2
+    size 16 = 10
+    owner 16 = 1
+    locks 16 = 2
+    recover 40 = named 16
+    set_owner 16 3 = done
+    free_by_owner 1 = 0
+    free_by_owner 3 = refused Lent
+    free_bytes = 48
+    largest_stretch = 48
+    compact = 24
+    recover 64 = named 24
+    lock 24 = at 64 locks 1
+    write 24 0: 4142 = done
+    read 24 0 2 = x4142
+    unlock 24 = 0
+    resize 24 64 = done
+    free_bytes = 0
+    read 24 0 2 = x4142
+    handle_new 0 1 = refused NotEnoughSpace
+    free_by_owner 2 = 1
+    ptr_new 8 4 = named 64
+    handle_new 48 4 = named 20
+    free 64 = done
+    free_by_owner 4 = 1
+    free_bytes = 72";
+
+/// A fixed chunk is refused as one by its lock and its length, and is freed by nothing.
+const OF_FIXED: &str = "read 72 0 1 = refused Lent
+    write 72 0: 41 = refused Lent
+    set 72 0 9 1 = refused Lent
+    str_copy 72 0: 78 = refused Lent
+    lock 72 = refused ChunkFixed
+    unlock 72 = refused ChunkFixed
+    resize 72 0 = refused ChunkFixed
+    free 72 = refused Lent
+    free_by_owner 3 = refused Lent
+    unlock 20 = 1
+    unlock 20 = 0
+    set_owner 72 4 = done
+    recover 72 = named 72
+    free_by_owner 3 = 1
+    compact = 0
+    free 72 = refused Lent";
+
+/// A body of no bytes between two others, which may go and come.
+const TO_BE_LENT_EMPTY: &str = "handle_new 8 1 = named 16
+    handle_new 0 2 = named 20
+    handle_new 8 1 = named 24
+    lock 20 = at 56 locks 1";
+
+const OF_EMPTY: &str = "read 20 0 0 = refused Lent
+    write 20 0 = refused Lent
+    set 20 0 0 7 = refused Lent
+    str_copy 20 0 = refused Lent
+    unlock 20 = refused Lent
+    resize 20 0 = refused Lent
+    free 20 = refused ChunkLocked
+    free_by_owner 2 = refused Lent
+    free 16 = done
+    free 24 = done
+    handle_new 72 1 = refused NotEnoughSpace
+    ptr_new 64 1 = named 64
+    ptr_new 8 1 = named 40
+    free_bytes = 0
+    free 64 = done
+    compact = 0
+    handle_new 56 1 = named 16
+    recover 56 = named 20
+    free_by_owner 1 = 2";
+
+/// The chunk of a database. Its owner comes before 27.
+const OF_DATA: &str = "read 16 0 1 = refused Lent
+    write 16 0: 41 = refused Lent
+    unlock 16 = refused Lent
+    free 16 = refused OwnedByDatabase
+    resize 16 0 = refused OwnedByDatabase
+    set_owner 16 1 = refused OwnedByDatabase
+    lock 16 = at 40 locks 2
+    free_by_owner 3 = 2
+    compact = 16";
+
+/// A table is made, and its slots are used, while the only slot before is that of the lent chunk.
+const OF_CHAINED: &str = "handle_new 0 1 = refused NotEnoughSpace
+    more_slots = done
+    handle_new 0 1 = named 52
+    handle_new 0 1 = named 56
+    free 52 = done
+    compact = 8
+    more_slots = refused NotEnoughSpace
+    read 16 0 0 = refused Lent";
+
+/// Each is about what it is called.
+static EXAMPLES: [Example; 7] = [
+    ("calls are refused", BLANK, TO_BE_LENT, 16, OF_MOVABLE),
+    ("other calls go on", BLANK, TO_BE_LENT, 16, GOES_ON),
+    ("a fixed chunk", FIVE, "locks 72 = 15", 72, OF_FIXED),
+    ("no bytes", BLANK, TO_BE_LENT_EMPTY, 20, OF_EMPTY),
+    (
+        "a database's chunk",
+        FIVE,
+        "lock 16 = at 40 locks 1",
+        16,
+        OF_DATA,
+    ),
+    (
+        "a table is made",
+        CHAINED,
+        "handle_new 8 1 = named 16
+        lock 16 = at 32 locks 1",
+        16,
+        OF_CHAINED,
+    ),
+    (
+        "nothing else is there",
+        BLANK,
+        "ptr_new 88 1 = named 40",
+        40,
+        "free_bytes = 0
+        compact = 0
+        handle_new 0 1 = refused NotEnoughSpace
+        free 40 = refused Lent",
+    ),
+];
+
+fn check_example(
+    alloc: Global,
+    (about, listing, before, name, lines): Example,
+) -> Result<(), Fail> {
+    let mut beside = Beside::new(alloc, image(alloc, listing, "")?)?;
+    check_on(alloc, &mut beside, (about, before), false)?;
+    check_lent_on(alloc, &mut beside, Name(name), (about, lines))
+}
+
+#[test]
+fn calls_are_done_while_a_body_is_lent(rt: HostRuntime) -> Result<(), Fail> {
+    for example in &EXAMPLES {
+        check_example(rt.alloc(), *example)?;
+    }
+    Ok(())
+}
+
+/// Why the bytes of a name can't be taken out. If they can, they are put back.
+fn refused(heap: &mut Heap, name: Name) -> Option<Refusal>
+    requires { heap.old.lent ≡ None }
+    ensures { heap.new.lent ≡ None }
+{
+    match heap.take_out(name) {
+        Ok(loan) => {
+            heap.put_back(loan);
+            None
+        }
+        Err(refusal) => Some(refusal),
+    }
+}
+
+/// What a heap says while the bytes of a name are out: their name, and why those of another name can't be taken out.
+fn said_meanwhile(
+    heap: &mut Heap,
+    name: Name,
+    other: Name,
+) -> Result<(Option<Name>, Option<Refusal>), Refusal>
+    requires { heap.old.lent ≡ None }
+    ensures { heap.new.lent ≡ None }
+{
+    let loan = heap.take_out(name)?;
+    let lent = heap.lent();
+    let refusal = match heap.take_out(other) {
+        Ok(_) => unreachable!(),
+        Err(refusal) => refusal,
+    };
+    heap.put_back(loan);
+    Ok((lent, Some(refusal)))
+}
+
+/// Names of the image with five chunks, and why their bytes can't be taken out: while nothing is lent, and while those
+/// of the name 72 are out.
+static OUT: [(u32, Option<Refusal>, Refusal); 5] = [
+    (16, Some(Refusal::ChunkNotLocked), Refusal::ChunkNotLocked),
+    (20, None, Refusal::Lent),
+    (24, Some(Refusal::InvalidHandle), Refusal::InvalidHandle),
+    (28, Some(Refusal::InvalidHandle), Refusal::InvalidHandle),
+    (72, None, Refusal::Lent),
+];
+
+/// A chunk that isn't a caller's comes before one without a lock, and that before a second loan.
+#[test]
+fn one_body_is_lent_at_a_time(rt: HostRuntime) -> Result<(), Fail> {
+    let mut heap = adopt(image(rt.alloc(), FIVE, "")?)?;
+    for (name, alone, second) in &OUT {
+        equal(*name, refused(&mut heap, Name(*name)), *alone)?;
+        let said = said_meanwhile(&mut heap, Name(72), Name(*name))?;
+        equal(*name, said, (Some(Name(72)), Some(*second)))?;
+        equal(*name, heap.lent(), None)?;
+    }
+    Ok(())
+}
+
+/// How many calls are done while a body is lent.
+const CALLS: u32 = 12;
+
+/// The name of a caller's chunk that stays where it is, drawn from an image.
+fn staying(image: &Image, random: &mut Pcg32) -> Option<Name> {
+    let count = u32::try_from(image.pieces.len()).ok()?;
+    let first = random.random_range(0..count.max(1)) as usize;
+    for piece in image.pieces.iter().skip(first) {
+        if let Some(live) = piece.live
+            && live.lock > 0
+            && live.owner > 0
+        {
+            return Some(live.name);
+        }
+    }
+    None
+}
+
+/// Does the next call of a list on two heaps. The bytes of the name are out of the first during the call alone, and of
+/// the other one from the start of the list. The replies must be the same.
+fn step(
+    alloc: Global,
+    beside: &mut Beside,
+    apart: &mut Heap,
+    name: Option<Name>,
+    random: &mut Pcg32,
+) -> Result<(), Fail>
+    ensures lent { apart.new.lent ≡ apart.old.lent }
+    ensures loan { KeepsLoan apart.old apart.new }
+{
+    let call = memory_call(random, alloc, &Image::decode(alloc, beside.image())?)?;
+    let spot = format!(in alloc; "{call:?} while {name:?} is lent")?;
+    let reply = match name {
+        Some(name) => beside.call_lent(alloc, name, spot.as_str(), &call)?,
+        None => beside.call(alloc, spot.as_str(), &call)?,
+    };
+    equal(spot.as_str(), do_call(alloc, apart, &call), reply)
+}
+
+/// Does some calls on two heaps while the bytes of a name are out.
+fn go_on(
+    alloc: Global,
+    beside: &mut Beside,
+    apart: &mut Heap,
+    name: Name,
+    random: &mut Pcg32,
+) -> Result<(), Fail>
+    ensures lent { apart.new.lent ≡ apart.old.lent }
+    ensures loan { KeepsLoan apart.old apart.new }
+{
+    for _ in 0..CALLS {
+        step(alloc, beside, apart, Some(name), random)?;
+    }
+    Ok(())
+}
+
+/// Lends the bytes of a name for some calls, writes the first of them, and puts them back. Both heaps must have the same
+/// image then.
+fn lend(
+    alloc: Global,
+    beside: &mut Beside,
+    apart: &mut Heap,
+    name: Name,
+    random: &mut Pcg32,
+) -> Result<(), Fail>
+    requires { apart.old.lent ≡ None }
+    ensures { apart.new.lent ≡ None }
+{
+    let mut loan = apart.take_out(name)?;
+    let done = go_on(alloc, beside, apart, name, random);
+    let first: &[u8] = if loan.len() > 0 { b"L" } else { b"" };
+    loan.write(0, first);
+    apart.put_back(loan);
+    done?;
+    let write = MemoryCall::Write {
+        name,
+        at: 0,
+        bytes: Bytes::of(Vec::from_slice(alloc, first)?),
+    };
+    beside.call(alloc, "written", &write)?;
+    equal("both heaps", apart.image(), beside.image())
+}
+
+/// Does a list of calls that a seed gives: most of them while a body is lent that stays where it is. Returns how many
+/// bodies were lent.
+fn run_list(alloc: Global, region: Region, seed: u64) -> Result<u32, Fail>
+    requires { region.lent ≡ None }
+{
+    let mut random = Pcg32::new(seed, 1);
+    let mut apart = adopt(Region::from_bytes(alloc, region.as_slice())?)?;
+    let mut beside = Beside::new(alloc, region)?;
+    let mut lent = 0u32;
+    for _ in 0..25u32 {
+        let name = staying(&Image::decode(alloc, beside.image())?, &mut random);
+        match name {
+            Some(name) => {
+                lend(alloc, &mut beside, &mut apart, name, &mut random)?;
+                lent = lent.saturating_add(1);
+            }
+            None => step(alloc, &mut beside, &mut apart, None, &mut random)?,
+        }
+    }
+    Ok(lent)
+}
+
+#[test]
+fn lists_of_calls_while_bodies_are_lent(rt: HostRuntime) -> Result<(), Fail> {
+    let mut lent = 0u32;
+    for seed in 61..66u64 {
+        for listing in &[BLANK, FIVE, LARGE, ODD, CHAINED] {
+            let more = run_list(rt.alloc(), image(rt.alloc(), listing, "")?, seed)?;
+            lent = lent.saturating_add(more);
+        }
+    }
+    equal("1,000 calls", lent.saturating_mul(CALLS) >= 1000, true)
+}
