@@ -48,5 +48,5 @@ only() {
 }
 
 only 'memory\.(grant|note)\(' './raw_region/src/region.rt '
-only 'failed\(memory\)' './pdb_files/src/exporting.rt ./raw_region/src/region.rt '
+only 'failed\((memory|&alloc)\)' './palmheap_c/src/buffers.rt ./pdb_files/src/exporting.rt ./raw_region/src/region.rt '
 exit "$status"

@@ -1,0 +1,139 @@
+//! Functions on PDB and PRC files (Palm OS File Format Specification). They keep nothing between calls.
+
+ghost use Rattle.std.specs.Prelude.{◌≡◌, ◌⊎◌, map, IfOk, IfErr};
+ghost use Rattle.heap_model.specs.Files.{HasNoFault, blocks_in};
+ghost use Rattle.pdb_format.specs.Blocks.{bytes_at};
+ghost use Rattle.canonical_file.specs.Canonical.{IsCanonical};
+ghost use Rattle.file_listing.specs.Listing.{IsListing};
+ghost use Rattle.palmheap_c.specs.Answers.{IsFileAnswer, IsFileFault, IsFileRefusal, WantsMemory};
+ghost use Rattle.palmheap_c.specs.Blocks.{IsBlocksAnswer};
+ghost use Rattle.palmheap_c.specs.Buffers.{IsBytesAnswer};
+
+use crate::answers::{Answer, NO_FAULT, NO_MEMORY, NO_ROOM, TOO_LARGE, of_file};
+use crate::blocks::{Block, put_blocks};
+use crate::buffers::{put_bytes, refused_write};
+use canonical_file::canonical_bytes;
+use file_listing::{ListFault, put_listing};
+use palm_text::Counted;
+use pdb_format::{Block as FileBlock, check_file, find_blocks};
+use std::alloc::Global;
+
+/// The most bytes that a file may have which is listed or rewritten: 16 MiB.
+const MOST_BYTES: usize = 1 << 24;
+
+/// Checks whether a database can be read from a file, and returns its first fault. Takes no memory.
+#[unsafe(no_mangle)]
+pub extern "C" fn palmheap_pdb_check(file: &[u8]) -> Answer
+    ensures { IsFileAnswer file.now result }
+{
+    match check_file(file) {
+        Ok(()) => NO_FAULT,
+        Err(fault) => of_file(fault),
+    }
+}
+
+/// Finds where the blocks of a file stand: the AppInfo block, the SortInfo block, and the data of the entries in order.
+/// `count` gets their number, also if `blocks` is too short for them.
+#[unsafe(no_mangle)]
+pub extern "C" fn palmheap_pdb_blocks(
+    alloc: Global,
+    file: &[u8],
+    blocks: &mut [Block],
+    count: &mut usize,
+) -> Answer
+    ensures { IsBlocksAnswer file.now blocks.old blocks.new count.new result }
+{
+    let found = match blocks_of(alloc, file) {
+        Ok(found) => found,
+        Err(answer) => return answer,
+    };
+    *count = found.len();
+    if blocks.len() < found.len() {
+        return NO_ROOM;
+    }
+    put_blocks(blocks, &found);
+    NO_FAULT
+}
+
+/// Where the blocks of a file stand.
+fn blocks_of(alloc: Global, file: &[u8]) -> Result<Vec<Option<FileBlock>>, Answer>
+    ensures good { IfOk result (λ blocks. HasNoFault file.now) }
+    ensures are { IfOk result (λ blocks. map (bytes_at file.now) blocks.items ≡ blocks_in file.now) }
+    ensures memory { IfErr result (λ answer. WantsMemory answer ⊎ IsFileFault file.now answer) }
+{
+    if let Err(fault) = check_file(file) {
+        return Err(of_file(fault));
+    }
+    match find_blocks(alloc, file) {
+        Ok(blocks) => Ok(blocks),
+        Err(_) => Err(NO_MEMORY),
+    }
+}
+
+/// Puts the canonical form of a file into a buffer: the file that is written of the database that it is read as.
+/// `count` gets its length, also if the buffer is too short for it.
+#[unsafe(no_mangle)]
+pub extern "C" fn palmheap_canonical(
+    alloc: Global,
+    file: &[u8],
+    canonical: &mut [u8],
+    count: &mut usize,
+) -> Answer
+    ensures { IsBytesAnswer (IsCanonical file.now) file.now canonical.old canonical.new count.new result }
+{
+    match canonical_of(alloc, file) {
+        Ok(bytes) => put_bytes(&bytes, canonical, count),
+        Err(answer) => answer,
+    }
+}
+
+/// The canonical form of a file.
+fn canonical_of(alloc: Global, file: &[u8]) -> Result<Vec<u8>, Answer>
+    ensures ok { IfOk result (λ bytes. IsCanonical file.now bytes.items) }
+    ensures err { IfErr result (IsFileRefusal file.now) }
+{
+    if file.len() > MOST_BYTES {
+        return Err(TOO_LARGE);
+    }
+    if let Err(fault) = check_file(file) {
+        return Err(of_file(fault));
+    }
+    match canonical_bytes(&alloc, file) {
+        Ok(bytes) => Ok(bytes),
+        Err(_) => Err(NO_MEMORY),
+    }
+}
+
+/// Puts the listing of a file into a buffer, the text that the command `list` prints. `count` gets its length, also
+/// if the buffer is too short for it.
+#[unsafe(no_mangle)]
+pub extern "C" fn palmheap_pdb_list(
+    alloc: Global,
+    file: &[u8],
+    text: &mut [u8],
+    count: &mut usize,
+) -> Answer
+    ensures { IsBytesAnswer (IsListing file.now) file.now text.old text.new count.new result }
+{
+    match listing_of(alloc, file) {
+        Ok(bytes) => put_bytes(&bytes, text, count),
+        Err(answer) => answer,
+    }
+}
+
+/// The listing of a file.
+fn listing_of(alloc: Global, file: &[u8]) -> Result<Vec<u8>, Answer>
+    ensures ok { IfOk result (λ text. IsListing file.now text.items) }
+    ensures err { IfErr result (IsFileRefusal file.now) }
+{
+    if file.len() > MOST_BYTES {
+        return Err(TOO_LARGE);
+    }
+    let mut out = Counted::new(Vec::new(alloc));
+    match put_listing(&alloc, file, &mut out) {
+        Ok(()) => Ok(out.into_inner()),
+        Err(ListFault::BadFile(fault)) => Err(of_file(fault)),
+        Err(ListFault::OutOfMemory) => Err(NO_MEMORY),
+        Err(ListFault::Write) => Err(refused_write(alloc, &out)),
+    }
+}

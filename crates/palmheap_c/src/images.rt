@@ -1,0 +1,59 @@
+//! Functions on images. They keep nothing between calls.
+
+ghost use Rattle.std.specs.Prelude.{◌≡◌, ◌≢◌, ◌⊎◌, length};
+ghost use Rattle.allowance.specs.Refusals.{GrowthRefused};
+ghost use Rattle.chunk_format.specs.Blank.{IsBlank, IsRegionSize, LeavesRoom};
+ghost use Rattle.heap_model.specs.Store.{Accepted};
+ghost use Rattle.palmheap_c.specs.Answers.{IsImageAnswer, bad_size, bad_slot_count, no_fault, no_memory};
+
+use crate::answers::{Answer, BAD_SIZE, BAD_SLOT_COUNT, NO_FAULT, NO_MEMORY, of_store};
+use crate::counts::{Counts, counts_of};
+use chunk_format::{BlankFault, blank};
+use raw_region::Region;
+use std::alloc::Global;
+use store_check::check_store;
+
+/// Makes an image of all the bytes of a buffer, with this number of slots and no chunk in it. The layout is this
+/// project's own (docs/FORMAT.md).
+#[unsafe(no_mangle)]
+pub extern "C" fn palmheap_new(alloc: Global, image: &mut [u8], slots: u16) -> Answer
+    ensures made { result ≡ no_fault
+        → IsBlank (length image.old) slots image.new × Accepted image.new }
+    ensures size { result ≡ bad_size → IsRegionSize (length image.old) → ⊥ }
+    ensures slots { result ≡ bad_slot_count
+        → IsRegionSize (length image.old) × (LeavesRoom (length image.old) slots → ⊥) }
+    ensures short { result ≡ no_memory → GrowthRefused }
+    ensures left { result ≢ no_fault → image.new ≡ image.old }
+    ensures which { (result ≡ no_fault) ⊎ (result ≡ bad_size) ⊎ (result ≡ bad_slot_count)
+        ⊎ (result ≡ no_memory) }
+{
+    let Ok(size) = u32::try_from(image.len()) else {
+        return BAD_SIZE;
+    };
+    match blank(alloc, size, slots) {
+        Ok(region) => {
+            image.copy_from_slice(region.as_slice());
+            NO_FAULT
+        }
+        Err(BlankFault::OutOfMemory) => NO_MEMORY,
+        Err(BlankFault::BadSize) => BAD_SIZE,
+        Err(BlankFault::BadSlotCount) => BAD_SLOT_COUNT,
+    }
+}
+
+/// Checks whether some bytes are an accepted image, and returns its first fault. `counts` gets what it has.
+#[unsafe(no_mangle)]
+pub extern "C" fn palmheap_check(alloc: Global, image: &[u8], counts: &mut Counts) -> Answer
+    ensures { IsImageAnswer image.now counts.new result }
+{
+    let Ok(region) = Region::from_bytes(alloc, image) else {
+        return NO_MEMORY;
+    };
+    match check_store(alloc, &region) {
+        Ok(summary) => {
+            *counts = counts_of(&summary);
+            NO_FAULT
+        }
+        Err(fault) => of_store(fault),
+    }
+}

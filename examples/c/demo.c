@@ -1,0 +1,77 @@
+/* Checks and lists a PDB or PRC file, writes its canonical form, and makes and checks an image:
+ *
+ *   gcc demo.c $(pkg-config --cflags --libs palmheap) -o demo && ./demo IN.pdb OUT.pdb
+ *
+ * To be copied. The status is 1 if the file has a fault, 2 without two words, and 3 if a file or memory fails.
+ */
+#include "palmheap.h"
+#include <stdio.h>
+#include <stdlib.h>
+
+/* A file, or memory, or the end of the program. */
+static uint8_t *read_all(const char *path, size_t *len) {
+    FILE *file = fopen(path, "rb");
+    if (!file || fseek(file, 0, SEEK_END) != 0) { perror(path); exit(3); }
+    *len = (size_t)ftell(file);
+    rewind(file);
+    uint8_t *bytes = malloc(*len + 1);
+    if (!bytes || fread(bytes, 1, *len, file) != *len) { perror(path); exit(3); }
+    fclose(file);
+    return bytes;
+}
+
+typedef palmheap_answer makes_bytes(const uint8_t *, size_t, uint8_t *, size_t, size_t *);
+
+/* Calls a function once for the length of what it makes, and once with a buffer of that length. */
+static uint8_t *made_by(makes_bytes *function, const uint8_t *file, size_t len, size_t *count) {
+    uint8_t none[1];
+    palmheap_answer answer = function(file, len, none, 0, count);
+    if (answer.kind == PALMHEAP_OK) *count = 0;
+    else if (answer.kind != PALMHEAP_NO_ROOM) { fprintf(stderr, "kind %u\n", answer.kind); exit(3); }
+    uint8_t *bytes = malloc(*count + 1);
+    if (!bytes || function(file, len, bytes, *count, count).kind != PALMHEAP_OK) exit(3);
+    return bytes;
+}
+
+static void show_blocks(const uint8_t *file, size_t len) {
+    palmheap_block blocks[4];
+    size_t count;
+    palmheap_answer answer = palmheap_pdb_blocks(file, len, blocks, 4, &count);
+    printf("%zu blocks\n", count);
+    for (size_t i = 0; answer.kind == PALMHEAP_OK && i < count; i++)
+        if (blocks[i].is_there) printf("block %zu: %zu to %zu\n", i, blocks[i].start, blocks[i].end);
+}
+
+static void show_image(void) {
+    static uint8_t image[65536];
+    palmheap_counts counts;
+    if (palmheap_new(image, sizeof image, 100).kind != PALMHEAP_OK) exit(3);
+    if (palmheap_check(image, sizeof image, &counts).kind != PALMHEAP_OK) exit(3);
+    printf("image of %u bytes, %u slots, %u free\n", counts.size, counts.slots, counts.free);
+    image[48] ^= 1;
+    palmheap_answer answer = palmheap_check(image, 128, &counts);
+    printf("its first 128 bytes: kind %u at %u\n", answer.kind, answer.at);
+}
+
+int main(int argc, char **argv) {
+    if (argc != 3) { fprintf(stderr, "usage: demo IN OUT\n"); return 2; }
+    size_t len, count;
+    uint8_t *file = read_all(argv[1], &len);
+    palmheap_answer answer = palmheap_pdb_check(file, len);
+    if (answer.kind != PALMHEAP_OK) {
+        printf("bad: kind %u at %u\n", answer.kind, answer.at);
+        free(file);
+        return 1;
+    }
+    uint8_t *text = made_by(palmheap_pdb_list, file, len, &count);
+    printf("%.*s", (int)count, (char *)text);
+    free(text);
+    show_blocks(file, len);
+    uint8_t *bytes = made_by(palmheap_canonical, file, len, &count);
+    FILE *out = fopen(argv[2], "wb");
+    if (!out || fwrite(bytes, 1, count, out) != count || fclose(out) != 0) { perror(argv[2]); return 3; }
+    free(bytes);
+    free(file);
+    show_image();
+    return 0;
+}

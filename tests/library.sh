@@ -1,0 +1,57 @@
+#!/bin/bash
+# Builds the library for C, and shows that it works from C, Python and Rust:
+#
+#   tests/library.sh [FILES]
+#
+# Runs the bindings in examples/, the one for C also under valgrind and with the address and undefined-behavior
+# sanitizers, and compares the library with the commands `list` and `canonical` on FILES damaged files (100000).
+# Needs rt, gcc and python3. Without valgrind or cargo, it leaves out what they run, and says so. PALMHEAP names a
+# built program to compare with (./palmheap). The status is 1 if something differs. The gate doesn't run this.
+top=$(cd -- "$(dirname -- "$0")/.." && pwd)
+files=${1:-100000}
+program=${PALMHEAP:-$top/palmheap}
+room=$(mktemp -d) || exit 1
+trap 'rm -rf -- "$room"' EXIT
+
+fail() {
+    echo "library.sh: $1" >&2
+    exit 1
+}
+
+"$top/tools/library.sh" "$room/lib" >"$room/log" 2>&1 || { cat "$room/log"; fail 'the library was not built'; }
+export PKG_CONFIG_PATH=$room/lib/lib/pkgconfig LD_LIBRARY_PATH=$room/lib/lib
+flags="-O1 -g -Wall -Wextra -Werror -I $room/lib/include"
+static=$room/lib/lib/libpalmheap.a
+
+# A file with one record and one with none.
+python3 "$top/tests/library.py" files "$room" || fail 'no files were made'
+for case in 'plain' 'sanitized -fsanitize=address,undefined -fno-sanitize-recover'; do
+    name=${case%% *}
+    # shellcheck disable=SC2086
+    gcc $flags ${case#"$name"} "$top/examples/c/demo.c" "$static" -o "$room/$name" || fail "the $name demo was not built"
+    for file in "$room"/*.pdb; do
+        "$room/$name" "$file" "$room/out" >"$room/$name.$(basename "$file").txt" || fail "the $name demo failed on $file"
+    done
+done
+for file in "$room"/*.pdb; do
+    base=$(basename "$file").txt
+    cmp "$room/plain.$base" "$room/sanitized.$base" || fail 'the demos differ'
+done
+# Only the functions of the header are visible.
+nm -D --defined-only "$room/lib/lib/libpalmheap.so" | awk '{ print $3 }' | grep -v '^palmheap_' && fail 'a name escapes'
+
+if command -v valgrind >/dev/null; then
+    valgrind -q --error-exitcode=9 --leak-check=full --errors-for-leak-kinds=all "$room/plain" "$room/memos.pdb" \
+        "$room/out" >/dev/null || fail 'valgrind found an error'
+else
+    echo 'not run: valgrind'
+fi
+if command -v cargo >/dev/null; then
+    (cd "$top/examples/rust" && CARGO_TARGET_DIR=$room/target RUSTFLAGS="-L $room/lib/lib" \
+        cargo run -q --offline -- "$room/memos.pdb") >"$room/rust" || fail 'the demo in Rust failed'
+    python3 "$top/examples/python/palmheap.py" "$room/memos.pdb" >"$room/python" || fail 'the demo in Python failed'
+    cmp "$room/rust" "$room/python" || fail 'the demos in Rust and Python differ'
+else
+    echo 'not run: cargo'
+fi
+python3 "$top/tests/library.py" damaged "$program" "$files" || fail 'the library and the program differ'

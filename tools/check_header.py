@@ -1,0 +1,142 @@
+#!/usr/bin/env python3
+"""Compares include/palmheap.h with the functions that crates/palmheap_c exports.
+
+    tools/check_header.py
+
+Each exported function must be declared once, with the same parameters in order, and each structure with the same
+fields. Each kind of answer and each refusal must have the number that the Rattle code gives it. Prints each difference;
+the status is 1 if there is one.
+"""
+
+import os
+import re
+import sys
+
+TOP = os.path.dirname(os.path.dirname(os.path.realpath(__file__)))
+SOURCES = f"{TOP}/crates/palmheap_c/src"
+NUMBERS = {"u8": "uint8_t", "u16": "uint16_t", "u32": "uint32_t", "u64": "uint64_t", "usize": "size_t", "bool": "bool"}
+# Structures whose name in C is not made of their name here.
+STRUCTS = {"Kept": "palmheap_store", "Slot": "palmheap_store", "*mut u8": "void *"}
+
+
+def text_of(path):
+    with open(path, encoding="utf-8") as it:
+        return it.read()
+
+
+def snake(name):
+    return re.sub(r"(?<!^)(?=[A-Z])", "_", name).lower()
+
+
+def c_name(kind):
+    """Returns the name in C of a number or a structure."""
+    return NUMBERS.get(kind) or STRUCTS.get(kind) or f"palmheap_{snake(kind)}"
+
+
+def c_parameters(kind):
+    """Returns the types in C of the parameters that one parameter becomes."""
+    found = re.fullmatch(r"&(mut )?\[(.+)\]", kind)
+    if found:
+        const = "" if found[1] else "const "
+        item = "palmheap_bytes" if found[2] == "&[u8]" else c_name(found[2])
+        return [f"{const}{item} *", "size_t"]
+    found = re.fullmatch(r"&(mut )?(.+)", kind)
+    if found:
+        return [f"{'' if found[1] else 'const '}{c_name(found[2])} *"]
+    return [] if kind == "Global" else [c_name(kind)]
+
+
+def exported(text):
+    """Yields each exported function: its name, the types in C of its parameters, and that of its result."""
+    pattern = r'#\[unsafe\(no_mangle\)\]\npub extern "C" fn (\w+)\((.*?)\)(?: -> (\w+))?\s*(?:ensures|requires|\{)'
+    for name, given, result in re.findall(pattern, text, re.S):
+        kinds = [it.split(":", 1)[1].strip() for it in re.split(r",\s*(?=\w+:)", given.strip().rstrip(",")) if it]
+        yield name, [c for kind in kinds for c in c_parameters(kind)], c_name(result) if result else "void"
+
+
+def structures(text):
+    """Yields each structure that C sees: its name in C, and the types and names of its fields in C."""
+    for name, body in re.findall(r"#\[repr\(C\)\]\n(?:#\[[^\n]*\]\n)*pub struct (\w+) \{\n(.*?)\n\}", text, re.S):
+        fields = []
+        for field, kind in re.findall(r"^    (?:pub )?(\w+): ([^\n]+),$", body, re.M):
+            array = re.fullmatch(r"\[(\w+); (\d+)\]", kind)
+            fields.append(f"{c_name(array[1])} {field}[{array[2]}]" if array else f"{c_name(kind)} {field}")
+        yield c_name(name), [it.replace("* ", "*") for it in fields]
+
+
+def without_comments(text):
+    return re.sub(r"/\*.*?\*/", "", text, flags=re.S)
+
+
+def declared(header):
+    """Yields each function of the header as `exported` does."""
+    body = re.sub(r"\b(struct|enum)\b[^{;]*\{.*?\}", "", header, flags=re.S)
+    for result, name, given in re.findall(r"^(\w+) (palmheap_\w+)\(([^;]*?)\);", body, re.M | re.S):
+        kinds = []
+        for it in [] if given == "void" else given.split(","):
+            kinds.append(re.sub(r"\w+$", "", " ".join(it.split())).strip())
+        yield name, kinds, result
+
+
+def declared_structures(header):
+    for name, body in re.findall(r"typedef struct (\w+) \{(.*?)\}", header, re.S):
+        yield name, [" ".join(it.split()) for it in body.split(";") if it.strip()]
+
+
+def compare(what, here, there, wrong):
+    """Notes where two lists of named things differ."""
+    mine, theirs = {}, {}
+    for of, named, place in ((here, mine, "the crate"), (there, theirs, "the header")):
+        for name, *rest in of:
+            if name in named:
+                wrong.append(f"{what} {name} is twice in {place}")
+            named[name] = rest
+    for name in sorted({*mine, *theirs}):
+        if mine.get(name) != theirs.get(name):
+            wrong.append(f"{what} {name}: the crate has {mine.get(name)}, and the header {theirs.get(name)}")
+
+
+def shouted(name):
+    return snake(name).upper()
+
+
+def kinds_of(text):
+    """Yields the number of each kind of answer, by its name in C."""
+    for name, kind in re.findall(r"const (\w+): Answer = Answer \{\s*kind: (\d+),", text):
+        yield "OK" if name == "NO_FAULT" else name, int(kind)
+    for name, number in re.findall(r"const (CALL_\w+): u32 = (\d+);", text):
+        yield name, int(number)
+    renamed = {"BadInfo(Which::App)": "BadAppInfo", "BadInfo(Which::Sort)": "BadSortInfo"}
+    # A blank image can't have this size, and an image has a wrong field: two faults with one name.
+    fields = {"HeapFault::BadSize": "BadSizeField", "HeapFault::BadSlotCount": "BadSlotField"}
+    name = r"((?:Heap|Store|File|Script)Fault)::(\w+(?:\(Which::\w+\))?)(?:\([\w, ]+\))?"
+    pattern = rf"{name} => (?:plain\(|numbered\(|\(|Answer \{{\s*kind: )(\d+)"
+    for kind, name, number in re.findall(pattern, text):
+        yield shouted(fields.get(f"{kind}::{name}") or renamed.get(name) or name), int(number)
+
+
+def refusals_of(text):
+    for name, number in re.findall(r"Refusal::(\w+)(?:\(_\))? => (\d+),", text):
+        yield f"REFUSED_{shouted(name)}", int(number)
+
+
+def main():
+    text = "\n".join(text_of(f"{SOURCES}/{it}") for it in sorted(os.listdir(SOURCES)) if it.endswith(".rt"))
+    header = without_comments(text_of(f"{TOP}/include/palmheap.h"))
+    numbers = re.findall(r"\bPALMHEAP_(\w+) = (\d+)", header)
+    wrong = []
+    compare("the function", list(exported(text)), list(declared(header)), wrong)
+    # C alone needs a structure for the items of a list of files. A store is two structures here, one in C.
+    here = {name: fields for name, fields in structures(text)}
+    there = [it for it in declared_structures(header) if it[0] != "palmheap_bytes"]
+    compare("the structure", list(here.items()), there, wrong)
+    refusals = refusals_of(text_of(f"{TOP}/crates/heap_model/src/refusal.rt"))
+    named = [(name, int(number)) for name, number in numbers]
+    compare("the kind", list(kinds_of(text)), [it for it in named if not it[0].startswith("REFUSED_")], wrong)
+    if "palmheap_open" in header:
+        compare("the refusal", list(refusals), [it for it in named if it[0].startswith("REFUSED_")], wrong)
+    print("\n".join(wrong) if wrong else f"{len(list(exported(text)))} functions are declared as they are exported")
+    return 1 if wrong else 0
+
+
+sys.exit(main())

@@ -1,0 +1,45 @@
+#!/bin/sh
+# Proves the library for C, builds it, and lays it down:
+#
+#   tools/library.sh DIR
+#
+# DIR gets include/palmheap.h, lib/libpalmheap.a, lib/libpalmheap.so.0 with the link libpalmheap.so, and
+# lib/pkgconfig/palmheap.pc. Needs rt, gcc, ld, objcopy and ar. The first call proves all crates below the library, one
+# after the other; a later call only what changed. The status is 1 if a step fails.
+set -e
+if [ $# != 1 ]; then
+    echo 'usage: tools/library.sh DIR' >&2
+    exit 2
+fi
+top=$(dirname -- "$(dirname -- "$(readlink -f -- "$0")")")
+mkdir -p -- "$1/include" "$1/lib/pkgconfig"
+to=$(readlink -f -- "$1")
+
+python3 "$top/tools/check_header.py" >&2
+# `rt lib` builds a library only if all of it is proved.
+(cd -- "$top/crates/palmheap_c" && rt lib) >&2
+kit=$(dirname -- "$(rt doc)")
+
+# One object, with what it needs of the kit's C code. Only the functions of the header stay visible.
+room=$(mktemp -d)
+trap 'rm -rf -- "$room"' EXIT
+ld -r -o "$room/palmheap.o" --whole-archive "$top/crates/palmheap_c/out/libpalmheap_c.a" --no-whole-archive \
+    "$kit/c/liblibc_c.a"
+objcopy --wildcard --keep-global-symbol='palmheap_*' "$room/palmheap.o"
+ar rcs "$room/libpalmheap.a" "$room/palmheap.o"
+gcc -shared -o "$room/libpalmheap.so.0" -Wl,-soname,libpalmheap.so.0 "$room/palmheap.o" -Wl,-z,defs -s
+
+cp -- "$top/include/palmheap.h" "$to/include/palmheap.h"
+cp -- "$room/libpalmheap.a" "$room/libpalmheap.so.0" "$to/lib/"
+ln -sf libpalmheap.so.0 "$to/lib/libpalmheap.so"
+cat >"$to/lib/pkgconfig/palmheap.pc" <<END
+prefix=$to
+includedir=\${prefix}/include
+libdir=\${prefix}/lib
+
+Name: palmheap
+Description: Proved checks and conversions of Palm OS heap images and PDB and PRC files
+Version: 0
+Cflags: -I\${includedir}
+Libs: -L\${libdir} -lpalmheap
+END
