@@ -108,7 +108,8 @@ palmheap_answer palmheap_pdb_list(const uint8_t *file, size_t file_len, uint8_t 
  * buffer stays as it was. */
 palmheap_answer palmheap_new(uint8_t *image, size_t image_len, uint16_t slots);
 
-/* Checks whether some bytes are an accepted image. With PALMHEAP_OK counts gets what it has. */
+/* Checks whether some bytes are an accepted image. With PALMHEAP_OK counts gets what it has; with any other answer it
+ * stays as it was. */
 palmheap_answer palmheap_check(const uint8_t *image, size_t image_len, palmheap_counts *counts);
 
 #ifdef __cplusplus

@@ -120,6 +120,7 @@ pub record HasCounts (image : List ℕ) (counts : Counts) : Type 0 where
   pub summarizes : Summarizes image summary
   pub counts_are : counts ≡ counts_of summary
 
--- An image is accepted, and these are its counts; or this is its first fault, or a growth was refused.
-abbrev pub IsImageAnswer : List ℕ → Counts → Answer → Type 0
-IsImageAnswer image counts found = ((found ≡ no_fault) × HasCounts image counts) ⊎ (WantsMemory found ⊎ IsImageFault image found)
+-- An image is accepted, and these are its counts; or this is its first fault, or a growth was refused, and the counts are
+-- what they were.
+abbrev pub IsImageAnswer : List ℕ → (old new : Counts) → Answer → Type 0
+IsImageAnswer image old new found = ((found ≡ no_fault) × HasCounts image new) ⊎ ((WantsMemory found ⊎ IsImageFault image found) × (new ≡ old))

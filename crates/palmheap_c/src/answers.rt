@@ -50,7 +50,7 @@ pub(crate) const BAD_SIZE: Answer = Answer {
     entry: 0,
 };
 
-/// No image of the size has so many slots.
+/// No image of the size has this number of slots.
 pub(crate) const BAD_SLOT_COUNT: Answer = Answer {
     kind: 5,
     at: 0,

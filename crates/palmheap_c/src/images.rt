@@ -41,10 +41,11 @@ pub extern "C" fn palmheap_new(alloc: Global, image: &mut [u8], slots: u16) -> A
     }
 }
 
-/// Checks whether some bytes are an accepted image, and returns its first fault. `counts` gets what it has.
+/// Checks whether some bytes are an accepted image, and returns its first fault. `counts` gets what it has, if it is
+/// accepted.
 #[unsafe(no_mangle)]
 pub extern "C" fn palmheap_check(alloc: Global, image: &[u8], counts: &mut Counts) -> Answer
-    ensures { IsImageAnswer image.now counts.new result }
+    ensures { IsImageAnswer image.now counts.old counts.new result }
 {
     let Ok(region) = Region::from_bytes(alloc, image) else {
         return NO_MEMORY;
