@@ -6,6 +6,7 @@
  * - A pointer may not be NULL, also if its length is 0.
  * - Memory that a function writes may not overlap other memory that it is given.
  * - The caller owns all memory that it passes.
+ * - With any answer but PALMHEAP_OK and PALMHEAP_NO_ROOM a function leaves the caller's memory as it was.
  */
 #ifndef PALMHEAP_H
 #define PALMHEAP_H

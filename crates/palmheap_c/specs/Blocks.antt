@@ -22,9 +22,10 @@ pub record HasMoreBlocks (file : List ℕ) (old new : List Block) (count : ℕ) 
   pub more : length old < count
   pub same : new ≡ old
 
--- The blocks of a file were put; or they are too many, or the file has a fault, or a growth was refused.
-abbrev pub IsBlocksAnswer : List ℕ → (old new : List Block) → ℕ → Answer → Type 0
-IsBlocksAnswer file old new count found =
+-- The blocks of a file were put; or they are too many; or the file has a fault, or a growth was refused, and the caller's
+-- blocks and the count are what they were.
+abbrev pub IsBlocksAnswer : List ℕ → (old new : List Block) → (was count : ℕ) → Answer → Type 0
+IsBlocksAnswer file old new was count found =
     ((found ≡ no_fault) × AreBlocks file new count)
     ⊎ (((found ≡ no_room) × HasMoreBlocks file old new count)
-    ⊎ ((WantsMemory found ⊎ IsFileFault file found) × (new ≡ old)))
+    ⊎ ((WantsMemory found ⊎ IsFileFault file found) × (new ≡ old) × (count ≡ was)))

@@ -18,8 +18,8 @@ pub record PutsBytes (bytes old new : List ℕ) (count : ℕ) (found : Answer) :
   pub counted : count ≡ length bytes
   pub answered : ((found ≡ no_fault) × Fills bytes old new) ⊎ ((found ≡ no_room) × IsTooShort bytes old new)
 
--- The bytes of a file that are such were put; or the file is refused, and the buffer is what it was.
-abbrev pub IsBytesAnswer : (List ℕ → Type 0) → List ℕ → (old new : List ℕ) → ℕ → Answer → Type 0
-IsBytesAnswer IsSuch file old new count found =
+-- The bytes of a file that are such were put; or the file is refused, and the buffer and the count are what they were.
+abbrev pub IsBytesAnswer : (List ℕ → Type 0) → List ℕ → (old new : List ℕ) → (was count : ℕ) → Answer → Type 0
+IsBytesAnswer IsSuch file old new was count found =
     ((bytes : List ℕ) × IsSuch bytes × PutsBytes bytes old new count found)
-    ⊎ (IsFileRefusal file found × (new ≡ old))
+    ⊎ (IsFileRefusal file found × (new ≡ old) × (count ≡ was))

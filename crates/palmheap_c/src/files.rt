@@ -41,7 +41,7 @@ pub extern "C" fn palmheap_pdb_blocks(
     blocks: &mut [Block],
     count: &mut usize,
 ) -> Answer
-    ensures { IsBlocksAnswer file.now blocks.old blocks.new count.new result }
+    ensures { IsBlocksAnswer file.now blocks.old blocks.new count.old count.new result }
 {
     let found = match blocks_of(alloc, file) {
         Ok(found) => found,
@@ -79,7 +79,7 @@ pub extern "C" fn palmheap_canonical(
     canonical: &mut [u8],
     count: &mut usize,
 ) -> Answer
-    ensures { IsBytesAnswer (IsCanonical file.now) file.now canonical.old canonical.new count.new result }
+    ensures { IsBytesAnswer (IsCanonical file.now) file.now canonical.old canonical.new count.old count.new result }
 {
     match canonical_of(alloc, file) {
         Ok(bytes) => put_bytes(&bytes, canonical, count),
@@ -113,7 +113,7 @@ pub extern "C" fn palmheap_pdb_list(
     text: &mut [u8],
     count: &mut usize,
 ) -> Answer
-    ensures { IsBytesAnswer (IsListing file.now) file.now text.old text.new count.new result }
+    ensures { IsBytesAnswer (IsListing file.now) file.now text.old text.new count.old count.new result }
 {
     match listing_of(alloc, file) {
         Ok(bytes) => put_bytes(&bytes, text, count),
