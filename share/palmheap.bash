@@ -2,7 +2,7 @@
 _palmheap() {
     local word=${COMP_WORDS[COMP_CWORD]}
     if [ "$COMP_CWORD" = 1 ] || { [ "$COMP_CWORD" = 2 ] && [ "${COMP_WORDS[1]}" = help ]; }; then
-        mapfile -t COMPREPLY < <(compgen -W 'list canonical unpack pack new check map run migrate help --help --version' -- "$word")
+        mapfile -t COMPREPLY < <(compgen -W 'list canonical unpack pack new check map run migrate import databases export help --help --version' -- "$word")
     else
         mapfile -t COMPREPLY < <(compgen -f -- "$word")
     fi

@@ -176,6 +176,33 @@ is 'nothing is packed' '' "$(ls out.pdb 2>/dev/null)"
 is 'an unpacked file over a limit leaves nothing' '' "$(ls full 2>/dev/null)"
 rm -r parts hanging
 
+# images of files, and files of images: what is there stays, and what can't be written whole leaves nothing
+says 'an image of a file' 0 'ok 128 2
+ok' '' import c.img empty.pdb
+says 'an image that is too small' 1 'refused 8 NotEnoughSpace' 'empty.pdb: refused' import --size 120 d.img empty.pdb
+is 'no image is written' '' "$(ls d.img 2>/dev/null)"
+says 'a folder of files' 0 'ok 1' '' export c.img files
+{ cat empty.pdb; printf '\000\000'; } >wanted.pdb
+is 'the file comes back' '' "$(cmp wanted.pdb files/Empty.pdb 2>&1)"
+sed '1s/^Empty/Other/' wanted.pdb >other.pdb
+says 'an image of two files' 0 'ok 224 3
+ok
+ok' '' import c.img empty.pdb other.pdb
+rm files/Empty.pdb
+echo here >files/Other.pdb
+says 'a file that is there' 3 '' 'fault write
+files/Other.pdb: entity already exists' export c.img files
+is 'no other file is there' Other.pdb "$(ls files)"
+is 'the file that was there' here "$(cat files/Other.pdb)"
+rm files/Other.pdb
+says 'a folder that is there' 0 'ok 1' '' export c.img files Other
+is 'the file of a name' '' "$(cmp other.pdb files/Other.pdb 2>&1)"
+rm files/Other.pdb
+says 'a name that no database has' 1 'refused 10 NoSuchDatabase' 'Full: refused' export c.img files Full
+(trap '' XFSZ; ulimit -f 0 && exec "$program" export c.img full) >printed 2>complained
+is 'an exported file over a limit leaves nothing' '' "$(ls full files 2>/dev/null | grep -v :)"
+rm -r c.img files wanted.pdb other.pdb
+
 # memory that is refused is told, and nothing else: the more there is, the further a run gets
 "$program" new 16777208 4 large.img >printed
 told=0

@@ -1,4 +1,4 @@
-//! Growths, each of which asks for a grant.
+//! Allocations, each of which asks for a grant first.
 
 ghost use Rattle.std.specs.Prelude.{◌≡◌, ◌+◌, ◌++◌, ◌∷◌, [], IfOk, IfSome, OnOk, OnErr, replicate, string_bytes};
 ghost use Rattle.std.specs.Prelude.{if◌then◌else◌, vec_len, vec_capacity};
@@ -10,7 +10,7 @@ use std::alloc::{AllocError, Global};
 use std::collections::BTreeMap;
 use std::fmt::Display;
 
-/// So many zeros.
+/// Returns `count` zeros.
 pub fn zeros<A: Allowance>(memory: &A, count: usize) -> Result<Vec<u8>, AllocError>
     ensures items { IfOk result (λ zeros. zeros.items ≡ replicate count 0) }
     ensures short { OnErr result (A.is_short memory.now) }
@@ -18,7 +18,7 @@ pub fn zeros<A: Allowance>(memory: &A, count: usize) -> Result<Vec<u8>, AllocErr
     outcome(memory, vec![in memory.grant()?; 0u8; count])
 }
 
-/// The same item so many times.
+/// Returns `count` copies of an item.
 pub fn filled<A: Allowance, T: Copy>(
     memory: &A,
     item: T,
@@ -34,7 +34,7 @@ pub fn filled<A: Allowance, T: Copy>(
     Ok(filled)
 }
 
-/// A copy of some bytes.
+/// Returns a copy of some bytes.
 pub fn copied<A: Allowance>(memory: &A, bytes: &[u8]) -> Result<Vec<u8>, AllocError>
     ensures items { IfOk result (λ copy. copy.items ≡ bytes.now) }
     ensures short { OnErr result (A.is_short memory.now) }
@@ -42,7 +42,7 @@ pub fn copied<A: Allowance>(memory: &A, bytes: &[u8]) -> Result<Vec<u8>, AllocEr
     outcome(memory, Vec::from_slice(memory.grant()?, bytes))
 }
 
-/// No items yet, and room for so many.
+/// Returns an empty vector with room for `count` items.
 pub fn room_for<A: Allowance, T: Drop>(memory: &A, count: usize) -> Result<Vec<T>, AllocError>
     ensures none { IfOk result (λ items. items.items ≡ []) }
     ensures len { IfOk result (λ items. vec_len items ≡ 0) }
@@ -52,7 +52,7 @@ pub fn room_for<A: Allowance, T: Drop>(memory: &A, count: usize) -> Result<Vec<T
     outcome(memory, Vec::with_capacity(memory.grant()?, count))
 }
 
-/// Puts an item behind the others.
+/// Appends an item.
 pub fn push<A: Allowance, T: Drop>(
     memory: &A,
     items: &mut Vec<T>,
@@ -70,7 +70,7 @@ pub fn push<A: Allowance, T: Drop>(
     outcome(memory, grown)
 }
 
-/// Puts bytes behind others.
+/// Appends bytes.
 pub fn extend<A: Allowance>(memory: &A, bytes: &mut Vec<u8>, more: &[u8]) -> Result<(), AllocError>
     ensures items { OnOk result (bytes.new.items ≡ bytes.old.items ++ more.now) }
     ensures same { OnErr result (bytes.new.items ≡ bytes.old.items) }
@@ -103,8 +103,11 @@ pub fn insert<A: Allowance, K: Ord + Drop, V: Drop>(
     outcome(memory, grown)
 }
 
-/// The text of a value, as by `format_args!`. A value whose `fmt` fails is answered as a refused growth: std tells no
-/// difference.
+/// Returns the text of a value, as `format_args!` prints it.
+///
+/// # Errors
+/// - `AllocError`: if the allocation failed or no grant was given, or if the value's `fmt` failed:
+///   std reports both with the same error.
 pub fn text_of<A: Allowance, D: Display + Drop>(memory: &A, value: D) -> Result<String, AllocError>
     ensures text { IfOk result (λ text. IfSome (D.output value) (λ bytes. string_bytes text ≡ bytes)) }
     ensures short { OnErr result (A.is_short memory.now) }
@@ -112,10 +115,10 @@ pub fn text_of<A: Allowance, D: Display + Drop>(memory: &A, value: D) -> Result<
     outcome(memory, String::format(memory.grant()?, value))
 }
 
-/// Takes note that the allocator refused a growth that no function here makes.
+/// Records that an allocation failed which no function of this crate made.
 ///
 /// # Safety
-/// The allocator must have refused one: no contract can say this.
+/// An allocation must have failed: no contract can express this.
 pub unsafe fn failed<A: Allowance>(memory: &A) -> AllocError
     ensures { A.is_short memory.now }
 {
@@ -123,7 +126,8 @@ pub unsafe fn failed<A: Allowance>(memory: &A) -> AllocError
     AllocError
 }
 
-/// What a growth that was granted came to. It must be the allocator's answer: no contract can say this.
+/// Records whether a granted allocation succeeded, and returns its result. Callers must pass only
+/// the result of that allocation: no contract can express this.
 fn outcome<A: Allowance, T: Drop>(
     memory: &A,
     growth: Result<T, AllocError>,

@@ -1,8 +1,8 @@
-//! Where memory comes from, and growths that may be refused.
+//! Allocations that ask an `Allowance` for a grant first.
 //!
-//! A library of the project that takes memory takes it by a function of this crate, but for a region's block. Each
-//! function asks an `Allowance` first, so that a test can refuse each growth in turn, and its contract says that it
-//! fails only if it was refused.
+//! The project's libraries allocate by the functions of this crate, except for a region's block. A
+//! test can refuse each allocation in turn. Each contract says that a function fails only if its
+//! allocation failed or was refused.
 #![tactic(auto)]
 
 mod growth;
@@ -17,24 +17,27 @@ use std::alloc::{AllocError, Global};
 #[derive(Drop)]
 pub struct Failure(());
 
-/// What memory is taken from. Each growth asks for a grant first.
+/// A source of memory. Each allocation asks it for a grant first.
 pub trait Allowance {
-    /// What is known once a growth was refused: no other step of a program shows it.
+    /// The fact that an allocation failed or was refused. No other step of a program proves it.
     ghost is_short: { Self → Type 0 };
 
-    /// The allocator, for values that take no memory yet.
+    /// Returns the allocator, for values that take no memory yet.
     fn allocator(&self) -> Global;
 
-    /// Grants the allocator for one growth.
+    /// Grants the allocator for one allocation.
+    ///
+    /// # Errors
+    /// - `AllocError`: if this allocation is refused.
     fn grant(&self) -> Result<Global, AllocError>
         ensures { OnErr result (is_short self.now) };
 
-    /// Takes note that the allocator refused a growth that was granted.
+    /// Records that a granted allocation failed.
     fn note(&self, failure: Failure)
         ensures { is_short self.now };
 }
 
-/// Every growth is granted.
+/// Grants every allocation.
 impl Allowance for Global {
     ghost is_short = { λ _. GrowthRefused };
 

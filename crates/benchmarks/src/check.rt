@@ -1,6 +1,6 @@
-//! The checker of heaps. `check IMAGE REPEATS` reads an image, and prints what the checker says of it, and the best
-//! and the median time of so many checks in microseconds. With no words the image is a blank one. bench/check_heap.c
-//! makes the same checks in plain C.
+//! The checker of heaps. `check IMAGE REPEATS` reads an image, and prints the checker's result, and
+//! the best and the median time of REPEATS checks in microseconds. Without words the image is a
+//! blank one. bench/check_heap.c makes the same checks in plain C.
 
 ghost use Rattle.std.specs.Prelude.{◌≡◌, IfOk, None};
 
@@ -15,13 +15,13 @@ use std::rt::Clock;
 use std::time::Instant;
 use std::{fs, io};
 
-/// What the words of a run say.
+/// The meaning of the words of a run.
 pub(crate) const FIELDS: [Field; 2] = [Field::Image, Field::Rounds];
 
-/// The work of a run with no words.
+/// The work of a run without words.
 pub(crate) const LEAST: Work<'static> = NONE;
 
-/// Checks the image so many times, and prints what is found and the times.
+/// Checks the image the given number of times, and prints the result and the times.
 #[inline(never)]
 pub(crate) fn run(rt: &(impl Clock + Files + Print + AllocGlobal), work: Work<'_>) -> Result<()> {
     let region = region_of(rt, work.image)?;
@@ -30,7 +30,7 @@ pub(crate) fn run(rt: &(impl Clock + Files + Print + AllocGlobal), work: Work<'_
     Ok(())
 }
 
-/// The region of an image in a file, or a blank one.
+/// Returns the region of an image in a file, or a blank one.
 fn region_of(rt: &(impl Files + AllocGlobal), image: Option<&str>) -> Result<Region>
     ensures { IfOk result (λ region. region.lent ≡ None) }
 {
@@ -47,7 +47,7 @@ fn read_region(rt: &(impl Files + AllocGlobal), image: &str) -> Result<Region>
     Ok(Region::from_bytes(rt.alloc(), &bytes)?)
 }
 
-/// Checks a region so many times, and prints the times.
+/// Checks a region the given number of times, and prints the times.
 fn time_checks(
     rt: &(impl Clock + Print + AllocGlobal),
     region: &Region,
@@ -62,7 +62,7 @@ fn time_checks(
     times.print_microseconds(rt, "check")
 }
 
-/// Adds how long a check takes, whose answer is thrown away.
+/// Adds the time of a check. The result is discarded.
 pub(crate) fn time_heap_check(rt: &impl Clock, region: &Region, times: &mut Times) -> io::Result<()>
     requires { region.now.lent ≡ None }
 {

@@ -1,10 +1,11 @@
-//! The import and the export of databases. `files SIZE SLOTS RECORDS BYTES ROUNDS` makes files of RECORDS records with
-//! BYTES bytes each. In each round of a kind it imports one into an image of SIZE bytes with SLOTS slots and with
-//! nothing in it, and exports the database again. It prints the best and the median processor time of both in
-//! nanoseconds.
+//! The import and the export of databases. `files SIZE SLOTS RECORDS BYTES ROUNDS` makes files of
+//! RECORDS records with BYTES bytes each. In each round of a kind it imports one into an empty
+//! image of SIZE bytes with SLOTS slots, and exports the database again. It prints the best and the
+//! median processor time of both in nanoseconds.
 //!
-//! The last line has the sum of the lengths of the exported files, and that of the words of images and files. With no
-//! words it alone is printed, of small files. bench/files.c does the same in plain C.
+//! The last line has the sum of the lengths of the exported files, and the sum of the words of
+//! images and files. Without words the run prints only this line, for small files. bench/files.c
+//! does the same in plain C.
 
 ghost use Rattle.std.specs.Prelude.{◌≡◌, IfOk, None};
 
@@ -22,7 +23,7 @@ use shapes::{SHAPES, Shape, file_of};
 use std::alloc::Global;
 use std::rt::CpuClock;
 
-/// What the words of a run say.
+/// The meaning of the words of a run.
 pub(crate) const FIELDS: [Field; 5] = [
     Field::Size,
     Field::Slots,
@@ -31,7 +32,7 @@ pub(crate) const FIELDS: [Field; 5] = [
     Field::Rounds,
 ];
 
-/// The work of a run with no words.
+/// The work of a run without words.
 pub(crate) const LEAST: Work<'static> = Work {
     size: 16384,
     slots: 128,
@@ -96,7 +97,7 @@ fn time_round(
     Ok(())
 }
 
-/// Imports a file, and adds how long that takes.
+/// Imports a file, and adds the time that it takes.
 fn time_import(
     rt: &(impl CpuClock + AllocGlobal),
     store: &mut Store,
@@ -111,7 +112,7 @@ fn time_import(
     Ok(db)
 }
 
-/// Exports a database, and adds how long that takes.
+/// Exports a database, and adds the time that it takes.
 fn time_export(
     rt: &(impl CpuClock + AllocGlobal),
     store: &Store,
@@ -124,7 +125,7 @@ fn time_export(
     Ok(out)
 }
 
-/// A store with nothing in it.
+/// Makes a store with nothing in it.
 fn blank_store(alloc: Global, work: Work<'_>) -> Result<Store>
     ensures { IfOk result (λ store. store.lent ≡ None) }
 {

@@ -1,5 +1,5 @@
-//! Times the two checkers, the calls of the memory manager, those on records and resources, and the import and
-//! the export of databases:
+//! Times the two checkers, the calls of the memory manager, those on records and resources, and the
+//! import and the export of databases:
 //!
 //! ```text
 //! benchmarks check IMAGE REPEATS
@@ -11,10 +11,10 @@
 //! benchmarks files SIZE SLOTS RECORDS BYTES ROUNDS
 //! ```
 //!
-//! Each has a module of its name, which says what it does, and whose function `run` isn't inlined, so that each is
-//! compiled for itself. With its name alone it does little and prints no times, and with no word at all each of them
-//! does so, in this order. Wrong words end with status 2. The scripts in bench/ run it, and docs/MEASUREMENTS.md has
-//! what was measured.
+//! Each benchmark has a module, whose comment says what it does. Its function `run` isn't inlined,
+//! so that each is compiled for itself. With its name alone a benchmark does little and prints no
+//! times. Without any word all benchmarks do so, in this order. Wrong words end with status 2. The
+//! scripts in bench/ run the benchmarks, and docs/MEASUREMENTS.md has the results.
 #![tactic(auto)]
 
 mod check;
@@ -33,7 +33,7 @@ use std::process::ExitCode;
 use std::rt::{Clock, CpuClock};
 use work::{Field, Work};
 
-/// What is said of wrong words.
+/// The text that is printed for wrong words.
 const USAGE: &str = "usage: benchmarks [check [IMAGE REPEATS] | stores [REPEATS] \
     | memory [SIZE SLOTS PASSES ROUNDS] | tables [SIZE SLOTS PASSES ROUNDS] | tables_apart [SIZE SLOTS PASSES ROUNDS] \
     | records [SIZE SLOTS RECORDS CALLS PASSES ROUNDS] \
@@ -51,7 +51,7 @@ enum Benchmark {
     Files,
 }
 
-/// The benchmarks by their names, each with what the words behind it say, and with its least work.
+/// The benchmarks with their names, the meaning of the words after the name, and the least work.
 static BENCHMARKS: [(&str, Benchmark, &[Field], Work<'static>); 7] = [
     ("check", Benchmark::Check, &check::FIELDS, check::LEAST),
     ("stores", Benchmark::Stores, &stores::FIELDS, stores::LEAST),
@@ -77,7 +77,7 @@ fn main(rt: HostRuntime) -> Result<ExitCode> {
     run_words(&rt, &words)
 }
 
-/// Runs what the words behind the program's name ask for.
+/// Runs what the words after the program's name ask for.
 fn run_words(
     rt: &(impl Clock + CpuClock + Files + Print + Eprint + AllocGlobal),
     words: &[String],
@@ -94,7 +94,7 @@ fn run_words(
     Ok(ExitCode::SUCCESS)
 }
 
-/// Runs each with its least work.
+/// Runs each benchmark with its least work.
 fn run_each(rt: &(impl Clock + CpuClock + Files + Print + AllocGlobal)) -> Result<()> {
     for (_, benchmark, _, least) in &BENCHMARKS {
         benchmark.run(rt, *least)?;
@@ -102,7 +102,7 @@ fn run_each(rt: &(impl Clock + CpuClock + Files + Print + AllocGlobal)) -> Resul
     Ok(())
 }
 
-/// The benchmark that the words name, and how much of it is done, if they are right.
+/// Returns the benchmark that the words name and its work, or `None` if the words are wrong.
 fn named(words: &[String]) -> Option<(Benchmark, Work<'_>)> {
     let (name, words) = words.split_first()?;
     for (known, benchmark, fields, least) in &BENCHMARKS {

@@ -1,14 +1,16 @@
-//! The calls of the memory manager. `memory SIZE SLOTS PASSES ROUNDS` makes a heap of SIZE
-//! bytes with SLOTS slots, and a chunk under each slot. It frees and makes chunks, and then does the
-//! calls whose time doesn't depend on the heap, PASSES times at each handle. `tables`, with the same words, does so on a
-//! heap whose slots stand in further tables of 15. Calls that walk through all
-//! chunks or move them are done on another heap: one that chunks fill, of which every second is freed. And calls
-//! are done on a third in orders for which lists of free chunks help least.
-//! For each kind of call it prints the calls of a round, and the best and the median processor time of a round in
-//! nanoseconds.
+//! The calls of the memory manager. `memory SIZE SLOTS PASSES ROUNDS` makes a heap of SIZE bytes
+//! with SLOTS slots, and a chunk under each slot. It frees and makes chunks. Then it does the calls
+//! whose time doesn't depend on the heap, PASSES times at each handle. `tables`, with the same
+//! words, does the same on a heap whose slots are in further tables of 15.
 //!
-//! The last line has the sum of all replies, and that of the words of the heaps at the end. With no
-//! words it alone is printed, of a small heap. bench/memory_calls.c does the same calls in plain C.
+//! Calls that walk through all chunks or move them use another heap: chunks fill it, and every
+//! second chunk is free. A third heap is used with orders of calls for which lists of free chunks
+//! help least. For each kind of call it prints the calls of a round, and the best and the median
+//! processor time of a round in nanoseconds.
+//!
+//! The last line has the sum of all replies, and the sum of the words of the heaps at the end.
+//! Without words the run prints only this line, for a small heap. bench/memory_calls.c does the
+//! same calls in plain C.
 
 ghost use Rattle.std.specs.Prelude.{◌≡◌, IfOk, None};
 
@@ -30,10 +32,10 @@ use std::io;
 use std::rt::CpuClock;
 use walks::Walk;
 
-/// What the words of a run say.
+/// The meaning of the words of a run.
 pub(crate) const FIELDS: [Field; 4] = [Field::Size, Field::Slots, Field::Passes, Field::Rounds];
 
-/// The work of a run with no words.
+/// The work of a run without words.
 pub(crate) const LEAST: Work<'static> = Work {
     size: 4096,
     slots: 64,
@@ -42,13 +44,13 @@ pub(crate) const LEAST: Work<'static> = Work {
     ..NONE
 };
 
-/// How many chunks are freed and made again in a round, at most.
+/// The maximum number of chunks that are freed and made again in a round.
 const MOST_MOVED: u16 = 2000;
 
-/// The most bytes of a chunk, where the heap isn't to be full.
+/// The maximum number of bytes of a chunk, if the heap isn't to be full.
 const MOST_BYTES: u16 = 64;
 
-/// The calls whose time doesn't depend on the heap, by what is printed of them.
+/// The calls whose time doesn't depend on the heap, with the names that are printed.
 static CALLS: [(&str, Call); 7] = [
     ("lock_and_unlock", Call::LockAndUnlock),
     ("size", Call::Size),
@@ -59,7 +61,7 @@ static CALLS: [(&str, Call); 7] = [
     ("take_out_and_put_back", Call::TakeOutAndPutBack),
 ];
 
-/// The calls that walk through all chunks or move them, by what is printed of them.
+/// The calls that walk through all chunks or move them, with the names that are printed.
 static WALKS: [(&str, Walk); 5] = [
     ("largest_stretch", Walk::LargestStretch),
     ("compact", Walk::Compact),
@@ -68,14 +70,14 @@ static WALKS: [(&str, Walk); 5] = [
     ("resize_by_moving", Walk::ResizeByMoving),
 ];
 
-/// The orders for which lists help least, by what is printed of them.
+/// The orders for which lists help least, with the names that are printed.
 static ORDERS: [(&str, Walk); 3] = [
     ("handle_new_far_in_a_list", Walk::FarInAList),
     ("resize_in_turn", Walk::ResizeInTurn),
     ("handle_new_over_freed", Walk::OverManyFreed),
 ];
 
-/// What is printed of the calls that free and make chunks.
+/// The names that are printed for the calls that free and make chunks.
 const AT_THE_END: (&str, &str) = ("free_at_the_end", "handle_new_at_the_end");
 
 const ANYWHERE: (&str, &str) = ("free_anywhere", "handle_new_anywhere");
@@ -91,8 +93,8 @@ pub(crate) fn run(rt: &(impl CpuClock + Print + AllocGlobal), work: Work<'_>) ->
     Ok(())
 }
 
-/// Times the calls on a heap under load whose slots are in further tables, with free bytes between two of them: fewer than
-/// `most_between`, and the header of a chunk.
+/// Times the calls on a heap under load whose slots are in further tables. Between two tables there
+/// are fewer than `most_between` free bytes, and the header of a chunk.
 #[inline(never)]
 pub(crate) fn run_chained(
     rt: &(impl CpuClock + Print + AllocGlobal),
@@ -196,7 +198,7 @@ fn blank_heap(alloc: Global, work: Work<'_>) -> Result<Heap>
     adopted(region)
 }
 
-/// How many chunks are freed and made again in a round.
+/// Returns the number of chunks that are freed and made again in a round.
 fn moved(work: Work<'_>) -> u16 {
     MOST_MOVED.min(work.slots / 4)
 }
@@ -212,8 +214,8 @@ fn fill(
     times.print(rt, work, "handle_new_filling", work.slots as u128)
 }
 
-/// Frees chunks and makes as many, in each round. Those freed are taken from the last handles, so
-/// many of them.
+/// Frees chunks and makes as many new ones, in each round. The freed chunks are drawn from the last
+/// `among` handles.
 fn move_chunks(
     rt: &(impl CpuClock + Print + AllocGlobal),
     load: &mut Load,
@@ -230,7 +232,7 @@ fn move_chunks(
     made.print(rt, work, make, moved(work) as u128)
 }
 
-/// Adds how long it takes to free the chunks of the last handles, so many of them, and to make as many.
+/// Adds the time to free the chunks of the last `count` handles, and the time to make as many.
 fn time_to_move(
     rt: &impl CpuClock,
     load: &mut Load,
@@ -244,7 +246,7 @@ fn time_to_move(
     time_to_make(rt, load, count, made)
 }
 
-/// Adds how long it takes to make so many chunks.
+/// Adds the time to make `count` chunks.
 fn time_to_make(
     rt: &impl CpuClock,
     load: &mut Load,
@@ -272,7 +274,7 @@ fn repeat(
     times.print(rt, work, name, calls)
 }
 
-/// Adds how long calls of one kind take.
+/// Adds the time that calls of one kind take.
 fn time_to_repeat(
     rt: &impl CpuClock,
     load: &mut Load,
@@ -304,7 +306,7 @@ fn walk_through(
     Ok(())
 }
 
-/// Does calls of one kind on a copy of a heap. The sums get what they leave.
+/// Does calls of one kind on a copy of a heap, and adds the heap they leave to the sums.
 fn walk_copy(
     rt: &(impl CpuClock + AllocGlobal),
     original: &Original,
@@ -321,7 +323,7 @@ fn walk_copy(
     Ok(())
 }
 
-/// Adds how long calls of one kind take on a heap, and answers the sum of their replies.
+/// Adds the time that calls of one kind take on a heap, and returns the sum of their replies.
 fn time_walk(
     rt: &impl CpuClock,
     original: &Original,

@@ -1,11 +1,13 @@
-//! The calls on records, and some on resources. `records SIZE SLOTS RECORDS CALLS PASSES ROUNDS` makes a
-//! store in an image of SIZE bytes with SLOTS slots, and a database of RECORDS records in it, and another such store
-//! with as many resources. In each round of a kind CALLS entries are made, moved or taken out, or all of them asked
-//! for PASSES times. For each kind of call it prints the calls of a round, and the best and the median processor time
-//! of a round in nanoseconds.
+//! The calls on records, and some on resources. `records SIZE SLOTS RECORDS CALLS PASSES ROUNDS`
+//! makes a store in an image of SIZE bytes with SLOTS slots, and a database of RECORDS records in
+//! it. It makes another store with the same number of resources. In each round of a kind CALLS
+//! entries are made, moved or removed, or all entries are asked for PASSES times. For each kind of
+//! call it prints the calls of a round, and the best and the median processor time of a round in
+//! nanoseconds.
 //!
-//! The last line has the sum of all replies, and that of the words of the images at the end. With no words it
-//! alone is printed, of small databases. bench/record_calls.c does the same calls in plain C.
+//! The last line has the sum of all replies, and the sum of the words of the images at the end.
+//! Without words the run prints only this line, for small databases. bench/record_calls.c does the
+//! same calls in plain C.
 
 ghost use Rattle.std.specs.Prelude.{◌≡◌, IfOk, None};
 
@@ -25,7 +27,7 @@ use std::alloc::Global;
 use std::io;
 use std::rt::CpuClock;
 
-/// What the words of a run say.
+/// The meaning of the words of a run.
 pub(crate) const FIELDS: [Field; 6] = [
     Field::Size,
     Field::Slots,
@@ -35,7 +37,7 @@ pub(crate) const FIELDS: [Field; 6] = [
     Field::Rounds,
 ];
 
-/// The work of a run with no words.
+/// The work of a run without words.
 pub(crate) const LEAST: Work<'static> = Work {
     size: 16384,
     slots: 128,
@@ -46,7 +48,7 @@ pub(crate) const LEAST: Work<'static> = Work {
     ..NONE
 };
 
-/// The kinds of call, by what is printed of them.
+/// The kinds of call, with the names that are printed.
 static CALLS: [(&str, Call); 17] = [
     ("new_record_filling", Call::Fill),
     ("new_resource_filling", Call::FillResources),
@@ -99,7 +101,8 @@ fn time_each(
     Ok(())
 }
 
-/// A load on a database without records and on one without resources, each in an image with nothing else.
+/// Makes a load on a database without records and on one without resources, each alone in its
+/// image.
 fn blank_load(alloc: Global, work: Work<'_>) -> Result<Load> {
     let (store, db) = blank_store(alloc, work, b"Resources", PROGRAM, true)?;
     let resources = ResourceLoad::new(store, db);
@@ -107,7 +110,7 @@ fn blank_load(alloc: Global, work: Work<'_>) -> Result<Load> {
     Ok(Load::new(store, db, resources))
 }
 
-/// A store with one database, which has no entries.
+/// Makes a store with one database, which has no entries.
 fn blank_store(
     alloc: Global,
     work: Work<'_>,
@@ -122,7 +125,7 @@ fn blank_store(
     Ok((store, db))
 }
 
-/// The store of a region.
+/// Makes the store of a region.
 pub(crate) fn accepted(alloc: Global, region: Region) -> Result<Store>
     requires { region.lent ≡ None }
     ensures { IfOk result (λ store. store.lent ≡ None) }
@@ -133,7 +136,7 @@ pub(crate) fn accepted(alloc: Global, region: Region) -> Result<Store>
     }
 }
 
-/// The region of a store of which nothing is lent.
+/// Returns the region of a store of which nothing is lent.
 pub(crate) fn region_of(store: Store) -> Region
     requires { store.lent ≡ None }
     ensures { result ≡ store }
@@ -161,7 +164,7 @@ fn time_calls(
     times.print(rt, work, name, load.calls(call, work))
 }
 
-/// Adds how long calls of one kind take.
+/// Adds the time that calls of one kind take.
 fn time_to_repeat(
     rt: &impl CpuClock,
     load: &mut Load,

@@ -1,6 +1,6 @@
-//! The checker of stores beside that of heaps. `stores REPEATS` makes images of stores, and prints what the checker of
-//! stores says of each, and the best and the median time of so many checks by either checker in microseconds. With no
-//! words it prints what is found alone.
+//! Compares the checker of stores with that of heaps. `stores REPEATS` makes images of stores. For
+//! each it prints the checker's result, and the best and the median time of REPEATS checks by each
+//! checker in microseconds. Without words it prints only the results.
 
 ghost use Rattle.std.specs.Prelude.{◌≡◌, None};
 
@@ -17,17 +17,17 @@ use std::rt::Clock;
 use std::time::Instant;
 use store_check::{StoreFault, StoreSummary, check_store};
 
-/// What the words of a run say: how often each image is checked.
+/// The words of a run: the number of times that each image is checked.
 pub(crate) const FIELDS: [Field; 1] = [Field::Rounds];
 
-/// The work of a run with no words.
+/// The work of a run without words.
 pub(crate) const LEAST: Work<'static> = NONE;
 
-/// The bytes of an image that has the most.
+/// The maximum size of an image.
 const MOST: u32 = 16_777_208;
 
-/// The images, each with a name. The first two have all slots that there may be, and in the next two all goes
-/// down with the size.
+/// Returns the images, each with its name. The first two have the maximum number of slots. In the
+/// next two all numbers go down with the size.
 fn stores() -> [(&'static str, Store); 7] {
     let records = store(MOST, 1, 65_533);
     let shared = store(MOST, 2, 65_532);
@@ -42,7 +42,7 @@ fn stores() -> [(&'static str, Store); 7] {
     ]
 }
 
-/// A store of so many bytes and databases, each with so many records.
+/// Returns a store of `size` bytes with `databases` databases, each with `records` records.
 fn store(size: u32, databases: u16, records: u16) -> Store {
     Store {
         size,
@@ -52,7 +52,7 @@ fn store(size: u32, databases: u16, records: u16) -> Store {
     }
 }
 
-/// Checks each of the images, and prints what is found, and the times of both checkers.
+/// Checks each of the images, and prints the results and the times of both checkers.
 #[inline(never)]
 pub(crate) fn run(rt: &(impl Clock + Print + AllocGlobal), work: Work<'_>) -> Result<()> {
     for (name, store) in stores() {
@@ -62,7 +62,7 @@ pub(crate) fn run(rt: &(impl Clock + Print + AllocGlobal), work: Work<'_>) -> Re
     Ok(())
 }
 
-/// Makes the image of a store and checks it so many times.
+/// Makes the image of a store, and checks it `repeats` times.
 fn time_store(
     rt: &(impl Clock + Print + AllocGlobal),
     store: Store,
@@ -73,7 +73,7 @@ fn time_store(
     time_both(rt, &region, repeats)
 }
 
-/// Lets both checkers take turns, and prints their times.
+/// Runs both checkers in turns, and prints their times.
 fn time_both(
     rt: &(impl Clock + Print + AllocGlobal),
     region: &Region,
@@ -89,7 +89,7 @@ fn time_both(
     store.print_microseconds(rt, "store")
 }
 
-/// Adds how long a check by either takes, whose answer is thrown away.
+/// Adds the time of a check by each. The results are discarded.
 fn time_turn(
     rt: &(impl Clock + AllocGlobal),
     region: &Region,
@@ -102,7 +102,7 @@ fn time_turn(
     time_store_check(rt, region, store)
 }
 
-/// Adds how long a check of a store takes, whose answer is thrown away.
+/// Adds the time of a check of a store. The result is discarded.
 fn time_store_check(
     rt: &(impl Clock + AllocGlobal),
     region: &Region,

@@ -1,5 +1,5 @@
-//! What the benchmarks share: measured times, the best of them and the one in the middle, and sums, by which two
-//! programs that do the same calls are compared.
+//! The shared part of the benchmarks: measured times, with the best and the median of them, and
+//! sums. By the sums two programs that do the same calls are compared.
 
 mod clock;
 mod sums;

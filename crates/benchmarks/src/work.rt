@@ -1,6 +1,6 @@
-//! How much a benchmark does, by the words behind its name.
+//! The amount of work of a benchmark, from the words after its name.
 
-/// What a word says: the image that is checked, or a number.
+/// The meaning of a word: the image that is checked, or a number.
 #[derive(Clone, Copy)]
 pub(crate) enum Field {
     Image,
@@ -14,24 +14,24 @@ pub(crate) enum Field {
     Rounds,
 }
 
-/// How much is done. Each benchmark reads those fields that its words say.
+/// The amount of work. Each benchmark reads the fields that its words give.
 #[derive(Clone, Copy)]
 pub(crate) struct Work<'a> {
-    /// The file with the image that is checked, unless it is a blank one.
+    /// The file with the image that is checked, or none for a blank image.
     pub(crate) image: Option<&'a str>,
     /// The bytes and the slots of an image.
     pub(crate) size: u32,
     pub(crate) slots: u16,
-    /// How many records a database has that is made by calls.
+    /// The number of records of a database that is made by calls.
     pub(crate) records: u32,
-    /// How many records a file has, and of how many bytes each.
+    /// The number of records of a file, and the bytes of each.
     pub(crate) file_records: u16,
     pub(crate) bytes: u32,
-    /// How many entries are made, moved or taken out in a round.
+    /// The number of entries that are made, moved or removed in a round.
     pub(crate) calls: u32,
-    /// How often all handles are used, or all entries asked for, in a round.
+    /// The number of times that all handles are used, or all entries asked for, in a round.
     pub(crate) passes: u32,
-    /// How many rounds of each kind there are, or how often each image is checked.
+    /// The number of rounds of each kind, or of checks of each image.
     pub(crate) rounds: u16,
     pub(crate) prints_times: bool,
 }
@@ -51,7 +51,8 @@ pub(crate) const NONE: Work<'static> = Work {
 };
 
 impl<'a> Work<'a> {
-    /// The work of a run by its words, if they are right: there is one for each field, or none.
+    /// Returns the work that the words give, or `None` if they are wrong. There is one word for
+    /// each field, or none.
     pub(crate) fn with_words(self, fields: &[Field], words: &'a [String]) -> Option<Work<'a>> {
         if words.is_empty() {
             return Some(self);
@@ -67,7 +68,7 @@ impl<'a> Work<'a> {
         Some(work)
     }
 
-    /// Sets a field by its word, if that is right.
+    /// Sets a field by its word, or returns `None` if the word is wrong.
     fn set(&mut self, field: Field, word: &'a str) -> Option<()> {
         if let Field::Image = field {
             self.image = Some(word);

@@ -36,11 +36,11 @@ bit_tested n k small = by_bit (bit_at n k) (2 ^ k) (bit_and n (1 * 2 ^ k % 2 ^ 8
 
 -- ---- one number
 
--- where another byte is written, a number is in the set as before
+-- if another byte is written, a number is in the set as before
 other_byte : (seen : List ℕ) (at byte other : ℕ) → other / 8 ≢ at → bit_at (get_or (set seen at byte) (other / 8) 0) (other % 8) ≡ bit_at (get_or seen (other / 8) 0) (other % 8)
 other_byte seen at byte other apart = ap (λ (n : ℕ). bit_at n (other % 8)) (get_or-set_other seen at (other / 8) byte 0 apart)
 
--- where its byte is written, it is in the set as the byte says
+-- if its byte is written, the number is in the set as the byte says
 own_byte : (seen : List ℕ) (at byte other : ℕ) → at < length seen → other / 8 ≡ at → bit_at (get_or (set seen at byte) (other / 8) 0) (other % 8) ≡ bit_at byte (other % 8)
 own_byte seen at byte other inside same = ap (λ (b : ℕ). bit_at (get_or (set seen at byte) b 0) (other % 8)) same ∙ ap (λ (n : ℕ). bit_at n (other % 8)) (get_or-set_same seen at byte 0 inside)
 

@@ -1,5 +1,5 @@
--- Sets of numbers, as the bits of a list of bytes: each has the bits of eight numbers, the least in its
--- lowest bit.
+-- Sets of numbers, as the bits of a list of bytes. Each byte has the bits of eight numbers, the
+-- least in its lowest bit.
 use Rattle.std.specs.Prelude.{◌≡◌, ◌≢◌, ◌/◌, ◌%◌, ◌↔◌, ℕ, List, slice_index}
 use Rattle.std.specs.Int.{bit_at}
 use Rattle.heap_model.specs.Lists.{Least}
@@ -12,20 +12,20 @@ HasNumber set number = bit_at (slice_index set (number / 8)) (number % 8) ≡ 1
 abbrev pub HasNone : List ℕ → Type 0
 HasNone set = (number : ℕ) → HasNumber set number → ⊥
 
--- a number is put into a set, and each other is in it if it was before
+-- a number is added to a set; each other number is in the set exactly if it was before
 pub record AddsNumber (old new : List ℕ) (number : ℕ) : Type 0 where
   pub here : HasNumber new number
   pub others : (other : ℕ) → other ≢ number → (HasNumber new other ↔ HasNumber old other)
 
--- a number is taken out of a set, and each other is in it if it was before
+-- a number is removed from a set; each other number is in the set exactly if it was before
 pub record RemovesNumber (old new : List ℕ) (number : ℕ) : Type 0 where
   pub gone : HasNumber new number → ⊥
   pub others : (other : ℕ) → other ≢ number → (HasNumber new other ↔ HasNumber old other)
 
--- each number is still in the set that has its bit in another byte than this one
+-- each number of the set is still in it if its bit is in another byte than this number's
 abbrev pub KeepsOtherBytes : List ℕ → List ℕ → ℕ → Type 0
 KeepsOtherBytes old new number = (other : ℕ) → other / 8 ≢ number / 8 → HasNumber old other → HasNumber new other
 
--- this is the least number that isn't in the set
+-- the number is the least that isn't in the set
 abbrev pub IsFirstMissing : List ℕ → ℕ → Type 0
 IsFirstMissing set number = Least (λ other. HasNumber set other → ⊥) number

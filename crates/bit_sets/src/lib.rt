@@ -1,7 +1,7 @@
 //! Sets of numbers, as bits in bytes that the caller lends.
 //!
-//! A byte has the bits of eight numbers, the least in its lowest bit; so a set has room for eight times
-//! as many numbers as it has bytes, from 0 on. Bytes of zero are the empty set.
+//! Each byte has the bits of eight numbers, the least in its lowest bit. So a set of `n` bytes has
+//! room for the numbers below `8 * n`. If all bytes are zero, the set is empty.
 #![tactic(auto)]
 
 mod sets;

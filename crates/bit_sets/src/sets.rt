@@ -1,9 +1,9 @@
-//! Numbers put into a set, and asked of it.
+//! Adds numbers to a set, removes them, and looks them up.
 
 ghost use Rattle.std.specs.Prelude.{◌<◌, ◌/◌, ◌^◌, ◌≡◌, ◌↔◌, ℕ, length, IsTrue};
 ghost use Rattle.bit_sets.specs.Sets.{HasNumber, AddsNumber, RemovesNumber, KeepsOtherBytes, IsFirstMissing};
 
-/// Whether a number is in the set.
+/// Reports whether a number is in the set.
 #[inline]
 pub fn has(set: &[u8], number: u32) -> bool
     requires { number / 8 < length set.now }
@@ -12,7 +12,7 @@ pub fn has(set: &[u8], number: u32) -> bool
     set[(number / 8) as usize] & (1u8 << (number % 8)) != 0
 }
 
-/// Puts a number into the set.
+/// Adds a number to the set.
 #[inline]
 pub fn add(set: &mut [u8], number: u32)
     requires { number / 8 < length set.old }
@@ -21,7 +21,7 @@ pub fn add(set: &mut [u8], number: u32)
     set[(number / 8) as usize] |= 1u8 << (number % 8);
 }
 
-/// Takes a number out of the set, which has it.
+/// Removes a number, which must be in the set.
 #[inline]
 pub fn remove(set: &mut [u8], number: u32)
     requires room { number / 8 < length set.old }
@@ -31,7 +31,7 @@ pub fn remove(set: &mut [u8], number: u32)
     set[(number / 8) as usize] ^= 1u8 << (number % 8);
 }
 
-/// Takes a number out of the set, and with it those that have their bits in the same byte.
+/// Removes a number, and all numbers that have their bits in the same byte.
 #[inline]
 pub fn remove_byte(set: &mut [u8], number: u32)
     requires { number / 8 < length set.old }
@@ -42,8 +42,8 @@ pub fn remove_byte(set: &mut [u8], number: u32)
     set[(number / 8) as usize] = 0;
 }
 
-/// The least number that isn't in the set. Where it has all that it has room for, that is the one behind
-/// them.
+/// Returns the least number that isn't in the set. If the set is full, that is the first number it
+/// has no room for.
 pub fn first_missing(set: &[u8]) -> u32
     requires { length set.now < 2 ^ 28 }
     ensures { IsFirstMissing set.now result }

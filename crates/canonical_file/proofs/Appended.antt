@@ -1,4 +1,4 @@
--- A text that is put together part by part: the rest of it, behind what is there, makes it whole.
+-- A text that is put together part by part: the rest of it, after what is there, makes it whole.
 use Rattle.std.proofs.Common.{◌≡◌, ℕ, ◌+◌, ◌≤◌, List, ◌++◌, length, sym, ap, ◌∙◌, arith, append_assoc, length-append}
 
 -- one more part, which is at the front of the rest

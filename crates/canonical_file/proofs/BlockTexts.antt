@@ -18,7 +18,7 @@ blocks_from blocks i inside = rw (add-one, drop-cons blocks i None) refl
 pub same_count : (file : List ℕ) (blocks : List (Option Block)) → HasBlocks file blocks → length blocks ≡ length (blocks_in file)
 same_count file blocks has = length-blocks file blocks has.are ∙ sym (block_count file)
 
--- the block of an index, and those behind it
+-- the block of an index, and those after it
 pub block_here : (file : List ℕ) (blocks : List (Option Block)) (i : ℕ) (bytes : List ℕ) → HasBlocks file blocks → i < length blocks → bytes ≡ block_bytes (bytes_at file (get_or blocks i None))
     → all_bytes (drop i (blocks_in file)) ≡ bytes ++ all_bytes (drop (i + 1) (blocks_in file))
 block_here file blocks i bytes has inside is =

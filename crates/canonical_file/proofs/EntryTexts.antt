@@ -32,7 +32,7 @@ one_text at (a_resource kind id block) es = refl
 entries_from : (es : List (Entry (Option (List ℕ)))) (i : ℕ) (d : Entry (Option (List ℕ))) → i < length es → drop i es ≡ get_or es i d ∷ drop (i + 1) es
 entries_from es i d inside = rw (add-one, drop-cons es i d) refl
 
--- the entry of an index, whose data takes so many bytes, and those behind it
+-- the entry at an index, whose data has `size` bytes, and those after it
 pub entry_here : (file ids : List ℕ) (i at size : ℕ) (bytes : List ℕ) (block : Option (List ℕ)) → i < entry_count_in file → bytes ≡ entry_bytes (placed_entry at (entry_read_at file ids i))
     → block ≡ get_or (blocks_in file) (2 + i) None → block_size block ≡ size
     → entries_text at (drop i (entries_read file ids)) ≡ bytes ++ entries_text (at + size) (drop (i + 1) (entries_read file ids))

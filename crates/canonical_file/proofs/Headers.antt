@@ -21,7 +21,7 @@ kind_is : (file : List ℕ) → has_resources (header_in file).attributes ≡ re
 unfolding header_in
 kind_is file = refl
 
--- where its first block stands
+-- the offset of its first block
 pub first_is : (file ids : List ℕ) (seed : ℕ) → first_block (database_read file ids seed) ≡ first_place file
 unfolding database_read header_in
 first_is file ids seed = ap (λ (n : ℕ). entry_offset (resources_in file) n + 2) (length-entries_read file ids)

@@ -13,9 +13,9 @@ use Rattle.file_ids.specs.declared.give.GivenIds.{GivenIds}
 use Rattle.canonical_file.specs.declared.canonical.CanonicalFault.{CanonicalFault}
 use Rattle.canonical_file.specs.declared.canonical.CanonicalFault.TheVariants.{BadFile, OutOfMemory, Write}
 
--- ---- what is promised
+-- ---- the canonical form
 
--- these bytes are the file that is written of the database that a file is read as
+-- these bytes are the file that is written for the database that is read from the original file
 pub record IsCanonical (file bytes : List ℕ) : Type 0 where
   pub database : Database (Option (List ℕ))
   pub reads : Reads file database
@@ -25,15 +25,15 @@ pub record IsCanonical (file bytes : List ℕ) : Type 0 where
 abbrev pub most_bytes : ℕ
 most_bytes = 2 ^ 24
 
--- the canonical form of a file goes to a writer, all of it or a front
+-- the canonical form of a file goes to a writer: all of it if `ok`, or else a prefix of it
 abbrev pub WritesCanonical : {W : Type 0} → List ℕ → (W → Option (List ℕ)) → Writing W → Writing W → Bool → Type 0
 WritesCanonical file contents old new ok = (bytes : List ℕ) × IsCanonical file bytes × Writes contents old new bytes ok
 
--- all of it went to a writer, and it has so many bytes
+-- all of the canonical form went to a writer, and it has `count` bytes
 abbrev pub WroteCanonical : {W : Type 0} → List ℕ → (W → Option (List ℕ)) → Writing W → Writing W → ℕ → Type 0
 WroteCanonical file contents old new count = (bytes : List ℕ) × IsCanonical file bytes × (count ≡ length bytes) × Writes contents old new bytes true
 
--- why a file has no canonical form
+-- the reason why a file has no canonical form
 abbrev pub IsFaultOf : List ℕ → CanonicalFault → Type 0
 IsFaultOf file (BadFile fault) = IsFirstFault file fault
 IsFaultOf file OutOfMemory = HasNoFault file
@@ -41,7 +41,8 @@ IsFaultOf file Write = HasNoFault file
 
 -- ---- its parts
 
--- The file has no fault, and no more bytes than that. Its blocks stand here, and take no more than it has.
+-- The file has no fault and at most `most_bytes` bytes. These are the places of its blocks, and the
+-- blocks together have at most the size of the file.
 pub record HasBlocks (file : List ℕ) (blocks : List (Option Block)) : Type 0 where
   pub good : HasNoFault file
   pub short : length file ≤ most_bytes
@@ -49,19 +50,19 @@ pub record HasBlocks (file : List ℕ) (blocks : List (Option Block)) : Type 0 w
   pub within : All (IsWithin (length file)) blocks
   pub total : sum_by length_within blocks ≤ length file
 
--- its records get these IDs
+-- the file's records get these IDs
 pub record HasIds (file : List ℕ) (given : GivenIds) : Type 0 where
   pub have : HaveIds (seed_in (header_in file).seed) (unique_ids (database_in file)) given.ids.items given.seed
   pub fit : HasIdsFor file given.ids.items
   pub seed : given.seed ≤ greatest_id
 
--- where the first block stands in the canonical form, and where the data of the entries begins
+-- the offset of the first block in the canonical form, and the offset of the data of the entries
 abbrev pub first_place : List ℕ → ℕ
 first_place file = entries_end file + 2
 
 abbrev pub data_place : List ℕ → List (Option Block) → ℕ
 data_place file blocks = first_place file + length_within (slice_index_or blocks 0 None) + length_within (slice_index_or blocks 1 None)
 
--- an entry as a file has it: not busy, with its data at an offset
+-- an entry as it is written to a file: not busy, with its data at an offset
 abbrev pub placed_entry : ℕ → Entry (Option (List ℕ)) → Entry ℕ
 placed_entry at entry = entry_with (block_offset at) (idle_entry entry)

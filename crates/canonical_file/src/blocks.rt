@@ -1,4 +1,4 @@
-//! The blocks of a file, as its canonical form has them.
+//! The blocks of a file, as they are in its canonical form.
 
 ghost use Rattle.std.specs.Prelude.{◌≡◌, ◌≤◌, ◌<◌, ◌+◌, ◌++◌, ◌^◌, ℕ, List, length, vec_len, vec_capacity, All};
 ghost use Rattle.std.specs.List.{flat_map, sum_by};
@@ -9,7 +9,7 @@ ghost use Rattle.canonical_file.specs.Canonical.{HasBlocks};
 
 use pdb_format::Block;
 
-/// How many bytes a block takes: none where it isn't there.
+/// Returns the size of a block in bytes, and 0 if there is none.
 pub(crate) fn block_length(block: Option<Block>) -> usize
     requires { IsWithin usize.MAX block }
     ensures { result ≡ length_within block }
@@ -20,7 +20,7 @@ pub(crate) fn block_length(block: Option<Block>) -> usize
     }
 }
 
-/// How many bytes all blocks take.
+/// Returns the size of all blocks together in bytes.
 pub(crate) fn total_length(blocks: &[Option<Block>]) -> usize
     requires within { All (IsWithin usize.MAX) blocks.now }
     requires few { sum_by length_within blocks.now < 2 ^ 64 }
@@ -33,7 +33,7 @@ pub(crate) fn total_length(blocks: &[Option<Block>]) -> usize
     total
 }
 
-/// The offset of a block that stands at one, or 0 where it isn't there.
+/// Returns the offset `at` of a block, and 0 if there is no block.
 pub(crate) fn block_offset(at: u32, block: Option<Block>) -> u32
     ensures { (file : List ℕ) → result ≡ files.block_offset at (bytes_at file block) }
 {
@@ -43,7 +43,7 @@ pub(crate) fn block_offset(at: u32, block: Option<Block>) -> u32
     }
 }
 
-/// The bytes of a block: none where it isn't there.
+/// Returns the bytes of a block, and none if there is no block.
 fn block_bytes(file: &[u8], block: Option<Block>) -> &[u8]
     requires { IsWithin (length file.now) block }
     ensures { result.now ≡ files.block_bytes (bytes_at file.now block) }
@@ -54,7 +54,7 @@ fn block_bytes(file: &[u8], block: Option<Block>) -> &[u8]
     }
 }
 
-/// Puts bytes after others, which have room for them.
+/// Appends bytes to a vector that has room for them.
 pub(crate) fn append(bytes: &mut Vec<u8>, more: &[u8])
     requires { vec_len bytes.old + length more.now ≤ vec_capacity bytes.old }
     ensures items { bytes.new.items ≡ bytes.old.items ++ more.now }
@@ -66,7 +66,7 @@ pub(crate) fn append(bytes: &mut Vec<u8>, more: &[u8])
     };
 }
 
-/// Puts the blocks after other bytes, which have room for them.
+/// Appends the blocks to a vector that has room for them.
 pub(crate) fn append_blocks(file: &[u8], blocks: &[Option<Block>], bytes: &mut Vec<u8>)
     requires blocks { HasBlocks file.now blocks.now }
     requires room { vec_len bytes.old + length (flat_map files.block_bytes (blocks_in file.now))

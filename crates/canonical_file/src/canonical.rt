@@ -18,10 +18,10 @@ use std::alloc::AllocError;
 use std::io::Write;
 use thiserror::Error;
 
-/// Why no canonical form was written.
+/// The reason why no canonical form was written.
 #[derive(Clone, Copy, Debug, PartialEq, Eq, Error)]
 pub enum CanonicalFault {
-    /// No database is read from the file, for this first fault.
+    /// The file has this first fault, so no database is read from it.
     #[error("{0}")]
     BadFile(FileFault),
     /// An allocation failed.
@@ -32,7 +32,7 @@ pub enum CanonicalFault {
     Write,
 }
 
-/// How many bytes the canonical form of a file has.
+/// Returns the size of the canonical form of a file in bytes.
 fn file_size(file: &[u8], blocks: &[Option<Block>]) -> usize
     requires { HasBlocks file.now blocks.now }
     ensures { (ids : List ℕ) (seed : ℕ)
@@ -41,7 +41,7 @@ fn file_size(file: &[u8], blocks: &[Option<Block>]) -> usize
     entries_end(file) + 2 + total_length(blocks)
 }
 
-/// Puts the canonical form of a file into an empty vector, which has room for it.
+/// Writes the canonical form of a file into an empty vector that has room for it.
 fn append_file(file: &[u8], blocks: &[Option<Block>], given: &GivenIds, bytes: &mut Vec<u8>)
     requires blocks { HasBlocks file.now blocks.now }
     requires ids { HasIds file.now given.now }
@@ -58,8 +58,13 @@ fn append_file(file: &[u8], blocks: &[Option<Block>], given: &GivenIds, bytes: &
     append_blocks(file, blocks, bytes);
 }
 
-/// The canonical form of a file without fault. Takes memory for it, for where its blocks stand and for the IDs of its
-/// records; the only error is that an allocation failed.
+/// Returns the canonical form of a file without fault.
+///
+/// It allocates the canonical form, the places of the blocks and the IDs of the records.
+///
+/// # Errors
+///
+/// - `AllocError`: if an allocation failed.
 pub fn canonical_bytes<A: Allowance>(memory: &A, file: &[u8]) -> Result<Vec<u8>, AllocError>
     requires good { HasNoFault file.now }
     requires short { length file.now ≤ most_bytes }
@@ -73,12 +78,15 @@ pub fn canonical_bytes<A: Allowance>(memory: &A, file: &[u8]) -> Result<Vec<u8>,
     Ok(bytes)
 }
 
-/// Writes the canonical form of a file, and returns how many bytes it has. Flushes nothing. After a write that fails,
-/// nothing more is written.
+/// Writes the canonical form of a file, and returns its size in bytes.
+///
+/// It doesn't flush `out`. After a write fails, it writes nothing more.
 ///
 /// # Errors
 ///
-/// `BadFile` with the first fault of the file; `OutOfMemory`; `Write`.
+/// - `BadFile`: if the file has a fault. It contains the first one.
+/// - `OutOfMemory`: if an allocation failed.
+/// - `Write`: if a write failed, or took 0 bytes.
 pub fn put_canonical<A: Allowance, W: Write>(
     memory: &A,
     file: &[u8],

@@ -15,14 +15,14 @@ use bitflags::Flags;
 use db_format::{DbEntry, INFO_BLOCKS, RecordAttrs, RecordEntry, entry_count};
 use pdb_format::Block;
 
-/// The attributes of a record that isn't busy.
+/// Returns the attributes without the busy bit.
 fn idle(attributes: RecordAttrs) -> RecordAttrs
     ensures { result.0 ≡ idle_attributes attributes.0 }
 {
     attributes.difference(RecordAttrs::BUSY)
 }
 
-/// The entry of an index, where these are the IDs of the records, with its data at an offset.
+/// Returns the entry at an index, with its data at an offset. A record gets its ID from `ids`.
 fn entry_at(file: &[u8], ids: &[u32], index: u16, at: u32, block: Option<Block>) -> DbEntry
     requires good { HasNoFault file.now }
     requires inside { index < entry_count_in file.now }
@@ -47,7 +47,7 @@ fn entry_at(file: &[u8], ids: &[u32], index: u16, at: u32, block: Option<Block>)
     }
 }
 
-/// Puts the entries, whose data stands from `first` on, after other bytes, which have room for them.
+/// Appends the entries to a vector that has room for them. Their data begins at the offset `first`.
 pub(crate) fn append_entries(
     file: &[u8],
     blocks: &[Option<Block>],

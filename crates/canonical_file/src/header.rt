@@ -1,4 +1,4 @@
-//! The header of a canonical form, and where its blocks stand.
+//! The header of a canonical form, and the offsets of its blocks.
 
 ghost use Rattle.std.specs.Prelude.{◌≡◌, ◌≤◌, ◌<◌, ℕ, List, length, slice_index_or, None};
 ghost use Rattle.pdb_format.specs.Blocks.{length_within};
@@ -11,7 +11,7 @@ use crate::blocks::{block_length, block_offset};
 use db_format::{DbHeader, HEADER_SIZE, SEEDS, entries_end};
 use pdb_format::Block;
 
-/// Where the first block stands: after the entries and two bytes.
+/// Returns the offset of the first block: after the entries and two bytes.
 fn first_block(file: &[u8], blocks: &[Option<Block>]) -> u32
     requires { HasBlocks file.now blocks.now }
     ensures { result ≡ first_place file.now }
@@ -19,7 +19,7 @@ fn first_block(file: &[u8], blocks: &[Option<Block>]) -> u32
     (entries_end(file) + 2) as u32
 }
 
-/// How many bytes the block of a rank takes.
+/// Returns the size of the block of a rank in bytes.
 fn length_of(file: &[u8], blocks: &[Option<Block>], rank: usize) -> u32
     requires blocks { HasBlocks file.now blocks.now }
     requires inside { rank < length blocks.now }
@@ -29,7 +29,7 @@ fn length_of(file: &[u8], blocks: &[Option<Block>], rank: usize) -> u32
     block_length(blocks[rank]) as u32
 }
 
-/// Where the data of the entries begins: after the info blocks.
+/// Returns the offset of the data of the entries: after the info blocks.
 pub(crate) fn data_start(file: &[u8], blocks: &[Option<Block>]) -> u32
     requires { HasBlocks file.now blocks.now }
     ensures { result ≡ data_place file.now blocks.now }
@@ -37,7 +37,7 @@ pub(crate) fn data_start(file: &[u8], blocks: &[Option<Block>]) -> u32
     first_block(file, blocks) + length_of(file, blocks, 0) + length_of(file, blocks, 1)
 }
 
-/// The bytes of the header, with this seed.
+/// Returns the bytes of the header, with this seed.
 pub(crate) fn header_bytes(file: &[u8], blocks: &[Option<Block>], seed: u32) -> [u8; HEADER_SIZE]
     requires blocks { HasBlocks file.now blocks.now }
     requires seed { seed ≤ greatest_id }

@@ -1,4 +1,5 @@
-//! The canonical form of a PDB or PRC file: the file that is written of the database that it is read as.
+//! The canonical form of a PDB or PRC file: the file that is written for the database that is read
+//! from the original file.
 //!
 //! ```text
 //! header           the name with zeros after it, and the offsets below
@@ -7,7 +8,7 @@
 //! blocks           AppInfo, SortInfo and the data in the order of the list, without gaps
 //! ```
 //!
-//! No heap is needed for it: the blocks are copied from the file.
+//! It needs no heap: the blocks are copied from the original file.
 #![tactic(auto)]
 
 mod blocks;

@@ -1,4 +1,5 @@
--- A heap that holds nothing is accepted with its databases: there are none, and it means the empty store.
+-- A heap that holds nothing is accepted with its databases: there are none, and it means the empty
+-- store.
 use Rattle.std.proofs.Common.{◌≡◌, ℕ, ◌-◌, ◌%◌, List, [], ◌∷◌, length, map, None, refl, sym, ap, subst, arith}
 use Rattle.std.specs.Prelude.{All}
 use Rattle.std.proofs.lemmas.List.Elements.{All-nil}

@@ -1,4 +1,4 @@
--- A header and the chunk that is spelled where it stands.
+-- A header and the chunk that is spelled at the header's offset.
 use Rattle.std.proofs.Common.{◌≡◌, ℕ, ◌+◌, ◌-◌, ◌/◌, ◌%◌, ◌^◌, ◌<◌, ◌≤◌, List, length, subst, Option, Some, None, refl, sym, ap, ◌∙◌, arith, length-take, length-drop}
 use Rattle.std.specs.Prelude.{option_map, IfSome, IfNone, slice_range}
 use Rattle.heap_model.specs.Bytes.{u32_at}
@@ -32,7 +32,7 @@ header_read image at (Some h) found none = ap some found.header_is ∙ sym (ap (
   some : Header → Option Header
   some x = Some x
 
--- the size that a header says is that of its chunk
+-- the size of a header is that of its chunk
 pub size_by-header_of : (c : Chunk) → size_by (header_of c) ≡ size_of c
 size_by-header_of (free size) = refl
 size_by-header_of (movable bytes lock owner slot) = refl

@@ -7,7 +7,7 @@ use Rattle.laws_heap.proofs.Chunks.{seen-plain, plain_body, plain-movable, plain
 use Rattle.laws_heap.proofs.Frames.{SameBetween, length-u32_bytes, length-overwritten, overwritten-above, slice-same, u32_at-written, u32_at-below}
 use Rattle.chunk_format.specs.Header.{with_lock_field, with_owner_field, Relocks, Reowns}
 
--- a live chunk whose second word says another lock and owner
+-- a live chunk whose second word has another lock and owner
 second_written : (old : List ℕ) (at : ℕ) (bytes : List ℕ) (was_lock was_owner lock owner h_offset word : ℕ) → IsLive old at bytes was_lock was_owner h_offset → is_table_by was_lock was_owner ≡ false → is_table_by lock owner ≡ false → lock < 16 → owner < 16
     → word ≡ lock * 2 ^ 28 + owner * 2 ^ 24 + h_offset → IsLive (overwritten old (at + 4) (u32_bytes word)) at bytes lock owner h_offset
 second_written old at bytes was_lock was_owner lock owner h_offset word s was_plain plain lock_fits owner_fits is =

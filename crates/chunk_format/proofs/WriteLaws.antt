@@ -10,7 +10,7 @@ use Rattle.chunk_format.specs.declared.header.Header.{Header}
 use Rattle.chunk_format.specs.declared.header.Header.TheVariants as headers
 use Rattle.chunk_format.specs.Header.{size_by, HasHeader, IsWritable, live_words, h_offset_to, header_bytes}
 
--- two words, one behind the other
+-- two words, one after the other
 pub two_words : (old one two : Memory) (at first second : ℕ) → at + 8 ≤ length old.bytes → one ≡ record old { bytes = overwritten old.bytes at (u32_bytes first) }
     → two ≡ record one { bytes = overwritten one.bytes (at + 4) (u32_bytes second) } → two ≡ record old { bytes = overwritten old.bytes at (u32_bytes first ++ u32_bytes second) }
 two_words old one two at first second inside e f =

@@ -20,8 +20,8 @@ pub record LeavesRoom (size slots : ℕ) : Type 0 where
   pub some_slot : 0 < slots
   pub a_chunk_fits : start_behind slots + 8 ≤ size
 
--- an accepted heap of this size and with this number of slots, which holds nothing: one free chunk, in whose
--- first word nothing but the free bit and the size is set, and zeros behind that word
+-- an accepted heap of this size and with this number of slots, whose only chunk is free. The
+-- chunk's first word has only the free bit and the size set, and zeros follow that word.
 pub record IsBlank (size slots : ℕ) (image : List ℕ) : Type 0 where
   pub size_is : length image ≡ size
   pub slots_are : slot_count image ≡ slots
@@ -30,17 +30,17 @@ pub record IsBlank (size slots : ℕ) (image : List ℕ) : Type 0 where
   pub plain : IsPlain (u32_at image (start_behind slots))
   pub zeros : (k : ℕ) → start_behind slots + 4 ≤ k → k < size → slice_index image k ≡ 0
 
--- callers may name nothing in a store, and it has no database
+-- a store without chunks that callers may name, and without databases
 pub record IsEmpty (store : Store) : Type 0 where
   pub map : (name : ℕ) → store.map name ≡ None
   pub databases : store.databases ≡ []
 
--- bytes over which a frame is written: the magic, the size and the slot count
+-- bytes with a frame written over them: the magic, the size and the slot count
 abbrev pub framed : List ℕ → ℕ → ℕ → List ℕ
 framed old size slots =
     overwritten (overwritten (overwritten old magic_at (u32_bytes magic)) size_at (u32_bytes size)) slot_count_at (u16_bytes slots)
 
--- a size and a slot count that pass, and where the chunks begin
+-- a valid size and a valid slot count, and the offset where the chunks begin
 pub record IsPlanned (size slots start : ℕ) : Type 0 where
   pub start_is : start ≡ start_behind slots
   pub size_right : IsRegionSize size

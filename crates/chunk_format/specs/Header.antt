@@ -1,4 +1,4 @@
--- The header of a chunk: what its two words say.
+-- The header of a chunk and its two words.
 use Rattle.std.specs.Prelude.{◌≡◌, ◌≤◌, ◌<◌, ◌+◌, ◌-◌, ◌*◌, ◌/◌, ◌%◌, ◌^◌, ◌++◌, ◌⊎◌, ◌==◌, if◌then◌else◌, ℕ, List, [], ◌∷◌, length, slice_range}
 use Rattle.heap_model.specs.Bytes.{u32_at, u32_bytes, overwritten}
 use Rattle.heap_model.specs.Chunk.{Chunk, free, movable, fixed, fixed_lock, data_owner, need, size_of, slot_named, managers_owner, seen, IsLive, Spelled}
@@ -7,25 +7,25 @@ use Rattle.heap_model.specs.declared.names.Place.{Place}
 use Rattle.chunk_format.specs.declared.header.Header.{Header}
 use Rattle.chunk_format.specs.declared.header.Header.TheVariants as headers
 
--- the header of a chunk, which leaves its bytes out
+-- the header of a chunk, without the chunk's bytes
 abbrev pub header_of : Chunk → Header
 header_of (free size) = headers.Free size
 header_of (movable bytes lock owner slot) = headers.Movable (length bytes) lock owner slot
 header_of (fixed bytes owner) = headers.Fixed (length bytes) owner
 
--- the size of the chunk of a header
+-- the size of the chunk that has this header
 abbrev pub size_by : Header → ℕ
 size_by (headers.Free size) = size
 size_by (headers.Movable length lock owner slot) = need length
 size_by (headers.Fixed length owner) = need length
 
--- the header of a live chunk of `length` bytes at an offset, by its second word
+-- the header of a live chunk of `length` bytes at an offset, from its second word
 abbrev pub live_header_by : ℕ → ℕ → ℕ → Header
 live_header_by at length word =
     if lock_field word == fixed_lock then headers.Fixed length (owner_field word)
     else headers.Movable length (lock_field word) (owner_field word) (slot_named at (h_offset_field word))
 
--- the chunk with this header whose bytes are those behind it, as its value has them
+-- the chunk that has this header, with the bytes after the header, as its value has them
 abbrev pub chunk_with : List ℕ → ℕ → Header → Chunk
 chunk_with image at (headers.Free size) = free size
 chunk_with image at (headers.Movable length lock owner slot) = movable (slice_range image (at + 8) (at + 8 + length)) lock owner slot
@@ -50,7 +50,7 @@ abbrev pub headers_of : ℕ → List Chunk → List (Place × Header)
 headers_of at [] = []
 headers_of at (chunk ∷ chunks) = (record { 0 = at + 8 }, header_of chunk) ∷ headers_of (at + size_of chunk) chunks
 
--- the header can be written at this offset: its numbers fit their fields, and the slot stands at an
+-- the header can be written at this offset: its numbers fit their fields, and the slot is at an
 -- even distance
 abbrev pub IsWritable : ℕ → Header → Type 0
 IsWritable at (headers.Free size) = (8 ≤ size) × (size % 8 ≡ 0) × (size < 2 ^ 24)
@@ -58,7 +58,7 @@ IsWritable at (headers.Movable length lock owner slot) =
     (need length < 2 ^ 24) × (lock < fixed_lock) × (owner ≤ data_owner) × ((lock ≡ 0) ⊎ (0 < owner)) × (slot < 2 ^ 24) × (slot % 2 ≡ at % 2)
 IsWritable at (headers.Fixed length owner) = (need length < 2 ^ 24) × (owner ≤ data_owner)
 
--- a lock count and an owner that may stand in one movable chunk: a locked one has an owner
+-- a lock count and an owner that one movable chunk may have: a locked chunk has an owner
 abbrev pub MayStand : ℕ → ℕ → Type 0
 MayStand lock owner = (lock ≡ 0) ⊎ (0 < owner)
 
@@ -77,13 +77,13 @@ with_lock_at image at lock = overwritten image (at + 4) (u32_bytes (with_lock_fi
 abbrev pub with_owner_at : List ℕ → ℕ → ℕ → List ℕ
 with_owner_at image at owner = overwritten image (at + 4) (u32_bytes (with_owner_field (u32_at image (at + 4)) owner))
 
--- The movable chunk that was spelled at this offset is spelled there with another lock count, and is
--- else as it was.
+-- The movable chunk that was spelled at this offset is spelled there with another lock count, and
+-- is otherwise unchanged.
 abbrev pub Relocks : List ℕ → List ℕ → ℕ → ℕ → Type 0
 Relocks old new at lock = (bytes : List ℕ) (was owner slot : ℕ) → MayStand lock owner → Spelled old at (movable bytes was owner slot) → Spelled new at (movable bytes lock owner slot)
 
--- The live chunk that was spelled at this offset is spelled there with another owner, and is else as it
--- was. No fixed chunk of the manager's becomes a caller's, nor the other way round.
+-- The live chunk that was spelled at this offset is spelled there with another owner, and is
+-- otherwise unchanged. No fixed chunk of the manager's becomes a caller's, nor the other way round.
 pub record Reowns (old new : List ℕ) (at owner : ℕ) : Type 0 where
   pub movable_too : (bytes : List ℕ) (lock was slot : ℕ) → MayStand lock owner → Spelled old at (movable bytes lock was slot) → Spelled new at (movable bytes lock owner slot)
   pub fixed_too : (bytes : List ℕ) (was : ℕ) → managers_owner < was → managers_owner < owner → Spelled old at (fixed bytes was) → Spelled new at (fixed bytes owner)
@@ -97,8 +97,8 @@ live_words length lock owner h_offset = u32_bytes ((need length - 8 - length) * 
 abbrev pub h_offset_to : ℕ → ℕ → ℕ
 h_offset_to at slot = (slot + 2 ^ 25 - at) / 2 % 2 ^ 24
 
--- The bytes that spell a header at an offset. Of a free chunk only the first word is spelled, and
--- its other bits are zero.
+-- The bytes that spell a header at an offset. For a free chunk they are only the first word, in
+-- which all bits but the free bit and the size are zero.
 abbrev pub header_bytes : ℕ → Header → List ℕ
 header_bytes at (headers.Free size) = u32_bytes (2 ^ 31 + size)
 header_bytes at (headers.Movable length lock owner slot) = live_words length lock owner (h_offset_to at slot)

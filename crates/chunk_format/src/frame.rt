@@ -1,5 +1,6 @@
-//! The frame of an image: the 16 bytes in front of the master pointer table, what stands in them, and
-//! how small and how large an image may be. Where the table ends and the chunks begin follows from it.
+//! The frame of an image: the 16 bytes before the master pointer table, their fields, and the least
+//! and the greatest size of an image. The frame determines where the table ends and the chunks
+//! begin.
 #![tactic(auto, using(laws_heap::proofs::Lending::part_within))]
 
 ghost use Rattle.std.specs.Prelude.{◌≡◌, ◌↔◌, ◌⊎◌, ◌<◌, ◌≤◌, ◌+◌, ◌^◌, if◌then◌else◌, length, IsTrue};
@@ -19,31 +20,31 @@ const MAGIC: u32 = 0x5048_4931;
 /// The first four bytes of an image of profile PHI2, whose tables are a chain, as a number.
 pub const CHAINED_MAGIC: u32 = 0x5048_4932;
 
-/// Where the magic stands, in bytes from the image's start.
+/// The offset of the magic, in bytes from the image's start.
 pub const MAGIC_AT: usize = 0;
 
-/// Where the size of the image stands.
+/// The offset of the size of the image.
 pub const SIZE_AT: usize = 4;
 
-/// Where the slot count stands.
+/// The offset of the slot count.
 const SLOT_COUNT_AT: usize = 8;
 
-/// Where two bytes stand that are zero.
+/// The offset of the two reserved bytes, which are zero.
 const RESERVED_AT: usize = 10;
 
-/// Where the directory word stands.
+/// The offset of the directory word.
 const DIRECTORY_AT: usize = 12;
 
-/// What the frame takes in bytes. The table begins behind it.
+/// The size of the frame in bytes. The table begins after it.
 pub const FRAME_SIZE: u32 = 16;
 
-/// What a slot takes in bytes.
+/// The size of a slot in bytes.
 pub const SLOT_SIZE: u32 = 4;
 
-/// What the word `next` of a table takes in bytes.
+/// The size of a table's word `next` in bytes.
 pub const NEXT_SIZE: u32 = 4;
 
-/// How many bytes the body of a further table has that is made: its word `next` and 15 slots.
+/// The length of the body of a new further table in bytes: its word `next` and 15 slots.
 pub const TABLE_LENGTH: u32 = 64;
 
 /// The least size of an image, in bytes.
@@ -52,14 +53,14 @@ const LEAST_SIZE: usize = 64;
 /// The greatest size of an image, and so of a chunk, in bytes.
 pub(crate) const MOST_SIZE: u32 = 16_777_208;
 
-/// Whether an image may have this size, in bytes.
+/// Returns whether an image may have this size, in bytes.
 pub fn is_image_size(size: usize) -> bool
     ensures { IsTrue result ↔ IsRegionSize size }
 {
     size >= LEAST_SIZE && size <= MOST_SIZE as usize && size % 8 == 0
 }
 
-/// Whether the first four bytes are a magic.
+/// Returns whether the first four bytes are a magic.
 pub fn has_magic(region: &Region) -> bool
     requires { IsWithin region.now magic_at 4 }
     ensures { IsTrue result ↔ ((u32_at region.now.bytes magic_at ≡ magic)
@@ -69,7 +70,7 @@ pub fn has_magic(region: &Region) -> bool
     word == MAGIC || word == CHAINED_MAGIC
 }
 
-/// Whether the image has a chain of tables: a word `next` follows the first table.
+/// Returns whether the image has a chain of tables: a word `next` follows the first table.
 #[inline]
 pub fn is_chained(region: &Region) -> bool
     requires { HasFrame region.now }
@@ -78,7 +79,7 @@ pub fn is_chained(region: &Region) -> bool
     region.get_u32(MAGIC_AT) == CHAINED_MAGIC
 }
 
-/// The size that the image says it has, in bytes.
+/// Returns the size field of the image, in bytes.
 pub fn size_field(region: &Region) -> u32
     requires { IsWithin region.now size_at 4 }
     ensures { result ≡ u32_at region.now.bytes size_at }
@@ -86,7 +87,7 @@ pub fn size_field(region: &Region) -> u32
     region.get_u32(SIZE_AT)
 }
 
-/// How many slots the table has.
+/// Returns the number of slots of the first table.
 #[inline]
 pub fn slot_count(region: &Region) -> u16
     requires { HasFrame region.now }
@@ -95,7 +96,7 @@ pub fn slot_count(region: &Region) -> u16
     region.get_u16(SLOT_COUNT_AT)
 }
 
-/// The two bytes that are to be zero.
+/// Returns the two reserved bytes, which must be zero.
 pub fn reserved(region: &Region) -> u16
     requires { HasFrame region.now }
     ensures { result ≡ u16_at region.now.bytes reserved_at }
@@ -103,7 +104,7 @@ pub fn reserved(region: &Region) -> u16
     region.get_u16(RESERVED_AT)
 }
 
-/// The directory word: 0, or the offset of the directory's slot.
+/// Returns the directory word: 0, or the offset of the directory's slot.
 pub fn directory(region: &Region) -> u32
     requires { HasFrame region.now }
     ensures { result ≡ directory_of region.now.bytes }
@@ -121,7 +122,8 @@ pub fn put_directory(region: &mut Region, word: u32)
     region.put_u32(DIRECTORY_AT, word);
 }
 
-/// Where the head ends and the padding in front of the chunks begins, in bytes from the image's start.
+/// Returns the end of the head, in bytes from the image's start. The padding before the chunks
+/// begins there.
 pub fn head_end(region: &Region) -> u32
     requires { HasFrame region.now }
     ensures { result ≡ model_end region.now.bytes }
@@ -129,7 +131,8 @@ pub fn head_end(region: &Region) -> u32
     end_with(slot_count(region), is_chained(region))
 }
 
-/// The end of a head whose first table has `slots` slots. A chain's head has the word `next` after the table.
+/// The end of a head whose first table has `slots` slots. A chain's head has the word `next` after
+/// the table.
 #[inline]
 fn end_with(slots: u16, chained: bool) -> u32
     ensures is { result ≡ model_behind_end slots + (if chained then next_size else 0) }
@@ -139,7 +142,7 @@ fn end_with(slots: u16, chained: bool) -> u32
     if chained { end + NEXT_SIZE } else { end }
 }
 
-/// The word `next` after the first table, or 0 if the image isn't chained.
+/// Returns the word `next` after the first table, or 0 if the image isn't chained.
 #[inline]
 pub fn first_next(region: &Region) -> u32
     requires frame { HasFrame region.now }
@@ -163,7 +166,7 @@ fn word_behind(region: &Region) -> u32
     region.get_u32(FRAME_SIZE as usize + SLOT_SIZE as usize * slot_count(region) as usize)
 }
 
-/// Where the first chunk begins, in bytes from the image's start.
+/// Returns the offset of the first chunk, in bytes from the image's start.
 #[inline]
 pub fn area_start(region: &Region) -> u32
     requires { HasFrame region.now }
@@ -172,7 +175,7 @@ pub fn area_start(region: &Region) -> u32
     8 * ((end_with(slot_count(region), is_chained(region)) + 7) / 8)
 }
 
-/// The offset of the first chunk after an only table of `slots` slots.
+/// Returns the offset of the first chunk in an image whose only table has `slots` slots.
 #[inline]
 pub(crate) fn start_behind(slots: u16) -> u32
     ensures { result ≡ model_behind slots }

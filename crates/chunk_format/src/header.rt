@@ -1,4 +1,4 @@
-//! Headers of chunks, read and written.
+//! Reading and writing the headers of chunks.
 #![tactic(auto, using(laws_heap::proofs::Lending::first_word_within, laws_heap::proofs::Lending::second_word_within, laws_heap::proofs::Lending::part_within))]
 
 ghost use Rattle.std.specs.Prelude.{◌≡◌, ◌%◌, ◌+◌, ◌≤◌, ◌<◌, ◌^◌, ℕ, List, length, option_map, IfSome, IfNone, SomeIff};
@@ -15,16 +15,16 @@ use raw_region::Region;
 /// The free bit of the first word.
 const FREE_BIT: u32 = 0x8000_0000;
 
-/// What stands above the 24 bits of a size or of an hOffset is a multiple of this.
+/// The bits above the 24 bits of a size or of an hOffset are a multiple of this.
 const ABOVE_24_BITS: u32 = 0x100_0000;
 
-/// What stands above the 28 bits of owner and hOffset is a multiple of this.
+/// The bits above the 28 bits of owner and hOffset are a multiple of this.
 const ABOVE_28_BITS: u32 = 0x1000_0000;
 
-/// What the header of a chunk takes in bytes. The body begins behind it.
+/// The size of a chunk's header in bytes. The body begins after it.
 pub const HEADER_SIZE: u32 = 8;
 
-/// Where the second word of a header stands, from the header's start.
+/// The offset of a header's second word, from the header's start.
 const SECOND_WORD_AT: usize = 4;
 
 /// The owner of the manager's own chunks: the directory, and the headers of databases.
@@ -33,34 +33,35 @@ pub const MANAGERS_OWNER: u8 = 0;
 /// The owner of the chunks that databases name.
 pub const DATA_OWNER: u8 = 15;
 
-/// The lock field of a fixed chunk. A movable chunk's counts its locks, up to 14.
+/// The lock field of a fixed chunk. The lock field of a movable chunk counts its locks, up to 14.
 pub const FIXED_LOCK: u8 = 15;
 
-/// What a chunk is, by its header: the free bit and the lock field tell which (Palm OS Programmer's
-/// Companion, "Memory Architecture").
+/// The header of a chunk. The free bit and the lock field determine the kind of the chunk (Palm OS
+/// Programmer's Companion, "Memory Architecture").
 #[derive(Clone, Copy, Debug, PartialEq, Eq)]
 pub enum Header {
     /// A free chunk of `size` bytes, its header included.
     Free {
         size: u32,
     },
-    /// A chunk that may move while its lock count is 0. `length` is that of its body in bytes, and
-    /// `slot` the offset of the slot that its hOffset names, whether or not a slot stands there.
+    /// A chunk that may move while its lock count is 0. `length` is the length of its body in
+    /// bytes. `slot` is the offset that its hOffset names, whether or not a slot is there.
     Movable {
         length: u32,
         lock: u8,
         owner: u8,
         slot: u32,
     },
-    /// A chunk that never moves.
+    /// A chunk that never moves. `length` is the length of its body in bytes.
     Fixed {
         length: u32,
         owner: u8,
     },
 }
 
-/// What a chunk with a body of `length` bytes takes: 8 for its header, and the body rounded up to a
-/// multiple of 8. The caller shows that it is below 2^24, as it is of every chunk within a region.
+/// Returns the size in bytes of a chunk with a body of `length` bytes: 8 for its header, and the
+/// body rounded up to a multiple of 8. The caller must prove that this size is below 2^24, as it is
+/// for every chunk within a region.
 #[inline]
 pub fn size_of_body(length: u32) -> u32
     requires { need length < 2 ^ 24 }
@@ -69,8 +70,8 @@ pub fn size_of_body(length: u32) -> u32
     HEADER_SIZE + 8 * ((length + 7) / 8)
 }
 
-/// What a chunk with a body of `length` bytes takes, as `size_of_body` answers it. None where that is
-/// more than a region can have.
+/// Returns the size in bytes of a chunk with a body of `length` bytes, as `size_of_body` does. None
+/// if no region can have a chunk of this size.
 pub fn chunk_size(length: u32) -> Option<u32>
     ensures { SomeIff result (need length ≤ most_size) (need length) }
 {
@@ -83,8 +84,8 @@ pub fn chunk_size(length: u32) -> Option<u32>
 impl Header {
     ghost use Rattle.chunk_format.specs.Header.{header_of, HasHeader, IsWritable, header_bytes};
 
-    /// The header of the chunk at `at`, an offset in bytes from the image's start. None where what
-    /// stands there is out of shape, or beyond the end.
+    /// Reads the header of the chunk at `at`, an offset in bytes from the image's start. None if no
+    /// well-formed chunk is there, or it would end after the image's end.
     #[inline]
     pub fn read(region: &Region, at: u32) -> Option<Header>
         requires small { length region.now.bytes < 2 ^ 24 }
@@ -99,8 +100,8 @@ impl Header {
         }
     }
 
-    /// The header of the chunk at `at`, as `read` answers it, and the size of that chunk. A walk takes
-    /// both, since the size stands in the first word and follows from the header only by a sum.
+    /// Reads the header of the chunk at `at`, as `read` does, and the size of that chunk. A walk
+    /// needs both: the first word contains the size, but the header gives it only by a sum.
     #[inline]
     pub fn read_with_size(region: &Region, at: u32) -> Option<(Header, u32)>
         requires small { length region.now.bytes < 2 ^ 24 }
@@ -112,8 +113,8 @@ impl Header {
         decode(region, at)
     }
 
-    /// The header of the chunk that is known to stand at `at`. It reads the words and tests nothing but
-    /// of which kind they are.
+    /// Reads the header of the chunk that is known to be at `at`. It tests only of which kind the
+    /// chunk is.
     #[inline]
     pub fn at(region: &Region, at: u32) -> Header
         requires chunk { HasChunk region.now.bytes at }
@@ -125,7 +126,8 @@ impl Header {
         header
     }
 
-    /// The header of the chunk that is known to stand at `at`, as `at` answers it, and its size.
+    /// Reads the header of the chunk that is known to be at `at`, as `at` does, and the size of the
+    /// chunk.
     #[inline]
     pub fn at_with_size(region: &Region, at: u32) -> (Header, u32)
         requires chunk { HasChunk region.now.bytes at }
@@ -145,9 +147,9 @@ impl Header {
         (live_header(at, length, second), size)
     }
 
-    /// Writes the header at `at`: of a free chunk its first word alone, with every bit but the free
-    /// bit and the size zero, and of a live one both words. The caller shows that the chunk lies
-    /// within the region, and that its numbers fit their fields.
+    /// Writes the header at `at`. For a live chunk it writes both words. For a free chunk it writes
+    /// only the first word, with every bit zero but the free bit and the size. The caller must
+    /// prove that the chunk lies within the region, and that its numbers fit their fields.
     #[inline(always)]
     pub fn write(self, region: &mut Region, at: u32)
         requires inside { at + size_by self ≤ length region.old.bytes }
@@ -171,7 +173,7 @@ impl Header {
         }
     }
 
-    /// The size of the chunk in bytes, its header included.
+    /// Returns the size of the chunk in bytes, its header included.
     #[inline]
     pub fn size(self) -> u32
         requires { size_by self < 2 ^ 24 }
@@ -184,8 +186,8 @@ impl Header {
     }
 }
 
-/// The header by the two words at `at`, and the size. Most chunks of a walk are live ones, so the free
-/// bit is looked at only where what stands above the size can't be a sizeAdj.
+/// Reads the header from the two words at `at`, and the size. Most chunks of a walk are live, so it
+/// tests the free bit only if the bits above the size can't be a sizeAdj.
 #[inline]
 fn decode(region: &Region, at: u32) -> Option<(Header, u32)>
     requires small { length region.now.bytes < 2 ^ 24 }
@@ -255,8 +257,8 @@ fn live_header(at: u32, length: u32, second: u32) -> Header
     }
 }
 
-/// What the header of a live chunk says but its slot: the length of its body in bytes, its lock field, 15 where it
-/// is fixed, and its owner.
+/// The header of a live chunk without its slot: the length of its body in bytes, its lock field,
+/// which is 15 if it is fixed, and its owner.
 #[derive(Clone, Copy)]
 pub struct LiveFields {
     pub length: u32,
@@ -264,7 +266,7 @@ pub struct LiveFields {
     pub owner: u8,
 }
 
-/// The fields of the live chunk that is known to stand at `at`. Nothing is tested.
+/// Reads the fields of the live chunk that is known to be at `at`. It tests nothing.
 #[inline(always)]
 pub fn live_fields(region: &Region, at: u32) -> LiveFields
     requires live { HasLive region.now.bytes at }
@@ -284,8 +286,8 @@ pub fn live_fields(region: &Region, at: u32) -> LiveFields
     }
 }
 
-/// Gives the movable chunk at `at` another lock count: its second word alone is written, and keeps its
-/// other fields.
+/// Gives the movable chunk at `at` another lock count. It writes only the second word, which keeps
+/// its other fields.
 #[inline]
 pub fn put_lock(region: &mut Region, at: u32, lock: u8)
     requires inside { IsWithin region.old at HEADER_SIZE }
@@ -300,8 +302,8 @@ pub fn put_lock(region: &mut Region, at: u32, lock: u8)
     region.put_u32(second, lock as u32 * ABOVE_28_BITS + word % ABOVE_28_BITS);
 }
 
-/// Gives the live chunk at `at` another owner: its second word alone is written, and keeps its other
-/// fields.
+/// Gives the live chunk at `at` another owner. It writes only the second word, which keeps its
+/// other fields.
 #[inline]
 pub fn put_owner(region: &mut Region, at: u32, owner: u8)
     requires inside { IsWithin region.old at HEADER_SIZE }

@@ -13,22 +13,27 @@ use raw_region::Region;
 use std::alloc::Global;
 use thiserror::Error;
 
-/// Why there is no blank image, in the order in which the reasons are looked for.
+/// The reason why no blank image was made. The reasons are tested in this order.
 #[derive(Clone, Copy, Debug, PartialEq, Eq, Error)]
 pub enum BlankFault {
     /// The size is below 64 or above 16,777,208, or isn't a multiple of 8.
     #[error("BadSize")]
     BadSize,
-    /// There are no slots, or they leave less than 8 bytes behind the table and its padding.
+    /// There are no slots, or they leave less than 8 bytes after the table and its padding.
     #[error("BadSlotCount")]
     BadSlotCount,
-    /// Memory was refused.
+    /// The allocation failed.
     #[error("OutOfMemory")]
     OutOfMemory,
 }
 
-/// An image of `size` bytes with `slots` slots and one free chunk, whose other bytes are zero. Sizes
-/// count bytes, and the layout is this project's own (docs/FORMAT.md).
+/// Makes an image of `size` bytes with `slots` slots and one free chunk. All other bytes are zero.
+/// The layout is this project's own (docs/FORMAT.md).
+///
+/// # Errors
+/// - `BadSize`: no image may have this size.
+/// - `BadSlotCount`: there are no slots, or they leave no room for a chunk.
+/// - `OutOfMemory`: the allocation failed.
 pub fn blank(alloc: Global, size: u32, slots: u16) -> Result<Region, BlankFault>
     ensures blank { IfOk result (λ region. IsBlank size slots region.bytes) }
     ensures accepted { IfOk result (λ region. Accepted region.bytes) }
@@ -42,7 +47,12 @@ pub fn blank(alloc: Global, size: u32, slots: u16) -> Result<Region, BlankFault>
     blank_from(&alloc, size, slots)
 }
 
-/// `blank`, where the growth asks for a grant. Only a refused growth is answered by `OutOfMemory`.
+/// Makes a blank image as `blank` does, with memory from an allowance.
+///
+/// # Errors
+/// - `BadSize`: no image may have this size.
+/// - `BadSlotCount`: there are no slots, or they leave no room for a chunk.
+/// - `OutOfMemory`: the allocation failed.
 pub fn blank_from<A: Allowance>(memory: &A, size: u32, slots: u16) -> Result<Region, BlankFault>
     ensures blank { IfOk result (λ region. IsBlank size slots region.bytes) }
     ensures accepted { IfOk result (λ region. Accepted region.bytes) }

@@ -1,8 +1,8 @@
-//! The law of blank images, as the promise of a function.
+//! The law of blank images, as the postcondition of a function.
 
 ghost use Rattle.chunk_format.specs.Laws.{BlankImagesAreEmpty};
 
-/// A blank image is accepted with its databases, and means the empty store.
+/// Proves that a blank image is accepted with its databases, and means the empty store.
 pub fn blank_images_are_empty()
     ensures { BlankImagesAreEmpty }
 {}

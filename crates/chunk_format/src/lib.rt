@@ -1,7 +1,7 @@
 //! Chunks of a heap image: their headers, their sizes, the walk over them, and blank images.
 //!
-//! The chunks tile the image behind the master pointer table. Each is a header of two big-endian
-//! words and a body:
+//! The chunks tile the image after the master pointer table. Each chunk is a header of two
+//! big-endian words and a body:
 //!
 //! ```text
 //!            31     30..28   27..24    23..0
@@ -11,8 +11,8 @@
 //! body     | length = size - 8 - sizeAdj | sizeAdj bytes of slack |
 //! ```
 //!
-//! Of a free chunk only the free bit and the size are read. `specs/Header.antt` ties a header to the
-//! chunk that is spelled there: start there.
+//! Only the free bit and the size of a free chunk are read. Start with `specs/Header.antt`: it
+//! relates a header to the chunk that is spelled there.
 #![tactic(auto)]
 
 mod frame;

@@ -10,10 +10,10 @@ use heap_model::Place;
 use raw_region::Region;
 use std::marker::Model;
 
-/// The places and headers of chunks that stand one behind the other, in order. It ends at the end of
-/// the region, or in front of what is out of shape.
+/// Iterates over the places and headers of adjacent chunks, in order. It ends at the end of the
+/// region, or before the first chunk that is not well-formed.
 ///
-/// Contracts see it as the list of those that are left.
+/// Contracts see it as the list of the places and headers that are left.
 #[derive(Drop)]
 pub struct Walk<'a> {
     region: &'a Region,
@@ -36,7 +36,7 @@ impl<'a> Model for Walk<'a> {
 }
 
 impl<'a> Walk<'a> {
-    /// From the chunk at `start` on, an offset in bytes from the image's start.
+    /// Starts a walk at the chunk at `start`, an offset in bytes from the image's start.
     pub fn new(region: &'a Region, start: u32) -> Walk<'a>
         requires small { length region.now.bytes < 2 ^ 24 }
         requires whole { region.now.lent ≡ None }

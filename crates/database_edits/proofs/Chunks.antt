@@ -1,4 +1,4 @@
--- What calls leave of the chunk of a database, one behind the other.
+-- What calls leave of the chunk of a database, one after the other.
 use Rattle.std.proofs.Common.{◌≡◌, ◌≢◌, ℕ, ◌+◌, ◌<◌, ◌≤◌, List, length, Option, Some, None, refl, sym, ap, subst, ◌∙◌, arith, inl, inr}
 use Rattle.std.proofs.lemmas.Bool.{cases_eq, eq-eqb, ne_eqb}
 use Rattle.std.specs.Prelude.{◌==◌}
@@ -117,7 +117,7 @@ pub respelled : (old new : List ℕ) (db : ℕ) (database : Database ℕ) → Is
 unfolding with_bytes
 respelled old new db database m r = rebodied old new db (λ bytes. spelled database) m r
 
--- ---- one change behind the other
+-- ---- one change after the other
 
 twice : (first second : List ℕ) (o : Option LiveChunk) → changed (with_bytes (whole second)) (changed (with_bytes (whole first)) o) ≡ changed (with_bytes (whole second)) o
 unfolding with_bytes whole

@@ -1,4 +1,5 @@
--- An entry moved: those past which it moves slide by one, and it is written on the other side of them.
+-- An entry moved: those past which it moves slide by one, and it is written on the other side of
+-- them.
 use Rattle.std.proofs.Common.{◌≡◌, ℕ, suc, ◌+◌, ◌-◌, ◌<◌, ◌≤◌, Bool, List, ◌∷◌, ◌++◌, length, get_or, take, drop, refl, sym, ap, subst, ◌∙◌, arith, drop-cons, length-take}
 use Rattle.std.proofs.lemmas.List.{take-append-drop}
 use Rattle.std.specs.Prelude.{All, slice_range}

@@ -18,7 +18,7 @@ use Rattle.database_edits.proofs.Databases.{long}
 
 -- ---- where entries stand
 
--- one stands behind the other
+-- one stands after the other
 pub offset_next : (resources : Bool) (index : ℕ) → entry_offset resources (index + 1) ≡ entry_offset resources index + entry_size resources
 offset_next true index = omega arith
 offset_next false index = omega arith
@@ -76,7 +76,7 @@ slide_fits false first end to body order inside = omega arith
 pub slice_most : (body : List ℕ) (from end : ℕ) → length (slice_range body from end) ≤ end - from
 slice_most body from end = (let size = length-take (end - from) (drop from body) in omega arith)
 
--- they stand behind the header
+-- they stand after the header
 pub header_low : (resources : Bool) (index : ℕ) → 78 ≤ entry_offset resources index
 header_low true index = omega arith
 header_low false index = omega arith

@@ -42,7 +42,7 @@ heading_spelled image db s =
 
 -- ---- what keeps it
 
--- bytes written behind it
+-- bytes written after it
 pub kept_below : (old new : List ℕ) (db at : ℕ) (part : List ℕ) (d : Database ℕ) → HasHeaderOf old db d → 78 ≤ at → Rebodies old new db (overwritten (bytes_under old db) at part) → HasHeaderOf new db d
 unfolding overwritten
 kept_below old new db at part d has behind r =

@@ -1,4 +1,5 @@
--- An entry put in: the chunk grows, those from there on slide behind it, and the header counts one more.
+-- An entry put in: the chunk grows, those from there on slide after it, and the header counts one
+-- more.
 use Rattle.std.proofs.Common.{◌≡◌, ℕ, ◌+◌, ◌≤◌, Bool, List, ◌++◌, length, drop, refl, sym, ap, subst, ◌∙◌, arith}
 use Rattle.std.proofs.lemmas.List.Edits.{length-insert}
 use Rattle.std.specs.Prelude.{insert, slice_range}
@@ -27,7 +28,7 @@ use Rattle.database_edits.proofs.Pieces.{put_in}
 
 -- ---- room for it
 
--- it is so much that there has to be room for
+-- the number of bytes for which there must be room
 pub short_of : (image : List ℕ) (db size count : ℕ) (resources : Bool) → SpellsHere image db → resources ≡ has_resources (database_here image db).header.attributes → count ≡ length (database_here image db).entries → size ≡ entry_offset resources (count + 1) → ShortFor image db (need size)
     → ShortFor image db (need (length (bytes_under image db) + entry_size (has_resources (database_here image db).header.attributes)))
 short_of image db size count resources s kind count_is is short =

@@ -1,4 +1,5 @@
--- The chunk of a database with another length: nothing but want of room refuses it to grow, and nothing to shrink.
+-- The chunk of a database with another length: it may be refused to grow only for lack of room, and
+-- is never refused to shrink.
 use Rattle.std.proofs.Common.{◌≡◌, ℕ, ◌+◌, ◌<◌, ◌≤◌, List, length, Option, refl, sym, subst, arith, inl, inr}
 use Rattle.std.specs.Prelude.{Result, Ok, Err, OnOk, OnErr, IfErr, IsOk}
 use Rattle.heap_model.specs.Memory.{Memory}
@@ -18,7 +19,7 @@ use Rattle.heap_model.specs.declared.refusal.Refusal.TheVariants.{NotEnoughSpace
 use Rattle.database_edits.specs.Managers.{IsManagers, Rebodies}
 use Rattle.database_edits.proofs.Chunks.{under, resized}
 
--- what refuses it is want of room
+-- it is refused for lack of room
 pub refused : (old : Memory) (db size : ℕ) (refusal : Refusal) → IsManagers old.bytes db → (IsLent old db → ⊥) → FirstBrings (growth_checks old (held old.bytes) db size) refusal
     → (refusal ≡ NotEnoughSpace) × (need (length (bytes_under old.bytes db)) < need size) × ShortFor old.bytes db (need size)
 refused old db size refusal m here brings =

@@ -24,7 +24,7 @@ cut_at one other back n =
     ∙ ap (λ (xs : List ℕ). xs ++ back) (sym (take-append-drop n (one ++ other)))
     ∙ append_assoc (take n (one ++ other)) (drop n (one ++ other)) back
 
--- a piece slides to the front over one, which is written behind it
+-- a piece slides to the front over one, which is written after it
 pub closes : (front gone slid back new : List ℕ) (at to : ℕ) → at ≡ length front → to ≡ length front + length slid → length gone ≡ length new → overwritten (overwritten (front ++ (gone ++ (slid ++ back))) at slid) to new ≡ front ++ (slid ++ (new ++ back))
 closes front gone slid back new at to at_is to_is same =
     let all = length-append gone slid in
@@ -99,7 +99,7 @@ put_in body header new size at len low inside =
 
 -- ---- with another header, and cut
 
--- a list is cut behind its front
+-- a list is cut after its front
 cut : (xs ys : List ℕ) (n : ℕ) → length xs ≡ n → sized_to (xs ++ ys) n ≡ xs
 cut xs ys n len =
     let all = length-append xs ys in

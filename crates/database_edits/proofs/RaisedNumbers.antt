@@ -47,7 +47,7 @@ raised old new db was number s was_is number_is puts =
     (ap (λ (body : List ℕ). overwritten body 0 (header_bytes (counted d))) s.spelled.bytes_are ∙ sym (spelled_header d (counted d) s.spelled.fits (counted_fits d s.spelled.fits) refl))
     (number_put old new db was number d (heading_spelled old db s) was_is number_is puts)
 
--- one change behind another
+-- one change after another
 pub respells_twice : (old mid new : List ℕ) (db : ℕ) (first second : Database ℕ) → SpellsHere old db → Respells old mid db first → Respells mid new db second → Respells old new db second
 respells_twice old mid new db first second s a b =
     let m = managers old db s in

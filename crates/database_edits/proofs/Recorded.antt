@@ -43,7 +43,7 @@ same_header : (change : ℕ → ℕ) (d : Database ℕ) → header_bytes (attrib
 unfolding header_bytes
 same_header change d = rw (length-map d.entries (with_attributes change)) refl
 
--- what stands behind the header
+-- what follows the header
 all_behind : (front back : List ℕ) (at count : ℕ) → length front ≡ at → count ≡ length back → slice_range (front ++ back) at (at + count) ≡ back
 all_behind front back at count len all =
     ap (λ (n : ℕ). take (at + count - at) (drop n (front ++ back))) (sym len) ∙ ap (take (at + count - at)) (drop-append_seam front back) ∙ take_all (at + count - at) back (omega arith)

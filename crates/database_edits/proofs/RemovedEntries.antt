@@ -1,4 +1,5 @@
--- An entry taken out: those behind it slide over it, the header counts one less, and then the chunk shrinks.
+-- An entry taken out: those after it slide over it, the header counts one less, and then the chunk
+-- shrinks.
 use Rattle.std.proofs.Common.{◌≡◌, ℕ, suc, ◌+◌, ◌-◌, ◌<◌, ◌≤◌, Bool, List, ◌++◌, length, drop, refl, sym, ap, ◌∙◌, arith}
 use Rattle.std.proofs.lemmas.List.Edits.{length-remove}
 use Rattle.std.specs.Prelude.{slice_range}

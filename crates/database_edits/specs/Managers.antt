@@ -1,4 +1,4 @@
--- The chunk of a database whose bytes change: what it spells may be none on the way.
+-- The chunk of a database whose bytes change. On the way its bytes may spell no database.
 use Rattle.std.specs.Prelude.{◌≡◌, ◌≤◌, ℕ, List, length, take}
 use Rattle.heap_model.specs.Chunk.{managers_owner}
 use Rattle.heap_model.specs.Bytes.{overwritten}
@@ -26,8 +26,8 @@ pub record HasHeaderOf (image : List ℕ) (db : ℕ) (database : Database ℕ) :
   pub inside : header_size ≤ length (bytes_under image db)
   pub front : take header_size (bytes_under image db) ≡ header_bytes database
 
--- The header of a database that differs so from the one whose header is there is written over that. All other
--- bytes, and all other chunks, are as they were.
+-- If the slot's chunk begins with the header of `was`, and `Differs was now` is true, then the
+-- header of `now` was written over it. All other bytes, and all other chunks, are as they were.
 abbrev pub PutsHeader : List ℕ → List ℕ → ℕ → (Database ℕ → Database ℕ → Type 0) → Type 0
 PutsHeader old new db Differs =
     (was now : Database ℕ) → HasHeaderOf old db was → Differs was now

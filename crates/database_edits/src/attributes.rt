@@ -1,4 +1,4 @@
-//! The attributes of all records of a database, changed in one pass.
+//! Changes the attributes of all records of a database in one pass.
 
 ghost use Rattle.std.specs.Prelude.{◌≡◌, false};
 ghost use Rattle.heap_model.specs.Lending.{KeepsLoan};
@@ -12,7 +12,7 @@ use heap_model::{Db, Name};
 use mem_manager::{Found, Heap};
 use raw_region::ByteChange;
 
-/// Gives each record the attributes that a change makes of its own.
+/// Replaces the attributes of each record by what `change` makes of them.
 #[tactic(auto, using(crate::proofs::Recorded::long_enough, crate::proofs::Recorded::short_enough, crate::proofs::Loans::spelled_here))]
 pub fn change_attributes<C: ByteChange>(heap: &mut Heap, db: Db, chunk: Found, change: C)
     requires stands { StandsAs heap.old.bytes db.0 chunk }

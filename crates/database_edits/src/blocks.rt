@@ -1,4 +1,4 @@
-//! The info blocks of a database, as its header names them.
+//! Names the info blocks of a database in its header.
 
 ghost use Rattle.std.specs.Prelude.{◌≡◌};
 ghost use Rattle.heap_model.specs.Database.{DatabaseFits};
@@ -11,8 +11,8 @@ use crate::headers::{heading_here, put_info_block, put_modification_number};
 use heap_model::{Db, Which};
 use mem_manager::{Found, Heap};
 
-/// Writes the slot of an info block, or 0 for none, in the header of a database, which counts the call. What
-/// stands in the slot isn't looked at.
+/// Writes the slot of an info block, or 0 for none, into the header of a database, and raises the
+/// modification number. It doesn't look at what the slot contains.
 pub fn write_block(heap: &mut Heap, db: Db, chunk: Found, which: Which, slot: u32)
     requires stands { StandsAs heap.old.bytes db.0 chunk }
     requires spells { SpellsHere heap.old.bytes db.0 }

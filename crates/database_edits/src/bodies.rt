@@ -1,4 +1,4 @@
-//! Parts of the bytes of a database, read and written where they stand.
+//! Reads and writes parts of the bytes of a database in place.
 
 ghost use Rattle.std.specs.Prelude.{◌≡◌, ◌+◌, ◌-◌, ◌<◌, ◌≤◌, length, slice_range, OnOk, OnErr, IfErr};
 ghost use Rattle.heap_model.specs.Bytes.{overwritten, sized_to};
@@ -19,8 +19,8 @@ use db_format::{DbEntry, entry_offset};
 use heap_model::{Db, Name, Refusal};
 use mem_manager::{Found, Heap};
 
-/// Writes bytes over those of a database, from `at` on. In line, so that the few bytes of a field or of an entry are
-/// written as one number.
+/// Writes bytes over those of a database, starting at offset `at`. It is inlined, so that the few
+/// bytes of a field or of an entry are written as one number.
 #[inline(always)]
 pub(crate) fn put_part(heap: &mut Heap, db: Db, chunk: Found, at: u32, part: &[u8])
     requires stands { StandsAs heap.old.bytes db.0 chunk }
@@ -35,7 +35,8 @@ pub(crate) fn put_part(heap: &mut Heap, db: Db, chunk: Found, at: u32, part: &[u
     heap.sys_write(Name(db.0), chunk, at, part);
 }
 
-/// Writes an entry where that of an index stands, or is to stand, among resources or among records.
+/// Writes an entry at the place of index `index`, among resources or among records. The place may
+/// be that of a new entry.
 #[inline(always)]
 pub(crate) fn put_entry(
     heap: &mut Heap,
@@ -67,8 +68,8 @@ pub(crate) fn put_entry(
     }
 }
 
-/// Copies the entries from `first` on and below `end` to where the entry of the index `to` stands, or is to
-/// stand.
+/// Copies the entries of the indices from `first` up to, but not including, `end` to the place of
+/// index `to`. The place may be that of a new entry.
 #[inline(always)]
 pub(crate) fn slide_entries(
     heap: &mut Heap,
@@ -109,8 +110,11 @@ pub(crate) fn slide_entries(
     );
 }
 
-/// Lets the chunk of a database have `size` bytes, its own and zeros behind them. Refused `NotEnoughSpace`
-/// alone, and then nothing has changed.
+/// Grows the chunk of a database to `size` bytes: its own, and zeros after them.
+///
+/// # Errors
+///
+/// - `NotEnoughSpace`: if there is no room for the longer chunk. Nothing has changed then.
 #[inline(always)]
 pub(crate) fn grow(heap: &mut Heap, db: Db, chunk: Found, size: u32) -> Result<(), Refusal>
     requires stands { StandsAs heap.old.bytes db.0 chunk }
@@ -126,7 +130,7 @@ pub(crate) fn grow(heap: &mut Heap, db: Db, chunk: Found, size: u32) -> Result<(
     heap.sys_resize(Name(db.0), chunk, size)
 }
 
-/// Leaves the chunk of a database its first `size` bytes.
+/// Shrinks the chunk of a database to its first `size` bytes.
 #[inline(always)]
 pub(crate) fn shrink(heap: &mut Heap, db: Db, chunk: Found, size: u32)
     requires stands { StandsAs heap.old.bytes db.0 chunk }
@@ -140,7 +144,7 @@ pub(crate) fn shrink(heap: &mut Heap, db: Db, chunk: Found, size: u32)
     heap.sys_resize(Name(db.0), chunk, size).unwrap();
 }
 
-/// The entry of an index.
+/// Returns the entry of an index.
 #[inline(always)]
 pub(crate) fn entry_here(heap: &Heap, db: Db, chunk: Found, index: u16) -> DbEntry
     requires stands { StandsAs heap.now.bytes db.0 chunk }

@@ -1,4 +1,4 @@
-//! Changes of a database, counted by its modification number.
+//! Counts the changes of a database in its modification number.
 
 ghost use Rattle.std.specs.Prelude.{◌≡◌};
 ghost use Rattle.heap_model.specs.Space.{MovesNothing};
@@ -28,7 +28,7 @@ pub fn count_change(heap: &mut Heap, db: Db, chunk: Found)
     put_modification_number(heap, db, chunk, heading.modification_number.wrapping_add(1));
 }
 
-/// Counts a change where that is asked, and else leaves the heap as it is.
+/// Counts a change if `counts` is true; otherwise leaves the heap as it is.
 #[inline(always)]
 pub(crate) fn count_change_if(heap: &mut Heap, db: Db, chunk: Found, counts: bool)
     requires stands { StandsAs heap.old.bytes db.0 chunk }

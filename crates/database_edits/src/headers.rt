@@ -1,4 +1,4 @@
-//! What edits read of a header and write in it, where it stands.
+//! Reads and writes the fields of a header that edits need, in place.
 
 ghost use Rattle.std.specs.Prelude.{◌≡◌, ◌≤◌, length};
 ghost use Rattle.heap_model.specs.DatabaseFields.{header_size};
@@ -20,18 +20,18 @@ use db_format::{
 use heap_model::{Db, Name, Which};
 use mem_manager::{Found, Heap};
 
-/// What edits need of the header of a database.
+/// The fields of a database's header that edits need.
 #[derive(Clone, Copy)]
 pub(crate) struct Heading {
-    /// Whether the entries are resources, and else records.
+    /// Whether the entries are resources; otherwise they are records.
     pub resources: bool,
     pub entry_count: u16,
     pub modification_number: u32,
-    /// The field of the seed, with the bits above it.
+    /// The field of the seed, including the bits above the seed.
     pub seed: u32,
 }
 
-/// The heading of a database.
+/// Returns the heading of a database.
 #[inline(always)]
 pub(crate) fn heading_here(heap: &Heap, db: Db, chunk: Found) -> Heading
     requires stands { StandsAs heap.now.bytes db.0 chunk }
@@ -47,7 +47,7 @@ pub(crate) fn heading_here(heap: &Heap, db: Db, chunk: Found) -> Heading
     }
 }
 
-/// Writes the modification number in a header.
+/// Writes the modification number into a header.
 #[inline(always)]
 pub(crate) fn put_modification_number(heap: &mut Heap, db: Db, chunk: Found, number: u32)
     requires stands { StandsAs heap.old.bytes db.0 chunk }
@@ -63,7 +63,7 @@ pub(crate) fn put_modification_number(heap: &mut Heap, db: Db, chunk: Found, num
     heap.sys_write(Name(db.0), chunk, MODIFICATION_NUMBER_AT as u32, &bytes);
 }
 
-/// Writes the field of the seed in a header.
+/// Writes the field of the seed into a header.
 #[inline(always)]
 pub(crate) fn put_seed(heap: &mut Heap, db: Db, chunk: Found, seed: u32)
     requires stands { StandsAs heap.old.bytes db.0 chunk }
@@ -80,7 +80,7 @@ pub(crate) fn put_seed(heap: &mut Heap, db: Db, chunk: Found, seed: u32)
     heap.sys_write(Name(db.0), chunk, SEED_AT as u32, &bytes);
 }
 
-/// Writes the number of entries in a header.
+/// Writes the number of entries into a header.
 #[inline(always)]
 pub(crate) fn put_entry_count(heap: &mut Heap, db: Db, chunk: Found, count: u16)
     requires stands { StandsAs heap.old.bytes db.0 chunk }
@@ -97,7 +97,7 @@ pub(crate) fn put_entry_count(heap: &mut Heap, db: Db, chunk: Found, count: u16)
     heap.sys_write(Name(db.0), chunk, ENTRY_COUNT_AT as u32, &bytes);
 }
 
-/// Writes the slot of an info block, or 0 for none, in a header.
+/// Writes the slot of an info block, or 0 for none, into a header.
 pub(crate) fn put_info_block(heap: &mut Heap, db: Db, chunk: Found, which: Which, slot: u32)
     requires stands { StandsAs heap.old.bytes db.0 chunk }
     requires managers { IsManagers heap.old.bytes db.0 }

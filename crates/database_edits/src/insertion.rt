@@ -1,4 +1,4 @@
-//! An entry put in, as a call that is counted.
+//! Inserts an entry, as a counted call.
 
 ghost use Rattle.std.specs.Prelude.{◌≡◌, ◌<◌, ◌≤◌, length, OnOk, OnErr, IfErr};
 ghost use Rattle.heap_model.specs.Database.{DatabaseHeader};
@@ -16,10 +16,13 @@ use db_format::{DbEntry, SEEDS, entry_offset};
 use heap_model::{Db, Name, Refusal};
 use mem_manager::{Found, Heap};
 
-/// Puts an entry in at an index; the entries from there on move up by one. The ID of a record becomes the
-/// seed, and the modification number is raised. The chunk grows, and other chunks may move for it.
+/// Inserts an entry at an index; the entries from there on move up by one. The ID of a record
+/// becomes the seed, and the modification number is raised. The chunk grows, and other chunks may
+/// move for it.
 ///
-/// Refused `NotEnoughSpace` alone, and then nothing has changed.
+/// # Errors
+///
+/// - `NotEnoughSpace`: if there is no room for one more entry. Nothing has changed then.
 #[inline(always)]
 pub fn insert_entry(
     heap: &mut Heap,
@@ -55,7 +58,7 @@ pub fn insert_entry(
     Ok(())
 }
 
-/// The field of a seed once an entry has come.
+/// Returns the field of the seed after an entry was inserted.
 fn seed_after(field: u32, entry: DbEntry) -> u32
     requires { HasFittingId entry }
     ensures { (header : DatabaseHeader) → header.seed ≡ field
@@ -67,7 +70,7 @@ fn seed_after(field: u32, entry: DbEntry) -> u32
     }
 }
 
-/// The field of a seed with another one.
+/// Returns the field of the seed with another seed. The bits above it are as they were.
 fn seeded(field: u32, seed: u32) -> u32
     requires { seed ≤ greatest_id }
     ensures { result ≡ with_seed field seed }

@@ -1,9 +1,10 @@
-//! The chunk of one database, whose bytes spell it: its entries changed, put in, taken out and moved, its info
-//! blocks named, and its modification number raised.
+//! Edits the chunk of one database: changes, inserts, removes and moves its entries, names its info
+//! blocks, and raises its modification number.
 //!
-//! Each function takes a heap in which a chunk spells a database (`SpellsHere`), whatever else of the store
-//! is on its way, and promises which database it spells afterwards, and that all other chunks are as they
-//! were. What the entries name isn't looked at.
+//! Each function takes a heap in which a chunk spells a database (`SpellsHere`). The rest of the
+//! store may be in the middle of a call. The contract names the database that the chunk spells
+//! after the call; all other chunks are as they were. The functions don't look at the chunks that
+//! entries name.
 #![tactic(auto, using(laws_heap::proofs::KeptLoans::keeps_then, crate::proofs::Loans::managers_here, crate::proofs::Loans::spelled_here))]
 
 mod attributes;

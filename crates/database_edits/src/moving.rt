@@ -1,4 +1,4 @@
-//! An entry moved.
+//! Moves an entry within its database.
 
 ghost use Rattle.std.specs.Prelude.{◌≡◌, ◌<◌, ◌≤◌, ◌+◌, length};
 ghost use Rattle.heap_model.specs.Lending.{KeepsLoan};
@@ -10,8 +10,8 @@ use crate::bodies::{entry_here, put_entry, slide_entries};
 use heap_model::Db;
 use mem_manager::{Found, Heap};
 
-/// Moves the entry at an index in front of the one that stands at another, or behind the last: `to` counts
-/// the entries as they stand before.
+/// Moves the entry at index `from` before the one at index `to`, or after the last. `to` is an
+/// index from before the move.
 pub fn move_entry(heap: &mut Heap, db: Db, chunk: Found, from: u16, to: u16)
     requires stands { StandsAs heap.old.bytes db.0 chunk }
     requires spells { SpellsHere heap.old.bytes db.0 }
@@ -28,7 +28,7 @@ pub fn move_entry(heap: &mut Heap, db: Db, chunk: Found, from: u16, to: u16)
     }
 }
 
-/// Moves an entry to the front: those in front of it down to the index move up by one.
+/// Moves an entry towards the start, to index `to`. The entries from `to` up to it move up by one.
 fn move_to_front(heap: &mut Heap, db: Db, chunk: Found, from: u16, to: u16)
     requires stands { StandsAs heap.old.bytes db.0 chunk }
     requires spells { SpellsHere heap.old.bytes db.0 }
@@ -44,7 +44,8 @@ fn move_to_front(heap: &mut Heap, db: Db, chunk: Found, from: u16, to: u16)
     put_entry(heap, db, chunk, to, entry, resources);
 }
 
-/// Moves an entry to the back, in front of the one at the index: those between them move down by one.
+/// Moves an entry towards the end, before the one at index `to`. The entries between them move down
+/// by one.
 fn move_to_back(heap: &mut Heap, db: Db, chunk: Found, from: u16, to: u16)
     requires stands { StandsAs heap.old.bytes db.0 chunk }
     requires spells { SpellsHere heap.old.bytes db.0 }

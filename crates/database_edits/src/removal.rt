@@ -1,4 +1,4 @@
-//! An entry taken out, as a call that is counted.
+//! Removes an entry, as a counted call.
 
 ghost use Rattle.std.specs.Prelude.{◌≡◌, ◌<◌, length};
 ghost use Rattle.heap_model.specs.Lending.{KeepsLoan};
@@ -12,7 +12,8 @@ use db_format::entry_offset;
 use heap_model::Db;
 use mem_manager::{Found, Heap};
 
-/// Takes the entry at an index out; those behind it move down by one. The modification number is raised.
+/// Removes the entry at an index; those after it move down by one. The modification number is
+/// raised.
 #[inline(always)]
 pub fn remove_entry(heap: &mut Heap, db: Db, chunk: Found, index: u16)
     requires stands { StandsAs heap.old.bytes db.0 chunk }

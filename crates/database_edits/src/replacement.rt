@@ -1,4 +1,4 @@
-//! An entry written in place of another, and an entry moved, as calls that may be counted.
+//! Writes an entry in place of another, or moves an entry, as calls that may be counted.
 
 ghost use Rattle.std.specs.Prelude.{◌≡◌, ◌<◌, ◌≤◌, length};
 ghost use Rattle.heap_model.specs.Lending.{KeepsLoan};
@@ -13,7 +13,8 @@ use db_format::DbEntry;
 use heap_model::Db;
 use mem_manager::{Found, Heap};
 
-/// Writes an entry in place of the one at an index. The modification number is raised if `counts` says so.
+/// Writes an entry in place of the one at an index. If `counts` is true, the modification number is
+/// raised.
 #[inline(always)]
 pub fn write_entry(heap: &mut Heap, db: Db, chunk: Found, index: u16, entry: DbEntry, counts: bool)
     requires stands { StandsAs heap.old.bytes db.0 chunk }
@@ -31,8 +32,8 @@ pub fn write_entry(heap: &mut Heap, db: Db, chunk: Found, index: u16, entry: DbE
     writing::write_entry(heap, db, chunk, index, entry);
 }
 
-/// Moves the entry at an index in front of the one that stands at another, or behind the last: `to` counts
-/// the entries as they stand before. The modification number is raised.
+/// Moves the entry at index `from` before the one at index `to`, or after the last. `to` is an
+/// index from before the move. The modification number is raised.
 pub fn move_entry(heap: &mut Heap, db: Db, chunk: Found, from: u16, to: u16)
     requires stands { StandsAs heap.old.bytes db.0 chunk }
     requires spells { SpellsHere heap.old.bytes db.0 }

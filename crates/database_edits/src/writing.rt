@@ -1,4 +1,4 @@
-//! An entry written in place of another.
+//! Writes an entry in place of another.
 
 ghost use Rattle.std.specs.Prelude.{◌≡◌, ◌<◌, length};
 ghost use Rattle.heap_model.specs.Lending.{KeepsLoan};

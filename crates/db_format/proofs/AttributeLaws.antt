@@ -19,7 +19,7 @@ same_test zero more below = ap (λ (n : ℕ). n == more + 1) (none_of (more + 1)
 same_test (suc zero) more below = eq-eqb (1 * (more + 1)) (more + 1) (one_of (more + 1))
 same_test (suc (suc bit)) more below = absurd (omega arith)
 
--- a bit is set where its mask leaves the mask
+-- a bit is set if its mask leaves the mask
 by_mask : (k more attributes : ℕ) → 2 ^ k ≡ more + 1 → (bit_and attributes (2 ^ k) == more + 1) ≡ (bit_at attributes k == 1)
 by_mask k more attributes is =
     ap (λ (x : ℕ). x == more + 1) (and_pow attributes k) ∙ ap (λ (m : ℕ). bit_at attributes k * m == more + 1) is

@@ -21,7 +21,7 @@ over_piece front piece back new at at_is same =
     ∙ ap (λ (xs : List ℕ). front ++ new ++ xs) (drop-append-add front (piece ++ back) (length new) ∙ drop_at piece back (length new) same)
     ∙ append_assoc front new back
 
--- ---- the fields in front of one
+-- ---- the fields before one
 
 length-two : (n : ℕ) → length (u16_bytes n) ≡ 2
 unfolding u16_bytes
@@ -31,7 +31,7 @@ length-four : (n : ℕ) → length (u32_bytes n) ≡ 4
 unfolding u32_bytes
 length-four n = refl
 
--- behind a front come a field of four bytes, and then the fields behind that
+-- after a prefix come a field of four bytes, and then the fields after that
 four_more : (front : List ℕ) (n at : ℕ) → length front ≡ at → length (front ++ u32_bytes n) ≡ at + 4
 four_more front n at len = length-append front (u32_bytes n) ∙ (let four = length-four n in omega arith)
 
@@ -54,7 +54,7 @@ unfolding to_creator
 length-to_creator h app sort name =
     four_more _ h.creator 64 (four_more _ h.kind 60 (four_more _ sort 56 (four_more _ app 52 (four_more _ h.modification_number 48 (length-to_backup h name)))))
 
--- what stands behind the modification number, and behind the seed
+-- the fields after the modification number, and after the seed
 behind_number : DatabaseHeader → ℕ → ℕ → ℕ → List ℕ
 behind_number h app sort count = u32_bytes app ++ (u32_bytes sort ++ (u32_bytes h.kind ++ (u32_bytes h.creator ++ (u32_bytes h.seed ++ (u32_bytes 0 ++ (u16_bytes count ++ []))))))
 
@@ -62,7 +62,7 @@ by_number : (h : DatabaseHeader) (app sort count : ℕ) → bytes_by h app sort 
 unfolding bytes_by fields to_backup behind_number
 by_number h app sort count = simp append_assoc
 
--- what stands behind the slot of the SortInfo block
+-- the fields after the slot of the SortInfo block
 behind_sort : DatabaseHeader → ℕ → List ℕ
 behind_sort h count = u32_bytes h.kind ++ (u32_bytes h.creator ++ (u32_bytes h.seed ++ (u32_bytes 0 ++ (u16_bytes count ++ []))))
 

@@ -40,7 +40,7 @@ header_read h bytes a b c d e f g app sort i j k count = record {
 pub name_put : (name front rest : List ℕ) → IsDatabaseName name → front ≡ name_field name → take 32 (front ++ rest) ≡ name_field name
 name_put name front rest name_is is = take_at front rest 32 (ap length is ∙ length-name_field name name_is) ∙ is
 
--- the fields behind the name, by the values in them
+-- the fields after the name, by the values in them
 unfoldable pub fields : DatabaseHeader → ℕ → ℕ → ℕ → List (List ℕ)
 fields h app sort count =
     u16_bytes h.attributes ∷ u16_bytes h.version ∷ u32_bytes h.creation_date ∷ u32_bytes h.modification_date ∷ u32_bytes h.backup_date ∷ u32_bytes h.modification_number

@@ -15,7 +15,7 @@ no_zero byte = not (byte == 0)
 onto : ℕ → List ℕ → List ℕ
 onto x xs = x ∷ xs
 
--- the bytes in front of the first zero, of so many
+-- the bytes before the first zero, and at most `most` of them
 front_is : (most n : ℕ) (bytes : List ℕ) → n ≤ most → most ≤ length bytes → ((k : ℕ) → k < n → get_or bytes k 0 ≢ 0) → (n < most → get_or bytes n 0 ≡ 0) → take_while no_zero (take most bytes) ≡ take n bytes
 unfolding no_zero onto
 front_is zero zero bytes upto long before behind = refl

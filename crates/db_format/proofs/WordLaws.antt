@@ -23,7 +23,7 @@ pub u32_at_part : (number at : ℕ) (bytes : List ℕ) → number ≡ big_number
 unfolding u32_at
 u32_at_part number at bytes read = read ∙ number_of_part 4 at bytes
 
--- the number in three bytes is what the number with the byte in front of them leaves
+-- the number in three bytes, from the number of four bytes that begins one byte before them
 pub u24_of_u32 : (bytes : List ℕ) (at : ℕ) → AreBytes bytes → 1 ≤ at
     → bit_and (u32_at bytes (at - 1)) 0xFF_FFFF ≡ u24_at bytes at
 unfolding u24_at u32_at
@@ -77,14 +77,14 @@ u8_put (x ∷ old) (suc at) byte within = let e : suc at + 1 ≡ suc (at + 1) = 
 pub put_alone : (new part : List ℕ) (count : ℕ) → take count new ≡ part → length new ≡ count → new ≡ part
 put_alone new part count front len = sym (take_all count new (omega arith)) ∙ front
 
--- numbers that were put one behind the other, up to the end
+-- numbers that were put one after the other, up to the end
 pub put_twice : (b1 b2 : List ℕ) (i j : ℕ) (xs ys : List ℕ) → take i b1 ≡ xs → take j b2 ≡ take i b1 ++ ys → length b2 ≡ j → b2 ≡ xs ++ ys
 put_twice b1 b2 i j xs ys one two len = sym (take_all j b2 (omega arith)) ∙ two ∙ ap (λ (zs : List ℕ). zs ++ ys) one
 
 pub put_thrice : (b1 b2 b3 : List ℕ) (i j k : ℕ) (xs ys zs : List ℕ) → take i b1 ≡ xs → take j b2 ≡ take i b1 ++ ys → take k b3 ≡ take j b2 ++ zs → length b3 ≡ k → b3 ≡ xs ++ (ys ++ zs)
 put_thrice b1 b2 b3 i j k xs ys zs one two three len = put_twice b2 b3 j k (xs ++ ys) zs (two ∙ ap (λ (ws : List ℕ). ws ++ ys) one) three len ∙ append_assoc xs ys zs
 
--- so many bytes are a front and then these parts
+-- the first `count` bytes are a prefix and then these parts
 pub record Begins (bytes : List ℕ) (count : ℕ) (front : List ℕ) (parts : List (List ℕ)) : Type 0 where
   pub is : take count bytes ≡ front ++ concat parts
 

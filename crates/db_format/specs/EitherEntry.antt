@@ -1,4 +1,4 @@
--- Entries of either kind, as those of a database.
+-- Entries of either kind, as entries of a database.
 use Rattle.std.specs.Prelude.{◌≤◌, ⊤, ℕ, Bool, true, false}
 use Rattle.heap_model.specs.Database.{Entry}
 use Rattle.heap_model.specs.UniqueIds.{greatest_id}
@@ -14,7 +14,7 @@ abbrev pub is_resource : DbEntry → Bool
 is_resource (Record entry) = false
 is_resource (Resource entry) = true
 
--- a record's ID has room in its field
+-- a record's ID fits its field
 abbrev pub HasFittingId : DbEntry → Type 0
 HasFittingId (Record entry) = entry.id ≤ greatest_id
 HasFittingId (Resource entry) = ⊤

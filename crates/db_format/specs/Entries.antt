@@ -1,4 +1,4 @@
--- The entries that are read and written, as those of a database.
+-- The entries that are read and written, as entries of a database.
 use Rattle.std.specs.Prelude.{◌≡◌, ◌<◌, ℕ, Bool, List, length, slice_set}
 use Rattle.heap_model.specs.Bytes.{overwritten}
 use Rattle.heap_model.specs.Database.{Database, Entry, a_record, a_resource, has_resources, IsSpelled, entry_offset}
@@ -12,12 +12,12 @@ record_of entry = a_record entry.attributes.0 entry.id entry.slot
 abbrev pub resource_of : ResourceEntry → Entry ℕ
 resource_of entry = a_resource entry.kind entry.id entry.slot
 
--- a database with this entry in place of the one of an index
+-- the database with this entry at an index, instead of its own
 abbrev pub with_entry : Database ℕ → ℕ → Entry ℕ → Database ℕ
 with_entry database index entry = record database { entries = slice_set database.entries index entry }
 
--- Written where an entry stands, these bytes put this entry in its place: the database that is spelled
--- then has this one there, and all else of it is as it was. The database holds resources, or else records.
+-- If these bytes are written over an entry of a database, the database has this entry there, and
+-- stays the same otherwise. The database has resources, or else records.
 abbrev pub WritesEntry : Bool → Entry ℕ → List ℕ → Type 0
 WritesEntry resources entry bytes =
     (database : Database ℕ) (body : List ℕ) (index : ℕ) → IsSpelled database body → has_resources database.header.attributes ≡ resources → index < length database.entries

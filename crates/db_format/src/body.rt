@@ -1,4 +1,4 @@
-//! What is asked of the bytes of a database without the rest of its header.
+//! Reads single fields of a database's header from its bytes.
 
 ghost use Rattle.std.specs.Prelude.{◌≡◌, ◌≤◌, ◌↔◌, length, IsTrue};
 ghost use Rattle.heap_model.specs.Bytes.{u16_at, u32_at};
@@ -14,10 +14,10 @@ use crate::fields::{
 };
 use crate::words::{u16_in, u32_in};
 
-/// The most databases that a store may have.
+/// The greatest number of databases that a store may have.
 pub const MOST_DATABASES: u32 = 1024;
 
-/// The attributes of a database.
+/// Returns the attributes of a database.
 #[inline]
 pub fn attributes(bytes: &[u8]) -> u16
     requires { header_size ≤ length bytes.now }
@@ -26,7 +26,7 @@ pub fn attributes(bytes: &[u8]) -> u16
     u16_in(bytes, ATTRIBUTES_AT)
 }
 
-/// Whether the entries of a database are resources, and else records.
+/// Returns whether the entries of a database are resources. Otherwise they are records.
 #[inline]
 pub fn has_resources(bytes: &[u8]) -> bool
     requires { header_size ≤ length bytes.now }
@@ -35,7 +35,7 @@ pub fn has_resources(bytes: &[u8]) -> bool
     DbAttrs(attributes(bytes)).has_resources()
 }
 
-/// The slot of the AppInfo block, or 0.
+/// Returns the slot of the AppInfo block, or 0 if there is none.
 #[inline]
 pub fn app_info(bytes: &[u8]) -> u32
     requires { header_size ≤ length bytes.now }
@@ -44,7 +44,7 @@ pub fn app_info(bytes: &[u8]) -> u32
     u32_in(bytes, APP_INFO_AT)
 }
 
-/// The slot of the SortInfo block, or 0.
+/// Returns the slot of the SortInfo block, or 0 if there is none.
 #[inline]
 pub fn sort_info(bytes: &[u8]) -> u32
     requires { header_size ≤ length bytes.now }
@@ -53,7 +53,7 @@ pub fn sort_info(bytes: &[u8]) -> u32
     u32_in(bytes, SORT_INFO_AT)
 }
 
-/// The field of the seed of the unique IDs.
+/// Returns the whole field of the seed of the unique IDs.
 #[inline]
 pub fn seed(bytes: &[u8]) -> u32
     requires { header_size ≤ length bytes.now }
@@ -62,7 +62,7 @@ pub fn seed(bytes: &[u8]) -> u32
     u32_in(bytes, SEED_AT)
 }
 
-/// The modification number.
+/// Returns the modification number.
 #[inline]
 pub fn modification_number(bytes: &[u8]) -> u32
     requires { header_size ≤ length bytes.now }
@@ -71,7 +71,7 @@ pub fn modification_number(bytes: &[u8]) -> u32
     u32_in(bytes, MODIFICATION_NUMBER_AT)
 }
 
-/// How many entries there are.
+/// Returns the number of entries in the header.
 #[inline]
 pub fn entry_count(bytes: &[u8]) -> u16
     requires { header_size ≤ length bytes.now }
@@ -80,7 +80,7 @@ pub fn entry_count(bytes: &[u8]) -> u16
     u16_in(bytes, ENTRY_COUNT_AT)
 }
 
-/// Where the list of entries goes on in a file: 0, since it goes on nowhere.
+/// Returns the field for the offset of a further list of entries. It is 0 in valid databases.
 #[inline]
 pub fn next_list(bytes: &[u8]) -> u32
     requires { header_size ≤ length bytes.now }
@@ -89,7 +89,8 @@ pub fn next_list(bytes: &[u8]) -> u32
     u32_in(bytes, NEXT_LIST_AT)
 }
 
-/// Where the entries end that the header says there are, in bytes from its start.
+/// Returns the offset at which the last entry ends, in bytes from the header's start. The number
+/// of entries is the one in the header.
 #[inline]
 pub fn entries_end(bytes: &[u8]) -> usize
     requires { header_size ≤ length bytes.now }
@@ -98,8 +99,8 @@ pub fn entries_end(bytes: &[u8]) -> usize
     entry_offset(has_resources(bytes), entry_count(bytes))
 }
 
-/// Whether the bytes are a header, whose list of entries goes on nowhere, and then as many entries as it
-/// says. Where they are, and the header has a name (`has_name`), they spell a database.
+/// Returns whether the bytes are a header and exactly as many entries as the header has, with no
+/// further list of entries. If they also have a name (`has_name`), they spell a database.
 pub fn is_whole(bytes: &[u8]) -> bool
     ensures { IsTrue result ↔ IsWhole bytes.now }
 {

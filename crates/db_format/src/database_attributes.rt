@@ -6,16 +6,16 @@ ghost use Rattle.db_format.specs.Attributes.{database_bits};
 
 use bitflags::{Flag, Flags, bitflag_items};
 
-/// The attributes of a database (Palm OS File Format Specification, "PDB Format"). They are a set by the
-/// methods of `bitflags::Flags`, and bits that have no name here are kept.
+/// The attributes of a database (Palm OS File Format Specification, "PDB Format"). They are a set
+/// with the methods of `bitflags::Flags`. Bits without a name here are kept.
 #[derive(Clone, Copy)]
 pub struct DbAttrs(pub u16);
 
 bitflag_items! {
     impl DbAttrs: u16 {
-        /// The entries are resources, and else records.
+        /// The entries are resources. Without this bit they are records.
         const RESOURCE = 0x0001;
-        /// The database is read and not written.
+        /// The database may be read, but not written.
         const READ_ONLY = 0x0002;
     }
 }
@@ -43,7 +43,7 @@ impl Flags for DbAttrs {
 }
 
 impl DbAttrs {
-    /// Whether the entries are resources, and else records.
+    /// Returns whether the entries are resources. Otherwise they are records.
     #[inline]
     #[tactic(auto, using(crate::proofs::AttributeLaws::resources_by_mask))]
     pub fn has_resources(self) -> bool
@@ -52,7 +52,7 @@ impl DbAttrs {
         self.contains(DbAttrs::RESOURCE)
     }
 
-    /// Whether the database is read and not written.
+    /// Returns whether the database may be read, but not written.
     #[inline]
     #[tactic(auto, using(crate::proofs::AttributeLaws::read_only_by_mask))]
     pub fn is_read_only(self) -> bool
@@ -61,7 +61,7 @@ impl DbAttrs {
         self.contains(DbAttrs::READ_ONLY)
     }
 
-    /// These attributes, but whether there are resources is as in others.
+    /// Returns these attributes with the `RESOURCE` bit of `other`.
     #[tactic(auto, using(crate::proofs::AttributeLaws::kind_by_mask))]
     pub fn with_kind_of(self, other: DbAttrs) -> DbAttrs
         ensures { result.0 ≡ databases.with_resources_of other.0 self.0 }

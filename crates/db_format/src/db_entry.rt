@@ -11,7 +11,7 @@ use crate::body::has_resources;
 use crate::entries::{RecordEntry, ResourceEntry};
 use crate::entry_bytes::EntryBytes;
 
-/// The entry of a record or of a resource. A database has one kind of them alone.
+/// The entry of a record or of a resource. All entries of one database are of the same kind.
 #[derive(Clone, Copy)]
 pub enum DbEntry {
     Record(RecordEntry),
@@ -19,7 +19,7 @@ pub enum DbEntry {
 }
 
 impl DbEntry {
-    /// The entry of an index, of the kind that the header says.
+    /// Reads the entry at an index. The header's attributes determine its kind.
     pub fn read(body: &[u8], index: u16) -> DbEntry
         requires header { header_size ≤ length body.now }
         requires inside { databases.entry_offset (resources_in body.now) (index + 1) ≤ length body.now }
@@ -34,7 +34,7 @@ impl DbEntry {
         }
     }
 
-    /// Whether the entry is a resource's, and else a record's.
+    /// Returns whether the entry is a resource's. Otherwise it is a record's.
     #[inline]
     pub fn is_resource(self) -> bool
         ensures { result ≡ is_resource self }
@@ -45,7 +45,7 @@ impl DbEntry {
         }
     }
 
-    /// The slot of the entry's data.
+    /// Returns the slot of the entry's data.
     #[inline]
     pub fn slot(self) -> u32
         ensures { result ≡ entry_data (entry_of self) }
@@ -56,7 +56,7 @@ impl DbEntry {
         }
     }
 
-    /// The bytes of the entry.
+    /// Returns the bytes of the entry.
     pub fn to_bytes(self) -> EntryBytes
         requires { HasFittingId self }
         ensures is { result ≡ entry_bytes (entry_of self) }

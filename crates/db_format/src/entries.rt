@@ -18,11 +18,12 @@ use bitflags::Flags;
 /// The greatest unique ID; the least is 1.
 pub const GREATEST_ID: u32 = 0xFF_FFFF;
 
-/// How many seeds there are: one is in the low 24 bits of its field, and a multiple of this stands above it.
+/// The number of seeds. A seed is in the low 24 bits of its field, so the upper 8 bits count
+/// multiples of this number.
 pub const SEEDS: u32 = GREATEST_ID + 1;
 
-/// The entry of a record (Palm OS File Format Specification, "PDB Format"), with the slot of its data
-/// where a file has an offset.
+/// The entry of a record (Palm OS File Format Specification, "PDB Format"). It has the slot of its
+/// data, and a file has an offset instead.
 #[derive(Clone, Copy, PartialEq, Eq, Debug)]
 pub struct RecordEntry {
     pub attributes: RecordAttrs,
@@ -32,8 +33,8 @@ pub struct RecordEntry {
     pub slot: u32,
 }
 
-/// The entry of a resource (Palm OS File Format Specification, "PRC Format"), with the slot of its
-/// data where a file has an offset.
+/// The entry of a resource (Palm OS File Format Specification, "PRC Format"). It has the slot of
+/// its data, and a file has an offset instead.
 #[derive(Clone, Copy, PartialEq, Eq, Debug)]
 pub struct ResourceEntry {
     /// The resource's type, its four bytes as a number.
@@ -44,7 +45,7 @@ pub struct ResourceEntry {
 }
 
 impl RecordEntry {
-    /// The entry of an index in the bytes of a database of records.
+    /// Reads the entry at an index from the bytes of a database of records.
     #[inline]
     pub fn read(body: &[u8], index: u16) -> RecordEntry
         requires inside { databases.entry_offset false (index + 1) ≤ length body.now }
@@ -60,7 +61,7 @@ impl RecordEntry {
         }
     }
 
-    /// The bytes of the entry.
+    /// Returns the bytes of the entry.
     #[inline(always)]
     pub fn to_bytes(self) -> [u8; 8]
         requires { self.id ≤ greatest_id }
@@ -76,7 +77,7 @@ impl RecordEntry {
 }
 
 impl ResourceEntry {
-    /// The entry of an index in the bytes of a database of resources.
+    /// Reads the entry at an index from the bytes of a database of resources.
     #[inline]
     pub fn read(body: &[u8], index: u16) -> ResourceEntry
         requires inside { databases.entry_offset true (index + 1) ≤ length body.now }
@@ -91,7 +92,7 @@ impl ResourceEntry {
         }
     }
 
-    /// The bytes of the entry.
+    /// Returns the bytes of the entry.
     #[inline(always)]
     pub fn to_bytes(self) -> [u8; 10]
         ensures is { result ≡ entry_bytes (resource_of self) }
@@ -105,7 +106,7 @@ impl ResourceEntry {
     }
 }
 
-/// The unique ID in the entry of a record.
+/// Returns the unique ID in the entry of a record.
 #[inline]
 pub fn record_id(body: &[u8], index: u16) -> u32
     requires inside { databases.entry_offset false (index + 1) ≤ length body.now }
@@ -116,7 +117,7 @@ pub fn record_id(body: &[u8], index: u16) -> u32
     u24_in(body, entry_offset(false, index) + RECORD_ID_AT)
 }
 
-/// The slot in the entry of an index, of whichever kind.
+/// Returns the slot in the entry at an index, of a resource or of a record.
 #[inline]
 pub fn entry_slot(body: &[u8], resources: bool, index: u16) -> u32
     requires inside { databases.entry_offset resources (index + 1) ≤ length body.now }

@@ -6,7 +6,7 @@ ghost use Rattle.heap_model.specs.DatabaseFields.{resource_size};
 use crate::fields::RESOURCE_SIZE;
 use std::marker::Model;
 
-/// The bytes of an entry, of a record's or of a resource's. Contracts see them as a list.
+/// The bytes of the entry of a record or of a resource. Contracts see them as a list.
 #[derive(Drop)]
 pub struct EntryBytes {
     bytes: [u8; 10],
@@ -24,7 +24,7 @@ impl Model for EntryBytes {
 }
 
 impl EntryBytes {
-    /// These bytes, which are at most those of a resource's entry.
+    /// Copies the bytes of an entry.
     pub(crate) fn of(entry: &[u8]) -> EntryBytes
         requires { length entry.now ≤ resource_size }
         ensures { result ≡ entry.now }
@@ -35,7 +35,7 @@ impl EntryBytes {
         EntryBytes { bytes, size }
     }
 
-    /// The bytes, in order.
+    /// Returns the bytes, in order.
     #[inline]
     pub fn as_slice(&self) -> &[u8]
         ensures { result.now ≡ self.now }

@@ -14,8 +14,9 @@ use crate::name::NameField;
 use crate::words::{put_u16, put_u32, u16_in, u32_in};
 use heap_model::{DbInfo, DbName};
 
-/// The header of a database (Palm OS File Format Specification, "PDB Format"), with slots where a file
-/// has offsets. Where a file's list of entries could go on it has zeros, which are no field here.
+/// The header of a database (Palm OS File Format Specification, "PDB Format"), with slots instead
+/// of a file's offsets. The field for a further list of entries is always zero, and is left out
+/// here.
 #[derive(Clone, Copy)]
 pub struct DbHeader {
     pub name: NameField,
@@ -29,9 +30,9 @@ pub struct DbHeader {
     pub app_info: u32,
     /// The slot of the SortInfo block, or 0.
     pub sort_info: u32,
-    /// The database's type, its four bytes as a number.
+    /// The database's type: its four bytes as a number.
     pub kind: u32,
-    /// Its creator, likewise.
+    /// The database's creator: its four bytes as a number.
     pub creator: u32,
     /// The seed of the unique IDs of records.
     pub seed: u32,
@@ -39,8 +40,8 @@ pub struct DbHeader {
 }
 
 impl DbHeader {
-    /// The header at the front of the bytes of a database. They need be in no shape but that there is a
-    /// name.
+    /// Reads the header at the start of the bytes of a database. The bytes need a name, and need
+    /// not be valid otherwise.
     pub fn read(bytes: &[u8]) -> DbHeader
         requires header { header_size ≤ length bytes.now }
         requires name { IsDatabaseName (name_in bytes.now) }
@@ -63,7 +64,7 @@ impl DbHeader {
         }
     }
 
-    /// What the header tells callers: all but the slots of the info blocks.
+    /// Returns the values of the header that callers see: all but the slots of the info blocks.
     pub fn info(&self) -> DbInfo
         ensures { result ≡ info_told self.now }
     {
@@ -82,7 +83,7 @@ impl DbHeader {
         }
     }
 
-    /// The bytes of the header.
+    /// Returns the bytes of the header.
     pub fn to_bytes(&self) -> [u8; HEADER_SIZE]
         ensures is { (database : Database ℕ) → HasHeader database self.now → result ≡ header_bytes database }
         ensures written { WritesHeader self.now result }
@@ -105,7 +106,7 @@ impl DbHeader {
     }
 }
 
-/// The bytes of a header with a name and nothing else yet.
+/// Returns the bytes of a header that has a name and zeros in all other fields.
 fn begin_with(name: NameField) -> [u8; HEADER_SIZE]
     ensures front { take name_size result ≡ name_field name }
     ensures valid { IsDatabaseName name }

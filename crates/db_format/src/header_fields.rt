@@ -9,7 +9,7 @@ use crate::fields::{APP_INFO_AT, SORT_INFO_AT};
 use crate::words::{put_u16, put_u32};
 use heap_model::Which;
 
-/// The bytes of a modification number, to be written at `MODIFICATION_NUMBER_AT`.
+/// Returns the bytes of a modification number. Write them at `MODIFICATION_NUMBER_AT`.
 #[inline]
 pub fn modification_number_bytes(number: u32) -> [u8; 4]
     ensures { WritesField modification_number_at result (HasModificationNumber number) }
@@ -19,7 +19,7 @@ pub fn modification_number_bytes(number: u32) -> [u8; 4]
     bytes
 }
 
-/// The bytes of the field of a seed, to be written at `SEED_AT`.
+/// Returns the bytes of the field of a seed. Write them at `SEED_AT`.
 #[inline]
 pub fn seed_bytes(seed: u32) -> [u8; 4]
     ensures { WritesField seed_at result (HasSeed seed) }
@@ -29,7 +29,7 @@ pub fn seed_bytes(seed: u32) -> [u8; 4]
     bytes
 }
 
-/// The bytes of a number of entries, to be written at `ENTRY_COUNT_AT`.
+/// Returns the bytes of a number of entries. Write them at `ENTRY_COUNT_AT`.
 #[inline]
 pub fn entry_count_bytes(count: u16) -> [u8; 2]
     ensures { WritesField entry_count_at result (HasEntryCount count) }
@@ -39,7 +39,7 @@ pub fn entry_count_bytes(count: u16) -> [u8; 2]
     bytes
 }
 
-/// The bytes of the slot of an info block, or of 0 for none, to be written where `info_block_at` says.
+/// Returns the bytes of the slot of an info block, or of 0 for none. Write them at `info_block_at`.
 #[inline]
 pub fn info_block_bytes(slot: u32) -> [u8; 4]
     ensures { (which : Which) → WritesField (headers.info_block_at which) result
@@ -50,7 +50,7 @@ pub fn info_block_bytes(slot: u32) -> [u8; 4]
     bytes
 }
 
-/// Where the slot of an info block stands, in bytes from the header's start.
+/// Returns the offset of the slot of an info block, in bytes from the header's start.
 #[inline]
 pub fn info_block_at(which: Which) -> usize
     ensures { result ≡ headers.info_block_at which }

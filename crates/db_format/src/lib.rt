@@ -1,5 +1,5 @@
-//! The header of a database and its entries: read off the bytes of its chunk, and as bytes to write
-//! there.
+//! The header of a database and its entries: read from the bytes of its chunk, and as bytes to
+//! write there.
 //!
 //! ```text
 //!  0              name, and zeros up to the end of its field
@@ -12,11 +12,13 @@
 //!                  of a resource u32 type, u16 id, u32 slot
 //! ```
 //!
-//! The numbers are big-endian. A reader takes the bytes as a slice, which a heap lends; what is to be
-//! written comes as a small array, since no slice is lent over a write. To change a field, read the
-//! header or the entry, set the field, and write the bytes of the whole back; the modification number, the
-//! seed, the number of entries and the slot of an info block have bytes of their own too. `specs/Headers.antt` and
-//! `specs/Entries.antt` say what such a write does to the database: start there.
+//! The numbers are big-endian. A reader takes the bytes as a slice, which a heap lends. The bytes
+//! to write come as a small array, since no slice stays lent during a write.
+//!
+//! To change a field, read the header or the entry, set the field, and write all its bytes back.
+//! The modification number, the seed, the number of entries and the slot of an info block can also
+//! be written alone. Start with `specs/Headers.antt` and `specs/Entries.antt`: they define what
+//! these writes do to the database.
 #![tactic(auto)]
 
 mod body;

@@ -8,8 +8,8 @@ ghost use Rattle.heap_model.specs.Database as databases;
 use crate::fields::NAME_SIZE;
 use std::marker::Model;
 
-/// The name of a database in its field of 32 bytes, zeros behind it. Contracts see the name alone: 1 to
-/// 31 bytes, none of them zero.
+/// The name of a database in its field of 32 bytes, followed by zeros. Contracts see only the name:
+/// 1 to 31 bytes, none of them zero.
 #[derive(Clone, Copy)]
 pub struct NameField {
     bytes: [u8; 32],
@@ -32,7 +32,7 @@ impl Model for NameField {
     ghost inverse_ok = { λ a h. ap (λ (bytes : List ℕ). record { bytes = bytes }) (sym h.field) };
 }
 
-/// How many bytes stand in front of the first zero, and 31 at most.
+/// Returns the number of bytes before the first zero, and at most 31.
 #[inline]
 fn name_length(bytes: &[u8]) -> usize
     requires { name_size ≤ length bytes.now }
@@ -48,7 +48,7 @@ fn name_length(bytes: &[u8]) -> usize
     NAME_SIZE - 1
 }
 
-/// The name in a header: the bytes in front of the first zero, and 31 of them at most.
+/// Returns the name in a header: the bytes before the first zero, and at most 31 of them.
 #[inline]
 pub fn name_in(bytes: &[u8]) -> &[u8]
     requires { name_size ≤ length bytes.now }
@@ -58,7 +58,7 @@ pub fn name_in(bytes: &[u8]) -> &[u8]
     &bytes[..length]
 }
 
-/// Whether these bytes are the name of a database: 1 to 31, none of them zero.
+/// Returns whether these bytes are the name of a database: 1 to 31 bytes, none of them zero.
 pub fn is_name(name: &[u8]) -> bool
     ensures { IsTrue result ↔ IsDatabaseName name.now }
 {
@@ -71,7 +71,8 @@ pub fn is_name(name: &[u8]) -> bool
     !name.contains(&0)
 }
 
-/// Whether the field at the front has a name: its bytes, and zeros behind them.
+/// Returns whether the field at the start has a name: its bytes, and then zeros up to the end of
+/// the field.
 pub fn has_name(bytes: &[u8]) -> bool
     requires { name_size ≤ length bytes.now }
     ensures { IsTrue result ↔ HasName bytes.now }
@@ -85,7 +86,7 @@ pub fn has_name(bytes: &[u8]) -> bool
 }
 
 impl NameField {
-    /// The field of a name, or none where these bytes aren't one.
+    /// Returns the field of a name, or `None` if these bytes aren't a name.
     pub fn of_name(name: &[u8]) -> Option<NameField>
         ensures { SomeIff result (IsDatabaseName name.now) name.now }
     {
@@ -96,8 +97,8 @@ impl NameField {
         }
     }
 
-    /// The field of the name in a header. Where no zero ends that, the name has 31 bytes; what stands
-    /// behind it in the header is passed over.
+    /// Reads the field of the name in a header. If no zero ends the name, it has 31 bytes. The
+    /// bytes of the field after the first zero are ignored.
     pub fn read(bytes: &[u8]) -> NameField
         requires field { name_size ≤ length bytes.now }
         requires name { IsDatabaseName (databases.name_in bytes.now) }
@@ -106,7 +107,7 @@ impl NameField {
         padded(name_in(bytes))
     }
 
-    /// The name, without the zeros behind it.
+    /// Returns the name, without the zeros after it.
     pub fn name(&self) -> &[u8]
         ensures is { result.now ≡ self.now }
         ensures valid { IsDatabaseName self.now }
@@ -114,7 +115,7 @@ impl NameField {
         name_in(&self.bytes)
     }
 
-    /// The bytes of the field.
+    /// Returns the bytes of the field.
     pub fn to_bytes(self) -> [u8; 32]
         ensures is { result ≡ name_field self }
         ensures valid { IsDatabaseName self }
@@ -123,7 +124,7 @@ impl NameField {
     }
 }
 
-/// The field of a name.
+/// Returns the field of a name.
 fn padded(name: &[u8]) -> NameField
     requires { IsDatabaseName name.now }
     ensures { result ≡ name.now }

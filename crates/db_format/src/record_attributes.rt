@@ -8,11 +8,11 @@ ghost use Rattle.db_format.specs.Attributes.{record_bits};
 
 use bitflags::{Flag, Flags, bitflag_items};
 
-/// How many categories there are: they are numbered from 0.
+/// The number of categories. They are numbered from 0.
 pub const CATEGORIES: u8 = 16;
 
-/// The attributes of a record: four bits, and in the low four its category (Palm OS File Format
-/// Specification, "PDB Format"). They are a set by the methods of `bitflags::Flags`.
+/// The attributes of a record (Palm OS File Format Specification, "PDB Format"): four bits, and the
+/// category in the low four bits. They are a set with the methods of `bitflags::Flags`.
 #[derive(Clone, Copy, PartialEq, Eq, Debug)]
 pub struct RecordAttrs(pub u8);
 
@@ -20,11 +20,11 @@ bitflag_items! {
     impl RecordAttrs: u8 {
         /// The record is deleted. It may still have data, if it was archived.
         const DELETE = 0x80;
-        /// The record was changed since the last synchronization.
+        /// The record was changed after the last synchronization.
         const DIRTY = 0x40;
         /// A caller has the record in use.
         const BUSY = 0x20;
-        /// The record is shown only to who knows the password.
+        /// The record is shown only to users who know the password.
         const SECRET = 0x10;
         /// The bits of the category.
         const CATEGORY = 0x0F;
@@ -54,7 +54,7 @@ impl Flags for RecordAttrs {
 }
 
 impl RecordAttrs {
-    /// Whether the record is deleted.
+    /// Returns whether the record is deleted.
     #[inline]
     #[tactic(auto, using(crate::proofs::AttributeLaws::deleted_by_mask))]
     pub fn is_deleted(self) -> bool
@@ -63,7 +63,7 @@ impl RecordAttrs {
         self.contains(RecordAttrs::DELETE)
     }
 
-    /// The record's category, 0 to 15.
+    /// Returns the record's category, 0 to 15.
     #[inline]
     pub fn category(self) -> u8
         ensures { result ≡ words.category_of self.0 }
@@ -71,7 +71,7 @@ impl RecordAttrs {
         self.intersection(RecordAttrs::CATEGORY).bits()
     }
 
-    /// The same attributes with another category.
+    /// Returns the same attributes with another category.
     #[inline]
     pub fn with_category(self, category: u8) -> RecordAttrs
         requires { category < categories }

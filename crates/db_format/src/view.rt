@@ -1,4 +1,4 @@
-//! Databases, to be read.
+//! Databases that are read.
 
 ghost use Rattle.std.specs.Prelude.{◌≡◌, ◌<◌, false, true, Some, length, slice_get};
 ghost use Rattle.heap_model.specs.Database.{has_resources, IsSpelled, database_in};
@@ -10,7 +10,7 @@ use crate::database_attributes::DbAttrs;
 use crate::entries::{RecordEntry, ResourceEntry, record_id};
 use std::marker::Model;
 
-/// A database, as some bytes spell it. Contracts see the database.
+/// A database, read from the bytes that spell it. Contracts see the database.
 #[derive(Drop)]
 pub struct DatabaseView<'a> {
     bytes: &'a [u8],
@@ -28,7 +28,7 @@ impl<'a> Model for DatabaseView<'a> {
 }
 
 impl<'a> DatabaseView<'a> {
-    /// The database that these bytes spell.
+    /// Wraps the bytes that spell a database.
     #[inline]
     pub fn of(bytes: &'a [u8]) -> DatabaseView<'a>
         requires { IsSpelled (database_in bytes.now) bytes.now }
@@ -37,7 +37,7 @@ impl<'a> DatabaseView<'a> {
         DatabaseView { bytes }
     }
 
-    /// The attributes of the database.
+    /// Returns the attributes of the database.
     #[inline]
     pub fn attributes(&self) -> DbAttrs
         ensures { result.0 ≡ self.now.header.attributes }
@@ -45,7 +45,7 @@ impl<'a> DatabaseView<'a> {
         DbAttrs(body::attributes(self.bytes))
     }
 
-    /// How many entries it has.
+    /// Returns the number of its entries.
     #[inline]
     pub fn entry_count(&self) -> u32
         ensures { result ≡ length self.now.entries }
@@ -53,7 +53,7 @@ impl<'a> DatabaseView<'a> {
         body::entry_count(self.bytes) as u32
     }
 
-    /// The record of an index.
+    /// Returns the record at an index.
     #[inline]
     pub fn record(&self, index: u32) -> RecordEntry
         requires inside { index < length self.now.entries }
@@ -63,7 +63,7 @@ impl<'a> DatabaseView<'a> {
         RecordEntry::read(self.bytes, index as u16)
     }
 
-    /// The unique ID of the record of an index.
+    /// Returns the unique ID of the record at an index.
     #[inline]
     pub fn record_id(&self, index: u32) -> u32
         requires inside { index < length self.now.entries }
@@ -73,7 +73,7 @@ impl<'a> DatabaseView<'a> {
         record_id(self.bytes, index as u16)
     }
 
-    /// The resource of an index.
+    /// Returns the resource at an index.
     #[inline]
     pub fn resource(&self, index: u32) -> ResourceEntry
         requires inside { index < length self.now.entries }

@@ -6,7 +6,7 @@ ghost use Rattle.heap_model.specs.Bytes.{u16_at, u24_at, u32_at, u16_bytes, u24_
 use crate::entries::GREATEST_ID;
 use byteorder::{BigEndian, ByteOrder};
 
-/// The number in the two bytes at `at`.
+/// Reads the number in the two bytes at `at`.
 #[inline]
 #[tactic(auto, using(crate::proofs::WordLaws::u16_at_part))]
 pub(crate) fn u16_in(bytes: &[u8], at: usize) -> u16
@@ -16,8 +16,8 @@ pub(crate) fn u16_in(bytes: &[u8], at: usize) -> u16
     BigEndian::read_u16(&bytes[at..at + 2])
 }
 
-/// The number in the three bytes at `at`. The byte in front of them is read too, since one number of
-/// four bytes is read faster than three bytes.
+/// Reads the number in the three bytes at `at`. It also reads the byte before them, since reading
+/// one number of four bytes is faster.
 #[inline]
 #[tactic(auto, using(crate::proofs::WordLaws::u24_of_u32))]
 pub(crate) fn u24_in(bytes: &[u8], at: usize) -> u32
@@ -29,7 +29,7 @@ pub(crate) fn u24_in(bytes: &[u8], at: usize) -> u32
     u32_in(bytes, at - 1) & GREATEST_ID
 }
 
-/// The number in the four bytes at `at`.
+/// Reads the number in the four bytes at `at`.
 #[inline]
 #[tactic(auto, using(crate::proofs::WordLaws::u32_at_part))]
 pub(crate) fn u32_in(bytes: &[u8], at: usize) -> u32
@@ -39,7 +39,7 @@ pub(crate) fn u32_in(bytes: &[u8], at: usize) -> u32
     BigEndian::read_u32(&bytes[at..at + 4])
 }
 
-/// Writes a number of two bytes behind the first `at`, which stay as they are.
+/// Writes a number of two bytes at `at`. The first `at` bytes stay the same.
 #[inline]
 #[tactic(auto, using(crate::proofs::WordLaws::u16_put))]
 pub(crate) fn put_u16(bytes: &mut [u8], at: usize, n: u16)
@@ -51,7 +51,7 @@ pub(crate) fn put_u16(bytes: &mut [u8], at: usize, n: u16)
     BigEndian::write_u16(&mut bytes[at..at + 2], n);
 }
 
-/// Writes a number of three bytes behind the first `at`, which stay as they are.
+/// Writes a number of three bytes at `at`. The first `at` bytes stay the same.
 #[inline]
 #[tactic(auto, using(crate::proofs::WordLaws::u24_put))]
 pub(crate) fn put_u24(bytes: &mut [u8], at: usize, n: u32)
@@ -63,7 +63,7 @@ pub(crate) fn put_u24(bytes: &mut [u8], at: usize, n: u32)
     BigEndian::write_u24(&mut bytes[at..at + 3], n);
 }
 
-/// Writes a number of four bytes behind the first `at`, which stay as they are.
+/// Writes a number of four bytes at `at`. The first `at` bytes stay the same.
 #[inline]
 #[tactic(auto, using(crate::proofs::WordLaws::u32_put))]
 pub(crate) fn put_u32(bytes: &mut [u8], at: usize, n: u32)
@@ -75,7 +75,7 @@ pub(crate) fn put_u32(bytes: &mut [u8], at: usize, n: u32)
     BigEndian::write_u32(&mut bytes[at..at + 4], n);
 }
 
-/// Writes a byte behind the first `at`, which stay as they are.
+/// Writes a byte at `at`. The first `at` bytes stay the same.
 #[inline]
 #[tactic(auto, using(crate::proofs::WordLaws::u8_put))]
 pub(crate) fn put_u8(bytes: &mut [u8], at: usize, byte: u8)

@@ -1,4 +1,4 @@
-//! A chunk is filled while calls run.
+//! Fills a chunk while calls run.
 
 ghost use Rattle.std.specs.Prelude.{◌≡◌, IfOk, IfErr, None};
 ghost use Rattle.example_loans.specs.Filling.{FillsMeanwhile, IsWhy};
@@ -12,26 +12,28 @@ use thiserror::Error;
 /// Why a chunk wasn't filled.
 #[derive(Clone, Copy, Debug, Error)]
 pub(crate) enum NotFilled {
-    /// Its bytes couldn't be taken out.
+    /// The bytes of the chunk couldn't be taken out.
     #[error("{0}")]
     Refused(Refusal),
     /// The text is longer than the chunk.
     #[error("too long")]
     TooLong,
-    /// Memory for the replies was refused.
+    /// The allocation for the replies failed.
     #[error("out of memory")]
     OutOfMemory,
 }
 
-/// Takes the bytes of a locked chunk out, writes a text over the first of them, runs a list of calls, and puts the bytes
-/// back. Returns the reply to each call.
+/// Takes the bytes of a locked chunk out, writes a text over the first of them, runs a list of
+/// calls, and puts the bytes back. Returns the reply to each call.
 ///
 /// A loan can't be dropped, so it is put back before each return.
 ///
 /// # Errors
 ///
-/// `Refused` if the bytes can't be taken out; `TooLong` if the text is longer than the chunk. Then the store is as it was.
-/// `OutOfMemory` if memory for the replies was refused: no call was done, but the text was written.
+/// - `Refused`: the bytes can't be taken out. The store is as it was.
+/// - `TooLong`: the text is longer than the chunk. The store is as it was.
+/// - `OutOfMemory`: the allocation for the replies failed. No call was done, but the text was
+///   written.
 pub(crate) fn fill_meanwhile(
     alloc: Global,
     store: &mut Store,

@@ -1,7 +1,7 @@
-//! A use of loans, to be copied: one of two chunks is taken out and filled while a list of calls runs on the store, and
-//! then put back.
+//! An example of loans, to copy. It takes out the bytes of one of two chunks and fills them while a
+//! list of calls runs on the store. Then it puts them back.
 //!
-//! `fill_meanwhile` of `filling.rt` has a contract of its own: start there.
+//! `fill_meanwhile` in `filling.rt` has a contract of its own: start there.
 #![tactic(auto)]
 
 ghost use Rattle.std.specs.Prelude.{◌≡◌, IfOk, None};
@@ -19,10 +19,10 @@ use std::io;
 /// The owner of both chunks.
 const OWNER: u8 = 1;
 
-/// How many bytes each of them has.
+/// The number of bytes of each chunk.
 const SIZE: u32 = 16;
 
-/// What one of them is filled with.
+/// The text that fills one of the chunks.
 const TEXT: &[u8] = b"while calls run";
 
 fn main(rt: HostRuntime) -> Result<()> {
@@ -33,7 +33,7 @@ fn main(rt: HostRuntime) -> Result<()> {
     print_text(&rt, &store, note)
 }
 
-/// A store with two chunks, of which the first is locked.
+/// Makes a store with two chunks, and locks the first.
 fn two_chunks(alloc: Global) -> Result<(Store, Name, Name)>
     ensures { IfOk result (λ made. made.0.lent ≡ None) }
 {
@@ -44,7 +44,7 @@ fn two_chunks(alloc: Global) -> Result<(Store, Name, Name)>
     Ok((store, note, other))
 }
 
-/// The calls that run while the bytes of the first chunk are out.
+/// Returns the calls that run while the bytes of the first chunk are taken out.
 fn calls_on(note: Name, other: Name) -> [Call; 5] {
     [
         Call::Memory(MemoryCall::Read {
@@ -81,7 +81,7 @@ fn print_replies(rt: &impl Print, replies: &[Reply]) -> io::Result<()> {
     Ok(())
 }
 
-/// Prints the text that the first bytes of a chunk are.
+/// Prints the first bytes of a chunk as a text.
 fn print_text(rt: &impl Print, store: &Store, name: Name) -> Result<()> {
     let bytes = store.read(name, 0, TEXT.len() as u32)?;
     println!(rt; "{}", str::from_utf8(bytes)?)?;

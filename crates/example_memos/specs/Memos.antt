@@ -1,4 +1,4 @@
--- The calls that memos take.
+-- The calls that write a memo.
 use Rattle.std.specs.Prelude.{ℕ, List, [], ◌∷◌, true}
 use Rattle.heap_model.specs.StoreSteps.{Call}
 use Rattle.heap_model.specs.declared.call.Call.TheVariants.{Memory, Record}
@@ -6,7 +6,7 @@ use Rattle.heap_model.specs.declared.call.MemoryCall.TheVariants.{Lock, StrCopy,
 use Rattle.heap_model.specs.declared.call.RecordCall.TheVariants.{Release}
 use Rattle.example_memos.specs.declared.memos.Memo.{Memo}
 
--- the calls that write a text into a memo, and release its record as a dirty one
+-- the calls that write a text into a memo and release its record as dirty
 abbrev pub writing : Memo → List ℕ → List Call
 writing memo text =
     Memory (Lock memo.name)

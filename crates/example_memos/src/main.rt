@@ -1,7 +1,8 @@
-//! A use of the crates as libraries, to be copied: reads a database of memos from a PDB file into a blank image,
-//! adds a memo by a list of calls, and writes the database to a file again.
+//! An example to copy, which uses the crates as libraries. It reads a database of memos from a PDB
+//! file into a blank image, adds a memo by a list of calls, and writes the database to a file
+//! again.
 //!
-//! `write_memo` of `memos.rt` has a contract of its own: start there.
+//! `write_memo` in `memos.rt` has a contract of its own: start there.
 #![tactic(auto)]
 
 ghost use Rattle.std.specs.Prelude.{◌≡◌, IfOk, None};
@@ -18,8 +19,8 @@ use record_db::new_record;
 use std::alloc::Global;
 use std::io;
 
-/// A PDB file with one memo, `Buy milk`, of category 1: a header of 78 bytes, an entry of 8 bytes, two zeros, and
-/// the text.
+/// A PDB file with one memo, `Buy milk`, of category 1. It has a header of 78 bytes, an entry of 8
+/// bytes, two zeros, and the text.
 const FILE: &[u8] =
     b"MemoDB\0\0\0\0\0\0\0\0\0\0\0\0\0\0\0\0\0\0\0\0\0\0\0\0\0\0\0\0\0\0\0\0\0\0\0\0\0\0\0\0\0\0\
     \0\0\0\0\0\0\0\0\0\0\0\0DATAmemo\0\0\0\0\0\0\0\0\0\x01\0\0\0\x58\x01\0\0\x01\0\0Buy milk\0";
@@ -27,7 +28,7 @@ const FILE: &[u8] =
 /// The memo that is added.
 const TEXT: &[u8] = b"Call Anna";
 
-/// An index behind all records.
+/// An index after all records.
 const END: u32 = 0xFFFF;
 
 fn main(rt: HostRuntime) -> Result<()> {
@@ -49,7 +50,7 @@ fn blank_store(alloc: Global) -> Result<Store>
     }
 }
 
-/// Adds a memo, and answers the reply to each call that writes its text.
+/// Adds a memo, and returns the reply to each call that writes its text.
 fn add_memo(alloc: Global, store: &mut Store, db: Db) -> Result<Vec<Reply>>
     ensures { store.new.lent ≡ store.old.lent }
 {

@@ -1,4 +1,4 @@
-//! Databases of memos: each record is a text, which a zero ends.
+//! Databases of memos. Each record is a text that ends with a zero byte.
 
 ghost use Rattle.std.specs.Prelude.{◌≡◌, IfOk, OnErr};
 ghost use Rattle.heap_model.specs.Runs.{Run};
@@ -17,8 +17,12 @@ pub(crate) struct Memo {
     pub(crate) name: Name,
 }
 
-/// Writes the text of a memo that has room for it, and releases its record. Answers the reply to each call that
-/// it takes. Where memory is refused no call is done.
+/// Writes the text of a memo into its record, and releases the record. Returns the reply to each
+/// call. The record's data must have room for the text; else the call that writes it is refused.
+///
+/// # Errors
+///
+/// - `OutOfMemory`: an allocation failed. No call was done.
 pub(crate) fn write_memo(
     alloc: Global,
     store: &mut Store,

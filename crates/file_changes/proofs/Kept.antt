@@ -1,4 +1,5 @@
--- A file of which all is kept is the file that is written of its database, and of such a file all is kept.
+-- If all of a file is kept, it is the file that is written for its database. All of a written file
+-- is kept.
 use Rattle.std.proofs.Common.{◌≡◌, ◌≢◌, ℕ, ◌+◌, ◌-◌, ◌<◌, ◌≤◌, Bool, true, false, Option, List, ◌∷◌, ◌++◌, length, get_or, take, drop, map, refl, sym, ap, subst, ◌∙◌, arith, length-append, inl, inr}
 use Rattle.std.specs.Prelude.{All, nat_lt}
 use Rattle.std.specs.List.{flat_map}
@@ -144,7 +145,7 @@ seed_stays file d k same =
     let stay = ids_stay seed ids (subst (λ (xs : List ℕ). All (λ id. id ≢ 0) xs) same some) (subst (λ (xs : List ℕ). Distinct xs) same k.distinct) in
     (given_same _ _ seed ids (unique_ids d) ids k.reads.last_seed seed k.reads.ids stay).1
 
--- ---- how many entries there are, and where the first block stands in the new file
+-- ---- the number of entries, and the offset of the first block in the new file
 
 count_read : (file : List ℕ) (d : Database (Option (List ℕ))) → Reads file d → length d.entries ≡ entry_count_in file
 count_read file d reads =
@@ -157,9 +158,9 @@ first_read file d reads =
     ap (λ (r : Bool). entry_offset r (length d.entries) + 2) (resources_read file d reads)
     ∙ ap (λ (n : ℕ). entry_offset (resources_in file) n + 2) (count_read file d reads)
 
--- ---- the front of a file
+-- ---- the prefix of a file
 
--- the bytes up to the end of the entries spell what is read off the file
+-- the bytes up to the end of the entries spell what is read from the file
 pub record IsFront (file : List ℕ) : Type 0 where
   pub spells : spelled (database_in file) ≡ take (entries_end file) file
   pub fits : DatabaseFits (database_in file)
@@ -213,7 +214,7 @@ databases_same : (one other : Database ℕ) → one.header ≡ other.header → 
 unfolding whole
 databases_same one other p q r s = same_whole one.header other.header one.app_info other.app_info one.sort_info other.sort_info one.entries other.entries p q r s
 
--- where its blocks stand
+-- the places of its blocks
 blocks_stand : (file : List ℕ) (d : Database (Option (List ℕ))) → Reads file d → HasFiller file → IsInOrder file → AreTiled file (first_block d) (data_in d) (offsets_in file)
 blocks_stand file d reads filler order =
     let inside = offsets_inside file reads.good in

@@ -1,5 +1,5 @@
--- The entries of a database with the offsets that its file gives their data, next to the entries of a file that is read as
--- the database.
+-- The entries of a database with the offsets that its file gives their data, next to the entries of
+-- a file that is read as the database.
 use Rattle.std.proofs.Common.{◌≡◌, ℕ, zero, suc, ◌+◌, ◌^◌, ◌<◌, ◌≤◌, Bool, true, false, Option, Some, None, List, [], ◌∷◌, length, map, refl, sym, ap, subst, ◌∙◌, arith}
 use Rattle.std.specs.Prelude.{All}
 use Rattle.std.specs.List.{AllZip, filter_map}
@@ -34,7 +34,7 @@ same_record a b c x y z p q r = cc
 same_resource : (a b c x y z : ℕ) → a ≡ x → b ≡ y → c ≡ z → a_resource a b c ≡ a_resource x y z
 same_resource a b c x y z p q r = cc
 
--- ---- where nothing changes
+-- ---- if nothing changes
 
 pub entries_back : (at : ℕ) (es : List (Entry ℕ)) (ds : List (Entry (Option (List ℕ)))) → AllZip IsReadAs es ds → All IsIdle es → filter_map unique_id ds ≡ filter_map unique_id es → running at (map entry_data ds) ≡ map entry_data es
     → entries_with_offsets at (map idle_entry ds) ≡ es

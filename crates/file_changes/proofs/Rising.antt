@@ -26,7 +26,7 @@ rising_lower lower low [] less rising = tt
 rising_lower lower low (zero ∷ os) less rising = rising_lower lower low os less rising
 rising_lower lower low (suc at ∷ os) less rising = (let first = rising.0 in omega arith, rising.1)
 
--- one more in front
+-- one more before the others
 pub rising_more : (low at : ℕ) (rest : List ℕ) → 0 < at → low ≤ at → (AreRising low (at ∷ rest) ↔ AreRising at rest)
 rising_more low zero rest some less = absurd (omega arith)
 rising_more low (suc at) rest some less = (λ rising. rising.1, λ rising. (less, rising))

@@ -1,4 +1,4 @@
--- Blocks whose offsets rise stand one after the other, from the first of them up to the end of the file.
+-- Blocks whose offsets rise follow each other, from the first of them up to the end of the file.
 use Rattle.std.proofs.Common.{◌≡◌, ℕ, zero, suc, ◌+◌, ◌-◌, ◌<◌, ◌≤◌, Option, Some, None, List, [], ◌∷◌, ◌++◌, length, get_or, drop, map, refl, sym, ap, ◌∙◌, arith, length-drop}
 use Rattle.std.specs.Prelude.{slice_range, slice_index}
 use Rattle.std.specs.List.{range_with_len}
@@ -9,7 +9,8 @@ use Rattle.pdb_format.proofs.WrittenOffsets.{all_bytes, running}
 use Rattle.file_changes.specs.Changes.{AreRising}
 use Rattle.file_changes.proofs.Rising.{first_of, first_low, first_most, end_is}
 
--- these blocks, the first of which would stand at an offset, have these offsets, and their bytes are the rest of the file
+-- these blocks, the first of which would be at an offset, have these offsets, and their bytes are
+-- the rest of the file
 pub record AreTiled (file : List ℕ) (start : ℕ) (blocks : List (Option (List ℕ))) (offsets : List ℕ) : Type 0 where
   pub stand : running start blocks ≡ offsets
   pub cover : all_bytes blocks ≡ drop start file

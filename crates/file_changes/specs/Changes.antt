@@ -1,4 +1,5 @@
--- What of a file its canonical form does not keep. The words are in the order in which they are printed.
+-- The differences between a file and its canonical form. The words are in the order in which they
+-- are printed.
 use Rattle.std.specs.Prelude.{◌≡◌, ◌↔◌, ◌<◌, ◌≤◌, ◌+◌, ◌++◌, ◌||◌, ⊤, not, min, nat_lt, if◌then◌else◌, ℕ, zero, suc, Bool, true, false, List, [], ◌∷◌, length, take, filter, slice_range, Option, codes, IsTrue, IsFalse}
 use Rattle.std.specs.List.{fold}
 use Rattle.heap_model.specs.DatabaseFields.{name_size}
@@ -8,9 +9,10 @@ use Rattle.heap_model.specs.Files.{Reads, entries_end, idle_attributes, offsets_
 use Rattle.canonical_file.specs.Canonical.{IsCanonical}
 use Rattle.file_changes.specs.declared.changes.Changes.{Changes}
 
--- ---- what is kept
+-- ---- the properties that a canonical form has
 
--- an entry is not that of a busy record: without the busy bit its attributes are the same
+-- the entry is a resource, or a record that isn't busy: its attributes stay the same without the
+-- busy bit
 abbrev pub IsIdle : Entry ℕ → Type 0
 IsIdle (a_record attributes id at) = idle_attributes attributes ≡ attributes
 IsIdle (a_resource kind id at) = ⊤
@@ -19,11 +21,11 @@ IsIdle (a_resource kind id at) = ⊤
 abbrev pub NoneIsBusy : List ℕ → Type 0
 NoneIsBusy file = (index : ℕ) → index < entry_count_in file → IsIdle (entry_in file index)
 
--- where the first block begins, or where the file ends if there is none
+-- the offset of the first block, or the size of the file if there is none
 abbrev pub first_start : List ℕ → ℕ
 first_start file = fold min (length file) (filter (nat_lt 0) (offsets_in file))
 
--- filler: two zeros stand between the entries and the first block, and nothing else
+-- filler: there are exactly two zeros between the entries and the first block
 pub record HasFiller (file : List ℕ) : Type 0 where
   pub two : first_start file ≡ entries_end file + 2
   pub zeros : slice_range file (entries_end file) (entries_end file + 2) ≡ 0 ∷ 0 ∷ []
@@ -32,31 +34,33 @@ pub record HasFiller (file : List ℕ) : Type 0 where
 abbrev pub KeepsIds : List ℕ → Type 0
 KeepsIds file = (database : Database (Option (List ℕ))) → Reads file database → unique_ids database ≡ unique_ids (database_in file)
 
--- name: zeros stand after the name, up to the end of its field
+-- name: the name is followed by zeros, up to the end of its field
 abbrev pub HasPlainName : List ℕ → Type 0
 HasPlainName file = take name_size file ≡ name_field (name_in file)
 
--- Offsets rise. Those that are 0 are passed over; each other one is no less than a number, and than each before it.
+-- Offsets rise. An offset of 0 is ignored. Each other offset is at least `low`, and at least each
+-- offset before it.
 abbrev pub AreRising : ℕ → List ℕ → Type 0
 AreRising low [] = ⊤
 AreRising low (zero ∷ offsets) = AreRising low offsets
 AreRising low (suc at ∷ offsets) = (low ≤ suc at) × AreRising (suc at) offsets
 
--- order: the blocks stand in the order of the list, AppInfo first, then SortInfo, then the data of the entries
+-- order: the blocks are in the order of the list, AppInfo first, then SortInfo, then the data of
+-- the entries
 abbrev pub IsInOrder : List ℕ → Type 0
 IsInOrder file = AreRising 0 (offsets_in file)
 
 -- ---- what changes
 
--- a word is said of a file exactly if this is not kept
+-- a word is set exactly if the file doesn't have its property
 abbrev pub Says : Bool → Type 0 → Type 0
 Says word Kept = IsFalse word ↔ Kept
 
--- no word is said
+-- no word is set
 abbrev pub is_none : Changes → Bool
 is_none changes = not (changes.busy || (changes.filler || (changes.ids || (changes.name || changes.order))))
 
--- These are the changes of a file. If no word is said, the file is its canonical form, and else it is not.
+-- These are the changes of a file. The file is its canonical form exactly if no word is set.
 pub record AreChanges (file : List ℕ) (changes : Changes) : Type 0 where
   pub busy : Says changes.busy (NoneIsBusy file)
   pub filler : Says changes.filler (HasFiller file)
@@ -81,6 +85,6 @@ words_line changes =
     ++ (word changes.order (codes " order")
     ++ codes "\n")))))
 
--- the line that says what changes
+-- the line that lists the changes
 unfoldable pub changes_line : Changes → List ℕ
 changes_line changes = if is_none changes then codes "canonical\n" else words_line changes

@@ -1,4 +1,4 @@
--- The IDs that the records of a file are given, and what is known of them.
+-- The IDs that the records of a file get, and their properties.
 use Rattle.std.specs.Prelude.{◌<◌, ◌≤◌, ℕ, List, All}
 use Rattle.heap_model.specs.Lists.{Distinct}
 use Rattle.heap_model.specs.UniqueIds.{greatest_id, seed_in}

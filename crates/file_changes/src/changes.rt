@@ -15,23 +15,23 @@ use db_format::has_name;
 use file_ids::{GivenIds, give_ids_from};
 use std::alloc::AllocError;
 
-/// What changes in a file when it is rewritten. Each field has the word that stands for it in a listing.
+/// The changes of a file when it is rewritten. Each field has the name of its word in a listing.
 #[derive(Clone, Copy, Debug, PartialEq, Eq)]
 pub struct Changes {
-    /// A record is busy. In the new file it is not.
+    /// A record is busy. In the new file it is not busy.
     pub busy: bool,
-    /// Other bytes than two zeros stand between the entries and the first block.
+    /// The bytes between the entries and the first block are not exactly two zeros.
     pub filler: bool,
-    /// A record gets another ID. Its own is 0, or that of an earlier record.
+    /// A record gets another ID. Its own is 0, or the ID of an earlier record.
     pub ids: bool,
-    /// Other bytes than zeros stand after the name, in its field.
+    /// The bytes after the name, in its field, are not all zeros.
     pub name: bool,
-    /// The blocks do not stand in the order of the list.
+    /// The blocks are not in the order of the list.
     pub order: bool,
 }
 
 impl Changes {
-    /// Whether nothing changes.
+    /// Returns whether nothing changes.
     pub fn is_none(self) -> bool
         ensures { result ≡ words.is_none self }
     {
@@ -46,7 +46,7 @@ fn know_bytes(file: &[u8])
     let _file = file;
 }
 
-/// Returns what changes in a file without fault, of which these are the IDs that its records get.
+/// Returns the changes of a file without fault. `given` has the IDs that the file's records get.
 fn changes_by(file: &[u8], given: &GivenIds) -> Changes
     requires good { HasNoFault file.now }
     requires short { length file.now ≤ most_bytes }
@@ -63,8 +63,14 @@ fn changes_by(file: &[u8], given: &GivenIds) -> Changes
     }
 }
 
-/// Returns what changes in a file without fault when it is rewritten. Takes the memory that `file_ids` does, and none for
-/// the canonical form; the only error is that an allocation failed.
+/// Returns the changes of a file without fault when it is rewritten.
+///
+/// It allocates a set of IDs and the IDs of the records (see `file_ids`). It doesn't allocate the
+/// canonical form.
+///
+/// # Errors
+///
+/// - `AllocError`: if an allocation failed.
 pub fn find_changes<A: Allowance>(memory: &A, file: &[u8]) -> Result<Changes, AllocError>
     requires good { HasNoFault file.now }
     requires short { length file.now ≤ most_bytes }

@@ -1,4 +1,4 @@
-//! Entries that stay as they are.
+//! Entries that stay the same.
 
 ghost use Rattle.std.specs.Prelude.{◌≡◌, ◌↔◌, IsTrue, IsFalse, length};
 ghost use Rattle.heap_model.specs.Database.{database_in};
@@ -18,7 +18,7 @@ fn idle_attributes(attributes: RecordAttrs) -> u8
     attributes.difference(RecordAttrs::BUSY).bits()
 }
 
-/// Whether an entry is not that of a busy record.
+/// Returns whether an entry is a resource, or a record that isn't busy.
 fn is_idle(entry: DbEntry) -> bool
     ensures { IsTrue result ↔ IsIdle (entry_of entry) }
 {
@@ -28,7 +28,7 @@ fn is_idle(entry: DbEntry) -> bool
     }
 }
 
-/// Whether a record of a file is busy.
+/// Returns whether a record of a file is busy.
 pub(crate) fn has_busy(file: &[u8]) -> bool
     requires { HasNoFault file.now }
     ensures { IsFalse result ↔ NoneIsBusy file.now }
@@ -41,7 +41,7 @@ pub(crate) fn has_busy(file: &[u8]) -> bool
     false
 }
 
-/// Whether these IDs, one for each record of a file, are those that the file has.
+/// Returns whether these IDs, one for each record of a file, are the IDs in the file.
 pub(crate) fn keeps_ids(file: &[u8], ids: &[u32]) -> bool
     requires good { HasNoFault file.now }
     requires count { length ids.now ≡ length (unique_ids (database_in file.now)) }

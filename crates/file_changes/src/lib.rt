@@ -1,15 +1,16 @@
-//! What changes in a PDB or PRC file when it is rewritten, as an import and an export do.
+//! The changes of a PDB or PRC file when it is rewritten, as an import and an export do.
 //!
 //! ```text
 //! busy     a record is busy
-//! filler   other bytes than two zeros stand between the entries and the first block
+//! filler   the bytes between the entries and the first block are not exactly two zeros
 //! ids      a record gets another ID: its own is 0, or that of an earlier record
-//! name     other bytes than zeros stand after the name, in its field
-//! order    the blocks do not stand in the order of the list
+//! name     the bytes after the name, in its field, are not all zeros
+//! order    the blocks are not in the order of the list
 //! ```
 //!
-//! A file of which none of these holds is its canonical form, byte for byte, and no other file is. So nobody needs the
-//! canonical form to know whether a file has it. `specs/Changes.antt` defines the words: start there.
+//! If no word holds of a file, the file is its own canonical form, byte for byte. If a word holds,
+//! it isn't. So the changes of a file are found without its canonical form. Start with
+//! `specs/Changes.antt`, which defines the words.
 #![tactic(auto)]
 
 mod changes;

@@ -1,4 +1,4 @@
-//! The line that says what changes.
+//! The line that lists the changes.
 
 ghost use Rattle.std.specs.Prelude.{◌≡◌, is_ok};
 ghost use Rattle.palm_text.specs.Counted.{Writes};
@@ -10,7 +10,7 @@ use crate::changes::Changes;
 use palm_text::{Counted, Piece, WriteFault, put_all, put_pieces};
 use std::io::Write;
 
-/// Returns a word if it holds, and else nothing.
+/// Returns the word if `holds`, and no text otherwise.
 fn word(holds: bool, text: &'static [u8]) -> Piece<'static>
     ensures { piece_text result ≡ words.word holds text.now }
 {
@@ -21,7 +21,12 @@ fn word(holds: bool, text: &'static [u8]) -> Piece<'static>
     }
 }
 
-/// Writes the line that says what changes: `canonical` if nothing does, and else `changes` and the words for what does.
+/// Writes the line that lists the changes: `canonical` if there are none, and otherwise `changes`
+/// and a word for each change.
+///
+/// # Errors
+///
+/// - `WriteFault`: if a write failed, or took 0 bytes.
 #[tactic(auto, unfolding(crate::specs::Changes::changes_line))]
 pub fn put_changes<W: Write>(out: &mut Counted<W>, changes: Changes) -> Result<(), WriteFault>
     ensures { Writes W.contents out.old out.new (changes_line changes) (is_ok result) }
@@ -32,7 +37,7 @@ pub fn put_changes<W: Write>(out: &mut Counted<W>, changes: Changes) -> Result<(
     put_words(out, changes)
 }
 
-/// Writes `changes` and the words for what changes.
+/// Writes `changes` and a word for each change.
 #[tactic(auto, unfolding(crate::specs::Changes::words_line))]
 fn put_words<W: Write>(out: &mut Counted<W>, changes: Changes) -> Result<(), WriteFault>
     ensures { Writes W.contents out.old out.new (words.words_line changes) (is_ok result) }

@@ -1,4 +1,4 @@
-//! Where the blocks begin, and in which order.
+//! The offsets of the blocks, and their order.
 
 ghost use Rattle.std.specs.Prelude.{◌≡◌, ◌↔◌, ◌<◌, ◌≤◌, ◌∷◌, ℕ, List, IsTrue, IfSome, IfNone, length, filter, min, nat_lt};
 ghost use Rattle.std.specs.List.{fold};
@@ -9,7 +9,7 @@ ghost use Rattle.file_changes.specs.Changes.{HasFiller, IsInOrder};
 use db_format::entries_end;
 use pdb_format::{offset_of, rank_count};
 
-/// Returns the lesser of two offsets, of which the second one is passed over if it is 0.
+/// Returns the lesser of two offsets. The second one is ignored if it is 0.
 fn lesser(first: usize, at: u32) -> usize
     ensures { (rest : List ℕ) → fold min first (filter (nat_lt 0) (at ∷ rest))
         ≡ fold min result (filter (nat_lt 0) rest) }
@@ -18,7 +18,7 @@ fn lesser(first: usize, at: u32) -> usize
     if at != 0 && at < first { at } else { first }
 }
 
-/// Returns where the first block begins. If there is none, returns where the file ends.
+/// Returns the offset of the first block. If there is none, returns the size of the file.
 fn first_start(file: &[u8]) -> usize
     requires { HasNoFault file.now }
     ensures is { result ≡ words.first_start file.now }
@@ -31,7 +31,7 @@ fn first_start(file: &[u8]) -> usize
     first
 }
 
-/// Whether two zeros stand between the entries and the first block, and nothing else.
+/// Returns whether there are exactly two zeros between the entries and the first block.
 pub(crate) fn has_filler(file: &[u8]) -> bool
     requires good { HasNoFault file.now }
     ensures { IsTrue result ↔ HasFiller file.now }
@@ -43,7 +43,8 @@ pub(crate) fn has_filler(file: &[u8]) -> bool
     file[end..end + 2] == [0, 0]
 }
 
-/// Returns the number that no offset after this one may be below. Returns none if this one is below its own.
+/// Returns the least value that the offsets after this one may have. Returns `None` if this one is
+/// below `low`.
 fn raised(low: u32, at: u32) -> Option<u32>
     ensures some { IfSome result (λ next. (rest : List ℕ)
         → (words.AreRising low (at ∷ rest) ↔ words.AreRising next rest)) }
@@ -58,7 +59,7 @@ fn raised(low: u32, at: u32) -> Option<u32>
     Some(at)
 }
 
-/// Whether the blocks stand in the order of the list.
+/// Returns whether the blocks are in the order of the list.
 pub(crate) fn is_in_order(file: &[u8]) -> bool
     requires { HasNoFault file.now }
     ensures { IsTrue result ↔ IsInOrder file.now }

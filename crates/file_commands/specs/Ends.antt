@@ -1,5 +1,5 @@
--- What the commands write, by the status with which they end. Where a definition ends in a `Bool`, it says whether all
--- was written and flushed.
+-- What the commands write, by their status. A definition that ends in a `Bool` has it true if all
+-- was written and flushed, and false if a write or a flush failed.
 use Rattle.std.specs.Prelude.{◌≡◌, ◌≢◌, ◌⊎◌, ◌++◌, ℕ, Bool, true, false, List, length, Option, codes, decimal}
 use Rattle.heap_model.specs.Files.{HasNoFault, IsFirstFault}
 use Rattle.heap_model.specs.declared.file_fault.FileFault.{FileFault}
@@ -22,7 +22,7 @@ PutsListing file contents old new ok = (text : List ℕ) × IsListing file text 
 abbrev pub PutsFault : {V : Type 0} → List ℕ → (V → Option (List ℕ)) → Writing V → Writing V → Bool → Type 0
 PutsFault file contents old new ok = (fault : FileFault) × IsFirstFault file fault × Puts contents old new (fault_lines file fault) ok
 
--- what `list` wrote of a file
+-- what `list` wrote for a file
 pub record EndsList {V : Type 0} (file : List ℕ) (contents : V → Option (List ℕ)) (old new : Writing V) (status : Status) : Type 0 where
   pub done : status ≡ Done → PutsListing file contents old new true
   pub refused : status ≡ Refused → PutsFault file contents old new true
@@ -31,15 +31,15 @@ pub record EndsList {V : Type 0} (file : List ℕ) (contents : V → Option (Lis
   pub good_words : status ≢ BadWords
   pub reads_nothing : status ≢ ReadFault
 
--- the line that says how many bytes were written
+-- the line with the number of bytes that were written
 unfoldable pub count_line : ℕ → List ℕ
 count_line count = codes "ok " ++ (decimal count ++ codes "\n")
 
--- that line, and the one that says what changed
+-- that line, and the line of the changes
 unfoldable pub rewritten_lines : Rewritten → List ℕ
 rewritten_lines rewritten = count_line rewritten.count ++ changes_line rewritten.changes
 
--- the canonical form of a file, and the lines for it
+-- the canonical form of a file, and then its lines
 pub record PutsCanonical {W V : Type 0} (file : List ℕ) (file_contents : W → Option (List ℕ)) (file_old file_new : Writing W) (contents : V → Option (List ℕ)) (old new : Writing V) (ok : Bool) : Type 0 where
   pub bytes : List ℕ
   pub canonical : IsCanonical file bytes
@@ -48,7 +48,7 @@ pub record PutsCanonical {W V : Type 0} (file : List ℕ) (file_contents : W →
   pub changes_are : AreChanges file changes
   pub told : Puts contents old new (count_line (length bytes) ++ changes_line changes) ok
 
--- the whole canonical form, which has so many bytes, and in which these are the changes
+-- the whole canonical form, with its size and its changes
 pub record WroteWhole {W : Type 0} (file : List ℕ) (contents : W → Option (List ℕ)) (old new : Writing W) (rewritten : Rewritten) : Type 0 where
   pub bytes : List ℕ
   pub canonical : IsCanonical file bytes
@@ -60,15 +60,18 @@ pub record WroteWhole {W : Type 0} (file : List ℕ) (contents : W → Option (L
 abbrev pub PutsPart : {W : Type 0} → List ℕ → (W → Option (List ℕ)) → Writing W → Writing W → Type 0
 PutsPart file contents old new = (bytes : List ℕ) × IsCanonical file bytes × Puts contents old new bytes false
 
--- A write or a flush failed in `canonical`, and nothing was written after it: one of the file, and nothing was printed;
--- or one of the lines for it, after the whole file; or the file has a fault, and it was one of the lines for it.
+-- A write or a flush failed in `canonical`, and nothing was written after it. There are three
+-- cases:
+-- - It failed for the file, and nothing was printed.
+-- - It failed for the lines, after the whole file.
+-- - The file has a fault, and it failed for the lines of the fault.
 abbrev pub CanonicalBreaksOff : {W V : Type 0} → List ℕ → (W → Option (List ℕ)) → Writing W → Writing W → (V → Option (List ℕ)) → Writing V → Writing V → Type 0
 CanonicalBreaksOff file file_contents file_old file_new contents old new =
     (PutsPart file file_contents file_old file_new × (new ≡ old))
     ⊎ PutsCanonical file file_contents file_old file_new contents old new false
     ⊎ (PutsFault file contents old new false × (file_new ≡ file_old))
 
--- what `canonical` wrote of a file
+-- what `canonical` wrote for a file
 pub record EndsCanonical {W V : Type 0} (file : List ℕ) (file_contents : W → Option (List ℕ)) (file_old file_new : Writing W) (contents : V → Option (List ℕ)) (old new : Writing V) (status : Status) : Type 0 where
   pub done : status ≡ Done → PutsCanonical file file_contents file_old file_new contents old new true
   pub refused : status ≡ Refused → PutsFault file contents old new true × (file_new ≡ file_old)

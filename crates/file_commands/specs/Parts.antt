@@ -1,5 +1,5 @@
--- What `unpack` and `pack` write of a file and of the text of a database. Where a definition ends in a `Bool`, it says
--- whether all was written and flushed.
+-- What `unpack` and `pack` write. A definition that ends in a `Bool` has it true if all was written
+-- and flushed, and false if a write or a flush failed.
 use Rattle.std.specs.Prelude.{◌≡◌, ◌<◌, ◌≤◌, ◌⊎◌, ℕ, Bool, true, false, List, length, Option, Err, codes}
 use Rattle.heap_model.specs.Database.{Database}
 use Rattle.heap_model.specs.Files.{HasNoFault, file_of}
@@ -14,7 +14,7 @@ use Rattle.program_io.specs.declared.status.Status.{Status}
 use Rattle.program_io.specs.declared.status.Status.TheVariants.{Done, Refused, BadWords, ReadFault, WriteFault, NoMemory}
 use Rattle.file_commands.specs.Ends.{PutsFault, count_line}
 
--- why a file was not taken apart, by the status, and what was written then
+-- what was written if a file was not taken apart, by the status
 abbrev pub NotUnpacked : {V : Type 0} → List ℕ → (V → Option (List ℕ)) → Writing V → Writing V → Status → Type 0
 NotUnpacked file contents old new Refused = PutsFault file contents old new true
 NotUnpacked file contents old new WriteFault = PutsFault file contents old new false
@@ -27,7 +27,7 @@ NotUnpacked file contents old new ReadFault = ⊥
 abbrev pub PutsLineFault : {V : Type 0} → List ℕ → (V → Option (List ℕ)) → Writing V → Writing V → Bool → Type 0
 PutsLineFault text contents old new ok = (fault : LineFault) × (read_database text ≡ Err fault) × lines.PutsFault fault contents old new ok
 
--- why such a text was not read
+-- what was written if the text of a database was not read, by the status
 abbrev pub NotListed : {V : Type 0} → List ℕ → (V → Option (List ℕ)) → Writing V → Writing V → Status → Type 0
 NotListed text contents old new Refused = PutsLineFault text contents old new true
 NotListed text contents old new WriteFault = PutsLineFault text contents old new false
@@ -36,7 +36,8 @@ NotListed text contents old new Done = ⊥
 NotListed text contents old new BadWords = ⊥
 NotListed text contents old new ReadFault = ⊥
 
--- the canonical form of the file of a database, which is not too large, and the line for it
+-- the canonical form of the file of a database, which is not too large, and then the line with its
+-- size
 pub record PutsPacked {W V : Type 0} (database : Database (Option (List ℕ))) (file_contents : W → Option (List ℕ)) (file_old file_new : Writing W) (contents : V → Option (List ℕ)) (old new : Writing V) (ok : Bool) : Type 0 where
   pub bytes : List ℕ
   pub canonical : IsCanonical (file_of database) bytes
@@ -52,15 +53,17 @@ PutsPackedPart database contents old new = (bytes : List ℕ) × IsCanonical (fi
 abbrev pub PutsTooLarge : {V : Type 0} → Database (Option (List ℕ)) → (V → Option (List ℕ)) → Writing V → Writing V → Bool → Type 0
 PutsTooLarge database contents old new ok = (most_bytes < file_size database) × Puts contents old new (codes "bad TooLarge\n") ok
 
--- A write or a flush failed in `pack`, and nothing was written after it: one of the file, and nothing was printed; or one
--- of the line, after the whole file; or the file would be too large, and it was one of the line for that.
+-- A write or a flush failed in `pack`, and nothing was written after it. There are three cases:
+-- - It failed for the file, and nothing was printed.
+-- - It failed for the line, after the whole file.
+-- - The file would be too large, and it failed for the line about that.
 abbrev pub PackBreaksOff : {W V : Type 0} → Database (Option (List ℕ)) → (W → Option (List ℕ)) → Writing W → Writing W → (V → Option (List ℕ)) → Writing V → Writing V → Type 0
 PackBreaksOff database file_contents file_old file_new contents old new =
     (PutsPackedPart database file_contents file_old file_new × (new ≡ old))
     ⊎ PutsPacked database file_contents file_old file_new contents old new false
     ⊎ (PutsTooLarge database contents old new false × (file_new ≡ file_old))
 
--- what `pack` wrote of a database, by the status with which it ends
+-- what `pack` wrote for a database, by its status
 abbrev pub EndsPack : {W V : Type 0} → Database (Option (List ℕ)) → (W → Option (List ℕ)) → Writing W → Writing W → (V → Option (List ℕ)) → Writing V → Writing V → Status → Type 0
 EndsPack database file_contents file_old file_new contents old new Done = PutsPacked database file_contents file_old file_new contents old new true
 EndsPack database file_contents file_old file_new contents old new Refused = PutsTooLarge database contents old new true × (file_new ≡ file_old)

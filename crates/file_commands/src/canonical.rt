@@ -16,8 +16,9 @@ use program_io::Status;
 use std::alloc::Global;
 use std::io::Write;
 
-/// Writes the canonical form of a file to `file_out`. Then prints `ok` and its length to `out`, and a line that says what
-/// changes. If the file has a fault, prints `bad` and the first fault, and the offset of the wrong field.
+/// Writes the canonical form of a file to `file_out`. Then prints `ok` and its size to `out`, and
+/// the line of the changes. If the file has a fault, prints `bad` with the first fault, and the
+/// offset of its field.
 pub fn cmd_canonical<W: Write, V: Write>(
     alloc: Global,
     file: &[u8],
@@ -32,7 +33,7 @@ pub fn cmd_canonical<W: Write, V: Write>(
     cmd_canonical_from(&alloc, file, file_out, out)
 }
 
-/// `cmd_canonical`, where each growth asks for a grant.
+/// The same as `cmd_canonical`. Each allocation asks `memory` for a grant.
 #[tactic(auto, using(crate::proofs::Printed::told))]
 pub fn cmd_canonical_from<A: Allowance, W: Write, V: Write>(
     memory: &A,
@@ -56,7 +57,8 @@ pub fn cmd_canonical_from<A: Allowance, W: Write, V: Write>(
     }
 }
 
-/// Writes the canonical form of a file, flushes, and returns how many bytes it has and what changes.
+/// Writes the canonical form of a file, flushes `file_out`, and returns its size in bytes and the
+/// changes.
 #[tactic(auto, using(crate::proofs::Printed::puts_whole, crate::proofs::Printed::flush_fails, crate::proofs::Printed::canonical_stops))]
 fn put_flushed<A: Allowance, W: Write>(
     memory: &A,
@@ -80,7 +82,7 @@ fn put_flushed<A: Allowance, W: Write>(
     }
 }
 
-/// Returns what changes in a file when it is rewritten.
+/// Returns the changes of a file when it is rewritten.
 fn changes_of<A: Allowance>(memory: &A, file: &[u8]) -> Result<Changes, CanonicalFault>
     requires { length file.now ≤ most_bytes }
     ensures done { IfOk result (AreChanges file.now) }

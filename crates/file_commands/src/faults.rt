@@ -16,7 +16,7 @@ use palm_text::{Counted, Piece, WriteFault, put_pieces};
 use program_io::Status;
 use std::io::Write;
 
-/// Writes the lines for the first fault of a file, and flushes.
+/// Writes the lines for the first fault of a file, and flushes `out`.
 #[tactic(auto, using(palm_text::proofs::Parts::then_flush))]
 fn put_fault_lines<V: Write>(
     out: &mut Counted<V>,
@@ -54,7 +54,7 @@ pub(crate) fn flushed<V: Write>(out: &mut Counted<V>) -> Result<(), WriteFault>
     out.flush().map_err(|_| WriteFault)
 }
 
-/// How many bytes a rewritten file has, and what changed in it.
+/// The size of a rewritten file in bytes, and its changes.
 #[derive(Clone, Copy)]
 pub(crate) struct Rewritten {
     pub(crate) count: usize,
@@ -77,7 +77,7 @@ fn put_count<V: Write>(out: &mut Counted<V>, count: usize) -> Result<(), WriteFa
     )
 }
 
-/// Writes a count, and flushes.
+/// Writes a count, and flushes `out`.
 #[tactic(auto, using(palm_text::proofs::Parts::then_flush))]
 pub(crate) fn put_only_count<V: Write>(out: &mut Counted<V>, count: usize) -> Result<(), WriteFault>
     ensures { Puts V.contents out.old out.new (count_line count) (is_ok result) }
@@ -86,7 +86,7 @@ pub(crate) fn put_only_count<V: Write>(out: &mut Counted<V>, count: usize) -> Re
     flushed(out)
 }
 
-/// Writes how many bytes there are, and what changed.
+/// Writes the size, and the changes.
 #[tactic(auto, using(palm_text::proofs::Parts::then, palm_text::proofs::Parts::stops), unfolding(crate::specs::Ends::rewritten_lines))]
 fn put_lines<V: Write>(out: &mut Counted<V>, rewritten: Rewritten) -> Result<(), WriteFault>
     ensures { Writes V.contents out.old out.new (rewritten_lines rewritten) (is_ok result) }
@@ -95,7 +95,7 @@ fn put_lines<V: Write>(out: &mut Counted<V>, rewritten: Rewritten) -> Result<(),
     put_changes(out, rewritten.changes)
 }
 
-/// Writes how many bytes there are, and what changed, and flushes.
+/// Writes the size, and the changes, and flushes `out`.
 #[tactic(auto, using(palm_text::proofs::Parts::then_flush))]
 pub(crate) fn put_rewritten<V: Write>(
     out: &mut Counted<V>,

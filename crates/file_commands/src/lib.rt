@@ -1,7 +1,8 @@
-//! The commands `list` and `canonical` on a PDB or PRC file, over bytes and counted writers.
+//! The commands `list`, `canonical`, `unpack` and `pack` on PDB and PRC files, over bytes and
+//! counted writers.
 //!
-//! The contract of each command says with which status it ends, and what was written by then. No image is needed:
-//! nothing here knows a heap.
+//! The contract of each command defines what is written, by the status that the command returns.
+//! The commands need no heap and no image.
 #![tactic(auto)]
 
 mod canonical;

@@ -14,8 +14,8 @@ use program_io::Status;
 use std::alloc::Global;
 use std::io::Write;
 
-/// Prints the listing of a file. If the file has a fault, prints `bad` and the first fault, and the offset of the wrong
-/// field.
+/// Prints the listing of a file. If the file has a fault, prints `bad` with the first fault, and
+/// the offset of its field.
 pub fn cmd_list<V: Write>(alloc: Global, file: &[u8], out: &mut Counted<V>) -> Status
     requires { length file.now ≤ most_bytes }
     ensures ends { EndsList file.now V.contents out.old out.new result }
@@ -24,7 +24,7 @@ pub fn cmd_list<V: Write>(alloc: Global, file: &[u8], out: &mut Counted<V>) -> S
     cmd_list_from(&alloc, file, out)
 }
 
-/// `cmd_list`, where each growth asks for a grant.
+/// The same as `cmd_list`. Each allocation asks `memory` for a grant.
 pub fn cmd_list_from<A: Allowance, V: Write>(
     memory: &A,
     file: &[u8],
@@ -42,7 +42,7 @@ pub fn cmd_list_from<A: Allowance, V: Write>(
     }
 }
 
-/// Writes the listing of a file, and flushes.
+/// Writes the listing of a file, and flushes `out`.
 #[tactic(auto, using(crate::proofs::Printed::puts_listing, crate::proofs::Printed::listing_stops))]
 fn put_flushed<A: Allowance, V: Write>(
     memory: &A,

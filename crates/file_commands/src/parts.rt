@@ -1,4 +1,4 @@
-//! The commands `unpack` and `pack`, but for the folder of the parts.
+//! The commands `unpack` and `pack`, without the folder of the parts.
 
 ghost use Rattle.std.specs.Prelude.{◌≡◌, ◌≤◌, ◌⊎◌, ℕ, List, Option, length, true, false, Ok, Err, IfOk, IfErr, OnOk};
 ghost use Rattle.heap_model.specs.Database.{Database};
@@ -22,11 +22,14 @@ use program_io::{Status, say, say_line_fault};
 use script_lines::ScriptFault;
 use std::io::Write;
 
-/// Takes a file apart. If the file has a fault, prints `bad` and the first fault, and the offset of the wrong field.
+/// Takes a file apart. If the file has a fault, prints `bad` with the first fault, and the offset
+/// of its field.
 ///
 /// # Errors
 ///
-/// `Refused` if the file has a fault; `WriteFault`; `NoMemory`.
+/// - `Refused`: if the file has a fault, and its lines were printed.
+/// - `WriteFault`: if the file has a fault, and a write or a flush of its lines failed.
+/// - `NoMemory`: if an allocation failed.
 #[tactic(auto, using(crate::proofs::PartStatuses::not_unpacked))]
 pub fn unpack_file<A: Allowance, V: Write>(
     memory: &A,
@@ -47,7 +50,7 @@ pub fn unpack_file<A: Allowance, V: Write>(
     }
 }
 
-/// Prints `ok` and a count.
+/// Prints `ok` and a count, and flushes `out`.
 pub fn say_count<V: Write>(count: usize, out: &mut Counted<V>) -> Status
     ensures statuses { (result ≡ Status.Done) ⊎ (result ≡ Status.WriteFault) }
     ensures done { result ≡ Status.Done → Puts V.contents out.old out.new (count_line count) true }
@@ -60,11 +63,13 @@ pub fn say_count<V: Write>(count: usize, out: &mut Counted<V>) -> Status
     }
 }
 
-/// Reads the text of a database. If a line is faulty, prints `line`, its number and what is wrong in it.
+/// Reads the text of a database. If a line is faulty, prints `line`, its number and its fault.
 ///
 /// # Errors
 ///
-/// `Refused` if a line is faulty; `WriteFault`; `NoMemory`.
+/// - `Refused`: if a line is faulty, and its fault was printed.
+/// - `WriteFault`: if a line is faulty, and a write or a flush of its fault failed.
+/// - `NoMemory`: if an allocation failed.
 #[tactic(auto, using(crate::proofs::PartStatuses::not_listed))]
 pub fn list_parts<'a, A: Allowance, V: Write>(
     memory: &A,
@@ -84,8 +89,8 @@ pub fn list_parts<'a, A: Allowance, V: Write>(
     }
 }
 
-/// Writes the canonical form of the file of the parts to `file_out`, and then prints `ok` and its length to `out`. If the
-/// file would be too large, prints `bad TooLarge`.
+/// Writes the canonical form of the file of the parts to `file_out`, and then prints `ok` and its
+/// size to `out`. If the file would be too large, prints `bad TooLarge` instead.
 #[tactic(auto, using(crate::proofs::PartStatuses::too_large))]
 pub fn cmd_pack_from<A: Allowance, W: Write, V: Write>(
     memory: &A,
@@ -106,7 +111,7 @@ pub fn cmd_pack_from<A: Allowance, W: Write, V: Write>(
     }
 }
 
-/// Writes the canonical form of a file, flushes, and prints `ok` and its length.
+/// Writes the canonical form of a file, flushes `file_out`, and prints `ok` and its size.
 #[tactic(auto, using(crate::proofs::PartStatuses::packed, crate::proofs::PartStatuses::cut_off))]
 fn put_packed<W: Write, V: Write>(
     bytes: &[u8],

@@ -1,4 +1,4 @@
--- Fresh IDs behind a seed, as the pass over the list gives them.
+-- Fresh IDs after a seed, as the pass over the list gives them.
 use Rattle.std.proofs.Common.{◌≡◌, ◌≢◌, ℕ, suc, ◌+◌, ◌-◌, ◌*◌, ◌%◌, ◌<◌, ◌≤◌, List, [], ◌∷◌, ◌++◌, length, get_or, set, take, drop, refl, sym, ap, subst, ◌∙◌, arith, inl, inr}
 use Rattle.std.proofs.Math.Seq.{take-suc, take-suc-set, drop-cons}
 use Rattle.std.proofs.lemmas.Bool.{cases_lt}
@@ -12,7 +12,7 @@ use Rattle.file_ids.proofs.KeptLaws.{has_put}
 
 -- ---- the walk to the first that is free
 
--- an ID behind a seed, all in front of which the set has
+-- an ID after a seed, and the set has all IDs before it
 pub record Passes (taken : List ℕ) (seed id : ℕ) : Type 0 where
   pub behind : ℕ
   pub below : behind < greatest_id
@@ -45,7 +45,7 @@ passes_more taken seed id next most room here is p = record {
   full = more_full taken seed id here p;
 }
 
--- how many IDs stand between a seed and an ID behind it
+-- the number of IDs between a seed and an ID after it
 abbrev pub steps_to : ℕ → ℕ → ℕ
 steps_to seed id = (id + (2 * greatest_id - 1 - seed)) % greatest_id
 
@@ -91,8 +91,8 @@ fresh_there taken ids seed id most absent p has = record {
 
 -- ---- as far as the pass has come
 
--- Where the set had these IDs first, the list was filled up to an index with the fresh ones, which the set has
--- now too, and behind it is as it was.
+-- If the set had these IDs first, the list was filled up to an index with the fresh ones. The set
+-- now has the fresh ones too, and the list after the index is as it was.
 pub record FilledTo (known : List ℕ) (first_seed : ℕ) (old taken : List ℕ) (seed : ℕ) (new : List ℕ) (index : ℕ) : Type 0 where
   pub ids : List ℕ
   pub has : HasIds taken ids
@@ -119,7 +119,7 @@ front_more known ids more_ids first_seed seed seed_then old new put index one in
     let all = front (one ∷ given) last_seed here in
     subst (λ (xs : List ℕ). AreFilled known first_seed old xs last_seed) (sym (append_assoc (take index new) (one ∷ []) given) ∙ ap (λ (xs : List ℕ). xs ++ given) (sym is_put)) all
 
--- the first of what stands behind, and the rest, are as they were
+-- the first of the elements after the index, and the rest, are as they were
 same_here : (old new : List ℕ) (index : ℕ) → index < length old → index < length new → drop index new ≡ drop index old → (get_or new index 0 ≡ get_or old index 0) × (drop (suc index) new ≡ drop (suc index) old)
 same_here old new index inside within same =
     let one = drop-cons old index 0 inside in

@@ -1,4 +1,5 @@
--- The IDs that records are given: those that are kept, with the fresh ones in between, and what holds of them.
+-- The IDs that records are given: those that are kept, with the fresh ones between them, and their
+-- properties.
 use Rattle.std.proofs.Common.{◌≡◌, ℕ, ◌<◌, ◌≤◌, Bool, true, false, cond, List, [], ◌∷◌, length, map, get_or, Option, Some, None, refl, sym, ap, subst, ◌∙◌, arith, inl, inr}
 use Rattle.std.specs.Prelude.{All, unwrap_or}
 use Rattle.std.specs.List.{cons_option, filter_map, range_with_len}
@@ -97,7 +98,7 @@ given_fit taken seed (id ∷ ids) (one ∷ given) last_seed least most filled =
           All-cons (λ q. (0 < q) × (q ≤ greatest_id)) one given (fits.0, fits.1) (given_fit (one ∷ taken) one ids given last_seed fits.1 rest fresh.2)
     ]
 
--- Each is given once at most, and one that is taken is given only where it is kept.
+-- Each is given once at most, and one that is taken is given only if it is kept.
 given_once : (q : ℕ) (taken earlier : List ℕ) (seed : ℕ) (ids given : List ℕ) (last_seed : ℕ) → ((kept : ℕ) → 0 < times kept (kept_ids earlier ids) → 0 < times kept taken) → AreGiven taken earlier seed ids given last_seed
     → (times q given ≤ 1) × (0 < times q taken → times q given ≤ times q (kept_ids earlier ids))
 given_once q taken earlier seed [] [] last_seed known g = (omega arith, λ here. omega arith)

@@ -45,7 +45,7 @@ has_already taken ids id already has = record {
       ]);
 }
 
--- where a list has the same numbers but 0
+-- if a list has the same numbers but 0
 pub has_same : (taken one other : List ℕ) → ((q : ℕ) → 0 < q → (0 < times q one ↔ 0 < times q other)) → HasIds taken one → HasIds taken other
 has_same taken one other same has = record {
   are = λ q some. (λ here. (same q some).0 ((has.are q some).0 here), λ used. (has.are q some).1 ((same q some).1 used));
@@ -161,7 +161,7 @@ length-kept_ids earlier (id ∷ ids) =
 
 -- ---- as far as the pass has come
 
--- the IDs in front of an index, the last one first
+-- the IDs before an index, the last one first
 abbrev pub earlier_ids : List ℕ → ℕ → List ℕ
 earlier_ids ids zero = []
 earlier_ids ids (suc count) = slice_index ids count ∷ earlier_ids ids count
@@ -174,8 +174,8 @@ times-earlier_ids q ids (suc count) most =
     let cons = times-append q (get_or ids count 0 ∷ []) (earlier_ids ids count) in
     omega arith
 
--- The set has the IDs in front of an index. Each that is kept stands in the list, and 0 for each other, and
--- behind them 0 alone.
+-- The set has the IDs before an index. The list has each ID that is kept, and 0 for each other.
+-- After them it has only 0.
 pub record KeptTo (all taken ids : List ℕ) (index : ℕ) : Type 0 where
   pub has : HasIds taken (earlier_ids all index)
   pub long : length ids ≡ length all

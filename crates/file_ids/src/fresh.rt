@@ -7,7 +7,7 @@ ghost use Rattle.file_ids.specs.Passes.{HasIds, HasRoomFor, AreFilled};
 
 use db_format::GREATEST_ID;
 
-/// The ID next to a number. 1 is next to the greatest.
+/// Returns the ID after a number. 1 follows the greatest.
 #[inline]
 fn next_id(number: u32) -> u32
     ensures { result ≡ unique.next_id number }
@@ -15,7 +15,7 @@ fn next_id(number: u32) -> u32
     if number < GREATEST_ID { number + 1 } else { 1 }
 }
 
-/// The first ID behind a seed that isn't in the set.
+/// Returns the first ID after a seed that isn't in the set.
 fn first_free(taken: &[u8], seed: u32) -> u32
     requires bits { greatest_id < 8 * length taken.now }
     requires seed { seed ≤ greatest_id }
@@ -31,9 +31,9 @@ fn first_free(taken: &[u8], seed: u32) -> u32
     id
 }
 
-/// Puts a fresh ID in the place of each 0, and into the set. Answers the one that came last, or the seed where
-/// none came. The seed moves on with each of them, so that all of these walks together pass over each ID of the
-/// set once at most.
+/// Replaces each 0 with a fresh ID, and adds the fresh ID to the set. Returns the ID that was given
+/// last, or the seed if none was given. The seed moves with each fresh ID, so all of these walks
+/// together pass each ID of the set at most once.
 pub(crate) fn give_fresh(taken: &mut [u8], ids: &mut [u32], seed: u32) -> u32
     requires bits { greatest_id < 8 * length taken.old }
     requires seed { seed ≤ greatest_id }

@@ -1,4 +1,4 @@
-//! The IDs that the records of a file are given.
+//! The IDs that the records of a file get.
 
 ghost use Rattle.std.specs.Prelude.{◌≡◌, ◌<◌, ◌≤◌, ◌*◌, ℕ, false, length, IfOk, OnErr, All};
 ghost use Rattle.heap_model.specs.Lists.{Distinct};
@@ -16,17 +16,22 @@ use allowance::{Allowance, filled, zeros};
 use db_format::{GREATEST_ID, entry_count, has_resources};
 use std::alloc::{AllocError, Global};
 
-/// The IDs of the records of a file, in their order, and the seed that they leave, without the upper 8 bits of
-/// its field.
+/// The IDs of the records of a file, in their order, and the seed after the last of them. The seed
+/// has 24 bits.
 #[derive(Drop, Debug, PartialEq, Eq)]
 pub struct GivenIds {
     pub ids: Vec<u32>,
     pub seed: u32,
 }
 
-/// Gives each record of a file its ID. A file of resources has none, and its seed stays. It takes memory for a
-/// bit for each ID that there is, 2 MiB, and for the IDs that it answers; the only error is that it was refused.
-/// Its time is linear in the number of records, whatever their IDs and the seed are.
+/// Gives each record of a file its ID. A file of resources has no records, and its seed stays.
+///
+/// It allocates a bit for each possible ID (2 MiB), and the IDs that it returns. Its time is linear
+/// in the number of records, for all IDs and seeds.
+///
+/// # Errors
+///
+/// - `AllocError`: if an allocation failed.
 pub fn give_ids(alloc: Global, file: &[u8]) -> Result<GivenIds, AllocError>
     requires { HasNoFault file.now }
     ensures given { IfOk result (λ given. HaveIds (seed_in (header_in file.now).seed)
@@ -40,7 +45,11 @@ pub fn give_ids(alloc: Global, file: &[u8]) -> Result<GivenIds, AllocError>
     give_ids_from(&alloc, file)
 }
 
-/// `give_ids`, where each growth asks for a grant.
+/// The same as `give_ids`. Each allocation asks `memory` for a grant.
+///
+/// # Errors
+///
+/// - `AllocError`: if `memory` refused a grant, or an allocation failed.
 pub fn give_ids_from<A: Allowance>(memory: &A, file: &[u8]) -> Result<GivenIds, AllocError>
     requires { HasNoFault file.now }
     ensures given { IfOk result (λ given. HaveIds (seed_in (header_in file.now).seed)
@@ -63,7 +72,7 @@ pub fn give_ids_from<A: Allowance>(memory: &A, file: &[u8]) -> Result<GivenIds, 
     Ok(GivenIds { ids, seed })
 }
 
-/// The seed of a file, without the upper 8 bits of its field.
+/// Returns the seed of a file: the low 24 bits of its field.
 fn first_seed(file: &[u8]) -> u32
     requires { HasNoFault file.now }
     ensures { result ≡ seed_in (header_in file.now).seed }
@@ -71,8 +80,8 @@ fn first_seed(file: &[u8]) -> u32
     db_format::seed(file) & GREATEST_ID
 }
 
-/// Puts down the ID of each record, where 0 stands for each of them, and answers the seed that is left. For the
-/// IDs that are taken it needs a set, which is empty.
+/// Writes the ID of each record into `ids`, and returns the new seed. At first all of `ids` are 0,
+/// and the set `taken` is empty.
 fn put_ids(file: &[u8], taken: &mut [u8], ids: &mut [u32]) -> u32
     requires good { HasNoFault file.now }
     requires records { resources_in file.now ≡ false }
@@ -91,7 +100,7 @@ fn put_ids(file: &[u8], taken: &mut [u8], ids: &mut [u32]) -> u32
     give_fresh(taken, ids, first_seed(file))
 }
 
-/// A set of so many bytes with no number in it.
+/// Allocates an empty set of `size` bytes.
 fn set_for<A: Allowance>(memory: &A, size: usize) -> Result<Vec<u8>, AllocError>
     ensures len { IfOk result (λ set. length set.items ≡ size) }
     ensures empty { IfOk result (λ set. HasNone set.items) }
@@ -100,7 +109,7 @@ fn set_for<A: Allowance>(memory: &A, size: usize) -> Result<Vec<u8>, AllocError>
     zeros(memory, size)
 }
 
-/// So many zeros, for as many IDs.
+/// Allocates `count` zeros, which later become IDs.
 fn zeros_for<A: Allowance>(memory: &A, count: u16) -> Result<Vec<u32>, AllocError>
     ensures len { IfOk result (λ ids. length ids.items ≡ count) }
     ensures zeros { IfOk result (λ ids. All (λ id. id ≡ 0) ids.items) }

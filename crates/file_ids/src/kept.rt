@@ -10,8 +10,8 @@ ghost use Rattle.file_ids.specs.Passes.{HasIds, kept_or_none};
 
 use db_format::{entry_count, record_id};
 
-/// Puts down the ID of each record that keeps it, where 0 stands for each of them, and puts it into a set, which
-/// is empty.
+/// Writes the ID of each record that keeps its ID into `ids`, and adds it to the set. At first all
+/// of `ids` are 0, and the set is empty.
 pub(crate) fn keep_ids(file: &[u8], taken: &mut [u8], ids: &mut [u32])
     requires good { HasNoFault file.now }
     requires records { resources_in file.now ≡ false }

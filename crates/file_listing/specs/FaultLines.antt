@@ -1,4 +1,4 @@
--- The lines for a file with a fault: the fault, and the offset of the field that it is about.
+-- The lines for a file with a fault: the fault, and the offset of its field.
 use Rattle.std.specs.Prelude.{◌+◌, ◌++◌, ℕ, Bool, true, false, List, length, codes, decimal}
 use Rattle.heap_model.specs.DatabaseFields.{next_list_at, resource_data_at}
 use Rattle.heap_model.specs.Database.{resources_in, entry_offset}
@@ -11,12 +11,12 @@ use Rattle.db_format.specs.Headers.{info_block_at}
 use Rattle.file_listing.specs.declared.listing.ListFault.{ListFault}
 use Rattle.file_listing.specs.declared.listing.ListFault.TheVariants.{BadFile, OutOfMemory, Write}
 
--- where the offset of the data stands in an entry
+-- the offset, in an entry, of the field with the offset of its data
 abbrev pub data_field : Bool → ℕ
 data_field true = resource_data_at
 data_field false = 0
 
--- The offset of the field that a fault is about. A file that ends too soon has the fault at its end.
+-- The offset of the field that has the fault. The fault of a truncated file is at its end.
 abbrev pub fault_place : List ℕ → FileFault → ℕ
 fault_place file Truncated = length file
 fault_place file ChainedList = next_list_at
@@ -38,7 +38,7 @@ fault_text (BadOffset index) = codes "BadOffset " ++ decimal index
 abbrev pub fault_lines : List ℕ → FileFault → List ℕ
 fault_lines file fault = codes "bad " ++ (fault_text fault ++ (codes "\nat " ++ (decimal (fault_place file fault) ++ codes "\n")))
 
--- why a file was not listed
+-- the reason why a file was not listed
 abbrev pub IsFaultOf : List ℕ → ListFault → Type 0
 IsFaultOf file (BadFile fault) = IsFirstFault file fault
 IsFaultOf file OutOfMemory = HasNoFault file

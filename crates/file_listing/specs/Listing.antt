@@ -1,4 +1,4 @@
--- The lines that are printed of a file without fault.
+-- The lines of the listing of a file without fault.
 use Rattle.std.specs.Prelude.{◌≡◌, ◌+◌, ◌++◌, ℕ, Bool, true, false, List, [], ◌∷◌, length, slice_index, slice_index_or, Option, Some, None, codes, decimal}
 use Rattle.std.specs.List.{concat}
 use Rattle.hex.specs.Hex.{encode_lower}
@@ -10,9 +10,10 @@ use Rattle.palm_text.specs.Pieces.{spelled}
 use Rattle.palm_text.specs.Counted.{Writing, Writes}
 use Rattle.file_changes.specs.declared.changes.Changes.{Changes}
 use Rattle.file_changes.specs.Changes.{AreChanges, changes_line}
+use Rattle.file_needs.specs.Needs.{least_slots, least_size}
 use Rattle.file_listing.specs.Moments.{IsMomentText}
 
--- how many bytes the file has, and the values of its header, with the texts of its three moments
+-- the size of the file in bytes, and the values of its header, with the texts of its three moments
 unfoldable pub head_lines : ℕ → DatabaseHeader → (created modified backup : List ℕ) → List ℕ
 head_lines size header created modified backup =
     codes "ok " ++ (decimal size
@@ -28,16 +29,16 @@ head_lines size header created modified backup =
     ++ (codes "\nseed " ++ (encode_lower (u32_bytes header.seed)
     ++ codes "\n")))))))))))))))))))))
 
--- where a block stands, at the end of a line: its offset and how many bytes it has, or `none`
+-- the place of a block, at the end of a line: its offset and its size in bytes, or `none`
 abbrev pub place_text : ℕ → Option (List ℕ) → List ℕ
 place_text at None = codes " none\n"
 place_text at (Some bytes) = codes " " ++ (decimal at ++ (codes " " ++ (decimal (length bytes) ++ codes "\n")))
 
--- the line of an info block, whose rank is 0 or 1
+-- the line of an info block: AppInfo has the rank 0, and SortInfo the rank 1
 unfoldable pub info_line : List ℕ → (word : List ℕ) → ℕ → List ℕ
 info_line file word rank = word ++ place_text (slice_index (offsets_in file) rank) (slice_index_or (blocks_in file) rank None)
 
--- how many entries there are, and of which kind
+-- the number of entries, and their kind
 abbrev pub count_word : Bool → List ℕ
 count_word true = codes "resources "
 count_word false = codes "records "
@@ -45,7 +46,7 @@ count_word false = codes "records "
 unfoldable pub count_line : Bool → ℕ → List ℕ
 count_line resources count = count_word resources ++ (decimal count ++ codes "\n")
 
--- of a record its attributes and its ID, of a resource its type and its id
+-- the attributes and the ID of a record, or the type and the id of a resource
 abbrev pub entry_value : Entry ℕ → List ℕ
 entry_value (a_record attributes id at) = encode_lower (attributes ∷ [])
 entry_value (a_resource kind id at) = spelled (u32_bytes kind)
@@ -54,7 +55,7 @@ abbrev pub entry_id : Entry ℕ → ℕ
 entry_id (a_record attributes id at) = id
 entry_id (a_resource kind id at) = id
 
--- the line of an entry: its index, its values, and where its data stands
+-- the line of an entry: its index, its values, and the place of its data
 abbrev pub entry_line : ℕ → Entry ℕ → Option (List ℕ) → List ℕ
 entry_line index entry block = decimal index ++ (codes " " ++ (entry_value entry ++ (codes " " ++ (decimal (entry_id entry) ++ place_text (entry_data entry) block))))
 
@@ -68,13 +69,33 @@ entry_lines file = concat (numbered (line_at file) (entry_count_in file))
 unfoldable pub info_lines : List ℕ → List ℕ
 info_lines file = info_line file (codes "app") 0 ++ info_line file (codes "sort") 1
 
--- how many entries there are, and their lines
+-- the number of entries, and their lines
 unfoldable pub list_lines : List ℕ → List ℕ
 list_lines file = count_line (resources_in file) (entry_count_in file) ++ entry_lines file
 
--- and what changes when the file is rewritten
+-- the least size and number of slots of a new image with the database
+abbrev pub needed_slots : List ℕ → ℕ
+needed_slots file = least_slots (file ∷ [])
+
+abbrev pub needed_size : List ℕ → ℕ
+needed_size file = least_size (needed_slots file) (file ∷ [])
+
+unfoldable pub size_text : ℕ → List ℕ
+size_text size = codes "needs " ++ (decimal size ++ codes " bytes and ")
+
+unfoldable pub slots_text : ℕ → List ℕ
+slots_text slots = decimal slots ++ codes " slots in a heap\n"
+
+unfoldable pub needs_line : List ℕ → List ℕ
+needs_line file = size_text (needed_size file) ++ slots_text (needed_slots file)
+
+-- the line of the needs, and the line of the changes when the file is rewritten
+unfoldable pub last_lines : List ℕ → Changes → List ℕ
+last_lines file changes = needs_line file ++ changes_line changes
+
+-- the lines of the entries, and those two lines
 unfoldable pub end_lines : List ℕ → Changes → List ℕ
-end_lines file changes = list_lines file ++ changes_line changes
+end_lines file changes = list_lines file ++ last_lines file changes
 
 -- the lines after those of the header
 unfoldable pub body_lines : List ℕ → Changes → List ℕ
@@ -92,6 +113,6 @@ pub record IsListing (file text : List ℕ) : Type 0 where
   pub changes_are : AreChanges file changes
   pub lines : text ≡ head_lines (length file) (header_in file) created modified backup ++ body_lines file changes
 
--- the listing of the file goes to a writer, all of it or a prefix
+-- the listing of the file goes to a writer: all of it if `ok`, or else a prefix of it
 abbrev pub WritesListing : {W : Type 0} → List ℕ → (W → Option (List ℕ)) → Writing W → Writing W → Bool → Type 0
 WritesListing file contents old new ok = (text : List ℕ) × IsListing file text × Writes contents old new text ok

@@ -1,9 +1,10 @@
--- Moments as they are printed: the seconds since 1904-01-01 00:00:00 UTC, and after them the date and the time.
+-- Moments as they are printed: the seconds since 1904-01-01 00:00:00 UTC, and then the date and the
+-- time.
 use Rattle.std.specs.Prelude.{◌≡◌, ◌≢◌, ◌/◌, ◌%◌, ◌++◌, ℕ, List, pos, ◌+ℤ◌, unsigned_abs, codes, decimal}
 use Rattle.jiff_core.specs.Date.{epoch_day}
 use Rattle.jiff_core.specs.declared.civil.date.Date.{Date}
 
--- The date so many days after 1904-01-01, which is 24,107 days before 1970-01-01.
+-- The date `days` days after 1904-01-01, which is 24,107 days before 1970-01-01.
 abbrev pub IsDay : ℕ → Date → Type 0
 IsDay days date = epoch_day date +ℤ pos 24107 ≡ pos days
 
@@ -14,7 +15,7 @@ date_text date =
     ++ (decimal (date.month / 10) ++ (decimal (date.month % 10) ++ (codes "-"
     ++ (decimal (date.day / 10) ++ decimal (date.day % 10))))))
 
--- the time so many seconds after midnight: hours, minutes and seconds, of two digits each
+-- the time `seconds` after midnight: hours, minutes and seconds, of two digits each
 abbrev pub time_text : ℕ → List ℕ
 time_text seconds =
     decimal (seconds / 36000) ++ (decimal (seconds / 3600 % 10) ++ (codes ":"
@@ -24,7 +25,7 @@ time_text seconds =
 abbrev pub moment_text : ℕ → Date → List ℕ
 moment_text seconds date = decimal seconds ++ (codes " " ++ (date_text date ++ (codes " " ++ time_text (seconds % 86400))))
 
--- the text of a moment; 0 seconds stand for none
+-- the text of a moment; 0 seconds mean that there is none
 pub record IsMomentText (seconds : ℕ) (text : List ℕ) : Type 0 where
   pub none : seconds ≡ 0 → text ≡ codes "0 never"
   pub some : seconds ≢ 0 → (date : Date) × IsDay (seconds / 86400) date × (text ≡ moment_text seconds date)

@@ -1,4 +1,4 @@
--- What is known of a file before its lines are written.
+-- The parts of a listing that are made before its lines are written.
 use Rattle.std.specs.Prelude.{◌++◌, ℕ, List, length, string_bytes}
 use Rattle.heap_model.specs.Database.{DatabaseHeader, header_in}
 use Rattle.canonical_file.specs.Canonical.{HasBlocks}

@@ -1,4 +1,4 @@
-//! How many entries there are, and their lines.
+//! The number of entries, and their lines.
 
 ghost use Rattle.std.specs.Prelude.{◌≡◌, ◌≤◌, ◌<◌, ◌+◌, is_ok, length, slice_index_or, None};
 ghost use Rattle.heap_model.specs.Database.{entry_count_in};
@@ -79,7 +79,7 @@ fn put_entry<W: Write>(
     }
 }
 
-/// Writes the line of the entry of an index.
+/// Writes the line of the entry at an index.
 fn put_entry_at<W: Write>(
     out: &mut Counted<W>,
     file: &[u8],
@@ -118,7 +118,7 @@ fn put_entries<W: Write>(
     Ok(())
 }
 
-/// Writes how many entries there are.
+/// Writes the number of entries.
 #[tactic(auto, unfolding(crate::specs::Listing::count_line))]
 fn put_count<W: Write>(out: &mut Counted<W>, resources: bool, count: u16) -> Result<(), WriteFault>
     ensures { Writes W.contents out.old out.new (count_line resources count) (is_ok result) }
@@ -138,7 +138,7 @@ fn put_count<W: Write>(out: &mut Counted<W>, resources: bool, count: u16) -> Res
     )
 }
 
-/// Writes how many entries there are, and their lines.
+/// Writes the number of entries, and their lines.
 #[tactic(auto, using(palm_text::proofs::Parts::then, palm_text::proofs::Parts::stops), unfolding(crate::specs::Listing::list_lines))]
 pub(crate) fn put_list<W: Write>(
     out: &mut Counted<W>,

@@ -20,7 +20,8 @@ use std::io::Write;
 
 const NOTHING: Piece<'static> = Piece::Text(b"");
 
-/// Returns the offset of the field that the first fault of a file is about.
+/// Returns the offset of the field that has the first fault of a file. It is the size of the file
+/// if the file is truncated.
 pub fn fault_place(file: &[u8], fault: FileFault) -> usize
     requires short { length file.now ≤ most_bytes }
     requires first { IsFirstFault file.now fault }
@@ -36,7 +37,7 @@ pub fn fault_place(file: &[u8], fault: FileFault) -> usize
     }
 }
 
-/// Returns where the entry of an index has the offset of its data.
+/// Returns the offset at which the entry at an index has the offset of its data.
 fn data_place(file: &[u8], index: u32) -> usize
     requires { header_size ≤ length file.now }
     ensures { result ≡ databases.entry_offset (resources_in file.now) index
@@ -49,7 +50,7 @@ fn data_place(file: &[u8], index: u32) -> usize
     }
 }
 
-/// Returns the name of a fault, and of what.
+/// Returns the name of a fault, and the index of its entry.
 fn fault_pieces(fault: FileFault) -> (&'static [u8], Piece<'static>)
     ensures { result.0.now ++ piece_text result.1 ≡ words.fault_text fault }
 {
@@ -63,7 +64,12 @@ fn fault_pieces(fault: FileFault) -> (&'static [u8], Piece<'static>)
     }
 }
 
-/// Writes `bad` and the first fault of a file, and the offset of the field that it is about.
+/// Writes `bad` with the first fault of a file, and `at` with the offset of its field
+/// (`fault_place`).
+///
+/// # Errors
+///
+/// - `WriteFault`: if a write failed, or took 0 bytes.
 pub fn put_fault<W: Write>(
     out: &mut Counted<W>,
     file: &[u8],

@@ -10,7 +10,7 @@ use db_format::DbHeader;
 use palm_text::{Counted, Piece, WriteFault, put_pieces};
 use std::io::Write;
 
-/// Writes how many bytes the file has, and the lines of its header.
+/// Writes the size of the file, and the lines of its header.
 pub(crate) fn put_head<'a, W: Write>(
     out: &mut Counted<W>,
     size: u32,

@@ -1,5 +1,5 @@
-//! The listing of a PDB or PRC file: its header, where its blocks stand, its entries, and what changes when it is
-//! rewritten.
+//! The listing of a PDB or PRC file: its header, the places of its blocks, its entries, the part of
+//! a heap that its database takes, and the changes when the file is rewritten.
 //!
 //! ```text
 //! ok 97
@@ -17,10 +17,11 @@
 //! sort none
 //! records 1
 //! 0 01 1 88 9
+//! needs 168 bytes and 3 slots in a heap
 //! canonical
 //! ```
 //!
-//! `specs/Listing.antt` defines the lines: start there.
+//! Start with `specs/Listing.antt`, which defines the lines.
 #![tactic(auto)]
 
 mod blocks;
@@ -29,6 +30,7 @@ mod fault_lines;
 mod head;
 mod listing;
 mod moments;
+mod needs;
 mod parts;
 
 pub use fault_lines::{fault_place, put_fault};

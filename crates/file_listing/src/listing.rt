@@ -6,12 +6,13 @@ ghost use Rattle.heap_model.specs.Files.{HasNoFault};
 ghost use Rattle.db_format.specs.Headers.{header_of};
 ghost use Rattle.palm_text.specs.Counted.{Writes};
 ghost use Rattle.file_listing.specs.FaultLines.{IsFaultOf};
-ghost use Rattle.file_listing.specs.Listing.{WritesListing, body_lines, end_lines};
+ghost use Rattle.file_listing.specs.Listing.{WritesListing, body_lines, end_lines, last_lines};
 ghost use Rattle.file_listing.specs.Parts.{lines_by};
 
 use crate::blocks::put_infos;
 use crate::entries::put_list;
 use crate::head::put_head;
+use crate::needs::put_needs;
 use crate::parts::{Parts, parts_of};
 use allowance::Allowance;
 use db_format::DbHeader;
@@ -22,7 +23,7 @@ use pdb_format::check_file;
 use std::io::Write;
 use thiserror::Error;
 
-/// Why a file was not listed.
+/// The reason why a file was not listed.
 #[derive(Clone, Copy, Debug, PartialEq, Eq, Error)]
 pub enum ListFault {
     /// The file has this first fault.
@@ -36,14 +37,25 @@ pub enum ListFault {
     Write,
 }
 
-/// Writes the lines of the entries, and what changes when the file is rewritten.
+/// Writes the part of a heap that the database takes, and the changes when the file is rewritten.
+#[tactic(auto, using(palm_text::proofs::Parts::then, palm_text::proofs::Parts::stops), unfolding(crate::specs::Listing::last_lines))]
+fn put_last<W: Write>(out: &mut Counted<W>, file: &[u8], parts: &Parts) -> Result<(), WriteFault>
+    requires { HasBlocks file.now parts.now.blocks.items }
+    ensures { Writes W.contents out.old out.new (last_lines file.now parts.now.changes) (is_ok result) }
+{
+    put_needs(out, file, parts.blocks.as_slice())?;
+    put_changes(out, parts.changes)
+}
+
+/// Writes the lines of the entries, the part of a heap that the database takes, and the changes
+/// when the file is rewritten.
 #[tactic(auto, using(palm_text::proofs::Parts::then, palm_text::proofs::Parts::stops), unfolding(crate::specs::Listing::end_lines))]
 fn put_end<W: Write>(out: &mut Counted<W>, file: &[u8], parts: &Parts) -> Result<(), WriteFault>
     requires { HasBlocks file.now parts.now.blocks.items }
     ensures { Writes W.contents out.old out.new (end_lines file.now parts.now.changes) (is_ok result) }
 {
     put_list(out, file, parts.blocks.as_slice())?;
-    put_changes(out, parts.changes)
+    put_last(out, file, parts)
 }
 
 /// Writes the lines after those of the header.
@@ -72,12 +84,16 @@ fn put_lines<W: Write>(
     put_body(out, file, parts)
 }
 
-/// Writes the listing of a file. Flushes nothing. After a write that fails, nothing more is written. All memory is
-/// allocated before the first write.
+/// Writes the listing of a file.
+///
+/// It doesn't flush `out`. It makes all allocations before the first write. After a write fails, it
+/// writes nothing more.
 ///
 /// # Errors
 ///
-/// `BadFile` with the first fault of the file; `OutOfMemory`; `Write`.
+/// - `BadFile`: if the file has a fault. It contains the first one.
+/// - `OutOfMemory`: if an allocation failed.
+/// - `Write`: if a write failed, or took 0 bytes.
 #[tactic(auto, using(pdb_format::proofs::FileNames::file_named, crate::proofs::Listings::written))]
 pub fn put_listing<A: Allowance, W: Write>(
     memory: &A,

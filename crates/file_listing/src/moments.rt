@@ -11,10 +11,10 @@ use db_format::DbHeader;
 use jiff_core::civil::Date;
 use std::alloc::AllocError;
 
-/// How many seconds a day has.
+/// The number of seconds of a day.
 const DAY: u32 = 86_400;
 
-/// How many days 1904-01-01 is after -9999-01-01, from which the calendar counts.
+/// The number of days from -9999-01-01, from which the calendar counts, to 1904-01-01.
 const FIRST_DAY: u32 = 4_347_480;
 
 /// The texts of the moments of a header.
@@ -25,7 +25,7 @@ pub(crate) struct Moments {
     pub(crate) backup: String,
 }
 
-/// Returns the date in UTC so many seconds after 1904-01-01 00:00:00.
+/// Returns the date in UTC, `seconds` after 1904-01-01 00:00:00.
 fn date_of(seconds: u32) -> Date
     ensures { IsDay (seconds / 86400) result }
 {
@@ -51,7 +51,7 @@ fn date_text<A: Allowance>(memory: &A, date: Date) -> Result<String, AllocError>
     )
 }
 
-/// Returns the text of the time so many seconds after midnight.
+/// Returns the text of the time, `seconds` after midnight.
 fn time_text<A: Allowance>(memory: &A, seconds: u32) -> Result<String, AllocError>
     ensures text { IfOk result (λ text. string_bytes text ≡ moments.time_text seconds) }
     ensures short { OnErr result (A.is_short memory.now) }
@@ -70,7 +70,8 @@ fn time_text<A: Allowance>(memory: &A, seconds: u32) -> Result<String, AllocErro
     )
 }
 
-/// Returns the text of the seconds after 1904-01-01 00:00:00, with their date and time.
+/// Returns the text of a moment, `seconds` after 1904-01-01 00:00:00: the seconds, the date and the
+/// time.
 fn dated_text<A: Allowance>(memory: &A, seconds: u32, date: Date) -> Result<String, AllocError>
     ensures text { IfOk result (λ text. string_bytes text ≡ moments.moment_text seconds date) }
     ensures short { OnErr result (A.is_short memory.now) }
@@ -91,7 +92,7 @@ fn moment_text<A: Allowance>(memory: &A, seconds: u32) -> Result<String, AllocEr
     dated_text(memory, seconds, date_of(seconds))
 }
 
-/// Returns the text of the header's moments.
+/// Returns the texts of the header's moments.
 pub(crate) fn moments_of<A: Allowance>(memory: &A, header: &DbHeader) -> Result<Moments, AllocError>
     ensures moments { IfOk result (AreMoments (header_of header.now)) }
     ensures short { OnErr result (A.is_short memory.now) }

@@ -1,4 +1,4 @@
-//! What takes memory: it is made before the first line is written.
+//! The parts of a listing that need memory. They are made before the first line is written.
 
 ghost use Rattle.std.specs.Prelude.{◌≡◌, ◌≤◌, length, IfOk, OnErr};
 ghost use Rattle.heap_model.specs.Database.{header_in};
@@ -14,7 +14,7 @@ use file_changes::{Changes, find_changes};
 use pdb_format::{Block, find_blocks_from};
 use std::alloc::AllocError;
 
-/// The blocks of a file, the texts of its moments, and what changes in it when it is rewritten.
+/// The blocks of a file, the texts of its moments, and the changes when it is rewritten.
 #[derive(Drop)]
 pub(crate) struct Parts {
     pub(crate) blocks: Vec<Option<Block>>,
@@ -22,7 +22,7 @@ pub(crate) struct Parts {
     pub(crate) changes: Changes,
 }
 
-/// Returns where the blocks stand.
+/// Returns the places of the blocks.
 fn blocks_of<A: Allowance>(memory: &A, file: &[u8]) -> Result<Vec<Option<Block>>, AllocError>
     requires good { HasNoFault file.now }
     requires short { length file.now ≤ most_bytes }

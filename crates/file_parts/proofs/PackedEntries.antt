@@ -66,7 +66,7 @@ one_data : (e : Entry (Option (List ℕ))) (es : List (Entry (Option (List ℕ))
 one_data (a_record attributes id block) es = refl
 one_data (a_resource kind id block) es = refl
 
--- the text of an entry, whose data has so many bytes, and those after it
+-- the text of an entry, by the size of its data, and those after it
 pub text_here : (items : List ListedEntry) (parts : List (List ℕ)) (i at : ℕ) (d : ListedEntry) (bytes block : List ℕ) → i < length items
     → bytes ≡ entry_bytes (entry_with (block_offset at) (idle_entry (packed_at items parts i d))) → block ≡ block_bytes (filled (part_at parts (2 + i)) (get_or items i d).part)
     → entries_text at (drop i (packed_entries items parts)) ≡ bytes ++ entries_text (at + length block) (drop (i + 1) (packed_entries items parts))
@@ -79,7 +79,7 @@ text_here items parts i at d bytes block inside is is_block =
     ∙ ap (λ (xs : List ℕ). xs ++ entries_text (at + block_size (entry_data e)) rest) (sym is)
     ∙ ap (λ (n : ℕ). bytes ++ entries_text (at + n) rest) size
 
--- how many bytes its data has, and those after it
+-- the size of its data, and those after it
 pub data_here : (items : List ListedEntry) (parts : List (List ℕ)) (i : ℕ) (d : ListedEntry) (block : List ℕ) → i < length items → block ≡ block_bytes (filled (part_at parts (2 + i)) (get_or items i d).part)
     → length (data_text (drop i (packed_entries items parts))) ≡ length block + length (data_text (drop (i + 1) (packed_entries items parts)))
 data_here items parts i d block inside is_block =

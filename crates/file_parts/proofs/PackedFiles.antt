@@ -1,4 +1,4 @@
--- Where the blocks of a packed database stand, and the blocks one after the other.
+-- The offsets of the blocks of a packed database, and the blocks one after the other.
 use Rattle.std.proofs.Common.{◌≡◌, ℕ, zero, suc, ◌+◌, ◌<◌, ◌≤◌, Option, None, List, [], ◌∷◌, ◌++◌, length, get_or, drop, map, refl, sym, ap, ◌∙◌, arith, add-one, drop-cons}
 use Rattle.std.proofs.lemmas.List.{length-map, drop_all}
 use Rattle.heap_model.specs.Database.{Database, entry_data, data_in}

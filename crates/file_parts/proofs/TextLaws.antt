@@ -33,7 +33,7 @@ digit_of d small = hex_value (slice_index lower_digits d) d (IsDigits-lower_digi
 low : (d : ℕ) → d < 16 → nat_lt d 16 ≡ true
 low d small = grind arith
 
--- the digits of a byte, and those behind them
+-- the digits of a byte, and those after them
 byte_behind : (front b : ℕ) (bytes : List ℕ) → b < 256 → number_behind 16 front (encode_lower (b ∷ bytes)) ≡ number_behind 16 (front * 256 + b) (encode_lower bytes)
 unfolding encode_with
 byte_behind front b bytes small =
@@ -154,7 +154,7 @@ bytes_word (b ∷ bs) h =
     let parts = and_parts (begins_name b) (list_all is_name_byte bs) h in
     plain_is_word (b ∷ bs) (omega arith) (rw (first_plain b parts.0) (all_plain bs parts.1))
 
--- a name of a part has such bytes
+-- a name of a part has only bytes that it may have
 has_bytes : (name : List ℕ) → spelled_part name ≡ Some (Some name) → has_name_bytes name ≡ true
 has_bytes name h = by_bytes (has_name_bytes name) refl where
   by_bytes : (v : Bool) → has_name_bytes name ≡ v → has_name_bytes name ≡ true
@@ -197,7 +197,7 @@ field_here : {A : Type 0} (word first value : List ℕ) (n : ℕ) (texts : List 
 field_here word first value n texts spells x passed words same is back =
     rw (passed, words, is.alone, same, back) refl
 
--- the first line, which is such a one
+-- the first line, which has a word and a value
 first_line : (first value rest : List ℕ) → list_all is_shown first ≡ true → IsWord value → lines (first ++ (value ++ 10 ∷ rest)) ≡ (first ++ value) ∷ lines rest
 first_line first value rest shown is =
     ap lines (sym (append_assoc first value (10 ∷ rest)))

@@ -17,7 +17,7 @@ use Rattle.script_lines.specs.Spellings.{below, digit_value, number_below, numbe
 use Rattle.script_lines.proofs.LineLaws.{feed, lines_ended, drop_next}
 use Rattle.script_lines.proofs.ReadBack.{texts_are_words}
 
--- from a space to `~`, and the same without a space and the two bytes behind it
+-- from a space to `~`, and the same without a space and the two bytes after it
 abbrev pub is_shown : ℕ → Bool
 is_shown b = nat_le 32 b && nat_le b 126
 
@@ -158,7 +158,7 @@ digit_low d small = grind arith
 none_is : (n : ℕ) → None ≡ Some n → ⊥
 none_is n e = cc
 
--- the value of digits with one more behind them
+-- the value of digits with one more after them
 behind_more : (front n d : ℕ) (ds : List ℕ) → d < 10 → number_behind 10 front ds ≡ Some n → number_behind 10 front (ds ++ (48 + d) ∷ []) ≡ Some (n * 10 + d)
 behind_more front n d [] small is =
     let same : front ≡ n = cc in

@@ -1,4 +1,4 @@
--- What is written of a database is read back: the statements of the laws.
+-- The statements of the laws: texts are read back, and files are put together again.
 use Rattle.std.specs.Prelude.{◌≡◌, ◌≢◌, ◌≤◌, ◌<◌, ◌^◌, ⊤, ℕ, Bool, true, false, List, length, map, Option, Some, None, Ok, All}
 use Rattle.heap_model.specs.Bytes.{AreBytes}
 use Rattle.heap_model.specs.Database.{Database, Entry, a_record, a_resource, HeaderFits, data_in, has_resources, is_deleted}
@@ -10,19 +10,20 @@ use Rattle.file_parts.specs.Words.{is_name, spelled_part}
 use Rattle.file_parts.specs.Reading.{read_database}
 use Rattle.file_parts.specs.Packing.{with_parts}
 
--- a name stands for the part of this name, and not for none
+-- the name is a word that spells the part with this name, and not `none`
 abbrev pub IsPartName : Option (List ℕ) → Type 0
 IsPartName None = ⊤
 IsPartName (Some name) = spelled_part name ≡ Some (Some name)
 
--- the entry is of the kind, its numbers have room in their fields, and it has a part unless it is a deleted record
+-- the entry is of the kind, its numbers fit their fields, and it has a part unless it is a deleted
+-- record
 abbrev pub IsNamedEntry : Bool → Entry (Option (List ℕ)) → Type 0
 IsNamedEntry false (a_record attributes id part) = (attributes < 2 ^ 8) × (id < 2 ^ 24) × IsPartName part × (part ≡ None → is_deleted attributes ≡ true)
 IsNamedEntry false (a_resource kind id part) = ⊥
 IsNamedEntry true (a_record attributes id part) = ⊥
 IsNamedEntry true (a_resource kind id part) = (kind < 2 ^ 32) × (id < 2 ^ 16) × IsPartName part × (part ≢ None)
 
--- the database has a text: it has a name, and names of parts for its data
+-- the database has a text: it has a valid name, and names of parts instead of data
 pub record HasText (database : Database (Option (List ℕ))) : Type 0 where
   pub name : is_name database.header.name ≡ true
   pub bytes : AreBytes database.header.name
@@ -36,20 +37,22 @@ pub record HasText (database : Database (Option (List ℕ))) : Type 0 where
 abbrev pub TextsAreRead : Type 0
 TextsAreRead = (database : Database (Option (List ℕ))) → HasText database → read_database (database_text database) ≡ Ok database
 
--- ---- of a file that is taken apart
+-- ---- a file that is taken apart
 
--- The text of a database with the names of its parts is read as that, the parts are its data, and the file that is put
--- together of them is read as the database again and is its own canonical form.
+-- The text of the database, with the names of its parts, is read back. With the parts as data it
+-- gives the database again. The file that is put together from them is read as the database again,
+-- and is its own canonical form.
 pub record PacksBack (database : Database (Option (List ℕ))) : Type 0 where
   pub text : read_database (database_text (with_names database)) ≡ Ok (with_names database)
   pub parts : with_parts (map block_bytes (data_in database)) (with_names database) ≡ database
   pub again : Reads (file_of database) database
   pub file : (bytes : List ℕ) → IsCanonical (file_of database) bytes → bytes ≡ file_of database
 
--- ---- of a file that is put together
+-- ---- a file that is put together
 
--- The file is read as the database of its parts, with an ID given to each record that had 0 or that of an earlier record,
--- and with no busy record: so this is what the file is taken apart into.
+-- The file is read as the database of its parts, with the differences of `IsReadBack`. Each record
+-- with the ID 0, or with the ID of an earlier record, gets a free ID, and the seed moves along. No
+-- record is busy. So the file is taken apart into this database.
 pub record UnpacksBack (database : Database (Option (List ℕ))) (bytes : List ℕ) : Type 0 where
   pub read : Database (Option (List ℕ))
   pub reads : Reads bytes read

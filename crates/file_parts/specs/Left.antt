@@ -1,7 +1,7 @@
--- What is left of the lines of a text.
+-- The lines of a text that are left to read.
 use Rattle.std.specs.Prelude.{ℕ, List}
 
--- how many lines of a text were read, and the others
+-- the number of lines of a text that were read, and the other lines
 pub record Left : Type 0 where
   pub number : ℕ
   pub texts : List (List ℕ)

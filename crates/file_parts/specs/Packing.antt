@@ -1,4 +1,4 @@
--- What is promised of a file that is put together from parts.
+-- The file that is put together from parts.
 use Rattle.std.specs.Prelude.{◌≡◌, ◌+◌, ◌≤◌, ◌<◌, ⊤, ℕ, List, [], ◌∷◌, length, slice_index_or, Option, Some, None}
 use Rattle.heap_model.specs.Database.{Database, Entry, data_in, entry_with}
 use Rattle.heap_model.specs.Files.{block_size, first_block}
@@ -10,7 +10,7 @@ use Rattle.file_parts.specs.declared.packing.Places.{Places}
 use Rattle.file_parts.specs.declared.packing.PackFault.{PackFault}
 use Rattle.file_parts.specs.declared.packing.PackFault.TheVariants.{TooLarge, OutOfMemory}
 
--- the bytes of a part, if it is there
+-- the bytes of a part, if there is one
 abbrev pub filled : List ℕ → Option (List ℕ) → Option (List ℕ)
 filled bytes None = None
 filled bytes (Some name) = Some bytes
@@ -19,7 +19,7 @@ filled bytes (Some name) = Some bytes
 abbrev pub part_at : List (List ℕ) → ℕ → List ℕ
 part_at parts rank = slice_index_or parts rank []
 
--- entries with their data, the first of them that of a rank
+-- entries with their data; the first entry has the part of this rank
 abbrev pub filled_entries : List (List ℕ) → ℕ → List (Entry (Option (List ℕ))) → List (Entry (Option (List ℕ)))
 filled_entries parts rank [] = []
 filled_entries parts rank (entry ∷ entries) = entry_with (filled (part_at parts rank)) entry ∷ filled_entries parts (rank + 1) entries
@@ -28,7 +28,8 @@ filled_entries parts rank (entry ∷ entries) = entry_with (filled (part_at part
 abbrev pub packed_entries : List ListedEntry → List (List ℕ) → List (Entry (Option (List ℕ)))
 packed_entries items parts = filled_entries parts 2 (entries_listed items)
 
--- the database whose data are these parts, by their ranks; those that aren't there have no bytes
+-- the database with the bytes of these parts as its data, by their ranks; where the database has no
+-- part, there is no data
 abbrev pub with_parts : List (List ℕ) → Database (Option (List ℕ)) → Database (Option (List ℕ))
 with_parts parts database = record {
   header = database.header;
@@ -37,23 +38,23 @@ with_parts parts database = record {
   entries = filled_entries parts 2 database.entries;
 }
 
--- the database that was listed, and there are so many parts
+-- the listed database is good, and there is a part for each of its ranks
 pub record HasPartsOf (listed : Listed) (parts : List (List ℕ)) : Type 0 where
   pub good : IsListed listed
   pub count : length parts ≡ length (data_in (database_listed listed))
 
--- the database of the parts
+-- the database with the bytes of the parts
 abbrev pub packed : Listed → List (List ℕ) → Database (Option (List ℕ))
 packed listed parts = with_parts parts (database_listed listed)
 
--- where the blocks of the file of a database begin
+-- the offsets at which the blocks of the file of a database begin
 pub record ArePlaces (database : Database (Option (List ℕ))) (places : Places) : Type 0 where
   pub app : places.app ≡ first_block database
   pub sort : places.sort ≡ first_block database + block_size database.app_info
   pub entries : places.entries ≡ first_block database + block_size database.app_info + block_size database.sort_info
   pub most : places.entries ≤ most_bytes
 
--- a file of so many bytes is refused if they are too many
+-- a file of this size is refused as too large only if it has more than `most_bytes` bytes
 abbrev pub IsRefusedFor : ℕ → PackFault → Type 0
 IsRefusedFor size TooLarge = most_bytes < size
 IsRefusedFor size OutOfMemory = ⊤

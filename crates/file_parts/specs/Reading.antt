@@ -1,5 +1,5 @@
--- How the text of a database is read: the database, with names of parts for its data, or the first faulty line. Lines are
--- passed over as in scripts.
+-- The reader of the text of a database. It returns the database, with names of parts instead of
+-- data, or the first faulty line. It skips the same lines as in scripts.
 use Rattle.std.specs.Prelude.{◌≡◌, ◌≢◌, ◌==◌, ◌+◌, ◌^◌, ℕ, Bool, if◌then◌else◌, List, [], ◌∷◌, ◌++◌, length, codes, Option, Some, None, Result, Ok, Err}
 use Rattle.std.specs.Option.{option_map_or}
 use Rattle.std.specs.Str.Lines.{lines}
@@ -19,7 +19,7 @@ use Rattle.file_parts.specs.declared.header.Head.{Head}
 
 -- ---- lines
 
--- the next line that isn't passed over, and what is left then
+-- the next line that isn't skipped, and the lines that are left then
 abbrev pub next_of : ℕ → List (List ℕ) → Option (List ℕ × Left)
 next_of number [] = None
 next_of number (text ∷ texts) = if is_passed_over text then next_of (number + 1) texts else Some (text, left (number + 1) texts)
@@ -32,17 +32,18 @@ Read A = Result (A × Left) LineFault
 abbrev pub fault_in : ℕ → ScriptFault → LineFault
 fault_in line fault = record { line = line; fault = fault }
 
--- what the last line that was read came to
+-- the result of reading the last line
 abbrev pub read_at : {A : Type 0} → Left → Result A ScriptFault → Read A
 read_at rest (Err fault) = Err (fault_in rest.number fault)
 read_at rest (Ok value) = Ok (value, rest)
 
--- what goes on with a value
+-- goes on with a value
 abbrev pub then_read : {A B : Type 0} → Read A → (A → Left → Read B) → Read B
 then_read (Err fault) go_on = Err fault
 then_read (Ok both) go_on = go_on both.0 both.1
 
--- what a function returns, as what is read: a fault of a line, and not that memory was refused
+-- The function returns what is read: a value and the lines that are left, or a line's fault. It
+-- never reports out of memory.
 abbrev pub Gives : {A : Type 0} → Read A → Result A LineFault → Left → Type 0
 Gives read (Ok value) rest = read ≡ Ok (value, rest)
 Gives read (Err fault) rest = (read ≡ Err fault) × (fault.fault ≢ OutOfMemory)
@@ -54,14 +55,15 @@ IsGood rest (Some value) result = result ≡ Ok value
 
 -- ---- the lines of the header
 
--- The word of a line that begins with this one and has one more. A line that isn't there has too few words.
+-- The second and last word of the next line, which begins with `word`. A missing line has too few
+-- words.
 abbrev pub one_word : List ℕ → Left → Read (List ℕ)
 one_word word rest =
     option_map_or (λ next. read_at next.1 (only_word (words_after word (words_of next.0))))
     (next_of rest.number rest.texts)
     (Err (fault_in (rest.number + length rest.texts + 1) WrongCount))
 
--- what that word spells
+-- the value that this word spells
 abbrev pub spelled_at : {A : Type 0} → (List ℕ → Option A) → List ℕ → Left → Read A
 spelled_at spelled word rest = option_map_or (λ value. Ok (value, rest)) (spelled word) (Err (fault_in rest.number (BadWord 2)))
 
@@ -110,17 +112,17 @@ read_head rest =
 
 -- ---- the lines of the entries
 
--- the entry of a line after others, of which there may be 65,535
+-- the entry of a line after the entries before it, of which there may be at most 65,534
 abbrev pub one_more : Bool → List (Entry (Option (List ℕ))) → List ℕ → Result (Entry (Option (List ℕ))) ScriptFault
 one_more resources front text =
     if length front == 65535 then Err (BadWord 1) else read_entry resources (words_after (entry_word resources) (words_of text))
 
--- what goes on with an entry
+-- goes on with an entry
 abbrev pub unless_bad : ℕ → Result (Entry (Option (List ℕ))) ScriptFault → (Entry (Option (List ℕ)) → Result (List (Entry (Option (List ℕ)))) LineFault) → Result (List (Entry (Option (List ℕ)))) LineFault
 unless_bad line (Err fault) go_on = Err (fault_in line fault)
 unless_bad line (Ok entry) go_on = go_on entry
 
--- the entries of lines, after others
+-- the entries of the lines, after the entries before them
 abbrev pub read_entries : Bool → List (Entry (Option (List ℕ))) → ℕ → List (List ℕ) → Result (List (Entry (Option (List ℕ)))) LineFault
 read_entries resources front number [] = Ok front
 read_entries resources front number (text ∷ texts) =

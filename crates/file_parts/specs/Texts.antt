@@ -1,5 +1,5 @@
--- The text of a database whose data lies in parts: files of a folder. A database here has the names of parts for its
--- data, or none.
+-- The text of a database, with its data in parts: files of a folder. The database of a text has
+-- names of parts instead of data.
 use Rattle.std.specs.Prelude.{◌+◌, ◌/◌, ◌%◌, ◌++◌, ℕ, List, [], ◌∷◌, Option, Some, None, codes, decimal}
 use Rattle.std.specs.List.{flat_map}
 use Rattle.hex.specs.Hex.{encode_lower}
@@ -20,17 +20,17 @@ sort_name = codes "sort"
 abbrev pub entry_name : ℕ → List ℕ
 entry_name index = decimal (index / 10000) ++ (decimal (index / 1000 % 10) ++ (decimal (index / 100 % 10) ++ (decimal (index / 10 % 10) ++ decimal (index % 10))))
 
--- a name in place of data, if it is there
+-- a name instead of the data, if there is data
 abbrev pub named : List ℕ → Option (List ℕ) → Option (List ℕ)
 named name None = None
 named name (Some bytes) = Some name
 
--- entries with names in place of their data, the first of them with this index
+-- entries with names instead of their data; the first entry has this index
 abbrev pub named_entries : ℕ → List (Entry (Option (List ℕ))) → List (Entry (Option (List ℕ)))
 named_entries index [] = []
 named_entries index (entry ∷ entries) = entry_with (named (entry_name index)) entry ∷ named_entries (index + 1) entries
 
--- a database with names in place of its data
+-- a database with names instead of its data
 abbrev pub with_names : Database (Option (List ℕ)) → Database (Option (List ℕ))
 with_names database = record {
   header = database.header;
@@ -65,7 +65,8 @@ part_text (Some name) = codes " " ++ (name ++ codes "\n")
 abbrev pub info_line : List ℕ → Option (List ℕ) → List ℕ
 info_line word part = word ++ part_text part
 
--- what an entry is, and its values: of a record its attributes and its ID, of a resource its type and its id
+-- the kind of an entry, and its values: the attributes and the ID of a record, or the type and the
+-- id of a resource
 abbrev pub entry_values : Entry (Option (List ℕ)) → List ℕ
 entry_values (a_record attributes id part) = codes "record " ++ (encode_lower (attributes ∷ []) ++ (codes " " ++ decimal id))
 entry_values (a_resource kind id part) = codes "resource " ++ (spelled (u32_bytes kind) ++ (codes " " ++ decimal id))
@@ -74,7 +75,7 @@ entry_values (a_resource kind id part) = codes "resource " ++ (spelled (u32_byte
 abbrev pub entry_line : Entry (Option (List ℕ)) → List ℕ
 entry_line entry = entry_values entry ++ part_text (entry_data entry)
 
--- the lines of the info blocks, and those of entries
+-- the lines of the info blocks, and the lines of the entries
 unfoldable pub info_lines : Database (Option (List ℕ)) → List ℕ
 info_lines database = info_line (codes "app") database.app_info ++ info_line (codes "sort") database.sort_info
 

@@ -1,4 +1,4 @@
--- What is promised of a file that is unpacked.
+-- The parts of a file that is taken apart.
 use Rattle.std.specs.Prelude.{◌≡◌, ℕ, List, zero, suc, slice_index_or, Option, Some, None}
 use Rattle.heap_model.specs.Database.{Database, entry_with}
 use Rattle.heap_model.specs.Files.{HasNoFault, IsFirstFault, blocks_in}
@@ -12,12 +12,12 @@ use Rattle.file_parts.specs.declared.unpacked.PartName.TheVariants.{App, Sort, E
 use Rattle.file_parts.specs.declared.unpacked.UnpackFault.{UnpackFault}
 use Rattle.file_parts.specs.declared.unpacked.UnpackFault.TheVariants.{BadFile, OutOfMemory}
 
--- this is where the blocks of a file are, and the IDs that its records get
+-- these are the places of the blocks of a file, and the IDs that its records get
 pub record IsUnpacked (file : List ℕ) (unpacked : Unpacked) : Type 0 where
   pub blocks : HasBlocks file unpacked.blocks.items
   pub ids : HasIds file unpacked.given
 
--- the database that the file is read as
+-- the database that is read from the file
 abbrev pub database_of : List ℕ → Unpacked → Database (Option (List ℕ))
 database_of file unpacked = database_read file unpacked.given.ids.items unpacked.given.seed
 
@@ -27,8 +27,8 @@ name_text App = app_name
 name_text Sort = sort_name
 name_text (Entry index) = entry_name index
 
--- the name of the part of a rank: 0 for the AppInfo block, 1 for the SortInfo block, and 2 more than its index for the
--- data of an entry
+-- the name of the part of a rank: 0 for the AppInfo block, 1 for the SortInfo block, and 2 more
+-- than its index for the data of an entry
 abbrev pub name_at : ℕ → List ℕ
 name_at zero = app_name
 name_at (suc zero) = sort_name
@@ -39,11 +39,11 @@ pub record IsPart (file : List ℕ) (rank : ℕ) (part : Part) : Type 0 where
   pub name : name_text part.name ≡ name_at rank
   pub block : Some part.bytes.now ≡ slice_index_or (blocks_in file) rank None
 
--- why a file is not taken apart
+-- the reason why a file is not taken apart
 abbrev pub IsFaultOf : List ℕ → UnpackFault → Type 0
 IsFaultOf file (BadFile fault) = IsFirstFault file fault
 IsFaultOf file OutOfMemory = HasNoFault file
 
--- the line of the entry of an index, as the file is read, where these are the IDs of its records
+-- the line of the entry at an index, as it is read, if these are the IDs of the file's records
 abbrev pub line_at : List ℕ → List ℕ → ℕ → List ℕ
 line_at file ids index = entry_line (entry_with (named (entry_name index)) (entry_read_at file ids index))

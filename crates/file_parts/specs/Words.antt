@@ -1,4 +1,4 @@
--- The words of a line of the text of a database, and what they spell.
+-- The words of a line of the text of a database, and the values that they spell.
 use Rattle.std.specs.Prelude.{◌≡◌, ℕ, ◌==◌, ◌&&◌, ◌||◌, ◌^◌, not, nat_lt, Bool, true, false, if◌then◌else◌, List, [], ◌∷◌, length, codes, Option, Some, None, is_some, Result, Ok, Err}
 use Rattle.std.specs.List.{list_all}
 use Rattle.std.specs.Option.{option_and_then, option_map_or}
@@ -11,14 +11,14 @@ use Rattle.script_lines.specs.declared.fault.ScriptFault.TheVariants.{UnknownCom
 
 -- ---- the names of parts
 
--- a letter, a digit or `_`, with which the name of a part begins; behind it `-` and `.` may stand too
+-- the name of a part begins with a letter, a digit or `_`; after that it may also have `-` and `.`
 abbrev pub begins_name : ℕ → Bool
 begins_name b = is_ascii_alphabetic b || is_ascii_digit b || b == 95
 
 abbrev pub is_name_byte : ℕ → Bool
 is_name_byte b = begins_name b || b == 45 || b == 46
 
--- whether these are such bytes
+-- whether a name of a part may have these bytes
 abbrev pub has_name_bytes : List ℕ → Bool
 has_name_bytes [] = false
 has_name_bytes (b ∷ bs) = begins_name b && list_all is_name_byte bs
@@ -31,7 +31,7 @@ part_name word = if has_name_bytes word && not (bytes_eq word (codes "database")
 abbrev pub spelled_part : List ℕ → Option (Option (List ℕ))
 spelled_part word = if bytes_eq word (codes "none") then Some None else option_map_or (λ name. Some (Some name)) (part_name word) None
 
--- a part, which has to be there, if nothing may stand in its place
+-- the part, which may be `none` only if `may_miss`
 abbrev pub unless_missing : Bool → Option (List ℕ) → Option (Option (List ℕ))
 unless_missing may_miss part = if is_some part || may_miss then Some part else None
 
@@ -58,29 +58,30 @@ words_after word (Err number) = Err (BadWord number)
 words_after word (Ok []) = Err UnknownCommand
 words_after word (Ok (first ∷ words)) = if bytes_eq first word then Ok words else Err UnknownCommand
 
--- the one word that has to be there
+-- the only word; there must be exactly one
 abbrev pub only_word : Result (List (List ℕ)) ScriptFault → Result (List ℕ) ScriptFault
 only_word (Err fault) = Err fault
 only_word (Ok []) = Err WrongCount
 only_word (Ok (word ∷ [])) = Ok word
 only_word (Ok (word ∷ other ∷ words)) = Err WrongCount
 
--- what goes on with a value, or the word of a number that spells none
+-- goes on with a value, or reports the word with this number if there is none
 abbrev pub or_bad : {A B : Type 0} → ℕ → Option A → (A → Result B ScriptFault) → Result B ScriptFault
 or_bad number None go_on = Err (BadWord number)
 or_bad number (Some value) go_on = go_on value
 
--- a value, or that the word of a number spells none
+-- a value, or the fault of the word with this number if there is none
 abbrev pub IsGoodWord : {A : Type 0} → ℕ → Option A → Result A ScriptFault → Type 0
 IsGoodWord number None result = result ≡ Err (BadWord number)
 IsGoodWord number (Some value) result = result ≡ Ok value
 
--- the words with which the lines of entries begin
+-- the first word of the line of an entry
 abbrev pub entry_word : Bool → List ℕ
 entry_word true = codes "resource"
 entry_word false = codes "record"
 
--- the record of three words: its attributes in hex, its ID, and its part, which may miss if it is deleted
+-- the record of three words: its attributes in hex, its ID, and its part, which may be `none` if
+-- the record is deleted
 abbrev pub record_of_words : List ℕ → List ℕ → List ℕ → Result (Entry (Option (List ℕ))) ScriptFault
 record_of_words attributes id part =
     or_bad 2 (hex_below (2 ^ 8) attributes) (λ attributes.
@@ -100,7 +101,7 @@ abbrev pub entry_of_words : Bool → List ℕ → List ℕ → List ℕ → Resu
 entry_of_words true first second third = resource_of_words first second third
 entry_of_words false first second third = record_of_words first second third
 
--- the entry of the words after the first, which have to be three
+-- the entry that the words after the first one spell; there must be exactly three
 abbrev pub three_words : Bool → List (List ℕ) → Result (Entry (Option (List ℕ))) ScriptFault
 three_words resources [] = Err WrongCount
 three_words resources (first ∷ []) = Err WrongCount

@@ -15,23 +15,23 @@ use allowance::{Allowance, push};
 use db_format::{DbEntry, RecordAttrs, RecordEntry, ResourceEntry};
 use script_lines::{LineFault, ScriptFault, four_bytes_of, hex_byte_of, short_of};
 
-/// The most entries that a database has.
+/// The greatest number of entries of a database.
 const MOST_ENTRIES: usize = 65_535;
 
-/// An entry, and the part that its data is in.
+/// An entry, and the part with its data.
 #[derive(Drop)]
 pub(crate) struct ListedEntry<'a> {
     pub(crate) entry: DbEntry,
     pub(crate) part: Option<PartFile<'a>>,
 }
 
-/// Memory was refused.
+/// The fault if an allocation failed.
 const REFUSED: LineFault = LineFault {
     line: 0,
     fault: ScriptFault::OutOfMemory,
 };
 
-/// Returns a value, or that the word of a number is bad.
+/// Returns a value, or the fault of the word with this number if there is no value.
 fn good_word<T: Drop>(value: Option<T>, number: usize) -> Result<T, ScriptFault>
     ensures { words.IsGoodWord number value result }
 {
@@ -41,7 +41,7 @@ fn good_word<T: Drop>(value: Option<T>, number: usize) -> Result<T, ScriptFault>
     }
 }
 
-/// Returns the record of three words.
+/// Returns the record that three words spell.
 fn record_of<'a>(
     attributes: &[u8],
     id: &[u8],
@@ -67,7 +67,7 @@ fn record_of<'a>(
     })
 }
 
-/// Returns the resource of three words.
+/// Returns the resource that three words spell.
 fn resource_of<'a>(kind: &[u8], id: &[u8], part: &'a [u8]) -> Result<ListedEntry<'a>, ScriptFault>
     ensures ok { IfOk result (λ entry.
         words.resource_of_words kind.now id.now part.now ≡ Ok (entry_listed entry)) }
@@ -85,7 +85,7 @@ fn resource_of<'a>(kind: &[u8], id: &[u8], part: &'a [u8]) -> Result<ListedEntry
     })
 }
 
-/// Returns the entry of the words after the first.
+/// Returns the entry that the words after the first one spell.
 fn entry_of<'a>(resources: bool, left: WordsLeft<'a>) -> Result<ListedEntry<'a>, ScriptFault>
     requires whole { words_of left.text.now ≡ Ok (words_in left.text.now) }
     requires count { left.count ≡ length (words_in left.text.now) }
@@ -110,7 +110,7 @@ fn entry_of<'a>(resources: bool, left: WordsLeft<'a>) -> Result<ListedEntry<'a>,
     }
 }
 
-/// Returns the entry of a line that isn't passed over, after so many others.
+/// Returns the entry of a line that isn't skipped, after `count` other entries.
 fn read_entry<'a>(
     resources: bool,
     count: usize,

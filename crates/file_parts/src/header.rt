@@ -22,7 +22,7 @@ pub(crate) struct Title {
     pub(crate) version: u16,
 }
 
-/// When a database was created, modified and backed up, and its modification number.
+/// The dates at which a database was created, modified and backed up, and its modification number.
 #[derive(Clone, Copy)]
 pub(crate) struct Counts {
     pub(crate) created: u32,
@@ -46,7 +46,7 @@ pub(crate) struct Infos<'a> {
     pub(crate) sort: Option<PartFile<'a>>,
 }
 
-/// All that the lines of the header say.
+/// The values of the lines of the header.
 #[derive(Drop)]
 pub(crate) struct Head<'a> {
     pub(crate) title: Title,
@@ -55,7 +55,7 @@ pub(crate) struct Head<'a> {
     pub(crate) infos: Infos<'a>,
 }
 
-/// Reads the word after the first one of the next line, which has to be this one.
+/// Reads the second and last word of the next line, which has to begin with `word`.
 fn read_word<'a>(lines: &mut Lines<'a>, word: &[u8]) -> Result<&'a [u8], LineFault>
     ensures ok { IfOk result (λ value.
         reading.one_word word.now lines.old ≡ Ok (value.now, lines.new)) }
@@ -75,7 +75,7 @@ fn read_word<'a>(lines: &mut Lines<'a>, word: &[u8]) -> Result<&'a [u8], LineFau
     Ok(first_word(&mut rest.text))
 }
 
-/// Returns a value, or the fault of the second word of the last line.
+/// Returns a value, or the fault of the second word of the last line if there is no value.
 fn good<T: Drop>(lines: &Lines<'_>, value: Option<T>) -> Result<T, LineFault>
     ensures { reading.IsGood lines.now value result }
 {

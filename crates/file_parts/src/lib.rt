@@ -1,4 +1,4 @@
-//! PDB and PRC files, taken apart into files of a folder, and put together from them.
+//! PDB and PRC files that are taken apart into the files of a folder, and put together again.
 //!
 //! The folder has the text `database` and a file for each block, a *part*:
 //!
@@ -18,7 +18,8 @@
 //! record 01 1 00000
 //! ```
 //!
-//! `specs/Texts.antt` defines the text: start there. No folder is known here: parts are names and bytes.
+//! Start with `specs/Texts.antt`, which defines the text. This crate knows no folders: a part is a
+//! name and bytes.
 #![tactic(auto)]
 
 mod entries;

@@ -8,7 +8,8 @@ ghost use Rattle.file_parts.specs.Reading.{fault_in, next_of};
 use script_lines::{LineFault, ScriptFault, cut_line, is_passed_over};
 use std::marker::Model;
 
-/// The lines of a text that are left, and how many were read. Contracts see these lines and that number.
+/// The lines of a text that are left, and the number of lines that were read. Contracts see these
+/// two.
 #[derive(Drop)]
 pub(crate) struct Lines<'a> {
     rest: &'a [u8],
@@ -28,7 +29,7 @@ impl<'a> Model for Lines<'a> {
 }
 
 impl<'a> Lines<'a> {
-    /// Returns the lines of a text, of which none was read.
+    /// Returns the lines of a text, with none read yet.
     pub(crate) fn of(text: &'a [u8]) -> Lines<'a>
         ensures { result ≡ left 0 (lines text.now) }
     {
@@ -38,7 +39,7 @@ impl<'a> Lines<'a> {
         }
     }
 
-    /// Reads up to the next line that isn't passed over.
+    /// Reads up to the next line that isn't skipped.
     pub(crate) fn next(&mut self) -> Option<&'a [u8]>
         ensures { MatchOption result
             ((next_of self.old.number self.old.texts ≡ None)
@@ -56,7 +57,7 @@ impl<'a> Lines<'a> {
         None
     }
 
-    /// Returns a fault of the last line that was read.
+    /// Returns the fault for the last line that was read.
     pub(crate) fn fault(&self, fault: ScriptFault) -> LineFault
         ensures { result ≡ fault_in self.now.number fault }
     {
@@ -66,7 +67,7 @@ impl<'a> Lines<'a> {
         }
     }
 
-    /// Returns the fault of a line that is missing after the last one.
+    /// Returns the fault for a line that is missing after the last one.
     pub(crate) fn missing(&self) -> LineFault
         ensures { result ≡ fault_in (self.now.number + 1) ScriptFault.WrongCount }
     {

@@ -1,4 +1,4 @@
-//! The text of a database, read.
+//! The text of a database, once it is read.
 
 ghost use Rattle.std.specs.Prelude.{◌≡◌, ◌≢◌, ◌<◌, ◌+◌, Ok, Err, None, length, map, slice_index_or, IfOk, IfErr};
 ghost use Rattle.db_format.specs.Headers as headers;
@@ -14,7 +14,7 @@ use allowance::Allowance;
 use db_format::{DbAttrs, DbHeader, INFO_BLOCKS};
 use script_lines::{LineFault, ScriptFault};
 
-/// A database, as its text has it: with the names of parts for its data.
+/// A database as it is in its text: with names of parts instead of data.
 #[derive(Drop)]
 pub struct Listed<'a> {
     pub(crate) header: DbHeader,
@@ -47,11 +47,13 @@ fn header_of(title: Title, counts: Counts, kinds: Kinds) -> DbHeader
     }
 }
 
-/// Reads the text of a database. Takes memory for its entries.
+/// Reads the text of a database. It allocates the list of its entries.
 ///
 /// # Errors
 ///
-/// The first faulty line, counted from 1, or `OutOfMemory`, with the line 0.
+/// - `OutOfMemory`, with the line 0: if an allocation failed.
+/// - any other fault, with the line counted from 1: if that line is the first faulty one (see
+///   `read_database`).
 #[tactic(auto, using(crate::proofs::ReadTexts::head_faulty))]
 pub fn read_listed<'a, A: Allowance>(memory: &A, text: &'a [u8]) -> Result<Listed<'a>, LineFault>
     ensures ok { IfOk result (λ listed. read_database text.now ≡ Ok (database_listed listed)) }
@@ -78,7 +80,7 @@ pub fn read_listed<'a, A: Allowance>(memory: &A, text: &'a [u8]) -> Result<Liste
 }
 
 impl<'a> Listed<'a> {
-    /// Returns how many ranks there are: two for the info blocks, and one for each entry.
+    /// Returns the number of ranks: two for the info blocks, and one for each entry.
     pub fn rank_count(&self) -> usize
         requires { IsListed self.now }
         ensures { result ≡ length (data_in (database_listed self.now)) }
@@ -86,8 +88,8 @@ impl<'a> Listed<'a> {
         INFO_BLOCKS + self.entries.as_slice().len()
     }
 
-    /// Returns the part of a rank: 0 for the AppInfo block, 1 for the SortInfo block, and 2 more than its index for the
-    /// data of an entry. `None` if there is no block.
+    /// Returns the part of a rank, or `None` if there is no block. The rank is 0 for the AppInfo
+    /// block, 1 for the SortInfo block, and 2 more than its index for the data of an entry.
     pub fn part(&self, rank: usize) -> &Option<PartFile<'a>>
         requires { rank < length (data_in (database_listed self.now)) }
         ensures { result.now ≡ slice_index_or (data_in (database_listed self.now)) rank None }

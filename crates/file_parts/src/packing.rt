@@ -25,10 +25,10 @@ use db_format::{
 use heap_model::Bytes;
 use thiserror::Error;
 
-/// The most bytes that a file may have.
+/// The greatest size of a file in bytes.
 const MOST_BYTES: u32 = 16_777_216;
 
-/// Why no file was put together.
+/// The reason why no file was put together.
 #[derive(Clone, Copy, Debug, PartialEq, Eq, Error)]
 pub enum PackFault {
     /// The file would have more than 16,777,216 bytes.
@@ -39,7 +39,7 @@ pub enum PackFault {
     OutOfMemory,
 }
 
-/// Where the blocks begin: AppInfo, SortInfo, and the data of the entries.
+/// The offsets at which the blocks begin: AppInfo, SortInfo, and the data of the entries.
 #[derive(Clone, Copy)]
 pub(crate) struct Places {
     pub(crate) app: u32,
@@ -47,7 +47,7 @@ pub(crate) struct Places {
     pub(crate) entries: u32,
 }
 
-/// Returns the bytes of a part: none if there is no part.
+/// Returns the bytes of a part, and none if there is no part.
 fn bytes_of<'a>(part: &Option<PartFile<'_>>, bytes: &'a Bytes) -> &'a [u8]
     ensures { result.now ≡ block_bytes (filled bytes.now part.now) }
 {
@@ -57,7 +57,7 @@ fn bytes_of<'a>(part: &Option<PartFile<'_>>, bytes: &'a Bytes) -> &'a [u8]
     }
 }
 
-/// Returns the bytes of the part of a rank: none if there is no part.
+/// Returns the bytes of the part of a rank, and none if there is no part.
 fn part_bytes<'a>(part: &Option<PartFile<'_>>, parts: &'a [Bytes], rank: usize) -> &'a [u8]
     requires { rank < length parts.now }
     ensures { result.now ≡ block_bytes (filled (part_at parts.now rank) part.now) }
@@ -65,7 +65,7 @@ fn part_bytes<'a>(part: &Option<PartFile<'_>>, parts: &'a [Bytes], rank: usize) 
     bytes_of(part, &parts[rank])
 }
 
-/// Returns the offset of a part that begins at one, or 0 if there is no part.
+/// Returns the offset `at` of a part, and 0 if there is no part.
 fn offset_of(at: u32, part: &Option<PartFile<'_>>) -> u32
     ensures { (bytes : List ℕ) → result ≡ files.block_offset at (filled bytes part.now) }
 {
@@ -75,7 +75,7 @@ fn offset_of(at: u32, part: &Option<PartFile<'_>>) -> u32
     }
 }
 
-/// Returns where a block ends that begins at an offset.
+/// Returns the end of a block that begins at an offset.
 fn end_of(at: u32, block: &[u8]) -> Result<u32, PackFault>
     requires { at ≤ most_bytes }
     ensures is { IfOk result (λ end. end ≡ at + length block.now) }
@@ -89,7 +89,7 @@ fn end_of(at: u32, block: &[u8]) -> Result<u32, PackFault>
     Ok(at + block.len() as u32)
 }
 
-/// Returns where the first block begins: after the entries and two bytes.
+/// Returns the offset of the first block: after the entries and two bytes.
 fn first_place(listed: &Listed<'_>) -> u32
     requires { IsListed listed.now }
     ensures is { (parts : List (List ℕ)) → result ≡ first_block (packed listed.now parts) }
@@ -99,7 +99,7 @@ fn first_place(listed: &Listed<'_>) -> u32
     (entry_offset(DbAttrs(listed.header.attributes).has_resources(), count) + 2) as u32
 }
 
-/// Returns where the blocks of the file begin.
+/// Returns the offsets at which the blocks of the file begin.
 fn find_places(listed: &Listed<'_>, parts: &[Bytes]) -> Result<Places, PackFault>
     requires { HasPartsOf listed.now parts.now }
     ensures are { IfOk result (ArePlaces (packed listed.now parts.now)) }
@@ -113,7 +113,7 @@ fn find_places(listed: &Listed<'_>, parts: &[Bytes]) -> Result<Places, PackFault
     }
 }
 
-/// Returns where the blocks of the file begin, of which these are known.
+/// Returns the offsets at which the blocks of the file begin. Two of them are known.
 fn find_entries(
     listed: &Listed<'_>,
     parts: &[Bytes],
@@ -147,7 +147,8 @@ fn header_bytes(listed: &Listed<'_>, places: Places) -> [u8; HEADER_SIZE]
     header.to_bytes()
 }
 
-/// Returns an entry as the file has it: no record is busy, and its data begins at an offset.
+/// Returns an entry as it is written to the file: no record is busy, and its data begins at an
+/// offset.
 fn placed(listed: &ListedEntry<'_>, at: u32) -> DbEntry
     requires { HasFittingId listed.now.entry }
     ensures is { (bytes : List ℕ) → entry_of result
@@ -172,7 +173,7 @@ fn placed(listed: &ListedEntry<'_>, at: u32) -> DbEntry
     }
 }
 
-/// Puts bytes after others.
+/// Appends bytes.
 fn append<A: Allowance>(memory: &A, bytes: &mut Vec<u8>, more: &[u8]) -> Result<(), PackFault>
     ensures items { OnOk result (bytes.new.items ≡ bytes.old.items ++ more.now) }
     ensures memory { IfErr result (λ fault. fault ≡ PackFault.OutOfMemory) }
@@ -184,7 +185,7 @@ fn append<A: Allowance>(memory: &A, bytes: &mut Vec<u8>, more: &[u8]) -> Result<
     }
 }
 
-/// Puts the entries, whose data begins at `first`, after other bytes.
+/// Appends the entries. Their data begins at the offset `first`.
 fn append_entries<A: Allowance>(
     memory: &A,
     entries: &[ListedEntry<'_>],
@@ -215,7 +216,7 @@ fn append_entries<A: Allowance>(
     Ok(())
 }
 
-/// Puts the blocks after other bytes.
+/// Appends the blocks.
 fn append_blocks<A: Allowance>(
     memory: &A,
     listed: &Listed<'_>,
@@ -234,7 +235,7 @@ fn append_blocks<A: Allowance>(
     Ok(())
 }
 
-/// Returns the file of the database that the parts spell.
+/// Returns the file of the database with these parts.
 fn file_bytes<A: Allowance>(
     memory: &A,
     listed: &Listed<'_>,
@@ -261,12 +262,13 @@ fn file_bytes<A: Allowance>(
     Ok(bytes)
 }
 
-/// Puts the parts of a listed database together, by their ranks: returns the canonical form of the file of the database.
-/// Parts that the list doesn't have are passed over.
+/// Puts the parts of a listed database together, by their ranks, and returns the canonical form of
+/// the database's file. A part is ignored if the list has no name for its rank.
 ///
 /// # Errors
 ///
-/// `TooLarge` if the file would have more than 16,777,216 bytes; `OutOfMemory`.
+/// - `TooLarge`: if the file would have more than 16,777,216 bytes.
+/// - `OutOfMemory`: if an allocation failed.
 pub fn pack<A: Allowance>(
     memory: &A,
     listed: &Listed<'_>,

@@ -4,7 +4,7 @@ ghost use Rattle.std.specs.Prelude.{◌≡◌};
 
 use std::marker::Model;
 
-/// The name of the file of a part, as a text lends it. Contracts see its bytes.
+/// The name of the file of a part, borrowed from a text. Contracts see its bytes.
 #[derive(Drop)]
 pub struct PartFile<'a> {
     name: &'a [u8],

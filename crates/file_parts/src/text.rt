@@ -53,7 +53,7 @@ fn put_header<'a, W: Write>(out: &mut Counted<W>, header: &'a DbHeader) -> Resul
     )
 }
 
-/// Writes the line of an info block: its word is the name of its part too.
+/// Writes the line of an info block. The line's word is also the name of its part.
 fn put_info<W: Write>(
     out: &mut Counted<W>,
     word: &[u8],
@@ -76,7 +76,7 @@ fn put_info<W: Write>(
     }
 }
 
-/// Writes what an entry is, and its values.
+/// Writes the kind of an entry, and its values.
 fn put_values<W: Write>(out: &mut Counted<W>, entry: DbEntry) -> Result<(), WriteFault>
     ensures { (part : Option (List ℕ)) → Writes W.contents out.old out.new
         (entry_values (entry_with (λ _. part) (entry_of entry))) (is_ok result) }
@@ -130,7 +130,8 @@ fn put_part<W: Write>(
     }
 }
 
-/// Returns the entry of an index as it is read: no record is busy, and each has the ID that it gets.
+/// Returns the entry at an index as it is read: no record is busy, and each has the ID that it
+/// gets.
 fn entry_at(file: &[u8], ids: &[u32], index: u16) -> DbEntry
     requires good { HasNoFault file.now }
     requires ids { HasIdsFor file.now ids.now }
@@ -150,7 +151,7 @@ fn entry_at(file: &[u8], ids: &[u32], index: u16) -> DbEntry
     }
 }
 
-/// Writes the line of the entry of an index.
+/// Writes the line of the entry at an index.
 fn put_entry<W: Write>(
     out: &mut Counted<W>,
     file: &[u8],
@@ -255,7 +256,7 @@ fn put_body<W: Write>(
     }
 }
 
-/// Returns the header as it is read: with the last seed that was given.
+/// Returns the header as it is read: with the seed that was given last.
 fn header_read(file: &[u8], unpacked: &Unpacked) -> DbHeader
     requires { IsUnpacked file.now unpacked.now }
     ensures { header_of result ≡ reading.header_read file.now unpacked.now.given.seed }
@@ -265,7 +266,7 @@ fn header_read(file: &[u8], unpacked: &Unpacked) -> DbHeader
     header
 }
 
-/// Writes the text of the database that a file is read as, with the names of its parts.
+/// Writes the text of the database that is read from a file, with the names of its parts.
 fn put_text<W: Write>(
     out: &mut Counted<W>,
     file: &[u8],
@@ -286,8 +287,13 @@ fn put_text<W: Write>(
     }
 }
 
-/// Writes the text `database` of a file that was taken apart. Flushes nothing, and takes no memory. After a write that
-/// fails, nothing more is written.
+/// Writes the text `database` of a file that was taken apart.
+///
+/// It doesn't flush `out`, and allocates nothing. After a write fails, it writes nothing more.
+///
+/// # Errors
+///
+/// - `WriteFault`: if a write failed, or took 0 bytes.
 pub fn put_database<W: Write>(
     out: &mut Counted<W>,
     file: &[u8],

@@ -16,7 +16,7 @@ use pdb_format::{Block, check_file, find_blocks_from};
 use std::alloc::AllocError;
 use thiserror::Error;
 
-/// Why a file was not taken apart.
+/// The reason why a file was not taken apart.
 #[derive(Clone, Copy, Debug, PartialEq, Eq, Error)]
 pub enum UnpackFault {
     /// The file has this first fault.
@@ -37,11 +37,11 @@ pub struct Unpacked {
 /// The name of a part.
 #[derive(Clone, Copy, Debug, PartialEq, Eq)]
 pub enum PartName {
-    /// Of the AppInfo block: `app`.
+    /// The part of the AppInfo block: `app`.
     App,
-    /// Of the SortInfo block: `sort`.
+    /// The part of the SortInfo block: `sort`.
     Sort,
-    /// Of the data of an entry: its index in five digits.
+    /// The part of the data of an entry: its index in five digits.
     Entry(usize),
 }
 
@@ -52,11 +52,12 @@ pub struct Part<'a> {
     pub bytes: &'a [u8],
 }
 
-/// Takes a file apart. Takes memory for where its blocks are and for the IDs of its records.
+/// Takes a file apart. It allocates the places of the blocks and the IDs of the records.
 ///
 /// # Errors
 ///
-/// `BadFile` with the first fault of the file; `OutOfMemory`.
+/// - `BadFile`: if the file has a fault. It contains the first one.
+/// - `OutOfMemory`: if an allocation failed.
 pub fn unpack<A: Allowance>(memory: &A, file: &[u8]) -> Result<Unpacked, UnpackFault>
     requires { length file.now ≤ most_bytes }
     ensures done { IfOk result (IsUnpacked file.now) }
@@ -89,7 +90,7 @@ fn taken_apart<A: Allowance>(memory: &A, file: &[u8]) -> Result<Unpacked, AllocE
     Ok(Unpacked { blocks, given })
 }
 
-/// Bytes are below 256.
+/// Proves that the bytes are below 256.
 fn are_bytes(file: &[u8]) -> usize
     ensures { AreBytes file.now }
 {
@@ -97,15 +98,15 @@ fn are_bytes(file: &[u8]) -> usize
 }
 
 impl Unpacked {
-    /// Returns how many ranks there are: two for the info blocks, and one for each entry.
+    /// Returns the number of ranks: two for the info blocks, and one for each entry.
     pub fn rank_count(&self) -> usize
         ensures { (file : List ℕ) → IsUnpacked file self.now → result ≡ length (blocks_in file) }
     {
         self.blocks.as_slice().len()
     }
 
-    /// Returns the part of a rank: 0 for the AppInfo block, 1 for the SortInfo block, and 2 more than its index for the
-    /// data of an entry. `None` if there is no block.
+    /// Returns the part of a rank, or `None` if there is no block. The rank is 0 for the AppInfo
+    /// block, 1 for the SortInfo block, and 2 more than its index for the data of an entry.
     pub fn part<'a>(&self, file: &'a [u8], rank: usize) -> Option<Part<'a>>
         requires unpacked { IsUnpacked file.now self.now }
         requires inside { rank < length (blocks_in file.now) }

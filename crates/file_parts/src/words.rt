@@ -1,4 +1,4 @@
-//! The words of a line, and what they spell.
+//! The words of a line, and the values that they spell.
 
 ghost use Rattle.std.specs.Prelude.{◌≡◌, ◌≢◌, ◌+◌, ◌<◌, ◌^◌, ◌∷◌, List, ℕ, [], length, true, false, Ok, Err, IfOk, IfErr, option_map};
 ghost use Rattle.std.specs.List.{list_all};
@@ -12,17 +12,17 @@ use crate::part_file::PartFile;
 use db_format::{GREATEST_ID, NameField};
 use script_lines::{ScriptFault, WordCut, count_words, cut_word, number_of, text_of};
 
-/// The most bytes of a name.
+/// The greatest length of a name in bytes.
 const MOST_NAME: usize = 31;
 
-/// The words of a text: how many there are, and the text.
+/// The words of a text: their number, and the text.
 #[derive(Clone, Copy)]
 pub(crate) struct WordsLeft<'a> {
     pub(crate) count: usize,
     pub(crate) text: &'a [u8],
 }
 
-/// Returns the words after the first one of a line, which has to be this one.
+/// Returns the words after the first one of a line, which has to begin with `word`.
 pub(crate) fn words_behind<'a>(line: &'a [u8], word: &[u8]) -> Result<WordsLeft<'a>, ScriptFault>
     ensures ok { IfOk result (λ rest. words_after word.now (words_of line.now) ≡ Ok (words_in rest.text.now)) }
     ensures whole { IfOk result (λ rest. words_of rest.text.now ≡ Ok (words_in rest.text.now)) }
@@ -46,7 +46,7 @@ pub(crate) fn words_behind<'a>(line: &'a [u8], word: &[u8]) -> Result<WordsLeft<
     })
 }
 
-/// Takes the first word off a text that has one.
+/// Takes the first word of a text that has one.
 pub(crate) fn first_word<'a>(text: &mut &'a [u8]) -> &'a [u8]
     requires whole { words_of text.old.now ≡ Ok (words_in text.old.now) }
     requires some { 0 < length (words_in text.old.now) }
@@ -62,21 +62,21 @@ pub(crate) fn first_word<'a>(text: &mut &'a [u8]) -> &'a [u8]
     }
 }
 
-/// Whether the name of a part may begin with a byte.
+/// Returns whether the name of a part may begin with a byte.
 fn begins_name(byte: u8) -> bool
     ensures { result ≡ words.begins_name byte }
 {
     byte.is_ascii_alphabetic() || byte.is_ascii_digit() || byte == b'_'
 }
 
-/// Whether a byte may stand in the name of a part after the first one.
+/// Returns whether the name of a part may have a byte after the first one.
 fn is_name_byte(byte: u8) -> bool
     ensures { result ≡ words.is_name_byte byte }
 {
     begins_name(byte) || byte == b'-' || byte == b'.'
 }
 
-/// Whether all of these may.
+/// Returns whether the name of a part may have all of these bytes after the first one.
 fn are_name_bytes(bytes: &[u8]) -> bool
     ensures { result ≡ list_all words.is_name_byte bytes.now }
 {
@@ -88,7 +88,7 @@ fn are_name_bytes(bytes: &[u8]) -> bool
     true
 }
 
-/// Whether these are the bytes of the name of a part.
+/// Returns whether these are the bytes of the name of a part.
 fn has_name_bytes(word: &[u8]) -> bool
     ensures { result ≡ words.has_name_bytes word.now }
 {
@@ -98,7 +98,7 @@ fn has_name_bytes(word: &[u8]) -> bool
     }
 }
 
-/// Returns the name of a part, if a word is one.
+/// Returns the name of a part, if the word is one.
 fn name_of_part(word: &[u8]) -> Option<PartFile<'_>>
     ensures { result ≡ part_name word.now }
 {
@@ -109,7 +109,7 @@ fn name_of_part(word: &[u8]) -> Option<PartFile<'_>>
     }
 }
 
-/// Returns the part that a word names, or that there is none.
+/// Returns the part that a word names. For the word `none` it returns `Some(None)`.
 pub(crate) fn part_of(word: &[u8]) -> Option<Option<PartFile<'_>>>
     ensures { result ≡ spelled_part word.now }
 {
@@ -119,7 +119,7 @@ pub(crate) fn part_of(word: &[u8]) -> Option<Option<PartFile<'_>>>
     Some(Some(name_of_part(word)?))
 }
 
-/// The same, if there is a part or nothing may stand in its place.
+/// The same as `part_of`, but the word `none` is refused unless `may_miss`.
 pub(crate) fn part_unless(may_miss: bool, word: &[u8]) -> Option<Option<PartFile<'_>>>
     ensures { result ≡ part_or may_miss word.now }
 {

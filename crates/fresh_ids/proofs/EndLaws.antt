@@ -1,4 +1,4 @@
--- How far the IDs are free from one on, and the ID next to the seed where it is free.
+-- How far the IDs are free from one on, and the ID next to the seed if it is free.
 use Rattle.std.proofs.Common.{◌≡◌, ℕ, ◌<◌, List, sym, ap, ◌∙◌, arith, inl, inr}
 use Rattle.std.proofs.lemmas.Bool.{cases_lt}
 use Rattle.heap_model.specs.Bytes.{u32_at}
@@ -28,14 +28,14 @@ end_of_all body first end h = record {
 
 -- ---- the ID for a new record
 
--- it is next to the seed, where that is free
+-- it is next to the seed, if that ID is free
 pub next_fresh : (body : List ℕ) (field seed id : ℕ) → field ≡ u32_at body seed_at → seed ≡ seed_in field → id ≡ id_behind seed 0 → times id (unique_ids (database_in body)) ≡ 0
     → IsFresh (unique_ids (database_in body)) (seed_in (database_in body).header.seed) id
 next_fresh body field seed id read low is free =
     let first : IsFirstFree body seed 0 = record { here = ap (λ (n : ℕ). times n (unique_ids (database_in body))) (sym is) ∙ free; none_below = λ other less also. absurd (omega arith) } in
     fresh_here body field seed 0 id read low first is
 
--- it is in front of the end that is found behind it
+-- it is before the end that is found after it
 pub fresh_more : (ids : List ℕ) (field id end : ℕ) → IsFresh ids (seed_in field) id → IsEndOfFree ids id end → id < end
 fresh_more ids field id end fresh is = elim (cases_lt id end) [
   | inl below ↦ below

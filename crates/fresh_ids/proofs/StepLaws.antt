@@ -1,4 +1,4 @@
--- Steps behind a seed: which a set has, and which is the first that is free.
+-- Steps after a seed: those that a set has, and the first that is free.
 use Rattle.std.proofs.Common.{◌≡◌, ℕ, ◌+◌, ◌*◌, ◌<◌, ◌≤◌, List, [], ◌∷◌, length, Some, refl, sym, ap, subst, ◌∙◌, arith, inl, inr}
 use Rattle.std.proofs.lemmas.Bool.{cases_eq, cases_lt}
 use Rattle.std.proofs.lemmas.List.FromFn.{length-map-range_with_len}
@@ -104,7 +104,7 @@ first_within body taken seed steps h m room = record {
   none_below = λ other less free. m.none_below other less ((free_missing body taken seed other h (omega arith)).0 free);
 }
 
--- where the set has room for as many steps as there are records, and one more, it misses one
+-- if the set has room for one step more than there are records, it misses one
 missing_within : (body taken : List ℕ) (seed steps : ℕ) → seed ≤ 0xFFFFFF → length (unique_ids (database_in body)) < most_entries → length taken ≡ 8192 → HasTaken body seed taken (entry_count_in body) → IsFirstMissing taken steps → steps < 8 * length taken
 missing_within body taken seed steps most few len h m = elim (cases_lt steps (8 * length taken)) [
   | inl less ↦ less

@@ -1,29 +1,29 @@
--- IDs in a row that no record has.
+-- Ranges of IDs that no record has.
 use Rattle.std.specs.Prelude.{◌≡◌, ◌<◌, ◌≤◌, ◌+◌, ◌⊎◌, ◌↔◌, ℕ, List}
 use Rattle.heap_model.specs.Lists.{times}
 use Rattle.heap_model.specs.UniqueIds.{greatest_id}
 use Rattle.fresh_ids.specs.declared.stretch.FreeIds.{FreeIds}
 
--- an ID is one of these
+-- an ID is in the range
 abbrev pub IsAmong : FreeIds → ℕ → Type 0
 IsAmong free id = (free.first ≤ id) × (id < free.end)
 
--- none of the records' IDs is one of these
+-- no record has an ID of the range
 abbrev pub AreFree : List ℕ → FreeIds → Type 0
 AreFree ids free = (id : ℕ) → IsAmong free id → times id ids ≡ 0
 
--- The end is the least of the records' IDs that is not below the first, and is behind the greatest where there
--- is none.
+-- The end is the least of the records' IDs that is not below the first, or the number after the
+-- greatest ID if there is none.
 pub record IsEndOfFree (ids : List ℕ) (first end : ℕ) : Type 0 where
   pub from : first ≤ end
   pub free : AreFree ids (record { first = first; end = end })
   pub ends : (0 < times end ids) ⊎ (end ≡ greatest_id + 1)
 
--- IDs end where the known ones do, or as far behind their first as they can.
+-- The range ends where the known one does, or as far after its first ID as it can.
 abbrev pub EndAsFar : List ℕ → FreeIds → FreeIds → Type 0
 EndAsFar ids known free = (free.end ≡ known.end) ⊎ IsEndOfFree ids free.first free.end
 
--- The same IDs, where this one isn't among them; else those of them that are behind it.
+-- The same range if the ID isn't in it. Otherwise the IDs of the range after it.
 pub record IsWithout (old : FreeIds) (id : ℕ) (new : FreeIds) : Type 0 where
   pub apart : (IsAmong old id → ⊥) → new ≡ old
   pub behind : IsAmong old id → (other : ℕ) → (IsAmong new other ↔ (IsAmong old other × (id < other)))

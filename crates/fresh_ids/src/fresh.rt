@@ -1,4 +1,4 @@
-//! The first unique ID behind a seed that no record has.
+//! The first unique ID after a seed that no record has.
 
 ghost use Rattle.std.specs.Prelude.{◌≡◌, ◌<◌, ◌≤◌, false, length, IfSome};
 ghost use Rattle.heap_model.specs.Database.{IsSpelled, database_in, resources_in, entry_count_in};
@@ -14,13 +14,13 @@ ghost use Rattle.fresh_ids.specs.FreeIds.{AreFree, EndAsFar, IsEndOfFree};
 use crate::stretch::FreeIds;
 use db_format::{GREATEST_ID, entry_count, record_id};
 
-/// How many bytes have the bits of the IDs that are looked at first, those near the seed.
+/// The size in bytes of a set for the IDs near the seed, which are tried first.
 const FEW: usize = 128;
 
-/// How many bytes have a bit for each record, and one more.
+/// The size in bytes of a set with a bit for each record, and one more.
 const MANY: usize = 8192;
 
-/// How many IDs stand between a seed and an ID behind it, where 1 follows the greatest.
+/// Returns the number of IDs between a seed and an ID after it. 1 follows the greatest ID.
 #[inline]
 #[tactic(auto, using(laws_store::proofs::Fresh::id_behind_is))]
 fn steps_to(seed: u32, id: u32) -> u32
@@ -37,7 +37,7 @@ fn steps_to(seed: u32, id: u32) -> u32
     }
 }
 
-/// The ID behind a seed with so many others between them.
+/// Returns the ID after a seed, with `steps` other IDs between them.
 #[tactic(auto, using(laws_store::proofs::Fresh::id_behind_is))]
 fn id_behind(seed: u32, steps: u32) -> u32
     requires seed { seed ≤ greatest_id }
@@ -52,7 +52,8 @@ fn id_behind(seed: u32, steps: u32) -> u32
     }
 }
 
-/// Puts the steps from the seed to the records' IDs into an empty set, as far as it has room.
+/// Adds the steps from the seed to the records' IDs to an empty set. Steps beyond its room are left
+/// out.
 fn put_taken(body: &[u8], seed: u32, taken: &mut [u8])
     requires whole { IsWhole body.now }
     requires records { resources_in body.now ≡ false }
@@ -73,7 +74,7 @@ fn put_taken(body: &[u8], seed: u32, taken: &mut [u8])
     }
 }
 
-/// The steps to the first free ID, if that is near the seed.
+/// Returns the steps to the first free ID, if it is near the seed.
 fn first_near(body: &[u8], seed: u32) -> Option<u32>
     requires whole { IsWhole body.now }
     requires records { resources_in body.now ≡ false }
@@ -91,7 +92,8 @@ fn first_near(body: &[u8], seed: u32) -> Option<u32>
     }
 }
 
-/// The steps to the first free ID. One pass over the records, with a bit for each step that they can need.
+/// Returns the steps to the first free ID. It passes over the records once, and has a bit for each
+/// step that may be needed.
 fn first_free(body: &[u8], seed: u32) -> u32
     requires whole { IsWhole body.now }
     requires records { resources_in body.now ≡ false }
@@ -105,8 +107,9 @@ fn first_free(body: &[u8], seed: u32) -> u32
     bit_sets::first_missing(&taken)
 }
 
-/// The ID for a new record of the database that these bytes spell: the first behind its seed that none of
-/// its records has. One pass over the entries, or two where those near the seed are all taken.
+/// Returns the ID for a new record of the database that these bytes spell: the first after its seed
+/// that no record has. It passes over the entries once, or twice if the IDs near the seed are all
+/// taken.
 fn fresh_id(body: &[u8]) -> u32
     requires spelled { IsSpelled (database_in body.now) body.now }
     requires records { resources_in body.now ≡ false }
@@ -123,8 +126,8 @@ fn fresh_id(body: &[u8]) -> u32
     id_behind(seed, steps)
 }
 
-/// The least ID of a record that is not below this one, and the number behind the greatest ID where there is
-/// none. One pass over the entries.
+/// Returns the least ID of a record that is not below `first`, or `greatest_id + 1` if there is
+/// none. It passes over the entries once.
 fn end_of_free(body: &[u8], first: u32) -> u32
     requires whole { IsWhole body.now }
     requires records { resources_in body.now ≡ false }
@@ -141,10 +144,14 @@ fn end_of_free(body: &[u8], first: u32) -> u32
     end
 }
 
-/// Free IDs of the database that these bytes spell. The first of them is the one for a new record: the first
-/// behind the seed that none of its records has. Where the ID next to the seed is among the known ones, no
-/// entry is read, and they end where those do. Else one pass over the entries finds how far the IDs are free from
-/// it on; and where it is taken, two more, or three, find the first that is free, and how far from that one on.
+/// Returns free IDs of the database that these bytes spell. The first of them is the one for a new
+/// record: the first after the seed that no record has.
+///
+/// - If the ID next to the seed is among the known ones, no entry is read. The free IDs end where
+///   the known ones do.
+/// - If it isn't known but free, one pass over the entries finds the end of the free IDs.
+/// - If it is taken, two or three more passes find the first free ID and the end of the IDs after
+///   it.
 pub fn free_ids(body: &[u8], known: FreeIds) -> FreeIds
     requires spelled { IsSpelled (database_in body.now) body.now }
     requires records { resources_in body.now ≡ false }

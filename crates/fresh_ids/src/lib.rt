@@ -1,7 +1,7 @@
 //! The unique ID of a new record.
 //!
-//! IDs follow the seed of a database, and 1 follows the greatest one. A new record gets the first that no
-//! record of the database has (this project's own rule).
+//! The unique IDs follow the seed of a database in order, and 1 follows the greatest one. A new
+//! record gets the first ID that no record of the database has (this project's own rule).
 #![tactic(auto)]
 
 mod fresh;

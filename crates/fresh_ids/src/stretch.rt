@@ -3,25 +3,28 @@
 ghost use Rattle.std.specs.Prelude.{◌↔◌, IsTrue};
 ghost use Rattle.fresh_ids.specs.FreeIds.{IsAmong, IsWithout};
 
-/// Unique IDs in a row: those from `first` on, below `end`.
+/// A range of unique IDs: from `first` on, below `end`.
 #[derive(Clone, Copy, Debug, PartialEq, Eq)]
 pub struct FreeIds {
+    /// The first ID of the range.
     pub first: u32,
+    /// The number after the last ID of the range.
     pub end: u32,
 }
 
-/// No ID.
+/// The empty range.
 pub const NO_IDS: FreeIds = FreeIds { first: 0, end: 0 };
 
 impl FreeIds {
-    /// Whether an ID is one of these.
+    /// Returns whether an ID is in the range.
     pub(crate) fn has(self, id: u32) -> bool
         ensures { IsTrue result ↔ IsAmong self id }
     {
         self.first <= id && id < self.end
     }
 
-    /// Those of these IDs that are free still when a record has this one: all, or the ones behind it.
+    /// Returns the IDs of the range that are still free after a record gets this ID: all of them,
+    /// or the ones after it.
     pub fn without(self, id: u32) -> FreeIds
         ensures { IsWithout self id result }
     {

@@ -19,7 +19,7 @@ use Rattle.heap_check.specs.Chained.{Marks, ManagersBody, MayBe, IsManagersAt, i
 use Rattle.heap_check.proofs.SurveyLaws.{movable_of, fixed_of, free_of, count_push, noted_more, counts_within}
 use Rattle.heap_check.proofs.WalkLaws.{HasPassed, passed_more, passed_all, passed_size}
 
--- ---- what is read off a header is so of its chunk
+-- ---- what is read from a header is true for its chunk
 
 managers_of : (c : Chunk) → managers_by (header_of c) ≡ count_by is_managers (c ∷ [])
 managers_of (free size) = refl

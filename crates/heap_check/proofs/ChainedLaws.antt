@@ -1,4 +1,4 @@
--- What the steps of the check of a chain say together.
+-- What the steps of the check of a chain prove together.
 use Rattle.std.proofs.Common.{◌≡◌, ℕ, ◌+◌, ◌*◌, ◌/◌, ◌%◌, Bool, true, false, List, [], ◌∷◌, ◌++◌, Option, Some, None, refl, sym, ap, subst, ◌∙◌, arith, inl, inr}
 use Rattle.std.specs.Prelude.{◌⊎◌, ◌==◌, not, IfNone}
 use Rattle.std.proofs.lemmas.Bool.{cases_eq, eqb-true, false≢true}
@@ -91,7 +91,7 @@ marks_more image cs slot k old new t s adds m word = elim adds [
     | inr own ↦ elim own [ inl is ↦ inr is | inr none ↦ absurd none ]
   ]
 
--- behind the last row all are
+-- after the last row all are
 pub marks_all : (image : List ℕ) (row : Row) (marks : List ℕ) → IsRow image row → (row.next == 0) ≡ true → MarksBefore image (row_end row) marks → Marks marks (IsInUse image)
 marks_all image row marks is last m word = (
   λ has. let was = (m word).0 has in (record { listed = subst (λ (xs : List ℕ). StandsIn xs (4 * word)) all was.0 }, was.1),

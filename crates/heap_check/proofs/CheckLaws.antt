@@ -35,7 +35,7 @@ not_count image h f = elim f [ inl none ↦ let some = h.some_slot in omega arit
 not_chunk : (image : List ℕ) → Tiles image (chunks_of image) → (at : ℕ) → IsBadChunk image at → ⊥
 not_chunk image t at f = stuck_run image (area_start image) at f.before (chunks_of image) f.spelled f.inside f.nothing t.area
 
--- the chain behind tables that stand along it
+-- the chain after tables that are along it
 chain_behind : (image : List ℕ) (cs : List Chunk) (next : ℕ) (ts us : List Table) (last : ℕ) → IsChain image cs next ts → Leads image cs next us last → (rest : List Table) × IsChain image cs last rest × (length rest ≤ length ts)
 chain_behind image cs next ts [] last chain leads = (ts, subst (λ (w : ℕ). IsChain image cs w ts) leads chain, omega arith)
 chain_behind image cs next [] (u ∷ us) last chain leads = let low = some_place image u (area_start image) cs leads.1 in let place = leads.0 in absurd (omega arith)
@@ -186,7 +186,7 @@ pub refused_by : {A : Type 0} (image : List ℕ) (answer : Result A HeapFault) �
 refused_by image (Ok x) f = tt
 refused_by image (Err fault) f = refuses image fault f
 
--- ---- what a survey says once the later tests passed
+-- ---- what a survey proves once the later tests passed
 
 -- the tiling and the marks that a survey ends with
 pub surveyed_tiles : (image : List ℕ) (survey : Survey) (marks : List ℕ) → is_chained image ≡ false → IsHead image → IsSurvey image survey marks → Tiles image (chunks_of image)
@@ -199,7 +199,7 @@ surveyed_mismatch image survey marks slot plain h s f =
 pub surveyed_slots : (image : List ℕ) (survey : Survey) (marks : List ℕ) → IsSurvey image survey marks → EveryOne (IsMarked image marks) (slots_of image) → Slotted image
 surveyed_slots image survey marks s every = all_hold image (chunks_of image) marks s.surveys.marked every
 
--- what an offset that was found, or not found, says
+-- what an offset that was found, or not found, proves
 pub found_first : (P : ℕ → Chunk → Type 0) (at : ℕ) (cs : List Chunk) (found : Option ℕ) (there : ℕ) → IsFirstWithout P at cs found → found ≡ Some there → FirstWithout P at cs there
 found_first P at cs found there f is = subst (λ (o : Option ℕ). IsFirstWithout P at cs o) is f
 

@@ -109,7 +109,7 @@ followed_bound image chain next count before_marks after_marks h s f takes =
 pub table_inside : (image : List ℕ) (next count : ℕ) (before_marks after_marks : List ℕ) → SpelledAll image (area_start image) (chunks_of image) (length image) → TakesTable image next before_marks after_marks count → next + 8 ≤ length image
 table_inside image next count before_marks after_marks s takes = (table_facts image (area_start image) (chunks_of image) (length image) record { place = next; count = count } s (omega arith) takes.table).inside
 
--- where no table follows
+-- if no table follows
 pub followed_bad : (image : List ℕ) (bodies : Bodies) (chain : Chain) (next : ℕ) (marks : List ℕ) → FoundBodies image bodies → HasFollowed image chain next marks → next ≢ 0 → IsNoTable image next marks → IsBadTable image chain.tables
 followed_bad image bodies chain next marks found f more none = record {
   area = found.spelled;

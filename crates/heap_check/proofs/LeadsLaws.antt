@@ -1,4 +1,5 @@
--- Tables along a chain: they are other chunks each, so they fit, and they are the chain once its last word is 0.
+-- Tables along a chain: they are other chunks each, so they fit, and they are the chain once its
+-- last word is 0.
 use Rattle.std.proofs.Common.{◌≡◌, ℕ, zero, suc, ◌+◌, ◌-◌, ◌*◌, ◌/◌, ◌%◌, ◌≤◌, Bool, true, false, cond, List, [], ◌∷◌, ◌++◌, length, refl, sym, ap, subst, ◌∙◌, arith, inl, inr, length-append}
 use Rattle.std.specs.Prelude.{◌⊎◌, ◌==◌, count_by, sum_by}
 use Rattle.std.proofs.lemmas.Bool.{cases_eq, eq-eqb}
@@ -159,7 +160,7 @@ meets_table weigh met more table weight at (c ∷ cs) m h = elim h [
   | inr later ↦ let here = weight_less weigh met more at c m.also in let rest = meets_table weigh met more table weight (at + size_of c) cs m later in omega (arith, here, rest)
 ]
 
--- so tables that stand one behind the other weigh no more than all the manager's fixed chunks
+-- so tables along a chain weigh no more than all the manager's fixed chunks
 pub tables_weigh : (weigh : Chunk → ℕ) (weight : Table → ℕ) (image : List ℕ) (cs : List Chunk) (next : ℕ) (tables : List Table) (last : ℕ) → ((table : Table) (bytes : List ℕ) (owner : ℕ) → length bytes ≡ 4 + 4 * table.count → weight table ≤ weigh (fixed bytes owner))
     → Leads image cs next tables last → sum_by weight tables + unmet weigh (is_table_place tables) (area_start image) cs ≤ unmet weigh (is_table_place []) (area_start image) cs
 tables_weigh weigh weight image cs next [] last weighs leads = omega arith

@@ -33,7 +33,7 @@ names_none image names marks none directory used = record {
   left = λ word. (λ has. ((used word).0 has, λ h. h), λ both. (used word).1 both.0);
 }
 
--- a body of chunks that stand in front of an offset is no one behind it
+-- a body of chunks before an offset is no body of a chunk after it
 body_in_front : (slot place at : ℕ) (cs : List Chunk) → AnyPlaced (BodyHere slot place) at cs → place ≤ at + total cs
 body_in_front slot place at [] h = absurd h
 body_in_front slot place at (c ∷ cs) h = elim h [ inl own ↦ here c own | inr later ↦ let below = body_in_front slot place (at + size_of c) cs later in omega (arith, below) ] where

@@ -17,7 +17,8 @@ use Rattle.laws_heap.proofs.OneTable.{one_total, one_stands, one_number}
 use Rattle.heap_check.specs.Owners.{noted_owner, marked_word, NoneMarked, HasOwners}
 use Rattle.heap_check.specs.Survey.{IsOwnerOf, AreNoted, IsMarked, KeepsBeyond}
 
--- the chunk that is found under a slot has the owner of the one that stands where the slot holds its place
+-- the chunk that is found under a slot has the owner of the one that stands where the slot holds
+-- its place
 same_owner : (image : List ℕ) (slot owner : ℕ) → HeapAccepted image → (o : IsOwnerOf image slot owner) → (i : InSlot image slot (u32_at image slot)) → owner ≡ i.live.owner
 same_owner image slot owner h o i = same (sym (chunk_at-spelled image o.at (movable o.bytes o.lock owner slot) o.spelled) ∙ ap (chunk_at image) there ∙ finds_read image slot i.live (movable i.live.bytes i.live.lock i.live.owner i.named) (u32_at image slot - 8) h i.finds) where
   there : o.at ≡ u32_at image slot - 8
@@ -39,7 +40,7 @@ empty_owner image slot h s empty =
     let heap = read_heap image h in
     sym (ap owner_of (held-is image (chunks_of image) slot heap ∙ empty_unheld image (chunks_of image) slot heap s empty))
 
--- what a walk over an image without a chain left in marks that were clear
+-- the marks after a walk over an image without a chain, if they were clear before
 pub record Noted (notes : Bool) (image old marks : List ℕ) : Type 0 where
   pub notes_owners : notes ≡ true
   pub plain : is_chained image ≡ false

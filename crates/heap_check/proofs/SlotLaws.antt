@@ -44,7 +44,7 @@ mark_set_in image old named at mark number plain there here room = record {
   beyond = λ k far. let below = stands_below image named number there in get_or-set_other old number k mark 0 (λ same. omega arith);
 }
 
--- the same of what marks say
+-- the same for the meanings of marks
 pub mark_set : {Mark : Type 0} (says : Mark → ℕ) (image : List ℕ) (old : List Mark) (named at : ℕ) (mark : Mark) (number : ℕ) → is_chained image ≡ false → StandsBehind image named number → u32_at image named ≡ at + 8 → number < length old
     → AddsMark image (IsHolder image named at) (says mark) (map says old) (map says (set old number mark))
 mark_set says image old named at mark number plain there here room =
@@ -64,7 +64,7 @@ marks_more image P mark old new low adds slot number s = elim (adds.each slot nu
   )
 ]
 
--- what a mark says is said behind as many others
+-- the meaning of a mark has the mark's number among the meanings
 pub said : {Mark : Type 0} (says : Mark → ℕ) (marks : List Mark) (number : ℕ) (mark : Mark) → mark ≡ get_or marks number mark → number < length marks → slice_index (map says marks) number ≡ says mark
 said says marks number mark is below = get_or-map says marks number mark 0 below ∙ ap says (sym is)
 
@@ -97,7 +97,7 @@ none_marked zero k below = absurd (omega arith)
 none_marked (suc n) zero below = refl
 none_marked (suc n) (suc k) below = none_marked n k (omega arith)
 
--- so are those of which none says an owner
+-- so are those of which none means an owner
 pub none_said : {Mark : Type 0} (says : Mark → ℕ) (mark : Mark) → says mark ≡ 16 → (n : ℕ) → NoneMarked (map says (replicate n mark))
 none_said says mark none zero k below = absurd (omega arith)
 none_said says mark none (suc n) zero below = none

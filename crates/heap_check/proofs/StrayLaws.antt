@@ -64,7 +64,7 @@ first_of_bodies image bodies chain marks found followed same =
 
 -- ---- marks that are taken away one by one
 
--- a body of the chunks in front of an offset is not the one behind it
+-- a body of the chunks before an offset is not the one after it
 pub body_below : (place at : ℕ) (cs : List Chunk) → AnyPlaced (ManagersBody place) at cs → place ≤ at + total cs
 body_below place at [] h = absurd h
 body_below place at (c ∷ cs) h = elim h [ inl own ↦ here c own | inr later ↦ let below = body_below place (at + size_of c) cs later in omega (arith, below) ] where
@@ -111,7 +111,7 @@ strays_none image chain marks followed = record {
   marked = λ word. (λ has. ((followed.marked word).0 has, λ h. h), λ both. (followed.marked word).1 both.0);
 }
 
--- a body isn't marked where it is a table's
+-- a body isn't marked if it is a table's
 unmarked_known : (image : List ℕ) (chunks after : List Chunk) (c : Chunk) (at : ℕ) (header : Header) (marks : List ℕ) → at ≡ area_start image + total chunks → at % 8 ≡ 0 → chunks_of image ≡ chunks ++ c ∷ after → header ≡ header_of c
     → Marks marks (λ place. (IsManagersAt image place × (IsTablePlace (further_tables image) place → ⊥)) × (AnyPlaced (ManagersBody place) (area_start image) chunks → ⊥))
     → IsUnmarkedBy marks at header ↔ IsKnownIfFixed (further_tables image) at c

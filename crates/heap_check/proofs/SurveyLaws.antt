@@ -23,7 +23,7 @@ use Rattle.heap_check.specs.Owners.{NoneMarked, noted_owner}
 use Rattle.heap_check.specs.Survey.{movable_by, fixed_by, free_by, owner_by, names_by, callers_by, BodyBy, noted, MarkedAt, IsOwnerOf, AreNoted, IsFirstWithout, Surveys, HasSurveyed, IsSurvey, MarksBody}
 use Rattle.heap_check.proofs.SlotLaws.{marks_more, none_at}
 
--- ---- what is read off a header is so of its chunk
+-- ---- what is read from a header is true for its chunk
 
 pub movable_of : (c : Chunk) → movable_by (header_of c) ≡ count_by is_movable (c ∷ [])
 movable_of (free size) = refl

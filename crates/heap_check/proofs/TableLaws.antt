@@ -1,4 +1,4 @@
--- Fixed chunks of the manager's, and tables among them, where they stand.
+-- Fixed chunks of the manager's, and tables among them, by their offsets.
 use Rattle.std.proofs.Common.{◌≡◌, ℕ, ◌+◌, ◌-◌, ◌*◌, ◌%◌, ◌<◌, ◌≤◌, List, [], ◌∷◌, length, subst, arith, inl, inr}
 use Rattle.heap_model.specs.Chunk.{Chunk, free, movable, fixed, size_of, IsLive, Spelled, SpelledAll}
 use Rattle.heap_model.specs.Placed.{AnyPlaced}

@@ -10,7 +10,7 @@ use Rattle.chunk_format.specs.declared.header.Header.{Header}
 use Rattle.chunk_format.specs.Header.{size_by, HasHeader}
 use Rattle.chunk_format.proofs.HeaderLaws.{size_by-header_of}
 
--- a walk has come to an offset, and this holds of the chunks in front of it
+-- a walk has come to an offset, and this holds for the chunks before it
 pub record HasPassed (image : List ℕ) (P : List Chunk → Type 0) (at : ℕ) : Type 0 where
   pub chunks : List Chunk
   pub spelled : SpelledAll image (area_start image) chunks at
@@ -28,7 +28,7 @@ run_whole image at (c ∷ cs) end s eights = let size = (Spelled-size image at c
 pub passed_whole : (image : List ℕ) (P : List Chunk → Type 0) (at : ℕ) → HasPassed image P at → at % 8 ≡ 0
 passed_whole image P at p = run_whole image (area_start image) p.chunks at p.spelled (omega arith)
 
--- a chunk stands there in front of the end
+-- a chunk is there before the end
 pub passed_there : (image : List ℕ) (P : List Chunk → Type 0) (at : ℕ) → Tiles image (chunks_of image) → HasPassed image P at → at < length image → HasChunk image at
 passed_there image P at t p inside = let c = chunk_there image (chunks_of image) p.chunks at t p.spelled inside in record { chunk = c.0; spelled = c.1 }
 

@@ -1,4 +1,4 @@
--- The faults of a heap image, in the order in which they are looked for.
+-- The faults of a heap image, in the order in which they are tested.
 use Rattle.std.specs.Prelude.{◌≡◌, ◌≢◌, ◌<◌, ◌+◌, ◌⊎◌, ℕ, List, [], ◌∷◌, length}
 use Rattle.heap_model.specs.Bytes.{u16_at, u32_at}
 use Rattle.heap_model.specs.Chunk.{Chunk, Spelled, SpelledAll}
@@ -12,7 +12,7 @@ use Rattle.chunk_format.specs.Blank.{IsRegionSize}
 use Rattle.heap_check.specs.declared.fault.HeapFault.{HeapFault}
 use Rattle.heap_check.specs.declared.fault.HeapFault.TheVariants.{TooShort, BadMagic, BadSize, BadSlotCount, BadReserved, BadPadding, BadChunk, BadTable, SlotMismatch, ChunkWithoutSlot, BadFixedOwner, BadDirectory}
 
--- ---- what each fault says
+-- ---- each fault by itself
 
 -- the first four bytes are those of one of the two layouts
 abbrev pub HasMagic : List ℕ → Type 0
@@ -22,7 +22,7 @@ HasMagic image = (u32_at image magic_at ≡ magic) ⊎ (u32_at image magic_at �
 abbrev pub IsTooShort : List ℕ → Type 0
 IsTooShort image = (length image < frame_size) ⊎ (HasMagic image × (length image < u32_at image size_at))
 
--- the first four bytes are others
+-- the first four bytes are no magic
 abbrev pub HasBadMagic : List ℕ → Type 0
 HasBadMagic image = HasMagic image → ⊥
 
@@ -30,11 +30,11 @@ HasBadMagic image = HasMagic image → ⊥
 abbrev pub HasBadSize : List ℕ → Type 0
 HasBadSize image = (u32_at image size_at ≢ length image) ⊎ (IsRegionSize (length image) → ⊥)
 
--- no slots, or less than 8 bytes are left behind the table and its padding
+-- there are no slots, or less than 8 bytes are left after the table and its padding
 abbrev pub HasBadSlotCount : List ℕ → Type 0
 HasBadSlotCount image = (slot_count image ≡ 0) ⊎ (length image < area_start image + 8)
 
--- the two bytes behind the slot count aren't zero
+-- the two bytes after the slot count aren't zero
 abbrev pub HasBadReserved : List ℕ → Type 0
 HasBadReserved image = u16_at image reserved_at ≢ 0
 
@@ -42,21 +42,21 @@ HasBadReserved image = u16_at image reserved_at ≢ 0
 abbrev pub HasBadPadding : List ℕ → Type 0
 HasBadPadding image = (head_end image ≢ area_start image) × (u32_at image (head_end image) ≢ 0)
 
--- chunks stand one behind the other up to this offset within the image, and there none is spelled
+-- adjacent chunks reach up to this offset within the image, and no chunk is spelled there
 pub record IsBadChunk (image : List ℕ) (at : ℕ) : Type 0 where
   pub before : List Chunk
   pub spelled : SpelledAll image (area_start image) before at
   pub inside : at < length image
   pub nothing : (chunk : Chunk) → Spelled image at chunk → ⊥
 
--- these tables stand one behind the other from one word `next` to another, and none of them twice
+-- the chain has these tables from one word `next` up to another, and none of them twice
 abbrev pub Leads : List ℕ → List Chunk → ℕ → List Table → ℕ → Type 0
 Leads image chunks next [] last = next ≡ last
 Leads image chunks next (table ∷ tables) last =
     (next ≡ table.place) × AnyPlaced (TableHere table) (area_start image) chunks × (IsTablePlace tables table.place → ⊥) × Leads image chunks (u32_at image table.place) tables last
 
--- The chunks reach the end. So many further tables stand along the chain, and the word `next` behind them is not
--- 0, and not the place of a table that isn't among them.
+-- The chunks reach the end of the image. The chain has `number` further tables, and then a word
+-- `next` that isn't 0. No table is at the place in that word, but for the tables before it.
 pub record IsBadTable (image : List ℕ) (number : ℕ) : Type 0 where
   pub area : SpelledAll image (area_start image) (chunks_of image) (length image)
   pub tables : List Table
@@ -66,7 +66,7 @@ pub record IsBadTable (image : List ℕ) (number : ℕ) : Type 0 where
   pub more : next ≢ 0
   pub no_other : (table : Table) → AnyPlaced (TableHere table) (area_start image) (chunks_of image) → table.place ≡ next → IsTablePlace tables next
 
--- the first slot in use that isn't the place of a movable chunk which names it
+-- the first slot in use that doesn't hold the place of a movable chunk which names it
 abbrev pub IsSlotMismatch : List ℕ → ℕ → Type 0
 IsSlotMismatch image slot = Tiles image (chunks_of image) × FirstOne (HoldsBody image (chunks_of image)) (slots_of image) slot
 
@@ -82,19 +82,19 @@ IsBadFixedOwner image at = Tiles image (chunks_of image) × FirstWithout (IsKnow
 abbrev pub HasBadDirectory : List ℕ → Type 0
 HasBadDirectory image = Tiles image (chunks_of image) × (HasDirectory image (chunks_of image) → ⊥)
 
--- ---- the table
+-- ---- the table of faults
 
 infix 70 ◌brings◌
--- where this holds, there is this fault
+-- if P holds, the image has this fault
 abbrev pub ◌brings◌ : {Fault : Type 0} → Type 0 → Fault → Fault → Type 0
 ◌brings◌ P named fault = P × (fault ≡ named)
 
 infix 70 ◌locates◌
--- where this holds of an offset, there is this fault with the offset
+-- for each offset that satisfies P, the image has this fault with the offset
 abbrev pub ◌locates◌ : {Fault : Type 0} → (ℕ → Type 0) → (ℕ → Fault) → Fault → Type 0
 ◌locates◌ P named fault = (offset : ℕ) × P offset × (fault ≡ named offset)
 
--- of an image that is tiled
+-- the faults of an image that is tiled
 abbrev pub slot_faults : List ℕ → List (HeapFault → Type 0)
 slot_faults image =
     (IsSlotMismatch image locates SlotMismatch)
@@ -103,11 +103,11 @@ slot_faults image =
     ∷ (HasBadDirectory image brings BadDirectory)
     ∷ []
 
--- of the chunks and of the chain of tables, and then those
+-- the faults of the chunks and of the chain of tables, and then those of a tiled image
 abbrev pub area_faults : List ℕ → List (HeapFault → Type 0)
 area_faults image = (IsBadChunk image locates BadChunk) ∷ (IsBadTable image locates BadTable) ∷ slot_faults image
 
--- of what stands in front of the chunks, and then those
+-- all faults: those of the bytes before the chunks, and then those of the chunks and the slots
 abbrev pub faults : List ℕ → List (HeapFault → Type 0)
 faults image =
     (IsTooShort image brings TooShort)
@@ -118,11 +118,11 @@ faults image =
     ∷ (HasBadPadding image brings BadPadding)
     ∷ area_faults image
 
--- the fault is what the first row of the table brings that brings any
+-- the fault is one that the first row with any fault brings
 abbrev pub FirstBrought : {Fault : Type 0} → List (Fault → Type 0) → Fault → Type 0
 FirstBrought [] fault = ⊥
 FirstBrought {Fault} (row ∷ rows) fault = row fault ⊎ (((other : Fault) → row other → ⊥) × FirstBrought rows fault)
 
--- the image has the fault, and none of those that are looked for earlier
+-- the image has the fault, and none of those that are tested earlier
 abbrev pub IsFirstFault : List ℕ → HeapFault → Type 0
 IsFirstFault image fault = FirstBrought (faults image) fault

@@ -1,5 +1,6 @@
--- The owners of the chunks of slots, as marks. A mark belongs to a word of the image, whatever the word is: its number
--- counts the words between the frame and it. In an image without a chain as many slots stand before a slot.
+-- The owners of the chunks of slots, as marks. Each word of the image after the frame has a mark,
+-- even if it is no slot. The mark's number counts the words between the frame and this word. In an
+-- image without a chain the number of a slot's mark counts the slots before it.
 use Rattle.std.specs.Prelude.{◌≡◌, ◌<◌, ◌+◌, ◌*◌, ◌/◌, if◌then◌else◌, ℕ, Bool, true, false, List, length, slice_index}
 use Rattle.heap_model.specs.Chunk.{managers_owner}
 use Rattle.heap_model.specs.Frame.{frame_size}
@@ -8,7 +9,7 @@ use Rattle.heap_model.specs.Store.{owner_under}
 use Rattle.chunk_format.specs.declared.header.Header.{Header}
 use Rattle.chunk_format.specs.declared.header.Header.TheVariants as headers
 
--- so many slots an image without a chain has at most, as two bytes count them
+-- the greatest number of slots of an image without a chain: two bytes count them
 abbrev pub most_slots : ℕ
 most_slots = 65535
 
@@ -16,7 +17,7 @@ most_slots = 65535
 abbrev pub marked_word : ℕ → ℕ
 marked_word number = frame_size + slot_size * number
 
--- so many marks are enough for the slots of an image
+-- a number of marks that is enough for the slots of an image
 abbrev pub marks_needed : List ℕ → ℕ
 marks_needed image = if is_chained image then length image / slot_size else most_slots
 
@@ -24,12 +25,12 @@ marks_needed image = if is_chained image then length image / slot_size else most
 abbrev pub no_owner : ℕ
 no_owner = 16
 
--- what is noted of this owner: the owner, or where none is noted, always the same
+-- the mark that notes this owner: the owner itself, or always the manager's if owners aren't noted
 abbrev pub noted_owner : Bool → ℕ → ℕ
 noted_owner true owner = owner
 noted_owner false owner = managers_owner
 
--- what is noted of a slot where no owner is: whether its chunk was met
+-- the mark of a slot if owners aren't noted, by whether its chunk was met
 abbrev pub met_owner : Bool → ℕ
 met_owner true = managers_owner
 met_owner false = no_owner
@@ -38,13 +39,14 @@ met_owner false = no_owner
 abbrev pub NoneMarked : List ℕ → Type 0
 NoneMarked marks = (number : ℕ) → number < length marks → slice_index marks number ≡ no_owner
 
--- each slot has a mark, the owner of its chunk if it has one, and no other word is marked
+-- Each slot has a mark: the owner of its chunk, or `no_owner` if it has none. No other word is
+-- marked.
 pub record HasOwners (image owners : List ℕ) : Type 0 where
   pub room : (number : ℕ) → IsSlot image (marked_word number) → number < length owners
   pub each : (number : ℕ) → IsSlot image (marked_word number) → slice_index owners number ≡ owner_under image (marked_word number)
   pub others : (number : ℕ) → number < length owners → (IsSlot image (marked_word number) → ⊥) → slice_index owners number ≡ no_owner
 
--- the chunk, where it is movable, names a word that has one of so many marks
+-- the chunk, if it is movable, names a word whose mark is one of `count` marks
 abbrev pub IsRoomFor : Header → ℕ → Type 0
 IsRoomFor (headers.Free size) count = Unit {0}
 IsRoomFor (headers.Movable length lock owner slot) count = (number : ℕ) × (slot ≡ marked_word number) × (number < count)
@@ -56,7 +58,8 @@ NamesBy word owner (headers.Free size) = ⊥
 NamesBy word owner (headers.Movable length lock own slot) = (slot ≡ word) × (own ≡ owner)
 NamesBy word owner (headers.Fixed length own) = ⊥
 
--- the word that the chunk names, where it is movable, is marked with its owner, and each other is marked as it was
+-- the word that the chunk names, if it is movable, is marked with the chunk's owner, and each other
+-- word is marked as before
 pub record NotesOwner (header : Header) (old new : List ℕ) : Type 0 where
   pub own : (number owner : ℕ) → NamesBy (marked_word number) owner header → slice_index new number ≡ owner
   pub others : (number : ℕ) → ((owner : ℕ) → NamesBy (marked_word number) owner header → ⊥) → slice_index new number ≡ slice_index old number

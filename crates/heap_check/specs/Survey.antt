@@ -1,4 +1,4 @@
--- What a walk over chunks has found, and what one header adds to it.
+-- The results of a walk over chunks, and what one header adds to them.
 use Rattle.std.specs.Prelude.{◌≡◌, ◌≢◌, ◌+◌, ◌-◌, ◌==◌, ◌&&◌, ◌↔◌, ◌⊎◌, ◌≤◌, nat_lt, ℕ, Bool, true, false, List, [], length, slice_index, count_by, sum_by, Option, Some, None, MatchOption}
 use Rattle.heap_model.specs.Bytes.{u32_at}
 use Rattle.heap_model.specs.Chunk.{Chunk, free, movable, fixed, Spelled, SpelledAll, is_movable, is_fixed, free_size, managers_owner, data_owner}
@@ -14,32 +14,35 @@ use Rattle.heap_check.specs.Owners.{no_owner, noted_owner}
 
 -- ---- one chunk, by its header
 
+-- 1 for a movable chunk, 0 for any other
 abbrev pub movable_by : Header → ℕ
 movable_by (headers.Free size) = 0
 movable_by (headers.Movable length lock owner slot) = 1
 movable_by (headers.Fixed length owner) = 0
 
+-- 1 for a fixed chunk, 0 for any other
 abbrev pub fixed_by : Header → ℕ
 fixed_by (headers.Free size) = 0
 fixed_by (headers.Movable length lock owner slot) = 0
 fixed_by (headers.Fixed length owner) = 1
 
+-- the size of a free chunk, 0 for any other chunk
 abbrev pub free_by : Header → ℕ
 free_by (headers.Free size) = size
 free_by (headers.Movable length lock owner slot) = 0
 free_by (headers.Fixed length owner) = 0
 
--- whether a slot stands there, and holds the place of the chunk at an offset
+-- whether a slot is at one offset, and holds the place of the chunk at another offset
 abbrev pub holds_place : List ℕ → ℕ → ℕ → Bool
 holds_place image slot at = is_slot image slot && (u32_at image slot == at + 8)
 
--- the chunk, where it is movable, names a slot that holds its place
+-- whether the chunk, if it is movable, names a slot that holds its place
 abbrev pub names_by : List ℕ → ℕ → Header → Bool
 names_by image at (headers.Free size) = true
 names_by image at (headers.Movable length lock owner slot) = holds_place image slot at
 names_by image at (headers.Fixed length owner) = true
 
--- the chunk, where it is fixed, is a caller's
+-- whether the chunk, if it is fixed, is a caller's
 abbrev pub callers_by : Header → Bool
 callers_by (headers.Free size) = true
 callers_by (headers.Movable length lock owner slot) = true
@@ -51,13 +54,13 @@ BodyBy slot place at (headers.Free size) = ⊥
 BodyBy slot place at (headers.Movable length lock owner named) = (named ≡ slot) × (at + 8 ≡ place)
 BodyBy slot place at (headers.Fixed length owner) = ⊥
 
--- the owner that the header of a live chunk has
+-- the owner in the header of a live chunk
 abbrev pub owner_by : Header → ℕ
 owner_by (headers.Free size) = 0
 owner_by (headers.Movable length lock owner slot) = owner
 owner_by (headers.Fixed length owner) = owner
 
--- the first offset that failed a test, once the test of one more is known
+-- the first offset that failed a test, after the test of one more
 abbrev pub noted : Option ℕ → ℕ → Bool → Option ℕ
 noted (Some first) at right = Some first
 noted None at true = None
@@ -65,11 +68,11 @@ noted None at false = Some at
 
 -- ---- all chunks so far
 
--- the slot behind so many others is marked
+-- the slot with this number is marked
 abbrev pub MarkedAt : List ℕ → ℕ → Type 0
 MarkedAt marks number = slice_index marks number ≢ no_owner
 
--- each slot is marked where a chunk that names it has its body at the place it holds
+-- a slot is marked exactly if a chunk that names it has its body at the place it holds
 abbrev pub AreMarks : List ℕ → List Chunk → List ℕ → Type 0
 AreMarks image chunks marks = (slot number : ℕ) → StandsBehind image slot number → (MarkedAt marks number ↔ IsBody (area_start image) chunks slot (u32_at image slot))
 
@@ -81,16 +84,16 @@ pub record IsOwnerOf (image : List ℕ) (slot owner : ℕ) : Type 0 where
   pub spelled : Spelled image at (movable bytes lock owner slot)
   pub place : at + 8 ≡ u32_at image slot
 
--- each slot that is marked is so for the owner of such a chunk
+-- each slot that is marked has the mark of the owner of a movable chunk that names it
 abbrev pub AreNoted : Bool → List ℕ → List ℕ → Type 0
 AreNoted notes image marks = (slot number : ℕ) → StandsBehind image slot number → MarkedAt marks number
     → ((owner : ℕ) × (slice_index marks number ≡ noted_owner notes owner) × IsOwnerOf image slot owner)
 
--- the marks that stand for no slot are what they were
+-- the marks that belong to no slot are what they were
 abbrev pub KeepsBeyond : List ℕ → List ℕ → List ℕ → Type 0
 KeepsBeyond image old new = (number : ℕ) → slots_total image ≤ number → slice_index new number ≡ slice_index old number
 
--- the slots of which this holds have this mark, and all other marks are what they were
+-- the slots that satisfy P have this mark, and all other marks are what they were
 pub record AddsMark (image : List ℕ) (P : ℕ → Type 0) (mark : ℕ) (old new : List ℕ) : Type 0 where
   pub each : (slot number : ℕ) → StandsBehind image slot number
       → ((P slot × (slice_index new number ≡ mark)) ⊎ ((P slot → ⊥) × (slice_index new number ≡ slice_index old number)))
@@ -100,12 +103,12 @@ pub record AddsMark (image : List ℕ) (P : ℕ → Type 0) (mark : ℕ) (old ne
 abbrev pub IsHolder : List ℕ → ℕ → ℕ → ℕ → Type 0
 IsHolder image named at slot = (named ≡ slot) × (at + 8 ≡ u32_at image slot)
 
--- the slot that the chunk with this header names, if it holds the place of that chunk, is marked for its
--- owner, and the others are marked as they were
+-- The slot that the chunk with this header names has the mark of the chunk's owner, if the slot
+-- holds the chunk's place. The other slots are marked as before.
 abbrev pub MarksBody : Bool → List ℕ → ℕ → Header → List ℕ → List ℕ → Type 0
 MarksBody notes image at header old new = AddsMark image (λ slot. BodyBy slot (u32_at image slot) at header) (noted_owner notes (owner_by header)) old new
 
--- the first chunk without something, if there is one
+-- the first chunk that doesn't satisfy P, if there is one
 abbrev pub IsFirstWithout : (ℕ → Chunk → Type 0) → ℕ → List Chunk → Option ℕ → Type 0
 IsFirstWithout P at chunks found = MatchOption found (EveryPlaced P at chunks) (λ there. FirstWithout P at chunks there)
 
@@ -130,12 +133,12 @@ AllMarked image marks = EveryOne (IsMarked image marks) (slots_of image)
 abbrev pub IsFirstUnmarked : List ℕ → List ℕ → ℕ → Type 0
 IsFirstUnmarked image marks slot = FirstOne (IsMarked image marks) (slots_of image) slot
 
--- the chunks reach the end, and the survey and the marks are those of them all
+-- the chunks reach the end of the image, and the survey and the marks are those of all chunks
 pub record IsSurvey (image : List ℕ) (survey : Survey) (marks : List ℕ) : Type 0 where
   pub spelled : SpelledAll image (area_start image) (chunks_of image) (length image)
   pub surveys : Surveys image (chunks_of image) survey marks
 
--- a walk has come to this offset: the chunks in front of it, and the survey and the marks of those
+-- A walk has come to this offset. It has surveyed and marked the chunks before it.
 pub record HasSurveyed (image : List ℕ) (at : ℕ) (survey : Survey) (marks : List ℕ) : Type 0 where
   pub chunks : List Chunk
   pub spelled : SpelledAll image (area_start image) chunks at

@@ -1,9 +1,12 @@
-//! The check of an image with a chain of tables, behind a right head.
+//! The check of an image with a chain of tables, after a right head.
 //!
-//! It takes no memory, and a time in proportion to the chunks and the slots: three walks over the chunks and three
-//! along the chain. What it marks are words of the image, in one set for all walks: first the bodies of fixed chunks
-//! of the manager's, of which each table along the chain takes its own away, so that one that isn't there or comes
-//! again is seen; then the slots in use, of which each movable chunk takes the one away that holds its place.
+//! It takes no memory. Its time is proportional to the chunks and the slots: up to three walks over
+//! the chunks and three along the chain. It marks words of the image, in one set for all walks:
+//!
+//! 1. It marks the bodies of the manager's fixed chunks. Each table along the chain takes its own
+//!    mark away. So a table that isn't there, or comes twice, is found.
+//! 2. It marks the slots in use. Each movable chunk takes away the mark of the slot that holds its
+//!    place.
 #![tactic(auto, using(laws_heap::proofs::Lending::all_misses, laws_heap::proofs::Lending::all_within, laws_heap::proofs::LentBodies::none_lends))]
 
 ghost use Rattle.std.specs.Prelude.{◌≡◌, ◌≢◌, ◌⊎◌, ◌+◌, ◌*◌, ◌/◌, ◌%◌, ◌<◌, ◌≤◌, ◌^◌, ◌↔◌, ℕ, true, length, IsTrue, IfSome, IfNone, IfOk, IfErr, OnOk, None};
@@ -35,7 +38,7 @@ use raw_region::Region;
 /// A bit for each word of the largest image.
 const MARKS: usize = 524_288;
 
-/// What the first walk has counted, and the first fixed chunk with owner 15.
+/// The counts of the first walk, and the offset of the first fixed chunk with owner 15.
 #[derive(Clone, Copy)]
 pub(crate) struct Bodies {
     movable: u32,
@@ -45,14 +48,14 @@ pub(crate) struct Bodies {
     bad_owner: Option<u32>,
 }
 
-/// How many further tables there are, and how many slots with those of the first.
+/// The number of further tables, and the number of slots with those of the first table.
 #[derive(Clone, Copy)]
 pub(crate) struct Chain {
     tables: u32,
     slots: u32,
 }
 
-/// What the walk over the movable chunks has found.
+/// The results of the walk over the movable chunks.
 #[derive(Clone, Copy)]
 pub(crate) struct Names {
     without_slot: Option<u32>,
@@ -64,7 +67,7 @@ impl Bodies {
     ghost use Rattle.heap_check.specs.Survey.{movable_by, fixed_by, free_by, noted};
     ghost use Rattle.heap_check.specs.Chained.{managers_by, may_be_by, ManagersBodyBy, AddsMarks};
 
-    /// Of no chunks.
+    /// Returns the counts of no chunks.
     fn new() -> Bodies
         ensures movable { result.movable ≡ 0 }
         ensures fixed { result.fixed ≡ 0 }
@@ -113,7 +116,7 @@ impl Bodies {
     }
 }
 
-/// Takes a number out of the set, and says whether it was there.
+/// Takes a number out of the set, and returns whether it was there.
 #[inline]
 fn take(set: &mut [u8], number: u32) -> bool
     requires { number / 8 < length set.old }
@@ -129,8 +132,8 @@ fn take(set: &mut [u8], number: u32) -> bool
     there
 }
 
-/// Counts the chunks, and marks the bodies of the fixed ones of the manager's. The error is the offset of the first
-/// chunk out of shape.
+/// Counts the chunks, and marks the bodies of the manager's fixed ones. The error is the offset of
+/// the first chunk that is not well-formed.
 fn find_bodies(region: &Region, marks: &mut [u8]) -> Result<Bodies, u32>
     requires whole { region.now.lent ≡ None }
     requires head { IsHead region.now.bytes }
@@ -156,8 +159,8 @@ fn find_bodies(region: &Region, marks: &mut [u8]) -> Result<Bodies, u32>
     Ok(found)
 }
 
-/// How many slots the table has whose body is at a place, if it is marked and has a table's shape. It is marked no
-/// more then.
+/// Returns how many slots the table has whose body is at a place, if the body is marked and has a
+/// table's shape. Then it takes the mark away.
 fn take_table(region: &Region, place: u32, marks: &mut [u8]) -> Option<u32>
     requires whole { region.now.lent ≡ None }
     requires small { length region.now.bytes < 2 ^ 24 }
@@ -183,8 +186,8 @@ fn take_table(region: &Region, place: u32, marks: &mut [u8]) -> Option<u32>
     Some((length - NEXT_SIZE) / SLOT_SIZE)
 }
 
-/// Goes along the chain, and takes the mark of each table away. The error is the number of tables in front of a word
-/// `next` that leads to none, or to one again.
+/// Walks along the chain, and takes the mark of each table away. The error is the number of tables
+/// before a word `next` that leads to no table, or to one again.
 fn follow(region: &Region, marks: &mut [u8], bodies: Bodies) -> Result<Chain, u32>
     requires whole { region.now.lent ≡ None }
     requires head { IsHead region.now.bytes }
@@ -212,8 +215,8 @@ fn follow(region: &Region, marks: &mut [u8], bodies: Bodies) -> Result<Chain, u3
     Ok(chain)
 }
 
-/// Whether the chunk at `at`, if it is fixed, is a caller's, or one of the manager's whose body isn't marked.
-/// It is marked no more then.
+/// Returns whether the chunk at `at`, if it is fixed, is a caller's, or one of the manager's whose
+/// body isn't marked. The body isn't marked afterwards.
 #[inline]
 fn take_unknown(at: u32, header: Header, marks: &mut [u8]) -> bool
     requires small { at + 8 < 2 ^ 24 }
@@ -235,7 +238,8 @@ fn take_unknown(at: u32, header: Header, marks: &mut [u8]) -> bool
     }
 }
 
-/// The first fixed chunk that has owner 15, or owner 0 and a mark. No body is marked then.
+/// Returns the first fixed chunk that has owner 15, or owner 0 and a mark. No body is marked
+/// afterwards.
 fn find_stray(region: &Region, marks: &mut [u8], bodies: Bodies, chain: Chain) -> Option<u32>
     requires whole { region.now.lent ≡ None }
     requires tiles { Tiles region.now.bytes (chunks_of region.now.bytes) }
@@ -307,7 +311,8 @@ fn mark_slots(region: &Region, marks: &mut [u8])
     mark_row(region, row, marks);
 }
 
-/// Whether the slot at this offset is marked and holds this place. It is marked no more then.
+/// Returns whether the slot at this offset is marked and holds this place. If so, it takes the mark
+/// away.
 fn take_slot(region: &Region, marks: &mut [u8], slot: u32, place: u32) -> bool
     requires whole { region.now.lent ≡ None }
     requires tiles { Tiles region.now.bytes (chunks_of region.now.bytes) }
@@ -327,7 +332,8 @@ fn take_slot(region: &Region, marks: &mut [u8], slot: u32, place: u32) -> bool
     take(marks, slot / SLOT_SIZE)
 }
 
-/// Whether the chunk at `at`, if it is movable, names a marked slot that holds its place. It is marked no more then.
+/// Returns whether the chunk at `at`, if it is movable, names a marked slot that holds its place.
+/// If so, it takes the mark away.
 #[inline]
 fn take_named(region: &Region, at: u32, header: Header, marks: &mut [u8]) -> bool
     requires whole { region.now.lent ≡ None }
@@ -346,7 +352,8 @@ fn take_named(region: &Region, at: u32, header: Header, marks: &mut [u8]) -> boo
     }
 }
 
-/// Whether the directory was found, or is this chunk: a movable one of the manager's that names the directory word.
+/// Returns whether the directory was found before, or is this chunk: a movable one of the manager's
+/// that names the directory word.
 #[inline]
 fn is_directory(found: bool, header: Header, word: u32) -> bool
     ensures { IsTrue result ↔ (IsTrue found ⊎ ManagersBy word header) }
@@ -357,7 +364,7 @@ fn is_directory(found: bool, header: Header, word: u32) -> bool
     }
 }
 
-/// Takes the mark away from each slot that a movable chunk names, whose place it holds.
+/// Takes the mark away from each slot that holds the place of a movable chunk that names it.
 fn match_names(region: &Region, marks: &mut [u8]) -> Names
     requires whole { region.now.lent ≡ None }
     requires tiles { Tiles region.now.bytes (chunks_of region.now.bytes) }
@@ -385,7 +392,7 @@ fn match_names(region: &Region, marks: &mut [u8]) -> Names
     names
 }
 
-/// The first slot of a row that is marked.
+/// Returns the first slot of a row that is marked.
 fn first_marked(region: &Region, row: Row, marks: &[u8]) -> Option<u32>
     requires whole { region.now.lent ≡ None }
     requires tiles { Tiles region.now.bytes (chunks_of region.now.bytes) }
@@ -407,7 +414,7 @@ fn first_marked(region: &Region, row: Row, marks: &[u8]) -> Option<u32>
     None
 }
 
-/// The first slot that is marked.
+/// Returns the first slot that is marked.
 fn find_left(region: &Region, marks: &[u8]) -> Option<u32>
     requires whole { region.now.lent ≡ None }
     requires tiles { Tiles region.now.bytes (chunks_of region.now.bytes) }
@@ -437,8 +444,8 @@ fn no_marks() -> [u8; MARKS]
     [0; MARKS]
 }
 
-/// Checks the chunks, the tables and the slots behind a right head. It is never inlined: an image without a chain would
-/// pay for the room of its marks.
+/// Checks the chunks, the tables and the slots after a right head. It is never inlined: an image
+/// without a chain would pay for the stack space of its marks.
 #[inline(never)]
 pub(crate) fn check_chained(region: &Region) -> Result<Summary, HeapFault>
     requires whole { region.now.lent ≡ None }

@@ -21,8 +21,12 @@ use chunk_format::is_chained;
 use master_table::OneTable;
 use raw_region::Region;
 
-/// Whether the bytes of a region are an accepted heap: its counts, or else its first fault. It takes
-/// no memory, reads each chunk's header once and each slot once, and changes nothing.
+/// Checks whether the bytes of a region are an accepted heap, and returns its counts. It takes no
+/// memory and changes nothing. Without a chain of tables it walks once over the chunks and once
+/// over the slots.
+///
+/// # Errors
+/// The first fault of the image, in the order of `faults`.
 pub fn check_heap(region: &Region) -> Result<Summary, HeapFault>
     requires { region.now.lent ≡ None }
     ensures accepted { OnOk result (HeapAccepted region.now.bytes) }
@@ -42,9 +46,12 @@ pub fn check_heap(region: &Region) -> Result<Summary, HeapFault>
     }
 }
 
-/// `check_heap`, which also marks each slot with the owner of its chunk, in marks that the caller lends:
-/// `marks_needed` says how many. Where the heap is accepted, all slots are so marked and no other word is,
-/// and where it isn't, some of them may be.
+/// Checks a heap as `check_heap` does, and also marks each slot with the owner of its chunk. The
+/// caller supplies the marks: `marks_needed` returns how many are enough. If the heap is refused,
+/// some slots may be marked.
+///
+/// # Errors
+/// The first fault of the image, in the order of `faults`.
 pub fn check_heap_noting(region: &Region, owners: &mut [u8]) -> Result<Summary, HeapFault>
     requires whole { region.now.lent ≡ None }
     requires room { marks_needed region.now.bytes ≤ length owners.old }
@@ -68,7 +75,7 @@ pub fn check_heap_noting(region: &Region, owners: &mut [u8]) -> Result<Summary, 
     }
 }
 
-/// Checks an image with a chain behind a right head, and then notes owners.
+/// Checks an image with a chain after its head was found right, and then notes owners.
 fn check_chained_noting(region: &Region, owners: &mut [u8]) -> Result<Summary, HeapFault>
     requires whole { region.now.lent ≡ None }
     requires head { IsHead region.now.bytes }
@@ -89,8 +96,8 @@ fn check_chained_noting(region: &Region, owners: &mut [u8]) -> Result<Summary, H
     Ok(summary)
 }
 
-/// Checks the chunks and the slots after a right head, with marks of its own. It is never inlined: next to the code for
-/// chains the walk has too few registers.
+/// Checks the chunks and the slots after a right head, with its own marks. It is never inlined:
+/// next to the code for chains the walk has too few registers.
 #[inline(never)]
 fn check_with_marks(region: &Region) -> Result<Summary, HeapFault>
     requires whole { region.now.lent ≡ None }
@@ -104,7 +111,7 @@ fn check_with_marks(region: &Region) -> Result<Summary, HeapFault>
     check_area(region, &mut marks)
 }
 
-/// Checks the chunks and the slots behind a right head, with a mark for the slot of each number.
+/// Checks the chunks and the slots after a right head, with a mark for the slot of each number.
 fn check_area<M: Mark>(region: &Region, marks: &mut [M]) -> Result<Summary, HeapFault>
     requires whole { region.now.lent ≡ None }
     requires head { IsHead region.now.bytes }

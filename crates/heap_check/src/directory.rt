@@ -12,7 +12,7 @@ use chunk_format::{HEADER_SIZE, Header, MANAGERS_OWNER, directory};
 use master_table::OneTable;
 use raw_region::Region;
 
-/// Whether the directory word is 0, or the offset of a slot whose chunk is the manager's.
+/// Returns whether the directory word is 0, or the offset of a slot whose chunk is the manager's.
 pub(crate) fn has_directory(region: &Region, table: OneTable) -> bool
     requires small { length region.now.bytes < 2 ^ 24 }
     requires whole { region.now.lent ≡ None }
@@ -31,7 +31,7 @@ pub(crate) fn has_directory(region: &Region, table: OneTable) -> bool
     }
 }
 
-/// Whether a chunk has its body at this place, and is a movable one of the manager's.
+/// Returns whether a chunk has its body at this place, and is a movable one of the manager's.
 fn is_managers(region: &Region, place: u32) -> bool
     requires small { length region.now.bytes < 2 ^ 24 }
     requires whole { region.now.lent ≡ None }

@@ -1,4 +1,4 @@
-//! The faults of what stands in front of the chunks, each by a function of its own.
+//! The faults of the bytes before the chunks, each tested by a function of its own.
 #![tactic(auto, using(laws_heap::proofs::Lending::part_within, laws_heap::proofs::Lending::all_within))]
 
 ghost use Rattle.std.specs.Prelude.{◌≡◌, ◌≤◌, ◌+◌, ◌↔◌, length, IsTrue, IfErr, OnOk, None};
@@ -60,7 +60,7 @@ fn has_bad_padding(region: &Region) -> bool
     end != area_start(region) && region.get_u32(end as usize) != 0
 }
 
-/// Looks for the faults of the head, in their order.
+/// Tests for the faults of the head, in their order.
 pub(crate) fn check_head(region: &Region) -> Result<(), HeapFault>
     requires { region.now.lent ≡ None }
     ensures right { OnOk result (IsHead region.now.bytes) }

@@ -1,4 +1,5 @@
-//! Marks for slots: that the chunk of a slot was met, and for who asks, of which owner it is.
+//! Marks for slots: whether the chunk of a slot was met and, if the caller needs it, the owner of
+//! the chunk.
 #![tactic(auto, using(laws_heap::proofs::Lending::all_misses, laws_heap::proofs::Lending::all_within, laws_heap::proofs::LentBodies::none_lends))]
 
 ghost use Rattle.std.specs.Prelude.{◌≡◌, ◌≢◌, ◌≤◌, ◌↔◌, ℕ, Bool, true, false, List, IsTrue, IfSome, IfNone, None};
@@ -8,14 +9,15 @@ ghost use Rattle.heap_check.specs.Owners.{no_owner, noted_owner, met_owner, mark
 use chunk_format::{FRAME_SIZE, SLOT_SIZE, is_chained};
 use raw_region::Region;
 
-/// How many marks an image without a chain can need: the most slots that it can have, and one mark more.
+/// The number of marks that is enough for any image without a chain: the most slots that it can
+/// have, and one mark more.
 pub const MOST_MARKS: usize = 65_536;
 
-/// The mark of a slot that has no chunk, where marks are owners. No chunk has this owner.
+/// The mark of a slot that has no chunk, if marks are owners. No chunk has this owner.
 pub const NO_OWNER: u8 = 16;
 
-/// How many marks are enough for the slots of an image. Without a chain `MOST_MARKS` are; with one it is
-/// a mark for each word.
+/// Returns how many marks are enough for the slots of an image. With a chain it is a mark for each
+/// word. Without a chain it is `MOST_MARKS - 1`.
 pub fn marks_needed(region: &Region) -> usize
     requires whole { region.now.lent ≡ None }
     ensures enough { model_needed region.now.bytes ≤ result }
@@ -28,7 +30,8 @@ pub fn marks_needed(region: &Region) -> usize
     }
 }
 
-/// The number of the mark for the word at an offset, if one of the words behind the frame begins there.
+/// Returns the number of the mark for the word at an offset, if one of the words after the frame
+/// begins there.
 #[inline]
 pub fn mark_number(slot: u32) -> Option<u32>
     ensures some { IfSome result (λ number. marked_word number ≡ slot) }
@@ -40,24 +43,24 @@ pub fn mark_number(slot: u32) -> Option<u32>
     Some((slot - FRAME_SIZE) / SLOT_SIZE)
 }
 
-/// What a walk over the chunks marks slots with.
+/// The mark that a walk over the chunks gives to a slot.
 pub(crate) trait Mark: Copy {
-    /// Whether it notes owners.
+    /// Whether a mark notes the owner.
     ghost notes: { Bool };
 
-    /// What a mark says: the owner that was noted, or none.
+    /// The meaning of a mark: the owner that was noted, or none.
     ghost says: { Self → ℕ };
 
-    /// The mark of a slot whose chunk has this owner.
+    /// Returns the mark of a slot whose chunk has this owner.
     fn of(owner: u8) -> Self
         ensures { says result ≡ noted_owner notes owner };
 
-    /// Whether the slot's chunk was met.
+    /// Returns whether the slot's chunk was met.
     fn is_set(self) -> bool
         ensures { IsTrue result ↔ (says self ≢ no_owner) };
 }
 
-/// Whether the slot's chunk was met, and nothing of its owner.
+/// Notes only whether the slot's chunk was met.
 impl Mark for bool {
     ghost notes = { false };
 
@@ -74,7 +77,7 @@ impl Mark for bool {
     }
 }
 
-/// The owner of the slot's chunk.
+/// Notes the owner of the slot's chunk.
 impl Mark for u8 {
     ghost notes = { true };
 

@@ -1,4 +1,4 @@
-//! The owners of slots' chunks, noted once the heap is known to be right.
+//! The owners of slots' chunks, noted after the heap is known to be accepted.
 #![tactic(auto, using(laws_heap::proofs::Lending::all_misses, laws_heap::proofs::Lending::all_within, laws_heap::proofs::LentBodies::none_lends))]
 
 ghost use Rattle.std.specs.Prelude.{◌≡◌, ◌<◌, ℕ, length, None};
@@ -21,8 +21,8 @@ fn note_owner(header: Header, owners: &mut [u8])
     }
 }
 
-/// Marks each slot of an accepted heap with the owner of its chunk, in one walk over the chunks: for a
-/// caller that takes memory for the marks only once the heap is known to be right.
+/// Marks each slot of an accepted heap with the owner of its chunk, in one walk over the chunks. It
+/// is for a caller that allocates the marks only after the heap is known to be accepted.
 pub fn note_owners(region: &Region, owners: &mut [u8])
     requires whole { region.now.lent ≡ None }
     requires accepted { HeapAccepted region.now.bytes }

@@ -1,4 +1,4 @@
-//! Whether each slot in use has its chunk.
+//! The test that each slot in use has its chunk.
 
 ghost use Rattle.std.specs.Prelude.{◌≡◌, ◌≤◌, ◌<◌, ◌↔◌, length, map, false, IsTrue, IfSome, IfNone};
 ghost use Rattle.heap_model.specs.Slots.{HasTable, is_chained, StandsBehind, slots_total};
@@ -9,7 +9,8 @@ use crate::marks::Mark;
 use master_table::OneTable;
 use raw_region::Region;
 
-/// Whether the slot behind so many others is marked, if it is in use.
+/// Returns whether the slot with this number is marked, if it is in use. The number counts the
+/// slots before it.
 #[inline]
 fn is_marked<M: Mark>(region: &Region, slot: u32, number: u32, marks: &[M]) -> bool
     requires has_table { HasTable region.now }
@@ -21,7 +22,7 @@ fn is_marked<M: Mark>(region: &Region, slot: u32, number: u32, marks: &[M]) -> b
     region.get_u32(slot as usize) == 0 || marks[number as usize].is_set()
 }
 
-/// The offset of the first slot that is in use and not marked.
+/// Returns the offset of the first slot that is in use and not marked.
 pub(crate) fn find_unmarked<M: Mark>(region: &Region, table: OneTable, marks: &[M]) -> Option<u32>
     requires has_table { HasTable region.now }
     requires table { IsOneTable region.now.bytes table }

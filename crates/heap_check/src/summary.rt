@@ -1,7 +1,7 @@
 //! The counts of an accepted heap.
 
-/// What an accepted heap has: its size in bytes, its slots, its movable chunks (those of the manager
-/// among them), its fixed chunks, and the sizes of its free chunks together, in bytes.
+/// The counts of an accepted heap: its size in bytes, its slots, its movable chunks, its fixed
+/// chunks, and the total size of its free chunks in bytes. The manager's chunks count too.
 #[derive(Clone, Copy, Debug, PartialEq, Eq)]
 pub struct Summary {
     pub size: u32,

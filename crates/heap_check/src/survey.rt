@@ -14,8 +14,8 @@ use chunk_format::{DATA_OWNER, HEADER_SIZE, Header, MANAGERS_OWNER, area_start};
 use master_table::OneTable;
 use raw_region::Region;
 
-/// What a walk has found so far: how many chunks there are of each kind, the free bytes, and the
-/// offsets of the first chunks with a fault that is looked for later.
+/// The results of a walk so far: the number of chunks of each kind, the free bytes, and the offsets
+/// of the first chunks with each fault that is tested later.
 #[derive(Clone, Copy)]
 pub(crate) struct Survey {
     pub(crate) movable: u32,
@@ -25,7 +25,7 @@ pub(crate) struct Survey {
     pub(crate) bad_owner: Option<u32>,
 }
 
-/// The first offset that failed a test, once the test of the chunk at `at` is known.
+/// Returns the first offset that failed a test, after the test of the chunk at `at`.
 #[inline]
 pub(crate) fn note(first: Option<u32>, at: u32, right: bool) -> Option<u32>
     ensures { result ≡ noted first at right }
@@ -33,8 +33,8 @@ pub(crate) fn note(first: Option<u32>, at: u32, right: bool) -> Option<u32>
     if right { first } else { note_wrong(first, at) }
 }
 
-/// The same where the test failed. It stands apart so that the walk, which seldom comes here, keeps no
-/// register for it.
+/// Returns the same if the test failed. It is a function of its own so that the walk, which seldom
+/// calls it, keeps no register for it.
 #[cold]
 #[inline(never)]
 fn note_wrong(first: Option<u32>, at: u32) -> Option<u32>
@@ -46,8 +46,8 @@ fn note_wrong(first: Option<u32>, at: u32) -> Option<u32>
     }
 }
 
-/// The number of the slot at this offset, if one stands there and holds the place of the chunk at
-/// `at`.
+/// Returns the number of the slot at this offset, if one is there and holds the place of the chunk
+/// at `at`.
 #[inline]
 fn holder_of(region: &Region, table: OneTable, slot: u32, at: u32) -> Option<u32>
     requires has_table { HasTable region.now }
@@ -66,8 +66,8 @@ fn holder_of(region: &Region, table: OneTable, slot: u32, at: u32) -> Option<u32
     Some(number)
 }
 
-/// Gives the slot at an offset this mark if one stands there and holds the place of the chunk at `at`,
-/// and says whether that is so.
+/// Gives this mark to the slot at an offset, if one is there and holds the place of the chunk at
+/// `at`. Returns whether it did.
 #[inline]
 fn mark_holder<M: Mark>(
     region: &Region,
@@ -99,7 +99,7 @@ impl Survey {
     ghost use Rattle.heap_check.specs.Survey.{movable_by, fixed_by, free_by, names_by, callers_by, MarksBody, Surveys};
     ghost use Rattle.std.specs.Prelude.{[], None};
 
-    /// Of no chunks.
+    /// Returns the survey of no chunks.
     fn new() -> Survey
         ensures movable { result.movable ≡ 0 }
         ensures fixed { result.fixed ≡ 0 }
@@ -161,8 +161,11 @@ impl Survey {
 }
 
 /// Walks over the chunks of an image with this table, and marks each slot that holds the place of a
-/// chunk which names it. The error is the offset of the first chunk out of shape, or of what is left
-/// at the end where that is less than a header.
+/// chunk which names it.
+///
+/// # Errors
+/// The offset of the first chunk that is not well-formed, or of a rest at the end that is shorter
+/// than a header.
 pub(crate) fn survey_chunks<M: Mark>(
     region: &Region,
     table: OneTable,

@@ -139,7 +139,7 @@ slid_alone old mid new name h s alone =
 pub opens_slides : (old new : List ℕ) (found : Found) (size : ℕ) → FitsInStretch old found size → OpensBehind old new (found.place.0 - 8) → SlidesOneStretch old new
 opens_slides old new found size k o = opens_one old new (found.place.0 - 8) k.before k.front k.bytes k.owner found.name.0 k.back k.after k.whole k.there o
 
--- once room is opened behind the chunk it fits there
+-- once room is opened after the chunk it fits there
 pub fits_opened : (old new : List ℕ) (found : Found) (size : ℕ) → HeapAccepted old → IsOne old found → (k : FitsInStretch old found size) → OpensBehind old new (found.place.0 - 8) → FitsInPlace new found.name.0 size
 fits_opened old new found size h f k o live e =
     let alike = slides_alike old new h (opens_slides old new found size k o) in

@@ -1,5 +1,5 @@
--- What another length for a chunk comes to, wherever its bytes are found: by names, since the chunk and
--- others of one stretch may have moved.
+-- Another length for a chunk, wherever its bytes are found. The relations go by names, since the
+-- chunk and others of one stretch may have moved.
 use Rattle.std.specs.Prelude.{◌≡◌, ◌≤◌, ◌+◌, ◌++◌, ℕ, List, ◌∷◌, length, Some}
 use Rattle.heap_model.specs.Chunk.{Chunk, movable, need, total}
 use Rattle.heap_model.specs.Slots.{area_start}
@@ -18,11 +18,12 @@ pub record IsLoose (image : List ℕ) (name : ℕ) : Type 0 where
   pub is_held : held image name ≡ Some live
   pub unlocked : live.lock ≡ 0
 
--- a name's chunk has so many bytes: its first ones, or all of them and zeros behind
+-- a name's chunk has `count` bytes now: its first ones, or all of them and zeros after them
 abbrev pub Resized : List ℕ → List ℕ → ℕ → ℕ → Type 0
 Resized old new name count = Leaves old new (sized (held old) name count)
 
--- a movable chunk without locks was found, and the room of its stretch and its own bytes are so many
+-- a movable chunk without locks was found, and its own bytes and the room of its stretch are at
+-- least `size` bytes together
 pub record FitsInStretch (image : List ℕ) (found : Found) (size : ℕ) : Type 0 where
   pub before : List Chunk
   pub front : List Chunk

@@ -1,4 +1,4 @@
-//! A chunk gets another length where its place doesn't have it.
+//! Gives a chunk another length that doesn't fit its place.
 
 ghost use Rattle.std.specs.Prelude.{◌≡◌};
 ghost use Rattle.std.specs.Bool.{OnTrue, OnFalse};
@@ -16,10 +16,15 @@ use chunk_format::{chunk_size, size_of_body};
 use heap_model::Name;
 use heap_place::{Found, Space, Stretch};
 
-/// Gives a name's chunk, a movable one without locks, `count` bytes, where it or others of one stretch may move: its
-/// first ones, or all of them and zeros behind. Answers whether there is room for them: in a free run
-/// elsewhere, else in its own stretch, else in another, tried in this order. Where there is none, nothing
-/// has changed.
+/// Gives a name's chunk, a movable one without locks, `count` bytes: its first ones, or all of them
+/// and zeros after them. The chunk or others of one stretch may move. Returns whether there is
+/// room, which is looked for in this order:
+///
+/// - in a free run elsewhere
+/// - in the chunk's own stretch
+/// - in another stretch
+///
+/// If there is no room, nothing has changed.
 #[inline(never)]
 pub fn resize_by_moving(space: &mut Space, name: Name, count: u32) -> bool
     requires accepted { HeapAccepted space.old.bytes }
@@ -37,7 +42,7 @@ pub fn resize_by_moving(space: &mut Space, name: Name, count: u32) -> bool
     resize_found(space, found, count)
 }
 
-/// The same, of a chunk that was found.
+/// The same for a chunk that was found.
 fn resize_found(space: &mut Space, found: Found, count: u32) -> bool
     requires accepted { HeapAccepted space.old.bytes }
     requires lent { LendsABody space.old }
@@ -57,7 +62,7 @@ fn resize_found(space: &mut Space, found: Found, count: u32) -> bool
     resize_by_packing(space, found, count)
 }
 
-/// The same without a free run that has the room: in its own stretch, else in another.
+/// The same if no free run has the room: in the chunk's own stretch, or else in another.
 fn resize_by_packing(space: &mut Space, found: Found, count: u32) -> bool
     requires accepted { HeapAccepted space.old.bytes }
     requires lent { LendsABody space.old }
@@ -89,7 +94,7 @@ fn resize_by_packing(space: &mut Space, found: Found, count: u32) -> bool
     }
 }
 
-/// Moves a name's chunk to a free run that has the room; there is one.
+/// Moves a name's chunk to a free run that has the room. The caller must prove that there is one.
 fn relocate_named(space: &mut Space, name: Name, count: u32)
     requires accepted { HeapAccepted space.old.bytes }
     requires lent { LendsABody space.old }
@@ -104,7 +109,8 @@ fn relocate_named(space: &mut Space, name: Name, count: u32)
     space.relocate(found, count);
 }
 
-/// Opens room behind a chunk, whose stretch this is and has the room, and grows the chunk over it.
+/// Opens room after a chunk, and grows the chunk over it. The caller must prove that the chunk is
+/// of this stretch, whose room suffices.
 fn grow_in_stretch(space: &mut Space, found: Found, stretch: Stretch, count: u32)
     requires accepted { HeapAccepted space.old.bytes }
     requires lent { LendsABody space.old }
@@ -121,7 +127,8 @@ fn grow_in_stretch(space: &mut Space, found: Found, stretch: Stretch, count: u32
     grow_named(space, found.name, count);
 }
 
-/// Gives a name's chunk `count` bytes where it stands, which it has with what is free behind it.
+/// Gives a name's chunk `count` bytes in place. The caller must prove that its own bytes and the
+/// free ones after it suffice.
 fn grow_named(space: &mut Space, name: Name, count: u32)
     requires accepted { HeapAccepted space.old.bytes }
     requires lent { LendsABody space.old }

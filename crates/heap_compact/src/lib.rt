@@ -1,16 +1,17 @@
-//! Compaction where a call needs it: room for a new chunk, and another length for a chunk that may move.
+//! Compacts a heap for a call that needs it: finds room for a new chunk, or gives another length to
+//! a chunk that may move.
 //!
-//! Every write is a call of `Space`, which owns the region. Here is decided which of its calls serve:
-//! a free run that has the room, if there is one; else the chunks of one stretch are packed, and those
-//! of no other move.
+//! `Space` owns the region, and every write is a call of it. This crate chooses among its calls. It
+//! uses a free run that has the room, if there is one. Otherwise it packs the chunks of one
+//! stretch; chunks of other stretches keep their places.
 //!
 //! | module | does |
 //! |---|---|
-//! | `making` | makes room, by packing one stretch where it has to |
-//! | `growing` | gives a chunk another length where its place doesn't have it |
+//! | `making` | makes room, by packing one stretch if it has to |
+//! | `growing` | gives a chunk another length that doesn't fit its place |
 //!
-//! `Space` is handed up: its methods `compact`, `grow_in_place`, `open_behind`, `shrink` and `relocate` are
-//! what compaction is made of.
+//! The crate re-exports `Space`. Compaction consists of its methods `compact`, `grow_in_place`,
+//! `open_behind`, `shrink` and `relocate`.
 #![tactic(auto)]
 
 mod growing;

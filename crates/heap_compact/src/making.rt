@@ -1,4 +1,4 @@
-//! Room for a chunk, for which one stretch is packed where no run of free chunks has it.
+//! Makes room for a chunk. If no run of free chunks has it, one stretch is packed.
 
 ghost use Rattle.std.specs.Prelude.{◌≡◌, ◌≤◌, ◌<◌, ◌+◌, IfSome, IfNone};
 ghost use Rattle.heap_model.specs.Lending.{LendsABody};
@@ -10,9 +10,9 @@ ghost use Rattle.heap_model.specs.Layout.{IsRoom, IsSpot};
 
 use heap_place::{Room, Space};
 
-/// Room for a chunk of `size` bytes, header included: neighbouring free chunks. Where no run of such has
-/// so many bytes, the chunks of one stretch whose room has them are packed. None where every stretch is
-/// short of them, and then nothing has changed.
+/// Makes room for a chunk of `size` bytes, header included: neighbouring free chunks. If no run of
+/// free chunks has `size` bytes, it packs the first stretch whose room has them. Returns None if
+/// the room of every stretch is less; then nothing has changed.
 pub fn make_room(space: &mut Space, size: u32) -> Option<Room>
     requires accepted { HeapAccepted space.old.bytes }
     requires lent { LendsABody space.old }
@@ -34,8 +34,8 @@ pub fn make_room(space: &mut Space, size: u32) -> Option<Room>
     }
 }
 
-/// Packs the first stretch whose room has `size` bytes, and answers where it is then. None where every
-/// stretch is short of them.
+/// Packs the first stretch whose room has `size` bytes, and returns that room. Returns None if the
+/// room of every stretch is less.
 pub(crate) fn room_by_packing(space: &mut Space, size: u32) -> Option<Room>
     requires accepted { HeapAccepted space.old.bytes }
     requires lent { LendsABody space.old }

@@ -1,4 +1,4 @@
--- Cells, and the bytes that lie in them.
+-- Cells, and the bytes in them.
 use Rattle.std.proofs.Common.{◌≡◌, ℕ, suc, ◌+◌, ◌-◌, ◌*◌, ◌/◌, ◌<◌, ◌≤◌, Bool, true, false, cond, List, [], ◌∷◌, ◌++◌, length, refl, sym, ap, subst, ◌∙◌, arith, inl, inr}
 use Rattle.std.specs.Prelude.{◌⊎◌, min, nat_lt, slice_index}
 use Rattle.std.proofs.Math.Nat.{mul-le-mul_left, mul-le-mul_right}
@@ -29,7 +29,7 @@ use Rattle.store_check.proofs.IndexLaws.{length-numbered}
 use Rattle.heap_map.specs.Cells.{marks as image_marks}
 use Rattle.heap_map.specs.Cells.{area_size, cell_size, cell_count, mark_at, in_cell, mark_here, first_mark, free_here, free_within, free_by, drawn_by, IsClear, HoldChunks, AddsChunk}
 
--- ---- which cells some bytes lie in
+-- ---- the cells that have some bytes
 
 -- the cells before the first
 pub cell_before : (size k from to : ℕ) → 0 < size → k < from / size → in_cell size k from to ≡ 0
@@ -37,7 +37,7 @@ cell_before size k from to positive less =
     let up = mul-le-mul_left size (let e : k + 1 ≤ from / size = omega arith in e) in
     omega arith
 
--- those behind the last
+-- those after the last
 pub cell_behind : (size k from to : ℕ) → 0 < size → from < to → (to - 1) / size < k → in_cell size k from to ≡ 0
 cell_behind size k from to positive some more =
     let up = mul-le-mul_left size (let e : (to - 1) / size + 1 ≤ k = omega arith in e) in
@@ -50,7 +50,7 @@ cell_between size k from to positive some low high =
     let right = mul-le-mul_left size high in
     omega arith
 
--- the first is not behind the last
+-- the first is not after the last
 pub cells_order : (size from to : ℕ) → 0 < size → from < to → from / size ≤ (to - 1) / size
 cells_order size from to positive some = elim (cases_lt ((to - 1) / size) (from / size)) [
   | inl less ↦ let up = mul-le-mul_left size (let e : (to - 1) / size + 1 ≤ from / size = omega arith in e) in absurd (omega arith)
@@ -155,7 +155,7 @@ hold_none image cells clear = record {
   same = clear.free_count;
 }
 
--- what a chunk does that stands where others end
+-- the effect of a chunk that begins where others end
 record Adds (image : List ℕ) (old new : Cells) (cs : List Chunk) (c : Chunk) : Type 0 where
   size : new.size ≡ old.size
   marks : (k : ℕ) → k < length old.marks.items → slice_index old.marks.items k ≤ free_mark

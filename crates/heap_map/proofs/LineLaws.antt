@@ -27,7 +27,7 @@ none_left each count index past =
     let long = length-map-range_with_len each 0 count in
     ap concat (drop_all index (numbered each count) (omega arith))
 
--- a front of spaces
+-- a prefix of spaces
 front_of : (n m : ℕ) → n ≤ m → take {A = ℕ} n (replicate {A = ℕ} m 32) ≡ replicate {A = ℕ} n 32
 front_of zero m less = refl
 front_of (suc n) zero less = absurd (omega arith)

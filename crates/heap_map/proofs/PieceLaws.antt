@@ -23,7 +23,7 @@ IsLiveChunk (free size) = ⊥
 IsLiveChunk (movable bytes lock owner slot) = Unit {0}
 IsLiveChunk (fixed bytes owner) = Unit {0}
 
--- the pieces of some chunks, behind free bytes that go on
+-- the pieces of some chunks, after free bytes that go on
 abbrev pub sizes_behind : Option ℕ → List Chunk → List ℕ
 sizes_behind None cs = free_sizes (merged cs)
 sizes_behind (Some run) cs = free_sizes (free_onto run (merged cs))

@@ -9,20 +9,22 @@ use Rattle.chunk_format.specs.declared.header.Header.TheVariants as headers
 use Rattle.heap_map.specs.declared.cells.Cells.{Cells}
 use Rattle.heap_map.specs.Marks.{free_mark, mark_of, cell_byte}
 
--- how many bytes there are from a place on up to an end that lie in the cell of an index, of cells of a size
+-- how many of the bytes from a place up to an end are in the cell with an index, for cells of this
+-- size
 abbrev pub in_cell : ℕ → ℕ → ℕ → ℕ → ℕ
 in_cell size k from to = min to (size * k + size) - max from (size * k)
 
--- the mark of a chunk at a place, in a cell: its own if a byte of it lies there
+-- the mark of a chunk at a place in a cell: its own if the cell has a byte of it, and else that of
+-- free space
 abbrev pub mark_here : List ℕ → ℕ → ℕ → ℕ → Chunk → ℕ
 mark_here image size k at chunk = if nat_lt 0 (in_cell size k at (at + size_of chunk)) then mark_of image chunk else free_mark
 
--- the first mark of the chunks that have bytes in a cell, of those that begin at a place
+-- the first mark of the chunks with bytes in a cell, among the chunks from a place on
 abbrev pub first_mark : List ℕ → ℕ → ℕ → ℕ → List Chunk → ℕ
 first_mark image size k at [] = free_mark
 first_mark image size k at (chunk ∷ chunks) = min (mark_here image size k at chunk) (first_mark image size k (at + size_of chunk) chunks)
 
--- how many bytes of a free chunk at a place lie in a cell; of a live one none
+-- how many bytes of a free chunk at a place are in a cell, and 0 for a live chunk
 abbrev pub free_here : ℕ → ℕ → ℕ → Chunk → ℕ
 free_here size k at chunk = in_cell size k at (at + free_size chunk)
 
@@ -33,7 +35,7 @@ free_within size k at (chunk ∷ chunks) = free_here size k at chunk + free_with
 
 -- ---- the cells of an image
 
--- what the chunks of an image take
+-- the total size of the chunks of an image
 abbrev pub area_size : List ℕ → ℕ
 area_size image = length image - area_start image
 
@@ -41,7 +43,7 @@ area_size image = length image - area_start image
 abbrev pub most_cells : ℕ
 most_cells = 2048
 
--- the size of a cell: the least multiple of 8 with which there are not too many
+-- the size of a cell: the least multiple of 8 with which there are at most `most_cells` cells
 abbrev pub cell_size : List ℕ → ℕ
 cell_size image = 8 * ((area_size image + 16383) / 16384)
 
@@ -49,11 +51,11 @@ cell_size image = 8 * ((area_size image + 16383) / 16384)
 abbrev pub cell_count : List ℕ → ℕ
 cell_count image = (area_size image + (cell_size image - 1)) / cell_size image
 
--- how many bytes the cell of an index has
+-- how many bytes the cell with an index has
 abbrev pub cell_length : List ℕ → ℕ → ℕ
 cell_length image k = min (cell_size image) (area_size image - cell_size image * k)
 
--- the mark of the cell of an index, as a byte
+-- the mark of the cell with an index, as a byte
 unfoldable pub mark_at : List ℕ → ℕ → ℕ
 mark_at image k = cell_byte (first_mark image (cell_size image) k 0 (chunks_of image)) (free_within (cell_size image) k 0 (chunks_of image)) (cell_length image k)
 
@@ -63,7 +65,7 @@ marks image = numbered (mark_at image) (cell_count image)
 
 -- ---- the cells that a walk fills
 
--- so many cells, with nothing in them
+-- `count` cells, with nothing in them
 pub record IsClear (count : ℕ) (cells : Cells) : Type 0 where
   pub mark_count : length cells.marks.items ≡ count
   pub free_count : length cells.free.items ≡ count
@@ -82,23 +84,25 @@ pub record HoldChunks (image : List ℕ) (cells : Cells) (chunks : List Chunk) :
   pub free : (k : ℕ) → k < length cells.free.items → slice_index cells.free.items k ≡ free_within cells.size k 0 chunks
   pub same : length cells.free.items ≡ length cells.marks.items
 
--- each has those of all chunks of the image
+-- each cell has the first mark and the free bytes of all chunks of the image
 abbrev pub ArePainted : List ℕ → Cells → Type 0
 ArePainted image cells = HoldChunks image cells (chunks_of image)
 
--- how many bytes of a chunk with this header are free
+-- how many of the bytes that a chunk with this header takes are free
 abbrev pub free_by : Header → ℕ → ℕ
 free_by (headers.Free size) taken = taken
 free_by (headers.Movable length lock owner slot) taken = 0
 free_by (headers.Fixed length owner) taken = 0
 
--- whether the chunk is a live one, which has a mark to be drawn
+-- the mark that a chunk with this header draws: this mark if it is live, and else that of free
+-- space
 abbrev pub drawn_by : Header → ℕ → ℕ
 drawn_by (headers.Free size) mark = free_mark
 drawn_by (headers.Movable length lock owner slot) mark = mark
 drawn_by (headers.Fixed length owner) mark = mark
 
--- a chunk is added to cells: those in which bytes of it lie get its mark, if that comes before theirs, or its free bytes
+-- A chunk is added to cells. Each cell with bytes of a live chunk gets its mark, if that comes
+-- before the cell's. Each cell with bytes of a free chunk counts them among its free bytes.
 pub record AddsChunk (old new : Cells) (header : Header) (mark at taken : ℕ) : Type 0 where
   pub size : new.size ≡ old.size
   pub mark_count : length new.marks.items ≡ length old.marks.items

@@ -1,5 +1,5 @@
--- The marks of a picture, and which one a chunk has. Of the chunks in a cell the mark that comes first in the list is
--- drawn, so a mark is its rank in the list.
+-- The marks of a picture, and the mark that a chunk has. A cell shows the mark of its chunks that
+-- comes first in the list, so a mark is its rank in the list.
 use Rattle.std.specs.Prelude.{◌+◌, ◌-◌, ◌*◌, ◌==◌, nat_lt, nat_le, if◌then◌else◌, ℕ, List, slice_index, codes}
 use Rattle.heap_model.specs.Chunk.{Chunk, free, movable, fixed, managers_owner}
 use Rattle.chunk_format.specs.declared.header.Header.{Header}
@@ -30,11 +30,12 @@ other_mark = 1027
 abbrev pub free_mark : ℕ
 free_mark = 1028
 
--- the mark of a movable chunk that is neither locked nor the manager's, by the number of its database
+-- the mark of a movable chunk that is neither locked nor the manager's, from the number of its
+-- database
 abbrev pub numbered_mark : ℕ → ℕ
 numbered_mark number = if number == 0 then other_mark else database_mark number
 
--- the mark of a movable chunk
+-- the mark of a movable chunk, from its lock count, its owner and the number of its database
 abbrev pub movable_mark : ℕ → ℕ → ℕ → ℕ
 movable_mark lock owner number = if nat_lt 0 lock then locked_mark else if owner == managers_owner then managers_mark else numbered_mark number
 
@@ -44,7 +45,7 @@ mark_of image (free size) = free_mark
 mark_of image (movable bytes lock owner slot) = movable_mark lock owner (database_number image slot)
 mark_of image (fixed bytes owner) = fixed_mark
 
--- the same by its header
+-- the mark of a chunk, from its header
 abbrev pub mark_by : List ℕ → Header → ℕ
 mark_by image (headers.Free size) = free_mark
 mark_by image (headers.Movable length lock owner slot) = movable_mark lock owner (database_number image slot)
@@ -52,7 +53,8 @@ mark_by image (headers.Fixed length owner) = fixed_mark
 
 -- ---- how a mark is written
 
--- the letters of databases, in the order of the numbers: without F and L, which have a meaning of their own
+-- the letters of databases, in the order of their numbers. They leave out F and L, which have
+-- meanings of their own.
 abbrev pub letters : List ℕ
 letters = codes "abcdefghijklmnopqrstuvwxyzABCDEGHIJKMNOPQRSTUVWXYZ0123456789"
 
@@ -60,11 +62,11 @@ letters = codes "abcdefghijklmnopqrstuvwxyzABCDEGHIJKMNOPQRSTUVWXYZ0123456789"
 abbrev pub letter_count : ℕ
 letter_count = 60
 
--- the letter of the database of a number; those behind the last letter share a plus
+-- the letter of the database with a number. The databases after the last letter share a plus.
 abbrev pub letter_of : ℕ → ℕ
 letter_of number = if nat_lt letter_count number then 43 else slice_index letters (number - 1)
 
--- the mark of what is not free: F, L, *, a letter, or #
+-- the byte of a mark that isn't that of free space: F, L, *, a letter, or #
 abbrev pub live_byte : ℕ → ℕ
 live_byte mark =
     if mark == fixed_mark then 70
@@ -73,8 +75,9 @@ live_byte mark =
     else if mark == other_mark then 35
     else letter_of (mark - managers_mark)
 
--- The byte of a cell, by the first mark of its chunks, by how many of its bytes are free, and by how many it has: F or L
--- whatever else there is; a point if nothing but free chunks is there; a colon if half of it is free at least.
+-- The byte of a cell, from the first mark of its chunks, its free bytes, and its size. It is F or L
+-- if that is the first mark, and a point if the cell has only free chunks. It is a colon if at
+-- least half of the cell is free. Otherwise it is the byte of the first mark.
 abbrev pub cell_byte : ℕ → ℕ → ℕ → ℕ
 cell_byte mark free_bytes size =
     if nat_le mark locked_mark then live_byte mark

@@ -1,4 +1,4 @@
--- What is drawn of an image before its lines are written, and why it is not.
+-- The picture of an image before its lines are written, and the faults for which none is written.
 use Rattle.std.specs.Prelude.{◌≡◌, ℕ, List}
 use Rattle.heap_model.specs.Store.{Accepted}
 use Rattle.store_check.specs.Faults.{IsFirstFault}
@@ -14,7 +14,7 @@ pub record IsPicture (image : List ℕ) (picture : Picture) : Type 0 where
   pub size : picture.size ≡ cell_size image
   pub marks_are : picture.marks.items ≡ marks image
 
--- the fault of a picture by that of the check
+-- the fault of a picture, from that of the check
 abbrev pub map_fault : StoreFault → MapFault
 map_fault (checks.Heap fault) = BadImage (checks.Heap fault)
 map_fault (checks.BadDirectorySlot index) = BadImage (checks.BadDirectorySlot index)
@@ -27,7 +27,7 @@ map_fault (checks.BadName db) = BadImage (checks.BadName db)
 map_fault (checks.SameName db) = BadImage (checks.SameName db)
 map_fault checks.OutOfMemory = OutOfMemory
 
--- why no picture was written, or not all of it
+-- this fault is why no picture was written, or not all of it
 abbrev pub IsFaultOf : List ℕ → MapFault → Type 0
 IsFaultOf image (BadImage fault) = (Accepted image → ⊥) × IsFirstFault image fault
 IsFaultOf image OutOfMemory = Unit {0}

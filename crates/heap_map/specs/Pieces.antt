@@ -4,17 +4,18 @@ use Rattle.chunk_format.specs.declared.header.Header.{Header}
 use Rattle.chunk_format.specs.declared.header.Header.TheVariants as headers
 use Rattle.heap_map.specs.declared.pieces.Pieces.{Pieces}
 
--- how many bytes the piece has that goes on, if there is one
+-- the size of the piece that goes on, or 0 if there is none
 abbrev pub run_size : Option ℕ → ℕ
 run_size None = 0
 run_size (Some size) = size
 
--- the piece that went on is counted
+-- the pieces after the piece that went on has ended and is counted
 abbrev pub with_run : Option ℕ → Pieces → Pieces
 with_run None pieces = pieces
 with_run (Some size) pieces = record { run = None; count = pieces.count + 1; largest = max pieces.largest size }
 
--- the same when a chunk with this header follows: a free one goes on with the piece, and any other one ends it
+-- the pieces after a chunk with this header: a free chunk extends the piece, and any other chunk
+-- ends it
 abbrev pub with_header : Header → Pieces → Pieces
 with_header (headers.Free size) pieces = record pieces { run = Some (run_size pieces.run + size) }
 with_header (headers.Movable length lock owner slot) pieces = with_run pieces.run pieces

@@ -15,12 +15,14 @@ use Rattle.heap_map.specs.Cells.{cell_size, marks}
 
 -- ---- the first line
 
--- the size of an image, its slots, how many of them are in use, and the size of a cell
+-- the line with the size of an image, its slots, how many of them are in use, and the size of a
+-- cell
 unfoldable pub head_text : ℕ → ℕ → ℕ → ℕ → List ℕ
 head_text size slots used cell =
     codes "size " ++ (decimal size ++ (codes " slots " ++ (decimal slots
     ++ (codes " used " ++ (decimal used ++ (codes " cell " ++ (decimal cell ++ codes "\n")))))))
 
+-- the first line of an image
 abbrev pub head_line : List ℕ → List ℕ
 head_line image = head_text (length image) (length (slots_of image)) (count_by is_movable (chunks_of image)) (cell_size image)
 
@@ -38,19 +40,20 @@ padded number = replicate (8 - length (decimal number)) 32 ++ decimal number
 unfoldable pub row_text : ℕ → List ℕ → List ℕ
 row_text offset row = padded offset ++ (codes " " ++ (row ++ codes "\n"))
 
--- the row of an index, of marks for cells of a size, of which the first begins at an offset
+-- the row with an index, for marks of cells of a size. The first cell begins at an offset.
 abbrev pub row_line : ℕ → ℕ → List ℕ → ℕ → List ℕ
 row_line start size row_marks row =
     row_text (start + size * (row_length * row)) (slice_range row_marks (row_length * row) (min (row_length * row + row_length) (length row_marks)))
 
--- how many rows so many marks take
+-- how many rows `count` marks take
 abbrev pub row_count : ℕ → ℕ
 row_count count = (count + 63) / 64
 
+-- all rows, for marks of cells of a size. The first cell begins at an offset.
 unfoldable pub row_lines : ℕ → ℕ → List ℕ → List ℕ
 row_lines start size row_marks = concat (numbered (row_line start size row_marks) (row_count (length row_marks)))
 
--- ---- what is free
+-- ---- the free space
 
 -- the sizes of the free chunks among some chunks
 abbrev pub free_sizes : List Chunk → List ℕ
@@ -63,39 +66,45 @@ free_sizes (fixed bytes owner ∷ chunks) = free_sizes chunks
 abbrev pub free_pieces : List ℕ → List ℕ
 free_pieces image = free_sizes (layout_of image)
 
--- how many bytes are free, in how many pieces, and how many the largest has
+-- the line with the number of free bytes, the number of pieces, and the size of the largest piece
 unfoldable pub free_text : ℕ → ℕ → ℕ → List ℕ
 free_text total count largest =
     codes "free " ++ (decimal total ++ (codes " in " ++ (decimal count ++ (codes " pieces, the largest " ++ (decimal largest ++ codes "\n")))))
 
+-- the line of the free space of an image
 abbrev pub free_line : List ℕ → List ℕ
 free_line image = free_text (free_total image) (length (free_pieces image)) (greatest (free_pieces image))
 
 -- ---- databases
 
+-- the word for the entries of a database, with the end of its line
 abbrev pub kind_text : Bool → List ℕ
 kind_text true = codes " resources\n"
 kind_text false = codes " records\n"
 
--- the name of a database, and how many entries it has
+-- the rest of a database's line: its name, and how many entries it has
 unfoldable pub entries_text : List ℕ → List ℕ
 entries_text header = codes " " ++ (spelled (name_in header) ++ (codes " " ++ (decimal (entry_count_in header) ++ kind_text (resources_in header))))
 
--- the letter of a database, and what it has
+-- the line of a database: its letter, its name, and how many entries it has
 unfoldable pub database_text : ℕ → List ℕ → List ℕ
 database_text number header = (letter_of number ∷ []) ++ entries_text header
 
+-- the line of the database with an index
 abbrev pub database_line : List ℕ → ℕ → List ℕ
 database_line image db = database_text (db + 1) (header_at image db)
 
+-- the lines of all databases, in the order of the directory
 unfoldable pub database_lines : List ℕ → List ℕ
 database_lines image = concat (numbered (database_line image) (listed_count image))
 
 -- ---- all lines
 
+-- the lines after the rows
 unfoldable pub tail_lines : List ℕ → List ℕ
 tail_lines image = free_line image ++ database_lines image
 
+-- the lines after the first one
 unfoldable pub body_lines : List ℕ → List ℕ
 body_lines image = row_lines (area_start image) (cell_size image) (marks image) ++ tail_lines image
 

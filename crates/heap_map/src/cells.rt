@@ -1,4 +1,4 @@
-//! The cells of a picture: the first mark of the chunks in each, and how many free bytes it has.
+//! The cells of a picture: the first mark of the chunks in each cell, and the cell's free bytes.
 #![tactic(auto, using(laws_heap::proofs::Lending::all_within, laws_heap::proofs::Lending::all_misses))]
 
 ghost use Rattle.std.specs.Prelude.{◌≡◌, ◌≤◌, ◌<◌, ◌+◌, ◌*◌, ◌/◌, ◌^◌, ◌⊎◌, min, nat_lt, if◌then◌else◌, ℕ, length, slice_index, IfOk, OnErr, None};
@@ -14,10 +14,11 @@ use chunk_format::{Header, area_start};
 use raw_region::Region;
 use std::alloc::AllocError;
 
-/// How many units of 8 bytes go into the most cells.
+/// The greatest number of cells in a picture.
 const MOST_CELLS: u32 = 2048;
 
-/// The cells of a picture: of how many bytes each is, its first mark, and how many free bytes it has.
+/// The cells of a picture: their size in bytes, and for each cell its first mark and its number of
+/// free bytes.
 #[derive(Drop)]
 pub(crate) struct Cells {
     pub(crate) size: u32,
@@ -39,7 +40,7 @@ fn lower(marks: &mut [u32], first: usize, end: usize, mark: u32)
     }
 }
 
-/// Gives each cell in which some bytes lie their mark, if it comes before the cell's.
+/// Gives a mark to each cell that has some of these bytes, if the mark comes before the cell's.
 fn mark_bytes(marks: &mut [u32], size: u32, from: u32, to: u32, mark: u32)
     requires positive { 0 < size }
     requires some { from < to }
@@ -56,7 +57,7 @@ fn mark_bytes(marks: &mut [u32], size: u32, from: u32, to: u32, mark: u32)
     );
 }
 
-/// Adds to each cell how many of some bytes lie in it.
+/// Adds to each count the number of these bytes in the cell.
 fn count_bytes(counts: &mut [u32], size: u32, from: u32, to: u32)
     requires positive { 0 < size }
     requires some { from < to }
@@ -74,7 +75,7 @@ fn count_bytes(counts: &mut [u32], size: u32, from: u32, to: u32)
 }
 
 impl Cells {
-    /// So many cells of a size, with nothing in them.
+    /// Allocates `count` cells of a size, with nothing in them.
     fn new<A: Allowance>(memory: &A, size: u32, count: usize) -> Result<Cells, AllocError>
         ensures size { IfOk result (λ cells. cells.size ≡ size) }
         ensures clear { IfOk result (λ cells. IsClear count cells) }
@@ -87,7 +88,8 @@ impl Cells {
         })
     }
 
-    /// Adds the chunk with this header, whose mark is given. It begins at `at`, counted from the first chunk.
+    /// Adds the chunk with this header and this mark. It begins at `at`, counted from the first
+    /// chunk, and takes `taken` bytes.
     fn add(&mut self, header: Header, mark: u32, at: u32, taken: u32)
         requires positive { 0 < self.old.size }
         requires some { 0 < taken }
@@ -126,8 +128,8 @@ fn paint(region: &Region, table: &[u16], cells: &mut Cells)
     }
 }
 
-/// The size of a cell in bytes, for chunks that take `area` bytes: the least multiple of 8 with which there are at most
-/// 2,048 cells.
+/// Returns the size of a cell in bytes, for chunks that take `area` bytes. It is the least multiple
+/// of 8 with which there are at most 2,048 cells.
 fn cell_size(area: u32) -> u32
     requires { area < 2 ^ 24 }
     ensures { result ≡ 8 * ((area + 16383) / 16384) }
@@ -135,7 +137,7 @@ fn cell_size(area: u32) -> u32
     8 * ((area + (8 * MOST_CELLS - 1)) / (8 * MOST_CELLS))
 }
 
-/// The cells of an accepted image.
+/// Returns the cells of an accepted image.
 pub(crate) fn cells_of<A: Allowance>(
     memory: &A,
     region: &Region,
@@ -157,7 +159,7 @@ pub(crate) fn cells_of<A: Allowance>(
     Ok(cells)
 }
 
-/// The marks of all cells of an accepted image, as they are written.
+/// Returns the marks of all cells of an accepted image, as they are written.
 pub(crate) fn marks_of<A: Allowance>(
     memory: &A,
     region: &Region,

@@ -1,4 +1,4 @@
-//! A picture of a heap: where chunks, free space, locks and databases lie.
+//! A picture of a heap: its chunks, free space, locks and databases.
 //!
 //! The picture as text has rows of 64 marks, one for each cell of equally many bytes:
 //!
@@ -10,8 +10,8 @@
 //! a "MemoDB" 79 records
 //! ```
 //!
-//! `specs/Marks.antt` says what a mark stands for, `specs/Cells.antt` which one a cell has, and `specs/Text.antt` has
-//! the lines: start there.
+//! Start with `specs/Text.antt`, which defines the lines. `specs/Marks.antt` defines what each mark
+//! means, and `specs/Cells.antt` which mark a cell has.
 #![tactic(auto)]
 
 mod cells;

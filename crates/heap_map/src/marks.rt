@@ -1,4 +1,4 @@
-//! Marks: which one a chunk has, and how it is written.
+//! Marks: the mark that a chunk has, and how it is written.
 
 ghost use Rattle.std.specs.Prelude.{◌≡◌, ◌≤◌, ◌<◌, ◌^◌, ℕ, List, length};
 ghost use Rattle.heap_check.specs.Owners.{IsRoomFor, marked_word};
@@ -13,7 +13,8 @@ const FIXED: u32 = 0;
 /// The mark of a chunk with a lock.
 const LOCKED: u32 = 1;
 
-/// The mark of the directory, and of the header of a database. Those of databases come after it.
+/// The mark of the directory, and of the header of a database. The marks of databases come after
+/// it.
 const MANAGERS: u32 = 2;
 
 /// The mark of any other movable chunk.
@@ -22,13 +23,13 @@ const OTHER: u32 = 1027;
 /// The mark of a free chunk, which is the last one.
 pub(crate) const FREE: u32 = 1028;
 
-/// The mark of what stands before the first chunk: the head with its slots.
+/// The mark of the bytes before the first chunk: the head with its slots.
 pub(crate) const HEAD: u32 = 1029;
 
 /// The letters of databases, in their order.
 const LETTERS: &[u8; 60] = b"abcdefghijklmnopqrstuvwxyzABCDEGHIJKMNOPQRSTUVWXYZ0123456789";
 
-/// The number of the database that names a slot, by a table of them.
+/// Returns the number of the database that names a slot, from a table of these numbers.
 fn number_of(slot: u32, table: &[u16]) -> u16
     requires { (word : ℕ) × (slot ≡ marked_word word) × (word < length table.now) }
     ensures { (number : ℕ → ℕ) → HasNumbers number table.now → result ≡ number slot }
@@ -36,7 +37,7 @@ fn number_of(slot: u32, table: &[u16]) -> u16
     table[((slot - FRAME_SIZE) / SLOT_SIZE) as usize]
 }
 
-/// The mark of a movable chunk.
+/// Returns the mark of a movable chunk.
 fn movable_mark(lock: u8, owner: u8, number: u16) -> u32
     ensures { result ≡ marks.movable_mark lock owner number }
 {
@@ -51,7 +52,7 @@ fn movable_mark(lock: u8, owner: u8, number: u16) -> u32
     }
 }
 
-/// The mark of the chunk with this header, by a table of the databases of slots.
+/// Returns the mark of the chunk with this header, from a table of the numbers of databases.
 pub(crate) fn mark_of(header: Header, table: &[u16]) -> u32
     requires { IsRoomFor header (length table.now) }
     ensures { (image : List ℕ) → HasNumbers (database_number image) table.now
@@ -69,7 +70,7 @@ pub(crate) fn mark_of(header: Header, table: &[u16]) -> u32
     }
 }
 
-/// The letter of the database of a number, from 1 on.
+/// Returns the letter of the database with a number, from 1 on.
 pub(crate) fn letter_of(number: u32) -> u8
     requires { 1 ≤ number }
     ensures { result ≡ marks.letter_of number }
@@ -81,7 +82,7 @@ pub(crate) fn letter_of(number: u32) -> u8
     }
 }
 
-/// A mark as a byte, if it isn't that of free space.
+/// Returns a mark as a byte, if it isn't that of free space.
 fn live_byte(mark: u32) -> u8
     ensures { result ≡ marks.live_byte mark }
 {
@@ -94,7 +95,7 @@ fn live_byte(mark: u32) -> u8
     }
 }
 
-/// The byte of a cell, by the first mark of its chunks, by how many of its bytes are free, and by how many it has.
+/// Returns the byte of a cell, from the first mark of its chunks, its free bytes, and its size.
 pub(crate) fn cell_byte(mark: u32, free: u32, size: u32) -> u8
     requires { free < 2 ^ 31 }
     ensures { result ≡ marks.cell_byte mark free size }

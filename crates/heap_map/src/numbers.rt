@@ -17,7 +17,7 @@ use heap_check::{mark_number, marks_needed};
 use raw_region::Region;
 use std::alloc::AllocError;
 
-/// Gives a slot a number. What no slot can be gets none.
+/// Gives a slot a number. A word that can't be a slot gets none.
 #[inline]
 fn note(slot: u32, number: u16, table: &mut [u16])
     ensures { NotesSlots (slot ∷ []) number table.old table.new }
@@ -56,7 +56,8 @@ fn note_databases(region: &Region, table: &mut [u16])
     }
 }
 
-/// How many words of an image can be slots: those of an only table, and with a chain of tables all.
+/// Returns how many words of an image can be slots: those of an only table, and with a chain of
+/// tables all words.
 fn word_count(region: &Region) -> usize
     requires whole { region.now.lent ≡ None }
     requires accepted { HeapAccepted region.now.bytes }
@@ -69,7 +70,8 @@ fn word_count(region: &Region) -> usize
     }
 }
 
-/// For each word of an image that can be a slot, the number of the database that names it, or 0.
+/// Returns the number of the database that names it, or 0, for each word of an image that can be a
+/// slot.
 pub(crate) fn database_numbers<A: Allowance>(
     memory: &A,
     region: &Region,

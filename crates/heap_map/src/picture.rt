@@ -23,7 +23,7 @@ use std::io::Write;
 use store_check::{StoreFault, check_store_from};
 use thiserror::Error;
 
-/// Why no picture was written, or not all of it.
+/// The reason why no picture was written, or not all of it.
 #[derive(Clone, Copy, Debug, PartialEq, Eq, Error)]
 pub enum MapFault {
     /// The image is refused with this first fault.
@@ -37,7 +37,7 @@ pub enum MapFault {
     Write,
 }
 
-/// The fault of a picture by that of the check.
+/// Turns the fault of the check into that of a picture.
 fn map_fault(fault: StoreFault) -> MapFault
     ensures { result ≡ pictures.map_fault fault }
 {
@@ -47,7 +47,7 @@ fn map_fault(fault: StoreFault) -> MapFault
     }
 }
 
-/// What takes memory: the marks of all cells, and the size of a cell in bytes.
+/// The allocated part of a picture: the marks of all cells, and the size of a cell in bytes.
 #[derive(Drop)]
 struct Picture {
     size: u32,
@@ -89,7 +89,7 @@ fn checked<A: Allowance>(memory: &A, region: &Region) -> Result<(Summary, Pictur
     }
 }
 
-/// Writes what is free, and the databases.
+/// Writes the lines of the free space and of the databases.
 #[tactic(auto, using(palm_text::proofs::Parts::then, palm_text::proofs::Parts::stops), unfolding(crate::specs::Text::tail_lines))]
 fn put_tail<W: Write>(
     out: &mut Counted<W>,
@@ -106,7 +106,7 @@ fn put_tail<W: Write>(
     put_databases(out, region)
 }
 
-/// Writes the rows, and what follows them.
+/// Writes the rows, and the lines after them.
 #[tactic(auto, using(laws_heap::proofs::Lending::all_within, palm_text::proofs::Parts::then, palm_text::proofs::Parts::stops), unfolding(crate::specs::Text::body_lines))]
 fn put_body<W: Write>(
     out: &mut Counted<W>,

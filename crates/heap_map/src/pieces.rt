@@ -10,8 +10,8 @@ ghost use Rattle.heap_map.specs.Pieces.{free_by, run_size, with_header, with_run
 use chunk_format::{Header, area_start};
 use raw_region::Region;
 
-/// The free pieces that a walk has met: the one that goes on, if there is one, how many have ended, and how many
-/// bytes the largest of these has.
+/// The free pieces that a walk has met: the size of the piece that goes on, if there is one, and
+/// the number of pieces that have ended. `largest` is the size of the largest piece that has ended.
 #[derive(Clone, Copy)]
 pub(crate) struct Pieces {
     run: Option<u32>,
@@ -20,7 +20,7 @@ pub(crate) struct Pieces {
 }
 
 impl Pieces {
-    /// Before the first chunk.
+    /// Returns the pieces before the first chunk.
     fn new() -> Pieces
         ensures { result ≡ record { run = None; count = 0; largest = 0 } }
     {
@@ -43,7 +43,8 @@ impl Pieces {
         }
     }
 
-    /// Adds the chunk with this header: a free one goes on with the piece, and any other one ends it.
+    /// Adds the chunk with this header. A free chunk extends the piece, and any other chunk ends
+    /// it.
     fn add(&mut self, header: Header)
         requires few { self.old.count < 2 ^ 31 }
         requires fits { run_size self.old.run + free_by header < 2 ^ 32 }
@@ -56,7 +57,7 @@ impl Pieces {
     }
 }
 
-/// The free pieces of an accepted heap.
+/// Returns the free pieces of an accepted heap.
 pub(crate) fn free_pieces(region: &Region) -> Pieces
     requires whole { region.now.lent ≡ None }
     requires accepted { HeapAccepted region.now.bytes }

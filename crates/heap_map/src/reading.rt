@@ -12,7 +12,7 @@ use chunk_format::{HEADER_SIZE, SLOT_SIZE, directory, live_fields};
 use master_table::word_of;
 use raw_region::Region;
 
-/// The bytes of a chunk of the manager's, by its slot.
+/// Returns the bytes of a chunk of the manager's, by its slot.
 fn managers_bytes(region: &Region, slot: u32) -> &[u8]
     requires whole { region.now.lent ≡ None }
     requires accepted { HeapAccepted region.now.bytes }
@@ -24,7 +24,7 @@ fn managers_bytes(region: &Region, slot: u32) -> &[u8]
     region.slice(place as usize, length as usize)
 }
 
-/// The bytes of the directory. There are none if the directory word is 0.
+/// Returns the bytes of the directory. There are none if the directory word is 0.
 pub(crate) fn directory_in(region: &Region) -> &[u8]
     requires whole { region.now.lent ≡ None }
     requires accepted { HeapAccepted region.now.bytes }
@@ -37,7 +37,7 @@ pub(crate) fn directory_in(region: &Region) -> &[u8]
     managers_bytes(region, slot)
 }
 
-/// The header and the entries of the database of an index.
+/// Returns the header and the entries of the database with an index.
 pub(crate) fn header_in<'a>(region: &'a Region, directory: &[u8], db: usize) -> &'a [u8]
     requires whole { region.now.lent ≡ None }
     requires accepted { Accepted region.now.bytes }

@@ -17,10 +17,10 @@ use palm_text::{Counted, Piece, WriteFault, put_all, put_pieces};
 use raw_region::Region;
 use std::io::Write;
 
-/// How many marks a row has.
+/// The number of marks in a row.
 const ROW: usize = 64;
 
-/// What stands before a short number.
+/// The spaces before a short number.
 const SPACES: &[u8; 8] = b"        ";
 
 /// Writes the first line.
@@ -50,7 +50,7 @@ pub(crate) fn put_head<W: Write>(
     )
 }
 
-/// So many spaces.
+/// Returns `count` spaces.
 fn spaces(count: usize) -> &'static [u8]
     requires { count ≤ 8 }
     ensures { result.now ≡ replicate count 32 }
@@ -82,7 +82,8 @@ fn put_row<W: Write>(out: &mut Counted<W>, offset: u32, row: &[u8]) -> Result<()
     )
 }
 
-/// Writes marks in rows. They are those of cells of a size, of which the first begins at `start`.
+/// Writes marks in rows. They are the marks of cells of `size` bytes, the first of which begins at
+/// `start`.
 pub(crate) fn put_rows<W: Write>(
     out: &mut Counted<W>,
     start: u32,
@@ -128,7 +129,7 @@ pub(crate) fn put_free<W: Write>(
     )
 }
 
-/// The word for the entries of a database, with the end of its line.
+/// Returns the word for the entries of a database, with the end of its line.
 fn kind_text(resources: bool) -> &'static [u8]
     ensures { result.now ≡ texts.kind_text resources }
 {

@@ -72,7 +72,7 @@ chunk_copied old was by at header copied found is = by_chunk found.chunk found.s
   by_chunk (fixed bytes owner) s h = let inside = s.inside in all_of (fixed bytes owner) s h (λ k low high. copied k low (omega arith))
   by_chunk (movable bytes lock owner slot) s h = let no : true ≡ false = sym (ap movable_by h) ∙ is in absurd cc
 
--- ---- chunks in front of what is written
+-- ---- chunks before the bytes that are written
 
 further_same : (old now new : List ℕ) (by at end : ℕ) (c : Chunk) → AreSame now new 0 (end + by) → at + size_of c ≤ end → StandsFurther old now by at c → StandsFurther old new by at c
 further_same old now new by at end (free size) same inside f = λ k low high. same (k + by) (omega arith) (omega arith) ∙ f k low high
@@ -144,7 +144,7 @@ area_copied old was new by start n end len e k low high =
 front_kept : (was new part : List ℕ) (at : ℕ) → new ≡ overwritten was at part → at + length part ≤ length was → AreSame was new 0 at
 front_kept was new part at e inside k low high = let w = wrote_part was new at part e inside in sym (w.below.same k low high)
 
--- all chunks are copied, and nothing in front of them is written
+-- all chunks are copied, and nothing before them is written
 pub area_written : (old was new : List ℕ) (by start len : ℕ) → HeapAccepted old → length was ≡ length old + by → start ≡ area_start old → len ≡ length old
     → new ≡ overwritten was (start + by) (take (start + (len - start) - start) (drop start old)) → StandFurther old new by (area_start old) (length old) × AreSame was new 0 (area_start old + by)
 area_written old was new by start len h many there all e =

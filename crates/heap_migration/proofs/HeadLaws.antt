@@ -1,4 +1,4 @@
--- What stands in front of the chunks of a migrated image.
+-- The bytes before the chunks of a migrated image.
 use Rattle.std.proofs.Common.{Bool, true, false, ◌≡◌, ℕ, ◌+◌, ◌-◌, ◌*◌, ◌/◌, ◌%◌, ◌^◌, ◌<◌, ◌≤◌, List, ◌++◌, length, slice_index, get_or, take, drop, replicate, refl, sym, ap, subst, ◌∙◌, arith, inl, inr, lit<, length-append, length-take, length-drop}
 use Rattle.std.proofs.lemmas.Bool.{cases_eq}
 use Rattle.std.proofs.lemmas.List.{get_or-take, get_or-drop, get_or_append_left, get_or-append_right, length-take-le}

@@ -16,7 +16,7 @@ use Rattle.heap_migration.specs.Growth.{growth, growth_of}
 use Rattle.heap_migration.specs.Writing.{HasHead, WroteChunks}
 use Rattle.heap_migration.proofs.HeadLaws.{as_same, same_word}
 
--- the chunks begin so much further on
+-- the chunks begin further on by the growth
 starts : (n : ℕ) → 8 * ((16 + 4 * n + 4 + 7) / 8) ≡ 8 * ((16 + 4 * n + 0 + 7) / 8) + growth n
 starts n = elim (cases_eq (n % 2) 0) [
   | inl even ↦ let g : growth n ≡ 8 = cond-true ((n % 2) == 0) 8 0 (eq-eqb (n % 2) 0 even) in omega (arith, g, even)

@@ -149,7 +149,7 @@ pub store_migrated : (old new : List ℕ) (by : ℕ) → Accepted old → Migrat
 unfolding store_of
 store_migrated old new by a m = record { map = raises_fixed old new by a.heap m; databases = databases_are new (databases old) (databases_migrated old new by a m) }
 
--- ---- what the bytes say
+-- ---- the meaning of the bytes
 
 pub is_migrated : (old new : List ℕ) → Accepted old → is_chained old ≡ false → length old + growth_of old ≤ most_size → MigratesBytes old new (growth_of old) → IsMigrated old new
 is_migrated old new a plain fits m =

@@ -1,4 +1,4 @@
--- What the steps of a migration write. Between the steps the new image is none yet.
+-- The bytes that each step of a migration writes. Between the steps the new bytes are no image yet.
 use Rattle.std.specs.Prelude.{◌≡◌, ◌≤◌, ◌<◌, ◌+◌, ◌%◌, ◌==◌, if◌then◌else◌, ℕ, Bool, true, false, List, length, slice_index}
 use Rattle.heap_model.specs.Bytes.{u32_at}
 use Rattle.heap_model.specs.Chunk.{Chunk, Spelled, SpelledAll, size_of}
@@ -14,11 +14,11 @@ use Rattle.chunk_format.specs.declared.header.Header.TheVariants as headers
 abbrev pub AreSame : List ℕ → List ℕ → ℕ → ℕ → Type 0
 AreSame old new start end = (at : ℕ) → start ≤ at → at < end → slice_index new at ≡ slice_index old at
 
--- what a slot is to hold
+-- the new word of a slot: an empty slot stays empty, and a place rises
 abbrev pub raised : ℕ → ℕ → ℕ
 raised by place = if place == 0 then 0 else place + by
 
--- What stands in front of the chunks is written. Zeros follow.
+-- The frame and the slots are written. Zeros follow up to the chunks.
 pub record HasHead (old new : List ℕ) (by : ℕ) : Type 0 where
   pub len : length new ≡ length old + by
   pub magic : u32_at new magic_at ≡ chained_magic
@@ -48,13 +48,14 @@ pub record RaisedUpTo (old was new : List ℕ) (by end : ℕ) : Type 0 where
 abbrev pub RaisedSlots : List ℕ → List ℕ → List ℕ → ℕ → Type 0
 RaisedSlots old was new by = RaisedUpTo old was new by (table_end old)
 
--- a header is that of a movable chunk
+-- whether a header is that of a movable chunk
 abbrev pub movable_by : Header → Bool
 movable_by (headers.Free size) = false
 movable_by (headers.Movable length lock owner slot) = true
 movable_by (headers.Fixed length owner) = false
 
--- The chunk at an offset of the old image stands further on in the new one. Only its hOffset was written.
+-- The chunk at an offset of the old image is further on in the new one. Only the bytes of this
+-- chunk were written.
 pub record WroteChunk (old was new : List ℕ) (by at size : ℕ) : Type 0 where
   pub chunk : Chunk
   pub spelled : Spelled old at chunk
@@ -64,7 +65,8 @@ pub record WroteChunk (old was new : List ℕ) (by at size : ℕ) : Type 0 where
   pub front : AreSame was new 0 (at + by)
   pub back : AreSame was new (at + by + size) (length was)
 
--- The chunks up to an offset of the old image stand further on. Those behind are copied, and nothing else is written.
+-- The chunks up to an offset of the old image are further on in the new one. The chunks after it
+-- are copied, and the bytes before the chunks are unchanged.
 pub record WroteUpTo (old was new : List ℕ) (by at : ℕ) : Type 0 where
   pub chunks : List Chunk
   pub spelled : SpelledAll old (area_start old) chunks at
@@ -74,7 +76,7 @@ pub record WroteUpTo (old was new : List ℕ) (by at : ℕ) : Type 0 where
   pub len : length new ≡ length was
   pub front : AreSame was new 0 (area_start old + by)
 
--- All chunks stand further on, and nothing in front of them is written.
+-- All chunks are further on in the new image, and the bytes before them are unchanged.
 pub record WroteChunks (old was new : List ℕ) (by : ℕ) : Type 0 where
   pub further : EveryPlaced (StandsFurther old new by) (area_start old) (chunks_of old)
   pub len : length new ≡ length was

@@ -1,4 +1,4 @@
-//! The chunks of an image, further on in a new one.
+//! The chunks of an image, written further on in a new one.
 #![tactic(auto, using(laws_heap::proofs::Lending::all_within, laws_heap::proofs::Lending::all_misses))]
 
 ghost use Rattle.std.specs.Prelude.{◌≡◌, ◌≤◌, ◌<◌, ◌+◌, ◌^◌, None, length};
@@ -11,13 +11,14 @@ ghost use Rattle.heap_migration.specs.Writing.{WroteChunks, WroteChunk, movable_
 use chunk_format::{Header, area_start};
 use raw_region::Region;
 
-/// Where the second word of a header stands, from the header's start.
+/// The offset of a header's second word, from the header's start.
 const SECOND_WORD_AT: usize = 4;
 
-/// What stands above the 24 bits of an hOffset is a multiple of this.
+/// The bits above the 24 bits of an hOffset are a multiple of this.
 const ABOVE_24_BITS: u32 = 0x100_0000;
 
-/// Writes all chunks `by` bytes further on. Their hOffsets lead to the slots where these stand now.
+/// Writes all chunks `by` bytes further on. Their hOffsets lead to the slots at the slots' new
+/// offsets.
 pub(crate) fn write_chunks(image: &Region, grown: &mut Region, by: u32)
     requires accepted { HeapAccepted image.now.bytes }
     requires few { by ≤ 8 }
@@ -31,7 +32,7 @@ pub(crate) fn write_chunks(image: &Region, grown: &mut Region, by: u32)
     lower_offsets(image, grown, by);
 }
 
-/// Lowers the hOffset of each movable chunk by half of what the chunk has risen.
+/// Lowers the hOffset of each movable chunk by half of the chunk's rise.
 fn lower_offsets(image: &Region, grown: &mut Region, by: u32)
     requires accepted { HeapAccepted image.now.bytes }
     requires few { by ≤ 8 }
@@ -49,7 +50,8 @@ fn lower_offsets(image: &Region, grown: &mut Region, by: u32)
     }
 }
 
-/// Lowers the hOffset of the chunk that stands at `at` in the image, if it is movable. Returns the chunk's size.
+/// Lowers the hOffset of the chunk at `at` in the image, if it is movable. Returns the chunk's
+/// size.
 fn lower_offset(image: &Region, grown: &mut Region, at: u32, by: u32) -> u32
     requires chunk { HasChunk image.now.bytes at }
     requires small { length image.now.bytes < 2 ^ 24 }
@@ -70,14 +72,14 @@ fn lower_offset(image: &Region, grown: &mut Region, at: u32, by: u32) -> u32
     size
 }
 
-/// Whether a header is that of a movable chunk, locked or not.
+/// Returns whether a header is that of a movable chunk, locked or not.
 fn is_movable(header: Header) -> bool
     ensures { result ≡ movable_by header }
 {
     matches!(header, Header::Movable { .. })
 }
 
-/// The second word of a header with an hOffset that is less by half of `by`.
+/// Returns the second word of a header with an hOffset that is less by half of `by`.
 fn lowered(word: u32, by: u32) -> u32
     requires { by ≤ 8 }
     ensures { result ≡ lowered_word by word }

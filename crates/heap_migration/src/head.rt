@@ -1,4 +1,4 @@
-//! What stands in front of the chunks: the frame, the slots and the word `next`.
+//! The bytes before the chunks: the frame, the slots and the word `next`.
 #![tactic(auto, using(laws_heap::proofs::Lending::all_within, laws_heap::proofs::Lending::all_misses))]
 
 ghost use Rattle.std.specs.Prelude.{◌≡◌, ◌≤◌, ◌<◌, ◌+◌, ◌^◌, None, length, replicate, false};
@@ -10,7 +10,8 @@ ghost use Rattle.heap_migration.specs.Writing.{raised, HasHead, WroteFrame, Rais
 use chunk_format::{CHAINED_MAGIC, FRAME_SIZE, MAGIC_AT, SIZE_AT, SLOT_SIZE, head_end};
 use raw_region::Region;
 
-/// The bytes by which an image with `slots` slots grows: those of the word `next` and its padding.
+/// Returns the number of bytes by which an image with `slots` slots grows, for the word `next` and
+/// its padding.
 pub(crate) fn growth(slots: u16) -> u32
     ensures is { result ≡ model_growth slots }
     ensures few { result ≤ 8 }
@@ -18,7 +19,7 @@ pub(crate) fn growth(slots: u16) -> u32
     if slots % 2 == 0 { 8 } else { 0 }
 }
 
-/// Writes into zeros what stands in front of the chunks. Those begin `by` bytes further on.
+/// Writes the bytes before the chunks into zeros. The chunks begin `by` bytes further on.
 pub(crate) fn write_head(image: &Region, grown: &mut Region, by: u32)
     requires accepted { HeapAccepted image.now.bytes }
     requires one_table { is_chained image.now.bytes ≡ false }
@@ -32,7 +33,7 @@ pub(crate) fn write_head(image: &Region, grown: &mut Region, by: u32)
     raise_slots(image, grown, by);
 }
 
-/// Writes the frame: the new magic, the size of the new image, and all else as it was.
+/// Writes the frame: the new magic, the size of the new image, and all other bytes as they were.
 fn write_frame(image: &Region, grown: &mut Region)
     requires old_frame { 16 ≤ length image.now.bytes }
     requires new_frame { 16 ≤ length grown.old.bytes }
@@ -46,7 +47,7 @@ fn write_frame(image: &Region, grown: &mut Region)
     grown.put_u32(SIZE_AT, grown.len() as u32);
 }
 
-/// Writes the slots. Those in use hold a place that is `by` bytes further on.
+/// Writes the slots. Each slot in use holds a place that is `by` bytes further on.
 fn raise_slots(image: &Region, grown: &mut Region, by: u32)
     requires accepted { HeapAccepted image.now.bytes }
     requires one_table { is_chained image.now.bytes ≡ false }
@@ -65,7 +66,7 @@ fn raise_slots(image: &Region, grown: &mut Region, by: u32)
     }
 }
 
-/// What a slot is to hold. An empty slot stays empty.
+/// Returns the new word of a slot. An empty slot stays empty.
 #[inline]
 fn raise(place: u32, by: u32) -> u32
     requires { place + by < 2 ^ 32 }

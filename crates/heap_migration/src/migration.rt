@@ -1,4 +1,4 @@
-//! The image that comes of a migration.
+//! The image that results from a migration.
 #![tactic(auto, using(laws_heap::proofs::Lending::all_within, laws_heap::proofs::Lending::all_misses))]
 
 ghost use Rattle.std.specs.Prelude.{◌≡◌, ◌<◌, ◌+◌, ◌≢◌, ◌↔◌, IfOk, IfErr, OnOk, Err, None, length, true, false};
@@ -17,26 +17,28 @@ use chunk_format::{is_chained, is_image_size, slot_count};
 use raw_region::Region;
 use thiserror::Error;
 
-/// Why an image isn't migrated, in the order in which the reasons are looked for.
+/// The reason why an image isn't migrated. The reasons are tested in this order.
 #[derive(Clone, Copy, Debug, PartialEq, Eq, Error)]
 pub enum MigrateFault {
-    /// The body of a chunk is lent. `migrate_from` takes no region of which something is lent, so it never returns this
-    /// fault: its caller does.
+    /// The body of a chunk is lent. `migrate_from` takes no region with a lent part, so it never
+    /// returns this fault: its caller does.
     #[error("Lent")]
     Lent,
     /// The new image would be larger than 16,777,208 bytes.
     #[error("TooLarge")]
     TooLarge,
-    /// Memory was refused.
+    /// The allocation failed.
     #[error("OutOfMemory")]
     OutOfMemory,
 }
 
-/// Returns the image with a chain of tables that an accepted image becomes. One that has a chain is returned as it is.
+/// Turns an accepted image into one with a chain of tables. Returns an image that has a chain as it
+/// is.
 ///
 /// # Errors
-/// `TooLarge` if the new image would be too large, and `OutOfMemory` only if a growth was refused. The region comes
-/// back with either, unchanged.
+/// Each error returns the region, unchanged.
+/// - `TooLarge`: the new image would be larger than 16,777,208 bytes.
+/// - `OutOfMemory`: an allocation failed.
 pub fn migrate_from<A: Allowance>(
     memory: &A,
     region: Region,
@@ -64,7 +66,7 @@ pub fn migrate_from<A: Allowance>(
     }
 }
 
-/// The image with a chain of tables that an image with one table becomes, in a region of its own.
+/// Makes the image with a chain of tables from an image with one table, in a region of its own.
 fn grown_from<A: Allowance>(memory: &A, image: &Region) -> Result<Region, MigrateFault>
     requires accepted { HeapAccepted image.now.bytes }
     requires one_table { model_chained image.now.bytes ≡ false }

@@ -1,4 +1,4 @@
--- Big-endian numbers in a list of bytes, and what a write leaves.
+-- Big-endian numbers in a list of bytes, and the bytes after a write.
 use Rattle.std.specs.Prelude.{◌<◌, ◌+◌, ◌-◌, ◌++◌, ℕ, List, length, take, drop, replicate, slice_index}
 use Rattle.byteorder.specs.Endian.{big_from, big_bytes}
 
@@ -30,10 +30,10 @@ u32_bytes number = big_bytes 4 number
 abbrev pub AreBytes : List ℕ → Type 0
 AreBytes bytes = (k : ℕ) → slice_index bytes k < 256
 
--- a list of bytes after others are written over it, from an offset on where they fit
+-- a list of bytes after others are written over it, from an offset on, if they fit there
 unfoldable pub overwritten : List ℕ → ℕ → List ℕ → List ℕ
 overwritten old at bytes = take at old ++ bytes ++ drop (at + length bytes) old
 
--- the first so many bytes of a list, or all of them with zeros behind, so that there are so many
+-- the first `count` bytes of a list; a shorter list gets zeros after it, up to `count` bytes
 abbrev pub sized_to : List ℕ → ℕ → List ℕ
 sized_to bytes count = take count bytes ++ replicate (count - length bytes) 0

@@ -1,9 +1,11 @@
--- Chunks: what each is, how it is spelled in an image, and runs of them without a gap.
+-- Chunks: their values, how an image spells them, and runs of chunks without a gap.
 use Rattle.std.specs.Prelude.{◌≡◌, ◌≤◌, ◌<◌, ◌+◌, ◌-◌, ◌*◌, ◌/◌, ◌%◌, ◌^◌, ◌⊎◌, ◌==◌, ◌&&◌, ◌++◌, if◌then◌else◌, ℕ, Bool, true, false, List, [], ◌∷◌, length, take, replicate, slice_range}
 use Rattle.heap_model.specs.Bytes.{u32_at}
 
--- A chunk is free, and has a size; or movable, with bytes, a lock count below 15, an owner and the
--- offset of the slot that it names; or fixed, with bytes and an owner.
+-- A chunk is one of these:
+-- - free, with a size
+-- - movable, with bytes, a lock count below 15, an owner and the offset of the slot that it names
+-- - fixed, with bytes and an owner
 pub data Chunk : Type 0 where
   free : ℕ → Chunk
   movable : List ℕ → ℕ → ℕ → ℕ → Chunk
@@ -17,46 +19,49 @@ fixed_lock = 15
 abbrev pub most_locks : ℕ
 most_locks = 14
 
--- the owner of the manager's own chunks: the directory, the headers of databases and, fixed, the tables
+-- the owner of the manager's own chunks: the directory, the headers of databases and, fixed, the
+-- tables
 abbrev pub managers_owner : ℕ
 managers_owner = 0
 
--- The owner of the chunks that databases name: info blocks, and the data of records and resources. The
--- owners between the two are callers'.
+-- The owner of the chunks that databases name: info blocks, and the data of records and resources.
+-- The owners between the two are callers'.
 abbrev pub data_owner : ℕ
 data_owner = 15
 
--- what a chunk of so many bytes takes: 8 for its header, and the bytes rounded up to a multiple of 8
+-- how many bytes a chunk takes: 8 for its header, and `count` rounded up to a multiple of 8
 abbrev pub need : ℕ → ℕ
 need count = 8 + 8 * ((count + 7) / 8)
 
--- what a chunk takes
+-- how many bytes a chunk takes, its header included
 abbrev pub size_of : Chunk → ℕ
 size_of (free size) = size
 size_of (movable bytes lock owner slot) = need (length bytes)
 size_of (fixed bytes owner) = need (length bytes)
 
--- The offset of the slot that a chunk names by its hOffset, which is half the distance from the
--- chunk to the slot as a two's complement of 24 bits. A distance that leads in front of the image
--- ends at 2 ^ 24 or more here, where no image has a slot.
+-- The offset of the slot that a chunk names by its hOffset. The hOffset is half the distance from
+-- the chunk to the slot, as a two's complement of 24 bits. A distance to before the image's start
+-- gives 2 ^ 24 or more here, where no image has a slot.
 abbrev pub slot_named : ℕ → ℕ → ℕ
 slot_named at h_offset = (at + 2 * h_offset) % 2 ^ 25
 
--- what the word `next` of a table takes
+-- how many bytes the word `next` of a table takes
 abbrev pub next_size : ℕ
 next_size = 4
 
--- The chunk is a table: a fixed one of the manager's. Its body is a word `next` and slots.
+-- A chunk with this lock and this owner is a table: a fixed chunk of the manager's. Its body is a
+-- word `next` and slots.
 abbrev pub is_table_by : ℕ → ℕ → Bool
 is_table_by lock owner = (lock == fixed_lock) && (owner == managers_owner)
 
--- The bytes that a chunk's value has, by those of its body: the same, but of a table the word `next`
--- alone, with zeros for its slots. What slots hold is no part of a chunk.
+-- The bytes of a chunk's value, given the bytes of its body. They are the same, except for a table:
+-- only its word `next` is kept, and its slots count as zeros. The contents of slots are no part of
+-- a chunk.
 unfoldable pub seen : ℕ → ℕ → List ℕ → List ℕ
 seen lock owner body = if is_table_by lock owner then take next_size body ++ replicate (length body - next_size) 0 else body
 
--- At this offset stands the header of a free chunk of this size: the highest bit, and the size in
--- the low 24. Its other bits and bytes may be any.
+-- The header of a free chunk of this size is at this offset. The highest bit of its first word is
+-- set, and the low 24 bits are the size. Its other bits and bytes may be any.
 pub record IsFree (image : List ℕ) (at size : ℕ) : Type 0 where
   pub free_bit : 2 ^ 31 ≤ u32_at image at
   pub size_field : u32_at image at % 2 ^ 24 ≡ size
@@ -64,9 +69,9 @@ pub record IsFree (image : List ℕ) (at size : ℕ) : Type 0 where
   pub whole : size % 8 ≡ 0
   pub inside : at + size ≤ length image
 
--- At this offset stand the header and the body of a live chunk. The first word is sizeAdj, which is
--- how many bytes of slack there are, above the size in 24 bits; the second is the lock above the
--- owner above hOffset in 24 bits. Slack may be any.
+-- The header and the body of a live chunk are at this offset. The first word is sizeAdj, the number
+-- of slack bytes, above the size in 24 bits. The second is the lock above the owner above hOffset
+-- in 24 bits. Slack bytes may be any.
 pub record IsLive (image : List ℕ) (at : ℕ) (bytes : List ℕ) (lock owner h_offset : ℕ) : Type 0 where
   pub first_word : u32_at image at ≡ (need (length bytes) - 8 - length bytes) * 2 ^ 24 + need (length bytes)
   pub size_fits : need (length bytes) < 2 ^ 24
@@ -90,12 +95,12 @@ pub record HasChunk (image : List ℕ) (at : ℕ) : Type 0 where
   pub chunk : Chunk
   pub spelled : Spelled image at chunk
 
--- the chunks are spelled one behind the other, from one offset up to another
+-- the chunks are spelled one after the other, from one offset up to another
 abbrev pub SpelledAll : List ℕ → ℕ → List Chunk → ℕ → Type 0
 SpelledAll image at [] end = at ≡ end
 SpelledAll image at (chunk ∷ chunks) end = Spelled image at chunk × SpelledAll image (at + size_of chunk) chunks end
 
--- what chunks take together
+-- how many bytes chunks take together
 abbrev pub total : List Chunk → ℕ
 total [] = 0
 total (chunk ∷ chunks) = size_of chunk + total chunks

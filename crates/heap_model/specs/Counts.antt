@@ -1,5 +1,5 @@
--- An image and its databases, by counts: how often each name is the number of a database, and how often
--- databases name it. Of calls that change the databases of an image this is what is proved to stay so.
+-- An image and its databases, by counts: how often each name is the number of a database, and how
+-- often databases name it. The proofs show that calls that change databases keep this relation.
 use Rattle.std.specs.Prelude.{◌≡◌, ◌≤◌, ◌<◌, ◌+◌, ◌%◌, ℕ, true, List, length, All}
 use Rattle.heap_model.specs.Chunk.{managers_owner, data_owner}
 use Rattle.heap_model.specs.Heap.{HeapAccepted, directory_of}
@@ -12,15 +12,15 @@ abbrev pub NamesData : Entry ℕ → Type 0
 NamesData (a_record attributes id slot) = slot ≡ 0 → is_deleted attributes ≡ true
 NamesData (a_resource kind id slot) = 0 < slot
 
--- what a database is by itself, whatever chunks its names stand for
+-- a database of an image is right by itself, whatever chunks its names stand for
 pub record IsWhole (image : List ℕ) (stored : StoredDatabase) : Type 0 where
   pub spelled : IsSpelled stored.database (bytes_under image stored.db)
   pub entries : All NamesData stored.database.entries
   pub ids : HasUniqueIds stored.database
 
--- The image has these databases, in this order, and is accepted with them. A name that isn't 0 is named
--- once where it is that of a chunk for data, and else never. It is the number of one database or is the
--- directory where its chunk is one of the manager's, and else neither.
+-- The image has these databases, in this order, and is accepted with them. A name that isn't 0 is
+-- named once if its chunk is one for data, and otherwise never. It is the number of one database or
+-- the directory if its chunk is one of the manager's, and otherwise neither.
 pub record HasDatabases (image : List ℕ) (stored : List StoredDatabase) : Type 0 where
   pub heap : HeapAccepted image
   pub whole : length (directory_bytes image) % listed_size ≡ 0
@@ -32,8 +32,8 @@ pub record HasDatabases (image : List ℕ) (stored : List StoredDatabase) : Type
   pub listed_once : (name : ℕ) → 0 < name → times name (numbers_of stored) + same name (directory_of image) ≡ same (owner_under image name) managers_owner
   pub none_listed : times 0 (numbers_of stored) ≡ 0
 
--- A database is whole by itself, whatever spells it: it can be spelled, its entries name data where they
--- have to, and its records have unique IDs.
+-- A database is right by itself, whatever spells it. It can be spelled, its entries name data
+-- unless they are deleted records, and its records have unique IDs.
 pub record IsSound (database : Database ℕ) : Type 0 where
   pub fits : DatabaseFits database
   pub entries : All NamesData database.entries

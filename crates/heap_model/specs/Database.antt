@@ -1,9 +1,9 @@
--- Databases: their values, the bytes that spell them, and the value that is read off bytes.
+-- Databases: their values, the bytes that spell them, and the value that is read from bytes.
 --
--- The header and the entries are those of a PDB or PRC file (File Format Specification). In a heap they
--- have the slot of a chunk wherever a file has an offset, which is this project's own. So one spelling
--- serves both: a database here has numbers for its data, and what these stand for is said where they
--- are used.
+-- The header and the entries are those of a PDB or PRC file (File Format Specification). A heap has
+-- the slot of a chunk wherever a file has an offset, which is this project's own. So one spelling
+-- serves both: a database here has numbers for its data. Each use of it says what these numbers
+-- mean.
 use Rattle.std.specs.Prelude.{◌≡◌, ◌≤◌, ◌<◌, ◌+◌, ◌-◌, ◌*◌, ◌/◌, ◌%◌, ◌^◌, ◌==◌, ◌++◌, not, ℕ, Bool, true, false, List, [], ◌∷◌, length, take, replicate, slice_index, map, All}
 use Rattle.std.specs.Int.{bit_at}
 use Rattle.std.specs.List.{concat, flat_map, take_while}
@@ -13,9 +13,13 @@ use Rattle.heap_model.specs.DatabaseFields.{name_size, attributes_at, version_at
 
 -- ---- values
 
--- What a header says of the database alone: its name, without the zeros behind it; its attributes and
--- version; when it was made, modified and backed up last; its modification number; its type and
--- creator; and the seed of its records' IDs.
+-- The fields of a header that describe the database alone:
+-- - its name, without the zeros after it
+-- - its attributes and version
+-- - when it was made, modified and backed up last
+-- - its modification number
+-- - its type and creator
+-- - the seed of its records' IDs
 pub record DatabaseHeader : Type 0 where
   pub name : List ℕ
   pub attributes : ℕ
@@ -28,8 +32,8 @@ pub record DatabaseHeader : Type 0 where
   pub creator : ℕ
   pub seed : ℕ
 
--- An entry. Of a record: its attributes, its unique ID, and its data. Of a resource: its type, its id,
--- and its data.
+-- An entry. Of a record: its attributes, its unique ID, and its data. Of a resource: its type, its
+-- id, and its data.
 pub data Entry (Data : Type 0) : Type 0 where
   a_record : ℕ → ℕ → Data → Entry Data
   a_resource : ℕ → ℕ → Data → Entry Data
@@ -46,11 +50,11 @@ abbrev pub entry_data : {Data : Type 0} → Entry Data → Data
 entry_data (a_record attributes id «data») = «data»
 entry_data (a_resource kind id «data») = «data»
 
--- all that a database has data for: its info blocks, and then its entries
+-- the data of a database: its AppInfo and SortInfo blocks, and then the data of its entries
 abbrev pub data_in : {Data : Type 0} → Database Data → List Data
 data_in database = database.app_info ∷ database.sort_info ∷ map entry_data database.entries
 
--- an entry, and a database, with something else for its data
+-- an entry with its data changed, and a database with all its data changed
 abbrev pub entry_with : {Data Other : Type 0} → (Data → Other) → Entry Data → Entry Other
 entry_with change (a_record attributes id «data») = a_record attributes id (change «data»)
 entry_with change (a_resource kind id «data») = a_resource kind id (change «data»)
@@ -63,15 +67,15 @@ with_data change database = record {
   entries = map (entry_with change) database.entries;
 }
 
--- a database with these attributes holds resources: 0x0001 is set. Else it holds records.
+-- A database with these attributes has resources: 0x0001 is set. Otherwise it has records.
 abbrev pub has_resources : ℕ → Bool
 has_resources attributes = bit_at attributes 0 == 1
 
--- attributes that are given, with the bit of others that says whether there are resources: the lowest
+-- the attributes `given`, with the lowest bit of `others`, which says whether there are resources
 abbrev pub with_resources_of : ℕ → ℕ → ℕ
 with_resources_of others given = 2 * (given / 2) + others % 2
 
--- a database with these attributes may only be read: 0x0002 is set
+-- a database with these attributes is read-only: 0x0002 is set
 abbrev pub is_read_only : ℕ → Bool
 is_read_only attributes = bit_at attributes 1 == 1
 
@@ -81,11 +85,11 @@ is_deleted attributes = bit_at attributes 7 == 1
 
 -- ---- how it is spelled
 
--- the field of a name: its bytes, and zeros behind them
+-- the field of a name: its bytes, and zeros after them
 unfoldable pub name_field : List ℕ → List ℕ
 name_field name = name ++ replicate (name_size - length name) 0
 
--- the fields behind the name, in their order
+-- the fields after the name, in their order
 abbrev pub fields_behind_name : Database ℕ → List (List ℕ)
 fields_behind_name database =
     u16_bytes database.header.attributes
@@ -124,7 +128,7 @@ pub record IsDatabaseName (name : List ℕ) : Type 0 where
   pub room : length name < name_size
   pub none_zero : All (λ byte. 0 < byte) name
 
--- the numbers of a header have room in their fields
+-- the numbers of a header fit in their fields
 pub record HeaderFits (header : DatabaseHeader) : Type 0 where
   pub attributes : header.attributes < 2 ^ 16
   pub version : header.version < 2 ^ 16
@@ -136,15 +140,15 @@ pub record HeaderFits (header : DatabaseHeader) : Type 0 where
   pub creator : header.creator < 2 ^ 32
   pub seed : header.seed < 2 ^ 32
 
--- the entry is a resource, or else a record, and its numbers have room in their fields
+-- the entry is a resource for `true` and a record for `false`, and its numbers fit in their fields
 abbrev pub EntryFits : Bool → Entry ℕ → Type 0
 EntryFits false (a_record attributes id «data») = (attributes < 2 ^ 8) × (id < 2 ^ 24) × («data» < 2 ^ 32)
 EntryFits false (a_resource kind id «data») = ⊥
 EntryFits true (a_record attributes id «data») = ⊥
 EntryFits true (a_resource kind id «data») = (kind < 2 ^ 32) × (id < 2 ^ 16) × («data» < 2 ^ 32)
 
--- The name is one, all numbers have room in their fields, and the entries are of the kind that the
--- attributes say.
+-- The name is a database's name, all numbers fit in their fields, and the entries are of the kind
+-- that the attributes give.
 pub record DatabaseFits (database : Database ℕ) : Type 0 where
   pub name : IsDatabaseName database.header.name
   pub header : HeaderFits database.header
@@ -160,7 +164,7 @@ pub record IsSpelled (database : Database ℕ) (bytes : List ℕ) : Type 0 where
 
 -- ---- how it is read
 
--- the name in a header: the bytes in front of the first zero, and 31 of them at most
+-- the name in a header: the bytes before the first zero, at most 31
 unfoldable pub name_in : List ℕ → List ℕ
 name_in bytes = take_while (λ byte. not (byte == 0)) (take (name_size - 1) bytes)
 
@@ -182,12 +186,12 @@ header_in bytes = record {
 abbrev pub resources_in : List ℕ → Bool
 resources_in bytes = has_resources (u16_at bytes attributes_at)
 
--- how many entries the header says there are
+-- the number of entries that the header gives
 abbrev pub entry_count_in : List ℕ → ℕ
 entry_count_in bytes = u16_at bytes entry_count_at
 
--- where the entry of an index stands, among resources or among records; with the number of entries
--- for the index, where they end
+-- The offset of the entry at an index, among resources or among records. If the index is the number
+-- of entries, it is the offset where the entries end.
 abbrev pub entry_offset : Bool → ℕ → ℕ
 entry_offset resources index = header_size + entry_size resources * index
 
@@ -196,11 +200,11 @@ abbrev pub entry_at : Bool → List ℕ → ℕ → Entry ℕ
 entry_at false bytes at = a_record (slice_index bytes (at + record_attributes_at)) (u24_at bytes (at + record_id_at)) (u32_at bytes at)
 entry_at true bytes at = a_resource (u32_at bytes at) (u16_at bytes (at + resource_id_at)) (u32_at bytes (at + resource_data_at))
 
--- the entry of an index
+-- the entry at an index
 abbrev pub entry_in : List ℕ → ℕ → Entry ℕ
 entry_in bytes index = entry_at (resources_in bytes) bytes (entry_offset (resources_in bytes) index)
 
--- the database that is read off bytes
+-- the database that is read from bytes
 unfoldable pub database_in : List ℕ → Database ℕ
 database_in bytes = record {
   header = header_in bytes;
@@ -211,13 +215,13 @@ database_in bytes = record {
 
 -- ---- which bytes spell a database
 
--- the field of a name has one: its bytes, and zeros up to the end of the field
+-- the name field contains a database's name, and zeros up to the end of the field
 pub record HasName (bytes : List ℕ) : Type 0 where
   pub name : IsDatabaseName (name_in bytes)
   pub field : take name_size bytes ≡ name_field (name_in bytes)
 
--- There is a header, with a name; the list of entries goes on nowhere, and the bytes end behind as many
--- entries as the header says.
+-- There is a header, with a name. The list of entries doesn't continue elsewhere. The bytes end
+-- after the number of entries that the header gives.
 pub record HasShape (bytes : List ℕ) : Type 0 where
   pub header : header_size ≤ length bytes
   pub name : HasName bytes

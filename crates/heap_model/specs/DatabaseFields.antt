@@ -1,10 +1,10 @@
--- Where the fields of a database's header and of its entries stand, as the File Format Specification
--- has them. Nothing else gives these numbers.
+-- The offsets of the fields of a database's header and of its entries, from the File Format
+-- Specification. Nothing else gives these numbers.
 use Rattle.std.specs.Prelude.{ℕ, Bool, true, false}
 
 -- ---- the header
 
--- what the name takes, at the front: its bytes, and zeros up to the end of the field
+-- how many bytes the name takes, at the start: its bytes, and zeros up to the end of the field
 abbrev pub name_size : ℕ
 name_size = 32
 
@@ -46,7 +46,7 @@ creator_at = 64
 abbrev pub seed_at : ℕ
 seed_at = 68
 
--- where the list of entries goes on, which is nowhere: four bytes of zeros
+-- the offset at which the list of entries continues: it continues nowhere, so four bytes of zeros
 abbrev pub next_list_at : ℕ
 next_list_at = 72
 
@@ -54,36 +54,36 @@ next_list_at = 72
 abbrev pub entry_count_at : ℕ
 entry_count_at = 76
 
--- what the header takes: the entries begin behind it
+-- how many bytes the header takes: the entries begin after it
 abbrev pub header_size : ℕ
 header_size = 78
 
 -- ---- the entries
 
--- what the entry of a record takes, and that of a resource
+-- how many bytes the entry of a record takes, and that of a resource
 abbrev pub record_size : ℕ
 record_size = 8
 
 abbrev pub resource_size : ℕ
 resource_size = 10
 
--- In the entry of a record four bytes say where its data is. Its attributes follow, of one byte, and its
--- unique ID, of three.
+-- In the entry of a record the first four bytes give the place of its data. Its attributes follow,
+-- of one byte, and its unique ID, of three.
 abbrev pub record_attributes_at : ℕ
 record_attributes_at = 4
 
 abbrev pub record_id_at : ℕ
 record_id_at = 5
 
--- In the entry of a resource its type comes first, of four bytes. Its id follows, of two bytes, and where
--- its data is, of four.
+-- In the entry of a resource its type comes first, of four bytes. Its id follows, of two bytes, and
+-- then the place of its data, of four.
 abbrev pub resource_id_at : ℕ
 resource_id_at = 4
 
 abbrev pub resource_data_at : ℕ
 resource_data_at = 6
 
--- what an entry takes, in a database that holds resources or in one that holds records
+-- how many bytes an entry takes, in a database of resources (`true`) or of records (`false`)
 abbrev pub entry_size : Bool → ℕ
 entry_size true = resource_size
 entry_size false = record_size

@@ -1,4 +1,4 @@
--- What each call on databases as a whole refuses, answers and does: one row a call.
+-- The refusals, the reply and the effect of each call on databases as a whole: one row a call.
 use Rattle.std.specs.Prelude.{◌≡◌, ◌≢◌, ◌≤◌, ◌<◌, ◌+◌, ◌++◌, ◌==◌, if◌then◌else◌, ℕ, Bool, true, false, List, [], ◌∷◌, length, slice_get, Option, Some, None, All}
 use Rattle.std.specs.List.{Any}
 use Rattle.heap_model.specs.Chunk.{data_owner}
@@ -28,11 +28,11 @@ use Rattle.heap_model.specs.declared.refusal.Refusal.TheVariants.{ChunkLocked, N
 
 -- ---- calls
 
--- a call on databases, which are given by their numbers, and chunks by their names
+-- a call on databases, with databases given by their numbers and chunks by their names
 abbrev pub DatabaseCall : Type 0
 DatabaseCall = given.DatabaseCall Name Db
 
--- the same call, its chunk and its database given another way
+-- the same call, with its chunk and its database given another way
 abbrev pub database_call : {One Other ThisOne ThisOther : Type 0} → (One → Other) → (ThisOne → ThisOther) → given.DatabaseCall One ThisOne → given.DatabaseCall Other ThisOther
 database_call chunk number (Create name kind creator resources date) = Create name kind creator resources date
 database_call chunk number (Delete db) = Delete (number db)
@@ -47,7 +47,7 @@ database_call chunk number (InfoBlock db which) = InfoBlock (number db) which
 
 -- ---- words of the rows
 
--- a database of another number has this name; no database has the number 0
+-- A database of another number has this name. No database has the number 0.
 abbrev pub IsTaken : Store → ℕ → List ℕ → Type 0
 IsTaken store db name = Any (λ one. (one.db ≢ db) × (one.database.header.name ≡ name)) store.databases
 
@@ -71,7 +71,7 @@ abbrev pub an_info : (DbInfo → Type 0) → Reply → Memory → Type 0
 an_info P (replies.Info info) new = P info
 an_info P reply new = ⊥
 
--- what a header and the number of its entries say
+-- the fields of a header, and the number of entries
 abbrev pub info_of : Database ℕ → DbInfo
 info_of database = record {
   name = database.header.name;
@@ -109,19 +109,20 @@ empty_database name kind creator resources date = record {
   entries = [];
 }
 
--- what it takes: a header, and a directory with one slot more, which is made where there is none
+-- The parts that a new database takes: a header, and a directory with one slot more. The directory
+-- is made if there is none.
 abbrev pub create_parts : List ℕ → List Part
 create_parts image =
     if directory_of image == 0
     then (making header_size ∷ making listed_size ∷ [])
     else (making header_size ∷ growth image (directory_of image) (length (directory_bytes image) + listed_size) ∷ [])
 
--- how many slots it takes
+-- how many slots a new database takes
 abbrev pub create_slots : List ℕ → ℕ
 create_slots image = if directory_of image == 0 then 2 else 1
 
--- a header with what is given of another: its attributes but the lowest bit, which says whether there are
--- resources, and not its modification number, which counts the call, nor its seed
+-- A header with the fields of another one. The lowest bit of the attributes stays, which says
+-- whether there are resources, and so does the seed. The modification number counts the call.
 abbrev pub header_set : DbInfo → DatabaseHeader → DatabaseHeader
 header_set info header = record header {
   name = info.name;
@@ -135,12 +136,12 @@ header_set info header = record header {
   creator = info.creator;
 }
 
--- all that a database names, if there is one
+-- the names of the data of a database, if there is one
 abbrev pub named_in : Option StoredDatabase → List ℕ
 named_in None = []
 named_in (Some one) = data_in one.database
 
--- a store without a database and all that it names
+-- a store without a database and the chunks that it names
 abbrev pub dropped : Store → Db → Store
 dropped store db = record {
   map = all_gone store.map (named_in (with_number store db.0));
@@ -149,7 +150,7 @@ dropped store db = record {
 
 -- ---- info blocks
 
--- the name of an info block, and 0, which names nothing, where there is none
+-- the name of an info block, or 0, which names nothing, if there is none
 abbrev pub info_block : Which → Database ℕ → ℕ
 info_block App database = database.app_info
 info_block Sort database = database.sort_info
@@ -163,25 +164,25 @@ abbrev pub info_block_of : Which → Option StoredDatabase → ℕ
 info_block_of which None = 0
 info_block_of which (Some one) = info_block which one.database
 
--- the same, of the database of a number
+-- the same for the database of a number
 abbrev pub info_block_under : Store → Db → Which → ℕ
 info_block_under store db which = info_block_of which (with_number store db.0)
 
--- a store where a caller's chunk became an info block
+-- a store in which a caller's chunk became an info block
 abbrev pub info_block_set : Store → Db → Which → ℕ → Store
 info_block_set store db which name = record {
   map = reowned store.map name data_owner;
   databases = with_changed store.databases db.0 (with_info_block which name);
 }
 
--- a store where a database has an info block no longer, and its chunk got an owner
+-- a store in which a database lost an info block, and the block's chunk got an owner
 abbrev pub info_block_taken : Store → Db → Which → ℕ → Store
 info_block_taken store db which owner = record {
   map = reowned store.map (info_block_under store db which) owner;
   databases = with_changed store.databases db.0 (with_info_block which 0);
 }
 
--- the info block is there, and it isn't
+-- the info block is there; and below, it isn't
 abbrev pub has_block : Store → Db → Which → Check
 has_block store db which = (0 < info_block_under store db which) brings AlreadyExists
 

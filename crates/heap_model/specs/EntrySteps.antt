@@ -1,5 +1,5 @@
--- Entries of the databases of a store, with the chunks of their data: made, changed, moved and dropped. And
--- what a call leaves that does such a change.
+-- Entries of the databases of a store, with the chunks of their data: made, changed, moved and
+-- dropped. And the effect of a call that makes one of these changes.
 use Rattle.std.specs.Prelude.{◌≡◌, ◌≢◌, ◌≤◌, ◌<◌, ◌+◌, nat_lt, if◌then◌else◌, bit_or, ℕ, Bool, false, List, [], ◌∷◌, length, slice_get, slice_set, Option, Some, None, IsSome}
 use Rattle.std.specs.List.{insert, remove}
 use Rattle.heap_model.specs.Memory.{Memory}
@@ -35,15 +35,15 @@ abbrev pub entries_of : Option StoredDatabase → List (Entry ℕ)
 entries_of None = []
 entries_of (Some one) = one.database.entries
 
--- the entries of a database; there are none where no database has the number
+-- the entries of a database; there are none if no database has the number
 abbrev pub entries_in : Store → Db → List (Entry ℕ)
 entries_in store db = entries_of (with_number store db.0)
 
--- the entry of an index, if there is one
+-- the entry at an index, if there is one
 abbrev pub entry_under : Store → Db → ℕ → Option (Entry ℕ)
 entry_under store db index = slice_get (entries_in store db) index
 
--- a fact of an entry, if there is one
+-- there is an entry, and the predicate is true of it
 abbrev pub OfEntry : Option (Entry ℕ) → (Entry ℕ → Type 0) → Type 0
 OfEntry None P = ⊥
 OfEntry (Some entry) P = P entry
@@ -52,7 +52,7 @@ abbrev pub data_of_entry : Option (Entry ℕ) → ℕ
 data_of_entry None = 0
 data_of_entry (Some entry) = entry_data entry
 
--- the name of an entry's data, and 0, which names nothing, where it has none
+-- the name of an entry's data, or 0, which names nothing, if it has none
 abbrev pub data_under : Store → Db → ℕ → ℕ
 data_under store db index = data_of_entry (entry_under store db index)
 
@@ -60,7 +60,7 @@ abbrev pub kind_of : Option StoredDatabase → Bool
 kind_of None = false
 kind_of (Some one) = has_resources one.database.header.attributes
 
--- a database has resources, and else records
+-- a database has resources; otherwise it has records
 abbrev pub resources_under : Store → Db → Bool
 resources_under store db = kind_of (with_number store db.0)
 
@@ -78,14 +78,14 @@ HasId id entry = unique_id entry ≡ Some id
 abbrev pub HasOther : Store → Db → ℕ → ℕ → Type 0
 HasOther store db index id = (other : ℕ) × (other ≢ index) × OfEntry (entry_under store db other) (HasId id)
 
--- ---- what callers hear of an entry
+-- ---- the information that callers get on an entry
 
--- a name, or none for 0
+-- the name of a slot, or none for 0
 abbrev pub IsNameOf : ℕ → Option Name → Type 0
 IsNameOf slot None = slot ≡ 0
 IsNameOf slot (Some name) = (0 < slot) × (name.0 ≡ slot)
 
--- what the entry of a record says
+-- the information is that of a record's entry; and below, of a resource's entry
 abbrev pub IsInfoOf : RecordInfo → Entry ℕ → Type 0
 IsInfoOf info (a_record attributes id slot) = (info.attributes ≡ attributes) × (info.id ≡ id) × IsNameOf slot info.«data»
 IsInfoOf info (a_resource kind id slot) = ⊥
@@ -94,12 +94,12 @@ abbrev pub IsResourceInfoOf : ResourceInfo → Entry ℕ → Type 0
 IsResourceInfoOf info (a_record attributes id slot) = ⊥
 IsResourceInfoOf info (a_resource kind id slot) = (info.kind ≡ kind) × (info.id ≡ id) × (info.«data».0 ≡ slot)
 
--- this is what an entry says
+-- the information is that of the entry
 abbrev pub Tells : heard.Entry → Entry ℕ → Type 0
 Tells (entries.Record info) entry = IsInfoOf info entry
 Tells (entries.Resource info) entry = IsResourceInfoOf info entry
 
--- what is told of a record, and of a resource, if that is what is told
+-- the information on a record, or on a resource, if it is on one
 abbrev pub record_told : heard.Entry → Option RecordInfo
 record_told (entries.Record info) = Some info
 record_told (entries.Resource info) = None
@@ -108,13 +108,13 @@ abbrev pub resource_told : heard.Entry → Option ResourceInfo
 resource_told (entries.Record info) = None
 resource_told (entries.Resource info) = Some info
 
--- ---- which entries are such
+-- ---- which entries satisfy a predicate
 
--- from an index on no entry is such
+-- from an index on, no entry satisfies the predicate
 abbrev pub NoneFrom : Store → Db → ℕ → (Entry ℕ → Type 0) → Type 0
 NoneFrom store db from P = (index : ℕ) → from ≤ index → OfEntry (entry_under store db index) P → ⊥
 
--- this is the first index, from one on, whose entry is such
+-- this is the first index, from an index on, whose entry satisfies the predicate
 abbrev pub IsFirstFrom : Store → Db → ℕ → (Entry ℕ → Type 0) → ℕ → Type 0
 IsFirstFrom store db from P index = Least (λ at. (from ≤ at) × OfEntry (entry_under store db at) P) index
 
@@ -124,7 +124,7 @@ abbrev pub made_at : (ℕ → Name → Type 0) → Reply → Memory → Type 0
 made_at P (replies.Made index name) new = P index name
 made_at P reply new = ⊥
 
--- the store afterwards, where it needs the index and the name that are answered
+-- the store after the call, if it depends on the index and the name in the reply
 abbrev pub becomes_made : (ℕ → Name → Store → Store → Type 0) → Reply → Store → Store → Type 0
 becomes_made P (replies.Made index name) old new = P index name old new
 becomes_made P reply old new = ⊥
@@ -135,7 +135,7 @@ becomes_made P reply old new = ⊥
 abbrev pub most_entries : ℕ
 most_entries = 65535
 
--- where an entry goes that is put in at an index: where there are not so many entries it comes last
+-- the index at which an entry is put in: if it is beyond the end, the entry comes last
 abbrev pub index_for : ℕ → List (Entry ℕ) → ℕ
 index_for at entries = if nat_lt at (length entries) then at else length entries
 
@@ -143,7 +143,7 @@ abbrev pub replaced_if : List (Entry ℕ) → ℕ → (Entry ℕ → Entry ℕ) 
 replaced_if entries index change None = entries
 replaced_if entries index change (Some entry) = slice_set entries index (change entry)
 
--- the entries with the one of an index changed, if there is one
+-- the entries with the one at an index changed, if there is one
 abbrev pub replaced : List (Entry ℕ) → ℕ → (Entry ℕ → Entry ℕ) → List (Entry ℕ)
 replaced entries index change = replaced_if entries index change (slice_get entries index)
 
@@ -156,21 +156,21 @@ with_attributes change (a_resource kind id slot) = a_resource kind id slot
 abbrev pub deleted_bit : ℕ
 deleted_bit = 0x80
 
--- an entry without data: a record is deleted then
+-- an entry without data; if it is a record, it is deleted then
 abbrev pub without_data : Entry ℕ → Entry ℕ
 without_data (a_record attributes id slot) = a_record (bit_or attributes deleted_bit) id 0
 without_data (a_resource kind id slot) = a_resource kind id 0
 
--- a header to whose database an entry came: the ID of a record is the new seed
+-- the header of a database that got an entry: the ID of a record is the new seed
 abbrev pub seeded_by : Entry ℕ → DatabaseHeader → DatabaseHeader
 seeded_by (a_record attributes id slot) header = record header { seed = with_seed header.seed id }
 seeded_by (a_resource kind id slot) header = header
 
--- a database to which an entry came at an index
+-- a database that got an entry at an index
 abbrev pub with_entry_at : ℕ → Entry ℕ → Database ℕ → Database ℕ
 with_entry_at index entry database = record database { header = seeded_by entry database.header; entries = insert database.entries index entry }
 
--- a header whose modification number counts a call more
+-- a header whose modification number counts one call more
 abbrev pub raised_header : DatabaseHeader → DatabaseHeader
 raised_header header = record header { modification_number = next_modification header.modification_number }
 
@@ -186,46 +186,47 @@ with_entries store db change = record store {
 abbrev pub with_chunks : Store → ChunkMap → Store
 with_chunks store chunks = record store { map = chunks }
 
--- a store where an entry came, whose data is a new chunk of zeros
+-- a store that got an entry, whose data is a new chunk of zeros
 abbrev pub entry_made : Store → Db → ℕ → Entry ℕ → ℕ → Store
 entry_made store db index entry size = record {
   map = made store.map (entry_data entry) size data_owner 0;
   databases = with_changed store.databases db.0 (with_entry_at index entry);
 }
 
--- a store where an entry came, whose data is a chunk that was a caller's
+-- a store that got an entry, whose data is a chunk that was a caller's
 abbrev pub entry_attached : Store → Db → ℕ → Entry ℕ → Store
 entry_attached store db index entry = record {
   map = reowned store.map (entry_data entry) data_owner;
   databases = with_changed store.databases db.0 (with_entry_at index entry);
 }
 
--- a store where an entry is changed, and its data stays
+-- a store in which an entry is changed, and its data stays
 abbrev pub entry_changed : Store → Db → ℕ → (Entry ℕ → Entry ℕ) → Store
 entry_changed store db index change = with_entries store db (λ entries. replaced entries index change)
 
--- a store where the data of an entry is freed
+-- a store in which the data of an entry is freed
 abbrev pub data_freed : Store → Db → ℕ → Store
 data_freed store db index = with_chunks (entry_changed store db index without_data) (gone store.map (data_under store db index))
 
--- a store where an entry is dropped, and its data freed, if it has any
+-- a store in which an entry is dropped, and its data is freed, if it has any
 abbrev pub entry_dropped : Store → Db → ℕ → Store
 entry_dropped store db index = with_chunks (with_entries store db (λ entries. remove entries index)) (gone store.map (data_under store db index))
 
--- a store where an entry is dropped, and its data gets an owner
+-- a store in which an entry is dropped, and its data gets an owner
 abbrev pub entry_handed_over : Store → Db → ℕ → ℕ → Store
 entry_handed_over store db index owner = with_chunks (with_entries store db (λ entries. remove entries index)) (reowned store.map (data_under store db index) owner)
 
--- a map where a chunk for data gets an owner, and a caller's is one for data
+-- a map in which a chunk for data gets an owner, and a caller's chunk becomes one for data
 abbrev pub data_exchanged : ChunkMap → ℕ → ℕ → ℕ → ChunkMap
 data_exchanged map slot owner name = reowned (reowned map slot owner) name data_owner
 
--- a store where an entry is changed, and has a caller's chunk for its data; the chunk that it had gets an owner
+-- A store in which an entry is changed, and a caller's chunk becomes its data. The chunk of its old
+-- data gets an owner.
 abbrev pub entry_swapped : Store → Db → ℕ → (Entry ℕ → Entry ℕ) → ℕ → ℕ → Store
 entry_swapped store db index change name owner =
     with_chunks (entry_changed store db index (λ entry. entry_with (λ (slot : ℕ). name) (change entry))) (data_exchanged store.map (data_under store db index) owner name)
 
--- a store where the modification number of a database counts a call more
+-- a store in which the modification number of a database counts one call more
 abbrev pub raised : Store → Db → Store
 raised store db = record store {
   databases = with_changed store.databases db.0 (λ database. record database { header = raised_header database.header });
@@ -242,7 +243,7 @@ locked_entry store db index = Of (store.map (data_under store db index)) IsLocke
 
 -- ---- room for an entry
 
--- there are as many entries as there may be
+-- the database has `most_entries` entries or more
 abbrev pub full : Store → Db → Check
 full store db = (most_entries ≤ length (entries_in store db)) brings TooManyEntries
 
@@ -250,16 +251,17 @@ full store db = (most_entries ≤ length (entries_in store db)) brings TooManyEn
 abbrev pub entry_growth : List ℕ → Store → Db → Part
 entry_growth image store db = growth image db.0 (length (bytes_under image db.0) + entry_size (resources_under store db))
 
--- Whether an entry can come whose data has so many bytes: it takes a chunk, and the header has to grow.
+-- The checks for an entry with new data of `size` bytes: the data takes a chunk, and the header has
+-- to grow.
 abbrev pub making_checks : List ℕ → Store → Db → ℕ → List Check
 making_checks image store db size = full store db ∷ may_run_out image 1 (making size ∷ entry_growth image store db ∷ []) ∷ []
 
--- Whether an entry can come whose data is there: the header alone has to grow.
+-- The checks for an entry whose data is there already: only the header has to grow.
 abbrev pub attaching_checks : List ℕ → Store → Db → List Check
 attaching_checks image store db = full store db ∷ may_run_out image 0 (entry_growth image store db ∷ []) ∷ []
 
--- Whether a database can take a chunk of a caller's, by its name, and other checks behind that: it is movable,
--- and not one for data.
+-- The checks for a caller's chunk that a database takes, by its name, and then other checks. The
+-- chunk must be movable, and not one for data.
 abbrev pub giving_checks : ChunkMap → ℕ → List Check → List Check
 giving_checks map name others =
     unknown map name
@@ -267,7 +269,7 @@ giving_checks map name others =
     ∷ where_it map name (λ live. live.lock ≡ fixed_lock) ChunkFixed
     ∷ others
 
--- ---- what a call leaves
+-- ---- the effect of a call
 
 -- each chunk that stays has as many locks as before
 abbrev pub KeepsLocks : List ℕ → List ℕ → Type 0
@@ -277,9 +279,9 @@ KeepsLocks old new = (name : ℕ) (before after : LiveChunk) → held old name �
 abbrev pub MakesNone : List ℕ → List ℕ → Type 0
 MakesNone old new = (name : ℕ) → IsSome (held new name) → IsSome (held old name)
 
--- The new image is accepted and means this store. It is as long as the old one, has the same slots, and the
--- same directory word. Each chunk that stays has as many locks as before, and where it is locked or fixed
--- it has not moved.
+-- The new image is accepted and means this store. It is as long as the old one, and has the same
+-- slots and the same directory word. Each chunk that stays has as many locks as before. If it is
+-- locked or fixed, it has not moved.
 pub record LeavesStore (old new : List ℕ) (store : Store) : Type 0 where
   pub accepted : Accepted new
   pub same : SameStore (store_of new) store

@@ -1,5 +1,5 @@
--- What each call on files refuses, answers and does: one row a call. And the room that a database takes which
--- is made whole.
+-- The refusals, the reply and the effect of each call on files: one row a call. And the room that a
+-- whole new database takes.
 use Rattle.std.specs.Prelude.{◌≡◌, ◌≤◌, ◌<◌, ◌+◌, ◌++◌, ◌⊎◌, ◌==◌, if◌then◌else◌, ℕ, true, false, List, [], ◌∷◌, length, map, Option, Some, None, All}
 use Rattle.std.specs.List.{Any}
 use Rattle.heap_model.specs.Chunk.{data_owner}
@@ -28,16 +28,16 @@ use Rattle.heap_model.specs.declared.refusal.Refusal.TheVariants.{BadFile, TooMa
 
 -- ---- calls
 
--- a call on files, of which databases are given by their numbers
+-- a call on files, with databases given by their numbers
 abbrev pub FileCall : Type 0
 FileCall = given.FileCall Db (List ℕ)
 
--- the same call, its database and its bytes given another way
+-- the same call, with its database and its bytes given another way
 abbrev pub file_call : {One Other Given Meant : Type 0} → (One → Other) → (Given → Meant) → given.FileCall One Given → given.FileCall Other Meant
 file_call number bytes (Import file) = Import (bytes file)
 file_call number bytes (Export db) = Export (number db)
 
--- ---- room for a database that is made whole
+-- ---- room for a whole new database
 
 -- the chunks of these sizes, to be made one after the other
 abbrev pub makings : List (Option ℕ) → List Part
@@ -45,7 +45,8 @@ makings [] = []
 makings (None ∷ sizes) = makings sizes
 makings (Some size ∷ sizes) = making size ∷ makings sizes
 
--- what it takes to list one database more: a directory is made where there is none, and else it grows
+-- the part that takes one database more into the directory: it is made if there is none, and
+-- otherwise it grows
 abbrev pub listing_part : List ℕ → Part
 listing_part image = if directory_of image == 0 then making listed_size else growth image (directory_of image) (length (directory_bytes image) + listed_size)
 
@@ -56,13 +57,13 @@ listing_slots image = if directory_of image == 0 then 1 else 0
 abbrev pub whole_parts : List ℕ → ℕ → List (Option ℕ) → List Part
 whole_parts image size sizes = making size ∷ (makings sizes ++ listing_part image ∷ [])
 
--- how many slots they take
+-- how many slots the parts take
 abbrev pub whole_slots : List ℕ → List (Option ℕ) → ℕ
 whole_slots image sizes = 1 + (length (makings sizes) + listing_slots image)
 
 -- ---- words of the rows
 
--- each of some faults that a file has refuses it, in their order, and then other checks come
+-- the checks of some faults of a file, in their order, and then other checks
 abbrev pub fault_checks : List ℕ → List FileFault → List Check → List Check
 fault_checks file [] behind = behind
 fault_checks file (fault ∷ faults) behind = (HasFault file fault brings BadFile fault) ∷ fault_checks file faults behind
@@ -76,7 +77,7 @@ size_of_block (Some bytes) = Some (length bytes)
 abbrev pub block_sizes : List ℕ → List (Option ℕ)
 block_sizes file = map size_of_block (blocks_in file)
 
--- memory that the call takes is refused
+-- an allocation that the call needs may fail
 abbrev pub no_memory : Check
 no_memory = Unit {0} may_bring OutOfMemory
 
@@ -86,13 +87,13 @@ lent_data old store db = In store db (λ database. Any (IsLent old) (data_in dat
 
 -- ---- words of the effects
 
--- a name stands for nothing, or for a chunk of data without lock where it stood for nothing
+-- The name is 0; or it stood for nothing, and now stands for a chunk of data without a lock.
 abbrev pub IsNewData : ChunkMap → ChunkMap → ℕ → Type 0
 IsNewData old new name = (name ≡ 0) ⊎ ((old name ≡ None) × Of (new name) (λ live. (live.lock ≡ 0) × (live.owner ≡ data_owner)))
 
--- The store gained a database of this number, behind its others, and what it contains is what is read from a
--- file. What it names are new chunks, each under a name of its own, and every other name stands for what it
--- stood for.
+-- The store got a database of this number, after its others, with the contents that are read from a
+-- file. The names in it are new chunks, each under a name of its own. Every other name stands for
+-- the same as before.
 pub record GainsRead (old new : Store) (db : ℕ) (file : List ℕ) : Type 0 where
   pub database : Database ℕ
   pub databases : new.databases ≡ old.databases ++ record { db = db; database = database } ∷ []
@@ -101,7 +102,7 @@ pub record GainsRead (old new : Store) (db : ℕ) (file : List ℕ) : Type 0 whe
   pub once : (name : ℕ) → 0 < name → times name (data_in database) ≤ 1
   pub others : (name : ℕ) → (0 < name → times name (data_in database) ≡ 0) → new.map name ≡ old.map name
 
--- the same, of the database that is answered
+-- the same for the database in the reply
 abbrev pub reads_with : List ℕ → Reply → Store → Store → Type 0
 reads_with file (replies.Database db) old new = GainsRead old new db.0 file
 reads_with file reply old new = ⊥

@@ -1,5 +1,5 @@
--- The frame of an image: the bytes in front of its master pointer table, where their words stand, and
--- how small and how large an image may be. Nothing else gives these numbers.
+-- The frame of an image: the bytes before its master pointer table, the offsets of their words, and
+-- the least and greatest size of an image. Nothing else gives these numbers.
 use Rattle.std.specs.Prelude.{ℕ}
 use Rattle.heap_model.specs.Memory.{Memory, IsWithin}
 
@@ -11,27 +11,27 @@ magic = 0x50484931
 abbrev pub chained_magic : ℕ
 chained_magic = 0x50484932
 
--- where the magic stands
+-- the offset of the magic
 abbrev pub magic_at : ℕ
 magic_at = 0
 
--- where the size of the image stands, in four bytes
+-- the offset of the size of the image, in four bytes
 abbrev pub size_at : ℕ
 size_at = 4
 
--- where the slot count stands, in two bytes
+-- the offset of the slot count, in two bytes
 abbrev pub slot_count_at : ℕ
 slot_count_at = 8
 
--- where two bytes stand that are zero
+-- the offset of two bytes that are zero
 abbrev pub reserved_at : ℕ
 reserved_at = 10
 
--- where the directory word stands
+-- the offset of the directory word
 abbrev pub directory_at : ℕ
 directory_at = 12
 
--- what the frame takes: the table begins behind it
+-- how many bytes the frame takes: the table begins after it
 abbrev pub frame_size : ℕ
 frame_size = 16
 

@@ -6,8 +6,8 @@ use Rattle.heap_model.specs.Placed.{EveryPlaced, AnyPlaced}
 use Rattle.heap_model.specs.Frame.{magic, chained_magic, magic_at, size_at, reserved_at, directory_at, least_size, most_size}
 use Rattle.heap_model.specs.Slots.{Table, IsSlot, slot_size, slot_count, head_end, area_start, first_next, further_tables}
 
--- What stands in front of the chunks is right: the magic, the size of the whole image, the slot
--- count, two zero bytes, and zeros behind the table. There is room for one chunk at least.
+-- The bytes before the chunks are right: the magic, the size of the whole image, the slot count,
+-- two zero bytes, and zeros after the table. There is room for at least one chunk.
 pub record IsHead (image : List ℕ) : Type 0 where
   pub magic_is : (u32_at image magic_at ≡ magic) ⊎ (u32_at image magic_at ≡ chained_magic)
   pub size_is : u32_at image size_at ≡ length image
@@ -25,15 +25,16 @@ TableHere table at (free size) = ⊥
 TableHere table at (movable bytes lock owner slot) = ⊥
 TableHere table at (fixed bytes owner) = (owner ≡ managers_owner) × (at + 8 ≡ table.place) × (length bytes ≡ next_size + slot_size * table.count) × (0 < table.count)
 
--- The tables are those of the chain that a word `next` begins: it is 0, or the place of the first, which
--- is a fixed chunk of the manager's with one slot at least, and whose own word `next` begins the others.
--- So no table stands twice in it.
+-- The tables are those of the chain that a word `next` begins. The word is 0, or the place of the
+-- first table. That table is a fixed chunk of the manager's with at least one slot, and its own
+-- word `next` begins the others. So no table occurs twice in the chain.
 abbrev pub IsChain : List ℕ → List Chunk → ℕ → List Table → Type 0
 IsChain image chunks next [] = next ≡ 0
 IsChain image chunks next (table ∷ tables) =
     (next ≡ table.place) × AnyPlaced (TableHere table) (area_start image) chunks × IsChain image chunks (u32_at image table.place) tables
 
--- The image is a head and then these chunks, without gap or rest, and its further tables are among them.
+-- The image is a head and then these chunks, without gap or rest, and its further tables are among
+-- them.
 pub record Tiles (image : List ℕ) (chunks : List Chunk) : Type 0 where
   pub head : IsHead image
   pub area : SpelledAll image (area_start image) chunks (length image)
@@ -45,16 +46,17 @@ BodyHere slot place at (free size) = ⊥
 BodyHere slot place at (movable bytes lock owner named) = (named ≡ slot) × (at + 8 ≡ place)
 BodyHere slot place at (fixed bytes owner) = ⊥
 
--- among chunks that begin at an offset, a movable one that names this slot has its body at this place
+-- among chunks that begin at an offset, a movable one that names this slot has its body at this
+-- place
 abbrev pub IsBody : ℕ → List Chunk → ℕ → ℕ → Type 0
 IsBody at chunks slot place = AnyPlaced (BodyHere slot place) at chunks
 
--- The slots in use and the movable chunks are paired one to one: a slot holds a place, which is not
--- 0, exactly where a movable chunk that names it has its body there.
+-- The slots in use and the movable chunks are paired one to one. A slot contains a place, which is
+-- not 0, exactly if a movable chunk that names it has its body there.
 abbrev pub Tied : List ℕ → List Chunk → Type 0
 Tied image chunks = (slot place : ℕ) → 0 < place → ((IsSlot image slot × (u32_at image slot ≡ place)) ↔ IsBody (area_start image) chunks slot place)
 
--- the chunk, where it is fixed, is a caller's
+-- the chunk, if it is fixed, is a caller's
 abbrev pub IsCallersIfFixed : ℕ → Chunk → Type 0
 IsCallersIfFixed at (free size) = Unit {0}
 IsCallersIfFixed at (movable bytes lock owner slot) = Unit {0}
@@ -65,7 +67,7 @@ abbrev pub IsTablePlace : List Table → ℕ → Type 0
 IsTablePlace [] place = ⊥
 IsTablePlace (table ∷ tables) place = (table.place ≡ place) ⊎ IsTablePlace tables place
 
--- the chunk, where it is fixed, is a caller's, or one of the tables
+-- the chunk, if it is fixed, is a caller's, or one of the tables
 abbrev pub IsKnownIfFixed : List Table → ℕ → Chunk → Type 0
 IsKnownIfFixed tables at (free size) = Unit {0}
 IsKnownIfFixed tables at (movable bytes lock owner slot) = Unit {0}

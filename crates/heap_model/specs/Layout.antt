@@ -1,6 +1,7 @@
--- The layout of an image: its chunks, with each run of neighbouring free ones as one. What an image
--- holds, where, and what room is left are functions of its layout and of where its chunks begin. So
--- contracts say which layout stands afterwards, and leave open how runs of free chunks are split.
+-- The layout of an image: its chunks, with each run of neighbouring free ones as one. The contents
+-- of an image, their places, and the room that is left are functions of its layout and of where its
+-- chunks begin. So contracts give the layout after a call, and leave open how runs of free chunks
+-- are split.
 use Rattle.std.specs.Prelude.{◌≡◌, ◌≤◌, ◌<◌, ◌+◌, ◌-◌, ◌%◌, ◌^◌, ◌++◌, ◌⊎◌, ◌==◌, if◌then◌else◌, ℕ, zero, suc, List, [], ◌∷◌, All}
 use Rattle.heap_model.specs.Bytes.{u32_at, overwritten}
 use Rattle.heap_model.specs.Chunk.{Chunk, free, movable, fixed, size_of, total, free_size, is_owned_by}
@@ -10,7 +11,7 @@ use Rattle.heap_model.specs.Reading.{chunks_of}
 use Rattle.heap_model.specs.Placed.{AnyPlaced}
 use Rattle.heap_model.specs.Placing.{SameFrame}
 
--- a free chunk in front of others, as one with a free chunk that is first there
+-- a free chunk before others, joined with their first chunk if that is free
 abbrev pub free_onto : ℕ → List Chunk → List Chunk
 free_onto size [] = free size ∷ []
 free_onto size (free more ∷ chunks) = free (size + more) ∷ chunks
@@ -28,37 +29,37 @@ merged (fixed bytes owner ∷ chunks) = fixed bytes owner ∷ merged chunks
 abbrev pub layout_of : List ℕ → List Chunk
 layout_of image = merged (chunks_of image)
 
--- of some chunks none is free and has so many bytes
+-- each of some chunks has less than `size` bytes that are free
 abbrev pub AllBelow : ℕ → List Chunk → Type 0
 AllBelow size chunks = All (λ chunk. free_size chunk < size) chunks
 
--- The image has become an accepted heap with the layout of these chunks, in the same frame. What each
--- slot holds follows from the layout.
+-- The image has become an accepted heap with the layout of these chunks, in the same frame. The
+-- contents of each slot follow from the layout.
 pub record Becomes (old new : List ℕ) (chunks : List Chunk) : Type 0 where
   pub frame : SameFrame old new
   pub layout : layout_of new ≡ merged chunks
 
 -- ---- one chunk of a layout, and others for it
 
--- some chunks, which begin at an offset, with others in place of the one that stands there
+-- some chunks, which begin at an offset, with others in place of the chunk at `there`
 unfoldable pub exchanged : ℕ → (Chunk → List Chunk) → ℕ → List Chunk → List Chunk
 exchanged there change at [] = []
 exchanged there change at (chunk ∷ chunks) = (if at == there then change chunk else chunk ∷ []) ++ exchanged there change (at + size_of chunk) chunks
 
--- in the layout, others stand in place of the chunk that stood at an offset, and all else is as it was
+-- in the layout, others are in place of the chunk that was at an offset, and all else is as before
 abbrev pub Exchanges : List ℕ → List ℕ → ℕ → (Chunk → List Chunk) → Type 0
 Exchanges old new there change = Becomes old new (exchanged there change (area_start old) (layout_of old))
 
--- the same, where one chunk is changed
+-- the same, if one chunk is changed
 abbrev pub Alters : List ℕ → List ℕ → ℕ → (Chunk → Chunk) → Type 0
 Alters old new there change = Exchanges old new there (λ chunk. change chunk ∷ [])
 
--- a free chunk of so many bytes, if there are any
+-- a free chunk of the given size, or none for 0
 abbrev pub gap : ℕ → List Chunk
 gap zero = []
 gap (suc more) = free (suc more) ∷ []
 
--- a chunk at the front of another's bytes, and what is left of these free
+-- a chunk at the start of another's bytes, and the bytes after it free
 abbrev pub in_front : Chunk → Chunk → List Chunk
 in_front front chunk = front ∷ gap (size_of chunk - size_of front)
 
@@ -84,15 +85,15 @@ with_bytes at part (free size) = free size
 with_bytes at part (movable bytes lock owner slot) = movable (overwritten bytes at part) lock owner slot
 with_bytes at part (fixed bytes owner) = fixed (overwritten bytes at part) owner
 
--- some chunks, with each one of an owner's made free
+-- some chunks, with each chunk of an owner made free
 abbrev pub owned_freed : ℕ → List Chunk → List Chunk
 owned_freed owner [] = []
 owned_freed owner (chunk ∷ chunks) = (if is_owned_by owner chunk then freed chunk else chunk) ∷ owned_freed owner chunks
 
 -- ---- where free chunks are
 
--- The bytes from one offset up to another, a header's at least, are those of free chunks, the last of
--- which ends there.
+-- The bytes from one offset up to another, at least a header's, are those of free chunks. The last
+-- of these chunks ends at the second offset.
 pub record FreeUpTo (image : List ℕ) (at end : ℕ) : Type 0 where
   pub before : List Chunk
   pub run : List Chunk
@@ -103,8 +104,8 @@ pub record FreeUpTo (image : List ℕ) (at end : ℕ) : Type 0 where
   pub to : area_start image + total before + total run ≡ end
   pub least : at + 8 ≤ end
 
--- At an offset begins a run of neighbouring free chunks, of which the first ones take so many bytes.
--- No free chunk stands in front of the run: in the layout it is a chunk of its own.
+-- A run of neighbouring free chunks begins at an offset, and its first chunks take `size` bytes. No
+-- free chunk comes right before the run: in the layout it is a chunk of its own.
 pub record IsRoom (image : List ℕ) (at size : ℕ) : Type 0 where
   pub before : List Chunk
   pub run : List Chunk
@@ -115,8 +116,8 @@ pub record IsRoom (image : List ℕ) (at size : ℕ) : Type 0 where
   pub sums : size ≡ total run
   pub front : layout_of image ≡ merged before ++ merged (run ++ after)
 
--- Room for a chunk: a chunk begins at an offset, and from there on neighbouring free chunks take so many
--- bytes. What stands in front of them is left open, a free chunk too.
+-- Room for a chunk: a chunk begins at an offset, and from there on neighbouring free chunks take
+-- `size` bytes. A free chunk may come right before them.
 pub record IsSpot (image : List ℕ) (at size : ℕ) : Type 0 where
   pub before : List Chunk
   pub run : List Chunk
@@ -126,7 +127,7 @@ pub record IsSpot (image : List ℕ) (at size : ℕ) : Type 0 where
   pub there : at ≡ area_start image + total before
   pub sums : size ≡ total run
 
--- a chunk stands at the front of room, what is left of the room is free, and all else is as it was
+-- a chunk is at the start of the room, the rest of the room is free, and all else is as before
 abbrev pub Claims : List ℕ → List ℕ → ℕ → ℕ → Chunk → Type 0
 Claims old new at room chunk = (r : IsSpot old at room) → Becomes old new (r.before ++ ((chunk ∷ gap (room - size_of chunk)) ++ r.after))
 
@@ -146,7 +147,7 @@ IsFreeAt there at (fixed bytes owner) = ⊥
 abbrev pub BeginsFree : List ℕ → ℕ → Type 0
 BeginsFree image there = AnyPlaced (IsFreeAt there) (area_start image) (chunks_of image)
 
--- Every free chunk of the new image has a plain first word, or began at that offset in the old one with
--- the first word that it has. So each header of a free chunk that was written in between is plain.
+-- Every free chunk of the new image has a plain first word, or began at that offset in the old one
+-- with the same first word. So each header of a free chunk that was written in between is plain.
 abbrev pub WritesPlain : List ℕ → List ℕ → Type 0
 WritesPlain old new = (at : ℕ) → BeginsFree new at → IsPlain (u32_at new at) ⊎ (BeginsFree old at × (u32_at new at ≡ u32_at old at))

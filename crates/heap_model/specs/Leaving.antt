@@ -1,5 +1,5 @@
--- What is left behind of a region by a call that isn't a step for callers: by those that the store makes
--- its own chunks and databases of.
+-- The state of a region after a call that isn't a step for callers. The store makes its own chunks
+-- and databases with these calls.
 use Rattle.std.specs.Prelude.{◌≡◌, ℕ, List, length}
 use Rattle.heap_model.specs.Chunk.{managers_owner}
 use Rattle.heap_model.specs.Slots.{slots_of, tables_of}
@@ -12,15 +12,15 @@ use Rattle.heap_model.specs.Maps.{changed_at}
 use Rattle.heap_model.specs.Database.{Database, spelled, database_in, IsSpelled}
 use Rattle.heap_model.specs.Store.{bytes_under, owner_under}
 
--- The new image is an accepted heap in the same frame, and holds this map. No chunk that stays, and
--- is still live, has moved.
+-- The new image is an accepted heap in the same frame, and has this map. A chunk that stays and is
+-- still live has not moved.
 pub record Leaves (old new : List ℕ) (others : ChunkMap) : Type 0 where
   pub map : (name : ℕ) → held new name ≡ others name
   pub frame : SameFrame old new
   pub still : Still old new
 
--- The new image is an accepted heap with this directory word. It is as long as the old one, has the same
--- tables, slots and chunks, and each name stands for what it stood for.
+-- The new image is an accepted heap with this directory word. It is as long as the old one and has
+-- the same tables, slots and chunks. Each name stands for the same as before.
 pub record NamesDirectory (old new : List ℕ) (name : ℕ) : Type 0 where
   pub accepted : HeapAccepted new
   pub len : length new ≡ length old
@@ -38,8 +38,8 @@ rewritten map name bytes = changed_at map name (λ live. record live { bytes = b
 abbrev pub database_here : List ℕ → ℕ → Database ℕ
 database_here image db = database_in (bytes_under image db)
 
--- In an accepted heap a chunk of the manager's is under this slot, and it spells a database. The image need
--- not be accepted with its databases: a call may be on its way.
+-- In an accepted heap, a chunk of the manager's is under this slot, and it spells a database. The
+-- image need not be accepted with its databases: a call may be in progress.
 pub record SpellsHere (image : List ℕ) (db : ℕ) : Type 0 where
   pub heap : HeapAccepted image
   pub owner : owner_under image db ≡ managers_owner

@@ -4,16 +4,16 @@ use Rattle.heap_model.specs.Bytes.{overwritten, sized_to}
 use Rattle.heap_model.specs.Meaning.{LiveChunk, ChunkMap}
 use Rattle.heap_model.specs.Reading.{held}
 
--- a map with what one name stands for replaced
+-- a map in which one name stands for something else
 abbrev pub updated : ChunkMap → ℕ → Option LiveChunk → ChunkMap
 updated map name now other = if other == name then now else map other
 
--- what a change makes of what a name stands for
+-- a change of the chunk that a name stands for, if there is one
 abbrev pub changed : (LiveChunk → LiveChunk) → Option LiveChunk → Option LiveChunk
 changed change None = None
 changed change (Some live) = Some (change live)
 
--- a chunk of so many zeros under a new name
+-- a chunk of `size` zeros under a new name
 abbrev pub made : ChunkMap → ℕ → ℕ → ℕ → ℕ → ChunkMap
 made map name size owner lock = updated map name (Some (record { bytes = replicate size 0; lock = lock; owner = owner }))
 
@@ -29,7 +29,8 @@ changed_at map name change = updated map name (changed change (map name))
 abbrev pub put : ChunkMap → ℕ → ℕ → List ℕ → ChunkMap
 put map name at bytes = changed_at map name (λ live. record live { bytes = overwritten live.bytes at bytes })
 
--- a chunk's first bytes, or all of them with zeros behind, so that there are so many
+-- a name's chunk with its first `size` bytes; a shorter one gets zeros after them, up to `size`
+-- bytes
 abbrev pub sized : ChunkMap → ℕ → ℕ → ChunkMap
 sized map name size = changed_at map name (λ live. record live { bytes = sized_to live.bytes size })
 
@@ -40,7 +41,7 @@ relocked map name change = changed_at map name (λ live. record live { lock = ch
 abbrev pub reowned : ChunkMap → ℕ → ℕ → ChunkMap
 reowned map name owner = changed_at map name (λ live. record live { owner = owner })
 
--- what a name stands for, unless its owner is this one
+-- the chunk that a name stands for, unless its owner is this one
 abbrev pub not_owned : ℕ → Option LiveChunk → Option LiveChunk
 not_owned owner None = None
 not_owned owner (Some live) = if live.owner == owner then None else Some live
@@ -49,7 +50,7 @@ not_owned owner (Some live) = if live.owner == owner then None else Some live
 abbrev pub without_owner : ChunkMap → ℕ → ChunkMap
 without_owner map owner name = not_owned owner (map name)
 
--- What callers may name in an image: all that it holds but the manager's own chunks, whose owner
--- is 0.
+-- The names that callers may use in an image: all its names but those of the manager's own chunks,
+-- whose owner is 0.
 abbrev pub callers_map : List ℕ → ChunkMap
 callers_map image = without_owner (held image) 0

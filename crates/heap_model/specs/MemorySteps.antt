@@ -1,4 +1,5 @@
--- What each call of the memory manager refuses, answers and does: one row a call, like a manual page.
+-- The rows of the memory manager's calls, like a manual page: each gives a call's refusals, its
+-- replies and its effect.
 use Rattle.std.specs.Prelude.{◌≡◌, ◌≤◌, ◌<◌, ◌+◌, ◌-◌, ◌++◌, ◌⊎◌, ◌==◌, if◌then◌else◌, ℕ, Bool, true, false, List, [], ◌∷◌, length, not, slice_range, replicate, count_by, Option, Some, None, Result, Ok, Err}
 use Rattle.std.specs.Bool.{OnTrue}
 use Rattle.std.specs.List.{take_while}
@@ -24,11 +25,11 @@ use Rattle.heap_model.specs.declared.refusal.Refusal.TheVariants.{InvalidHandle,
 
 -- ---- calls
 
--- a call of the memory manager, of which chunks are given by their names
+-- a call of the memory manager; it gives chunks by their names
 abbrev pub MemoryCall : Type 0
 MemoryCall = given.MemoryCall Name (List ℕ)
 
--- the same call, its chunk and its bytes given another way
+-- the same call, with its chunk and its bytes given in another way
 abbrev pub memory_call : {One Other Given Meant : Type 0} → (One → Other) → (Given → Meant) → given.MemoryCall One Given → given.MemoryCall Other Meant
 memory_call chunk bytes (HandleNew size owner) = HandleNew size owner
 memory_call chunk bytes (PtrNew size owner) = PtrNew size owner
@@ -53,28 +54,28 @@ memory_call chunk bytes MoreSlots = MoreSlots
 
 -- ---- words of the rows
 
--- a fact of what a name stands for
+-- a property of the chunk that a name stands for
 abbrev pub Of : Option LiveChunk → (LiveChunk → Type 0) → Type 0
 Of None P = ⊥
 Of (Some live) P = P live
 
--- an owner that no caller may give
+-- an owner that no caller may use
 abbrev pub IsNoCaller : ℕ → Type 0
 IsNoCaller owner = (owner ≡ managers_owner) ⊎ (data_owner ≤ owner)
 
--- a lock count of 1 to 14: a fixed chunk is not locked but fixed
+-- The chunk has a lock count of 1 to 14. A fixed chunk is not locked but fixed.
 abbrev pub IsLocked : LiveChunk → Type 0
 IsLocked live = (0 < live.lock) × (live.lock < fixed_lock)
 
--- so many bytes from an offset on reach beyond the end
+-- the `count` bytes from the offset `at` on reach beyond the chunk's end
 abbrev pub ReachesBeyond : ℕ → ℕ → LiveChunk → Type 0
 ReachesBeyond at count live = length live.bytes < at + count
 
--- the bytes before the first zero, all if there is none, and then a zero
+-- the bytes before the first zero (all bytes if there is none), and then a zero
 abbrev pub text_of : List ℕ → List ℕ
 text_of bytes = take_while (λ byte. not (byte == 0)) bytes ++ 0 ∷ []
 
--- no name has its chunk at this place
+-- no name of the map has its chunk at this place
 abbrev pub IsNowhere : List ℕ → ChunkMap → ℕ → Type 0
 IsNowhere image map place = (name : ℕ) → Of (map name) (λ live. place_of image name ≡ Some place) → ⊥
 
@@ -98,8 +99,8 @@ no_owner owner = IsNoCaller owner brings InvalidOwner
 abbrev pub lent_out : Memory → ChunkMap → ℕ → Check
 lent_out old map name = where_it map name (λ live. IsLent old name) Lent
 
--- Whether a name's chunk can have so many bytes: it may not be lent, nor move where it is locked, and else there has
--- to be room for it.
+-- The checks for giving a name's chunk `size` bytes. It may not be lent. If it is locked, it may
+-- not move. If it has no lock, there must be room for it.
 abbrev pub growth_checks : Memory → ChunkMap → ℕ → ℕ → List Check
 growth_checks old map name size =
     lent_out old map name
@@ -107,8 +108,8 @@ growth_checks old map name size =
     ∷ where_it map name (λ live. (live.lock ≡ 0) × (need (length live.bytes) < need size) × ShortFor old.bytes name (need size)) NotEnoughSpace
     ∷ []
 
--- The row of a call on a region, of whose chunks callers may name those of this map. Refusals and
--- answers ask of what callers may name; the effect is on all that the region holds.
+-- The row of a call on a region. Callers may name the chunks of `map` only. Refusals and replies
+-- depend on these chunks; the effect is on all chunks of the region.
 abbrev pub row : Memory → ChunkMap → MemoryCall → Row ChunkMap
 row old map (HandleNew size owner) = record {
   only_asks = false;
@@ -284,8 +285,8 @@ row old map MoreSlots = record {
 
 -- ---- the step
 
--- Every name stands for what it stood for, the manager's own chunks among them, and as much is free.
--- Chunks that don't stay may have moved.
+-- Every name stands for what it stood for before, the names of the manager's own chunks too, and as
+-- much is free. Chunks that don't stay may have moved.
 pub record AsBefore (old new : Memory) : Type 0 where
   pub map : (name : ℕ) → held new.bytes name ≡ held old.bytes name
   pub free : free_total new.bytes ≡ free_total old.bytes
@@ -295,7 +296,7 @@ pub record AsBefore (old new : Memory) : Type 0 where
 abbrev pub row_of : Memory → MemoryCall → Row ChunkMap
 row_of old call = row old (callers_map old.bytes) call
 
--- the call's step on all that the region holds
+-- the call's step on all chunks of the region
 abbrev pub MemoryStep : Memory → MemoryCall → Reply → Memory → Type 0
 MemoryStep old call reply new = StepBy (row_of old call) (AsBefore old new) (held old.bytes) reply new (held new.bytes)
 
@@ -308,16 +309,17 @@ may_slide Compact = true
 may_slide MoreSlots = true
 may_slide call = false
 
--- What a call leaves of the frame: all of it. Only an accepted `MoreSlots` adds a table of empty slots at the end of
--- the chain.
+-- How a call leaves the frame: as it was. Only an accepted `MoreSlots` adds a table of empty slots
+-- at the end of the chain.
 abbrev pub Frames : MemoryCall → Reply → List ℕ → List ℕ → Type 0
 Frames MoreSlots Done old new = (place : ℕ) × GainsTable old new place
 Frames call reply old new = SameFrame old new
 
--- From an accepted heap the call does its step to an accepted heap of the same size, with the same tables
--- and the same directory. Nothing locked has moved, and a name that is lent stays so. All this holds of a call that is
--- refused too. `MoreSlots` alone adds a table. Of the region's value its bytes alone may change, and the count of slid
--- ones where the call may slide chunks; a call that only asks leaves all of it.
+-- From an accepted heap the call does its step to an accepted heap. The new heap has the same size,
+-- the same tables and the same directory; only `MoreSlots` adds a table. No locked chunk has moved,
+-- and a name that is lent stays lent. All this is true of a refused call too. Of the region's value
+-- only the bytes may change, and the count of slid bytes if the call may slide chunks. A call that
+-- only asks changes nothing.
 pub record Does (old : Memory) (call : MemoryCall) (reply : Reply) (new : Memory) : Type 0 where
   pub before : HeapAccepted old.bytes
   pub step : MemoryStep old call reply new
@@ -327,7 +329,7 @@ pub record Does (old : Memory) (call : MemoryCall) (reply : Reply) (new : Memory
   pub asks : OnTrue (row_of old call).only_asks (new ≡ old)
   pub rest : new ≡ record old { bytes = new.bytes; slid = if may_slide call then new.slid else old.slid }
 
--- what a method answers, as a reply
+-- a method's result as a reply
 abbrev pub reply_of : {A : Type 0} → (A → Reply) → Result A Refusal → Reply
 reply_of f (Ok answer) = f answer
 reply_of f (Err refusal) = Refused refusal

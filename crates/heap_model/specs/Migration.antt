@@ -1,4 +1,4 @@
--- The way of an image from one layout to the other.
+-- The migration of an image from one layout to the other.
 use Rattle.std.specs.Prelude.{◌≡◌, ◌≤◌, ◌<◌, ◌+◌, ◌-◌, ◌/◌, ◌%◌, ◌^◌, ◌==◌, if◌then◌else◌, ℕ, true, false, None, List, [], length, slice_index}
 use Rattle.heap_model.specs.Bytes.{u32_at}
 use Rattle.heap_model.specs.Chunk.{Chunk, free, movable, fixed, need}
@@ -8,10 +8,11 @@ use Rattle.heap_model.specs.Slots.{is_chained, slot_count, table_end, further_ta
 use Rattle.heap_model.specs.Heap.{HeapAccepted, directory_of}
 use Rattle.heap_model.specs.Reading.{h_offset_field, chunks_of, held}
 
--- ---- what it holds
+-- ---- what the new image means
 
--- An image without a chain has become one with a chain of no further table. Its chunks stand further on by what the
--- word `next` and its padding take, and so do the names of fixed ones.
+-- An image without a chain has become one with a chain of no further table. Its chunks are `by`
+-- bytes further on: the size of the word `next` and its padding. The names of fixed chunks are
+-- higher by `by` too.
 pub record Migrates (old new : List ℕ) (by : ℕ) : Type 0 where
   pub accepted : HeapAccepted new
   pub plain : is_chained old ≡ false
@@ -27,25 +28,25 @@ pub record Migrates (old new : List ℕ) (by : ℕ) : Type 0 where
 
 -- ---- byte for byte
 
--- the bytes from one offset up to another stand so much further on
+-- the bytes of the old image from `start` up to `end` are `by` bytes further on in the new image
 abbrev pub StandFurther : List ℕ → List ℕ → ℕ → ℕ → ℕ → Type 0
 StandFurther old new by start end = (at : ℕ) → start ≤ at → at < end → slice_index new (at + by) ≡ slice_index old at
 
--- the second word of a movable chunk that has gone so much further from its slot: its hOffset, which is half of the
--- distance, is less by half of that
+-- The second word of a movable chunk that is now `by` bytes further from its slot. Its hOffset is
+-- half of the distance to the slot, modulo 2 ^ 24, so it is lower by half of `by`.
 abbrev pub lowered_word : ℕ → ℕ → ℕ
 lowered_word by word = word - h_offset_field word + (h_offset_field word + 2 ^ 24 - by / 2) % 2 ^ 24
 
--- a chunk stands so much further on with all of its bytes, but hOffset
+-- the chunk is `by` bytes further on, with all of its bytes except hOffset
 abbrev pub StandsFurther : List ℕ → List ℕ → ℕ → ℕ → Chunk → Type 0
 StandsFurther old new by at (free size) = StandFurther old new by at (at + size)
 StandsFurther old new by at (movable bytes lock owner slot) =
     StandFurther old new by at (at + 4) × (u32_at new (at + by + 4) ≡ lowered_word by (u32_at old (at + 4))) × StandFurther old new by (at + 8) (at + need (length bytes))
 StandsFurther old new by at (fixed bytes owner) = StandFurther old new by at (at + need (length bytes))
 
--- The bytes of an image without a chain and those of the image with one that it becomes. Behind the slots stands the
--- word `next` with its padding, all zeros, and so the chunks stand further on. A slot in use holds the place where its
--- chunk is then.
+-- The bytes of an image without a chain, and those of the image with a chain that it becomes. After
+-- the slots come the word `next` and its padding, all zeros, and so the chunks are further on. A
+-- slot in use contains the new place of its chunk.
 pub record MigratesBytes (old new : List ℕ) (by : ℕ) : Type 0 where
   pub shift : area_start new ≡ area_start old + by
   pub len : length new ≡ length old + by

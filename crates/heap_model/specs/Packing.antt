@@ -1,5 +1,5 @@
--- Compaction: the chunks of each stretch slide to its front, so that its room is one free chunk behind
--- them; and what is said of one stretch whose chunks slide.
+-- Compaction: the chunks of each stretch slide to its start, so that its room is one free chunk
+-- after them. And the relations for one stretch whose chunks slide.
 use Rattle.std.specs.Prelude.{◌≡◌, ◌+◌, ◌++◌, ◌==◌, if◌then◌else◌, IsTrue, ℕ, zero, suc, List, [], ◌∷◌, length, All}
 use Rattle.heap_model.specs.Chunk.{Chunk, free, movable, fixed, need, total}
 use Rattle.heap_model.specs.Slots.{area_start}
@@ -9,25 +9,25 @@ use Rattle.heap_model.specs.Layout.{Becomes, gap}
 
 -- ---- what is to be reached
 
--- nothing stands behind a free one of these chunks: there is one at most, and it is the last
+-- no chunk comes after a free one: there is at most one free chunk, and it is the last
 abbrev pub FreeIsLast : List Chunk → Type 0
 FreeIsLast [] = Unit {0}
 FreeIsLast (free size ∷ chunks) = chunks ≡ []
 FreeIsLast (movable bytes lock owner slot ∷ chunks) = FreeIsLast chunks
 FreeIsLast (fixed bytes owner ∷ chunks) = FreeIsLast chunks
 
--- each stretch has at most one free chunk, and it is the stretch's last
+-- each stretch has at most one free chunk, which is the stretch's last chunk
 abbrev pub Packed : List Chunk → Type 0
 Packed chunks = All FreeIsLast (stretches chunks)
 
--- the live ones of some chunks
+-- the live ones of these chunks
 abbrev pub lives : List Chunk → List Chunk
 lives [] = []
 lives (free size ∷ chunks) = lives chunks
 lives (movable bytes lock owner slot ∷ chunks) = movable bytes lock owner slot ∷ lives chunks
 lives (fixed bytes owner ∷ chunks) = fixed bytes owner ∷ lives chunks
 
--- the offsets of those that stay, where the chunks begin at an offset
+-- the offsets of the chunks that stay; the first chunk begins at `at`
 abbrev pub staying : ℕ → List Chunk → List ℕ
 staying at [] = []
 staying at (free size ∷ chunks) = staying (at + size) chunks
@@ -35,8 +35,8 @@ staying at (movable bytes zero owner slot ∷ chunks) = staying (at + need (leng
 staying at (movable bytes (suc count) owner slot ∷ chunks) = at ∷ staying (at + need (length bytes)) chunks
 staying at (fixed bytes owner ∷ chunks) = at ∷ staying (at + need (length bytes)) chunks
 
--- Chunks have slid: the same are live, in the same order, each with its bytes, lock, owner and slot;
--- those that stay are where they were, and all take as many bytes.
+-- The chunks have slid. The same chunks are live, in the same order, each with its bytes, lock,
+-- owner and slot. Those that stay are where they were, and the total size is the same.
 pub record Slid (old new : List Chunk) : Type 0 where
   pub same : lives new ≡ lives old
   pub stay : staying 0 new ≡ staying 0 old
@@ -44,8 +44,8 @@ pub record Slid (old new : List Chunk) : Type 0 where
 
 -- ---- how it is reached
 
--- Chunks packed, where so much room of their stretch is in front of them: the room goes behind the
--- chunks of the stretch, in front of the next one that stays.
+-- The chunks packed, if their stretch has `room` free bytes before them. The room goes after the
+-- chunks of the stretch, before the next chunk that stays.
 abbrev pub packed_behind : ℕ → List Chunk → List Chunk
 packed_behind room [] = gap room
 packed_behind room (free size ∷ chunks) = packed_behind (room + size) chunks
@@ -53,11 +53,11 @@ packed_behind room (movable bytes zero owner slot ∷ chunks) = movable bytes 0 
 packed_behind room (movable bytes (suc count) owner slot ∷ chunks) = gap room ++ movable bytes (suc count) owner slot ∷ packed_behind 0 chunks
 packed_behind room (fixed bytes owner ∷ chunks) = gap room ++ fixed bytes owner ∷ packed_behind 0 chunks
 
--- the chunks that compaction leaves of some
+-- the chunks as compaction leaves them
 abbrev pub packed : List Chunk → List Chunk
 packed chunks = packed_behind 0 chunks
 
--- the sizes together of the chunks that packing moves: those with room of their stretch in front of them
+-- the total size of the chunks that packing moves: those with room of their stretch before them
 abbrev pub moved_behind : ℕ → List Chunk → ℕ
 moved_behind room [] = 0
 moved_behind room (free size ∷ chunks) = moved_behind (room + size) chunks
@@ -70,26 +70,26 @@ moved_by_packing chunks = moved_behind 0 chunks
 
 -- ---- one stretch
 
--- the last of some chunks stays, if there is one
+-- the last of these chunks stays, if there is one
 abbrev pub EndsStaying : List Chunk → Type 0
 EndsStaying [] = Unit {0}
 EndsStaying (chunk ∷ []) = IsTrue (stays chunk)
 EndsStaying (chunk ∷ next ∷ chunks) = EndsStaying (next ∷ chunks)
 
--- the first of some chunks stays, if there is one
+-- the first of these chunks stays, if there is one
 abbrev pub BeginsStaying : List Chunk → Type 0
 BeginsStaying [] = Unit {0}
 BeginsStaying (chunk ∷ chunks) = IsTrue (stays chunk)
 
--- between the chunks in front of them and those behind them these are a whole stretch of the image
+-- between the chunks before it and those after it, `stretch` is a whole stretch of the image
 pub record WholeStretch (image : List ℕ) (before stretch after : List Chunk) : Type 0 where
   pub chunks : chunks_of image ≡ before ++ (stretch ++ after)
   pub none_stays : NoneStays stretch
   pub in_front : EndsStaying before
   pub behind : BeginsStaying after
 
--- Of the image's chunks neighbouring ones of which none stays have slid, in the layout; all others are
--- as they were.
+-- In the layout, some neighbouring chunks of which none stays have slid. All other chunks are as
+-- they were.
 pub record SlidesOneStretch (old new : List ℕ) : Type 0 where
   pub before : List Chunk
   pub mid : List Chunk
@@ -100,11 +100,12 @@ pub record SlidesOneStretch (old new : List ℕ) : Type 0 where
   pub slid : Slid mid others
   pub becomes : Becomes old new (before ++ (others ++ after))
 
--- a stretch with its room directly behind one of its chunks, as one free chunk, or none
+-- a stretch with its room directly after one of its chunks, as one free chunk, or none if there is
+-- no room
 abbrev pub opened : List Chunk → Chunk → List Chunk → List Chunk
 opened front chunk back = lives front ++ chunk ∷ (gap (room_of (front ++ back)) ++ lives back)
 
--- the movable chunk without locks at an offset has the room of its stretch directly behind it
+-- the movable chunk without locks at an offset gets the room of its stretch directly after it
 abbrev pub OpensBehind : List ℕ → List ℕ → ℕ → Type 0
 OpensBehind old new at =
     (before front : List Chunk) (bytes : List ℕ) (owner slot : ℕ) (back after : List Chunk) → WholeStretch old before (front ++ movable bytes 0 owner slot ∷ back) after

@@ -1,19 +1,19 @@
--- What holds of chunks where they stand: of every one of them, of some one, of all but a first; and
--- the same of the numbers of a list.
+-- Predicates of chunks at their offsets: for every chunk, for some chunk, and for the first chunk
+-- without the property. And the same for the numbers of a list.
 use Rattle.std.specs.Prelude.{◌≡◌, ◌+◌, ◌++◌, ◌⊎◌, ◌&&◌, ◌||◌, ℕ, Bool, true, false, List, [], ◌∷◌}
 use Rattle.heap_model.specs.Chunk.{Chunk, size_of, total}
 
--- it holds of every one of these chunks, which begin at an offset
+-- the property is true of every one of these chunks, of which the first begins at an offset
 abbrev pub EveryPlaced : (ℕ → Chunk → Type 0) → ℕ → List Chunk → Type 0
 EveryPlaced P at [] = Unit {0}
 EveryPlaced P at (chunk ∷ chunks) = P at chunk × EveryPlaced P (at + size_of chunk) chunks
 
--- it holds of one of these chunks at least
+-- the property is true of at least one of these chunks
 abbrev pub AnyPlaced : (ℕ → Chunk → Type 0) → ℕ → List Chunk → Type 0
 AnyPlaced P at [] = ⊥
 AnyPlaced P at (chunk ∷ chunks) = P at chunk ⊎ AnyPlaced P (at + size_of chunk) chunks
 
--- the first of these chunks of which it does not hold stands there
+-- the first of these chunks of which the property is not true begins at `there`
 pub record FirstWithout (P : ℕ → Chunk → Type 0) (at : ℕ) (chunks : List Chunk) (there : ℕ) : Type 0 where
   pub before : List Chunk
   pub chunk : Chunk
@@ -23,7 +23,7 @@ pub record FirstWithout (P : ℕ → Chunk → Type 0) (at : ℕ) (chunks : List
   pub earlier : EveryPlaced P at before
   pub without : P there chunk → ⊥
 
--- the same two by tests
+-- `EveryPlaced` and `AnyPlaced` as tests
 abbrev pub every_placed : (ℕ → Chunk → Bool) → ℕ → List Chunk → Bool
 every_placed test at [] = true
 every_placed test at (chunk ∷ chunks) = test at chunk && every_placed test (at + size_of chunk) chunks
@@ -32,12 +32,12 @@ abbrev pub any_placed : (ℕ → Chunk → Bool) → ℕ → List Chunk → Bool
 any_placed test at [] = false
 any_placed test at (chunk ∷ chunks) = test at chunk || any_placed test (at + size_of chunk) chunks
 
--- it holds of every number of the list
+-- the property is true of every number of the list
 abbrev pub EveryOne : (ℕ → Type 0) → List ℕ → Type 0
 EveryOne P [] = Unit {0}
 EveryOne P (x ∷ xs) = P x × EveryOne P xs
 
--- this is the first number of the list of which it does not hold
+-- `x` is the first number of the list of which the property is not true
 pub record FirstOne (P : ℕ → Type 0) (xs : List ℕ) (x : ℕ) : Type 0 where
   pub before : List ℕ
   pub after : List ℕ

@@ -1,4 +1,4 @@
--- What each call on records refuses, answers and does: one row a call.
+-- The rows of the calls on records: for each call its refusals, its replies and its effect.
 use Rattle.std.specs.Prelude.{◌≡◌, ◌≢◌, ◌≤◌, ◌<◌, ◌%◌, ◌^◌, ◌⊎◌, ◌==◌, if◌then◌else◌, bit_and, bit_or, ℕ, Bool, true, false, [], ◌∷◌, length, take, map, count_by, None}
 use Rattle.std.specs.Int.{bit_at}
 use Rattle.heap_model.specs.Memory.{Memory}
@@ -24,11 +24,11 @@ use Rattle.heap_model.specs.declared.refusal.Refusal.TheVariants.{ChunkLocked, N
 
 -- ---- calls
 
--- a call on records, of which chunks are given by their names and databases by their numbers
+-- a call on records; it gives chunks by their names and databases by their numbers
 abbrev pub RecordCall : Type 0
 RecordCall = given.RecordCall Name Db
 
--- the same call, its chunk and its database given another way
+-- the same call, with its chunk and its database given in another way
 abbrev pub record_call : {One Other ThisOne ThisOther : Type 0} → (One → Other) → (ThisOne → ThisOther) → given.RecordCall One ThisOne → given.RecordCall Other ThisOther
 record_call chunk number (New db at size) = New (number db) at size
 record_call chunk number (Delete db index) = Delete (number db) index
@@ -66,12 +66,12 @@ is_busy attributes = bit_at attributes 5 == 1
 abbrev pub new_attributes : ℕ
 new_attributes = 0x60
 
--- a record's attributes, no longer busy, and dirty where that is asked
+-- a record's attributes, no longer busy, and dirty if the call says so
 abbrev pub released : Bool → ℕ → ℕ
 released dirty attributes = if dirty then bit_or (bit_and attributes 0xDF) dirty_bit else bit_and attributes 0xDF
 
--- The attributes of a record for which others are given: it stays deleted and busy as it was, and all other
--- bits are those given.
+-- The attributes of a record that is given others. It stays deleted and busy as it was. All other
+-- bits are the given ones.
 abbrev pub attributes_set : ℕ → ℕ → ℕ
 attributes_set given attributes = bit_or (bit_and attributes 0xA0) (bit_and given 0x5F)
 
@@ -81,11 +81,11 @@ attributes_set given attributes = bit_or (bit_and attributes 0xA0) (bit_and give
 abbrev pub id_in : ℕ → ℕ
 id_in number = number % 2 ^ 24
 
--- the unique ID of a record for which a number is given: 0 leaves it its own
+-- the unique ID of a record that is given a number; if the number is 0, the record keeps its ID
 abbrev pub id_set : ℕ → ℕ → ℕ
 id_set number id = if id_in number == 0 then id else id_in number
 
--- a record for which attributes and a number are given
+-- a record that is given attributes and a number
 abbrev pub with_record_info : ℕ → ℕ → Entry ℕ → Entry ℕ
 with_record_info given number (a_record attributes id slot) = a_record (attributes_set given attributes) (id_set number id) slot
 with_record_info given number (a_resource kind id slot) = a_resource kind id slot
@@ -107,14 +107,15 @@ deleted store db index = OfEntry (entry_under store db index) (HasAttributes is_
 abbrev pub busy : Store → Db → ℕ → Check
 busy store db index = OfEntry (entry_under store db index) (HasAttributes is_busy) brings RecordBusy
 
--- no category has this number; and, where calls count, it doesn't stand for all of them either
+-- No category has this number. For calls that count or search, `no_categories` also accepts the
+-- number that means all categories.
 abbrev pub no_category : ℕ → Check
 no_category category = (categories ≤ category) brings InvalidCategory
 
 abbrev pub no_categories : ℕ → Check
 no_categories category = ((categories ≤ category) × (category ≢ all_categories)) brings InvalidCategory
 
--- a record of the category has data that is locked
+-- a record of the category has locked data
 abbrev pub HasLockedOf : Store → Db → ℕ → Type 0
 HasLockedOf store db category =
     (index : ℕ) × OfEntry (entry_under store db index) (IsOf category) × Of (store.map (data_under store db index)) IsLocked
@@ -127,7 +128,7 @@ a_record_info P reply new = ⊥
 
 -- ---- words of the effects
 
--- a store where the records of a category are deleted, and their data freed
+-- a store in which the records of a category are deleted, and their data freed
 abbrev pub category_deleted : Store → Db → ℕ → Store
 category_deleted store db category =
     with_chunks (with_entries store db (map (deleted_category category))) (all_gone store.map (data_of_category category (entries_in store db)))

@@ -1,10 +1,11 @@
--- Checks in their order, and the refusal that the first one brings.
+-- Checks in their order, and the refusals that they bring.
 use Rattle.std.specs.Prelude.{◌≡◌, ◌⊎◌, Bool, true, false, List, [], ◌∷◌}
 use Rattle.std.specs.Bool.{OnTrue}
 use Rattle.heap_model.specs.declared.refusal.Refusal.{Refusal}
 
--- A condition, and the refusal that it brings wherever it holds, or that it may bring: then the call
--- may also go on, to later checks or to success.
+-- A condition and a refusal. If the check must refuse (`brings`), the call refuses whenever the
+-- condition is true. Otherwise (`may_bring`) the call may also go on, to later checks or to
+-- success.
 pub record Check : Type 1 where
   pub condition : Type 0
   pub refusal : Refusal
@@ -18,16 +19,16 @@ infix 70 ◌may_bring◌
 abbrev pub ◌may_bring◌ : Type 0 → Refusal → Check
 ◌may_bring◌ P refusal = record { condition = P; refusal = refusal; must = false }
 
--- a call may go on behind this check
+-- a call may go on after this check
 abbrev pub Passes : Check → Type 0
 Passes check = OnTrue check.must (check.condition → ⊥)
 
--- a call may go on behind all of these
+-- a call may go on after all of these checks
 abbrev pub NoneHolds : List Check → Type 0
 NoneHolds [] = Unit {0}
 NoneHolds (check ∷ checks) = Passes check × NoneHolds checks
 
--- a check brings this refusal, and the call may go on behind all before it
+-- a check brings this refusal, and the call may go on after all checks before it
 abbrev pub FirstBrings : List Check → Refusal → Type 0
 FirstBrings [] refusal = ⊥
 FirstBrings (check ∷ checks) refusal = (check.condition × (refusal ≡ check.refusal)) ⊎ (Passes check × FirstBrings checks refusal)

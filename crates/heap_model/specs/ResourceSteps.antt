@@ -1,4 +1,4 @@
--- What each call on resources refuses, answers and does: one row a call.
+-- The rows of the calls on resources: for each call its refusals, its replies and its effect.
 use Rattle.std.specs.Prelude.{◌≡◌, ◌≤◌, ◌==◌, ℕ, Bool, true, false, [], ◌∷◌, length, take, count_by, None}
 use Rattle.heap_model.specs.Memory.{Memory}
 use Rattle.heap_model.specs.Reading.{held}
@@ -21,11 +21,11 @@ use Rattle.heap_model.specs.declared.refusal.Refusal.TheVariants.{NotResourceDat
 
 -- ---- calls
 
--- a call on resources, of which chunks are given by their names and databases by their numbers
+-- a call on resources; it gives chunks by their names and databases by their numbers
 abbrev pub ResourceCall : Type 0
 ResourceCall = given.ResourceCall Name Db
 
--- the same call, its chunk and its database given another way
+-- the same call, with its chunk and its database given in another way
 abbrev pub resource_call : {One Other ThisOne ThisOther : Type 0} → (One → Other) → (ThisOne → ThisOther) → given.ResourceCall One ThisOne → given.ResourceCall Other ThisOther
 resource_call chunk number (New db kind id size) = New (number db) kind id size
 resource_call chunk number (Attach db kind id name) = Attach (number db) kind id (chunk name)
@@ -40,17 +40,17 @@ resource_call chunk number (Count db) = Count (number db)
 
 -- ---- types and ids
 
--- the entry is that of a resource of this type
+-- the entry is a resource of this type
 abbrev pub has_type : ℕ → Entry ℕ → Bool
 has_type given (a_record attributes id slot) = false
 has_type given (a_resource kind id slot) = kind == given
 
--- the entry is that of a resource of this type and this id
+-- the entry is a resource of this type and this ID
 abbrev pub HasTypeAndId : ℕ → ℕ → Entry ℕ → Type 0
 HasTypeAndId given number (a_record attributes id slot) = ⊥
 HasTypeAndId given number (a_resource kind id slot) = (kind ≡ given) × (id ≡ number)
 
--- a resource with another type and id
+-- a resource with another type and ID
 abbrev pub with_type_and_id : ℕ → ℕ → Entry ℕ → Entry ℕ
 with_type_and_id given number (a_record attributes id slot) = a_record attributes id slot
 with_type_and_id given number (a_resource kind id slot) = a_resource given number slot
@@ -66,7 +66,7 @@ abbrev pub a_resource_info : (ResourceInfo → Type 0) → Reply → Memory → 
 a_resource_info P (replies.Resource info) new = P info
 a_resource_info P reply new = ⊥
 
--- the entry of this index is of the type, and so many of the type stand in front of it
+-- the entry of this index has the type, and `nth` entries before it have the type too
 abbrev pub IsNthOfType : Store → Db → ℕ → ℕ → ℕ → Type 0
 IsNthOfType store db kind nth index =
     OfEntry (entry_under store db index) (λ entry. has_type kind entry ≡ true) × (count_by (has_type kind) (take index (entries_in store db)) ≡ nth)

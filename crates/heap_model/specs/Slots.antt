@@ -1,6 +1,6 @@
--- The master pointer tables: where the slots of an image are, and where its chunks begin.
--- Other files speak of slots by `slots_of`, `IsSlot`, `is_slot` and `StandsBehind`, of the tables as a whole by
--- `tables_of`, and of the bytes in front of the chunks by `head_end` and `area_start`.
+-- The master pointer tables: where the slots of an image are, and where its chunks begin. Other
+-- files use `slots_of`, `IsSlot`, `is_slot` and `StandsBehind` for slots, `tables_of` for the
+-- tables as a whole, and `head_end` and `area_start` for the bytes before the chunks.
 use Rattle.std.specs.Prelude.{◌≡◌, ◌≤◌, ◌+◌, ◌-◌, ◌*◌, ◌/◌, ◌==◌, ◌||◌, ◌⊎◌, ◌++◌, if◌then◌else◌, ℕ, zero, suc, Bool, false, List, [], ◌∷◌, length, take}
 use Rattle.heap_model.specs.Memory.{Memory, Misses}
 use Rattle.heap_model.specs.Bytes.{u16_at, u32_at}
@@ -8,23 +8,23 @@ use Rattle.heap_model.specs.Chunk.{next_size, body_length}
 use Rattle.heap_model.specs.Placed.{EveryOne}
 use Rattle.heap_model.specs.Frame.{magic_at, chained_magic, slot_count_at, frame_size}
 
--- what a slot takes
+-- the size of a slot
 abbrev pub slot_size : ℕ
 slot_size = 4
 
--- how many slots the first table has, as the head says
+-- how many slots the first table has, by the head
 abbrev pub slot_count : List ℕ → ℕ
 slot_count image = u16_at image slot_count_at
 
--- where a table of so many slots ends
+-- where the first table ends, if it has `count` slots
 abbrev pub end_behind : ℕ → ℕ
 end_behind count = frame_size + slot_size * count
 
--- where the chunks begin behind a head that ends there: at a multiple of 8
+-- where the chunks begin if the head ends at `end`: at a multiple of 8
 abbrev pub aligned : ℕ → ℕ
 aligned end = 8 * ((end + 7) / 8)
 
--- where the chunks begin behind one table of so many slots, which is no chain
+-- where the chunks begin after one table of `count` slots without a chain
 abbrev pub start_behind : ℕ → ℕ
 start_behind count = aligned (end_behind count)
 
@@ -32,15 +32,15 @@ start_behind count = aligned (end_behind count)
 abbrev pub table_end : List ℕ → ℕ
 table_end image = end_behind (slot_count image)
 
--- the image has a chain of tables: a word `next` stands behind the first
+-- the image has a chain of tables: a word `next` comes after the first table
 abbrev pub is_chained : List ℕ → Bool
 is_chained image = u32_at image magic_at == chained_magic
 
--- what stands between the first table and the padding
+-- the size of what is between the first table and the padding
 abbrev pub behind_table : List ℕ → ℕ
 behind_table image = if is_chained image then next_size else 0
 
--- where the padding in front of the chunks begins
+-- where the padding before the chunks begins
 abbrev pub head_end : List ℕ → ℕ
 head_end image = table_end image + behind_table image
 
@@ -55,21 +55,21 @@ pub record Table : Type 0 where
   pub place : ℕ
   pub count : ℕ
 
--- the table whose body is at a place, by the header in front of it
+-- the table whose body is at a place, by the chunk header before it
 abbrev pub table_at : List ℕ → ℕ → Table
 table_at image place = record { place = place; count = (body_length (u32_at image (place - 8)) - next_size) / slot_size }
 
--- a table, where a word `next` isn't 0, and then the others
+-- a table, if a word `next` isn't 0, and then the others
 abbrev pub table_then : (ℕ → List Table) → List ℕ → ℕ → List Table
 table_then others image zero = []
 table_then others image (suc before) = table_at image (suc before) ∷ others (u32_at image (suc before))
 
--- at most so many tables, from a word `next` on
+-- the tables from a word `next` on, at most `count` of them
 abbrev pub tables_within : ℕ → List ℕ → ℕ → List Table
 tables_within zero image next = []
 tables_within (suc count) image next = table_then (tables_within count image) image next
 
--- the first word `next`; 0 where there is none
+-- the first word `next`; 0 if there is none
 abbrev pub first_next : List ℕ → ℕ
 first_next image = if is_chained image then u32_at image (table_end image) else 0
 
@@ -77,7 +77,8 @@ first_next image = if is_chained image then u32_at image (table_end image) else 
 unfoldable pub further_tables : List ℕ → List Table
 further_tables image = tables_within (length image) image (first_next image)
 
--- The tables of an image: whether they are a chain, how many slots the first has, and the further ones.
+-- The tables of an image: whether they are a chain, how many slots the first table has, and the
+-- further tables.
 pub record Tables : Type 0 where
   pub chained : Bool
   pub count : ℕ
@@ -88,7 +89,7 @@ tables_of image = record { chained = is_chained image; count = slot_count image;
 
 -- ---- slots
 
--- the offsets of so many slots in a row, the first of them given
+-- the offsets of `count` slots in a row, of which the first is at `first`
 abbrev pub slots_in_row : ℕ → ℕ → List ℕ
 slots_in_row first zero = []
 slots_in_row first (suc count) = first ∷ slots_in_row (first + slot_size) count
@@ -102,37 +103,38 @@ slots_further (table ∷ tables) = slots_in_row (table.place + next_size) table.
 abbrev pub slots_in : Tables → List ℕ
 slots_in tables = slots_in_row frame_size tables.count ++ slots_further tables.further
 
--- the offsets of the slots of an image, in their order: of the first table, then along the chain
+-- the offsets of an image's slots in their order: first those of the first table, then along the
+-- chain
 unfoldable pub slots_of : List ℕ → List ℕ
 slots_of image = slots_in (tables_of image)
 
--- the first table lies within an image, and so does each slot
+-- the first table and each slot lie within the image
 pub record TablesLie (image : List ℕ) : Type 0 where
   pub first : head_end image ≤ length image
   pub slots : EveryOne (λ slot. slot + slot_size ≤ length image) (slots_of image)
 
--- the tables lie within a memory, and what is lent of it is neither of the first table nor of a slot
+-- the tables lie within a memory, and its lent part overlaps neither the first table nor a slot
 pub record HasTable (memory : Memory) : Type 0 where
   pub lie : TablesLie memory.bytes
   pub first_misses : Misses memory.lent 0 (head_end memory.bytes)
   pub slots_miss : EveryOne (λ slot. Misses memory.lent slot slot_size) (slots_of memory.bytes)
 
--- how many there are
+-- how many slots an image has
 abbrev pub slots_total : List ℕ → ℕ
 slots_total image = length (slots_of image)
 
--- the first so many of them, or all where there are fewer
+-- the first `count` slots, or all if there are fewer
 abbrev pub first_slots : List ℕ → ℕ → List ℕ
 first_slots image count = take count (slots_of image)
 
--- so many slots stand before this one
+-- exactly `count` slots come before this one
 pub record StandsBehind (image : List ℕ) (slot count : ℕ) : Type 0 where
   pub front : List ℕ
   pub rest : List ℕ
   pub parts : slots_of image ≡ front ++ slot ∷ rest
   pub before : length front ≡ count
 
--- a number stands in a list
+-- a list contains a number
 abbrev pub StandsIn : List ℕ → ℕ → Type 0
 StandsIn [] number = ⊥
 StandsIn (first ∷ others) number = (first ≡ number) ⊎ StandsIn others number
@@ -141,11 +143,11 @@ StandsIn (first ∷ others) number = (first ≡ number) ⊎ StandsIn others numb
 pub record IsSlot (image : List ℕ) (slot : ℕ) : Type 0 where
   pub listed : StandsIn (slots_of image) slot
 
--- a number stands in a list, by a test
+-- whether a list contains a number, as a test
 abbrev pub stands_in : List ℕ → ℕ → Bool
 stands_in [] number = false
 stands_in (first ∷ others) number = (first == number) || stands_in others number
 
--- this is the offset of a slot, by a test
+-- whether this is the offset of a slot, as a test
 abbrev pub is_slot : List ℕ → ℕ → Bool
 is_slot image slot = stands_in (slots_of image) slot

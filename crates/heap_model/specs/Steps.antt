@@ -1,4 +1,5 @@
--- What one row says of a call, and the step that it makes, whatever the call acts on.
+-- The form of a row for a call, and the step that the call makes. Both are the same for all kinds
+-- of stores.
 use Rattle.std.specs.Prelude.{◌≡◌, ℕ, Bool, List}
 use Rattle.heap_model.specs.Memory.{Memory}
 use Rattle.heap_model.specs.Meaning.{ChunkMap}
@@ -8,9 +9,11 @@ use Rattle.heap_model.specs.declared.names.Place.{Place}
 use Rattle.heap_model.specs.declared.call.Reply.{Reply}
 use Rattle.heap_model.specs.declared.call.Reply.TheVariants.{Refused, Done, Number, Named, Locked, Data}
 
--- What there is to say of a call on a store: whether it only asks, and so leaves the region as it is,
--- also where it is refused; its refusals in order; which answers are right, by the region afterwards;
--- and how the store afterwards follows from the store before.
+-- The description of a call on a store:
+-- - whether the call only asks, and so leaves the region as it is, also if it is refused;
+-- - its refusals in order;
+-- - which replies are right, given the region afterwards;
+-- - how the store afterwards follows from the store before.
 pub record Row (Store : Type 0) : Type 1 where
   pub only_asks : Bool
   pub refusals : List Check
@@ -19,8 +22,8 @@ pub record Row (Store : Type 0) : Type 1 where
 
 -- ---- the step
 
--- The reply is a refusal that the checks bring, and then all is as before; or it is a right answer
--- where no check has to refuse, and the store is what the call makes of it.
+-- Either the reply is a refusal that the checks bring, and then all is as before. Or no check has
+-- to refuse, the reply is a right one, and the store is as the call's effect makes it.
 abbrev pub StepBy : {Store : Type 0} → Row Store → Type 0 → Store → Reply → Memory → Store → Type 0
 StepBy row AsBefore old (Refused refusal) region new = FirstBrings row.refusals refusal × AsBefore
 StepBy row AsBefore old reply region new = NoneHolds row.refusals × (row.answers reply region × row.effect reply old new)
@@ -47,17 +50,17 @@ abbrev pub data_of : (List ℕ → Type 0) → Reply → Memory → Type 0
 data_of P (Data bytes) new = P bytes
 data_of P reply new = ⊥
 
--- ---- words of the effects, where the store is a map
+-- ---- words of the effects, if the store is a map
 
--- the map afterwards is the one before with a change
+-- the map afterwards is the map before with a change
 abbrev pub becomes : (ChunkMap → ChunkMap) → Reply → ChunkMap → ChunkMap → Type 0
 becomes change reply old new = (name : ℕ) → new name ≡ change old name
 
--- the same, where the change needs the name that is answered
+-- the same, if the change needs the name in the reply
 abbrev pub becomes_named : (Name → ChunkMap → ChunkMap) → Reply → ChunkMap → ChunkMap → Type 0
 becomes_named change (Named name) old new = (other : ℕ) → new other ≡ change name old other
 becomes_named change reply old new = ⊥
 
--- the map stays
+-- the map is unchanged
 abbrev pub stays : Reply → ChunkMap → ChunkMap → Type 0
 stays reply old new = (name : ℕ) → new name ≡ old name

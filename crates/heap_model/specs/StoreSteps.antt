@@ -1,5 +1,5 @@
--- What each call on a store refuses, answers and does: the rows of the managers' calls together, those of
--- the memory manager as calls on a store, and the step that a call makes.
+-- The rows of the calls on a store: all managers' rows together, those of the memory manager as
+-- calls on a store. And the step that a call makes.
 use Rattle.std.specs.Prelude.{◌≡◌, ◌⊎◌, ◌++◌, if◌then◌else◌, Bool, true, false, length, ℕ, List}
 use Rattle.std.specs.Bool.{OnTrue}
 use Rattle.heap_model.specs.Memory.{Memory}
@@ -35,7 +35,7 @@ use Rattle.heap_model.specs.declared.call.Reply.TheVariants as replies
 abbrev pub Call : Type 0
 Call = given.Call Name Db (List ℕ)
 
--- the same call, its chunk, its database and its bytes given another way
+-- the same call, with its chunk, its database and its bytes given in another way
 abbrev pub call_by : {One Other ThisOne ThisOther Given Meant : Type 0} → (One → Other) → (ThisOne → ThisOther) → (Given → Meant) → given.Call One ThisOne Given → given.Call Other ThisOther Meant
 call_by chunk number bytes (calls.Memory call) = calls.Memory (memory.memory_call chunk bytes call)
 call_by chunk number bytes (calls.Database call) = calls.Database (database_call chunk number call)
@@ -45,7 +45,8 @@ call_by chunk number bytes (calls.File call) = calls.File (file_call number byte
 
 -- ---- the rows
 
--- A call of the memory manager on a store: its row, of what callers may name. The databases stay.
+-- A call of the memory manager on a store: its row on the chunks that callers may name. The
+-- databases are unchanged.
 abbrev pub lifted : Row ChunkMap → Row Store
 lifted row = record {
   only_asks = row.only_asks;
@@ -63,7 +64,7 @@ row old store (calls.File call) = file_row old store call
 
 -- ---- the step
 
--- The region means the store that it meant, and as much is free.
+-- The region means the same store as before, and as much is free.
 pub record StoreAsBefore (old new : Memory) : Type 0 where
   pub store : SameStore (store_of new.bytes) (store_of old.bytes)
   pub free : free_total new.bytes ≡ free_total old.bytes
@@ -83,7 +84,7 @@ HasMade (calls.Database (Create name kind creator resources date)) (replies.Data
 HasMade (calls.File (Import file)) (replies.Database db) = Unit {0}
 HasMade call reply = ⊥
 
--- the calls that may slide bytes, of chunks that move or within one
+-- the calls that may slide bytes: of chunks that move, or within one chunk
 abbrev pub may_slide : Call → Bool
 may_slide (calls.Memory call) = memory.may_slide call
 may_slide (calls.Database (Create name kind creator resources date)) = true
@@ -105,16 +106,17 @@ may_slide (calls.Resource call) = false
 may_slide (calls.File (Import file)) = true
 may_slide (calls.File (Export db)) = false
 
--- The slots after a call are those before it, in the same order. An accepted `MoreSlots` adds those of its table at the end.
+-- The slots after a call are those before it, in the same order. An accepted `MoreSlots` adds the
+-- slots of its table at the end.
 abbrev pub LeavesSlots : Call → Reply → List ℕ → List ℕ → Type 0
 LeavesSlots (calls.Memory MoreSlots) replies.Done before after = (place : ℕ) × (after ≡ before ++ gained_slots place)
 LeavesSlots call reply before after = after ≡ before
 
--- From an accepted image the call does its step to an accepted image of the same size with the same slots, to which
--- `MoreSlots` alone adds some. Nothing locked has moved, and a name that is lent stays so. All this holds of a call that
--- is refused too. The directory is the same chunk, but where a database was made and there was none. Of the region's
--- value its bytes alone may change, and the count of slid ones where the call may slide bytes; a call that only asks
--- leaves all of it.
+-- From an accepted image the call does its step to an accepted image. The new image has the same
+-- size and the same slots; only `MoreSlots` adds some. No locked chunk has moved, and a name that
+-- is lent stays lent. All this is true of a refused call too. The directory is the same chunk,
+-- unless there was none and a database was made. Of the region's value only the bytes may change,
+-- and the count of slid bytes if the call may slide bytes. A call that only asks changes nothing.
 pub record DoesInStore (old : Memory) (call : Call) (reply : Reply) (new : Memory) : Type 0 where
   pub before : Accepted old.bytes
   pub step : StoreStep old call reply new

@@ -1,4 +1,4 @@
-//! Bytes that calls carry and answer.
+//! The bytes in calls and replies.
 
 ghost use Rattle.std.specs.Prelude.{◌≡◌, bytes_eq};
 ghost use Rattle.std.specs.Cmp.{partial_equiv_from_equiv};
@@ -6,7 +6,7 @@ ghost use Rattle.std.specs.Cmp.Lexicographic.{nat_list_eq_equiv};
 
 use std::marker::Model;
 
-/// Some bytes. Contracts see them as a list.
+/// Bytes of a call or a reply. Contracts see them as a list.
 #[derive(Drop, Debug)]
 pub struct Bytes {
     bytes: Vec<u8>,
@@ -21,14 +21,14 @@ impl Model for Bytes {
 }
 
 impl Bytes {
-    /// The bytes of a vector, which takes no memory.
+    /// Wraps a vector of bytes, without an allocation.
     pub fn of(bytes: Vec<u8>) -> Bytes
         ensures { result ≡ bytes.items }
     {
         Bytes { bytes }
     }
 
-    /// The bytes, in order.
+    /// Returns the bytes, in order.
     pub fn as_slice(&self) -> &[u8]
         ensures { result.now ≡ self.now }
     {

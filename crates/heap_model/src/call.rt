@@ -1,4 +1,4 @@
-//! Calls of the managers, and what they answer.
+//! Calls of the managers, and the replies to them.
 
 use crate::bytes::Bytes;
 use crate::database::{DbInfo, DbName};
@@ -6,9 +6,9 @@ use crate::entry::{RecordInfo, ResourceInfo};
 use crate::names::{Db, Name, Place, Which};
 use crate::refusal::Refusal;
 
-/// A call of the memory manager (Palm OS Programmer's API Reference, "Memory Manager"), by how it gives
-/// its chunk and its bytes: by the name, and as bytes of its own, where nothing else is said. Sizes and
-/// offsets within a chunk count bytes.
+/// A call of the memory manager (Palm OS Programmer's API Reference, "Memory Manager"). `C` is how
+/// the call gives its chunk: by its name, unless another type is given. `B` is how it gives its
+/// bytes: as bytes of its own, likewise. Sizes and offsets within a chunk count bytes.
 #[derive(Drop, Debug, PartialEq, Eq)]
 pub enum MemoryCall<C = Name, B = Bytes> {
     HandleNew {
@@ -59,12 +59,13 @@ pub enum MemoryCall<C = Name, B = Bytes> {
     FreeBytes,
     LargestStretch,
     Compact,
-    /// A further master pointer table of 15 slots.
+    /// Adds a master pointer table of 15 slots.
     MoreSlots,
 }
 
-/// A call on the databases of a store (Palm OS Programmer's API Reference, "Data Manager"), by how it
-/// gives its chunk and its database: by the name and the number, where nothing else is said.
+/// A call on the databases of a store (Palm OS Programmer's API Reference, "Data Manager"). `C` is
+/// how the call gives its chunk: by its name, unless another type is given. `D` is how it gives its
+/// database: by its number, likewise.
 #[derive(Drop, Debug, PartialEq, Eq)]
 pub enum DatabaseCall<C = Name, D = Db> {
     Create {
@@ -72,26 +73,27 @@ pub enum DatabaseCall<C = Name, D = Db> {
         /// The type, its four bytes as a number.
         kind: u32,
         creator: u32,
-        /// The entries are resources, and else records.
+        /// If true, the entries are resources; otherwise they are records.
         resources: bool,
         date: u32,
     },
     Delete(D),
     Find(DbName),
-    /// The database of an index, in the order of the directory.
+    /// Finds the database at an index, in the order of the directory.
     Nth(u32),
     Count,
     Info(D),
-    /// Of what is given the modification number, the seed and the number of entries are passed over, and
-    /// the attribute that says whether there are resources.
+    /// Sets fields of the header. The call ignores the modification number, the seed and the number
+    /// of entries that it is given. It also ignores the attribute that says whether there are
+    /// resources.
     SetInfo(D, DbInfo),
-    /// A caller's chunk becomes the info block of a database that doesn't have this one.
+    /// Makes a caller's chunk an info block of a database that doesn't have this block.
     SetInfoBlock {
         db: D,
         which: Which,
         name: C,
     },
-    /// The info block is handed over to an owner of 1 to 14, and the database doesn't have it any more.
+    /// Takes the info block from the database. Its chunk gets an owner of 1 to 14.
     TakeInfoBlock {
         db: D,
         which: Which,
@@ -100,11 +102,12 @@ pub enum DatabaseCall<C = Name, D = Db> {
     InfoBlock(D, Which),
 }
 
-/// A call on the records of a database (Palm OS Programmer's API Reference, "Data Manager"), by how it
-/// gives its chunk and its database. Records are counted from 0.
+/// A call on the records of a database (Palm OS Programmer's API Reference, "Data Manager"). `C`
+/// and `D` are those of `DatabaseCall`. Records are counted from 0.
 #[derive(Drop, Debug, PartialEq, Eq)]
 pub enum RecordCall<C = Name, D = Db> {
-    /// A record of so many bytes at an index. Where that is beyond the end it is the end.
+    /// Makes a record of `size` bytes at an index. If the index is beyond the end, the record comes
+    /// last.
     New {
         db: D,
         at: u32,
@@ -113,7 +116,7 @@ pub enum RecordCall<C = Name, D = Db> {
     Delete(D, u32),
     Archive(D, u32),
     Remove(D, u32),
-    /// `to` is the index in front of which the record goes, as the records stand before the call.
+    /// Moves a record to right before the record at `to`. Both indices are counted before the move.
     Move {
         db: D,
         from: u32,
@@ -133,27 +136,29 @@ pub enum RecordCall<C = Name, D = Db> {
         size: u32,
     },
     Count(D),
-    /// A record whose data is a caller's chunk, at an index. Where that is beyond the end it is the end.
+    /// Makes a record at an index, with a caller's chunk for its data. If the index is beyond the
+    /// end, the record comes last.
     Attach {
         db: D,
         at: u32,
         name: C,
     },
-    /// The data of a record is handed over to an owner of 1 to 14, and a caller's chunk becomes it.
+    /// Makes a caller's chunk the data of a record. The chunk of the old data gets an owner of 1 to
+    /// 14.
     AttachReplacing {
         db: D,
         index: u32,
         name: C,
         owner: u8,
     },
-    /// The data is handed over to an owner of 1 to 14.
+    /// Removes the entry. The chunk of its data gets an owner of 1 to 14.
     Detach {
         db: D,
         index: u32,
         owner: u8,
     },
-    /// Of the attributes all bits but those of a deleted and of a busy record are taken, and of the unique ID
-    /// the low 24 bits, where they are not 0.
+    /// Sets the attributes and the unique ID of a record. The attribute bits of a deleted and of a
+    /// busy record stay. Of `id` the low 24 bits are used; if they are 0, the ID stays.
     SetInfo {
         db: D,
         index: u32,
@@ -161,15 +166,16 @@ pub enum RecordCall<C = Name, D = Db> {
         id: u32,
     },
     FindById(D, u32),
-    /// How many records are of a category, 0 to 15, or of any, for 0xFF.
+    /// Counts the records of a category, 0 to 15, or of any category, for 0xFF.
     CountInCategory(D, u8),
-    /// The first record of a category, as for `CountInCategory`, from an index on.
+    /// Finds the first record of a category, from an index on. The category is as for
+    /// `CountInCategory`.
     NextInCategory {
         db: D,
         from: u32,
         category: u8,
     },
-    /// How many records of a category, as for `CountInCategory`, stand in front of an index.
+    /// Counts the records of a category before an index. The category is as for `CountInCategory`.
     PositionInCategory {
         db: D,
         index: u32,
@@ -184,12 +190,12 @@ pub enum RecordCall<C = Name, D = Db> {
     DeleteCategory(D, u8),
 }
 
-/// A call on the resources of a database (Palm OS Programmer's API Reference, "Data Manager"), by how it
-/// gives its chunk and its database. Resources are counted from 0; a new one comes behind all others. Two may
-/// have the same type and id.
+/// A call on the resources of a database (Palm OS Programmer's API Reference, "Data Manager"). `C`
+/// and `D` are those of `DatabaseCall`. Resources are counted from 0; a new one comes after all
+/// others. Two resources may have the same type and id.
 #[derive(Drop, Debug, PartialEq, Eq)]
 pub enum ResourceCall<C = Name, D = Db> {
-    /// A resource of so many bytes.
+    /// Makes a resource of `size` bytes.
     New {
         db: D,
         /// The type, its four bytes as a number.
@@ -197,14 +203,14 @@ pub enum ResourceCall<C = Name, D = Db> {
         id: u16,
         size: u32,
     },
-    /// A resource whose data is a caller's chunk.
+    /// Makes a resource with a caller's chunk for its data.
     Attach {
         db: D,
         kind: u32,
         id: u16,
         name: C,
     },
-    /// The data is handed over to an owner of 1 to 14.
+    /// Removes the entry. The chunk of its data gets an owner of 1 to 14.
     Detach {
         db: D,
         index: u32,
@@ -223,13 +229,13 @@ pub enum ResourceCall<C = Name, D = Db> {
         kind: u32,
         id: u16,
     },
-    /// The first resource of a type and an id.
+    /// Finds the first resource of a type and an id.
     Find {
         db: D,
         kind: u32,
         id: u16,
     },
-    /// The resource of a type in front of which so many others of the type stand.
+    /// Finds the resource of a type by its index among the resources of the type, counted from 0.
     FindType {
         db: D,
         kind: u32,
@@ -238,17 +244,17 @@ pub enum ResourceCall<C = Name, D = Db> {
     Count(D),
 }
 
-/// A call on files of databases, PDB and PRC (Palm OS File Format Specification), by how it gives its database
-/// and its bytes.
+/// A call on files of databases, PDB and PRC (Palm OS File Format Specification). `D` is how the
+/// call gives its database, and `B` how it gives its bytes.
 #[derive(Drop, Debug, PartialEq, Eq)]
 pub enum FileCall<D = Db, B = Bytes> {
-    /// The database of a file, of which these are the bytes, comes behind the others.
+    /// Adds the database of a file after the other databases. The bytes are those of the file.
     Import(B),
-    /// Answers the bytes of the file of a database.
+    /// Returns the bytes of the file of a database.
     Export(D),
 }
 
-/// A call of any manager, by how it gives its chunk, its database and its bytes.
+/// A call of any manager. `C`, `D` and `B` are how it gives its chunk, its database and its bytes.
 #[derive(Drop, Debug, PartialEq, Eq)]
 pub enum Call<C = Name, D = Db, B = Bytes> {
     Memory(MemoryCall<C, B>),
@@ -258,7 +264,7 @@ pub enum Call<C = Name, D = Db, B = Bytes> {
     File(FileCall<D, B>),
 }
 
-/// What a call answers: a refusal, or a value of its own.
+/// The reply to a call: a refusal, or a result.
 #[derive(Drop, Debug, PartialEq, Eq)]
 pub enum Reply {
     Refused(Refusal),
@@ -270,7 +276,7 @@ pub enum Reply {
     Data(Bytes),
     Database(Db),
     Info(DbInfo),
-    /// The index and the name of what is new.
+    /// The index of the new entry, and the name of its data.
     Made { index: u32, name: Name },
     Record(RecordInfo),
     Resource(ResourceInfo),

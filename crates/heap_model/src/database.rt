@@ -1,4 +1,4 @@
-//! What callers say and hear of a database.
+//! The name of a database and the fields of its header, as calls give and return them.
 
 ghost use Rattle.std.specs.Prelude.{◌≡◌, ◌≤◌, length, take, bytes_eq};
 ghost use Rattle.std.specs.Cmp.{partial_equiv_from_equiv};
@@ -7,8 +7,8 @@ ghost use Rattle.heap_model.specs.DatabaseFields.{name_size};
 
 use std::marker::Model;
 
-/// Bytes that a caller gives for the name of a database, or finds there. Of more than 32 the first 32
-/// are kept, which are too many for a name already. Contracts see a list of bytes.
+/// The bytes that a caller gives or gets for the name of a database. At most the first 32 bytes are
+/// kept; a name of 32 bytes is already too long. Contracts see a list of bytes.
 #[derive(Drop, Debug)]
 pub struct DbName {
     bytes: [u8; 32],
@@ -26,7 +26,7 @@ impl Model for DbName {
 }
 
 impl DbName {
-    /// The first 32 of some bytes, or all of them.
+    /// Keeps the first 32 bytes, or all bytes if there are fewer.
     pub fn of(bytes: &[u8]) -> DbName
         ensures { result ≡ take name_size bytes.now }
     {
@@ -39,7 +39,7 @@ impl DbName {
         }
     }
 
-    /// The bytes, in order.
+    /// Returns the bytes, in order.
     pub fn as_slice(&self) -> &[u8]
         ensures is { result.now ≡ self.now }
         ensures few { length result.now ≤ name_size }
@@ -62,8 +62,9 @@ impl Eq for DbName {
     ghost laws = { nat_list_eq_equiv };
 }
 
-/// What the header of a database says (Palm OS Programmer's API Reference, `DmDatabaseInfo`; the fields
-/// are those of the File Format Specification). Dates count seconds, and mean nothing here.
+/// The fields of a database's header, and its number of entries (Palm OS Programmer's API
+/// Reference, `DmDatabaseInfo`; the fields are those of the File Format Specification). Dates count
+/// seconds; no call interprets them.
 #[derive(Drop, Debug, PartialEq, Eq)]
 pub struct DbInfo {
     pub name: DbName,
@@ -74,9 +75,9 @@ pub struct DbInfo {
     pub backup_date: u32,
     /// How often calls have changed the database, modulo 2^32.
     pub modification_number: u32,
-    /// The database's type, its four bytes as a number.
+    /// The database's type: its four bytes as a number.
     pub kind: u32,
-    /// Its creator, likewise.
+    /// The database's creator: its four bytes as a number.
     pub creator: u32,
     /// The seed of the unique IDs of its records.
     pub seed: u32,

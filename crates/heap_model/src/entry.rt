@@ -1,13 +1,13 @@
-//! What callers hear of the entries of databases.
+//! The entries of databases, as calls return them.
 
 ghost use Rattle.std.specs.Prelude.{◌≡◌};
 ghost use Rattle.heap_model.specs.EntrySteps.{record_told, resource_told};
 
 use crate::names::Name;
 
-/// What the entry of a record says (Palm OS Programmer's API Reference, `DmRecordInfo`). The attributes
-/// are those of the File Format Specification: 0x80 for a deleted record, 0x40 for a dirty one, 0x20 for a
-/// busy one, 0x10 for a secret one, and the category in the low four bits.
+/// The fields of a record's entry (Palm OS Programmer's API Reference, `DmRecordInfo`). The
+/// attributes are those of the File Format Specification: 0x80 for a deleted record, 0x40 for a
+/// dirty one, 0x20 for a busy one, 0x10 for a secret one, and the category in the low four bits.
 #[derive(Clone, Copy, Debug, PartialEq, Eq)]
 pub struct RecordInfo {
     pub attributes: u8,
@@ -17,7 +17,7 @@ pub struct RecordInfo {
     pub data: Option<Name>,
 }
 
-/// What the entry of a resource says (Palm OS Programmer's API Reference, `DmResourceInfo`).
+/// The fields of a resource's entry (Palm OS Programmer's API Reference, `DmResourceInfo`).
 #[derive(Clone, Copy, Debug, PartialEq, Eq)]
 pub struct ResourceInfo {
     /// The type, its four bytes as a number.
@@ -27,7 +27,7 @@ pub struct ResourceInfo {
     pub data: Name,
 }
 
-/// What an entry says.
+/// The fields of an entry.
 #[derive(Clone, Copy, Debug, PartialEq, Eq)]
 pub enum Entry {
     Record(RecordInfo),
@@ -35,7 +35,7 @@ pub enum Entry {
 }
 
 impl Entry {
-    /// What it says of a record, if it is one's.
+    /// Returns the fields of a record, if the entry is a record.
     pub fn as_record(self) -> Option<RecordInfo>
         ensures { result ≡ record_told self }
     {
@@ -45,7 +45,7 @@ impl Entry {
         }
     }
 
-    /// What it says of a resource, if it is one's.
+    /// Returns the fields of a resource, if the entry is a resource.
     pub fn as_resource(self) -> Option<ResourceInfo>
         ensures { result ≡ resource_told self }
     {

@@ -1,18 +1,20 @@
-//! Offsets by which callers speak of chunks and databases.
+//! The offsets by which callers give chunks and databases.
 
 use std::fmt;
 
-/// The name of a live chunk: of a movable one the offset of its slot, its handle, and of a fixed one
-/// the offset of its body, both in bytes from the image's start. `Name(0)` names nothing.
+/// The name of a live chunk, in bytes from the image's start. For a movable chunk it is the offset
+/// of its slot, the handle. For a fixed chunk it is the offset of its body. `Name(0)` names
+/// nothing.
 #[derive(Clone, Copy, Debug, PartialEq, Eq)]
 pub struct Name(pub u32);
 
-/// The offset of a chunk's body, in bytes from the image's start: 8 bytes behind its header.
+/// The offset of a chunk's body, in bytes from the image's start: 8 bytes after the start of its
+/// header.
 #[derive(Clone, Copy, Debug, PartialEq, Eq)]
 pub struct Place(pub u32);
 
-/// The number of a database: the offset of the slot of its header, in bytes from the image's start. It
-/// is the database's as long as that lives. `Db(0)` is no database's.
+/// The number of a database: the offset of the slot of its header, in bytes from the image's start.
+/// A database keeps its number as long as it exists. `Db(0)` is no database's number.
 #[derive(Clone, Copy, Debug, PartialEq, Eq)]
 pub struct Db(pub u32);
 

@@ -8,13 +8,13 @@ use std::error::Error;
 use std::fmt;
 use std::fmt::Display;
 
-/// Why a call was refused. A refused call leaves what the heap means as it was. The numbers are this
-/// project's own, whatever a device answers.
+/// Why a call was refused. A refused call leaves the meaning of the heap as it was. The numbers are
+/// this project's own; a device may return other ones.
 #[derive(Clone, Copy, Debug, PartialEq, Eq)]
 pub enum Refusal {
-    /// The name is no caller's chunk, nor a database's.
+    /// The name is neither that of a caller's chunk nor that of data of a database.
     InvalidHandle,
-    /// The chunk is a database's.
+    /// The chunk is data of a database.
     OwnedByDatabase,
     /// The chunk is locked.
     ChunkLocked,
@@ -24,52 +24,52 @@ pub enum Refusal {
     LockOverflow,
     /// The chunk is fixed.
     ChunkFixed,
-    /// The owner isn't 1 to 14.
+    /// The owner isn't one of 1 to 14.
     InvalidOwner,
-    /// No slot or not enough free space is left.
+    /// There is no free slot, or not enough free space.
     NotEnoughSpace,
     /// The range reaches beyond the chunk's end.
     OutOfBounds,
     /// No database has this number, this name or this index.
     NoSuchDatabase,
-    /// The database holds resources.
+    /// The database has resources, not records.
     NotRecordDatabase,
-    /// The database holds records.
+    /// The database has records, not resources.
     NotResourceDatabase,
-    /// The database may only be read.
+    /// The database is read-only.
     ReadOnly,
-    /// There are not so many entries; or none from an index on is of a category.
+    /// No entry has this index, or no record of the category comes at an index or after it.
     IndexOutOfRange,
     /// The record is deleted.
     RecordDeleted,
     /// The record is in use.
     RecordBusy,
-    /// There are as many databases, or entries of one, as there may be.
+    /// The number of databases, or of entries of the database, is already at its maximum.
     TooManyEntries,
-    /// The category isn't 0 to 15, and not 0xFF either in the calls that count.
+    /// The category isn't one of 0 to 15. Calls that count or find also accept 0xFF.
     InvalidCategory,
     /// Another record has the unique ID.
     DuplicateId,
     /// No record has the unique ID.
     UniqueIdNotFound,
-    /// Another database has the name; or the info block is there.
+    /// Another database has the name, or the database has the info block already.
     AlreadyExists,
-    /// The name of a database has 1 to 31 bytes, none of them zero.
+    /// The name is not valid: a database's name has 1 to 31 bytes, none of them zero.
     InvalidName,
-    /// No resource has the type and the id, or not so many have the type.
+    /// No resource has the type and the id, or no resource of the type has the index.
     ResourceNotFound,
     /// The database has no such info block.
     NoInfoBlock,
-    /// No database is read from the file, and this is what is wrong with it first.
+    /// The file can't be read as a database. The fault is the first one that it has.
     BadFile(FileFault),
-    /// Memory for the answer was refused.
+    /// An allocation failed that the call needs.
     OutOfMemory,
-    /// The chunk is lent, or one of the chunks.
+    /// A chunk that the call acts on is lent.
     Lent,
 }
 
 impl Refusal {
-    /// The number of the refusal.
+    /// Returns the number of the refusal.
     pub fn number(self) -> u8
         ensures { result ≡ number_of self }
     {
@@ -104,7 +104,7 @@ impl Refusal {
         }
     }
 
-    /// The name of the refusal.
+    /// Returns the name of the refusal.
     pub fn name(self) -> &'static str
         ensures { result.now ≡ name_of self }
     {

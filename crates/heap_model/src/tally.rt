@@ -1,4 +1,4 @@
-//! A count that contracts alone see.
+//! A count that only contracts see.
 
 ghost use Rattle.std.specs.Prelude.{◌≡◌, ◌+◌, ℕ};
 ghost use Rattle.std.specs.Borrow.{ftrue};
@@ -17,7 +17,7 @@ impl Model for Tally {
 }
 
 impl Tally {
-    /// A count of nothing.
+    /// Makes a count that starts at 0.
     pub fn new() -> Tally
         ensures { result.total ≡ 0 }
     {
@@ -26,7 +26,7 @@ impl Tally {
         }
     }
 
-    /// Counts so many more.
+    /// Adds an amount to the count.
     pub fn add(&mut self, _amount: usize)
         ensures { self.new.total ≡ self.old.total + _amount }
     {}

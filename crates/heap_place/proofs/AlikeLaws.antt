@@ -39,7 +39,7 @@ alike_cuts old mid new at room size s cuts r = cuts (alike_spot old mid at room 
 pub alike_becomes : (old mid new : List ℕ) → SameChunks old mid → Becomes mid new (chunks_of mid) → Becomes old new (chunks_of old)
 alike_becomes old mid new s b = record { frame = frame_then old mid new s.frame b.frame; layout = b.layout ∙ ap merged s.chunks }
 
--- ---- a chunk that was found, and the free ones behind it
+-- ---- a chunk that was found, and the free ones after it
 
 pub alike_behind : (old new : List ℕ) (found : Found) (behind : ℕ) → SameChunks old new → RunBehind old found behind → RunBehind new found behind
 alike_behind old new found behind s r =

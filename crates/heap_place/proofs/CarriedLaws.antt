@@ -21,7 +21,7 @@ Spelled-carried xs ys at by (movable bytes lock owner slot) carry inside s =
     (s.0, IsLive-carried xs ys at by bytes lock owner s.0 carry inside s.1, s.2, s.3, omega arith)
 Spelled-carried xs ys at by (fixed bytes owner) carry inside s = IsLive-carried xs ys at by bytes 15 owner 0 carry inside s
 
--- so much further up the same bytes spell the same chunks, carried
+-- moved up, the same bytes spell the same chunks, carried
 pub SpelledAll-carried : (xs ys : List ℕ) (at by : ℕ) (cs : List Chunk) (end : ℕ) → Carries by at end xs ys → end + by ≤ length ys → SpelledAll xs at cs end → SpelledAll ys (at + by) (all_carried by cs) (end + by)
 SpelledAll-carried xs ys at by [] end carry inside s = ap (λ (n : ℕ). n + by) s
 SpelledAll-carried xs ys at by (c ∷ cs) end carry inside s =

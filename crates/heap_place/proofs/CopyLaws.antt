@@ -1,5 +1,5 @@
--- The bytes of some chunks are carried up over the free chunk behind them, and a free header is written
--- where they began.
+-- The bytes of some chunks are carried up over the free chunk after them, and a free header is
+-- written where they began.
 use Rattle.std.proofs.Common.{◌≡◌, ℕ, ◌+◌, ◌-◌, ◌%◌, ◌^◌, ◌≤◌, List, [], ◌∷◌, ◌++◌, length, take, drop, refl, sym, ap, subst, ◌∙◌, append_assoc, arith, inl, length-take, length-drop}
 use Rattle.heap_model.specs.Bytes.{u32_at, u32_bytes, overwritten}
 use Rattle.heap_model.specs.Chunk.{Chunk, free, total, IsFree, SpelledAll}
@@ -18,7 +18,7 @@ use Rattle.heap_place.proofs.FoundLaws.{heap_in_parts, Middle, middle_of}
 use Rattle.heap_place.proofs.CutLaws.{has_free}
 use Rattle.heap_place.proofs.CarriedLaws.{SpelledAll-carried}
 
--- where the chunks that are lifted lie, and the free one behind them
+-- where the chunks that are lifted lie, and the free one after them
 pub record Liftable (old : List ℕ) (before mid after : List Chunk) (start end gap : ℕ) : Type 0 where
   pub heap : IsHeap old (before ++ (mid ++ free gap ∷ after))
   pub heap_in_two : IsHeap old (before ++ ((mid ++ free gap ∷ []) ++ after))

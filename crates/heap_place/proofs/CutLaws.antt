@@ -138,7 +138,7 @@ header_movable count lock owner slot (movable bytes l v s) e =
     let n : count ≡ length bytes = cc in
     (bytes, (cc, sym n))
 
--- the header of a chunk, and zeros behind it
+-- the header of a chunk, and zeros after it
 zeroed : (h new : List ℕ) (at count lock owner slot : ℕ) → HasHeader h at (headers.Movable count lock owner slot) → length new ≡ length h → u32_at new at ≡ u32_at h at → u32_at new (at + 4) ≡ u32_at h (at + 4)
     → slice_range new (at + 8) (at + 8 + count) ≡ replicate count 0 → Spelled new at (movable (replicate count 0) lock owner slot)
 zeroed h new at count lock owner slot found len first second body =

@@ -1,4 +1,5 @@
--- A movable chunk goes down over the free chunk in front of it; a free chunk is joined with the room there.
+-- A movable chunk goes down over the free chunk in front of it; a free chunk is joined with the
+-- room there.
 use Rattle.std.proofs.Common.{◌≡◌, ◌≢◌, ℕ, zero, suc, ◌+◌, ◌-◌, ◌^◌, ◌<◌, ◌≤◌, List, [], ◌∷◌, ◌++◌, length, take, drop, refl, sym, ap, subst, ◌∙◌, append_assoc, arith, inl, inr, length-take, length-drop}
 use Rattle.std.proofs.lemmas.Bool.{cases_eq}
 use Rattle.std.specs.Prelude.{◌↔◌, slice_range}

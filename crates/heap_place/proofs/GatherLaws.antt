@@ -43,11 +43,11 @@ bound_after image before c after at size e there is =
     let sum = total_one before c in
     record { before = before ++ c ∷ []; after = after; ends = record { chunks = e ∙ sym (append_assoc before (c ∷ []) after); there = omega arith } }
 
--- behind a free chunk
+-- after a free chunk
 pub chunk_bound : (image : List ℕ) (at size : ℕ) → IsFreeChunk image at size → IsBound image (at + size)
 chunk_bound image at size f = bound_after image f.before (free size) f.after at size f.chunks f.there refl
 
--- behind a chunk whose header is read
+-- after a chunk whose header is read
 pub header_bound : (image : List ℕ) (at : ℕ) (header : Header) → HeapAccepted image → IsBound image at → HasHeader image at header → IsBound image (at + size_by header) × (at + size_by header ≤ length image) × (8 ≤ size_by header)
 header_bound image at header h b found = by_after b.after b.ends.chunks where
   size_is : size_by header ≡ size_of found.chunk

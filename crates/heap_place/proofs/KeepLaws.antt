@@ -1,5 +1,5 @@
--- What keeps the free chunks with their two words: chunks that are replaced by others keep all but those
--- among them, and the second word of a free chunk is written.
+-- What keeps the free chunks with their two words: chunks that are replaced by others keep all but
+-- those among them, and the second word of a free chunk is written.
 use Rattle.std.proofs.Common.{◌≡◌, ◌≢◌, ℕ, ◌+◌, ◌%◌, ◌^◌, ◌<◌, ◌≤◌, List, [], ◌∷◌, ◌++◌, length, refl, sym, ap, subst, ◌∙◌, arith, inl, inr}
 use Rattle.std.specs.Prelude.{◌⊎◌, slice_index, slice_set}
 use Rattle.heap_model.specs.Bytes.{u32_at, u32_bytes, overwritten}

@@ -17,7 +17,7 @@ use Rattle.heap_place.proofs.WalkLaws.{passed_start, passed_at, passed_more, pas
 
 -- ---- the greatest of the rooms
 
--- some rooms, of which the first has so much more
+-- some rooms, of which the first has `more` bytes more
 abbrev raised : ℕ → List ℕ → List ℕ
 raised more [] = more ∷ []
 raised more (room ∷ others) = (more + room) ∷ others

@@ -18,7 +18,7 @@ use Rattle.heap_place.specs.Lifting.{Lifting, HasFreeBehind, FreeBehind, Lifts, 
 use Rattle.heap_place.proofs.ExactLaws.{exactly_becomes}
 use Rattle.heap_place.proofs.LiftedWalkLaws.{some_size}
 
--- ---- the chunks that are lifted, and the free one behind them
+-- ---- the chunks that are lifted, and the free one after them
 
 in_parts : (image : List ℕ) (before mid after : List Chunk) (start end gap : ℕ) → FreeBehind image before mid after start end gap → chunks_of image ≡ before ++ ((mid ++ free gap ∷ []) ++ after)
 in_parts image before mid after start end gap f = f.chunks ∙ ap (λ (cs : List Chunk). before ++ cs) (sym (append_assoc mid (free gap ∷ []) after))

@@ -24,7 +24,7 @@ use Rattle.chunk_format.specs.declared.header.Header.TheVariants as headers
 use Rattle.heap_place.proofs.ResizeLaws.{run_facts}
 use Rattle.heap_place.proofs.FoundLaws.{found_size}
 
--- ---- a chunk that isn't lent, and what is free behind it
+-- ---- a chunk that isn't lent, and what is free after it
 
 pub regrown_within : (m : Memory) (found : Found) (more : ℕ) → HeapAccepted m.bytes → LendsABody m → (r : RunBehind m.bytes found more) → LendsOther m found.place.0 → IsWithin m (found.place.0 - 8) (need found.length + more)
 regrown_within m found more h l r other =

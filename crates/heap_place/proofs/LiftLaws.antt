@@ -1,4 +1,4 @@
--- Chunks are lifted over the free chunk behind them.
+-- Chunks are lifted over the free chunk after them.
 use Rattle.std.proofs.Common.{◌≡◌, ℕ, zero, suc, ◌+◌, ◌-◌, ◌^◌, ◌<◌, List, [], ◌∷◌, ◌++◌, length, refl, sym, ap, subst, ◌∙◌, append_assoc, arith, inl, inr}
 use Rattle.std.specs.Prelude.{◌⊎◌, ◌↔◌}
 use Rattle.std.proofs.lemmas.Bool.{cases_eq}
@@ -90,7 +90,7 @@ module _ (old image : List ℕ) (before moved after : List Chunk) (gap at : ℕ)
   unfolding start
   end = l.there
 
-  -- behind a slot that held a place before
+  -- a slot that contained a place before
   to_new : (slot : ℕ) → IsSlot old slot → 0 < u32_at old slot → IsBody (area_start old) (before ++ free gap ∷ (moved ++ after)) slot (u32_at image slot)
   to_new slot s some = elim (body_in (area_start old) before (moved ++ free gap ∷ after) start slot (u32_at old slot) is_start ((l.heap.tied slot (u32_at old slot) some).0 (s, refl))) [
     | inl front ↦
@@ -116,7 +116,7 @@ module _ (old image : List ℕ) (before moved after : List Chunk) (gap at : ℕ)
     ]
   ]
 
-  -- behind a body that there is now
+  -- a body that there is now
   of_old : (slot place : ℕ) → IsBody (area_start old) (before ++ (moved ++ free gap ∷ after)) slot place → 0 < place → IsSlot old slot × (u32_at old slot ≡ place)
   of_old slot place b some = (l.heap.tied slot place some).1 b
 

@@ -23,7 +23,7 @@ some_size old image before done c rest after gap at l =
     let size = carried_size gap c in
     omega (arith, least, size)
 
--- one more is behind the walk
+-- the walk has passed one more chunk
 one_more : (old image new : List ℕ) (before done rest after : List Chunk) (gap at next end : ℕ) (front back : List Chunk) → rest ≡ front ++ back → Lifting old image before (done ++ front) back after gap at → end ≡ at + total back → at < end → MendsOne image new gap at next
     → Walked old new before done rest after gap next end
 one_more old image new before done rest after gap at next end front [] parts l ends more mends = absurd (omega (arith, ends, more))

@@ -1,4 +1,5 @@
--- Chains of free chunks: their length is determined, they visit no chunk twice, and what keeps them.
+-- Chains of free chunks: their length is determined, they visit no chunk twice, and what keeps
+-- them.
 use Rattle.std.proofs.Common.{◌≡◌, ◌≢◌, ℕ, zero, suc, ◌+◌, ◌^◌, ◌<◌, ◌≤◌, List, length, replicate, get_or, refl, sym, ap, subst, arith, inl, inr}
 use Rattle.std.specs.Prelude.{◌⊎◌, slice_index}
 use Rattle.std.proofs.Math.ListN.{set}

@@ -33,7 +33,7 @@ use Rattle.laws_heap.proofs.Exchanges.{gap_total}
 use Rattle.chunk_format.proofs.HeaderLaws.{size_by-header_of}
 use Rattle.heap_place.proofs.CutLaws.{free_header}
 
--- ---- the chunk behind a room
+-- ---- the chunk after a room
 
 pub behind_spelled : (old : List ℕ) (before : List Chunk) (c : Chunk) (after : List Chunk) (at room : ℕ) → HeapAccepted old → BehindRoom old before c after at room → Spelled old at c
 behind_spelled old before c after at room h b =
@@ -182,7 +182,7 @@ packing_start old start end h = λ before mid after run.
     let to = run.to in
     record { done = []; rest = mid; becomes = exactly_itself old _ h run.chunks; packs = refl; there = omega arith; ends = to; moved_is = omega arith; room_is = refl }
 
--- the next chunk, behind the room
+-- the next chunk, after the room
 next_behind : (old image : List ℕ) (before after : List Chunk) (start at room : ℕ) (done : List Chunk) (c : Chunk) (rest : List Chunk) → start ≡ area_start old + total before → BecomesExactly old image (before ++ (done ++ (gap room ++ ((c ∷ rest) ++ after)))) → at ≡ start + total done + room
     → BehindRoom image (before ++ done) c (rest ++ after) at room
 next_behind old image before after start at room done c rest from b there =
@@ -190,7 +190,7 @@ next_behind old image before after start at room done c rest from b there =
     let starts = exactly_start old image (before ++ (done ++ (gap room ++ ((c ∷ rest) ++ after)))) b in
     record { chunks = b.exact ∙ sym (append_assoc before done (gap room ++ c ∷ (rest ++ after))); there = omega (arith, from, both, starts, there) }
 
--- behind a chunk that is packed: the old image, what is packed and what is left of the chunks
+-- after a chunk that is packed: the old image, what is packed and what is left of the chunks
 record Behind (old new : List ℕ) (before mid after : List Chunk) (start end at moved room : ℕ) (done : List Chunk) (c : Chunk) (rest : List Chunk) (size more room_then : ℕ) : Type 0 where
   pub becomes : BecomesExactly old new (before ++ (done ++ (packed_one room c ++ (rest ++ after))))
   pub packs : done ++ packed_behind room (c ∷ rest) ≡ packed mid
@@ -344,7 +344,7 @@ packing_on old image new start end at moved room size more room_then w run on p 
     let to = run.run.to in
     record { on = omega (arith, least, size_is); within = omega (arith, ends); few = omega (arith, sum, few, to) }
 
--- the room behind what is packed
+-- the room after what is packed
 pub room_packed : (old image : List ℕ) (start end at moved room : ℕ) → PacksUpTo old image start end at moved room → IsRun old start end → (room ≤ at) × (0 < room → IsFreeChunk image (at - room) room)
 room_packed old image start end at moved room w run =
     let k = w run.before run.mid run.after run.run in
@@ -406,7 +406,7 @@ compacted_whole old new start end h from to p =
 pub whole_exact : (old new : List ℕ) (start end : ℕ) → HeapAccepted old → start ≡ area_start old → end ≡ length old → Packs old new start end → chunks_of new ≡ packed (chunks_of old)
 whole_exact old new start end h from to p = (p [] (chunks_of old) [] (run_whole old start end h from to)).exact ∙ append-nil (packed (chunks_of old))
 
--- the header behind room misses what is lent
+-- the header after room misses what is lent
 pub behind_misses : (m : Memory) (before : List Chunk) (chunk : Chunk) (after : List Chunk) (at room : ℕ) → HeapAccepted m.bytes → LendsABody m → BehindRoom m.bytes before chunk after at room → Misses m.lent at 8
 behind_misses m before chunk after at room h l b =
     let there = b.there in

@@ -26,7 +26,7 @@ use Rattle.heap_place.proofs.RunLaws.{ends_behind}
 use Rattle.heap_place.proofs.TakeLaws.{becomes_links}
 use Rattle.heap_place.proofs.WithinLaws.{named_apart}
 
--- the free chunks behind it, as room
+-- the free chunks after it, as room
 pub run_spot : (image : List ℕ) (found : Found) (own behind : ℕ) → own ≡ need found.length → RunBehind image found behind → IsSpot image (found.place.0 - 8 + own) behind
 run_spot image found own behind e r =
     let ends = ends_behind image found own e r.one in
@@ -127,7 +127,7 @@ resized_rest old new found count behind left h r w is some = by_gap left (chunks
 
 -- ---- the lists
 
--- those without the free chunks behind it, after the resize
+-- those without the free chunks after it, after the resize
 pub resized_lists : (old mid heads : List ℕ) (found : Found) (own behind : ℕ) → own ≡ need found.length → HeapAccepted old → RunBehind old found behind → KeepsFree (Outside (found.place.0 - 8) (need found.length + behind)) old mid → AreLists (Outside (found.place.0 - 8 + own) behind) old heads
     → AreLists (Outside (found.place.0 - 8) (need found.length + behind)) mid heads
 resized_lists old mid heads found own behind e h r keeps lists =

@@ -1,4 +1,4 @@
--- A live chunk of an accepted heap is made free, with the free chunk behind it.
+-- A live chunk of an accepted heap is made free, with the free chunk after it.
 use Rattle.std.proofs.Common.{◌≡◌, ◌≢◌, ℕ, ◌+◌, ◌-◌, ◌%◌, ◌^◌, ◌<◌, ◌≤◌, List, [], ◌∷◌, ◌++◌, length, refl, sym, ap, subst, ◌∙◌, arith, inl, inr}
 use Rattle.heap_model.specs.Bytes.{u32_at, u32_bytes, overwritten}
 use Rattle.heap_model.specs.Chunk.{Chunk, need, free, movable, fixed, fixed_lock, size_of, total, Spelled, SpelledAll}
@@ -37,7 +37,7 @@ use Rattle.heap_place.specs.Search.{size_if_free, free_size_at, Emptied}
 use Rattle.heap_place.proofs.FoundLaws.{heap_in_parts, Middle, middle_of, own_slot, found_size}
 use Rattle.heap_place.proofs.CutLaws.{has_free}
 
--- ---- the free chunk behind
+-- ---- the free chunk after
 
 -- the free chunks with which those at an offset begin, as one is read there
 record Behind (image : List ℕ) (at : ℕ) (after : List Chunk) : Type 0 where
@@ -53,7 +53,7 @@ behind image at (free size ∷ after) s = record { run = free size ∷ []; rest 
 behind image at (movable bytes lock owner slot ∷ after) s = record { run = []; rest = movable bytes lock owner slot ∷ after; parts = refl; all_free = tt; sums = ap size_if_free (chunk_at-spelled image at (movable bytes lock owner slot) s.0) }
 behind image at (fixed bytes owner ∷ after) s = record { run = []; rest = fixed bytes owner ∷ after; parts = refl; all_free = tt; sums = ap size_if_free (chunk_at-spelled image at (fixed bytes owner) s.0) }
 
--- a chunk that is found at an offset, and the free chunk behind it
+-- a chunk that is found at an offset, and the free chunk after it
 pub record Giving (image : List ℕ) (at : ℕ) (chunk : Chunk) : Type 0 where
   pub before : List Chunk
   pub run : List Chunk
@@ -71,7 +71,7 @@ alone image at name live chunk accepted f =
     let m = middle_of image f.before (chunk ∷ []) f.after at heap f.there in
     record { before = f.before; run = []; rest = f.after; chunks = f.chunks; heap = heap; all_free = tt; middle = m; spelled = m.spelled.0 }
 
--- with the free chunk behind it
+-- with the free chunk after it
 pub giving : (image : List ℕ) (at name : ℕ) (live : LiveChunk) (chunk : Chunk) → HeapAccepted image → Finds image name live chunk at → (g : Giving image at chunk) × (free_size_at image (at + size_of chunk) ≡ total g.run)
 giving image at name live chunk accepted f =
     let first = middle_of image f.before (chunk ∷ []) f.after at (heap_in_parts image (f.before ++ chunk ∷ f.after) accepted f.chunks) f.there in

@@ -37,7 +37,7 @@ use Rattle.laws_heap.proofs.Slots.{slot_facts, HoldNoSlots}
 use Rattle.laws_heap.proofs.Chunks.{movable_body, callers_body}
 use Rattle.heap_place.proofs.CutLaws.{gap_spelled, gap_plain, rest_within, header_movable, header_fixed, wrote_words}
 
--- ---- where the chunk and the free ones behind it lie
+-- ---- where the chunk and the free ones after it lie
 
 pub record RunFacts (image : List ℕ) (found : Found) (behind : ℕ) : Type 0 where
   pub low : 8 ≤ found.place.0
@@ -116,7 +116,7 @@ sized_writable image found count behind h r fits =
 
 -- ---- the bytes
 
--- bytes at an offset, where zeros were written behind them if there are to be more
+-- bytes at an offset, where zeros were written after them if there are to be more
 sized_body : (old filled new : List ℕ) (at count : ℕ) (bytes : List ℕ) → slice_range old (at + 8) (at + 8 + length bytes) ≡ bytes → at + 8 + length bytes ≤ length old → at + 8 + count ≤ length old → filled ≡ overwritten old (at + 8 + length bytes) (replicate (count - length bytes) 0)
     → SameBetween (at + 8) (at + 8 + count) filled new → length filled ≡ length old → length new ≡ length old → slice_range new (at + 8) (at + 8 + count) ≡ sized_to bytes count
 unfolding overwritten
@@ -234,7 +234,7 @@ wrote_header old new at (fixed bytes owner) n inside is = wrote_words old new at
 
 -- ---- the writes
 
--- the chunk, with what is left of the free ones behind it, stands in their place
+-- the chunk, with what is left of the free ones after it, stands in their place
 pub record WasResized (old new : List ℕ) (found : Found) (count behind : ℕ) (r : RunBehind old found behind) : Type 0 where
   pub becomes : Becomes old new (r.one.finds.before ++ ((with_length count r.one.chunk ∷ gap (size_of r.one.chunk + behind - need count)) ++ r.rest))
   pub plain : WritesPlain old new

@@ -70,7 +70,7 @@ pub record EndsInRun (image : List ℕ) (at run_size : ℕ) (cs : List Chunk) : 
   pub sums : run_size ≡ total run
   pub apart : KeepsApart front
 
--- behind a live chunk
+-- after a live chunk
 pub live_keeps : (cs : List Chunk) (c : Chunk) → IsNotFree c → KeepsApart (cs ++ c ∷ [])
 live_keeps cs c live others =
     ap merged (append_assoc cs (c ∷ []) others) ∙ merged-live cs c others live ∙ sym (append_assoc (merged cs) (c ∷ []) (merged others)) ∙ ap (λ (xs : List Chunk). xs ++ merged others) (sym (merged-live cs c [] live))
@@ -125,7 +125,7 @@ search_size image size at run_size h s found =
       within (headers.Movable count lock owner slot) fits = omega arith
       within (headers.Fixed count owner) fits = omega arith
 
--- the walk goes on behind a chunk
+-- the walk goes on after a chunk
 pushed : (image : List ℕ) (size at run_size : ℕ) (h : Header) → (s : Searched image size at run_size) → (found : HasHeader image at h) → SpelledAll image (area_start image) ((s.front ++ s.run) ++ found.chunk ∷ []) (at + size_by h)
 pushed image size at run_size h s found =
     SpelledAll-push image (area_start image) (s.front ++ s.run) at found.chunk (at + size_by h) s.spelled found.spelled (ap (λ (n : ℕ). at + n) (ap size_by found.header_is ∙ size_by-header_of found.chunk))

@@ -29,7 +29,7 @@ short_run : (size : ℕ) (run : List Chunk) → room_of run < size → All (λ r
 short_run size [] low = All-nil (λ room. room < size)
 short_run size (c ∷ run) low = All-cons (λ room. room < size) (room_of (c ∷ run)) [] low (All-nil (λ room. room < size))
 
--- behind chunks that end with one that stays
+-- after chunks that end with one that stays
 short_behind : (size : ℕ) (closed run after : List Chunk) (runs : List (List Chunk)) → EndsStaying closed → NoneStays run → runs_between after ≡ [] ∷ runs → filter has_chunk runs ≡ [] → All (λ room. room < size) (rooms_of (stretches closed)) → room_of run < size
     → All (λ room. room < size) (rooms_of (stretches (closed ++ (run ++ after))))
 short_behind size closed run after runs ends none begins empty short low =

@@ -1,4 +1,4 @@
--- The free chunks directly behind a live one are found, and it grows over them.
+-- The free chunks directly after a live one are found, and it grows over them.
 use Rattle.std.proofs.Common.{◌≡◌, ℕ, ◌+◌, ◌-◌, ◌<◌, ◌≤◌, true, false, List, [], ◌∷◌, ◌++◌, length, Some, refl, sym, ap, subst, ◌∙◌, append_assoc, arith}
 use Rattle.heap_model.specs.Chunk.{Chunk, need, free, movable, fixed, size_of, HasChunk, SpelledAll}
 use Rattle.heap_model.specs.Slots.{area_start}
@@ -114,7 +114,7 @@ run_done image at end size r none before after x =
     let all = k.sums in
     omega arith
 
--- ---- behind a chunk that was found
+-- ---- after a chunk that was found
 
 pub ends_behind : (image : List ℕ) (found : Found) (own : ℕ) → own ≡ need found.length → (f : IsOne image found) → Ends image (found.place.0 - 8 + own) (f.finds.before ++ f.chunk ∷ []) f.finds.after
 ends_behind image found own e f =
@@ -129,7 +129,7 @@ bound_behind image found own e f = record { before = f.finds.before ++ f.chunk �
 pub free_behind_found : (image : List ℕ) (found : Found) (own behind : ℕ) → own ≡ need found.length → (f : IsOne image found) → BeginsWithFree image (found.place.0 - 8 + own) behind → behind ≡ free_front f.finds.after
 free_behind_found image found own behind e f b = b (f.finds.before ++ f.chunk ∷ []) f.finds.after (ends_behind image found own e f)
 
--- all of the free chunks with which those behind it begin
+-- all of the free chunks with which those after it begin
 pub all_behind : (image : List ℕ) (found : Found) (behind : ℕ) → (f : IsOne image found) → behind ≡ free_front f.finds.after → RunBehind image found behind
 all_behind image found behind f e = let p = front_parts f.finds.after in record { one = f; run = p.run; rest = behind_front f.finds.after; parts = p.parts; all_free = p.all_free; sums = e ∙ sym p.sums }
 
@@ -166,7 +166,7 @@ pub bound_misses : (m : Memory) (at : ℕ) → HeapAccepted m.bytes → LendsABo
 bound_misses m at h l b inside =
     walked_misses m b.before at h l (subst (λ (n : ℕ). SpelledAll m.bytes (area_start m.bytes) b.before n) (sym b.ends.there) (SpelledAll-split m.bytes (area_start m.bytes) b.before b.after (length m.bytes) (heap_in_parts m.bytes (b.before ++ b.after) h b.ends.chunks).tiles.area).0) inside
 
--- and behind a free chunk that stands there
+-- and after a free chunk that stands there
 pub bound_on : (image : List ℕ) (at size : ℕ) → HeapAccepted image → IsBound image at → size ≡ free_size_at image at → 0 < size → IsBound image (at + size)
 bound_on image at size h b is some = by_rest b.after b.ends.chunks (subst (λ (n : ℕ). SpelledAll image n b.after (length image)) (sym b.ends.there) (SpelledAll-split image (area_start image) b.before b.after (length image) (heap_in_parts image (b.before ++ b.after) h b.ends.chunks).tiles.area).1) where
   on : (c : Chunk) (cs : List Chunk) → chunks_of image ≡ b.before ++ c ∷ cs → chunk_at image at ≡ Some c → IsBound image (at + size)

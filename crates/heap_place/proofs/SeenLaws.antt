@@ -110,7 +110,7 @@ ends_before image here at c v (d ∷ rest) s p q stay goes =
     let last = SpelledAll-end image (here + size_of d) rest at s.1 in
     omega (arith, same, last)
 
--- behind one that stays
+-- after one that stays
 unfoldable pub seen_closed : (image : List ℕ) (at later start here size : ℕ) (header : Header) → SeenUpTo image at start here → HasHeader image here header → size ≡ size_by header → HeaderStays header → here + size ≤ later → SeenUpTo image later (here + size) (here + size)
 seen_closed image at later start here size header s f e stay low =
     let same : size ≡ size_of f.chunk = e ∙ ap size_by f.header_is ∙ size_by-header_of f.chunk in
@@ -144,7 +144,7 @@ found_back : (image : List ℕ) (at here : ℕ) (v : Chunk) (run front rest : Li
 found_back image at here v run front [] e s p low = absurd (omega (arith, s, low))
 found_back image at here v run front (d ∷ rest) e s p low = (rest, e ∙ ap (λ (x : Chunk). front ++ x ∷ rest) (Spelled-unique image at d v s.0 p))
 
--- the run has the chunk, with some in front of it and some behind it
+-- the run has the chunk, with some in front of it and some after it
 among : (image : List ℕ) (at name count start here : ℕ) (front back after : List Chunk) → (u : IsUnlocked image at name count) → (s : SeenUpTo image at start here) → SpelledAll image (area_start image + total s.closed) front at → SpelledAll image (area_start image + total s.closed) s.run here
     → s.run ≡ front ++ movable u.bytes 0 u.owner name ∷ back → chunks_of image ≡ (s.closed ++ s.run) ++ after → BeginsStaying after → IsAmongAt image at name count (record { start = start; end = here })
 among image at name count start here front back after u s spelled whole run_is chunks begins =

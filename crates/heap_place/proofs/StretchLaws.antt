@@ -1,4 +1,4 @@
--- The chunks of a stretch are packed, and then room is opened behind one of them.
+-- The chunks of a stretch are packed, and then room is opened after one of them.
 use Rattle.std.proofs.Common.{◌≡◌, ℕ, zero, suc, ◌+◌, ◌-◌, ◌<◌, ◌≤◌, List, [], ◌∷◌, ◌++◌, length, refl, sym, ap, subst, ◌∙◌, append_assoc, arith}
 use Rattle.std.proofs.lemmas.List.{append-nil}
 use Rattle.std.proofs.lemmas.List.Sums.{sum_by-cons}
@@ -86,7 +86,7 @@ staying_keeps : (cs : List Chunk) → EndsStaying cs → KeepsApart cs
 staying_keeps [] stay = λ others. refl
 staying_keeps (c ∷ cs) stay = let e = end_split c cs stay in subst KeepsApart (sym e.2) (live_keeps e.0 e.1 e.3)
 
--- so do live ones behind them
+-- so do live ones after them
 lives_keep : (before mid : List Chunk) → KeepsApart before → KeepsApart (before ++ lives mid)
 lives_keep before [] k = subst KeepsApart (sym (append-nil before)) k
 lives_keep before (free size ∷ mid) k = lives_keep before mid k
@@ -140,7 +140,8 @@ opened_alike before front c back after others fore d rear later e f g k =
 
 -- ---- room is opened in a packed stretch
 
--- the chunk that was found is one of the stretch; the stretch is packed, with so much room at its end
+-- the chunk that was found is one of the stretch; the stretch is packed, with all of its room at
+-- its end
 module _ (old mid : List ℕ) (at name count : ℕ) (stretch : Stretch) (room : ℕ) (h : HeapAccepted old) (a : IsAmongAt old at name count stretch) (packs : Packs old mid stretch.start stretch.end) (leaves : LeavesRoom old stretch.start stretch.end room) where
   abbrev v : Chunk
   v = movable a.bytes 0 a.owner name

@@ -67,7 +67,7 @@ total_push : (before : List Chunk) (size : ℕ) → total (before ++ free size �
 total_push [] size = omega arith
 total_push (c ∷ before) size = let e = total_push before size in omega arith
 
--- the free chunk behind what was cut off
+-- the free chunk after what was cut off
 pub rest_chunk : (old mid : List ℕ) (at room size : ℕ) → Becomes old mid (chunks_of old) → (r : IsSpot old at room) → CutsRoom old mid at room size → size < room → IsFreeChunk mid (at + size) (room - size)
 rest_chunk old mid at room size b r cut less = by_gap (room - size) (cut r) (omega arith) where
   by_gap : (left : ℕ) → chunks_of mid ≡ r.before ++ (free size ∷ (gap left ++ r.after)) → 0 < left → IsFreeChunk mid (at + size) left

@@ -1,4 +1,5 @@
--- What is written in a live chunk behind its first word, and in front of the chunks, keeps the free chunks.
+-- What is written in a live chunk after its first word, and in front of the chunks, keeps the free
+-- chunks.
 use Rattle.std.proofs.Common.{◌≡◌, ℕ, ◌+◌, ◌-◌, ◌≤◌, List, [], ◌∷◌, ◌++◌, length, replicate, refl, sym, ap, subst, ◌∙◌, arith, inl, inr, length-append, length-take, length-drop}
 use Rattle.std.specs.Prelude.{slice_range}
 use Rattle.std.proofs.lemmas.List.{length-replicate}

@@ -1,4 +1,4 @@
--- A live chunk, as it is found.
+-- A live chunk that was found.
 use Rattle.std.specs.Prelude.{◌≡◌, ◌<◌, ◌≤◌, ◌+◌, ◌-◌, ◌==◌, ◌&&◌, nat_lt, if◌then◌else◌, ℕ, List, length, slice_range, Option, Some, None}
 use Rattle.heap_model.specs.Chunk.{Chunk, fixed, fixed_lock, managers_owner, data_owner}
 use Rattle.heap_model.specs.Heap.{directory_of}
@@ -15,11 +15,11 @@ use Rattle.chunk_format.specs.declared.header.Header.{Header}
 use Rattle.chunk_format.specs.declared.header.Header.TheVariants as headers
 use Rattle.heap_place.specs.declared.found.Found.{Found}
 
--- where the header of a found chunk is
+-- the offset of the header of a found chunk
 abbrev pub header_at : Found → ℕ
 header_at found = found.place.0 - 8
 
--- a name's chunk was found, whoever owns it
+-- `found` describes the chunk of a name, whoever owns it
 pub record IsFound (image : List ℕ) (name : ℕ) (found : Found) : Type 0 where
   pub live : LiveChunk
   pub chunk : Chunk
@@ -30,7 +30,7 @@ pub record IsFound (image : List ℕ) (name : ℕ) (found : Found) : Type 0 wher
   pub lock_is : found.lock ≡ live.lock
   pub owner_is : found.owner ≡ live.owner
 
--- this is the chunk of its name
+-- `found` describes the chunk of its own name
 abbrev pub IsOne : List ℕ → Found → Type 0
 IsOne image found = IsFound image found.name.0 found
 
@@ -42,29 +42,32 @@ pub record IsFixed (image : List ℕ) (name : ℕ) : Type 0 where
   pub finds : Finds image name live (fixed bytes owner) (name - 8)
   pub behind_header : 8 ≤ name
 
--- no name has its chunk at this place
+-- no name has a chunk whose body is at this place
 abbrev pub NothingAt : List ℕ → ℕ → Type 0
 NothingAt image place = (name : ℕ) → place_of image name ≡ Some place → ⊥
 
--- A found chunk can go to this owner. A locked one can't be the manager's, and a fixed one only a
--- caller's; the directory's stays the manager's.
+-- A found chunk may get this owner. A locked one may not become the manager's, and a fixed one may
+-- belong only to a caller. The directory stays the manager's.
 pub record CanGoTo (image : List ℕ) (found : Found) (owner : ℕ) : Type 0 where
   pub fits : owner ≤ data_owner
   pub locked : 0 < found.lock → 0 < owner
   pub fixed : found.lock ≡ fixed_lock → owner < data_owner
   pub directory : found.name.0 ≡ directory_of image → owner ≡ 0
 
--- some bytes of the body of a found chunk stand at another offset within it too, as they were before
+-- `count` bytes of the body of a found chunk, from offset `from` on, are copied to offset `to`
+-- within it; the copy has the bytes from before
 abbrev pub SlidesWithin : List ℕ → List ℕ → Found → ℕ → ℕ → ℕ → Type 0
 SlidesWithin old new found from to count = Alters old new (header_at found) (with_bytes to (slice_range old (found.place.0 + from) (found.place.0 + from + count)))
 
--- what a header says of the movable chunk whose body is at a place
+-- the movable chunk whose body is at a place, by its header; None if the header is not a movable
+-- one's
 abbrev pub movable_by : Header → Place → Option Found
 movable_by (headers.Free size) place = None
 movable_by (headers.Movable length lock owner slot) place = Some (record { name = record { 0 = slot }; place = place; length = length; lock = lock; owner = owner })
 movable_by (headers.Fixed length owner) place = None
 
--- what a header says of a fixed chunk of this name, no table, whose body is at a place
+-- the fixed chunk of this name whose body is at a place, by its header; None for every other
+-- header, and for a chunk of the manager's
 abbrev pub fixed_by : Header → Place → Name → Option Found
 fixed_by (headers.Free size) place name = None
 fixed_by (headers.Movable length lock owner slot) place name = None
@@ -74,11 +77,12 @@ fixed_by (headers.Fixed length owner) place name = if (place.0 == name.0) && nat
 abbrev pub NoneFixedAs : List ℕ → ℕ → List Chunk → Type 0
 NoneFixedAs image name chunks = EveryPlaced (NotFixedAs name) (area_start image) chunks
 
--- no slot holds the place
+-- no slot contains the place
 abbrev pub NoSlotHolds : List ℕ → ℕ → Type 0
 NoSlotHolds image place = (name : ℕ) → HoldsPlace image name place → ⊥
 
--- what a header says of a chunk of an owner whose body is at a place
+-- the chunk of this owner whose body is at a place, by its header; None if the header is a free
+-- chunk's or another owner's
 abbrev pub owned_by : Header → Place → ℕ → Option Found
 owned_by (headers.Free size) place owner = None
 owned_by (headers.Movable length lock own slot) place owner = if own == owner then Some (record { name = record { 0 = slot }; place = place; length = length; lock = lock; owner = owner }) else None

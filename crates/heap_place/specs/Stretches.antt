@@ -1,4 +1,4 @@
--- Stretches of an image, by where they begin and end, and the search for one.
+-- Stretches of an image, by their starts and ends, and the search for one.
 use Rattle.std.specs.Prelude.{◌≡◌, ◌+◌, ◌-◌, ◌++◌, ◌≤◌, ◌<◌, max, ℕ, zero, suc, List, [], ◌∷◌, length, All}
 use Rattle.heap_model.specs.Chunk.{Chunk, free, movable, fixed, total, SpelledAll}
 use Rattle.heap_model.specs.Slots.{area_start}
@@ -10,37 +10,37 @@ use Rattle.heap_place.specs.declared.found.Found.{Found}
 use Rattle.heap_place.specs.Found.{header_at}
 use Rattle.heap_place.specs.declared.stretch.Stretch.{Stretch}
 
--- these chunks are a whole stretch, and it stands there
+-- the chunks `mid` are a whole stretch, and `stretch` has its start and end
 pub record StretchIs (image : List ℕ) (before mid after : List Chunk) (stretch : Stretch) : Type 0 where
   pub whole : WholeStretch image before mid after
   pub from : stretch.start ≡ area_start image + total before
   pub to : stretch.end ≡ stretch.start + total mid
 
--- a whole stretch stands there
+-- `stretch` is the place of a whole stretch
 pub record IsStretch (image : List ℕ) (stretch : Stretch) : Type 0 where
   pub before : List Chunk
   pub mid : List Chunk
   pub after : List Chunk
   pub is : StretchIs image before mid after stretch
 
--- the chunks of the stretch are packed, in the layout, and all others are as they were
+-- in the layout the chunks of the stretch are packed, and all others are as they were
 abbrev pub PacksStretch : List ℕ → List ℕ → Stretch → Type 0
 PacksStretch old new stretch = (before mid after : List Chunk) → StretchIs old before mid after stretch → Becomes old new (before ++ (packed mid ++ after))
 
--- a count of slid bytes has risen by just what moves of it then
+-- a count of slid bytes has risen by exactly the bytes that packing the stretch moves
 abbrev pub SlidesStretch : List ℕ → Stretch → ℕ → ℕ → Type 0
 SlidesStretch image stretch old new = (before mid after : List Chunk) → StretchIs image before mid after stretch → new ≡ old + moved_by_packing mid
 
--- so much room a stretch has
+-- a stretch has `room` bytes of room
 abbrev pub HasRoomOf : List ℕ → Stretch → ℕ → Type 0
 HasRoomOf image stretch room = (before mid after : List Chunk) → StretchIs image before mid after stretch → room ≡ room_of mid
 
--- so much room it has, and all of it stands at its end then
+-- a stretch had `room` bytes of room, and all of it is now at the end of the stretch
 pub record RoomAtEnd (old new : List ℕ) (stretch : Stretch) (room : ℕ) : Type 0 where
   pub all_room : HasRoomOf old stretch room
   pub at_end : 0 < room → IsRoom new (stretch.end - room) room
 
--- a movable chunk without locks and with so many bytes, which names this slot, stands at an offset
+-- a movable chunk without locks and with `count` bytes, which names the slot `name`, begins at `at`
 pub record IsUnlocked (image : List ℕ) (at name count : ℕ) : Type 0 where
   pub before : List Chunk
   pub bytes : List ℕ
@@ -50,7 +50,8 @@ pub record IsUnlocked (image : List ℕ) (at name count : ℕ) : Type 0 where
   pub there : at ≡ area_start image + total before
   pub many : count ≡ length bytes
 
--- it is one of this stretch
+-- a movable chunk without locks and with `count` bytes, which names the slot `name`, begins at `at`
+-- and belongs to this stretch
 pub record IsAmongAt (image : List ℕ) (at name count : ℕ) (stretch : Stretch) : Type 0 where
   pub before : List Chunk
   pub front : List Chunk
@@ -62,18 +63,18 @@ pub record IsAmongAt (image : List ℕ) (at name count : ℕ) (stretch : Stretch
   pub there : at ≡ area_start image + total before + total front
   pub many : count ≡ length bytes
 
--- the same of a chunk that was found
+-- the same for a chunk that was found
 abbrev pub IsAmong : List ℕ → Found → Stretch → Type 0
 IsAmong image found stretch = IsAmongAt image (header_at found) found.name.0 found.length stretch
 
--- The room of its stretch is directly behind a movable chunk without locks, and these very chunks stand
--- there: the room is one free chunk.
+-- The room of its stretch is directly after the movable chunk without locks at `at`. The image has
+-- exactly these chunks, so that the room is one free chunk.
 abbrev pub OpensExactly : List ℕ → List ℕ → ℕ → Type 0
 OpensExactly old new at =
     (before front : List Chunk) (bytes : List ℕ) (owner slot : ℕ) (back after : List Chunk) → WholeStretch old before (front ++ movable bytes 0 owner slot ∷ back) after
     → at ≡ area_start old + total before + total front → chunks_of new ≡ before ++ (opened front (movable bytes 0 owner slot) back ++ after)
 
--- the search has come to an offset, and the last chunk that stays ends at another, not behind `at`
+-- the search is at `here`, and the last chunk that stays ends at `start`, at or before `at`
 pub record SeenUpTo (image : List ℕ) (at start here : ℕ) : Type 0 where
   pub closed : List Chunk
   pub run : List Chunk
@@ -86,7 +87,7 @@ pub record SeenUpTo (image : List ℕ) (at start here : ℕ) : Type 0 where
 
 -- ---- the search for room
 
--- a whole stretch stands there, and its room has so many bytes
+-- `stretch` is the place of a whole stretch whose room has `size` bytes
 pub record HasRoom (image : List ℕ) (size : ℕ) (stretch : Stretch) : Type 0 where
   pub before : List Chunk
   pub mid : List Chunk
@@ -94,14 +95,15 @@ pub record HasRoom (image : List ℕ) (size : ℕ) (stretch : Stretch) : Type 0 
   pub is : StretchIs image before mid after stretch
   pub enough : size ≤ room_of mid
 
--- the search has come to an offset: the stretches up to the last chunk that stays are short of a size,
--- and behind it there is so much room so far
+-- the search is at `here`: every stretch before the last chunk that stays has less than `size`
+-- bytes of room; after that chunk there are `room` bytes of room so far
 pub record SeenRooms (image : List ℕ) (size start here room : ℕ) : Type 0 where
   pub seen : SeenUpTo image start start here
   pub room_is : room ≡ room_of seen.run
   pub short : All (λ other. other < size) (rooms_of (stretches seen.closed))
 
--- the greatest room of some chunks, where so much room of their first stretch is in front of them
+-- the greatest room of the stretches of some chunks, if `room` bytes of room of their first stretch
+-- are before them
 abbrev pub greatest_behind : ℕ → List Chunk → ℕ
 greatest_behind room [] = room
 greatest_behind room (free size ∷ chunks) = greatest_behind (room + size) chunks
@@ -109,14 +111,16 @@ greatest_behind room (movable bytes zero owner slot ∷ chunks) = greatest_behin
 greatest_behind room (movable bytes (suc count) owner slot ∷ chunks) = max room (greatest_behind 0 chunks)
 greatest_behind room (fixed bytes owner ∷ chunks) = max room (greatest_behind 0 chunks)
 
--- of some chunks the last stretch has so much room, and the greatest of those in front of it is `largest`
+-- the last stretch of some chunks has `room` bytes of room, and the greatest room of those before
+-- it is `largest`
 pub record HaveRooms (largest room : ℕ) (chunks : List Chunk) : Type 0 where
   pub on : (others : List Chunk) → greatest_behind 0 (chunks ++ others) ≡ max largest (greatest_behind room others)
   pub fits : room ≤ total chunks
 
 -- ---- the room of one stretch
 
--- a walk over some chunks, which begin at an offset, has come to another, and passed so much room
+-- a walk over the chunks `mid`, which begin at `start`, is at `at`, and has passed `room` bytes of
+-- room
 pub record Summed (mid : List Chunk) (start at room : ℕ) : Type 0 where
   pub front : List Chunk
   pub rest : List Chunk
@@ -124,5 +128,6 @@ pub record Summed (mid : List Chunk) (start at room : ℕ) : Type 0 where
   pub there : at ≡ start + total front
   pub sums : room ≡ room_of front
 
+-- a walk over the chunks of a stretch is at `at`, and has passed `room` bytes of room
 abbrev pub SumsUpTo : List ℕ → Stretch → ℕ → ℕ → Type 0
 SumsUpTo image stretch at room = (before mid after : List Chunk) → StretchIs image before mid after stretch → Summed mid stretch.start at room

@@ -1,4 +1,4 @@
-//! Another lock count or owner for a live chunk.
+//! Changes the lock count or the owner of a live chunk.
 #![tactic(auto, using(laws_heap::proofs::LentBodies::frame_within, laws_heap::proofs::LentBodies::table_within))]
 
 ghost use Rattle.std.specs.Prelude.{◌≡◌, ◌<◌, ◌-◌, ◌⊎◌};

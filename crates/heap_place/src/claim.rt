@@ -1,4 +1,4 @@
-//! A live chunk is made at the front of room.
+//! Makes a live chunk at the start of room.
 #![tactic(auto, using(laws_heap::proofs::LentBodies::frame_within, laws_heap::proofs::LentBodies::table_within, laws_heap::proofs::Lending::part_misses))]
 
 ghost use Rattle.std.specs.Prelude.{◌≡◌, ◌≤◌, ◌<◌, ◌+◌, ◌%◌, ◌^◌, length, replicate, true};
@@ -20,7 +20,7 @@ use heap_model::{Name, Place};
 use master_table::add_table;
 use raw_region::Region;
 
-/// Makes the front of a run of free chunks one free chunk of `size` bytes, and what is left another.
+/// Makes the start of a run of free chunks one free chunk of `size` bytes, and the rest another.
 pub(crate) fn cut(region: &mut Region, room: Room, size: u32)
     requires accepted { HeapAccepted region.old.bytes }
     requires lent { LendsABody region.old }
@@ -39,7 +39,7 @@ pub(crate) fn cut(region: &mut Region, room: Room, size: u32)
     Header::Free { size }.write(region, room.at);
 }
 
-/// Writes the header of a free chunk of `size` bytes at `at`, unless there are none.
+/// Writes the header of a free chunk of `size` bytes at `at`, unless `size` is 0.
 #[inline(always)]
 pub(crate) fn write_rest(region: &mut Region, at: u32, size: u32)
     requires inside { at + size ≤ length region.old.bytes }
@@ -54,7 +54,7 @@ pub(crate) fn write_rest(region: &mut Region, at: u32, size: u32)
     }
 }
 
-/// Makes the free chunk at `at` a movable one of zeros.
+/// Makes the free chunk at `at` a movable one of `count` zeros.
 pub(crate) fn claim_movable(region: &mut Region, at: u32, slot: Name, count: u32, owner: u8)
     requires accepted { HeapAccepted region.old.bytes }
     requires lent { LendsABody region.old }
@@ -80,7 +80,7 @@ pub(crate) fn claim_movable(region: &mut Region, at: u32, slot: Name, count: u32
     master_table::set(region, slot, Place(at + HEADER_SIZE));
 }
 
-/// Makes the free chunk at `at` a fixed one of zeros.
+/// Makes the free chunk at `at` a fixed one of `count` zeros.
 pub(crate) fn claim_fixed_at(region: &mut Region, at: u32, count: u32, owner: u8)
     requires accepted { HeapAccepted region.old.bytes }
     requires lent { LendsABody region.old }

@@ -1,4 +1,4 @@
-//! A live chunk, as it is found.
+//! A live chunk that was found.
 
 ghost use Rattle.std.specs.Prelude.{◌≡◌, ◌<◌, ◌^◌};
 ghost use Rattle.heap_model.specs.Chunk.{need};
@@ -7,8 +7,8 @@ ghost use Rattle.heap_place.specs.Found.{movable_by, fixed_by};
 use chunk_format::{FIXED_LOCK, Header, MANAGERS_OWNER};
 use heap_model::{Name, Place};
 
-/// A live chunk: its name, where its body is, how many bytes that has, its lock (15 if it is fixed) and
-/// its owner.
+/// A live chunk: its name, the place and the length of its body in bytes, its lock (15 if it is
+/// fixed) and its owner.
 #[derive(Clone, Copy, Debug, PartialEq, Eq)]
 pub struct Found {
     pub name: Name,
@@ -18,7 +18,7 @@ pub struct Found {
     pub owner: u8,
 }
 
-/// The chunk whose body is at a place, if its header is a movable one's.
+/// Returns the chunk whose body is at a place, if its header is a movable one's.
 #[inline]
 pub(crate) fn as_movable(header: Header, place: Place) -> Option<Found>
     ensures { result ≡ movable_by header place }
@@ -40,7 +40,8 @@ pub(crate) fn as_movable(header: Header, place: Place) -> Option<Found>
     }
 }
 
-/// The chunk whose body is at a place, if its header is a fixed one's, but no table's, and its name is this.
+/// Returns the chunk of this name whose body is at a place, if its header is a fixed one's. A table
+/// is not returned.
 #[inline]
 pub(crate) fn as_fixed(header: Header, place: Place, name: Name) -> Option<Found>
     ensures { result ≡ fixed_by header place name }

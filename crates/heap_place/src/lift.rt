@@ -1,4 +1,4 @@
-//! Chunks are lifted over the free chunk behind them.
+//! Lifts chunks over the free chunk after them.
 #![tactic(auto, using(laws_heap::proofs::Lending::part_within))]
 
 ghost use Rattle.std.specs.Prelude.{◌≡◌, ◌+◌, ◌-◌, ◌<◌, ◌^◌, length};
@@ -12,8 +12,8 @@ use chunk_format::{HEADER_SIZE, Header};
 use heap_model::{Name, Place};
 use raw_region::Region;
 
-/// Moves the live chunks from `start` up to `end` behind the free chunk that follows them, whose size is
-/// `gap`: their bytes in one slide, and then each one's slot and the way to it in turn.
+/// Moves the live chunks from `start` up to `end` over the free chunk that follows them, whose size
+/// is `gap`. Their bytes move in one slide. Then each chunk's header and slot are mended in turn.
 pub(crate) fn lift(region: &mut Region, start: u32, end: u32, gap: u32)
     requires accepted { HeapAccepted region.old.bytes }
     requires lent { LendsABody region.old }
@@ -29,7 +29,7 @@ pub(crate) fn lift(region: &mut Region, start: u32, end: u32, gap: u32)
     mend(region, start + gap, end + gap, gap);
 }
 
-/// Mends the chunks from `start` up to `end`, whose bytes were carried up by `gap`.
+/// Mends the chunks from `start` up to `end`, whose bytes were moved up by `gap`.
 fn mend(region: &mut Region, start: u32, end: u32, gap: u32)
     requires carried { AreCarried region.old.bytes gap start end }
     requires table { HasTable region.old }
@@ -44,8 +44,8 @@ fn mend(region: &mut Region, start: u32, end: u32, gap: u32)
     }
 }
 
-/// Mends the chunk at `at`, whose bytes were carried up by `gap`, and answers its size: a movable one
-/// names its slot again, and the slot holds its place.
+/// Mends the chunk at `at`, whose bytes were moved up by `gap`, and returns its size. If it is
+/// movable, it names its slot again, and the slot contains its place.
 fn mend_one(region: &mut Region, at: u32, gap: u32) -> u32
     requires carried { IsCarried region.old.bytes gap at }
     requires table { HasTable region.old }

@@ -17,23 +17,23 @@ use crate::room::Room;
 use crate::splice::take_out;
 use raw_region::Region;
 
-/// How many classes of sizes there are.
+/// The number of classes of sizes.
 pub(crate) const CLASSES: usize = 21;
 
-/// Where in a free chunk the offset of the next one of its list stands: its second word.
+/// The offset within a free chunk of its link: the second word of its header.
 pub(crate) const LINK_AT: usize = 4;
 
-/// The first number that no size field holds.
+/// The least number that does not fit a size field.
 pub(crate) const ABOVE_SIZES: u32 = 0x100_0000;
 
-/// How many chunks of a list are looked at, at most, for one that a call takes that costs the same however
-/// large the heap is.
+/// The most chunks of a list that a call visits if its cost must not depend on the heap's size.
 const FEW: usize = 64;
 
-/// More chunks than a list has: an image has fewer than 2^24 bytes, and a chunk takes 8 of them.
+/// More chunks than a list has. An image has fewer than 2^24 bytes, and a chunk takes at least 8 of
+/// them.
 const ALL: usize = 0x20_0000;
 
-/// The class of a free chunk of `size` bytes.
+/// Returns the class of a free chunk of `size` bytes.
 #[inline(always)]
 pub(crate) fn class_of(size: u32) -> usize
     requires least { need 0 ≤ size }
@@ -44,7 +44,7 @@ pub(crate) fn class_of(size: u32) -> usize
     (31 - (size / 8).leading_zeros()) as usize
 }
 
-/// Puts the free chunk at `at`, which is in none of the lists, in front of the list of its class.
+/// Puts the free chunk at `at`, which is in no list, at the head of the list of its class.
 #[inline(always)]
 pub(crate) fn push(region: &mut Region, heads: &mut [u32; CLASSES], at: u32, size: u32)
     requires accepted { HeapAccepted region.old.bytes }
@@ -59,8 +59,8 @@ pub(crate) fn push(region: &mut Region, heads: &mut [u32; CLASSES], at: u32, siz
     heads[class] = at;
 }
 
-/// Puts the free chunk of `room` bytes that ends at `end`, if there are any, into its list. The lists hold
-/// chunks in front of it.
+/// Puts the free chunk of `room` bytes that ends at `end` into its list, unless `room` is 0. The
+/// lists contain the free chunks before it.
 pub(crate) fn push_room(region: &mut Region, heads: &mut [u32; CLASSES], end: u32, room: u32)
     requires accepted { HeapAccepted region.old.bytes }
     requires lent { LendsABody region.old }
@@ -91,7 +91,7 @@ pub(crate) fn push_alone(region: &mut Region, heads: &mut [u32; CLASSES], at: u3
     push(region, heads, at, size);
 }
 
-/// The size of a free chunk, by its first word.
+/// Returns the size of a free chunk, from its first word.
 #[inline]
 fn size_at(region: &Region, at: u32) -> u32
     requires { IsWithin region.now at 4 }
@@ -100,8 +100,9 @@ fn size_at(region: &Region, at: u32) -> u32
     region.get_u32(at as usize) % ABOVE_SIZES
 }
 
-/// Takes the free chunks of room from their lists, and answers whether the others are in theirs still. Where
-/// the room is not one chunk among the first `probes` of its list, all lists are dropped.
+/// Takes the free chunks of room out of their lists, and returns whether all others are still in
+/// theirs. If the room is not one chunk among the first `probes` of its list, all lists are
+/// dropped.
 #[inline(always)]
 fn unlink(region: &mut Region, heads: &mut [u32; CLASSES], room: Room, probes: usize) -> bool
     requires accepted { HeapAccepted region.old.bytes }
@@ -122,7 +123,7 @@ fn unlink(region: &mut Region, heads: &mut [u32; CLASSES], room: Room, probes: u
     false
 }
 
-/// The same, where the room may have no bytes, and a few chunks are looked at.
+/// The same for room that may be empty. It visits at most `FEW` chunks.
 #[inline(always)]
 pub(crate) fn unlink_run(region: &mut Region, heads: &mut [u32; CLASSES], room: Room) -> bool
     requires accepted { HeapAccepted region.old.bytes }
@@ -141,9 +142,10 @@ pub(crate) fn unlink_run(region: &mut Region, heads: &mut [u32; CLASSES], room: 
     unlink(region, heads, room, FEW)
 }
 
-/// Makes the front of room one free chunk of `size` bytes, which is in no list, and what is left another,
-/// which is. Answers whether all other free chunks are in the lists in which they were. Room that isn't the first
-/// of a list was found by a walk over the chunks in front of it, so that its list may be searched to the end.
+/// Makes the start of room one free chunk of `size` bytes, which is in no list. The rest of the
+/// room becomes another free chunk, which is in its list. Returns whether all other free chunks are
+/// still in their lists. If the room is not the first of a list, a walk over the chunks before it
+/// has found it. So its list may be searched to the end.
 pub(crate) fn take(region: &mut Region, heads: &mut [u32; CLASSES], room: Room, size: u32) -> bool
     requires accepted { HeapAccepted region.old.bytes }
     requires lent { LendsABody region.old }
@@ -167,7 +169,8 @@ pub(crate) fn take(region: &mut Region, heads: &mut [u32; CLASSES], room: Room, 
     kept
 }
 
-/// The first chunk of a list that has `size` bytes, of the classes in which one may have them.
+/// Returns the first chunk of a list if it has `size` bytes. It tries each class that can have a
+/// chunk of this size.
 pub(crate) fn find_listed(region: &Region, heads: &[u32; CLASSES], size: u32) -> Option<Room>
     requires accepted { HeapAccepted region.now.bytes }
     requires lent { LendsABody region.now }

@@ -1,4 +1,4 @@
-//! Live chunks by their names and by their places.
+//! Finds live chunks by their names and by their places.
 #![tactic(auto, using(laws_heap::proofs::LentBodies::frame_within, laws_heap::proofs::LentBodies::table_within))]
 
 ghost use Rattle.std.specs.Prelude.{◌≡◌, ◌≢◌, IsSome, IfSome, IfNone, Some, None};
@@ -18,8 +18,8 @@ use heap_model::{Name, Place};
 use master_table::{KnownTables, resolve_known, word_of};
 use raw_region::Region;
 
-/// The chunk that a name stands for. That of a slot costs the same however large the heap is; for
-/// any other name the chunks are walked.
+/// Returns the chunk that has a name. If a slot has the name, it calls `in_slot`; for any other
+/// name it walks the chunks.
 pub(crate) fn find_named(region: &Region, tables: &KnownTables, name: Name) -> Option<Found>
     requires accepted { HeapAccepted region.now.bytes }
     requires lent { LendsABody region.now }
@@ -33,8 +33,9 @@ pub(crate) fn find_named(region: &Region, tables: &KnownTables, name: Name) -> O
     }
 }
 
-/// The chunk of a name that is a slot's. That of a slot of the first table, or of one that is remembered, costs the same
-/// however large the heap is; for any other name the chain of tables is gone through.
+/// Returns the chunk of a name that is a slot's. For a slot of the first table or of a remembered
+/// one, the cost does not depend on the heap's size. For any other name it may walk the chain of
+/// tables.
 #[inline(always)]
 pub(crate) fn in_slot(region: &Region, tables: &KnownTables, name: Name) -> Option<Found>
     requires accepted { HeapAccepted region.now.bytes }
@@ -49,8 +50,8 @@ pub(crate) fn in_slot(region: &Region, tables: &KnownTables, name: Name) -> Opti
     }
 }
 
-/// The chunk of a name that stands for one, at the same cost however large the heap is: where no slot holds
-/// the name, it is a fixed chunk's, which says where that is.
+/// Returns the chunk of a name that has one. If no slot has the name, the chunk is fixed, and the
+/// name is the place of its body.
 #[inline(always)]
 pub(crate) fn chunk_named(region: &Region, tables: &KnownTables, name: Name) -> Found
     requires accepted { HeapAccepted region.now.bytes }
@@ -65,8 +66,8 @@ pub(crate) fn chunk_named(region: &Region, tables: &KnownTables, name: Name) -> 
     }
 }
 
-/// The chunk of a name that stands for a movable one. Nothing is tested, neither that a slot stands there nor of which
-/// kind the chunk is.
+/// Returns the chunk of a name that has a movable one. It tests neither that the name is a slot's
+/// nor the kind of the chunk.
 #[inline(always)]
 pub(crate) fn movable_named(region: &Region, name: Name) -> Found
     requires accepted { HeapAccepted region.now.bytes }
@@ -79,7 +80,8 @@ pub(crate) fn movable_named(region: &Region, name: Name) -> Found
     held_by(region, name, Place(word_of(region, name.0)))
 }
 
-/// The chunk whose place a slot holds: a movable one that names the slot, so that its header isn't tested.
+/// Returns the chunk whose place a slot contains. It is movable and names the slot, so its header
+/// isn't tested.
 #[inline(always)]
 fn held_by(region: &Region, slot: Name, place: Place) -> Found
     requires accepted { HeapAccepted region.now.bytes }
@@ -97,7 +99,7 @@ fn held_by(region: &Region, slot: Name, place: Place) -> Found
     }
 }
 
-/// The fixed chunk of a name.
+/// Returns the fixed chunk of a name.
 #[inline(always)]
 fn fixed_at(region: &Region, name: Name) -> Found
     requires accepted { HeapAccepted region.now.bytes }
@@ -109,8 +111,9 @@ fn fixed_at(region: &Region, name: Name) -> Found
     as_fixed(header, Place(name.0), name).unwrap()
 }
 
-/// The live chunk whose body is at a place. The header that seems to stand in front of it is believed
-/// only where the slot that it names holds the place; a fixed chunk is looked for among all chunks.
+/// Returns the live chunk whose body is at a place. The 8 bytes before the place may look like a
+/// movable chunk's header. They count only if the slot that they name contains the place. A fixed
+/// chunk is looked for among all chunks.
 pub(crate) fn find_placed(region: &Region, tables: &KnownTables, place: Place) -> Option<Found>
     requires accepted { HeapAccepted region.now.bytes }
     requires lent { LendsABody region.now }
@@ -125,7 +128,7 @@ pub(crate) fn find_placed(region: &Region, tables: &KnownTables, place: Place) -
     }
 }
 
-/// The movable chunk whose body is at a place, if there is one.
+/// Returns the movable chunk whose body is at a place, if there is one.
 fn in_slot_at(region: &Region, tables: &KnownTables, place: Place) -> Option<Found>
     requires accepted { HeapAccepted region.now.bytes }
     requires lent { LendsABody region.now }

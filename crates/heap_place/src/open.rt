@@ -1,4 +1,4 @@
-//! Room is opened behind a chunk.
+//! Opens room after a chunk.
 #![tactic(auto, using(laws_heap::proofs::LentBodies::frame_within, laws_heap::proofs::LentBodies::table_within))]
 
 ghost use Rattle.std.specs.Prelude.{◌≡◌, ◌≤◌, ◌+◌, ◌-◌, ◌*◌};
@@ -20,9 +20,9 @@ use chunk_format::{HEADER_SIZE, size_of_body};
 use master_table::word_of;
 use raw_region::Region;
 
-/// Opens room behind a movable chunk without locks, which was found in this stretch: the free chunks of
-/// the stretch become one, directly behind it. The stretch is packed, and what is behind the chunk then
-/// is slid once more. That free chunk alone is in a list then.
+/// Opens room after a movable chunk without locks, which was found in this stretch. The free chunks
+/// of the stretch become one, directly after the chunk. The stretch is packed, and the chunks after
+/// this one are slid once more. Then only that free chunk is in a list.
 pub(crate) fn open_in(
     region: &mut Region,
     heads: &mut [u32; CLASSES],

@@ -1,4 +1,4 @@
-//! All chunks of an owner are made free.
+//! Makes all chunks of an owner free.
 #![tactic(auto, using(laws_heap::proofs::LentBodies::frame_within, laws_heap::proofs::LentBodies::table_within))]
 
 ghost use Rattle.std.specs.Prelude.{◌≡◌, ◌≤◌, ◌<◌, ◌+◌, ◌^◌, count_by, length};
@@ -14,8 +14,8 @@ use chunk_format::{FIXED_LOCK, HEADER_SIZE, Header, area_start};
 use heap_model::{Name, Place};
 use raw_region::Region;
 
-/// Makes the chunks of an owner free in one walk, and answers how many there were. The caller must ensure that none of
-/// them is lent.
+/// Makes the chunks of an owner free in one walk, and returns their number. The caller must ensure
+/// that none of them is lent.
 pub(crate) fn release_owned(region: &mut Region, owner: u8) -> u32
     requires accepted { HeapAccepted region.old.bytes }
     requires lent { LendsABody region.old }
@@ -44,7 +44,7 @@ pub(crate) fn release_owned(region: &mut Region, owner: u8) -> u32
     count
 }
 
-/// The chunk whose body is at a place, if its header is that of an owner's.
+/// Returns the chunk whose body is at a place, if its header names this owner.
 #[inline]
 fn if_owned(header: Header, place: Place, owner: u8) -> Option<Found>
     ensures { result ≡ owned_by header place owner }

@@ -1,5 +1,6 @@
-//! Chunks are packed: those of a stretch go to its front, and its room is behind them. The lists of free chunks
-//! are dropped, and each room is put into its list when no chunk behind it can move any more.
+//! Packs chunks: those of a stretch go to its start, and its room is after them. The lists of free
+//! chunks are dropped. Each room is put into its list when no chunk after it can move into it any
+//! more.
 #![tactic(auto, using(laws_heap::proofs::LentBodies::frame_within, laws_heap::proofs::LentBodies::table_within))]
 
 ghost use Rattle.std.specs.Prelude.{◌≡◌, ◌↔◌, ◌+◌, ◌-◌, IsTrue};
@@ -22,16 +23,17 @@ use chunk_format::{HEADER_SIZE, Header, area_start};
 use heap_model::{Name, Place};
 use raw_region::Region;
 
-/// What packing chunks came to, in bytes.
+/// The outcome of packing chunks, in bytes.
 #[derive(Clone, Copy)]
 pub(crate) struct Outcome {
-    /// How many were slid.
+    /// The number of bytes that were slid.
     pub(crate) slid: u32,
-    /// How much room of the last stretch is behind its chunks.
+    /// The room after the chunks of the last stretch.
     pub(crate) room: u32,
 }
 
-/// Packs the chunks of each stretch, and answers how many bytes it slid. Each free chunk is in its list then.
+/// Packs the chunks of each stretch, and returns the number of bytes that it slid. Afterwards each
+/// free chunk is in its list.
 pub(crate) fn compact(region: &mut Region, heads: &mut [u32; CLASSES]) -> u32
     requires accepted { HeapAccepted region.old.bytes }
     requires lent { LendsABody region.old }
@@ -50,8 +52,8 @@ pub(crate) fn compact(region: &mut Region, heads: &mut [u32; CLASSES]) -> u32
     pack(region, heads, start, end).slid
 }
 
-/// Packs the chunks of one stretch, and answers how much room is behind them then. That room alone is in a list
-/// then.
+/// Packs the chunks of one stretch, and returns the size of the room after them. Afterwards only
+/// that room is in a list.
 pub(crate) fn pack_stretch(region: &mut Region, heads: &mut [u32; CLASSES], stretch: Stretch) -> u32
     requires accepted { HeapAccepted region.old.bytes }
     requires lent { LendsABody region.old }
@@ -68,8 +70,8 @@ pub(crate) fn pack_stretch(region: &mut Region, heads: &mut [u32; CLASSES], stre
     pack(region, heads, stretch.start, stretch.end).room
 }
 
-/// Packs the chunks from `start` up to `end`, in one walk and by one slide for each chunk that moves. The free
-/// chunks that are left of them are those in the lists then.
+/// Packs the chunks from `start` up to `end`, in one walk and by one slide for each chunk that
+/// moves. Afterwards the lists contain the free chunks that are left of them, and no others.
 pub(crate) fn pack(region: &mut Region, heads: &mut [u32; CLASSES], start: u32, end: u32) -> Outcome
     requires accepted { HeapAccepted region.old.bytes }
     requires lent { LendsABody region.old }
@@ -96,17 +98,17 @@ pub(crate) fn pack(region: &mut Region, heads: &mut [u32; CLASSES], start: u32, 
     Outcome { slid, room }
 }
 
-/// What packing one chunk came to, in bytes.
+/// The outcome of packing one chunk, in bytes.
 #[derive(Clone, Copy)]
 struct Step {
     size: u32,
     slid: u32,
-    /// How much room there is behind what is packed then.
+    /// The room after the packed chunks.
     room: u32,
 }
 
-/// Packs the chunk at `at`, which has `room` free bytes in front of it, in one chunk or none. Room in front of a
-/// chunk that stays is put into its list.
+/// Packs the chunk at `at`. Before it are `room` free bytes, in one chunk, or in none if `room` is
+/// 0. Room before a chunk that stays is put into its list.
 fn pack_one(region: &mut Region, heads: &mut [u32; CLASSES], at: u32, room: u32) -> Step
     requires accepted { HeapAccepted region.old.bytes }
     requires lent { LendsABody region.old }
@@ -145,7 +147,7 @@ fn pack_one(region: &mut Region, heads: &mut [u32; CLASSES], at: u32, room: u32)
     }
 }
 
-/// Whether the chunk of a header stays where it is.
+/// Returns whether the chunk of a header stays at its place.
 #[inline]
 pub(crate) fn stays(header: Header) -> bool
     ensures { IsTrue result ↔ HeaderStays header }
@@ -157,7 +159,7 @@ pub(crate) fn stays(header: Header) -> bool
     }
 }
 
-/// Moves the movable chunk at `at`, whose header and size these are, down over the free chunk in front of
+/// Moves the movable chunk at `at`, which has this header and size, down over the free chunk before
 /// it, whose size is `room`.
 fn drop_one(region: &mut Region, header: Header, at: u32, size: u32, room: u32)
     requires accepted { HeapAccepted region.old.bytes }
@@ -180,7 +182,7 @@ fn drop_one(region: &mut Region, header: Header, at: u32, size: u32, room: u32)
     master_table::set(region, Name(slot), Place(to + HEADER_SIZE));
 }
 
-/// The slot that a header names, where it is a movable chunk's.
+/// Returns the slot that a header names, if it is a movable chunk's.
 #[inline]
 fn slot_of(header: Header) -> Option<u32>
     ensures { result ≡ slot_by header }

@@ -1,4 +1,4 @@
-//! A live chunk is made free.
+//! Makes a live chunk free.
 #![tactic(auto, using(laws_heap::proofs::LentBodies::frame_within, laws_heap::proofs::LentBodies::table_within))]
 
 ghost use Rattle.std.specs.Prelude.{◌≡◌, ◌≢◌, ◌<◌, ◌+◌, ◌-◌, ◌^◌, length};
@@ -16,7 +16,8 @@ use crate::walks::size_if_free;
 use chunk_format::{FIXED_LOCK, HEADER_SIZE, Header, size_of_body};
 use raw_region::Region;
 
-/// Makes a live chunk free, with the free chunk behind it, and empties its slot, if it has one.
+/// Makes a live chunk free, joins it with the free chunk after it, and empties its slot, if it has
+/// one. Returns the size of the joined chunk.
 pub(crate) fn release(region: &mut Region, found: Found) -> u32
     requires accepted { HeapAccepted region.old.bytes }
     requires lent { LendsABody region.old }
@@ -39,7 +40,8 @@ pub(crate) fn release(region: &mut Region, found: Found) -> u32
     joined
 }
 
-/// Makes a live chunk free, alone, and empties its slot, if it has one. Answers the size of the free chunk.
+/// Makes a live chunk free without joining it with its neighbours, and empties its slot, if it has
+/// one. Returns the size of the free chunk.
 #[inline(always)]
 pub(crate) fn release_alone(region: &mut Region, found: Found) -> u32
     requires accepted { HeapAccepted region.old.bytes }
@@ -63,7 +65,8 @@ pub(crate) fn release_alone(region: &mut Region, found: Found) -> u32
     size
 }
 
-/// Makes a live chunk free, alone, and puts it into its list. Answers the size of the free chunk.
+/// Makes a live chunk free without joining it with its neighbours, and puts it into its list.
+/// Returns the size of the free chunk.
 #[inline(always)]
 pub(crate) fn release_listed(region: &mut Region, heads: &mut [u32; CLASSES], found: Found) -> u32
     requires accepted { HeapAccepted region.old.bytes }
@@ -84,7 +87,7 @@ pub(crate) fn release_listed(region: &mut Region, heads: &mut [u32; CLASSES], fo
     size
 }
 
-/// The size of the chunk at `at`, if a free one stands there, and else 0: a live one does, or the image
+/// Returns the size of the chunk at `at` if it is free. Returns 0 if it is live or if the image
 /// ends there.
 #[inline(always)]
 pub(crate) fn free_size(region: &Region, at: u32) -> u32

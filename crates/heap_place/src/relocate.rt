@@ -1,4 +1,4 @@
-//! A movable chunk goes to room elsewhere.
+//! Moves a movable chunk to room elsewhere.
 #![tactic(auto, using(laws_heap::proofs::LentBodies::frame_within, laws_heap::proofs::LentBodies::table_within))]
 
 ghost use Rattle.std.specs.Prelude.{◌≡◌, ◌≢◌, ◌≤◌, ◌<◌, ◌+◌, ◌-◌, min, replicate};
@@ -27,12 +27,12 @@ use chunk_format::{FIXED_LOCK, HEADER_SIZE, Header, size_of_body};
 use heap_model::{Name, Place};
 use raw_region::Region;
 
-/// The owner of a stand-in; any that a fixed chunk may have would do.
+/// The owner of a stand-in. Any owner that a fixed chunk may have would do.
 const STAND_IN_OWNER: u8 = 1;
 
-/// Moves a movable chunk without locks to the front of neighbouring free chunks that have the room, and gives it
-/// `count` bytes there: its first ones, or all of them and zeros behind. Answers whether there are such. `built` is
-/// false afterwards where lists were dropped.
+/// Moves a movable chunk without locks to the start of neighbouring free chunks that have the room.
+/// It has `count` bytes there: its first ones, or all of them and zeros after them. Returns whether
+/// there is a run of free chunks with the room. If lists were dropped, `built` is false afterwards.
 pub(crate) fn relocate(
     region: &mut Region,
     heads: &mut [u32; CLASSES],
@@ -64,7 +64,7 @@ pub(crate) fn relocate(
     }
 }
 
-/// Moves a movable chunk without locks to the front of room. It may be the directory.
+/// Moves a movable chunk without locks to the start of room. The chunk may be the directory.
 fn relocate_to(
     region: &mut Region,
     heads: &mut [u32; CLASSES],
@@ -95,7 +95,8 @@ fn relocate_to(
     }
 }
 
-/// Moves the directory. While it moves the image has none, so that each step leaves an accepted heap.
+/// Moves the directory. While it moves, the image has no directory, so that each step leaves an
+/// accepted heap.
 fn relocate_directory(
     region: &mut Region,
     heads: &mut [u32; CLASSES],
@@ -125,8 +126,8 @@ fn relocate_directory(
     name_directory(region, found.name);
 }
 
-/// Moves a chunk that isn't the directory. A fixed chunk stands in for it there until it is free, so that
-/// each step leaves an accepted heap.
+/// Moves a chunk that isn't the directory. A fixed chunk stands in for it at the new place until
+/// the old chunk is free, so that each step leaves an accepted heap.
 fn relocate_other(
     region: &mut Region,
     heads: &mut [u32; CLASSES],
@@ -157,7 +158,7 @@ fn relocate_other(
     take_name(region, there, found.name, found.owner);
 }
 
-/// Makes the front of room a fixed chunk of `count` zeros.
+/// Makes the start of room a fixed chunk of `count` zeros.
 fn stand_in_at(
     region: &mut Region,
     heads: &mut [u32; CLASSES],

@@ -1,4 +1,4 @@
-//! A live chunk gets another length.
+//! Gives a live chunk another length.
 #![tactic(auto, using(laws_heap::proofs::LentBodies::frame_within, laws_heap::proofs::LentBodies::table_within))]
 
 ghost use Rattle.std.specs.Prelude.{◌≡◌, ◌≤◌, ◌<◌, ◌+◌, ◌-◌, ◌^◌, length};
@@ -20,8 +20,9 @@ use crate::room::Room;
 use chunk_format::{FIXED_LOCK, HEADER_SIZE, Header, chunk_size, size_of_body};
 use raw_region::Region;
 
-/// Gives a live chunk `count` bytes where it stands, out of its own and of `behind` bytes of free chunks
-/// directly behind it. Bytes that it gains are zero, and what is left is free: so many bytes are answered.
+/// Gives a live chunk `count` bytes in place, from its own bytes and `behind` bytes of free chunks
+/// directly after it. Bytes that it gains are zero, and the rest is free. Returns the size of that
+/// free rest.
 #[inline(always)]
 fn resize_at(region: &mut Region, found: Found, count: u32, behind: u32) -> u32
     requires accepted { HeapAccepted region.old.bytes }
@@ -49,8 +50,8 @@ fn resize_at(region: &mut Region, found: Found, count: u32, behind: u32) -> u32
     left
 }
 
-/// The same, where the free chunks are in lists: those that are taken are taken from theirs, and what is left
-/// is put into its own. Answers whether all other free chunks are in theirs still.
+/// The same for free chunks that are in lists. Those that are taken leave their lists, and the rest
+/// is put into its own. Returns whether all other free chunks are still in their lists.
 #[inline(always)]
 pub(crate) fn resize_listed(
     region: &mut Region,
@@ -88,7 +89,7 @@ pub(crate) fn resize_listed(
     kept
 }
 
-/// The header of a chunk that was found, with another length.
+/// Returns the header of a chunk that was found, with another length.
 #[inline(always)]
 fn header_with(found: Found, count: u32) -> Header
     ensures { result ≡ sized_header found count }
@@ -107,8 +108,8 @@ fn header_with(found: Found, count: u32) -> Header
     }
 }
 
-/// Gives a live chunk `count` bytes where it stands, if its own and those of the free chunks directly
-/// behind it suffice, and answers whether they do. `built` is false afterwards where lists were dropped.
+/// Gives a live chunk `count` bytes in place, if its own and those of the free chunks directly
+/// after it suffice. Returns whether they do. If lists were dropped, `built` is false afterwards.
 #[inline(always)]
 pub(crate) fn grow_in_place_at(
     region: &mut Region,
@@ -143,7 +144,7 @@ pub(crate) fn grow_in_place_at(
     }
 }
 
-/// The sizes together of the free chunks that stand at `at` without one that is not free between them.
+/// Returns the sum of the sizes of the run of free chunks that begins at `at`.
 #[inline]
 pub(crate) fn free_run(region: &Region, at: u32) -> u32
     requires accepted { HeapAccepted region.now.bytes }

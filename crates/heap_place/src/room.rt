@@ -1,4 +1,4 @@
-//! Room for a chunk: the search for a run of neighbouring free chunks.
+//! Searches for a run of neighbouring free chunks.
 #![tactic(auto, using(laws_heap::proofs::LentBodies::frame_within, laws_heap::proofs::LentBodies::table_within))]
 
 ghost use Rattle.std.specs.Prelude.{◌≡◌, ◌≤◌, ◌<◌, ◌+◌, ◌^◌, length, IfSome, IfNone};
@@ -13,15 +13,16 @@ ghost use Rattle.chunk_format.specs.Header.{size_by};
 use chunk_format::{Header, area_start};
 use raw_region::Region;
 
-/// Where a run of neighbouring free chunks begins, as an offset from the image's start, and how many
-/// bytes its first chunks take.
+/// The start of a run of neighbouring free chunks, as an offset from the image's start, and the
+/// size of its first chunks in bytes.
 #[derive(Clone, Copy)]
 pub struct Room {
     pub at: u32,
     pub size: u32,
 }
 
-/// The first run of neighbouring free chunks that has `size` bytes, as far as it is needed.
+/// Returns the first run of neighbouring free chunks that has `size` bytes, up to the chunk with
+/// which it has them.
 pub(crate) fn find_room(region: &Region, size: u32) -> Option<Room>
     requires accepted { HeapAccepted region.now.bytes }
     requires lent { LendsABody region.now }
@@ -47,7 +48,8 @@ pub(crate) fn find_room(region: &Region, size: u32) -> Option<Room>
     None
 }
 
-/// The bytes of a run of free chunks, once the chunk behind it is known: it goes on or is broken.
+/// Returns the bytes of a run of free chunks when the next chunk is known. A free chunk adds its
+/// size, and a live one resets the count to 0.
 #[inline]
 fn run_with(run_size: u32, header: Header) -> u32
     requires { run_size + size_by header < 2 ^ 32 }

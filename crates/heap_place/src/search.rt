@@ -1,4 +1,4 @@
-//! Room for a chunk: the lists are asked, and then the chunks are walked.
+//! Finds room for a chunk: in the lists, or else by a walk over the chunks.
 
 ghost use Rattle.std.specs.Prelude.{◌≤◌, ◌<◌, IfSome, IfNone};
 ghost use Rattle.heap_model.specs.Chunk.{need};
@@ -14,8 +14,8 @@ use crate::room::{Room, find_room};
 use chunk_format::{HEADER_SIZE, chunk_size};
 use raw_region::Region;
 
-/// Neighbouring free chunks that have `size` bytes. Of the lists the first chunks are asked; where none has the
-/// bytes, the chunks are walked.
+/// Returns neighbouring free chunks that have `size` bytes. It looks at the first chunk of each
+/// list. If none of them is large enough, it walks the chunks.
 pub(crate) fn find_spot(region: &Region, heads: &[u32; CLASSES], size: u32) -> Option<Room>
     requires accepted { HeapAccepted region.now.bytes }
     requires lent { LendsABody region.now }

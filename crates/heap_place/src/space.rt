@@ -1,4 +1,4 @@
-//! The type that owns a heap's region.
+//! Defines the type that owns a heap's region.
 
 ghost use Rattle.std.specs.Prelude.{◌≡◌, ◌≢◌, ◌≤◌, ◌<◌, ◌+◌, ◌-◌, ◌*◌, ◌++◌, ◌∷◌, ◌⊎◌, [], length, replicate, slice_range, min, count_by, IsSome, IfSome, IfNone, Some, None, true};
 ghost use Rattle.raw_region.specs.Parts.{IsOut};
@@ -50,19 +50,22 @@ use master_table::KnownTables;
 use raw_region::{ByteChange, Part, Region};
 use std::marker::Model;
 
-/// A region whose chunks are found and changed. Contracts see the region's value alone. Any region is taken,
-/// lent and given back; each other call asks that it is an accepted heap.
+/// A region whose chunks are found and changed. Contracts see only the region's value. `new` takes
+/// any region. Except for `region` and `into_region`, each other call requires an accepted heap.
 #[derive(Drop)]
 pub struct Space {
     region: Region,
-    /// Of each class the offset at which the first chunk of its list begins, or 0 where the list is empty.
+    /// For each class, the offset of the first chunk of its list, or 0 if the list is empty.
     heads: [u32; CLASSES],
-    /// Whether the lists were built since they were last dropped. Where not, free chunks may be missing in them.
+    /// Whether the lists were built since they were last dropped. If not, free chunks may be
+    /// missing from them.
     built: bool,
-    /// Whether a stretch that isn't the whole heap was packed for the chunk that is made next. The lists aren't
-    /// built with that one, so that no walk over all chunks follows the packing.
+    /// Whether a stretch that isn't the whole heap was packed for the chunk that is made next.
+    /// Making that chunk does not build the lists, so that no walk over all chunks follows the
+    /// packing.
     packed: bool,
-    /// Further tables that are remembered, so that the chain isn't gone through for their slots.
+    /// Further tables that are remembered, so that their slots are found without a walk along the
+    /// chain.
     tables: KnownTables,
 }
 
@@ -78,7 +81,7 @@ impl Model for Space {
 }
 
 impl Space {
-    /// Takes a region.
+    /// Wraps a region.
     pub fn new(region: Region) -> Space
         ensures { result ≡ region }
     {
@@ -91,7 +94,7 @@ impl Space {
         }
     }
 
-    /// Takes a region that is a heap, and goes through its chain of tables, so that they are remembered.
+    /// Wraps a region that is a heap, and walks its chain of tables to remember them.
     pub fn of_heap(region: Region) -> Space
         requires accepted { HeapAccepted region.bytes }
         requires lent { LendsABody region }
@@ -107,7 +110,7 @@ impl Space {
         }
     }
 
-    /// Gives the region back.
+    /// Returns the region.
     pub fn into_region(self) -> Region
         ensures { result ≡ self }
     {
@@ -115,7 +118,7 @@ impl Space {
         region
     }
 
-    /// The region, to read.
+    /// Returns the region, for reading.
     #[inline]
     pub fn region(&self) -> &Region
         ensures { result.now ≡ self.now }
@@ -123,8 +126,8 @@ impl Space {
         &self.region
     }
 
-    /// The chunk that a name stands for, whoever owns it. That of a slot costs the same however large
-    /// the heap is; for any other name the chunks are walked.
+    /// Returns the chunk that has a name, whoever owns it. For a slot's name it calls `in_slot`;
+    /// for any other name it walks the chunks.
     pub fn find(&self, name: Name) -> Option<Found>
         requires accepted { HeapAccepted self.now.bytes }
         requires lent { LendsABody self.now }
@@ -134,7 +137,8 @@ impl Space {
         find_named(&self.region, &self.tables, name)
     }
 
-    /// The chunk of a name that is a slot's, whoever owns it, at the same cost however large the heap is.
+    /// Returns the chunk of a name that is a slot's, whoever owns it. For a slot of the first table
+    /// or of a remembered one, the cost does not depend on the heap's size.
     #[inline(always)]
     pub fn in_slot(&self, name: Name) -> Option<Found>
         requires accepted { HeapAccepted self.now.bytes }
@@ -145,8 +149,8 @@ impl Space {
         in_slot(&self.region, &self.tables, name)
     }
 
-    /// The chunk of a name that stands for one, as `find` answers it. It costs the same however large the heap
-    /// is, also where the name is no slot's.
+    /// Returns the chunk of a name that has one, as `find` does. It never walks the chunks, even if
+    /// the name isn't a slot's.
     #[inline(always)]
     pub fn chunk(&self, name: Name) -> Found
         requires accepted { HeapAccepted self.now.bytes }
@@ -157,7 +161,7 @@ impl Space {
         chunk_named(&self.region, &self.tables, name)
     }
 
-    /// The chunk of a name that stands for a movable one, as `chunk` answers it. Nothing is tested.
+    /// Returns the chunk of a name that has a movable one, as `chunk` does. It tests nothing.
     #[inline(always)]
     pub fn movable(&self, name: Name) -> Found
         requires accepted { HeapAccepted self.now.bytes }
@@ -170,8 +174,8 @@ impl Space {
         movable_named(&self.region, name)
     }
 
-    /// The live chunk whose body is at a place, whoever owns it. Bytes of a body that look like a header
-    /// are none.
+    /// Returns the live chunk whose body is at a place, whoever owns it. Bytes of a body that look
+    /// like a header are not taken for one.
     pub fn find_at(&self, place: Place) -> Option<Found>
         requires accepted { HeapAccepted self.now.bytes }
         requires lent { LendsABody self.now }
@@ -182,7 +186,7 @@ impl Space {
         find_placed(&self.region, &self.tables, place)
     }
 
-    /// The name of the directory's chunk, or `Name(0)` where there is none.
+    /// Returns the name of the directory's chunk, or `Name(0)` if there is none.
     pub fn directory(&self) -> Name
         requires accepted { HeapAccepted self.now.bytes }
         requires lent { LendsABody self.now }
@@ -191,7 +195,7 @@ impl Space {
         directory_name(&self.region)
     }
 
-    /// Makes a chunk of the manager's the directory, or no chunk, where the name is 0.
+    /// Makes a chunk of the manager's the directory, or no chunk if the name is 0.
     pub fn set_directory(&mut self, name: Name)
         requires accepted { HeapAccepted self.old.bytes }
         requires lent { LendsABody self.old }
@@ -204,7 +208,7 @@ impl Space {
         name_directory(&mut self.region, name);
     }
 
-    /// The sizes of the free chunks together, in bytes.
+    /// Returns the sum of the sizes of the free chunks, in bytes.
     pub fn free_bytes(&self) -> u32
         requires accepted { HeapAccepted self.now.bytes }
         requires lent { LendsABody self.now }
@@ -213,8 +217,8 @@ impl Space {
         free_bytes(&self.region)
     }
 
-    /// The greatest room that a stretch has, in bytes: so much it would have in one run once it is packed.
-    /// 0 where there is no stretch. One walk over the chunks.
+    /// Returns the greatest room that a stretch has, in bytes: the size of its one free run after
+    /// packing. Returns 0 if there is no stretch. Takes one walk over the chunks.
     pub fn largest_room(&self) -> u32
         requires accepted { HeapAccepted self.now.bytes }
         requires lent { LendsABody self.now }
@@ -223,9 +227,9 @@ impl Space {
         largest_room(&self.region)
     }
 
-    /// Finds room for a chunk of `size` bytes, header included: neighbouring free chunks. None if no run of
-    /// free chunks has `size` bytes. It looks at the first chunks of the lists. If none of them is large enough, it
-    /// walks the chunks.
+    /// Finds room for a chunk of `size` bytes, header included: neighbouring free chunks. Returns
+    /// None if no run of free chunks has `size` bytes. It looks at the first chunks of the lists.
+    /// If none of them is large enough, it walks the chunks.
     pub fn find_room(&self, size: u32) -> Option<Room>
         requires accepted { HeapAccepted self.now.bytes }
         requires lent { LendsABody self.now }
@@ -237,7 +241,8 @@ impl Space {
         find_spot(&self.region, &self.heads, size)
     }
 
-    /// Makes the front of room a movable chunk of `count` zeros and no locks, which the empty slot names.
+    /// Makes the start of room a movable chunk of `count` zeros and no locks, which the empty slot
+    /// names.
     pub fn claim(&mut self, room: Room, slot: Name, count: u32, owner: u8)
         requires accepted { HeapAccepted self.old.bytes }
         requires lent { LendsABody self.old }
@@ -260,7 +265,7 @@ impl Space {
         self.packed = false;
     }
 
-    /// Makes the front of room a fixed chunk of `count` zeros, and answers its name.
+    /// Makes the start of room a fixed chunk of `count` zeros, and returns its name.
     pub fn claim_fixed(&mut self, room: Room, count: u32, owner: u8) -> Name
         requires accepted { HeapAccepted self.old.bytes }
         requires lent { LendsABody self.old }
@@ -284,7 +289,7 @@ impl Space {
         Name(room.at + HEADER_SIZE)
     }
 
-    /// Makes the front of room a further table of empty slots, the last of the chain.
+    /// Makes the start of room a further table of empty slots, the last of the chain.
     pub fn claim_table(&mut self, room: Room)
         requires accepted { HeapAccepted self.old.bytes }
         requires lent { LendsABody self.old }
@@ -310,8 +315,8 @@ impl Space {
         self.packed = false;
     }
 
-    /// Makes a live chunk free, and answers how many bytes are free from its header on, up to where the
-    /// next chunk begins. The slot of a movable chunk is emptied. The directory is not given back.
+    /// Makes a live chunk free, and returns the number of free bytes from its header up to the next
+    /// chunk. The slot of a movable chunk is emptied. The directory can't be given back.
     #[inline(always)]
     pub fn give_back(&mut self, found: Found) -> u32
         requires accepted { HeapAccepted self.old.bytes }
@@ -330,9 +335,9 @@ impl Space {
         release_listed(&mut self.region, &mut self.heads, found)
     }
 
-    /// Makes all chunks of an owner but the manager free, locked and fixed ones too, in one walk over the chunks
-    /// and one that joins free neighbours, and answers how many there were. The caller must ensure that none of them
-    /// is lent.
+    /// Makes all chunks of an owner but the manager free, locked and fixed ones too, and returns
+    /// their number. Takes one walk over the chunks and one that joins free neighbours. The caller
+    /// must ensure that none of them is lent.
     pub fn give_back_owned(&mut self, owner: u8) -> u32
         requires accepted { HeapAccepted self.old.bytes }
         requires lent { LendsABody self.old }
@@ -351,7 +356,8 @@ impl Space {
         count
     }
 
-    /// Gives a movable chunk another lock count. One of the manager's, whose owner is 0, has none.
+    /// Gives a movable chunk another lock count. A chunk of the manager's, whose owner is 0, can't
+    /// be locked.
     pub fn relock(&mut self, found: Found, lock: u8)
         requires accepted { HeapAccepted self.old.bytes }
         requires lent { LendsABody self.old }
@@ -383,7 +389,7 @@ impl Space {
         reown_at(&mut self.region, found, owner);
     }
 
-    /// Writes bytes over those of a live chunk, from `at` within its body on.
+    /// Writes bytes over those of a live chunk, starting at offset `at` within its body.
     #[inline(always)]
     pub fn write(&mut self, found: Found, at: u32, bytes: &[u8])
         requires accepted { HeapAccepted self.old.bytes }
@@ -401,7 +407,8 @@ impl Space {
             .write(found.place.0 as usize + at as usize, bytes);
     }
 
-    /// Writes bytes and then one zero byte over those of a live chunk, from `at` within its body on.
+    /// Writes bytes and then one zero byte over those of a live chunk, starting at offset `at`
+    /// within its body.
     pub fn write_ended(&mut self, found: Found, at: u32, bytes: &[u8])
         requires accepted { HeapAccepted self.old.bytes }
         requires lent { LendsABody self.old }
@@ -419,7 +426,7 @@ impl Space {
         self.region.fill(start + bytes.len(), 1, 0);
     }
 
-    /// Makes each of `count` bytes of a live chunk the byte `byte`, from `at` within its body on.
+    /// Sets `count` bytes of a live chunk to `byte`, starting at offset `at` within its body.
     pub fn fill(&mut self, found: Found, at: u32, count: u32, byte: u8)
         requires accepted { HeapAccepted self.old.bytes }
         requires lent { LendsABody self.old }
@@ -436,8 +443,8 @@ impl Space {
             .fill(found.place.0 as usize + at as usize, count as usize, byte);
     }
 
-    /// Copies `count` bytes of a live chunk from `from` within its body to `to` within it, as they were
-    /// before, also where the two parts overlap.
+    /// Copies `count` bytes of a live chunk from offset `from` within its body to offset `to`. The
+    /// two parts may overlap: the copy has the bytes from before the call.
     pub fn slide_within(&mut self, found: Found, from: u32, to: u32, count: u32)
         requires accepted { HeapAccepted self.old.bytes }
         requires lent { LendsABody self.old }
@@ -456,8 +463,8 @@ impl Space {
             .slide(body + from as usize, body + to as usize, count as usize);
     }
 
-    /// Changes bytes of a live chunk at equal distances: of the `count` bytes from `at` within its body on, those at
-    /// `skip`, `skip + step`, `skip + 2 * step` ..
+    /// Changes bytes of a live chunk at equal distances: of the `count` bytes from offset `at`
+    /// within its body, those at `skip`, `skip + step`, `skip + 2 * step`, ..
     pub fn change_every<C: ByteChange>(
         &mut self,
         found: Found,
@@ -483,7 +490,8 @@ impl Space {
         self.region.change_every(start, count as usize, skip as usize, step as usize, change);
     }
 
-    /// Lends the bytes of a live chunk that stays. Zeros stand for them meanwhile. Nothing else is lent.
+    /// Lends the body of a live chunk that stays. Until it is taken back the body reads as zeros.
+    /// Nothing else may be lent.
     pub fn lend(&mut self, found: Found) -> Part
         requires accepted { HeapAccepted self.old.bytes }
         requires none { self.old.lent ≡ None }
@@ -502,7 +510,7 @@ impl Space {
             .lend(found.place.0 as usize, found.length as usize)
     }
 
-    /// Takes back what is lent, which is the body of a live chunk.
+    /// Takes back the lent part, which is the body of a live chunk.
     pub fn take_back(&mut self, found: Found, part: Part)
         requires accepted { HeapAccepted self.old.bytes }
         requires lent { LendsABody self.old }
@@ -518,8 +526,9 @@ impl Space {
         self.region.take_back(part);
     }
 
-    /// Gives a live chunk `count` bytes where it stands, where they fit into what it takes. Bytes that it
-    /// gains within its slack are zero, and what it takes no more is free. Nothing moves.
+    /// Gives a live chunk `count` bytes in place, which must fit into the size of the chunk. Bytes
+    /// that it gains within its slack are zero, and bytes that it no longer takes become free.
+    /// Nothing moves.
     pub fn shrink(&mut self, found: Found, count: u32)
         requires accepted { HeapAccepted self.old.bytes }
         requires lent { LendsABody self.old }
@@ -535,8 +544,8 @@ impl Space {
         self.built &= kept;
     }
 
-    /// Gives a live chunk `count` bytes where it stands, if its own and those of the free chunks directly
-    /// behind it suffice, and answers whether they do. Bytes that it gains are zero, and what is left is
+    /// Gives a live chunk `count` bytes in place, if its own and those of the free chunks directly
+    /// after it suffice. Returns whether they do. Bytes that it gains are zero, and the rest is
     /// free. Nothing moves.
     #[inline(always)]
     pub fn grow_in_place(&mut self, found: Found, count: u32) -> bool
@@ -561,8 +570,8 @@ impl Space {
         )
     }
 
-    /// Packs the chunks of each stretch: they go to its front, and its room is behind them. Answers how many
-    /// bytes were slid, which are those of the chunks that have moved.
+    /// Packs the chunks of each stretch: they go to its start, and its room is after them. Returns
+    /// the number of bytes that were slid, which are those of the chunks that have moved.
     pub fn compact(&mut self) -> u32
         requires accepted { HeapAccepted self.old.bytes }
         requires lent { LendsABody self.old }
@@ -578,7 +587,7 @@ impl Space {
         compact(&mut self.region, &mut self.heads)
     }
 
-    /// The stretch of a movable chunk that was found, which has no locks.
+    /// Returns the stretch of a movable chunk without locks that was found.
     pub fn stretch_around(&self, found: Found) -> Stretch
         requires accepted { HeapAccepted self.now.bytes }
         requires lent { LendsABody self.now }
@@ -590,7 +599,7 @@ impl Space {
         stretch_around(&self.region, found)
     }
 
-    /// A stretch whose room has `size` bytes. None where the room of every stretch is less.
+    /// Returns a stretch whose room has `size` bytes. None if the room of every stretch is less.
     pub fn stretch_with_room(&self, size: u32) -> Option<Stretch>
         requires accepted { HeapAccepted self.now.bytes }
         requires lent { LendsABody self.now }
@@ -602,7 +611,7 @@ impl Space {
         stretch_with_room(&self.region, size)
     }
 
-    /// The sizes of a stretch's free chunks together, in bytes.
+    /// Returns the sum of the sizes of a stretch's free chunks, in bytes.
     pub fn room_of(&self, stretch: Stretch) -> u32
         requires accepted { HeapAccepted self.now.bytes }
         requires lent { LendsABody self.now }
@@ -612,7 +621,7 @@ impl Space {
         room_of_stretch(&self.region, stretch)
     }
 
-    /// Packs the chunks of one stretch, and answers how much room, in bytes, is behind them then.
+    /// Packs the chunks of one stretch, and returns the size of the room after them, in bytes.
     pub fn pack_stretch(&mut self, stretch: Stretch) -> u32
         requires accepted { HeapAccepted self.old.bytes }
         requires lent { LendsABody self.old }
@@ -630,8 +639,9 @@ impl Space {
         pack_stretch(&mut self.region, &mut self.heads, stretch)
     }
 
-    /// Opens room behind a movable chunk without locks, which was found in this stretch: the free chunks of
-    /// the stretch become one, directly behind it. What was found of its chunks may stand elsewhere then.
+    /// Opens room after a movable chunk without locks, which was found in this stretch. The free
+    /// chunks of the stretch become one, directly after the chunk. A `Found` of a chunk of the
+    /// stretch may be out of date afterwards.
     pub fn open_behind(&mut self, found: Found, stretch: Stretch)
         requires accepted { HeapAccepted self.old.bytes }
         requires lent { LendsABody self.old }
@@ -648,9 +658,9 @@ impl Space {
         open_in(&mut self.region, &mut self.heads, stretch, found);
     }
 
-    /// Moves a movable chunk without locks to the front of neighbouring free chunks that have the room, as `find_room`
-    /// finds it, and gives it `count` bytes there: its first ones, or all of them and zeros behind. Answers
-    /// whether there are such. No other chunk moves.
+    /// Moves a movable chunk without locks to the start of room that `find_room` finds. It has
+    /// `count` bytes there: its first ones, or all of them and zeros after them. Returns whether
+    /// there is room. No other chunk moves.
     pub fn relocate(&mut self, found: Found, count: u32) -> bool
         requires accepted { HeapAccepted self.old.bytes }
         requires lent { LendsABody self.old }

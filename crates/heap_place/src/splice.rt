@@ -1,4 +1,4 @@
-//! A free chunk is taken out of its list, wherever it stands there.
+//! Takes a free chunk out of its list, wherever it is in the list.
 #![tactic(auto, using(laws_heap::proofs::LentBodies::frame_within, laws_heap::proofs::LentBodies::table_within))]
 
 ghost use Rattle.std.specs.Prelude.{◌≡◌, ◌≢◌, ◌<◌, ◌+◌, length, slice_index, IfSome};
@@ -10,8 +10,8 @@ ghost use Rattle.heap_place.specs.Splices.{LeadsTo};
 use crate::lists::{CLASSES, LINK_AT, class_of};
 use raw_region::Region;
 
-/// Takes a free chunk out of its list, and answers whether all others are in theirs still. Where it isn't
-/// among the first `probes` of its list, all lists are dropped.
+/// Takes a free chunk out of its list, and returns whether all others are still in theirs. If the
+/// chunk is not among the first `probes` of its list, all lists are dropped.
 #[inline(always)]
 pub(crate) fn take_out(
     region: &mut Region,
@@ -47,8 +47,8 @@ pub(crate) fn take_out(
     }
 }
 
-/// The chunk of a list in front of the one at `at`, which isn't its first: 0 where the list ends without it. None
-/// where the list goes on behind the first `probes`.
+/// Returns the chunk of a list before the one at `at`, which isn't its first. Returns 0 if the list
+/// ends without that one, and None if it isn't reached within `probes` steps.
 #[inline(never)]
 fn find_before(
     region: &Region,
@@ -78,7 +78,8 @@ fn find_before(
     None
 }
 
-/// Links the chunk in front of the one at `at` to the one behind it; with 0 in front it is in no list.
+/// Links the chunk before the one at `at` to the one after it. If `before` is 0, the chunk is in no
+/// list, and nothing is written.
 fn link_past(region: &mut Region, heads: &[u32; CLASSES], class: usize, before: u32, at: u32)
     requires accepted { HeapAccepted region.old.bytes }
     requires lent { LendsABody region.old }

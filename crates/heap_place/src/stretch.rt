@@ -1,4 +1,4 @@
-//! Stretches: longest runs of neighbouring chunks without one that stays.
+//! Finds stretches: longest runs of neighbouring chunks without one that stays.
 #![tactic(auto, using(laws_heap::proofs::LentBodies::frame_within, laws_heap::proofs::LentBodies::table_within))]
 
 ghost use Rattle.std.specs.Prelude.{◌≡◌, ◌↔◌, ◌<◌, ◌+◌, ◌-◌, length, IsTrue, IfSome, IfNone};
@@ -15,14 +15,14 @@ use crate::walks::size_if_free;
 use chunk_format::{HEADER_SIZE, Header, area_start};
 use raw_region::Region;
 
-/// Where a stretch begins and ends, in bytes from the image's start.
+/// The start and the end of a stretch, in bytes from the image's start.
 #[derive(Clone, Copy)]
 pub struct Stretch {
     pub start: u32,
     pub end: u32,
 }
 
-/// Whether all chunks are of a stretch.
+/// Returns whether all chunks belong to a stretch.
 pub(crate) fn is_whole(region: &Region, stretch: Stretch) -> bool
     requires accepted { HeapAccepted region.now.bytes }
     requires lent { LendsABody region.now }
@@ -32,7 +32,7 @@ pub(crate) fn is_whole(region: &Region, stretch: Stretch) -> bool
     stretch.start == area_start(region) && stretch.end as usize == region.len()
 }
 
-/// The stretch of a movable chunk that was found, which has no locks.
+/// Returns the stretch of a movable chunk without locks that was found.
 pub(crate) fn stretch_around(region: &Region, found: Found) -> Stretch
     requires accepted { HeapAccepted region.now.bytes }
     requires lent { LendsABody region.now }
@@ -58,7 +58,7 @@ pub(crate) fn stretch_around(region: &Region, found: Found) -> Stretch
     Stretch { start, end: here }
 }
 
-/// The first stretch whose room has `size` bytes. None where every stretch is short of them.
+/// Returns the first stretch whose room has `size` bytes. None if every stretch has less.
 pub(crate) fn stretch_with_room(region: &Region, size: u32) -> Option<Stretch>
     requires accepted { HeapAccepted region.now.bytes }
     requires lent { LendsABody region.now }
@@ -90,7 +90,7 @@ pub(crate) fn stretch_with_room(region: &Region, size: u32) -> Option<Stretch>
     None
 }
 
-/// The sizes of a stretch's free chunks together.
+/// Returns the sum of the sizes of a stretch's free chunks, in bytes.
 pub(crate) fn room_of_stretch(region: &Region, stretch: Stretch) -> u32
     requires accepted { HeapAccepted region.now.bytes }
     requires lent { LendsABody region.now }
@@ -107,7 +107,7 @@ pub(crate) fn room_of_stretch(region: &Region, stretch: Stretch) -> u32
     room
 }
 
-/// The greatest room that a stretch has, in bytes; 0 where there is no stretch.
+/// Returns the greatest room that a stretch has, in bytes, or 0 if there is no stretch.
 pub(crate) fn largest_room(region: &Region) -> u32
     requires accepted { HeapAccepted region.now.bytes }
     requires lent { LendsABody region.now }

@@ -14,7 +14,7 @@ use chunk_format::{HEADER_SIZE, Header, area_start};
 use heap_model::{Name, Place};
 use raw_region::Region;
 
-/// The fixed chunk that a name stands for: the name is the offset of its body.
+/// Returns the fixed chunk that has a name: the name is the offset of its body.
 #[inline(never)]
 pub(crate) fn find_fixed(region: &Region, name: Name) -> Option<Found>
     requires accepted { HeapAccepted region.now.bytes }
@@ -36,7 +36,7 @@ pub(crate) fn find_fixed(region: &Region, name: Name) -> Option<Found>
     None
 }
 
-/// The sizes of the free chunks together.
+/// Returns the sum of the sizes of the free chunks, in bytes.
 pub(crate) fn free_bytes(region: &Region) -> u32
     requires accepted { HeapAccepted region.now.bytes }
     requires lent { LendsABody region.now }
@@ -53,7 +53,7 @@ pub(crate) fn free_bytes(region: &Region) -> u32
     count
 }
 
-/// The size of a free chunk, and 0 of any other.
+/// Returns the size of a free chunk, and 0 for a live one.
 #[inline]
 pub(crate) fn size_if_free(header: Header) -> u32
     ensures { result ≡ free_by header }

@@ -1,4 +1,5 @@
--- What `new` and `check` write. Where a definition ends in a `Bool`, it says whether all got through.
+-- The output of `new` and `check`. If the last argument of a definition is a `Bool`, it is whether
+-- all writes succeeded.
 use Rattle.std.specs.Prelude.{◌≡◌, ◌≢◌, ◌⊎◌, ℕ, Bool, true, false, List, ◌++◌, codes, decimal, Option}
 use Rattle.palm_text.specs.Counted.{Writing}
 use Rattle.heap_model.specs.Store.{Accepted}
@@ -11,7 +12,7 @@ use Rattle.palm_text.specs.Output.{Puts}
 use Rattle.program_io.specs.declared.status.Status.{Status}
 use Rattle.program_io.specs.declared.status.Status.TheVariants.{Done, Refused, BadWords, ReadFault, WriteFault, NoMemory}
 
--- the line that `check` prints of an accepted heap, and the lines of an accepted image
+-- the line that `check` prints for an accepted heap, and the lines for an accepted image
 abbrev pub heap_line : Summary → List ℕ
 heap_line summary =
     codes "ok size " ++ (decimal summary.size ++ (codes " slots " ++ (decimal summary.slots
@@ -22,24 +23,25 @@ abbrev pub summary_lines : StoreSummary → List ℕ
 summary_lines summary = heap_line summary.heap ++ (codes "databases " ++ (decimal summary.databases ++ codes "\n"))
 
 module _ {W : Type 0} where
-  -- a blank image of this size and slot count
+  -- the output is a blank image of this size and slot count
   abbrev pub PutsBlank : (size slots : ℕ) → (W → Option (List ℕ)) → Writing W → Writing W → Bool → Type 0
   PutsBlank size slots contents old new ok = (image : List ℕ) × IsBlank size slots image × Puts contents old new image ok
 
-  -- the lines for an accepted image
+  -- the output is the lines for an accepted image
   abbrev pub PutsSummary : List ℕ → (W → Option (List ℕ)) → Writing W → Writing W → Bool → Type 0
   PutsSummary image contents old new ok = (summary : StoreSummary) × Summarizes image summary × Puts contents old new (summary_lines summary) ok
 
--- A write or a flush failed in `new`, and nothing was written after it: it was one of the image's, and
--- nothing was printed; or one of `ok`, behind the whole image; or there is no such image, it was one of
--- the line that says so, and no image was written.
+-- A write or a flush failed in `new`, and nothing was written after it. There are three cases. It
+-- failed for the image, and nothing was printed. Or it failed for `ok`, after the whole image. Or
+-- no image may have this size and slot count, it failed for the line with the fault, and no image
+-- was written.
 abbrev pub NewBreaksOff : {W V : Type 0} → (size slots : ℕ) → (W → Option (List ℕ)) → Writing W → Writing W → (V → Option (List ℕ)) → Writing V → Writing V → Type 0
 NewBreaksOff size slots image_contents image_old image_new contents old new =
     (PutsBlank size slots image_contents image_old image_new false × (new ≡ old))
     ⊎ (PutsBlank size slots image_contents image_old image_new true × Puts contents old new (codes "ok\n") false)
     ⊎ ((IsRegionSize size × LeavesRoom size slots → ⊥) × PutsBad contents old new false × (image_new ≡ image_old))
 
--- what `new` wrote, by the status with which it ends
+-- the output of `new`, by the status with which it ends
 pub record EndsNew {W V : Type 0} (size slots : ℕ) (image_contents : W → Option (List ℕ)) (image_old image_new : Writing W) (contents : V → Option (List ℕ)) (old new : Writing V) (status : Status) : Type 0 where
   pub image : status ≡ Done → PutsBlank size slots image_contents image_old image_new true
   pub ok : status ≡ Done → Puts contents old new (codes "ok\n") true
@@ -51,7 +53,7 @@ pub record EndsNew {W V : Type 0} (size slots : ℕ) (image_contents : W → Opt
   pub not_refused : status ≢ Refused
   pub reads_nothing : status ≢ ReadFault
 
--- what `check` wrote of an image, by the status with which it ends
+-- the output of `check` for an image, by the status with which it ends
 pub record EndsCheck {V : Type 0} (image : List ℕ) (contents : V → Option (List ℕ)) (old new : Writing V) (status : Status) : Type 0 where
   pub done : status ≡ Done → PutsSummary image contents old new true
   pub accepted : status ≡ Done → Accepted image

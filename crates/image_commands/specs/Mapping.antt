@@ -1,4 +1,5 @@
--- What `map` writes. Where a definition ends in a `Bool`, it says whether all got through.
+-- The output of `map`. If the last argument of a definition is a `Bool`, it is whether all writes
+-- succeeded.
 use Rattle.std.specs.Prelude.{◌≡◌, ◌≢◌, ◌⊎◌, ℕ, Bool, true, false, List, Option}
 use Rattle.heap_model.specs.Store.{Accepted}
 use Rattle.heap_map.specs.Text.{map_text}
@@ -8,16 +9,16 @@ use Rattle.program_io.specs.FaultLines.{PutsBad}
 use Rattle.program_io.specs.declared.status.Status.{Status}
 use Rattle.program_io.specs.declared.status.Status.TheVariants.{Done, Refused, BadWords, ReadFault, WriteFault, NoMemory}
 
--- the picture of an image as text
+-- the output is the picture of an image as text
 abbrev pub PutsMap : {V : Type 0} → List ℕ → (V → Option (List ℕ)) → Writing V → Writing V → Bool → Type 0
 PutsMap image contents old new ok = Puts contents old new (map_text image) ok
 
--- A write or a flush failed in `map`, and nothing was written after it: it was one of the picture; or the image is
--- refused, and it was one of the line that says so.
+-- A write or a flush failed in `map`, and nothing was written after it. It failed for the picture.
+-- Or the image is refused, and it failed for the line with the fault.
 abbrev pub MapBreaksOff : {V : Type 0} → List ℕ → (V → Option (List ℕ)) → Writing V → Writing V → Type 0
 MapBreaksOff image contents old new = (Accepted image × PutsMap image contents old new false) ⊎ ((Accepted image → ⊥) × PutsBad contents old new false)
 
--- what `map` wrote of an image, by the status with which it ends
+-- the output of `map` for an image, by the status with which it ends
 pub record EndsMap {V : Type 0} (image : List ℕ) (contents : V → Option (List ℕ)) (old new : Writing V) (status : Status) : Type 0 where
   pub done : status ≡ Done → PutsMap image contents old new true
   pub accepted : status ≡ Done → Accepted image

@@ -1,4 +1,5 @@
--- What `migrate` writes. Where a definition ends in a `Bool`, it says whether all got through.
+-- The output of `migrate`. If the last argument of a definition is a `Bool`, it is whether all
+-- writes succeeded.
 use Rattle.std.specs.Prelude.{◌≡◌, ◌≢◌, ◌⊎◌, ℕ, Bool, true, false, List, codes, Option}
 use Rattle.palm_text.specs.Counted.{Writing}
 use Rattle.heap_model.specs.Store.{Accepted}
@@ -12,20 +13,20 @@ use Rattle.program_io.specs.declared.status.Status.TheVariants.{Done, Refused, B
 abbrev pub IsNotMigrated : List ℕ → Type 0
 IsNotMigrated image = (Accepted image → ⊥) ⊎ IsTooLarge image
 
--- the image that it becomes
+-- the output is the image with a chain of tables that an image becomes
 abbrev pub PutsMigrated : {W : Type 0} → List ℕ → (W → Option (List ℕ)) → Writing W → Writing W → Bool → Type 0
 PutsMigrated image contents old new ok = (grown : List ℕ) × IsMigrated image grown × Puts contents old new grown ok
 
--- A write or a flush failed in `migrate`, and nothing was written after it: it was one of the image's, and nothing was
--- printed; or one of `ok`, behind the whole image; or the image is refused, it was one of the line that says so, and no
--- image was written.
+-- A write or a flush failed in `migrate`, and nothing was written after it. There are three cases.
+-- It failed for the image, and nothing was printed. Or it failed for `ok`, after the whole image.
+-- Or the image is refused, it failed for the line with the fault, and no image was written.
 abbrev pub MigrateBreaksOff : {W V : Type 0} → List ℕ → (W → Option (List ℕ)) → Writing W → Writing W → (V → Option (List ℕ)) → Writing V → Writing V → Type 0
 MigrateBreaksOff image image_contents image_old image_new contents old new =
     (Accepted image × PutsMigrated image image_contents image_old image_new false × (new ≡ old))
     ⊎ (Accepted image × PutsMigrated image image_contents image_old image_new true × Puts contents old new (codes "ok\n") false)
     ⊎ (IsNotMigrated image × PutsBad contents old new false × (image_new ≡ image_old))
 
--- what `migrate` wrote, by the status with which it ends
+-- the output of `migrate`, by the status with which it ends
 pub record EndsMigrate {W V : Type 0} (image : List ℕ) (image_contents : W → Option (List ℕ)) (image_old image_new : Writing W) (contents : V → Option (List ℕ)) (old new : Writing V) (status : Status) : Type 0 where
   pub accepted : status ≡ Done → Accepted image
   pub written : status ≡ Done → PutsMigrated image image_contents image_old image_new true

@@ -17,7 +17,7 @@ use store_check::{StoreFault, StoreSummary, check_store_from};
 
 /// Writes a blank image of this size and slot count to `image_out`, and then `ok` to `out`.
 ///
-/// Where there is no such image, says why on `out` and writes no image.
+/// If no image may have this size and slot count, prints why on `out` and writes no image.
 pub fn cmd_new<W: Write, V: Write>(
     alloc: Global,
     size: u32,
@@ -32,7 +32,7 @@ pub fn cmd_new<W: Write, V: Write>(
     cmd_new_from(&alloc, size, slots, image_out, out)
 }
 
-/// `cmd_new`, where each growth asks for a grant.
+/// Does the same as `cmd_new`, with memory from an allowance.
 pub fn cmd_new_from<A: Allowance, W: Write, V: Write>(
     memory: &A,
     size: u32,
@@ -63,7 +63,7 @@ pub fn cmd_check<V: Write>(alloc: Global, image: &[u8], out: &mut Counted<V>) ->
     cmd_check_from(&alloc, image, out)
 }
 
-/// `cmd_check`, where each growth asks for a grant.
+/// Does the same as `cmd_check`, with memory from an allowance.
 pub fn cmd_check_from<A: Allowance, V: Write>(
     memory: &A,
     image: &[u8],
@@ -78,7 +78,7 @@ pub fn cmd_check_from<A: Allowance, V: Write>(
     }
 }
 
-/// `cmd_check_from`, of an image that lies in a region, of which nothing may be lent. It makes no copy of it.
+/// Does the same as `cmd_check_from` for an image in a region. It makes no copy of the image.
 pub fn check_region_from<A: Allowance, V: Write>(
     memory: &A,
     region: &Region,
@@ -95,7 +95,7 @@ pub fn check_region_from<A: Allowance, V: Write>(
     }
 }
 
-/// The lines for an accepted image.
+/// Returns the lines for an accepted image.
 fn summary_text<A: Allowance>(memory: &A, summary: &StoreSummary) -> Result<String, AllocError>
     ensures lines { IfOk result (λ lines. string_bytes lines ≡ summary_lines summary.now) }
     ensures short { OnErr result (A.is_short memory.now) }
@@ -105,7 +105,7 @@ fn summary_text<A: Allowance>(memory: &A, summary: &StoreSummary) -> Result<Stri
     text_of(memory, format_args!("{line}databases {databases}\n"))
 }
 
-/// The line for an accepted heap.
+/// Returns the line for an accepted heap.
 fn heap_text<A: Allowance>(memory: &A, summary: &Summary) -> Result<String, AllocError>
     ensures line { IfOk result (λ line. string_bytes line ≡ heap_line summary.now) }
     ensures short { OnErr result (A.is_short memory.now) }

@@ -1,13 +1,14 @@
-//! What keeps a command from its start.
+//! The faults that prevent a command from starting.
 
 ghost use Rattle.std.specs.Prelude.{◌≡◌};
 ghost use Rattle.program_io.specs.Status.{status_of};
 
 use program_io::{InputFault, Status, report_fault, report_input_fault};
 
-/// The names of the standard streams, for reports of what failed.
+/// The names of the standard streams, for reports of failures.
 pub(crate) const STANDARD_INPUT: &str = "standard input";
 
+/// The name of standard output, for reports of failures.
 pub const STANDARD_OUTPUT: &str = "standard output";
 
 pub(crate) const STANDARD_ERROR: &str = "standard error";
@@ -15,7 +16,7 @@ pub(crate) const STANDARD_ERROR: &str = "standard error";
 /// The word for standard input, or standard output, in place of a path.
 pub(crate) const STANDARD_STREAM: &str = "-";
 
-/// Says what kept a command from its start, and answers it.
+/// Reports on standard error why a command did not start, and returns the status.
 pub fn fail<R: Eprint>(rt: &R, status: Status) -> Status
     ensures { result ≡ status }
 {
@@ -23,7 +24,7 @@ pub fn fail<R: Eprint>(rt: &R, status: Status) -> Status
     status
 }
 
-/// Says why a file can't be read, and answers what that comes to.
+/// Reports on standard error why a file can't be read, and returns the status of the fault.
 pub(crate) fn fail_to_read<R: Eprint>(rt: &R, path: &str, fault: InputFault) -> Status
     ensures { result ≡ status_of fault }
 {

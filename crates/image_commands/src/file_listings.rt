@@ -11,7 +11,7 @@ use std::io;
 use std::io::{BufWriter, Input};
 use std::rt::Files;
 
-/// Runs `list`. The path `-` stands for standard input, here and in `canonical`.
+/// Runs `list`. The path `-` means standard input.
 pub fn list<R: Files + Input + Print + Eprint + AllocGlobal>(rt: &R, path: &str) -> Status
     ensures { result ≢ Status.BadWords }
 {
@@ -31,7 +31,8 @@ pub fn list<R: Files + Input + Print + Eprint + AllocGlobal>(rt: &R, path: &str)
     status
 }
 
-/// Runs `canonical`. The path `-` stands for standard output. What is printed goes to standard error then.
+/// Runs `canonical`. The path `-` means standard input. The output path `-` means standard output,
+/// and then the reply goes to standard error.
 pub fn canonical<R: Files + Input + Print + Eprint + AllocGlobal>(
     rt: &R,
     path: &str,
@@ -68,7 +69,7 @@ fn canonical_to_output<R: Print + Eprint + AllocGlobal>(rt: &R, file: &[u8]) -> 
     status
 }
 
-/// Writes the canonical form of a file to another.
+/// Writes the canonical form of a file to another file.
 fn canonical_to_file<R: Files + Print + Eprint + AllocGlobal>(
     rt: &R,
     file: &[u8],

@@ -1,4 +1,5 @@
-//! The files that a command reads and writes. What keeps one from that is on standard error then.
+//! The files that a command reads and writes. If a file can't be read or written, the reason is
+//! printed on standard error.
 
 ghost use Rattle.std.specs.Prelude.{◌≡◌, ◌≤◌, ◌⊎◌, ◌++◌, IfOk, IfErr, None, codes, decimal, length, string_bytes, vec_len};
 
@@ -14,7 +15,11 @@ use std::fs::File;
 use std::io::Input;
 use std::rt::Files;
 
-/// All of a file.
+/// Reads a whole file.
+///
+/// # Errors
+/// - `ReadFault`: the file can't be read, or is longer than `INPUT_LIMIT`.
+/// - `NoMemory`: an allocation failed.
 pub fn read_file<R: Files + Eprint + AllocGlobal>(rt: &R, path: &str) -> Result<Vec<u8>, Status>
     ensures limit { IfOk result (λ bytes. vec_len bytes ≤ INPUT_LIMIT) }
     ensures faults { IfErr result (λ status. (status ≡ Status.ReadFault) ⊎ (status ≡ Status.NoMemory)) }
@@ -29,8 +34,8 @@ pub fn read_file<R: Files + Eprint + AllocGlobal>(rt: &R, path: &str) -> Result<
     }
 }
 
-/// All of a file. The path `-` stands for standard input.
-pub(crate) fn read_file_or_input<R: Files + Input + Eprint + AllocGlobal>(
+/// Reads a whole file. The path `-` means standard input.
+pub fn read_file_or_input<R: Files + Input + Eprint + AllocGlobal>(
     rt: &R,
     path: &str,
 ) -> Result<Vec<u8>, Status>
@@ -46,7 +51,11 @@ pub(crate) fn read_file_or_input<R: Files + Input + Eprint + AllocGlobal>(
     }
 }
 
-/// All of a file, in a region.
+/// Reads a whole file into a region.
+///
+/// # Errors
+/// - `ReadFault`: the file can't be read, or is longer than `INPUT_LIMIT`.
+/// - `NoMemory`: an allocation failed.
 pub fn read_image<R: Files + Eprint + AllocGlobal>(rt: &R, path: &str) -> Result<Region, Status>
     ensures limit { IfOk result (λ region. length region.bytes ≤ INPUT_LIMIT) }
     ensures whole { IfOk result (λ region. region.lent ≡ None) }
@@ -59,7 +68,11 @@ pub fn read_image<R: Files + Eprint + AllocGlobal>(rt: &R, path: &str) -> Result
     }
 }
 
-/// All of some files, in order.
+/// Reads some files as wholes, in order.
+///
+/// # Errors
+/// - `ReadFault`: a file can't be read, or is longer than `INPUT_LIMIT`.
+/// - `NoMemory`: an allocation failed.
 pub fn read_files<R: Files + Eprint + AllocGlobal>(
     rt: &R,
     paths: &[&str],
@@ -77,8 +90,9 @@ pub fn read_files<R: Files + Eprint + AllocGlobal>(
     Ok(files)
 }
 
-/// Writes each exported file beside the image, the first one to the image's path with `.1` behind it. Those
-/// behind one that can't be written aren't written.
+/// Writes each exported file next to the image. The path of a file is the path of the image
+/// followed by a point and the file's number, from 1 on. The files after one that can't be written
+/// aren't written.
 pub fn write_files<R: Files + Eprint + AllocGlobal>(rt: &R, path: &str, files: &[Bytes]) -> Status
     ensures { (result ≡ Status.Done) ⊎ (result ≡ Status.WriteFault) ⊎ (result ≡ Status.NoMemory) }
 {
@@ -94,7 +108,8 @@ pub fn write_files<R: Files + Eprint + AllocGlobal>(rt: &R, path: &str, files: &
     Status::Done
 }
 
-/// Returns the path of an exported file: the path of the image, a point and the file's number, from 1 on.
+/// Returns the path of an exported file: the path of the image, a point and the file's number, from
+/// 1 on.
 fn export_path(alloc: Global, image: &str, number: usize) -> Result<String, AllocError>
     ensures { IfOk result (λ path.
         string_bytes path ≡ image.now ++ (codes "." ++ decimal number)) }
@@ -102,8 +117,8 @@ fn export_path(alloc: Global, image: &str, number: usize) -> Result<String, Allo
     format!(in alloc; "{image}.{number}")
 }
 
-/// Writes a file as a whole or not at all.
-fn write_file<R: Files + Eprint + AllocGlobal>(rt: &R, path: &str, bytes: &[u8]) -> Status
+/// Writes a file as a whole, or not at all.
+pub fn write_file<R: Files + Eprint + AllocGlobal>(rt: &R, path: &str, bytes: &[u8]) -> Status
     ensures { (result ≡ Status.Done) ⊎ (result ≡ Status.WriteFault) ⊎ (result ≡ Status.NoMemory) }
 {
     let Ok(out) = OutputFile::new(rt, path) else {

@@ -25,7 +25,7 @@ use std::{fs, io, str};
 /// The name of the text in a folder of parts.
 const TEXT: &str = "database";
 
-/// Runs `unpack`. The path `-` stands for standard input.
+/// Runs `unpack`. The path `-` means standard input.
 pub fn unpack<R: Files + Input + Print + Eprint + AllocGlobal>(
     rt: &R,
     path: &str,
@@ -74,7 +74,8 @@ pub fn pack<R: Files + Print + Eprint + AllocGlobal>(rt: &R, folder: &str, out_p
     }
 }
 
-/// Reports why a command that writes to standard output alone failed, if it did, and returns its status.
+/// Reports why a command that writes only to standard output failed, if it did, and returns its
+/// status.
 fn reported<R: Eprint, W: Write + Drop>(rt: &R, status: Status, out: Counted<Noted<W>>) -> Status
     ensures { result ≡ status }
 {
@@ -107,7 +108,7 @@ fn pack_to<R: Files + Eprint + AllocGlobal, W: Write + Drop>(
 }
 
 /// Returns the path of a file in a folder.
-fn path_in(alloc: Global, folder: &str, name: &str) -> Result<String, AllocError>
+pub fn path_in(alloc: Global, folder: &str, name: &str) -> Result<String, AllocError>
     ensures { IfOk result (λ path. string_bytes path ≡ folder.now ++ (codes "/" ++ name.now)) }
 {
     format!(in alloc; "{folder}/{name}")
@@ -132,8 +133,9 @@ fn part_path(alloc: Global, folder: &str, name: PartName) -> Result<String, Allo
     }
 }
 
-/// Makes a folder with the parts of a file and the text, and returns how many files it has. If something fails, the
-/// files that were made are removed, and the folder. The text is written last, so a folder with a text is whole.
+/// Makes a folder with the parts of a file and the text, and returns how many files it has. If a
+/// step fails, it removes the files that it made, and the folder. It writes the text last, so a
+/// folder with a text is whole.
 fn make_folder<R: Files + Eprint + AllocGlobal>(
     rt: &R,
     folder: &str,
@@ -160,7 +162,8 @@ fn make_folder<R: Files + Eprint + AllocGlobal>(
     Err(status)
 }
 
-/// How many ranks of a file were done, and how many parts were written for them.
+/// The number of ranks of a file that were done, and the number of parts that were written for
+/// them.
 #[derive(Clone, Copy)]
 struct Made {
     ranks: usize,
@@ -196,7 +199,7 @@ fn write_parts<R: Files + Eprint + AllocGlobal>(
     Status::Done
 }
 
-/// Writes a part into a folder. If that fails, says why.
+/// Writes a part into a folder. If that fails, reports why.
 fn write_part<R: Files + Eprint + AllocGlobal>(rt: &R, folder: &str, part: Part<'_>) -> Status
     ensures { (result ≡ Status.Done) ⊎ (result ≡ Status.WriteFault) ⊎ (result ≡ Status.NoMemory) }
 {
@@ -212,7 +215,7 @@ fn write_part<R: Files + Eprint + AllocGlobal>(rt: &R, folder: &str, part: Part<
     }
 }
 
-/// Writes a file that isn't there yet. One that can't be written whole is removed.
+/// Writes a file that isn't there yet. Removes it if it can't be written whole.
 fn write_new<R: Files>(rt: &R, path: &str, bytes: &[u8]) -> io::Result<()> {
     let mut file = File::create_new(rt, path)?;
     let written = file.write_all(bytes);
@@ -223,7 +226,7 @@ fn write_new<R: Files>(rt: &R, path: &str, bytes: &[u8]) -> io::Result<()> {
     written
 }
 
-/// Writes the text of a file that was taken apart into a folder. If that fails, says why.
+/// Writes the text of an unpacked file into a folder. If that fails, reports why.
 fn write_text<R: Files + Eprint + AllocGlobal>(
     rt: &R,
     folder: &str,
@@ -251,7 +254,7 @@ fn write_text<R: Files + Eprint + AllocGlobal>(
     status
 }
 
-/// Writes the text of a file that was taken apart, and flushes. Returns the writer's first error too.
+/// Writes the text of an unpacked file, and flushes. Also returns the writer's first error.
 fn write_lines<R: AllocGlobal, W: Write + Drop>(
     rt: &R,
     created: W,
@@ -306,7 +309,7 @@ fn read_text<R: Files + Eprint + AllocGlobal>(rt: &R, folder: &str) -> Result<Ve
     read_in(rt, folder, TEXT)
 }
 
-/// Reads a file of a folder. A link, a folder or a device is refused.
+/// Reads a file of a folder. Refuses a link, a folder or a device.
 fn read_in<R: Files + Eprint + AllocGlobal>(
     rt: &R,
     folder: &str,
@@ -327,7 +330,8 @@ fn read_in<R: Files + Eprint + AllocGlobal>(
     }
 }
 
-/// Reads the parts of a listed database, by their ranks. `Refused` says that they have more bytes than a file may have.
+/// Reads the parts of a listed database, by their ranks. The error `Refused` means that they have
+/// more bytes than a file may have.
 fn read_parts<R: Files + Eprint + AllocGlobal>(
     rt: &R,
     folder: &str,

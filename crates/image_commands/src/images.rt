@@ -11,7 +11,7 @@ use program_io::{Noted, OutputFile, Status, report_outcome};
 use std::io;
 use std::rt::Files;
 
-/// Runs `new`.
+/// Runs `new`: writes a blank image to a path.
 pub fn new<R: Files + Print + Eprint + AllocGlobal>(
     rt: &R,
     size: u32,
@@ -34,7 +34,7 @@ pub fn new<R: Files + Print + Eprint + AllocGlobal>(
     status
 }
 
-/// Runs `check`.
+/// Runs `check` on the image at a path.
 pub fn check<R: Files + Print + Eprint + AllocGlobal>(rt: &R, path: &str) -> Status
     ensures { result ≢ Status.BadWords }
 {
@@ -49,7 +49,7 @@ pub fn check<R: Files + Print + Eprint + AllocGlobal>(rt: &R, path: &str) -> Sta
     status
 }
 
-/// Runs `migrate`.
+/// Runs `migrate` on an image, and writes the new image to a path.
 pub fn migrate<R: Files + Print + Eprint + AllocGlobal>(rt: &R, image: &str, path: &str) -> Status
     ensures { result ≢ Status.BadWords }
 {

@@ -1,14 +1,16 @@
-//! The commands of the program `palmheap` that run no script: `new`, `check`, `migrate` and `map` on an image, `list`,
-//! `canonical`, `unpack` and `pack` on a file; and the files that all commands read and write.
+//! The commands of the program `palmheap` that run no script, and the files that all commands read
+//! and write. `new`, `check`, `migrate` and `map` work on an image, and `list`, `canonical`,
+//! `unpack` and `pack` on a file.
 //!
-//! The first four are functions over bytes and counted writers, whose contract says which status comes when, what was
-//! written by then, and where a write failed; `file_commands` has the others. Each also has a form over any
-//! `Allowance`, which reports out of memory only if an allocation failed. Start at `cmd_new`.
+//! The first four are functions over bytes and counted writers. Their contracts state when each
+//! status is returned, what was written by then, and after which bytes a write failed.
+//! `file_commands` has the other commands. Each also has a form over any `Allowance`, which reports
+//! out of memory only if an allocation failed. Start at `cmd_new`.
 //!
-//! The functions over paths meet the system: they read the input files, print, have the output files put in place, and
-//! say on standard error which file failed and why. No contract can say what a file or a terminal holds. So their clauses
-//! say only with which statuses a command ends, and the stored runs of `test_program` show which file is read and written
-//! as what.
+//! The functions over paths use the system: they read the input files, print, and put the output
+//! files in place. They report on standard error which file failed and why. No contract can state
+//! the content of a file or a terminal. So their clauses state only the statuses with which a
+//! command ends. The stored runs of `test_program` show which files are read and written.
 //!
 //! | module | does |
 //! |---|---|
@@ -21,7 +23,7 @@
 //! | `file_listings` | the commands `list` and `canonical`, over files |
 //! | `folders` | the commands `unpack` and `pack`, over files and folders |
 //! | `files` | reads and writes files |
-//! | `faults` | says what kept a command from its start |
+//! | `faults` | reports why a command did not start |
 #![tactic(auto)]
 
 mod commands;
@@ -38,8 +40,8 @@ mod migrate_command;
 pub use commands::{check_region_from, cmd_check, cmd_check_from, cmd_new, cmd_new_from};
 pub use faults::{STANDARD_OUTPUT, fail};
 pub use file_listings::{canonical, list};
-pub use files::{read_file, read_files, read_image, write_files};
-pub use folders::{pack, unpack};
+pub use files::{read_file, read_file_or_input, read_files, read_image, write_file, write_files};
+pub use folders::{pack, path_in, unpack};
 pub use image_output::put_store;
 pub use images::{check, migrate, new};
 pub use map_command::{cmd_map, cmd_map_from, map_region_from};

@@ -22,7 +22,7 @@ pub fn cmd_map<V: Write>(alloc: Global, image: &[u8], out: &mut Counted<V>) -> S
     cmd_map_from(&alloc, image, out)
 }
 
-/// `cmd_map`, where each growth asks for a grant.
+/// Does the same as `cmd_map`, with memory from an allowance.
 pub fn cmd_map_from<A: Allowance, V: Write>(
     memory: &A,
     image: &[u8],
@@ -37,7 +37,7 @@ pub fn cmd_map_from<A: Allowance, V: Write>(
     }
 }
 
-/// `cmd_map_from`, of an image that lies in a region, of which nothing may be lent.
+/// Does the same as `cmd_map_from` for an image in a region.
 pub fn map_region_from<A: Allowance, V: Write>(
     memory: &A,
     region: &Region,

@@ -11,7 +11,7 @@ use std::io;
 use std::io::BufWriter;
 use std::rt::Files;
 
-/// Runs `map`, which prints the picture.
+/// Runs `map` on the image at a path: prints its picture.
 pub fn map<R: Files + Print + Eprint + AllocGlobal>(rt: &R, path: &str) -> Status
     ensures { result ≢ Status.BadWords }
 {

@@ -16,8 +16,8 @@ use raw_region::Region;
 use std::alloc::Global;
 use std::io::Write;
 
-/// Writes the image with a chain of tables that an image becomes to `image_out`, and then `ok` to `out`. An image that
-/// has a chain is written as it is.
+/// Turns an image into one with a chain of tables. Writes the new image to `image_out`, and then
+/// `ok` to `out`. Writes an image that has a chain as it is.
 ///
 /// If the image is refused, prints why on `out` and writes no image.
 pub fn cmd_migrate<W: Write, V: Write>(
@@ -33,7 +33,7 @@ pub fn cmd_migrate<W: Write, V: Write>(
     cmd_migrate_from(&alloc, image, image_out, out)
 }
 
-/// `cmd_migrate`, where each growth asks for a grant.
+/// Does the same as `cmd_migrate`, with memory from an allowance.
 pub fn cmd_migrate_from<A: Allowance, W: Write, V: Write>(
     memory: &A,
     image: &[u8],
@@ -50,7 +50,7 @@ pub fn cmd_migrate_from<A: Allowance, W: Write, V: Write>(
     }
 }
 
-/// `cmd_migrate_from`, of an image that lies in a region, of which nothing may be lent.
+/// Does the same as `cmd_migrate_from` for an image in a region.
 pub fn migrate_region_from<A: Allowance, W: Write, V: Write>(
     memory: &A,
     region: Region,
@@ -72,7 +72,8 @@ pub fn migrate_region_from<A: Allowance, W: Write, V: Write>(
     }
 }
 
-/// The store that the store of an image becomes. Prints why, if there is none.
+/// Returns the store with a chain of tables that the image's store becomes. If there is none,
+/// prints why.
 fn migrated<A: Allowance, V: Write>(
     memory: &A,
     region: Region,

@@ -1,4 +1,5 @@
--- A table of empty slots that stands apart from the chain is added to it: its place is written into the last word `next`.
+-- A table of empty slots that stands apart from the chain is added to it: its place is written into
+-- the last word `next`.
 use Rattle.std.proofs.Common.{true, cond, ◌≡◌, ◌≢◌, ℕ, ◌+◌, ◌-◌, ◌*◌, ◌%◌, ◌<◌, ◌≤◌, List, [], ◌∷◌, ◌++◌, length, slice_index, take, drop, replicate, refl, sym, ap, subst, ◌∙◌, arith, inl, inr, append_assoc, length-append}
 use Rattle.std.proofs.lemmas.Bool.{cases_lt}
 use Rattle.std.proofs.lemmas.List.{append-nil, get_or-take, get_or-drop}
@@ -42,7 +43,7 @@ zero_word image a n at e low high =
 
 -- ---- where the last word `next` is
 
--- behind the first table, or in front of the slots of a further one, which isn't the new one
+-- after the first table, or before the slots of a further one, which isn't the new one
 pub record LastLies (image : List ℕ) (cs : List Chunk) (word : ℕ) : Type 0 where
   pub low : 20 ≤ word
   pub inside : word + 4 ≤ length image
@@ -69,7 +70,7 @@ last_lies image cs chained t = by (last_next image) (last_there image cs (table_
 pub wrote_last : (old new : List ℕ) (place : ℕ) → AddsTable old new place → WroteWithin old new (last_next old) (last_next old + 4)
 wrote_last old new place a = wrote_word old new (last_next old) place a.word (last_lies old a.fresh.chunks a.chained a.fresh.tiles).inside
 
--- ---- words beside it
+-- ---- words next to it
 
 -- a slot of a table among chunks lies within the image
 holder_inside : (image : List ℕ) (slot at end : ℕ) (cs : List Chunk) → SpelledAll image at cs end → AnyPlaced (HoldsSlot slot) at cs → slot + 4 ≤ end
@@ -154,7 +155,7 @@ relaid old new place a = by (last_lies old cs a.chained a.fresh.tiles).head wher
 
 -- ---- the head
 
--- the words in front of the chunks are as they were, slots and the first word `next` aside
+-- the words before the chunks are as they were, slots and the first word `next` aside
 pub record HeadStays (old new : List ℕ) : Type 0 where
   pub len : length new ≡ length old
   pub words : SameBetween 0 16 old new

@@ -1,5 +1,5 @@
--- Chunks that are the same but for the bytes of tables, which have the same lengths. What speaks of no table's
--- bytes holds of both.
+-- Chunks that are the same but for the bytes of tables, which have the same lengths. What speaks of
+-- no table's bytes holds of both.
 use Rattle.std.proofs.Common.{◌≡◌, ℕ, ◌+◌, List, [], ◌∷◌, ◌++◌, length, Option, Some, refl, sym, ap, subst, ◌∙◌, arith, inl, inr}
 use Rattle.std.specs.Prelude.{◌⊎◌, ◌==◌, if◌then◌else◌}
 use Rattle.heap_model.specs.Chunk.{Chunk, free, movable, fixed, need, size_of, total}

@@ -81,7 +81,7 @@ alike_bodies (fixed bytes owner) (free size) slot place at t = absurd t
 alike_bodies (fixed bytes owner) (movable others count holder named) slot place at t = absurd t
 alike_bodies (fixed bytes owner) (fixed others holder) slot place at t = (λ b. b, λ b. b)
 
--- with free chunks behind it, which become other free ones
+-- with free chunks after it, which become other free ones
 pub altered_run : (old new : List ℕ) (before : List Chunk) (c : Chunk) (run : List Chunk) (d : Chunk) (left after : List Chunk) (at : ℕ) → IsHeap old (before ++ ((c ∷ run) ++ after)) → Replaces old new before (c ∷ run) (d ∷ left) after at → SameSlots old new → AllFree run → AllFree left
     → TiedAlike c d → (ManagersHere (directory_of old) at c → ManagersHere (directory_of old) at d) → IsCallersIfFixed at d → IsHeap new (before ++ ((d ∷ left) ++ after))
 altered_run old new before c run d left after at h r slots free_run free_left alike kept callers = replaced_heap old new before (c ∷ run) (d ∷ left) after at h r record {
@@ -106,13 +106,13 @@ claimed_fixed old new before after at size bytes owner h r slots some_owner most
 
 -- ---- by what was written
 
--- what stands in place of a chunk that was found and the free ones behind it
+-- what stands in place of a chunk that was found and the free ones after it
 pub record Rewritten (old new : List ℕ) (before : List Chunk) (c : Chunk) (run : List Chunk) (d : Chunk) (left rest : List Chunk) (at : ℕ) : Type 0 where
   pub replaces : Replaces old new before (c ∷ run) (d ∷ left) rest at
   pub heap : IsHeap new (before ++ ((d ∷ left) ++ rest))
 
--- Bytes of the chunk and of free ones directly behind it were written, and now another chunk of its name
--- stands there, with free ones behind it.
+-- Bytes of the chunk and of free ones directly after it were written, and now another chunk of its
+-- name stands there, with free ones after it.
 pub rewritten : (old new : List ℕ) (name at : ℕ) (live : LiveChunk) (c : Chunk) (run : List Chunk) (d : Chunk) (left rest : List Chunk) → HeapAccepted old → (f : Finds old name live c at) → f.after ≡ run ++ rest → AllFree run → AllFree left → WroteWithin old new at (at + total (c ∷ run))
     → SpelledAll new at (d ∷ left) (at + total (c ∷ run)) → TiedAlike c d → (ManagersHere (directory_of old) at c → ManagersHere (directory_of old) at d) → IsCallersIfFixed at d → Rewritten old new f.before c run d left rest at
 rewritten old new name at live c run d left rest h f parts free_run free_left w spelled alike kept callers =
@@ -128,7 +128,8 @@ rewritten old new name at live c run d left rest h f parts free_run free_left w 
     let slots = wrote_slots old new f.before (c ∷ run) rest at heap.tiles none there w in
     record { replaces = r; heap = altered_run old new f.before c run d left rest at heap r slots free_run free_left alike kept callers }
 
--- bytes of the chunk alone were written, and now another chunk of its size and its name stands there
+-- bytes of the chunk alone were written, and now another chunk of its size and its name stands
+-- there
 pub altered_write : (old new : List ℕ) (name at : ℕ) (live : LiveChunk) (c d : Chunk) → HeapAccepted old → (f : Finds old name live c at) → WroteWithin old new at (at + size_of c) → Spelled new at d → size_of d ≡ size_of c → TiedAlike c d
     → (ManagersHere (directory_of old) at c → ManagersHere (directory_of old) at d) → IsCallersIfFixed at d → lives (d ∷ []) ≡ d ∷ [] → Becomes old new (f.before ++ d ∷ f.after) × WritesPlain old new
 altered_write old new name at live c d h f w spelled sizes alike kept callers alive =
@@ -190,7 +191,7 @@ body_written old new name at k live (fixed bytes owner) part h f within is =
 
 -- ---- a header is written over another
 
--- the body behind a header stays
+-- the body after a header stays
 pub body_stays : (old new : List ℕ) (at : ℕ) (bytes others : List ℕ) (lock owner h_offset count holder way : ℕ) → is_table_by lock owner ≡ false → is_table_by count holder ≡ false → IsLive old at bytes lock owner h_offset → IsLive new at others count holder way → length others ≡ length bytes → WroteWithin old new at (at + 8) → others ≡ bytes
 body_stays old new at bytes others lock owner h_offset count holder way plain too s t len w =
     let inside = s.inside in

@@ -16,7 +16,7 @@ body_here slot place at (free size) b = absurd b
 body_here slot place at (movable bytes lock owner named) b = (b.1, omega arith)
 body_here slot place at (fixed bytes owner) b = absurd b
 
--- behind its chunk's header
+-- after its chunk's header
 pub IsBody-low : (at : ℕ) (cs : List Chunk) (slot place : ℕ) → IsBody at cs slot place → at + 8 ≤ place
 IsBody-low at [] slot place b = absurd b
 IsBody-low at (c ∷ cs) slot place b = elim b [

@@ -6,7 +6,7 @@ use Rattle.heap_model.specs.Bytes.{u32_at, overwritten}
 use Rattle.heap_model.specs.Chunk.{need, seen, IsFree, IsLive}
 use Rattle.laws_heap.proofs.Frames.{SameBetween}
 
--- the bytes of one list from an offset up to another stand so much further up in another
+-- the bytes of one list between two offsets are in the other list, `by` bytes further up
 pub record Carries (by start end : ℕ) (xs ys : List ℕ) : Type 0 where
   pub same : (k : ℕ) → start ≤ k → k < end → slice_index ys (k + by) ≡ slice_index xs k
 

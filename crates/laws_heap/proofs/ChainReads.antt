@@ -1,4 +1,5 @@
--- A right chain of tables is the one that is read, whatever list it was known by; and its last word `next`.
+-- A right chain of tables is the one that is read, whatever list it was known by; and its last word
+-- `next`.
 use Rattle.std.proofs.Common.{◌≡◌, ℕ, zero, suc, ◌+◌, ◌-◌, ◌*◌, ◌/◌, ◌%◌, ◌^◌, ◌<◌, ◌≤◌, List, [], ◌∷◌, length, refl, sym, ap, subst, ◌∙◌, arith, inl, inr, length-append}
 use Rattle.std.specs.Prelude.{◌⊎◌}
 use Rattle.heap_model.specs.Bytes.{u32_at}

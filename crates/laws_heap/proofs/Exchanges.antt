@@ -97,7 +97,7 @@ named_no_other name at live c run n f = record {
   ];
 }
 
--- no chunk in front of some, or behind them, has this name
+-- no chunk before some, or after them, has this name
 pub record NotBeside (start : ℕ) (before : List Chunk) (size : ℕ) (after : List Chunk) (name : ℕ) : Type 0 where
   pub front : live_under start before name ≡ None
   pub back : live_under (start + total before + size) after name ≡ None
@@ -125,8 +125,8 @@ unheld_beside image before size after name e none =
 
 -- ---- what is changed
 
--- This name alone stands for something else, and is at this place; no other name moved, and no other
--- slot changed.
+-- This name alone stands for something else, and is at this place; no other name moved, and no
+-- other slot changed.
 pub record ChangesName (old new : List ℕ) (name : ℕ) (now : Option LiveChunk) (there : Option ℕ) : Type 0 where
   pub frame : SameFrame old new
   pub here : held new name ≡ now

@@ -1,5 +1,5 @@
--- Whether so many bytes fit: into a run of free chunks, into a stretch, or into a chunk and what is free
--- behind it.
+-- Whether a number of bytes fits: into a run of free chunks, into a stretch, or into a chunk and
+-- what is free after it.
 use Rattle.std.proofs.Common.{sum_by, ◌≡◌, ℕ, ◌+◌, ◌<◌, ◌≤◌, List, [], ◌∷◌, ◌++◌, length, refl, sym, ap, subst, ◌∙◌, arith, Bool, true, false, cond, Option, Some, None, zero, suc}
 use Rattle.std.proofs.lemmas.List.Sums.{sum_by-cons}
 use Rattle.std.proofs.lemmas.List.Elements.{All-nil, All-cons, All-head, All-tail, All-weaker}
@@ -29,7 +29,7 @@ free_stays_free (free size ∷ run) name f = ap (λ (cs : List Chunk). free size
 free_stays_free (movable bytes lock owner slot ∷ run) name f = absurd f
 free_stays_free (fixed bytes owner ∷ run) name f = absurd f
 
--- where room has the size the image is short of it for no chunk
+-- if room has the size, the image is short of that size for no chunk
 pub spot_not_short_for : (image : List ℕ) (name at room size : ℕ) → 0 < size → IsSpot image at room → size ≤ room → ShortFor image name size → ⊥
 spot_not_short_for image name at room size some r enough short =
     let parts : with_freed (chunks_of image) name ≡ with_freed r.before name ++ (r.run ++ with_freed r.after name) =
@@ -51,7 +51,7 @@ stretch_not_short image before mid after size w some enough short = by_mid mid w
       let low = All-head (λ (room : ℕ). room < size) (room_of (c ∷ cs)) (rooms_of (stretches after)) (All-back (λ (room : ℕ). room < size) (rooms_of (stretches before)) (room_of (c ∷ cs) ∷ rooms_of (stretches after)) rooms) in
       omega arith
 
--- ---- a chunk with what is free behind it
+-- ---- a chunk with what is free after it
 
 pub fits_not_short_for : (image : List ℕ) (name at size : ℕ) (live : LiveChunk) (bytes : List ℕ) (lock owner slot : ℕ) → HeapAccepted image → (f : Finds image name live (movable bytes lock owner slot) at) → 0 < size → size ≤ need (length bytes) + free_front f.after → ShortFor image name size → ⊥
 fits_not_short_for image name at size live bytes lock owner slot h f some fits short =
@@ -114,7 +114,7 @@ all_fit image h = let e = SpelledAll-end image (area_start image) (chunks_of ima
 pub short_beyond : (image : List ℕ) (size : ℕ) → HeapAccepted image → 16777208 < size → Short image size
 short_beyond image size h big = let most = all_fit image h in let within = free_within (chunks_of image) in rooms_below (chunks_of image) size (omega arith)
 
--- and no run has so many
+-- and no run has that size
 pub no_run_beyond : (image : List ℕ) (size : ℕ) → HeapAccepted image → 16777208 < size → NoRun (chunks_of image) size
 no_run_beyond image size h big = short_no_run (chunks_of image) size (omega arith) (short_beyond image size h big)
 

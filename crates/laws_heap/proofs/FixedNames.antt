@@ -1,5 +1,5 @@
--- The names of fixed chunks. A fixed chunk's name is the place of its body; no other file takes that
--- apart.
+-- The names of fixed chunks. A fixed chunk's name is the place of its body; no other file takes
+-- that apart.
 use Rattle.std.proofs.Common.{◌≡◌, ◌≢◌, ℕ, ◌+◌, ◌<◌, true, false, List, refl, sym, ap, ◌∙◌, arith, inl, inr}
 use Rattle.std.proofs.lemmas.Bool.Decides.{Decides-and, Decides-eqb, Decides-ltb}
 use Rattle.std.specs.Bool.{Decides}

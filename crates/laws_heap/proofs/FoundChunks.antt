@@ -56,7 +56,7 @@ named_size name live at (free size) named = absurd named
 named_size name live at (movable bytes lock owner slot) named = ap (λ (x : LiveChunk). need (length x.bytes)) (sym named.1)
 named_size name live at (fixed bytes owner) named = ap (λ (x : LiveChunk). need (length x.bytes)) (sym (fixed_live_is at bytes owner named))
 
--- and its body, which begins behind its header
+-- and its body, which begins after its header
 pub record HasBody (image : List ℕ) (at : ℕ) (live : LiveChunk) : Type 0 where
   pub inside : at + need (length live.bytes) ≤ length image
   pub bytes : slice_range image (at + 8) (at + 8 + length live.bytes) ≡ live.bytes

@@ -1,4 +1,5 @@
--- Frames: numbers and parts of two lists of bytes agree where the lists do, and what a write leaves.
+-- Frames: numbers and parts of two lists of bytes agree where the lists do, and what a write
+-- leaves.
 use Rattle.std.proofs.Common.{◌≡◌, ℕ, zero, suc, ◌+◌, ◌-◌, ◌^◌, ◌<◌, ◌≤◌, List, ◌++◌, length, get_or, slice_index, take, drop, replicate, refl, sym, ap, ◌∙◌, append_assoc, arith, length-append, length-take, length-drop}
 use Rattle.std.proofs.lemmas.List.{get_or-take, get_or-drop, get_or_append_left, get_or-append_right, length-take-le, drop_at, take_at, drop-drop, drop-take, drop-append-le, take-take, same_lists, get_or_default}
 use Rattle.std.proofs.Math.Seq.{take-append-add}
@@ -71,7 +72,7 @@ overwritten-above old at part end inside = record {
       sym (back ∙ dropped ∙ ap (λ (i : ℕ). get_or old i 0) there);
 }
 
--- a number behind the start of a list is one of the rest
+-- a number after the start of a list is one of the rest
 big_from-drop : (i n k : ℕ) (xs : List ℕ) → big_from i n (drop k xs) ≡ big_from (k + i) n xs
 big_from-drop i zero k xs = refl
 big_from-drop i (suc n) k xs =
@@ -107,7 +108,7 @@ pub length-u16_bytes : (x : ℕ) → length (u16_bytes x) ≡ 2
 unfolding u16_bytes
 length-u16_bytes x = refl
 
--- two writes one behind the other are one
+-- two writes one after the other are one
 pub overwritten-behind : (old : List ℕ) (at : ℕ) (front back : List ℕ) (there : ℕ) → there ≡ at + length front → there + length back ≤ length old
     → overwritten (overwritten old at front) there back ≡ overwritten old at (front ++ back)
 unfolding overwritten
@@ -165,12 +166,12 @@ u16_at-zeros at m = big_from-zeros at 2 m
 
 -- ---- a write within a part
 
--- in parts behind each other: what stands in front, what is written, and the rest
+-- in parts: the bytes before, the written ones, and the rest
 overwritten-parts : (old : List ℕ) (at : ℕ) (part : List ℕ) → overwritten old at part ≡ take at old ++ (part ++ drop (at + length part) old)
 unfolding overwritten
 overwritten-parts old at part = append_assoc (take at old) part (drop (at + length part) old)
 
--- behind an offset
+-- after an offset
 overwritten-dropped : (old : List ℕ) (at k : ℕ) (part : List ℕ) → at + k ≤ length old → drop at (overwritten old (at + k) part) ≡ overwritten (drop at old) k part
 overwritten-dropped old at k part inside =
     let front : at ≤ length (take (at + k) old) = simp length-take (omega arith) in
@@ -181,7 +182,7 @@ overwritten-dropped old at k part inside =
     ∙ ap (λ (x : List ℕ). take k (drop at old) ++ (part ++ x)) (ap (λ (n : ℕ). drop n old) (sym there) ∙ sym (drop-drop (k + length part) at old))
     ∙ sym (overwritten-parts (drop at old) k part)
 
--- in front of an offset
+-- before an offset
 overwritten-taken : (old : List ℕ) (k rest : ℕ) (part : List ℕ) → k + length part + rest ≤ length old → take (k + length part + rest) (overwritten old k part) ≡ overwritten (take (k + length part + rest) old) k part
 overwritten-taken old k rest part inside =
     let n : ℕ = k + length part + rest in

@@ -183,7 +183,7 @@ claimed old new before after at c bytes owner slot none h r s empty now others =
   directory = kept_directory old new before (c ∷ []) (movable bytes 0 owner slot ∷ []) after at h r (λ m. elim m [ inl own ↦ absurd (no_managers (directory_of old) at c none own) | inr nothing ↦ absurd nothing ]);
 }
 
--- ---- a live chunk is given back, with the free chunks behind it
+-- ---- a live chunk is given back, with the free chunks after it
 
 -- the slot of a movable chunk is cleared
 abbrev pub ClearsSlot : List ℕ → Chunk → Type 0

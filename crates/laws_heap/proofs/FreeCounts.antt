@@ -1,4 +1,4 @@
--- How much is free follows from what is held: an image's bytes behind its head are free, or those of
+-- How much is free follows from what is held: an image's bytes after its head are free, or those of
 -- chunks that names stand for.
 use Rattle.std.proofs.Common.{◌≡◌, ◌≢◌, ℕ, zero, suc, ◌+◌, ◌*◌, ◌<◌, ◌≤◌, Bool, true, false, cond, List, [], ◌∷◌, ◌++◌, length, Option, Some, None, refl, sym, ap, subst, ◌∙◌, append_assoc, arith, inl, inr}
 use Rattle.std.specs.Prelude.{◌==◌, ◌&&◌, ◌⊎◌}
@@ -87,7 +87,7 @@ Decides-under at owner place = Decides-and _ _ (Decides-eqb owner 0) (Decides-eq
 not_under : (at owner place : ℕ) → ((owner ≡ 0) × (at + 8 ≡ place) → ⊥) → ((owner == 0) && ((at + 8) == place)) ≡ false
 not_under at owner place none = elim (true_or_false ((owner == 0) && ((at + 8) == place))) [ inl is ↦ absurd (none ((Decides-under at owner place).0 is)) | inr isnt ↦ isnt ]
 
--- none has its body in front of them
+-- none has its body before them
 under_low : (at : ℕ) (cs : List Chunk) (place : ℕ) → place < at + 8 → table_under at cs place ≡ 0
 under_low at [] place low = refl
 under_low at (free size ∷ cs) place low = under_low (at + size) cs place (omega arith)
@@ -178,14 +178,14 @@ abbrev taken : Option LiveChunk → ℕ
 taken None = 0
 taken (Some live) = need (length live.bytes)
 
--- each live chunk's name is below a number, and no chunk behind it has that name
+-- each live chunk's name is below a number, and no chunk after it has that name
 abbrev NamedApart : ℕ → ℕ → List Chunk → Type 0
 NamedApart bound at [] = Unit {0}
 NamedApart bound at (free size ∷ chunks) = NamedApart bound (at + size) chunks
 NamedApart bound at (movable bytes lock owner slot ∷ chunks) = (slot < bound) × (live_under (at + need (length bytes)) chunks slot ≡ None) × NamedApart bound (at + need (length bytes)) chunks
 NamedApart bound at (fixed bytes owner ∷ chunks) = ((owner ≡ 0) ⊎ ((0 < owner) × (fixed_name at < bound) × (live_under (at + need (length bytes)) chunks (fixed_name at) ≡ None))) × NamedApart bound (at + need (length bytes)) chunks
 
--- a first chunk of a name, which none behind it has
+-- a first chunk of a name, which none after it has
 first_taken : (bound one : ℕ) (test : ℕ → Bool) (live : LiveChunk) (rest : ℕ → Option LiveChunk) → one < bound → test one ≡ true → ((name : ℕ) → name ≢ one → test name ≡ false) → rest one ≡ None
     → sum_below (λ name. taken (cond (test name) (Some live) (rest name))) bound ≡ need (length live.bytes) + sum_below (λ name. taken (rest name)) bound
 first_taken bound one test live rest low own other none =
@@ -274,7 +274,7 @@ tables_take old new before after long same =
     ∙ ap (λ (t : Tables). sum_below (table_listed t.further) (length old + 1)) same
     ∙ sym (table_total_listed old before)
 
--- the bytes behind the head are free, those of tables, or those of chunks that names stand for
+-- the bytes after the head are free, those of tables, or those of chunks that names stand for
 area_shared : (image : List ℕ) → HeapAccepted image → area_start image + free_total image + table_total (chunks_of image) + sum_below (λ name. taken (held image name)) (length image + 1) ≡ length image
 area_shared image h =
     let named = lives_taken (length image + 1) (area_start image) (chunks_of image) (subst (λ (n : ℕ). NamedApart (length image + 1) n (chunks_of image)) (let start : area_start image + total [] ≡ area_start image = omega arith in start) (apart_from image [] (chunks_of image) h refl)) in

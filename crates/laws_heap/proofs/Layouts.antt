@@ -89,7 +89,7 @@ onto_live_behind n (free m ∷ xs) c ys live = refl
 onto_live_behind n (movable bytes lock owner slot ∷ xs) c ys live = refl
 onto_live_behind n (fixed bytes owner ∷ xs) c ys live = refl
 
--- a live chunk keeps what is in front of it and what is behind it apart
+-- a live chunk keeps what is before it and what is after it apart
 pub merged-live : (xs : List Chunk) (c : Chunk) (ys : List Chunk) → IsNotFree c → merged (xs ++ c ∷ ys) ≡ merged xs ++ c ∷ merged ys
 merged-live [] (free size) ys live = absurd live
 merged-live [] (movable bytes lock owner slot) ys live = refl
@@ -246,7 +246,7 @@ marks-merged (fixed bytes owner ∷ cs) = ap (λ (ms : List (Option ℕ)). None 
 pub rooms-merged : (cs : List Chunk) → rooms_of (stretches (merged cs)) ≡ rooms_of (stretches cs)
 rooms-merged cs = marked_rooms (runs_between (merged cs)) ∙ ap marked (marks-merged cs) ∙ sym (marked_rooms (runs_between cs))
 
--- ---- what is free behind a chunk
+-- ---- what is free after a chunk
 
 pub free_front-merged : (cs : List Chunk) → free_front (merged cs) ≡ free_front cs
 free_front-merged [] = refl
@@ -328,7 +328,7 @@ run_front (fixed bytes owner ∷ run) after f = absurd f
 pub no_run_tail : (c : Chunk) (cs : List Chunk) (size : ℕ) → NoRun (c ∷ cs) size → NoRun cs size
 no_run_tail c cs size h before run after e f = h (c ∷ before) run after (ap (λ (ds : List Chunk). c ∷ ds) e) f
 
--- no run has so many bytes where no free chunk of the layout has
+-- no run has the size if no free chunk of the layout has
 pub no_run-below : (cs : List Chunk) (size : ℕ) → NoRun cs size → AllBelow size (merged cs)
 no_run-below [] size h = All-nil (λ (c : Chunk). free_size c < size)
 no_run-below (free n ∷ cs) size h =
@@ -364,7 +364,7 @@ no_run-layout cs ds size e h =
     let some : sum_by free_size [] < size = h [] [] cs refl tt in
     below-no_run ds size some (subst (λ (xs : List Chunk). AllBelow size xs) e (no_run-below cs size h))
 
--- where each stretch has less room there is no run of so many bytes
+-- if each stretch has less room than the size, no run has the size
 onto_short : (n size : ℕ) (ms : List (Option ℕ)) → All (λ k. k < size) (marked (mark_onto n ms)) → (n < size) × All (λ k. k < size) (marked ms)
 onto_short n size [] h = (All-head (λ (k : ℕ). k < size) n [] h, All-nil (λ (k : ℕ). k < size))
 onto_short n size (None ∷ ms) h = (All-head (λ (k : ℕ). k < size) n (marked ms) h, All-tail (λ (k : ℕ). k < size) n (marked ms) h)

@@ -1,4 +1,5 @@
--- Headers, slots, bodies of others and chunks that don't stay miss what is lent of a heap; and it stays a body.
+-- Headers, slots, bodies of others and chunks that don't stay miss what is lent of a heap; and it
+-- stays a body.
 use Rattle.std.proofs.Common.{◌≡◌, ◌≢◌, ℕ, zero, suc, ◌+◌, ◌-◌, ◌≤◌, ◌<◌, List, [], ◌∷◌, ◌++◌, length, refl, sym, ap, subst, ◌∙◌, arith, inl, inr}
 use Rattle.std.specs.Prelude.{Option, Some, None, IfSome, IsTrue, ◌⊎◌}
 use Rattle.heap_model.specs.Memory.{Memory, Lent, Misses, IsWithin}
@@ -56,7 +57,7 @@ lent_chunk image lent l =
     let p = AnyPlaced-parts (LentHere lent) (area_start image) (chunks_of image) l in
     record { before = p.before; chunk = p.chunk; after = p.after; chunks = p.parts; here = p.holds; is = stays_here lent (area_start image + total p.before) p.chunk p.holds }
 
--- ---- two chunks of a list stand one behind the other, or are one
+-- ---- two chunks of a list stand one after the other, or are one
 
 pub data Apart (b : List Chunk) (c : Chunk) (b' : List Chunk) (c' : Chunk) : Type 0 where
   in_front : total b + size_of c ≤ total b' → Apart b c b' c'
@@ -75,7 +76,7 @@ apart (x ∷ b) c a (y ∷ b') c' a' e =
       | behind k ↦ behind (omega (arith, same, k))
     ]
 
--- and a run of chunks of which none stays is beside one that stays
+-- and a run of chunks of which none stays is next to one that stays
 loose_heads : (m : Chunk) (mid : List Chunk) → NoneStays (m ∷ mid) → (IsTrue (stays m) → ⊥) × NoneStays mid
 loose_heads (free size) mid n = (λ s. absurd cc, n)
 loose_heads (movable bytes zero owner slot) mid n = (λ s. absurd cc, n)
@@ -152,7 +153,7 @@ loose_misses memory before mid after at l e there loose =
       | inr k ↦ inl (omega (arith, k, there, at_is))
     ])
 
--- what stands in front of the chunks
+-- what stands before the chunks
 pub front_misses : (memory : Memory) (at n : ℕ) → LendsABody memory → at + n ≤ area_start memory.bytes → Misses memory.lent at n
 front_misses memory at n l within = by_lent memory at n l (λ lent is p. let at_is = p.is.there in inl (omega (arith, at_is, within)))
 
@@ -211,7 +212,7 @@ frame_within memory h l = tiled_frame memory h.0 h.1.tiles l
 pub table_within : (memory : Memory) → HeapAccepted memory.bytes → LendsABody memory → HasTable memory
 table_within memory h l = tiled_tables memory h.0 h.1.tiles l
 
--- the first table and what follows it in front of the chunks
+-- the first table and what follows it before the chunks
 pub head_within : (memory : Memory) → HasTable memory → IsWithin memory 0 (head_end memory.bytes)
 head_within memory has = let first = has.lie.first in record { inside = omega (arith, first); misses = has.first_misses }
 

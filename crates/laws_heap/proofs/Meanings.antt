@@ -113,7 +113,7 @@ same_offset image cs name x y h o p = elim o.kind [
   ]
 ]
 
--- in front of a chunk of a name, and behind it, none of the name stands
+-- before a chunk of a name, and after it, none of the name stands
 pub named_once : (image : List ℕ) (before : List Chunk) (c : Chunk) (after : List Chunk) (name : ℕ) (x y : LiveChunk) → IsHeap image (before ++ c ∷ after) → NamedHere name x (area_start image + total before) c
     → (AnyPlaced (NamedHere name y) (area_start image) before → ⊥) × (AnyPlaced (NamedHere name y) (area_start image + total before + size_of c) after → ⊥)
 named_once image before c after name x y h own = (in_front, behind) where

@@ -121,7 +121,7 @@ known_further by at (fixed bytes owner ∷ cs) h = (h.0, subst (λ (n : ℕ). Ev
 
 -- ---- names
 
--- each movable one of some chunks names a slot in front of an offset
+-- each movable one of some chunks names a slot before an offset
 abbrev NamesBelow : ℕ → ℕ → Chunk → Type 0
 NamesBelow low at (free size) = Unit {0}
 NamesBelow low at (movable bytes lock owner slot) = slot < low
@@ -148,7 +148,7 @@ further_test at by owner name = elim (cases_eq (at + 8) name) [
 live_at : (m n : ℕ) (cs : List Chunk) (name : ℕ) → m ≡ n → live_under m cs name ≡ live_under n cs name
 live_at m n cs name e = ap (λ (k : ℕ). live_under k cs name) e
 
--- a name in front of the chunks
+-- a name before the chunks
 live_low : (at by name : ℕ) (cs : List Chunk) → name < at → live_under (at + by) cs name ≡ live_under at cs name
 live_low at by name [] low = refl
 live_low at by name (free size ∷ cs) low = live_at (at + by + size) (at + size + by) cs name (omega arith) ∙ live_low (at + size) by name cs (omega arith)
@@ -161,7 +161,7 @@ live_low at by name (fixed bytes owner ∷ cs) low =
     ∙ live_low (at + need (length bytes)) by name cs (omega arith)
     ∙ sym (cond-false (is_fixed_name at owner name) _ _ (not_fixed at owner name (λ e. omega arith)))
 
--- and one behind all slots
+-- and one after all slots
 live_high : (at by low name : ℕ) (cs : List Chunk) → EveryPlaced (NamesBelow low) at cs → low ≤ name → live_under (at + by) cs (name + by) ≡ live_under at cs name
 live_high at by low name [] below high = refl
 live_high at by low name (free size ∷ cs) below high = live_at (at + by + size) (at + size + by) cs (name + by) (omega arith) ∙ live_high (at + size) by low name cs below.1 high
@@ -176,7 +176,7 @@ live_high at by low name (fixed bytes owner ∷ cs) below high =
     ∙ ap (λ (o : Option LiveChunk). cond (is_fixed_name at owner name) (Some (fixed_live bytes owner)) o)
     (live_at (at + by + need (length bytes)) (at + need (length bytes) + by) cs (name + by) (omega arith) ∙ live_high (at + need (length bytes)) by low name cs below.1 high)
 
--- one in front of the chunks that is no slot's names nothing
+-- one before the chunks that is no slot's names nothing
 live_none : (image : List ℕ) (at here name : ℕ) (cs : List Chunk) → EveryPlaced (NamesItsSlot image) here cs → (IsSlot image name → ⊥) → name < at → live_under at cs name ≡ None
 live_none image at here name [] names none low = refl
 live_none image at here name (free size ∷ cs) names none low = live_none image (at + size) (here + size) name cs names.1 none (omega arith)
@@ -260,7 +260,7 @@ migrated old new by h plain most m = record {
   few : by ≤ 8
   few = let shift = m.shift in omega (arith, shift, four, before)
 
-  -- bytes behind the slots are zeros
+  -- bytes after the slots are zeros
   zero_word : (at : ℕ) → table_end old ≤ at → at + 4 ≤ start + by → u32_at new at ≡ 0
   zero_word at low high = u32_at-same at new (replicate 0 0) at (at + 4) (record { same = λ k l e. m.zeros k (omega arith) (omega arith) ∙ sym (slice_index-zeros 0 k) }) (omega arith) (omega arith) ∙ u32_at-zeros at 0
 

@@ -1,5 +1,6 @@
--- A further table is put into a free chunk, at the end of the chain. Two writes make it: the table itself, and its place
--- in the last word `next`. Between the two the image is tiled, but no accepted heap.
+-- A further table is put into a free chunk, at the end of the chain. Two writes make it: the table
+-- itself, and its place in the last word `next`. Between the two the image is tiled, but no
+-- accepted heap.
 use Rattle.std.proofs.Common.{Bool, true, cond, ◌≡◌, ℕ, ◌+◌, ◌%◌, ◌≤◌, List, [], ◌∷◌, ◌++◌, length, replicate, refl, sym, ap, subst, ◌∙◌, arith, inl, inr}
 use Rattle.std.proofs.lemmas.List.Sums.{sum_by-cons, sum_by-append}
 use Rattle.std.specs.Option.{is_none}
@@ -44,7 +45,7 @@ pub record WritesTable (old mid : List ℕ) (before after : List Chunk) (at : �
   pub spelled : Spelled mid at table_chunk
   pub zeros : slice_range mid (at + 8) (at + 8 + 64) ≡ replicate 64 0
 
--- the chunks in front of the free one and those behind
+-- the chunks before the free one and those after
 record Halves (old : List ℕ) (before after : List Chunk) (at : ℕ) : Type 0 where
   front : SpelledAll old (area_start old) before at
   back : SpelledAll old (at + 72) after (length old)
@@ -294,7 +295,7 @@ gains_free old new place h g same =
 pub gains_slot : (old new : List ℕ) (place slot : ℕ) → GainsTable old new place → IsSlot old slot → IsSlot new slot
 gains_slot old new place slot g s = record { listed = subst (λ (xs : List ℕ). StandsIn xs slot) (sym (slots_more old new place g.count g.further)) (stands_left (slots_of old) (gained_slots place) slot s.listed) }
 
--- ---- beside steps that keep the layout
+-- ---- with steps that keep the layout
 
 same_held : (old new : List ℕ) (name : ℕ) → Becomes old new (chunks_of old) → held new name ≡ held old name
 unfolding held

@@ -31,7 +31,7 @@ one_number image slot k plain s =
 pub one_same : (image : List ℕ) (slot j k : ℕ) → is_chained image ≡ false → StandsBehind image slot j → StandsBehind image slot k → j ≡ k
 one_same image slot j k plain a b = let one = one_number image slot j plain a in let other = one_number image slot k plain b in omega arith
 
--- no slot stands in front of the table, nor behind it, nor beside its words
+-- no slot stands before the table, nor after it, nor next to its words
 pub none_outside : (image : List ℕ) (slot : ℕ) → is_chained image ≡ false → (slot < 16) ⊎ (16 + 4 * slot_count image ≤ slot) → IsSlot image slot → ⊥
 none_outside image slot plain outside s =
     let k = slot_stands image slot s in
@@ -40,7 +40,7 @@ none_outside image slot plain outside s =
     let total = one_total image plain in
     elim outside [ inl low ↦ absurd (omega arith) | inr high ↦ absurd (omega arith) ]
 
--- the table lies in front of the chunks
+-- the table lies before the chunks
 pub one_lies : (image : List ℕ) → is_chained image ≡ false → area_start image ≤ length image → TablesLie image
 one_lies image plain inside =
     let none = none_behind image plain in

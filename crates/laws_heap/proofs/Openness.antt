@@ -1,5 +1,5 @@
--- What contracts over layouts leave open: whether a chunk that is given back is joined with its free
--- neighbours, and how what a claim leaves of its room is split.
+-- What contracts over layouts leave open: whether a chunk that is given back is joined with its
+-- free neighbours, and how what a claim leaves of its room is split.
 use Rattle.std.proofs.Common.{◌≡◌, ℕ, zero, suc, ◌+◌, ◌-◌, ◌≤◌, List, [], ◌∷◌, ◌++◌, refl, sym, ap, ◌∙◌, append_assoc, arith}
 use Rattle.heap_model.specs.Chunk.{Chunk, free, movable, fixed, size_of, total}
 use Rattle.heap_model.specs.Slots.{area_start}
@@ -27,7 +27,7 @@ not_joined old new before c after at h live e is least same heap =
       record { before = before; run = free (size_of c) ∷ []; after = after; chunks = chunks_of-tiled new (before ++ free (size_of c) ∷ after) heap.tiles; all_free = tt; from = omega arith; to = omega arith; least = omega arith },
     )
 
--- joined with the free chunk in front
+-- joined with the free chunk before
 pub joined_in_front : (old new : List ℕ) (before : List Chunk) (more : ℕ) (c : Chunk) (after : List Chunk) (at : ℕ) → HeapAccepted old → IsNotFree c → chunks_of old ≡ (before ++ free more ∷ []) ++ c ∷ after → at ≡ area_start old + total (before ++ free more ∷ []) → 8 ≤ size_of c
     → SameHead old new → IsHeap new (before ++ free (more + size_of c) ∷ after) → Alters old new at freed × FreeUpTo new at (at + size_of c)
 joined_in_front old new before more c after at h live e is least same heap =

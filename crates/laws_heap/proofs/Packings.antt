@@ -1,4 +1,5 @@
--- Packing: what it leaves is packed, the chunks have slid, and lists whose chunks have slid are packed alike.
+-- Packing: what it leaves is packed, the chunks have slid, and lists whose chunks have slid are
+-- packed alike.
 use Rattle.std.proofs.Common.{false, ◌≡◌, ℕ, zero, suc, ◌+◌, ◌-◌, ◌≤◌, List, [], ◌∷◌, ◌++◌, length, refl, sym, ap, subst, ◌∙◌, arith}
 use Rattle.std.specs.Prelude.{All, ◌↔◌, IsTrue, filter}
 use Rattle.std.proofs.lemmas.List.Elements.{All-nil, All-cons, All-head, All-tail}
@@ -28,7 +29,7 @@ merged-packed cs = merged-packed_behind 0 cs
 
 -- ---- packed, chunk by chunk
 
--- behind each free chunk one that stays is next, or none
+-- after each free chunk one that stays is next, or none
 abbrev StayNext : List Chunk → Type 0
 StayNext [] = Unit {0}
 StayNext (free size ∷ chunks) = BeginsStaying chunks × StayNext chunks

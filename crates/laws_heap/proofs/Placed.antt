@@ -49,7 +49,7 @@ AnyPlaced-split P at (c ∷ xs) ys h = elim h [
   ]
 ]
 
--- the chunk of which it holds, between those in front of it and those behind
+-- the chunk of which it holds, between those before it and those after
 pub record PlacedParts (P : ℕ → Chunk → Type 0) (at : ℕ) (cs : List Chunk) : Type 0 where
   pub before : List Chunk
   pub chunk : Chunk

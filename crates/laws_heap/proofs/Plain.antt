@@ -33,7 +33,7 @@ free_inside there at (fixed bytes owner ∷ cs) sizes h = elim h [
 pub plain_word : (word size : ℕ) → word ≡ 2 ^ 31 + size → size < 2 ^ 24 → IsPlain word
 plain_word word size is small = omega arith
 
--- so has the free one in front of some, if those have
+-- so has the free one before some, if those have
 pub free_plain : (image : List ℕ) (at size : ℕ) (cs : List Chunk) → u32_at image at ≡ 2 ^ 31 + size → size < 2 ^ 24 → ((there : ℕ) → AnyPlaced (IsFreeAt there) (at + size) cs → IsPlain (u32_at image there)) → (there : ℕ) → AnyPlaced (IsFreeAt there) at (free size ∷ cs) → IsPlain (u32_at image there)
 free_plain image at size cs is small behind there h = elim h [ inl here ↦ subst (λ (k : ℕ). IsPlain (u32_at image k)) here (plain_word (u32_at image at) size is small) | inr later ↦ behind there later ]
 
@@ -67,8 +67,8 @@ free_word old new there at (free size ∷ cs) same h = elim h [ inl here ↦ sub
 free_word old new there at (movable bytes lock owner slot ∷ cs) same h = elim h [ inl here ↦ absurd here | inr later ↦ free_word old new there (at + need (length bytes)) cs same.1 later ]
 free_word old new there at (fixed bytes owner ∷ cs) same h = elim h [ inl here ↦ absurd here | inr later ↦ free_word old new there (at + need (length bytes)) cs same.1 later ]
 
--- Some chunks stand in place of others. Each free one of them has a plain first word, and the first words
--- of those in front of them and behind them are as they were.
+-- Some chunks stand in place of others. Each free one of them has a plain first word, and the first
+-- words of those before them and after them are as they were.
 pub middle_plain : (old new : List ℕ) (before mid others after : List Chunk) (at : ℕ) → chunks_of old ≡ before ++ (mid ++ after) → Tiles new (before ++ (others ++ after)) → area_start new ≡ area_start old → at ≡ area_start old + total before → total others ≡ total mid
     → SameWords old new (area_start old) before → SameWords old new (at + total mid) after → ((there : ℕ) → AnyPlaced (IsFreeAt there) at others → IsPlain (u32_at new there)) → WritesPlain old new
 middle_plain old new before mid others after at was tiles now_start begins sums front_words back_words plain there h = elim (AnyPlaced-split (IsFreeAt there) start before (others ++ after) found) [

@@ -32,7 +32,7 @@ use Rattle.laws_heap.proofs.Resizings.{live_sized, named_sized, size_of-with_len
 
 -- ---- by parts of the list
 
--- an offset is none of those from one on, so many
+-- an offset is none of the `size` offsets from `at` on
 abbrev Outside : ℕ → ℕ → ℕ → Type 0
 Outside there at size = (there < at) ⊎ (at + size ≤ there)
 
@@ -65,7 +65,7 @@ to_end : (here there : ℕ) (d : Chunk) (at : ℕ) (cs : List Chunk) → EveryPl
 unfolding relocated
 to_end here there d at cs takes p q = ap (relocated here there d at) (sym (append-nil cs)) ∙ passed_by here there d at cs [] takes p q ∙ append-nil cs
 
--- the free one is behind it
+-- the free one is after it
 relocated-behind : (here there : ℕ) (d : Chunk) (at : ℕ) (before : List Chunk) (c : Chunk) (mid : List Chunk) (room : ℕ) (after : List Chunk) → EveryPlaced TakesBytes at (before ++ c ∷ (mid ++ free room ∷ after)) → here ≡ at + total before → there ≡ here + size_of c + total mid
     → relocated here there d at (before ++ c ∷ (mid ++ free room ∷ after)) ≡ before ++ freed c ∷ (mid ++ (in_front d (free room) ++ after))
 relocated-behind here there d at before c mid room after takes one two =
@@ -79,7 +79,7 @@ relocated-behind here there d at before c mid room after takes one two =
     ∙ ap (λ (ds : List Chunk). mid ++ ds) (at_there here there d (at + total before + size_of c + total mid) (free room) after (omega arith) (omega arith)
     ∙ ap (λ (ds : List Chunk). in_front d (free room) ++ ds) (to_end here there d (at + total before + size_of c + total mid + room) after u.1.1 (inl (omega arith)) (inl (omega arith))))))
 
--- the free one is in front of it
+-- the free one is before it
 relocated-front : (here there : ℕ) (d : Chunk) (at : ℕ) (before : List Chunk) (room : ℕ) (mid : List Chunk) (c : Chunk) (after : List Chunk) → EveryPlaced TakesBytes at (before ++ free room ∷ (mid ++ c ∷ after)) → there ≡ at + total before → here ≡ there + room + total mid
     → relocated here there d at (before ++ free room ∷ (mid ++ c ∷ after)) ≡ before ++ (in_front d (free room) ++ (mid ++ freed c ∷ after))
 relocated-front here there d at before room mid c after takes one two =
@@ -146,7 +146,7 @@ stands old new cs name now place b some there body =
     subst (λ (n : ℕ). AnyPlaced (NamedHere name now) n (chunks_of new)) (sym start) (any-layout (NamedHere name now) (λ at size n. n) (area_start old) cs (chunks_of new) (sym b.layout) there) in
     (held-is new (chunks_of new) name heap ∙ (live_under-is new (chunks_of new) name now heap).1 is, body_placed new name place b.frame.accepted ((becomes_body old new cs name place b).1 body) some)
 
--- ---- a live chunk beside a run of free ones
+-- ---- a live chunk next to a run of free ones
 
 record StandsInFront (xs : List Chunk) (c : Chunk) (zs : List Chunk) : Type 0 where
   mid : List Chunk

@@ -14,7 +14,7 @@ use Rattle.laws_heap.proofs.Placed.{EveryPlaced-append, EveryPlaced-split, AnyPl
 
 -- ---- the head
 
--- two images have the same words in front of their chunks, slots aside, and the same further tables
+-- two images have the same words before their chunks, slots aside, and the same further tables
 pub record SameHead (old new : List ℕ) : Type 0 where
   pub len : length new ≡ length old
   pub words : SameBetween 0 16 old new
@@ -101,8 +101,8 @@ any_replaced P start before mid others after sizes same h = elim (AnyPlaced-spli
 
 -- ---- the chunks
 
--- What is the same, and what is spelled in the place of the middle chunks, which begin at an offset and are
--- no tables. The chunks in front and behind are spelled where they were.
+-- What is the same, and what is spelled in the place of the middle chunks, which begin at an offset
+-- and are no tables. The chunks before and after are spelled where they were.
 pub record Replaces (old new : List ℕ) (before mid others after : List Chunk) (at : ℕ) : Type 0 where
   pub there : at ≡ area_start old + total before
   pub head : SameHead old new
@@ -167,7 +167,8 @@ replaced_tiles old new before mid others after at t r = record {
 
 -- ---- the heap
 
--- the slots and bodies of the new image are tied, its fixed chunks are callers', and its directory is there
+-- the slots and bodies of the new image are tied, its fixed chunks are callers', and its directory
+-- is there
 pub record Retied (old new : List ℕ) (before others after : List Chunk) (at : ℕ) : Type 0 where
   pub ties : (slot place : ℕ) → 0 < place → ((IsSlot old slot × (u32_at new slot ≡ place)) ↔ IsBody (area_start old) (before ++ (others ++ after)) slot place)
   pub callers : EveryPlaced IsCallersIfFixed at others

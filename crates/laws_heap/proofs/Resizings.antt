@@ -1,5 +1,5 @@
--- A chunk that takes another length in its place: its name alone stands for something else, and nothing
--- moves.
+-- A chunk that takes another length in its place: its name alone stands for something else, and
+-- nothing moves.
 use Rattle.std.proofs.Common.{◌≡◌, ◌≢◌, ℕ, zero, suc, ◌+◌, ◌-◌, ◌≤◌, Bool, true, false, cond, List, [], ◌∷◌, ◌++◌, length, replicate, take, Option, Some, None, refl, sym, ap, subst, ◌∙◌, append_assoc, length-append, arith}
 use Rattle.std.specs.Prelude.{◌==◌}
 use Rattle.std.proofs.lemmas.Bool.{eq-eqb}
@@ -54,7 +54,7 @@ named_sized name at count live (free size) n = absurd n
 named_sized name at count live (movable bytes lock owner slot) n = (n.0, ap (live_sized count) n.1)
 named_sized name at count live (fixed bytes owner) n = fixed_with_bytes at bytes owner (λ (body : List ℕ). sized_to body count) n
 
--- ---- a chunk and the free ones behind it, for another of its name and free ones
+-- ---- a chunk and the free ones after it, for another of its name and free ones
 
 beside_run : (start : ℕ) (before : List Chunk) (c : Chunk) (run after : List Chunk) (name : ℕ) → NotBeside start before (size_of c) (run ++ after) name → NotBeside start before (total (c ∷ run)) after name
 beside_run start before c run after name b =
@@ -81,7 +81,7 @@ grown-at there count at (b ∷ before) c after takes e =
     let low : at ≢ there = omega arith in
     cond-false (at == there) _ _ (grind (arith, nat_tests)) ∙ ap (λ (ds : List Chunk). b ∷ ds) (grown-at there count (at + size_of b) before c after takes.1 (omega arith))
 
--- the free chunks with which some begin, and those behind them
+-- the free chunks with which some begin, and those after them
 pub record FrontParts (cs : List Chunk) : Type 0 where
   pub run : List Chunk
   pub all_free : AllFree run
@@ -158,7 +158,7 @@ grow_changes old new name place count live c h low f fits b =
     (resized_changes old new before c p.run d (gap left) (behind_front after) name live (live_sized count live) h is_layout becomes sizes p.all_free (gap_free left)
     (record { front = live_under-merged start f.before name ∙ beside.front; back = behind }) was (named_sized name here count live c was))
 
--- ---- what is free behind a chunk
+-- ---- what is free after a chunk
 
 behind_other : (at : ℕ) (before cs : List Chunk) (name : ℕ) → live_under at before name ≡ None → free_behind_in (before ++ cs) name ≡ free_behind_in cs name
 behind_other at [] cs name e = refl
@@ -172,7 +172,7 @@ behind_other at (fixed bytes owner ∷ before) cs name e = passed (is_fixed_name
   passed true x rest e f = absurd (none_some (Some x) x e refl)
   passed false x rest e f = f e
 
--- behind a movable chunk of a name it is what the chunks behind it begin with
+-- after a movable chunk of a name it is what the chunks after it begin with
 pub finds_behind : (image : List ℕ) (name at : ℕ) (live : LiveChunk) (bytes : List ℕ) (lock owner slot : ℕ) → HeapAccepted image → (f : Finds image name live (movable bytes lock owner slot) at) → free_behind image name ≡ free_front f.after
 finds_behind image name at live bytes lock owner slot h f =
     let c : Chunk = movable bytes lock owner slot in
@@ -206,7 +206,7 @@ gap_lives_front room cs after s =
     let none = lives_front cs after s in
     omega arith
 
--- once room is opened behind a chunk of a stretch, all of the stretch's room is free behind it
+-- once room is opened after a chunk of a stretch, all of the stretch's room is free after it
 pub opened_behind : (old new : List ℕ) (at : ℕ) (before front : List Chunk) (bytes : List ℕ) (owner slot : ℕ) (back after : List Chunk) → HeapAccepted old → WholeStretch old before (front ++ movable bytes 0 owner slot ∷ back) after
     → at ≡ area_start old + total before + total front → OpensBehind old new at → free_behind new slot ≡ room_of (front ++ back)
 opened_behind old new at before front bytes owner slot back after h w there o =

@@ -82,7 +82,7 @@ chunks_of-tiled image cs t = chunks_from-tiled image (area_start image) cs t.are
 pub Tiles-unique : (image : List ℕ) (cs ds : List Chunk) → Tiles image cs → Tiles image ds → cs ≡ ds
 Tiles-unique image cs ds s t = SpelledAll-unique image (area_start image) cs ds (length image) s.area t.area
 
--- a run of chunks that ends in front of the image's end, where nothing is spelled, goes on to no end
+-- a run of chunks that ends before the image's end, where nothing is spelled, goes on to no end
 pub stuck_run : (image : List ℕ) (start at : ℕ) (before cs : List Chunk) → SpelledAll image start before at → at < length image → ((c : Chunk) → Spelled image at c → ⊥)
     → SpelledAll image start cs (length image) → ⊥
 stuck_run image start at before cs done inside none s =
@@ -92,7 +92,7 @@ stuck_run image start at before cs done inside none s =
       no_more [] t = omega (arith, t)
       no_more (c ∷ after) t = none c t.0
 
--- behind the first chunks of an image, in front of its end, stands a chunk
+-- after the first chunks of an image, before its end, stands a chunk
 pub chunk_there : (image : List ℕ) (cs before : List Chunk) (at : ℕ) → Tiles image cs → SpelledAll image (area_start image) before at → at < length image → (c : Chunk) × Spelled image at c
 chunk_there image cs before at t done inside =
     let rest = SpelledAll-rest image (area_start image) before cs at (length image) done t.area (omega arith) in

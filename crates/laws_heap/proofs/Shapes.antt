@@ -74,7 +74,7 @@ shape_live image at s low = elim s.1 [
   | inr live ↦ (live_words image at low s.0.0.0 s.0.0.1 s.0.1 live.0.0 live.0.1 live.1.0.0, live.1)
 ]
 
--- the chunk behind two words that have no free bit
+-- the chunk after two words that have no free bit
 abbrev live_by_words : List ℕ → ℕ → ℕ → ℕ → Chunk
 live_by_words image at first second =
     if lock_field second == 15 then fixed (seen 15 (owner_field second) (body_at image at first)) (owner_field second)

@@ -1,5 +1,5 @@
--- An image whose chunks have slid: what it holds, which chunks stay, and how much room it has are as
--- they were; which chunks have moved; and what packing has moved.
+-- An image whose chunks have slid: what it holds, which chunks stay, and how much room it has are
+-- as they were; which chunks have moved; and what packing has moved.
 use Rattle.std.proofs.Common.{◌≡◌, ℕ, zero, suc, ◌+◌, ◌-◌, ◌<◌, ◌≤◌, Bool, true, false, List, [], ◌∷◌, ◌++◌, length, Option, Some, None, refl, sym, ap, subst, ◌∙◌, arith, inl, inr}
 use Rattle.std.specs.Prelude.{◌↔◌, ◌==◌, count_by, if◌then◌else◌, IsSome}
 use Rattle.std.specs.Option.{is_none}
@@ -48,7 +48,7 @@ same_test zero (Some live) both = absurd (none_some (Some live) live (both.0 ref
 same_test (suc n) None both = absurd (let e : suc n ≡ 0 = both.1 refl in omega arith)
 same_test (suc n) (Some live) both = grind (arith, nat_tests)
 
--- so many are empty as name nothing
+-- the number of empty slots is the number of slots that name nothing
 pub free_slots_held : (image : List ℕ) → HeapAccepted image → free_slots image ≡ count_by (λ slot. is_none (held image slot)) (slots_of image)
 free_slots_held image h =
     count_alike (λ slot. u32_at image slot == 0) (λ slot. is_none (held image slot)) (slots_of image)
@@ -95,7 +95,7 @@ packed_chunks cs image h p s = packed_once (area_start image) cs (chunks_of imag
 pub packed_layout : (cs : List Chunk) (image : List ℕ) → HeapAccepted image → Packed (layout_of image) → Slid cs (layout_of image) → layout_of image ≡ packed cs
 packed_layout cs image h p s = packed_once (area_start image) cs (layout_of image) (layout_takes image h) p s
 
--- it has a run of so many bytes exactly where the old one was not short of them
+-- it has a run of the size exactly if the old one was not short of them
 pub packed_runs : (old new : List ℕ) (size : ℕ) → HeapAccepted old → Becomes old new (packed (chunks_of old)) → 0 < size → NoRun (chunks_of new) size ↔ Short old size
 packed_runs old new size h b some =
     let runs = becomes_no_run old new (packed (chunks_of old)) size b in
@@ -118,7 +118,7 @@ any_gap : (P : ℕ → Chunk → Type 0) (low room at : ℕ) (cs : List Chunk) �
 any_gap P low zero at cs there h = subst (λ (n : ℕ). AnyPlaced P n cs) (let e : at ≡ low = omega arith in e) h
 any_gap P low (suc n) at cs there h = inr (subst (λ (k : ℕ). AnyPlaced P k cs) (sym there) h)
 
--- it is where it was where no room was in front of it
+-- it stays in its place if no room was before it
 same_there : (low room at : ℕ) → low + room ≡ at → (low + 8 == at + 8) ≡ (room == 0)
 same_there low zero at there = eq-eqb (low + 8) (at + 8) (omega arith) ∙ sym (eq-eqb 0 0 refl)
 same_there low (suc n) at there = grind (arith, nat_tests)
@@ -183,7 +183,7 @@ moved_both new at (fixed bytes owner ∷ xs) ys =
     let here = moved_at new (at + size + total xs) (at + (size + total xs)) ys (omega arith) in
     omega (arith, ih, here)
 
--- where some chunks alone were packed, so much of those has moved and nothing else
+-- if only some chunks were packed, packing them moves what has moved, and nothing else has moved
 pub one_packed_moved : (old new : List ℕ) (before mid after : List Chunk) → chunks_of old ≡ before ++ (mid ++ after) → Becomes old new (before ++ (packed mid ++ after)) → moved_bytes old new ≡ moved_by_packing mid
 one_packed_moved old new before mid after e b =
     let start : ℕ = area_start old in
@@ -258,7 +258,7 @@ slides_move_one old new s = record {
 pub packs_one : (old new : List ℕ) (before mid after : List Chunk) → chunks_of old ≡ before ++ (mid ++ after) → NoneStays mid → Becomes old new (before ++ (packed mid ++ after)) → SlidesOneStretch old new
 packs_one old new before mid after e n b = record { before = before; mid = mid; others = packed mid; after = after; chunks = e; none_stays = n; slid = packed_slid mid; becomes = b }
 
--- room is opened behind one of its chunks
+-- room is opened after one of its chunks
 pub opens_one : (old new : List ℕ) (at : ℕ) (before front : List Chunk) (bytes : List ℕ) (owner slot : ℕ) (back after : List Chunk) → WholeStretch old before (front ++ movable bytes 0 owner slot ∷ back) after
     → at ≡ area_start old + total before + total front → OpensBehind old new at → SlidesOneStretch old new
 opens_one old new at before front bytes owner slot back after w there o = record {

@@ -1,5 +1,5 @@
--- Chunks that slide: what names stand for, which chunks stay, the free bytes and the rooms are as they
--- were. It is shown of packing, and so of any two lists that are packed alike.
+-- Chunks that slide: what names stand for, which chunks stay, the free bytes and the rooms are as
+-- they were. It is shown of packing, and so of any two lists that are packed alike.
 use Rattle.std.proofs.Common.{◌≡◌, ℕ, zero, suc, ◌+◌, ◌<◌, Bool, true, false, cond, List, [], ◌∷◌, ◌++◌, length, Option, Some, None, refl, sym, ap, subst, ◌∙◌, arith}
 use Rattle.std.specs.Prelude.{All, ◌↔◌, sum_by, ◌==◌, if◌then◌else◌}
 use Rattle.std.proofs.lemmas.List.Elements.{All-nil, All-cons, All-head, All-tail}
@@ -196,7 +196,7 @@ below_packed size room (movable bytes zero owner slot ∷ cs) some =
 below_packed size room (movable bytes (suc count) owner slot ∷ cs) some = gap_short size room (movable bytes (suc count) owner slot) (packed_behind 0 cs) some refl refl (below_packed size 0 cs some)
 below_packed size room (fixed bytes owner ∷ cs) some = gap_short size room (fixed bytes owner) (packed_behind 0 cs) some refl refl (below_packed size 0 cs some)
 
--- after packing no run has so much exactly where no stretch had
+-- after packing no run has the size exactly if no stretch had
 pub no_run-packed : (at : ℕ) (cs : List Chunk) (size : ℕ) → 0 < size → EveryPlaced TakesBytes at cs → NoRun (packed cs) size ↔ All (λ room. room < size) (rooms_of (stretches cs))
 no_run-packed at cs size some takes =
     let same : marked (marks (runs_between (packed cs))) ≡ rooms_of (stretches cs) = sym (marked_rooms (runs_between (packed cs))) ∙ packed_rooms at cs takes in
@@ -308,7 +308,7 @@ stretch_slid cs ds n same sizes = record {
   sizes = sizes;
 }
 
--- a stretch packed has its room behind its live chunks
+-- a stretch packed has its room after its live chunks
 stretch_behind : (room : ℕ) (cs : List Chunk) → NoneStays cs → packed_behind room cs ≡ lives cs ++ gap (room + room_of cs)
 stretch_behind room [] n = ap gap (let none : sum_by free_size [] ≡ 0 = refl in let e : room ≡ room + sum_by free_size [] = omega arith in e)
 stretch_behind room (free size ∷ cs) n =
@@ -329,7 +329,7 @@ lives_twice (free size ∷ cs) = lives_twice cs
 lives_twice (movable bytes lock owner slot ∷ cs) = ap (λ (ds : List Chunk). movable bytes lock owner slot ∷ ds) (lives_twice cs)
 lives_twice (fixed bytes owner ∷ cs) = ap (λ (ds : List Chunk). fixed bytes owner ∷ ds) (lives_twice cs)
 
--- room that is opened behind a chunk
+-- room that is opened after a chunk
 pub opened_slid : (front : List Chunk) (bytes : List ℕ) (owner slot : ℕ) (back : List Chunk) → NoneStays (front ++ movable bytes 0 owner slot ∷ back) → Slid (front ++ movable bytes 0 owner slot ∷ back) (opened front (movable bytes 0 owner slot) back)
 opened_slid front bytes owner slot back n = stretch_slid (front ++ c ∷ back) (opened front c back) n same sizes where
   c : Chunk

@@ -49,7 +49,7 @@ one_number (y ∷ xs) (x ∷ front) (z ∷ fore) rest rear n none a b =
 
 -- ---- tables of a chain
 
--- a table's body is behind a header
+-- a table's body is after a header
 pub some_place : (image : List ℕ) (table : Table) (at : ℕ) (cs : List Chunk) → AnyPlaced (TableHere table) at cs → 8 ≤ table.place
 some_place image table at [] t = absurd t
 some_place image table at (c ∷ cs) t = elim t [ inl own ↦ here c own | inr later ↦ some_place image table (at + size_of c) cs later ] where
@@ -86,7 +86,7 @@ held_once slot a b at (c ∷ cs) g h = elim g [
   ]
 ]
 
--- the table of a chain that has a slot, and the chain behind it
+-- the table of a chain that has a slot, and the chain after it
 record Holder (image : List ℕ) (cs : List Chunk) (tables : List Table) (slot : ℕ) : Type 0 where
   place : ℕ
   behind : List Table

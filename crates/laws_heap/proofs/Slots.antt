@@ -1,5 +1,6 @@
--- The slots of an image: where they are, in the first table or in a further one among the chunks; by their
--- number, which is how many stand before one; and where they lie beside chunks. No other file takes a slot apart.
+-- The slots of an image: where they are, in the first table or in a further one among the chunks;
+-- by their number, which is how many stand before one; and where they lie next to chunks. No other
+-- file takes a slot apart.
 use Rattle.std.proofs.Common.{Bool, false, cond, ◌≡◌, ◌≢◌, ℕ, zero, suc, ◌+◌, ◌-◌, ◌*◌, ◌%◌, ◌<◌, ◌≤◌, List, ◌∷◌, ◌++◌, length, slice_index, take, drop, refl, sym, ap, subst, ◌∙◌, arith, [], append_assoc, length-append, length-take, length-drop, inl, inr}
 use Rattle.std.proofs.lemmas.Bool.{cases_lt}
 use Rattle.std.proofs.lemmas.Bool.Decides.{Decides-or, Decides-eqb, Decides-like}
@@ -136,7 +137,7 @@ pub same_slots : (old new : List ℕ) → tables_of new ≡ tables_of old → sl
 unfolding slots_of
 same_slots old new same = ap slots_in same
 
--- ---- the first so many
+-- ---- the first n slots
 
 take_front : (front rest : List ℕ) (x : ℕ) → take (length front + 1) (front ++ x ∷ rest) ≡ front ++ x ∷ []
 take_front front rest x =
@@ -144,11 +145,11 @@ take_front front rest x =
     let count : length (front ++ x ∷ []) ≡ length front + 1 = length-append front (x ∷ []) in
     ap (take (length front + 1)) parts ∙ take_at (front ++ x ∷ []) rest (length front + 1) count
 
--- those in front of a slot
+-- those before a slot
 pub first_slots-front : (image : List ℕ) (slot k : ℕ) → (s : StandsBehind image slot k) → first_slots image k ≡ s.front
 first_slots-front image slot k s = ap (take k) s.parts ∙ take_at s.front (slot ∷ s.rest) k s.before
 
--- the slot behind them is one more
+-- the slot after them is one more
 pub first_slots-more : (image : List ℕ) (slot k : ℕ) → StandsBehind image slot k → first_slots image (k + 1) ≡ first_slots image k ++ slot ∷ []
 first_slots-more image slot k s =
     ap (take (k + 1)) s.parts
@@ -166,7 +167,7 @@ each_first P (suc k) [] (y ∷ front) rest x parts below every = absurd cc
 each_first P (suc k) (z ∷ xs) [] rest x parts below every = let same : z ≡ x = cc in subst P same every.0
 each_first P (suc k) (z ∷ xs) (y ∷ front) rest x parts below every = let more : xs ≡ front ++ x ∷ rest = cc in each_first P k xs front rest x more (omega arith) every.1
 
--- what holds of the first so many slots holds of each that stands among them
+-- what holds of the first k slots holds of each of them
 pub each_first_slot : (P : ℕ → Type 0) (image : List ℕ) (slot j k : ℕ) → StandsBehind image slot j → j < k → EveryOne P (first_slots image k) → P slot
 each_first_slot P image slot j k s below every = let count = s.before in each_first P k (slots_of image) s.front s.rest slot s.parts (omega arith) every
 
@@ -230,7 +231,7 @@ slot_lies image cs slot t s = elim (stands_split (slots_in_row 16 (slot_count im
   | inr further ↦ inr (in_tables image cs (first_next image) (further_tables image) slot t.chain further)
 ]
 
--- behind the chunk's header, and within it
+-- after the chunk's header, and within it
 pub held_within : (slot at : ℕ) (c : Chunk) → HoldsSlot slot at c → (at + 12 ≤ slot) × (slot + 4 ≤ at + size_of c) × ((slot - at) % 4 ≡ 0)
 held_within slot at (free size) h = absurd h
 held_within slot at (movable bytes lock owner named) h = absurd h
@@ -326,7 +327,7 @@ both_hold_none (free size ∷ xs) ys n m = both_hold_none xs ys n m
 both_hold_none (movable bytes lock owner slot ∷ xs) ys n m = both_hold_none xs ys n m
 both_hold_none (fixed bytes owner ∷ xs) ys n m = (n.0, both_hold_none xs ys n.1 m)
 
--- a chunk that has a name, and free ones behind it
+-- a chunk that has a name, and free ones after it
 names_hold_none : (at : ℕ) (c : Chunk) (run : List Chunk) (name : ℕ) (live : LiveChunk) → NamedHere name live at c → AllFree run → HoldNoSlots (c ∷ run)
 names_hold_none at (free size) run name live named f = absurd named
 names_hold_none at (movable bytes lock owner slot) run name live named f = free_hold_none run f
@@ -335,11 +336,11 @@ names_hold_none at (fixed bytes owner) run name live named f = (fixed_owned at b
 pub named_hold_none : (image : List ℕ) (before : List Chunk) (c : Chunk) (run after : List Chunk) (name : ℕ) (live : LiveChunk) → IsHeap image (before ++ ((c ∷ run) ++ after)) → NamedHere name live (area_start image + total before) c → AllFree run → HoldNoSlots (c ∷ run)
 named_hold_none image before c run after name live h named f = names_hold_none (area_start image + total before) c run name live named f
 
--- a slot lies in front of some bytes, or behind a header and a word that follow them
+-- a slot lies before some bytes, or after a header and a word that follow them
 abbrev pub IsBeside : ℕ → ℕ → ℕ → Type 0
 IsBeside slot low high = (slot + 4 ≤ low) ⊎ (high + 12 ≤ slot)
 
--- each slot lies beside such chunks
+-- each slot lies next to these chunks
 pub slot_beside : (image : List ℕ) (before mid after : List Chunk) (at slot : ℕ) → Tiles image (before ++ (mid ++ after)) → HoldNoSlots mid → at ≡ area_start image + total before → IsSlot image slot → IsBeside slot at (at + total mid)
 slot_beside image before mid after at slot t none there s = elim (slot_lies image (before ++ (mid ++ after)) slot t s) [
   | inl first ↦ let high = first.high in inl (omega arith)

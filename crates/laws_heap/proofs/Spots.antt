@@ -1,5 +1,5 @@
--- Room for a chunk, whatever stands in front of it: where it is in the layout, what fits into it, and what
--- a claim of it does to names.
+-- Room for a chunk, whatever stands before it: where it is in the layout, what fits into it, and
+-- what a claim of it does to names.
 use Rattle.std.proofs.Common.{◌≡◌, ℕ, ◌+◌, ◌-◌, ◌<◌, ◌≤◌, List, [], ◌∷◌, ◌++◌, sym, ap, subst, ◌∙◌, arith, Some, None}
 use Rattle.heap_model.specs.Chunk.{Chunk, free, movable, fixed, size_of, total}
 use Rattle.heap_model.specs.Slots.{area_start}
@@ -19,7 +19,7 @@ use Rattle.laws_heap.proofs.ExchangedNames.{changes_as, some_place, free_unheld}
 pub room_spot : (image : List ℕ) (at size : ℕ) → IsRoom image at size → IsSpot image at size
 room_spot image at size r = record { before = r.before; run = r.run; after = r.after; chunks = r.chunks; all_free = r.all_free; there = r.there; sums = r.sums }
 
--- in the layout it is one free chunk between what stands in front of it and behind
+-- in the layout it is one free chunk between what stands before it and after
 pub spot_layout : (image : List ℕ) (at size : ℕ) → 0 < size → (r : IsSpot image at size) → layout_of image ≡ merged (r.before ++ free size ∷ r.after)
 spot_layout image at size some r =
     let sums = r.sums in

@@ -1,5 +1,5 @@
--- In which stretch a chunk is: it is the same in lists of one layout, and in lists whose chunks have slid.
--- The chunk is told by a test that no free chunk passes.
+-- In which stretch a chunk is: it is the same in lists of one layout, and in lists whose chunks
+-- have slid. The chunk is told by a test that no free chunk passes.
 use Rattle.std.proofs.Common.{◌≡◌, ℕ, zero, suc, ◌+◌, ◌<◌, Bool, false, true, cond, List, [], ◌∷◌, ◌++◌, length, Option, Some, None, refl, sym, ap, ◌∙◌, arith}
 use Rattle.std.specs.Prelude.{◌||◌, not, filter}
 use Rattle.std.specs.List.{list_any, position_or_len}

@@ -1,5 +1,5 @@
--- One stretch of an image: it is one of those that the chunks have, it is one alone around a chunk, and
--- its room is told apart from the others.
+-- One stretch of an image: it is one of those that the chunks have, it is one alone around a chunk,
+-- and its room is told apart from the others.
 use Rattle.std.proofs.Common.{◌≡◌, ℕ, zero, suc, ◌+◌, ◌<◌, Bool, true, false, cond, List, [], ◌∷◌, ◌++◌, length, Option, Some, None, refl, sym, ap, subst, ◌∙◌, append_assoc, append-nil, arith}
 use Rattle.std.specs.Prelude.{All, ◌↔◌, ◌==◌, IsTrue, filter}
 use Rattle.std.proofs.lemmas.Bool.{eq-eqb}
@@ -21,7 +21,7 @@ use Rattle.laws_heap.proofs.Slides.{none_stays-append}
 
 -- ---- a whole stretch is one of the stretches
 
--- the runs of chunks that end with one that stays, in front of any others
+-- the runs of chunks that end with one that stays, before any others
 record Closed (cs : List Chunk) : Type 0 where
   first : List Chunk
   others : List (List Chunk)
@@ -43,7 +43,7 @@ closed : (c : Chunk) (cs : List Chunk) → EndsStaying (c ∷ cs) → Closed (c 
 closed c [] e = one_closed c e
 closed c (d ∷ cs) e = more_closed c d cs (closed d cs e)
 
--- the stretches of chunks behind one that stays are told apart
+-- the stretches of chunks after one that stays are told apart
 pub stretches_behind : (before cs : List Chunk) → EndsStaying before → stretches (before ++ cs) ≡ stretches before ++ stretches cs
 stretches_behind [] cs e = refl
 stretches_behind (c ∷ before) cs e =
@@ -64,7 +64,7 @@ none_stays-tail (movable bytes zero owner slot) cs n = n
 none_stays-tail (movable bytes (suc count) owner slot) cs n = absurd n
 none_stays-tail (fixed bytes owner) cs n = absurd n
 
--- in front of chunks that begin with one that stays a run ends
+-- before chunks that begin with one that stays a run ends
 record Opened (cs : List Chunk) : Type 0 where
   runs : List (List Chunk)
   is : runs_between cs ≡ [] ∷ runs
@@ -111,7 +111,7 @@ loose_behind (c ∷ cs) = by (stays c) refl (loose_behind cs) where
   by true e rest = record { back = []; later = c ∷ cs; parts = refl; loose = tt; begins = e }
   by false e rest = record { back = c ∷ rest.back; later = rest.later; parts = ap (λ (ds : List Chunk). c ∷ ds) rest.parts; loose = none_stays-cons c rest.back e rest.loose; begins = rest.begins }
 
--- the chunks behind the last that stays, and those up to it
+-- the chunks after the last that stays, and those up to it
 pub record LooseFront (cs : List Chunk) : Type 0 where
   pub earlier : List Chunk
   pub front : List Chunk
@@ -139,8 +139,8 @@ pub stretch_mid : (before front : List Chunk) (c : Chunk) (back after : List Chu
 stretch_mid before [] c back after n ends begins = stretch_among before c back after n ends begins
 stretch_mid before (d ∷ front) c back after n ends begins = stretch_among before d (front ++ c ∷ back) after n ends begins
 
--- Whatever stands between these chunks, if it is some chunks of which none stays, is in one stretch; the
--- other stretches are the same.
+-- Whatever stands between these chunks, if it is some chunks of which none stays, is in one
+-- stretch; the other stretches are the same.
 pub record StretchBetween (before after : List Chunk) : Type 0 where
   pub earlier : List (List Chunk)
   pub front : List Chunk
@@ -210,7 +210,7 @@ backs_same (c ∷ xs) (d ∷ ys) fs gs e a b f g =
     let same = rest.0 in
     (cc, rest.1)
 
--- the chunks in front of an offset in a whole stretch, and those from it on
+-- the chunks before an offset in a whole stretch, and those from it on
 parted : (image : List ℕ) (before front : List Chunk) (c : Chunk) (back after : List Chunk) (at : ℕ) → HeapAccepted image → WholeStretch image before (front ++ c ∷ back) after → at ≡ area_start image + total before + total front
     → SpelledAll image (area_start image) (before ++ front) at × SpelledAll image at ((c ∷ back) ++ after) (length image)
 parted image before front c back after at h w e =
@@ -316,8 +316,8 @@ among before [] c back after n in_front behind = room_among before c back after 
 among before (d ∷ front) c back after n in_front behind =
     room_among before d (front ++ c ∷ back) after n in_front behind ∙ ap (λ (room : ℕ). rooms_of (stretches before) ++ room ∷ rooms_of (stretches after)) (room_of-middle (d ∷ front) c back)
 
--- An image is short for a chunk without locks where it is short, and the room of the chunk's stretch with
--- the chunk's size is less, too.
+-- An image is short for a chunk without locks where it is short, and the room of the chunk's
+-- stretch with the chunk's size is less, too.
 pub short_for_parts : (image : List ℕ) (before front : List Chunk) (bytes : List ℕ) (owner slot : ℕ) (back after : List Chunk) (size : ℕ) → HeapAccepted image → WholeStretch image before (front ++ movable bytes 0 owner slot ∷ back) after
     → ShortFor image slot size ↔ (Short image size × (room_of (front ++ back) + need (length bytes) < size))
 short_for_parts image before front bytes owner slot back after size h w =

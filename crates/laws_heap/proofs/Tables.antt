@@ -8,7 +8,7 @@ use Rattle.heap_model.specs.Slots.{Table, table_at, table_then, tables_within, i
 use Rattle.heap_model.specs.Heap.{TableHere, IsChain, Tiles}
 use Rattle.laws_heap.proofs.Frames.{u32_at-part, u32_at-front}
 
--- what stands behind the first table: a word, or nothing
+-- what stands after the first table: a word, or nothing
 pub behind_case : (image : List ℕ) → (behind_table image ≡ 0) ⊎ (behind_table image ≡ 4)
 behind_case image = by (is_chained image) where
   by : (b : Bool) → (cond {A = ℕ} b 4 0 ≡ 0) ⊎ (cond {A = ℕ} b 4 0 ≡ 4)
@@ -121,7 +121,7 @@ more_fuel image cs zero next chain = ap (λ (w : ℕ). table_then (tables_within
 more_fuel image cs (suc n) zero chain = refl
 more_fuel image cs (suc n) (suc before) chain = ap (λ (ts : List Table). table_at image (suc before) ∷ ts) (more_fuel image cs n (u32_at image (suc before)) chain.2)
 
--- its first table, and the chain behind it
+-- its first table, and the chain after it
 pub record ChainStep (image : List ℕ) (cs : List Chunk) (next : ℕ) : Type 0 where
   pub first : AnyPlaced (TableHere (table_at image next)) (area_start image) cs
   pub chain : IsChain image cs (u32_at image next) (tables_within (length image) image (u32_at image next))

@@ -71,7 +71,7 @@ pub record WroteArea (old new : List ℕ) (low high : ℕ) : Type 0 where
   pub there : area_start old ≤ low
   pub fits : low + 4 ≤ high
 
--- chunks beside those that were written are spelled again
+-- chunks next to those that were written are spelled again
 area_again : (old new : List ℕ) (front cs back : List Chunk) (at low high : ℕ) → Tiles old (front ++ (cs ++ back)) → at ≡ area_start old + total front → (w : WroteArea old new low high) → (at + total cs ≤ low) ⊎ (high ≤ at) → SpellsAgain old new at cs
 area_again old new front cs back at low high t there w apart = by_slot w.is_slot where
   inside : at + total cs ≤ length old
@@ -112,7 +112,7 @@ area_again old new front cs back at low high t there w apart = by_slot w.is_slot
         | inr above ↦ w.word.above.same k above (omega arith)
       ]) len
 
--- the words in front of the chunks are as they were, slots aside
+-- the words before the chunks are as they were, slots aside
 pub record HeadWords (old new : List ℕ) : Type 0 where
   pub words : SameBetween 0 16 old new
   pub padding : SameBetween (table_end old) (area_start old) old new
@@ -238,7 +238,7 @@ area_slots old new before mid after at slot t none there w s other =
       apart (inl is) = elim (slot_beside old before mid after at slot t none there s) [ inl front ↦ inl (omega arith) | inr back ↦ inr (let fits = w.fits in omega arith, inside) ]
       apart (inr o) = elim (slots_apart old (before ++ (mid ++ after)) slot w.slot t s o (λ e. other (sym e))) [ inl below ↦ inl below | inr above ↦ inr (above, inside) ]
 
--- ---- a slot that is written beside some bytes
+-- ---- a slot that is written next to some bytes
 
 -- these are as they were
 pub beside_same : (mid new : List ℕ) (slot low high start end : ℕ) → WroteWithin mid new slot (slot + 4) → IsBeside slot low high → low ≤ start → end ≤ high → end ≤ length mid → SameBetween start end mid new

@@ -1,4 +1,4 @@
--- What the definitions promise together: the statements of the laws.
+-- The statements of the laws of `heap_model`.
 use Rattle.std.specs.Prelude.{◌≡◌, ◌≤◌, ◌<◌, ◌+◌, ◌%◌, ◌++◌, ◌↔◌, ℕ, Bool, List, ◌∷◌, length, count_by, true, false, Some, None}
 use Rattle.std.specs.Option.{is_none}
 use Rattle.heap_model.specs.Chunk.{Chunk, movable, need, Spelled}
@@ -31,7 +31,7 @@ TilesAreRead = (image : List ℕ) (cs : List Chunk) → Tiles image cs → chunk
 abbrev pub SlotsAreListed : Type 0
 SlotsAreListed = (image : List ℕ) → EveryOne (IsSlot image) (slots_of image) × ((P : ℕ → Bool) → EveryOne (λ slot. P slot ≡ true) (slots_of image) → (slot : ℕ) → IsSlot image slot → P slot ≡ true)
 
--- the test of an accepted heap says yes exactly where one is accepted
+-- the test of an accepted heap is true exactly if the heap is accepted
 abbrev pub AcceptanceIsDecided : Type 0
 AcceptanceIsDecided = (image : List ℕ) → ((is_accepted image ≡ true) ↔ HeapAccepted image)
 
@@ -51,7 +51,8 @@ HoldsOneMap = (image : List ℕ) → HeapAccepted image → Holds image (held im
 abbrev pub ZeroNamesNothing : Type 0
 ZeroNamesNothing = (image : List ℕ) → HeapAccepted image → held image 0 ≡ None
 
--- what a chunk takes: whole units of 8, its header, its bytes, and less than 8 bytes more
+-- the size of a chunk: a multiple of 8 with room for its header and its bytes, and less than 8
+-- bytes more
 pub record IsNeed (count : ℕ) : Type 0 where
   pub whole : need count % 8 ≡ 0
   pub least : 8 ≤ need count
@@ -69,7 +70,7 @@ pub record AreAlike (image other : List ℕ) : Type 0 where
   pub room : rooms image ≡ rooms other
   pub runs : (size : ℕ) → NoRun (chunks_of image) size ↔ NoRun (chunks_of other) size
 
--- accepted heaps are alike where their chunks begin at one offset and have one layout
+-- accepted heaps are alike if their chunks begin at the same offset and have the same layout
 abbrev pub LayoutTells : Type 0
 LayoutTells = (image other : List ℕ) → HeapAccepted image → HeapAccepted other → area_start image ≡ area_start other → layout_of image ≡ layout_of other → AreAlike image other
 
@@ -77,14 +78,14 @@ LayoutTells = (image other : List ℕ) → HeapAccepted image → HeapAccepted o
 abbrev pub PackingIsPacked : Type 0
 PackingIsPacked = (chunks : List Chunk) → Packed (packed chunks) × Slid chunks (packed chunks)
 
--- a heap to which chunks slid, and which is packed, has one list of chunks and one layout
+-- if chunks slid to a heap that is packed, they determine its list of chunks and its layout
 abbrev pub PackedOnce : Type 0
 PackedOnce =
     (chunks : List Chunk) (image : List ℕ) → HeapAccepted image
     → (Packed (chunks_of image) → Slid chunks (chunks_of image) → chunks_of image ≡ packed chunks) × (Packed (layout_of image) → Slid chunks (layout_of image) → layout_of image ≡ packed chunks)
 
--- every name stands for what it stood for, in the stretch in which it was; nothing that stays has moved,
--- and there is as much room
+-- Every name stands for what it stood for, in the same stretch. Nothing locked or fixed has moved,
+-- and the room is the same.
 pub record SlidAlike (old new : List ℕ) : Type 0 where
   pub holds : (name : ℕ) → held new name ≡ held old name
   pub stays : Still old new
@@ -93,40 +94,41 @@ pub record SlidAlike (old new : List ℕ) : Type 0 where
   pub room : rooms new ≡ rooms old
   pub stretch : (name : ℕ) → stretch_of new name ≡ stretch_of old name
 
--- chunks that slide leave this as it was
+-- after chunks slide, a heap is alike in this sense
 abbrev pub SlidingKeeps : Type 0
 SlidingKeeps = (old new : List ℕ) (chunks : List Chunk) → HeapAccepted old → Becomes old new chunks → Slid (chunks_of old) chunks → SlidAlike old new
 
--- in a heap that was packed no run has so many bytes exactly where the old one was short of them
+-- after packing, no run has a size exactly if the old heap was short of that size
 abbrev pub PackingJoinsRooms : Type 0
 PackingJoinsRooms = (old new : List ℕ) (size : ℕ) → HeapAccepted old → Becomes old new (packed (chunks_of old)) → 0 < size → NoRun (chunks_of new) size ↔ Short old size
 
--- the chunks that have another place in a heap that was packed are those that packing moves
+-- the chunks that have another place after packing are those that packing moves
 abbrev pub PackingMoves : Type 0
 PackingMoves = (old new : List ℕ) → Becomes old new (packed (chunks_of old)) → moved_bytes old new ≡ moved_by_packing (chunks_of old)
 
--- An image is short for a movable chunk without locks where it is short, and the room of the chunk's
--- stretch and the chunk's own size together are too little as well.
+-- An image is short of a size for a movable chunk without locks exactly if two conditions are met.
+-- The image is short of the size, and the room of the chunk's stretch and the chunk's own size
+-- together are less than the size.
 abbrev pub OwnRoomCounts : Type 0
 OwnRoomCounts =
     (image : List ℕ) (before front : List Chunk) (bytes : List ℕ) (owner slot : ℕ) (back after : List Chunk) (size : ℕ) → HeapAccepted image → WholeStretch image before (front ++ movable bytes 0 owner slot ∷ back) after
     → ShortFor image slot size ↔ (Short image size × (room_of (front ++ back) + need (length bytes) < size))
 
--- where accepted heaps of one size, with the same tables, hold the same, as much is free in them
+-- accepted heaps of one size, with the same tables, that hold the same map have as much free
 abbrev pub HeldTellsFree : Type 0
 HeldTellsFree =
     (image other : List ℕ) → HeapAccepted image → HeapAccepted other → length other ≡ length image → tables_of other ≡ tables_of image → ((name : ℕ) → held other name ≡ held image name)
     → (free_total other ≡ free_total image) × (free_slots other ≡ free_slots image)
 
--- a slot is empty where it names nothing
+-- the number of free slots is the number of slots that name nothing
 abbrev pub SlotsAreNames : Type 0
 SlotsAreNames = (image : List ℕ) → HeapAccepted image → free_slots image ≡ count_by (λ slot. is_none (held image slot)) (slots_of image)
 
--- a table that comes has 15 free slots, where each name stands for what it stood for
+-- a table that is added has 15 free slots, if each name stands for what it stood for
 abbrev pub GainedSlotsAreFree : Type 0
 GainedSlotsAreFree = (old new : List ℕ) (place : ℕ) → HeapAccepted old → GainsTable old new place → ((name : ℕ) → held new name ≡ held old name) → free_slots new ≡ free_slots old + gained_count
 
--- An image with one table becomes one with a chain: where its bytes are as they are to be, it holds what the old one
--- held, with the names of fixed chunks so much greater.
+-- An image with one table becomes one with a chain. If the bytes of the new image are those of
+-- `MigratesBytes`, it holds what the old one held, with the names of fixed chunks greater by `by`.
 abbrev pub BytesTellMigration : Type 0
 BytesTellMigration = (old new : List ℕ) (by : ℕ) → HeapAccepted old → is_chained old ≡ false → length new ≤ most_size → MigratesBytes old new by → Migrates old new by

@@ -1,4 +1,4 @@
-//! The laws, each as the promise of a function.
+//! The laws, each as the postcondition of a function.
 
 ghost use Rattle.laws_heap.specs.Laws.{TiledOnce, ChunksAreRead, TilesAreRead, SlotsAreListed, AcceptanceIsDecided, TiesPairOneToOne, HoldsOneMap, ZeroNamesNothing, NeedIsWhole, LayoutTells, PackingIsPacked, PackedOnce, SlidingKeeps, PackingJoinsRooms, PackingMoves, OwnRoomCounts, HeldTellsFree, SlotsAreNames, GainedSlotsAreFree, BytesTellMigration};
 
@@ -42,13 +42,13 @@ pub fn zero_names_nothing()
     ensures { ZeroNamesNothing }
 {}
 
-/// What a chunk takes is a multiple of 8, and at least 8.
+/// The size of a chunk is a multiple of 8, and at least 8.
 pub fn need_is_whole()
     ensures { NeedIsWhole }
 {}
 
-/// What a heap holds, where, and what room it has follow from its layout and from where its chunks
-/// begin.
+/// The map that a heap holds, the places of its chunks and its room follow from its layout and from
+/// the offset at which its chunks begin.
 pub fn layout_tells()
     ensures { LayoutTells }
 {}
@@ -58,13 +58,13 @@ pub fn packing_is_packed()
     ensures { PackingIsPacked }
 {}
 
-/// What compaction leaves is determined: there is one list of packed chunks to which some can slide.
+/// Compaction has one result: chunks can slide to one packed list only.
 pub fn packed_once()
     ensures { PackedOnce }
 {}
 
-/// Where chunks slide every name stands for what it stood for, nothing locked or fixed has moved, and
-/// there is as much room.
+/// After chunks slide, every name stands for what it stood for, nothing locked or fixed has moved,
+/// and the room is the same.
 pub fn sliding_keeps()
     ensures { SlidingKeeps }
 {}
@@ -74,18 +74,18 @@ pub fn packing_joins_rooms()
     ensures { PackingJoinsRooms }
 {}
 
-/// What packing moves is what has another place afterwards.
+/// Packing moves exactly the chunks that have another place after it.
 pub fn packing_moves()
     ensures { PackingMoves }
 {}
 
-/// That a resize finds too little room is two tests: no stretch has the new need, and the chunk's own
-/// stretch hasn't together with the chunk.
+/// A resize lacks room exactly if two conditions are met. No stretch has the room that it needs,
+/// and neither has the chunk's own stretch together with the chunk's size.
 pub fn own_room_counts()
     ensures { OwnRoomCounts }
 {}
 
-/// How many bytes and slots are free follows from what is held.
+/// The map that an image holds determines how many bytes and slots are free.
 pub fn held_tells_free()
     ensures { HeldTellsFree }
 {}
@@ -95,12 +95,13 @@ pub fn slots_are_names()
     ensures { SlotsAreNames }
 {}
 
-/// A table that comes has 15 free slots.
+/// A table that is added has 15 free slots.
 pub fn gained_slots_are_free()
     ensures { GainedSlotsAreFree }
 {}
 
-/// What an image with a chain of tables holds that an image with one table becomes can be told by its bytes.
+/// If an image with one table becomes one with a chain of tables, the new bytes determine what it
+/// holds.
 pub fn bytes_tell_migration()
     ensures { BytesTellMigration }
 {}

@@ -1,5 +1,5 @@
--- Numbers of four bytes, one behind the other, as the directory has them: what is spelled is read, and
--- what is read is spelled.
+-- Numbers of four bytes, one after the other, as the directory has them: what is spelled is read,
+-- and what is read is spelled.
 use Rattle.std.proofs.Common.{◌≡◌, ℕ, zero, suc, ◌+◌, ◌*◌, ◌/◌, ◌%◌, ◌^◌, ◌<◌, ◌≤◌, List, [], ◌∷◌, ◌++◌, length, get_or, take, refl, sym, ap, ◌∙◌, arith, length-append}
 use Rattle.std.proofs.lemmas.List.{append-nil, take_all}
 use Rattle.std.proofs.lemmas.List.Elements.{All-head, All-tail}

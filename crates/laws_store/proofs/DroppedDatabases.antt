@@ -43,7 +43,7 @@ u32s_remove bytes i inside =
     ∙ ap (remove (u32s_in front ++ u32_at word (4 * 0) ∷ u32s_in back)) (sym before)
     ∙ remove_seam (u32s_in front) (u32_at word (4 * 0)) (u32s_in back))
 
--- bytes that slide to the front over others, where the list ends behind them
+-- bytes that slide to the front over others, where the list ends after them
 pub closed_up : (bytes : List ℕ) (at count : ℕ) → at + count ≤ length bytes → sized_to (overwritten bytes at (slice_range bytes (at + count) (length bytes))) (length bytes - count) ≡ take at bytes ++ drop (at + count) bytes
 unfolding overwritten
 closed_up bytes at count inside =

@@ -1,5 +1,5 @@
--- Images in which one database and some other chunks were edited: what names stand for, whose they are, and
--- how often they are those of chunks for data.
+-- Images in which one database and some other chunks were edited: what names stand for, whose they
+-- are, and how often they are those of chunks for data.
 use Rattle.std.proofs.Common.{◌≡◌, ◌≢◌, ℕ, ◌+◌, ◌<◌, List, [], ◌∷◌, Option, Some, None, refl, sym, ap, subst, ◌∙◌, arith, inl, inr}
 use Rattle.std.proofs.lemmas.Bool.{cases_eq, eq-eqb, ne_eqb}
 use Rattle.std.proofs.lemmas.List.Elements.{All-head, All-tail}
@@ -59,7 +59,8 @@ lock_same o p before after e was is = ap (λ (l : LiveChunk). l.lock) (same_some
 
 -- ---- the names that were changed, and all others
 
--- One of some changes is of the name. It has what all of them have, and two maps with them say what it says.
+-- One of some changes is of the name. It has what all of them have, and two maps with them say what
+-- it says.
 pub record IsChanged (P : Change → Type 0) (map other_map : ChunkMap) (changes : List Change) (name : ℕ) : Type 0 where
   pub one : Change
   pub holds : P one
@@ -241,8 +242,8 @@ gone_balance old new db bytes name now l before after was is names = balances ol
     omega arith)
     (λ q some ne. let one = names q some in let no = same-no name q (λ e. ne (sym e)) in omega arith)
 
--- A chunk for data went to a caller, and a caller's became one. The database names the one now, and the other
--- no more.
+-- A chunk for data went to a caller, and a caller's became one. The database names the one now, and
+-- the other no more.
 pub exchanged_balance : (old new : List ℕ) (db : ℕ) (bytes : List ℕ) (name : ℕ) (now : Option LiveChunk) (slot : ℕ) (handed : Option LiveChunk)
     → Leaves old new (edited (held old) db bytes (record { name = name; now = now } ∷ one_change slot handed)) → (before after : Database ℕ) → owner_under old name ≢ data_owner → owner_of now ≡ data_owner → owner_under old slot ≡ data_owner
     → owner_of handed ≢ data_owner → ((q : ℕ) → times q (data_in after) + same slot q ≡ times q (data_in before) + same name q)

@@ -1,4 +1,5 @@
--- Images in which one database and some chunks were edited, or one chunk alone, mean the store with these.
+-- Images in which one database and some chunks were edited, or one chunk alone, mean the store with
+-- these.
 use Rattle.std.proofs.Common.{◌≡◌, ◌≢◌, ℕ, ◌+◌, ◌<◌, List, [], length, get_or, set, replicate, ◌≤◌, Option, Some, None, refl, sym, ap, subst, ◌∙◌, arith, inl, inr}
 use Rattle.std.proofs.lemmas.Bool.{cases_eq}
 use Rattle.std.proofs.lemmas.List.{get_or-set_same, get_or-set_other, length-set, length-map, map-set, get_or-map}

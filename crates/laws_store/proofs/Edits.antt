@@ -1,4 +1,5 @@
--- The bytes of entries where one is replaced, put in or taken out; and a header that is written anew.
+-- The bytes of entries where one is replaced, put in or taken out; and a header that is written
+-- anew.
 use Rattle.std.proofs.Common.{◌≡◌, ℕ, zero, suc, ◌+◌, ◌*◌, ◌<◌, ◌≤◌, Bool, List, [], ◌∷◌, ◌++◌, length, set, take, drop, refl, sym, ap, ◌∙◌, append_assoc, arith, ◌-◌}
 use Rattle.std.proofs.Math.Seq.{take-append-add, drop-append-add}
 use Rattle.std.proofs.lemmas.List.{drop_at, length-set}
@@ -11,7 +12,7 @@ use Rattle.heap_model.specs.DatabaseFields.{entry_size}
 use Rattle.heap_model.specs.Database.{Entry, Database, has_resources, header_bytes, entry_bytes, spelled, EntryFits, DatabaseFits, entry_offset}
 use Rattle.laws_store.proofs.Spellings.{length-header_bytes, length-entry_bytes, size-zero, size-suc}
 
--- ---- entries in front of one, and from it on
+-- ---- entries before one, and from it on
 
 pub entries_front : (r : Bool) (es : List (Entry ℕ)) (i : ℕ) → All (EntryFits r) es → i ≤ length es → take (entry_size r * i) (flat_map entry_bytes es) ≡ flat_map entry_bytes (take i es)
 entries_front r es zero all below = ap (λ (n : ℕ). take n (flat_map entry_bytes es)) (size-zero r)
@@ -72,7 +73,7 @@ entries_set r es i e all fits below =
     ∙ ap (λ (n : ℕ). take (entry_size r * i) (flat_map entry_bytes es) ++ (entry_bytes e ++ drop n (flat_map entry_bytes es))) end
     ∙ sym (append_assoc (take (entry_size r * i) (flat_map entry_bytes es)) (entry_bytes e) (drop (entry_size r * i + length (entry_bytes e)) (flat_map entry_bytes es)))
 
--- what is written behind some bytes
+-- what is written after some bytes
 written_behind : (front back part : List ℕ) (k at : ℕ) → length front ≡ k → overwritten (front ++ back) (k + at) part ≡ front ++ overwritten back at part
 unfolding overwritten
 written_behind front back part k at len =
@@ -121,7 +122,7 @@ spelled_header d other fits others same =
 
 -- ---- entries put in and taken out, in the bytes
 
--- what stands behind the header
+-- what stands after the header
 tail_from : (d : Database ℕ) (k : ℕ) → DatabaseFits d → drop (78 + k) (spelled d) ≡ drop k (flat_map entry_bytes d.entries)
 unfolding spelled
 tail_from d k fits =
@@ -129,7 +130,7 @@ tail_from d k fits =
     let e : 78 + k ≡ length (header_bytes d) + k = omega arith in
     ap (λ (n : ℕ). drop n (header_bytes d ++ flat_map entry_bytes d.entries)) e ∙ drop-append-add (header_bytes d) (flat_map entry_bytes d.entries) k
 
--- the entries in front of one
+-- the entries before one
 front_to : (d : Database ℕ) (i : ℕ) → DatabaseFits d
     → slice_range (spelled d) 78 (entry_offset (has_resources d.header.attributes) i) ≡ take (entry_size (has_resources d.header.attributes) * i) (flat_map entry_bytes d.entries)
 front_to d i fits =

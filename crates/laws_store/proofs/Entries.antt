@@ -1,5 +1,5 @@
--- Entries of a sound database put in, taken out, replaced and moved, and headers raised: the database stays
--- sound, and names what it named but for the data of that one entry.
+-- Entries of a sound database put in, taken out, replaced and moved, and headers raised: the
+-- database stays sound, and names what it named but for the data of that one entry.
 use Rattle.std.proofs.Common.{◌≡◌, ◌≢◌, ℕ, suc, ◌+◌, ◌%◌, ◌*◌, ◌/◌, ◌^◌, ◌<◌, ◌≤◌, Bool, true, false, Option, Some, None, List, [], ◌∷◌, length, get_or, set, take, drop, refl, sym, ap, subst, ◌∙◌, arith, inl, inr}
 use Rattle.std.proofs.lemmas.Bool.{cases_eq, cases_lt}
 use Rattle.std.proofs.lemmas.List.{get_or-set_same, get_or-set_other, length-set}

@@ -45,7 +45,7 @@ found_or_not db (x ∷ xs) =
 
 -- ---- where it stands
 
--- the number of a database that stands behind the first is there
+-- the number of a database that stands after the first is there
 behind_counts : (db : ℕ) (xs : List StoredDatabase) (i : ℕ) (d : StoredDatabase) → i < length xs → (get_or xs i d).db ≡ db → 0 < times db (numbers_of xs)
 behind_counts db xs i d below e =
     let len = length-numbers xs in

@@ -10,7 +10,7 @@ use Rattle.heap_model.specs.UniqueIds.{next_id, id_behind, IsFresh}
 use Rattle.laws_heap.proofs.Tests.{cond-true, cond-false}
 use Rattle.laws_store.proofs.Times.{same-no, times-remove, contained-times, Distinct-tail, Distinct-head, least_once}
 
--- ---- IDs behind a seed
+-- ---- IDs after a seed
 
 next_is : (n : ℕ) → n ≤ 0xFFFFFF → next_id n ≡ n % 0xFFFFFF + 1
 next_is n most = elim (cases_lt n 0xFFFFFF) [

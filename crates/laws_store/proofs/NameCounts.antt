@@ -1,5 +1,5 @@
--- How often databases name something, as sums over the databases and over the entries; so what an edit
--- of one of them changes is one term.
+-- How often databases name something, as sums over the databases and over the entries; so what an
+-- edit of one of them changes is one term.
 use Rattle.std.proofs.Common.{◌≡◌, ◌≢◌, ℕ, ◌+◌, ◌<◌, ◌≤◌, List, [], ◌∷◌, length, map, get_or, set, refl, ap, arith, inl, inr}
 use Rattle.std.proofs.lemmas.Bool.{cases_lt}
 use Rattle.std.proofs.lemmas.List.Elements.{All-contains}

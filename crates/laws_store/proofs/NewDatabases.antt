@@ -1,5 +1,5 @@
--- A database that comes: a chunk of the manager's has no lock, a slot more is listed, and the room and the
--- slots that chunks take which are made one after the other.
+-- A database that comes: a chunk of the manager's has no lock, a slot more is listed, and the room
+-- and the slots that chunks take which are made one after the other.
 use Rattle.std.proofs.Common.{◌≡◌, ◌≢◌, ℕ, zero, suc, ◌+◌, ◌*◌, ◌/◌, ◌%◌, ◌^◌, ◌<◌, ◌≤◌, Bool, true, false, cond, List, [], ◌∷◌, ◌++◌, length, Some, refl, sym, ap, subst, ◌∙◌, append_assoc, arith, length-append, inl, inr}
 use Rattle.std.proofs.lemmas.Bool.{cases_eq}
 use Rattle.std.proofs.Math.Seq.{take-append_seam}
@@ -66,7 +66,7 @@ numbered_both f n (suc m) =
     ∙ append_assoc (numbered f n) (numbered (λ i. f (n + i)) m) (f (n + m) ∷ [])
     ∙ ap (λ (xs : List ℕ). numbered f n ++ xs) (sym (numbered_more (λ i. f (n + i)) m))
 
--- the bytes behind the first so many slots don't count for these
+-- the bytes after the first n slots don't count for these
 u32s_front : (front back : List ℕ) (n : ℕ) → length front ≡ 4 * n → numbered (λ i. u32_at (front ++ back) (4 * i)) n ≡ numbered (λ i. u32_at front (4 * i)) n
 unfolding u32_at
 u32s_front front back n len = numbered_alike (λ i. u32_at (front ++ back) (4 * i)) (λ i. u32_at front (4 * i)) n (λ i less. sym (big_from-take (4 * i) 4 (length front) (front ++ back) (omega arith)) ∙ ap (λ (xs : List ℕ). u32_at xs (4 * i)) (take-append_seam front back))
@@ -76,7 +76,7 @@ unfolding u32_at
 u32s_back front back n m len = numbered_alike (λ i. u32_at (front ++ back) (4 * (n + i))) (λ i. u32_at back (4 * i)) m
     (λ i less. (let e : 4 * (n + i) ≡ 4 * n + 4 * i = omega arith in ap (u32_at (front ++ back)) e) ∙ big_from-behind (4 * n) 4 (4 * i) front back len)
 
--- the slots of two directories, one behind the other
+-- the slots of two directories, one after the other
 pub u32s_join : (front back : List ℕ) (n : ℕ) → length front ≡ 4 * n → u32s_in (front ++ back) ≡ u32s_in front ++ u32s_in back
 u32s_join front back n len =
     let both = length-append front back in
@@ -88,7 +88,7 @@ u32s_join front back n len =
     ∙ ap (λ (xs : List ℕ). numbered (λ i. u32_at front (4 * i)) n ++ xs) (u32s_back front back n (length back / 4) len)
     ∙ ap (λ (k : ℕ). numbered (λ i. u32_at front (4 * i)) k ++ u32s_in back) (sym mine)
 
--- a slot more is listed last where its bytes stand behind those of the others
+-- a slot more is listed last where its bytes stand after those of the others
 pub u32s_push : (bytes : List ℕ) (slot : ℕ) → length bytes % 4 ≡ 0 → slot < 2 ^ 32 → u32s_in (bytes ++ u32_bytes slot) ≡ u32s_in bytes ++ slot ∷ []
 u32s_push bytes slot whole fits =
     u32s_join bytes (u32_bytes slot) (length bytes / 4) (omega arith)
@@ -121,7 +121,7 @@ count_apart f g s (x ∷ xs) alike =
       at_most_one true = omega arith
       at_most_one false = omega arith
 
--- what stands in front alone stands no more
+-- an element that is only among the first ones is not among the others
 none_behind : (x : ℕ) (done xs : List ℕ) → ((front rest : List ℕ) → done ++ xs ≡ front ++ x ∷ rest → length front < length done) → times x xs ≡ 0
 none_behind x done [] front_alone = refl
 none_behind x done (y ∷ xs) front_alone =

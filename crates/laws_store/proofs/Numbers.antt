@@ -1,4 +1,5 @@
--- Numbers and the bytes that they stand in, both ways; and lists that a function of the index gives.
+-- Numbers and the bytes that they stand in, both ways; and lists that a function of the index
+-- gives.
 use Rattle.std.proofs.Common.{◌≡◌, ℕ, zero, suc, ◌+◌, ◌*◌, ◌^◌, ◌<◌, ◌≤◌, List, [], ◌∷◌, ◌++◌, length, get_or, take, drop, refl, sym, ap, ◌∙◌, arith, length-take, length-drop, inl, inr}
 use Rattle.std.proofs.Math.Nat.{add-mul, mul-le-mul_right}
 use Rattle.std.proofs.lemmas.Bool.{cases_order, cases_lt}
@@ -15,7 +16,7 @@ use Rattle.heap_model.specs.Lists.{numbered}
 pub numbered_more : {X : Type 0} (each : ℕ → X) (n : ℕ) → numbered each (suc n) ≡ numbered each n ++ each n ∷ []
 numbered_more each n = let e : suc n ≡ n + 1 = omega arith in ap (numbered each) e ∙ map-range_with_len_more each 0 n n (omega arith)
 
--- ---- numbers behind others
+-- ---- numbers after others
 
 pub big_from-drop : (i n k : ℕ) (xs : List ℕ) → big_from i n (drop k xs) ≡ big_from (k + i) n xs
 big_from-drop i zero k xs = refl
@@ -103,15 +104,15 @@ take_both (suc n) m [] = let e : suc n + m ≡ suc (n + m) = omega arith in none
   none (suc m) = refl
 take_both (suc n) m (x ∷ xs) = let e : suc n + m ≡ suc (n + m) = omega arith in ap (onto x) (take_both n m xs) ∙ sym (ap (λ (k : ℕ). take k (x ∷ xs)) e)
 
--- two slices, one behind the other
+-- two slices, one after the other
 pub slices_join : (n m at : ℕ) (bs : List ℕ) → take n (drop at bs) ++ take m (drop (at + n) bs) ≡ take (n + m) (drop at bs)
 slices_join n m at bs = ap (λ (xs : List ℕ). take n (drop at bs) ++ take m xs) (sym (drop-drop n at bs)) ∙ take_both n m (drop at bs)
 
--- the bytes of a number that was read in front of a slice
+-- the bytes of a number that was read before a slice
 pub number_in_front : (n m at : ℕ) (bs rest : List ℕ) → AreBytes bs → at + n ≤ length bs → rest ≡ take m (drop (at + n) bs) → big_bytes n (big_from at n bs) ++ rest ≡ take (n + m) (drop at bs)
 number_in_front n m at bs rest bytes inside e = ap (λ (xs : List ℕ). xs ++ rest) (read_bytes n at bs bytes inside) ∙ ap (λ (xs : List ℕ). take n (drop at bs) ++ xs) e ∙ slices_join n m at bs
 
--- one byte in front of a slice
+-- one byte before a slice
 pub byte_in_front : (m at : ℕ) (bs rest : List ℕ) → at < length bs → rest ≡ take m (drop (at + 1) bs) → get_or bs at 0 ∷ rest ≡ take (1 + m) (drop at bs)
 byte_in_front m at bs rest inside e =
     ap (λ (xs : List ℕ). xs ++ rest) (one (drop at bs) (let l = length-drop at bs in omega arith) (get_or-drop at bs 0 0 ∙ (let z : at + 0 ≡ at = omega arith in ap (λ (i : ℕ). get_or bs i 0) z)))

@@ -40,7 +40,7 @@ directory_owner image h some = elim (read_heap image h).directory [
       ap owner_of (finds_held image (directory_of image) m.0 p.chunk (area_start image + total p.before) h (record { before = p.before; after = p.after; chunks = p.parts; there = refl; named = m.1 })) ∙ m.2
 ]
 
--- ---- such chunks are movable, and their names are slots
+-- ---- these chunks are movable, and their names are slots
 
 owned_body : (slot : ℕ) (live : LiveChunk) (at : ℕ) (c : Chunk) → (live.owner ≡ 0) ⊎ (live.owner ≡ 15) → NamedHere slot live at c → IsCallersIfFixed at c → BodyHere slot (at + 8) at c
 owned_body slot live at (free size) owner n callers = absurd n

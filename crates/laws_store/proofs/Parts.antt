@@ -1,5 +1,5 @@
--- Room for one part: it runs out where the image is short, and for a chunk that grows where the image is
--- short for that one.
+-- Room for one part: it runs out where the image is short, and for a chunk that grows where the
+-- image is short for that one.
 use Rattle.std.proofs.Common.{◌≡◌, ℕ, ◌+◌, ◌-◌, ◌<◌, Bool, true, false, cond, List, [], ◌∷◌, ◌++◌, length, get_or, set, Option, Some, None, refl, sym, ap, subst, ◌∙◌, append_assoc, arith, length-append, inl, inr}
 use Rattle.std.proofs.Math.Seq.{set-append_seam}
 use Rattle.std.proofs.lemmas.Bool.{eq-eqb}
@@ -67,7 +67,7 @@ or_true : (a : Bool) → (a || true) ≡ true
 or_true true = refl
 or_true false = refl
 
--- the first run that has the name's chunk stands behind those without
+-- the first run that has the name's chunk stands after those without
 first_with : (name : ℕ) (pre : List (List Chunk)) (run : List Chunk) (post : List (List Chunk)) → All (Without name) pre → list_any (is_movable_as name) run ≡ true → position_or_len (list_any (is_movable_as name)) (pre ++ run ∷ post) ≡ length pre
 first_with name pre run post without has =
     let len = length-append pre (run ∷ post) in
@@ -189,7 +189,8 @@ growth_kept old mid name count live kept e f =
     ap (λ (number : ℕ). grows number (need (length (bytes_under mid name))) (need count)) stretch
     ∙ ap (λ (body : List ℕ). grows (stretch_of old name) (need (length body)) (need count)) bytes
 
--- where a chunk was made, and then there is no room for another to grow, the two parts run out of room
+-- where a chunk was made, and then there is no room for another to grow, the two parts run out of
+-- room
 pub made_then_short : (old mid : List ℕ) (size name count : ℕ) (live : LiveChunk) → HeapAccepted mid → Lowers old mid size → held old name ≡ Some live → held mid name ≡ Some live → live.lock ≡ 0 → ShortFor mid name (need count)
     → Stuck (rooms old) (makes size ∷ growth old name count ∷ [])
 made_then_short old mid size name count live heap lowers e f unlocked short =

@@ -9,7 +9,7 @@ use Rattle.heap_model.specs.Store.{unique_id}
 use Rattle.laws_store.proofs.Times.{same-yes, same-no, times-cons, times-append}
 use Rattle.laws_store.proofs.Numbers.{numbered_more}
 
--- those of the entries in front of an index
+-- those of the entries before an index
 abbrev pub ids_upto : (ℕ → Entry ℕ) → ℕ → List ℕ
 ids_upto each n = filter_map unique_id (numbered each n)
 
@@ -49,7 +49,7 @@ index_ids each q (suc n) k below e = let more = ids_more each q n in elim (cases
   | inr last ↦ let is : k ≡ n = omega arith in let one = one_id (each n) q (sym (ap (λ (i : ℕ). unique_id (each i)) is) ∙ e) in omega arith
 ]
 
--- the ID of one index is no other's exactly where each stands in the list once at most
+-- the ID of one index is no other's exactly if each stands in the list once at most
 pub ids_once : (each : ℕ → Entry ℕ) (n : ℕ) → ((i j q : ℕ) → i < n → j < i → unique_id (each j) ≡ Some q → unique_id (each i) ≡ Some q → ⊥) → (q : ℕ) → times q (ids_upto each n) ≤ 1
 ids_once each zero apart q = omega arith
 ids_once each (suc n) apart q =

@@ -48,7 +48,7 @@ spelled_shape d bytes s = rw s.bytes_are (shape_of_spelled d s.fits)
 length-entries_in : (bytes : List ℕ) → length (numbered (entry_in bytes) (entry_count_in bytes)) ≡ entry_count_in bytes
 length-entries_in bytes = length-map-range_with_len (entry_in bytes) 0 (entry_count_in bytes)
 
--- the fields behind the name, as they were read
+-- the fields after the name, as they were read
 fields_back : (d : Database ℕ) (bytes : List ℕ) → AreBytes bytes → 78 ≤ length bytes → d ≡ database_in bytes → length d.entries ≡ entry_count_in bytes → u32_at bytes 72 ≡ 0 → concat (fields_behind_name d) ≡ take 46 (drop 32 bytes)
 unfolding database_in header_in u16_at u32_at u16_bytes u32_bytes
 fields_back d bytes b inside is count next = rw is (

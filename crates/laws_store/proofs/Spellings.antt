@@ -28,7 +28,7 @@ length-header_bytes d is =
     let both = length-append (name_field d.header.name) (concat (fields_behind_name d)) in
     omega arith
 
--- what stands behind the name
+-- what stands after the name
 behind : Database ℕ → List ℕ
 behind d = concat (fields_behind_name d) ++ flat_map entry_bytes d.entries
 
@@ -127,7 +127,7 @@ entry_first true (a_record attributes id slot) rest f = absurd f
 entry_first false (a_resource kind id slot) rest f = absurd f
 entry_first true (a_resource kind id slot) rest f = same_resource _ _ _ _ _ _ (big_number-reads_back 4 kind (u16_bytes id ++ u32_bytes slot ++ rest) f.0) (big_number-reads_back 2 id (u32_bytes slot ++ rest) f.1) (big_number-reads_back 4 slot rest f.2)
 
--- what is read behind some bytes
+-- what is read after some bytes
 pub entry_behind : (resources : Bool) (k at : ℕ) (front back : List ℕ) → length front ≡ k → entry_at resources (front ++ back) (k + at) ≡ entry_at resources back at
 unfolding u16_at u24_at u32_at
 entry_behind false k at front back len =

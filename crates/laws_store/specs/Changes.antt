@@ -1,5 +1,5 @@
--- What a call leaves of an image with databases: which chunks of the manager's are as they were, and how
--- many of the names for data are.
+-- The changes that a call makes to an image with databases: which of the manager's chunks are as
+-- they were, and which names have chunks for data.
 use Rattle.std.specs.Prelude.{◌≡◌, ◌≢◌, ◌<◌, ◌+◌, ◌%◌, ◌++◌, ◌↔◌, ℕ, List, Option, Some, None, [], ◌∷◌, length, slice_index_or, slice_set, All}
 use Rattle.std.specs.List.{remove}
 use Rattle.heap_model.specs.Chunk.{managers_owner, data_owner}
@@ -14,9 +14,9 @@ use Rattle.heap_model.specs.StoreWords.{SameStore, all_gone}
 use Rattle.heap_model.specs.Counts.{IsWhole, IsSound}
 use Rattle.heap_model.specs.Leaving.{Leaves, rewritten, database_here}
 
--- The new image is an accepted heap. Its directory is the old one's, the manager's chunks are as they
--- were, and the same names have chunks of the manager's, and the same ones chunks for data. What these
--- chunks for data hold may be other.
+-- The new image is an accepted heap with the same directory, and the manager's chunks are as they
+-- were. The same names have chunks of the manager's, and the same names have chunks for data. The
+-- contents of chunks for data may differ.
 pub record KeepsManagers (old new : List ℕ) : Type 0 where
   pub heap : HeapAccepted new
   pub directory : directory_of new ≡ directory_of old
@@ -24,9 +24,10 @@ pub record KeepsManagers (old new : List ℕ) : Type 0 where
   pub owners : (name : ℕ) → ((owner_under new name ≡ managers_owner) ↔ (owner_under old name ≡ managers_owner))
   pub «data» : (name : ℕ) → ((owner_under new name ≡ data_owner) ↔ (owner_under old name ≡ data_owner))
 
--- One database of some became another of the same number. The new image is an accepted heap with the same
--- directory, the manager's other chunks are as they were, and the same names have chunks of the manager's.
--- A name is that of a chunk for data as often more as the database names it more often.
+-- One database became another of the same number. The new image is an accepted heap with the same
+-- directory. The manager's other chunks are as they were, and the same names have chunks of the
+-- manager's. A name gains a chunk for data exactly if the new database names it once more than the
+-- old one, and loses it exactly if once less.
 pub record Rewrites (old new : List ℕ) (stored : List StoredDatabase) (index : ℕ) (one : StoredDatabase) : Type 0 where
   pub heap : HeapAccepted new
   pub directory : directory_of new ≡ directory_of old
@@ -39,9 +40,10 @@ pub record Rewrites (old new : List ℕ) (stored : List StoredDatabase) (index :
   pub balance : (name : ℕ) → 0 < name
       → times name (data_in one.database) + same (owner_under old name) data_owner ≡ times name (data_in (slice_index_or stored index one).database) + same (owner_under new name) data_owner
 
--- A database came behind some, and the directory lists it last. The new image is an accepted heap, maybe
--- with another directory, and the manager's other chunks are as they were. The names that are new to the
--- manager are the database's number and a new directory, and those new to data are what it names.
+-- A database was added after the others, and the directory lists it last. The new image is an
+-- accepted heap. Its directory may be under another name, and the manager's other chunks are as
+-- they were. The names new to the manager are the database's number and that of a new directory.
+-- The names new to data are those that the database names.
 pub record Appends (old new : List ℕ) (stored : List StoredDatabase) (one : StoredDatabase) : Type 0 where
   pub heap : HeapAccepted new
   pub whole : length (directory_bytes new) % listed_size ≡ 0
@@ -55,9 +57,10 @@ pub record Appends (old new : List ℕ) (stored : List StoredDatabase) (one : St
       → same name one.db + same name (directory_of new) + same (owner_under old name) managers_owner ≡ same name (directory_of old) + same (owner_under new name) managers_owner
   pub balance : (name : ℕ) → 0 < name → times name (data_in one.database) + same (owner_under old name) data_owner ≡ same (owner_under new name) data_owner
 
--- One database of some went, and the directory lists the others. The new image is an accepted heap with
--- the directory in the same slot, and the manager's other chunks are as they were. Gone are the database's
--- number and what it named.
+-- One database was removed, and the directory lists the others. The new image is an accepted heap
+-- with the directory in the same slot, and the manager's other chunks are as they were. The
+-- database's number has no chunk of the manager's any more, and the names in the database have no
+-- chunks for data.
 pub record Drops (old new : List ℕ) (stored : List StoredDatabase) (index : ℕ) (one : StoredDatabase) : Type 0 where
   pub heap : HeapAccepted new
   pub directory : directory_of new ≡ directory_of old
@@ -69,23 +72,23 @@ pub record Drops (old new : List ℕ) (stored : List StoredDatabase) (index : �
   pub owners : (name : ℕ) → 0 < name → same name one.db + same (owner_under new name) managers_owner ≡ same (owner_under old name) managers_owner
   pub balance : (name : ℕ) → 0 < name → times name (data_in one.database) + same (owner_under new name) data_owner ≡ same (owner_under old name) data_owner
 
--- With a database went its header and the chunks that it named. All chunks but the manager's are otherwise
--- as they were.
+-- The header of a removed database is gone, and so are the chunks that it named. All other chunks
+-- are as they were, except the manager's.
 pub record Clears (old new : List ℕ) (one : StoredDatabase) : Type 0 where
   pub header : held new one.db ≡ None
   pub others : (name : ℕ) → owner_under old name ≢ managers_owner → held new name ≡ all_gone (held old) (data_in one.database) name
 
--- the image is accepted, and means this store
+-- the image is accepted, and means the store
 pub record HasStore (image : List ℕ) (store : Store) : Type 0 where
   pub accepted : Accepted image
   pub same : SameStore (store_of image) store
 
--- what a name stands for now
+-- a name, and what it stands for now
 pub record Change : Type 0 where
   pub name : ℕ
   pub now : Option LiveChunk
 
--- a map with what some names stand for replaced
+-- a map in which some names stand for something else
 abbrev pub all_updated : ChunkMap → List Change → ChunkMap
 all_updated map [] = map
 all_updated map (one ∷ more) = updated (all_updated map more) one.name one.now
@@ -96,9 +99,9 @@ pub record IsCallersChange (image : List ℕ) (one : Change) : Type 0 where
   pub callers_now : owner_of one.now ≢ managers_owner
   pub locks : (before after : LiveChunk) → held image one.name ≡ Some before → one.now ≡ Some after → after.lock ≡ before.lock
 
--- One database became another, of the same name, and some chunks that callers may name were made, changed or
--- freed. All other chunks are as they were. A name is that of a chunk for data as often more as the database
--- names it more often.
+-- One database became another of the same name, and some chunks that callers may name were made,
+-- changed or freed. All other chunks are as they were. A name gains a chunk for data exactly if the
+-- new database names it once more than the old one, and loses it exactly if once less.
 pub record Edits (old new : List ℕ) (db : ℕ) (database : Database ℕ) (changes : List Change) : Type 0 where
   pub leaves : Leaves old new (all_updated (rewritten (held old) db (spelled database)) changes)
   pub sound : IsSound database

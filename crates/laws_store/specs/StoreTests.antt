@@ -1,5 +1,5 @@
--- Whether an image is accepted with its databases, by one test for each part of the definition. They say
--- it of every list of bytes, where the relations of `Store` say what it is.
+-- The tests that decide whether an image is accepted with its databases: one for each part of the
+-- definition in `Store`. They apply to every list of bytes.
 use Rattle.std.specs.Prelude.{◌%◌, ◌^◌, ◌==◌, ◌&&◌, ◌||◌, ◌++◌, not, nat_le, nat_lt, ℕ, Bool, true, false, List, [], ◌∷◌, length}
 use Rattle.std.specs.List.{list_all, list_any}
 use Rattle.std.specs.Str.{bytes_eq}
@@ -12,7 +12,7 @@ use Rattle.heap_model.specs.Database.{DatabaseHeader, Entry, a_record, a_resourc
 use Rattle.heap_model.specs.Lists.{times}
 use Rattle.heap_model.specs.Store.{StoredDatabase, bytes_under, owner_under, directory_bytes, listed, databases, named_by, most_databases, unique_ids, names_of, listed_size}
 
--- nothing in the list is the same as what stands behind it
+-- no element of the list is the same as one after it
 abbrev pub are_distinct : {X : Type 0} → (X → X → Bool) → List X → Bool
 are_distinct is_same [] = true
 are_distinct is_same (x ∷ xs) = list_all (λ other. not (is_same x other)) xs && are_distinct is_same xs

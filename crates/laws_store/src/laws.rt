@@ -1,4 +1,4 @@
-//! The laws, each as the promise of a function.
+//! The laws, each as the postcondition of a function.
 
 ghost use Rattle.laws_store.specs.Laws.{SpellingsAreRead, ShapesAreSpellings, EntriesAreWritten, EntriesAreMoved, HeadersAreWritten, EditsAreSound, EditsAreCounted, BodiesAreBytes, DirectoriesAreRead, FreshIdsExist, AcceptanceIsCounted, StoresAreDecided, MeansOneStore, StoresTell, StoresAreKept, MemoryCallsKeepStores, MemoryCallsAreStoreSteps, StoresAreRewritten, StoresAreAppended, StoresAreDropped, DatabasesAreFound, DatabasesAreChanged, DatabasesAreTakenOut, NumbersAreKnown, DatabasesAreSound, DatabasesAreStores, SetsAreSteps, CreatesAreSteps, DropsAreSteps, RefusalsAreSteps, EditsAreSteps, MakesAreSteps, RespellsAreSteps, ChunksAreSteps, OnePartIsShort, MadeThenShort};
 
@@ -7,52 +7,52 @@ pub fn spellings_are_read()
     ensures { SpellingsAreRead }
 {}
 
-/// Bytes spell a database exactly where they are in shape.
+/// Bytes spell a database exactly if they have the right shape.
 pub fn shapes_are_spellings()
     ensures { ShapesAreSpellings }
 {}
 
-/// An entry is replaced where its bytes are written over the old ones.
+/// To replace an entry is to write its bytes over the old ones.
 pub fn entries_are_written()
     ensures { EntriesAreWritten }
 {}
 
-/// An entry is put in or taken out where the bytes of those behind it are moved.
+/// To insert or remove an entry is to move the bytes of the entries after it.
 pub fn entries_are_moved()
     ensures { EntriesAreMoved }
 {}
 
-/// A header is replaced where its bytes are written over the old ones.
+/// To replace a header is to write its bytes over the old ones.
 pub fn headers_are_written()
     ensures { HeadersAreWritten }
 {}
 
-/// A database stays sound where its entries are edited by ones that fit.
+/// A database stays sound if its entries are edited and the new entries fit.
 pub fn edits_are_sound()
     ensures { EditsAreSound }
 {}
 
-/// Where entries are edited, a database names what it named but for one entry's data.
+/// After an edit of one entry, a database names what it named, except for that entry's data.
 pub fn edits_are_counted()
     ensures { EditsAreCounted }
 {}
 
-/// What an image of bytes holds under a name are bytes.
+/// If an image is a list of bytes, so is the body of each chunk.
 pub fn bodies_are_bytes()
     ensures { BodiesAreBytes }
 {}
 
-/// What spells a directory is read as it, and the other way round.
+/// The bytes of a directory and its list of slots determine each other.
 pub fn directories_are_read()
     ensures { DirectoriesAreRead }
 {}
 
-/// Behind a seed there is one fresh ID, where fewer IDs are taken than there are.
+/// After a seed there is exactly one fresh ID, if fewer IDs are taken than there are.
 pub fn fresh_ids_exist()
     ensures { FreshIdsExist }
 {}
 
-/// An image is accepted exactly where each name is listed and named as often as its owner says.
+/// An image is accepted exactly if each name is listed and named as often as its owner says.
 pub fn acceptance_is_counted()
     ensures { AcceptanceIsCounted }
 {}
@@ -72,7 +72,7 @@ pub fn stores_tell()
     ensures { StoresTell }
 {}
 
-/// An image whose manager's chunks are as they were has the databases that it had.
+/// An image whose manager's chunks are unchanged has the databases that it had.
 pub fn stores_are_kept()
     ensures { StoresAreKept }
 {}
@@ -92,32 +92,32 @@ pub fn stores_are_rewritten()
     ensures { StoresAreRewritten }
 {}
 
-/// An image to which a database came has it behind the others.
+/// An image to which a database was added has it after the others.
 pub fn stores_are_appended()
     ensures { StoresAreAppended }
 {}
 
-/// An image of which a database went has the others.
+/// An image from which a database was removed has the others.
 pub fn stores_are_dropped()
     ensures { StoresAreDropped }
 {}
 
-/// The database with a number is found wherever it stands.
+/// The database with a number is found at any index.
 pub fn databases_are_found()
     ensures { DatabasesAreFound }
 {}
 
-/// The database with a number is changed where it stands.
+/// The database with a number is changed at its index.
 pub fn databases_are_changed()
     ensures { DatabasesAreChanged }
 {}
 
-/// The database with a number is taken out where it stands.
+/// The database with a number is removed at its index.
 pub fn databases_are_taken_out()
     ensures { DatabasesAreTakenOut }
 {}
 
-/// A number of a database is known by its chunk alone.
+/// The chunk under a number determines whether it is the number of a database.
 pub fn numbers_are_known()
     ensures { NumbersAreKnown }
 {}
@@ -137,12 +137,12 @@ pub fn sets_are_steps()
     ensures { SetsAreSteps }
 {}
 
-/// An image to which a database came means the store with that one more.
+/// An image to which a database was added means the store with that database added.
 pub fn creates_are_steps()
     ensures { CreatesAreSteps }
 {}
 
-/// An image of which a database went means the store without that one.
+/// An image from which a database was removed means the store without that database.
 pub fn drops_are_steps()
     ensures { DropsAreSteps }
 {}
@@ -157,27 +157,28 @@ pub fn edits_are_steps()
     ensures { EditsAreSteps }
 {}
 
-/// An image to which an entry came, with its data, means the store where it was made.
+/// An image to which an entry was added, with its data, means the store with that entry added.
 pub fn makes_are_steps()
     ensures { MakesAreSteps }
 {}
 
-/// An image in which one database became another, with the same data, means the store with that one changed.
+/// An image in which one database became another, with the same data, means the store with that
+/// database changed.
 pub fn respells_are_steps()
     ensures { RespellsAreSteps }
 {}
 
-/// An image in which one chunk for data is other than it was means the store with that chunk.
+/// An image in which one chunk for data was changed means the store with the new chunk.
 pub fn chunks_are_steps()
     ensures { ChunksAreSteps }
 {}
 
-/// A call of one part runs out of room exactly where the image is short of that part.
+/// A call of one part runs out of room exactly if the image is short of that part.
 pub fn one_part_is_short()
     ensures { OnePartIsShort }
 {}
 
-/// A call that made a chunk, and then finds no room for another to grow, can run out of room.
+/// A call can run out of room if it makes one chunk and then finds no room for another to grow.
 pub fn made_then_short()
     ensures { MadeThenShort }
 {}

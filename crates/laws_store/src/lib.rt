@@ -1,12 +1,12 @@
 //! Laws of the definitions of databases and stores in `heap_model`.
 //!
-//! The functions here have empty bodies: what each promises is a law, proved once. The lemmas behind
-//! them, which the crates above cite in their proofs, stand in `proofs/`:
+//! The functions here have empty bodies: the postcondition of each is a law, proved once. The
+//! lemmas that prove them are in `proofs/`. Proofs of other crates cite these lemmas:
 //!
 //! | file | laws of |
 //! |---|---|
-//! | `Numbers` | numbers and the bytes that they stand in, both ways; lists by index |
-//! | `Times` | how often a number stands in a list, and what this says of its elements; least numbers |
+//! | `Numbers` | numbers and the bytes that spell them, both ways; lists by index |
+//! | `Times` | how often a list has a number, and what follows for its elements; least numbers |
 //! | `MovedElements` | an element of a list moved: it is taken out and put in again, and the length and sums stay |
 //! | `Fresh`, `RecordIds` | fresh unique IDs: there is one, and one alone; those of records, by the indexes of their entries |
 //! | `Names` | names in their fields |
@@ -22,14 +22,14 @@
 //! | `Tests` | the tests of `specs/StoreTests` decide which image is accepted |
 //! | `KeptDatabases` | an image whose manager's chunks are as they were |
 //! | `MemoryCalls` | the memory manager's calls, which leave the databases |
-//! | `LiftedCalls`, `CallSteps` | the memory manager's calls, which are steps of the store; what is left to show of a step |
+//! | `LiftedCalls`, `CallSteps` | the memory manager's calls, which are steps of the store; what is left to prove of a step |
 //! | `RewrittenDatabases` | an image in which one database was rewritten |
 //! | `Found` | databases by their numbers: found, changed and taken out |
 //! | `Numbered` | databases of an accepted image by their numbers: what is spelled there |
 //! | `Listed` | an image to which a database came, or of which one went |
 //! | `ChangeSteps` | images with their databases changed, which mean the store changed |
 //! | `Edited` | images in which one database and one chunk were edited: what names stand for, and whose they are |
-//! | `EditedStores` | such images, and those of one of these alone, which mean the store changed |
+//! | `EditedStores` | these images, and those in which only one of the two was edited, which mean the store changed |
 //! | `MeantStore` | what an accepted image means: one store |
 //! | `StoreChunks` | what a store says of the chunks of an image |
 //! | `Parts` | room for one part, and the number of the stretch around a chunk |

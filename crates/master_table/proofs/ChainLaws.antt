@@ -8,7 +8,7 @@ use Rattle.heap_model.specs.MoreTables.{last_in, last_next}
 use Rattle.laws_heap.proofs.Tables.{ChainStep, chain_step}
 use Rattle.master_table.specs.Table.{IsTiled, tables_from}
 
--- a word `next` of the chain stands at an offset: the last one is among those that it leads to
+-- a word `next` of the chain is at an offset: the last one is among those that it leads to
 pub record LeadsTo (image : List ℕ) (at next : ℕ) : Type 0 where
   pub last : last_in at (tables_from image next) ≡ last_next image
   pub chain : (chunks : List Chunk) → Tiles image chunks → IsChain image chunks next (tables_from image next)
@@ -41,7 +41,7 @@ leads_on image at next word t l used is =
       fewer = omega (arith, long);
     }
 
--- where it leads to none it is the last
+-- if it leads to none it is the last
 pub leads_last : (image : List ℕ) (at next : ℕ) → LeadsTo image at next → next ≡ 0 → at ≡ last_next image
 leads_last image at next l none = sym (ap (last_in at) (ap (tables_from image) none ∙ none_within (length image))) ∙ l.last where
   none_within : (n : ℕ) → tables_within n image 0 ≡ []

@@ -34,7 +34,7 @@ empty_same image slot k count s e used = let more = one_more image slot k s in l
 pub empty_all : (image : List ℕ) (k : ℕ) → slots_total image ≤ k → empty_before image k ≡ free_slots image
 empty_all image k most = ap (count_by (λ slot. u32_at image slot == 0)) (first_slots-all image k most)
 
--- none is empty where all are used
+-- none is empty if all are used
 none_empty : (image : List ℕ) (slots : List ℕ) → EveryOne (λ slot. u32_at image slot ≢ 0) slots → count_by (λ slot. u32_at image slot == 0) slots ≡ 0
 none_empty image [] used = refl
 none_empty image (slot ∷ slots) used =

@@ -51,7 +51,7 @@ walk_on image next word t w used is =
 
 -- ---- one table
 
--- it stands there
+-- the table is there
 stands_there : (image : List ℕ) (cs : List Chunk) (next : ℕ) (tables : List Table) (place : ℕ) → Tiles image cs → IsChain image cs next tables → IsTablePlace tables place → (count : ℕ) × TableStands image place count
 stands_there image cs next [] place t chain h = absurd h
 stands_there image cs next (table ∷ tables) place t chain h = elim h [
@@ -119,6 +119,6 @@ knows_more image old new place knows more here entry some = elim (more entry) [
   | inr is ↦ subst (λ (p : ℕ). HasLongTable (further_tables image) p) (sym is) here
 ]
 
--- where the further tables are the same
+-- if the further tables are the same
 pub knows_still : (old new places : List ℕ) → further_tables new ≡ further_tables old → KnowsTables old places → KnowsTables new places
 knows_still old new places same knows entry some = subst (λ (ts : List Table). HasLongTable ts (slice_index places entry)) (sym same) (knows entry some)

@@ -118,9 +118,9 @@ slots_pushed ts t =
 one_more : (image : List ℕ) (ts : List Table) (t : Table) (end before count : ℕ) → end ≡ slot_count image + length (slots_further ts) → before ≡ end → count ≡ t.count → before + count ≡ slot_count image + length (slots_further (ts ++ t ∷ []))
 one_more image ts t end before count numbers is same = let more = slots_pushed ts t in omega (arith, more, numbers, is, same)
 
--- ---- the row behind
+-- ---- the next row
 
--- where a table stands that a word `next` leads to
+-- a table is at the place that a word `next` leads to
 pub record TableStands (image : List ℕ) (next count : ℕ) : Type 0 where
   pub bytes : List ℕ
   pub live : IsLive image (next - 8) bytes 15 0 0
@@ -186,7 +186,7 @@ row_behind image row other t r n first count before next place = record {
 
 -- ---- a search along the rows
 
--- a slot is none of those in front of a row
+-- a slot is none of those before a row
 pub record Searched (image : List ℕ) (row : Row) (slot : ℕ) : Type 0 where
   pub is_row : IsRow image row
   pub none : StandsIn is_row.front slot → ⊥
@@ -242,7 +242,7 @@ last_end image row r last =
 pub searched_all : (image : List ℕ) (row : Row) (slot : ℕ) → Searched image row slot → row.next ≡ 0 → (StandsIn (slots_in_row row.first row.count) slot → ⊥) → IsSlot image slot → ⊥
 searched_all image row slot s last none is = elim (stands_split s.is_row.front (slots_in_row row.first row.count) slot (subst (λ (xs : List ℕ). StandsIn xs slot) (last_parts image row s.is_row last) is.listed)) [ inl front ↦ s.none front | inr mine ↦ none mine ]
 
--- what the last row answers
+-- the result of the last row
 pub last_number : (image : List ℕ) (row : Row) (slot : ℕ) (r : Option ℕ) → Searched image row slot → (row.next == 0) ≡ true → IfNone r (StandsIn (slots_in_row row.first row.count) slot → ⊥) → IfNone r (IsSlot image slot → ⊥)
 last_number image row slot None s last none = searched_all image row slot s (eqb-true row.next 0 last) none
 last_number image row slot (Some number) s last none = tt
@@ -274,7 +274,7 @@ few_after image cs front table rest t parts =
     let sums = length-append front (table ∷ rest) in
     omega (arith, few, all, sums)
 
--- it stands there, and those behind it are the ones that its word `next` leads to
+-- it is there, and those after it are the ones that its word `next` leads to
 pub record StartStands (image : List ℕ) (place : ℕ) (table : Table) (rest : List Table) : Type 0 where
   pub next : NextStands image place
   pub table_is : table_at image place ≡ table
@@ -338,7 +338,7 @@ further_start image place before s some = elim s [ inl first ↦ absurd (some fi
 pub first_start : (image : List ℕ) (place before : ℕ) → IsTiled image → StartsAt image place before → place ≡ 0 → before ≡ 0
 first_start image place before t s none = elim s [ inl first ↦ first.1 | inr further ↦ (let low = (start_stands image place before t further).next.stands.low in absurd (omega (arith, low, none))) ]
 
--- ---- where the tables are the same, or one more
+-- ---- if the tables are the same, or one more
 
 pub starts_still : (old new : List ℕ) (place before : ℕ) → tables_of new ≡ tables_of old → StartsAt old place before → StartsAt new place before
 starts_still old new place before same s = elim s [

@@ -1,4 +1,5 @@
--- In a heap the word in front of a slot is a slot's, the directory word or a word `next`: none is greater than a place.
+-- In a heap the word before a slot is a slot's, the directory word or a word `next`: none is
+-- greater than a place.
 use Rattle.std.proofs.Common.{◌≡◌, ℕ, zero, suc, ◌+◌, ◌-◌, ◌*◌, ◌^◌, ◌<◌, ◌≤◌, List, [], ◌∷◌, ◌++◌, length, refl, subst, arith, inl, inr}
 use Rattle.heap_model.specs.Bytes.{u32_at}
 use Rattle.heap_model.specs.Chunk.{Chunk, free, movable, fixed, total}
@@ -48,7 +49,7 @@ next_word image cs next (table ∷ tables) t chain =
     let most = t.head.most in
     omega (arith, inside, there, most)
 
--- of a row in whose front such a word stands
+-- of a row with such a word before it
 row_front : (image : List ℕ) (first count slot : ℕ) → HeapAccepted image → 4 ≤ first → u32_at image (first - 4) < 2 ^ 24 → ((other : ℕ) → StandsIn (slots_in_row first count) other → IsSlot image other) → StandsIn (slots_in_row first count) slot → u32_at image (slot - 4) < 2 ^ 24
 row_front image first count slot h low front each s = by r.0 r.1 r.2 where
   r : (k : ℕ) × (k < count) × (slot ≡ first + 4 * k)

@@ -8,7 +8,7 @@ use Rattle.laws_heap.proofs.Slots.{stands_slot, number_stands, each_first_slot, 
 use Rattle.master_table.specs.declared.table.EmptySlot.{EmptySlot}
 use Rattle.master_table.specs.Table.{IsEmptyAt, IsUsedAt, UsedBefore, NotAmong, IsFirstEmpty}
 
--- the first empty one, where those before it are in use
+-- the first empty one, if those before it are in use
 pub first_empty : (image : List ℕ) (number : ℕ) (free : EmptySlot) → IsEmptyAt image number free → UsedBefore image number → IsFirstEmpty image free.name.0 free.before
 first_empty image number free e used =
     let stands : StandsBehind image free.name.0 free.before = subst (λ (k : ℕ). StandsBehind image free.name.0 k) (sym e.count) e.stands in
@@ -43,7 +43,8 @@ not_among-first_empty image slot before first = every_first_slot (λ other. othe
 
 -- ---- after a change
 
--- The first `count` slots stay in use if each slot that was in use, whatever its name, is in use still.
+-- The first `count` slots stay in use if each slot that was in use, whatever its name, is in use
+-- still.
 pub used_still : (old new : List ℕ) (count : ℕ) → slots_of new ≡ slots_of old → ((slot : ℕ) → IsSlot old slot → u32_at old slot ≢ 0 → u32_at new slot ≢ 0) → UsedBefore old count → UsedBefore new count
 used_still old new count slots each used =
     let as_old : first_slots new count ≡ first_slots old count = ap (λ (xs : List ℕ). take count xs) slots in
@@ -57,7 +58,7 @@ used_more_slots old new count more slots few each used =
     subst (λ (xs : List ℕ). EveryOne (λ slot. u32_at new slot ≢ 0) xs) (sym as_old)
     (every_first_slot (λ slot. u32_at new slot ≢ 0) old count (λ slot j s below. each slot (stands_slot old slot j s) (each_first_slot (λ slot. u32_at old slot ≢ 0) old slot j count s below used)))
 
--- And where a name's slot alone changes, which is none of them.
+-- The same if only a name's slot changes, which is none of them.
 pub used_apart : (old new : List ℕ) (count name : ℕ) → slots_of new ≡ slots_of old → ((slot : ℕ) → IsSlot old slot → slot ≢ name → u32_at new slot ≡ u32_at old slot) → NotAmong old count name → UsedBefore old count → UsedBefore new count
 used_apart old new count name slots each apart used =
     let as_old : first_slots new count ≡ first_slots old count = ap (λ (xs : List ℕ). take count xs) slots in
@@ -66,6 +67,6 @@ used_apart old new count name slots each apart used =
     each_first_slot (λ slot. u32_at old slot ≢ 0) old slot j count s below used
     (sym (each slot (stands_slot old slot j s) (each_first_slot (λ slot. slot ≢ name) old slot j count s below apart)) ∙ empty)))
 
--- And where the first empty one is set.
+-- The same if the first empty one is set.
 pub used_set : (old new : List ℕ) (slot before : ℕ) → IsFirstEmpty old slot before → slots_of new ≡ slots_of old → ((other : ℕ) → IsSlot old other → other ≢ slot → u32_at new other ≡ u32_at old other) → UsedBefore new before
 used_set old new slot before first slots each = used_apart old new before slot slots each (not_among-first_empty old slot before first) first.used

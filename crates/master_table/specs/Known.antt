@@ -11,16 +11,17 @@ entry_of block = block % 8192
 abbrev pub KnowsNone : List ℕ → Type 0
 KnowsNone places = (entry : ℕ) → slice_index places entry ≡ 0
 
--- one of the tables has its body at a place, and as many slots as one that is made, or more
+-- one of the tables has its body at a place, and at least as many slots as a new table
 abbrev pub HasLongTable : List Table → ℕ → Type 0
 HasLongTable [] place = ⊥
 HasLongTable (table ∷ tables) place = ((table.place ≡ place) × (gained_count ≤ table.count)) ⊎ HasLongTable tables place
 
--- at each place that is remembered is a further table of the image, with as many slots; 0 is none
+-- Each entry that isn't 0 is the place of a further table of the image. The table has at least as
+-- many slots as a new one.
 abbrev pub KnowsTables : List ℕ → List ℕ → Type 0
 KnowsTables image places = (entry : ℕ) → 0 < slice_index places entry → HasLongTable (further_tables image) (slice_index places entry)
 
--- a place may be in one entry now, and each other one is as it was
+-- each entry is as it was, or is this place
 abbrev pub Remembers : List ℕ → List ℕ → ℕ → Type 0
 Remembers old new place = (entry : ℕ) → (slice_index new entry ≡ slice_index old entry) ⊎ (slice_index new entry ≡ place)
 
@@ -28,7 +29,7 @@ Remembers old new place = (entry : ℕ) → (slice_index new entry ≡ slice_ind
 abbrev pub IsEntry : List ℕ → ℕ → Type 0
 IsEntry places place = (entry : ℕ) × (place ≡ slice_index places entry)
 
--- the word at an offset is one of 15 after the first word of a body
+-- the word at an offset is one of the 15 after the first word of the body at a place
 pub record IsWordOf (place slot : ℕ) : Type 0 where
   pub some : 0 < place
   pub behind : place < slot

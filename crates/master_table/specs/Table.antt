@@ -27,23 +27,24 @@ pub record StartsFurther (image : List ℕ) (place before : ℕ) : Type 0 where
   pub there : table.place ≡ place
   pub count : before ≡ slot_count image + length (slots_further front)
 
--- a table has its body at a place, or is the first table and the place is 0; `before` slots come before its own
+-- a further table has its body at a place, or the place is 0 for the first table. `before` slots
+-- come before the table's own.
 abbrev pub StartsAt : List ℕ → ℕ → ℕ → Type 0
 StartsAt image place before = ((place ≡ 0) × (before ≡ 0)) ⊎ StartsFurther image place before
 
--- a start is that of a table of the image
+-- it is the start of a table of the image
 abbrev pub IsStart : List ℕ → TableStart → Type 0
 IsStart image start = StartsAt image start.place start.before
 
--- how many slots come before those of a row, and how many up to its last
+-- how many slots come before those of a row, and how many the list has up to its last
 abbrev pub row_start : Row → ℕ
 row_start row = row.before
 
 abbrev pub row_end : Row → ℕ
 row_end row = row.before + row.count
 
--- these are slots of the image in a row, with `before` slots before them; the slots of the tables that a word
--- `next` leads to follow them
+-- these are slots of the image in a row, with `before` slots before them; the slots of the tables
+-- that a word `next` leads to follow them
 pub record IsRow (image : List ℕ) (row : Row) : Type 0 where
   pub front : List ℕ
   pub parts : slots_of image ≡ front ++ (slots_in_row row.first row.count ++ slots_further (tables_from image row.next))
@@ -61,21 +62,21 @@ pub record Behind (image : List ℕ) (row other : Row) : Type 0 where
   pub start : row_start other ≡ row_end row
   pub fewer : length (tables_from image other.next) < length (tables_from image row.next)
 
--- how many slots were read of an only table
+-- the slot count that was read from an only table
 abbrev pub count_of : OneTable → ℕ
 count_of table = table.count
 
--- the image has no chain of tables, and this is what was read of its only one
+-- the image has no chain of tables, and this is the slot count of its only one
 abbrev pub IsOneTable : List ℕ → OneTable → Type 0
 IsOneTable image table = (is_chained image ≡ false) × (count_of table ≡ slot_count image)
 
--- a slot is there, and holds this place
+-- a slot is there, and holds this place, which isn't 0
 pub record HoldsPlace (image : List ℕ) (slot place : ℕ) : Type 0 where
   pub is_slot : IsSlot image slot
   pub held : u32_at image slot ≡ place
   pub some : 0 < place
 
--- no slot is there, or an empty one
+-- no slot is there, or an empty slot
 abbrev pub HoldsNothing : List ℕ → ℕ → Type 0
 HoldsNothing image slot = IsSlot image slot → u32_at image slot ≡ 0
 

@@ -1,4 +1,4 @@
-//! The chain of tables: its last word `next`, and a table that is added after it.
+//! The chain of tables: its last word `next`, and a table that is added at the end.
 #![tactic(auto, using(crate::proofs::LentLaws::frame_of, crate::proofs::LentLaws::head_of))]
 
 ghost use Rattle.std.specs.Prelude.{◌≡◌, length, true};
@@ -12,8 +12,8 @@ use chunk_format::{NEXT_SIZE, first_next, head_end};
 use heap_model::Place;
 use raw_region::Region;
 
-/// Adds a table of empty slots at the end of the chain: writes its place into the last word `next`. It walks along
-/// the whole chain.
+/// Adds a table of empty slots at the end of the chain: writes the table's place into the last word
+/// `next`. It walks along the whole chain.
 pub fn add_table(region: &mut Region, place: Place)
     requires chained { is_chained region.old.bytes ≡ true }
     requires table { HasNewTable region.old.bytes place.0 }

@@ -1,4 +1,5 @@
-//! Further tables that are remembered, so that a slot of theirs is found without a walk along the chain.
+//! Further tables that are remembered, so that a slot of theirs is found without a walk along the
+//! chain.
 #![tactic(auto, using(crate::proofs::LentLaws::frame_of, crate::proofs::LentLaws::head_of))]
 
 ghost use Rattle.std.specs.Prelude.{◌≡◌, ◌<◌, ◌^◌, ℕ, List, IfSome};
@@ -14,18 +15,20 @@ use heap_model::Place;
 use raw_region::Region;
 use std::marker::Model;
 
-/// How many tables are remembered at most.
+/// The greatest number of tables that are remembered.
 const ENTRIES: usize = 8_192;
 
-/// An image is divided into blocks of this many bytes. The slots of a table of 15 lie in the block in which its body begins,
-/// and in the next one.
+/// An image is divided into blocks of this many bytes. The slots of a table of 15 lie in the block
+/// in which its body begins, and in the next one.
 const BLOCK_SIZE: u32 = TABLE_LENGTH;
 
-/// How many entries after that of its block a table may be in, if all before are taken.
+/// A table may be in one of this many entries after that of its block, if all entries before are
+/// taken.
 const REACH: u32 = 7;
 
-/// The places of further tables that have 15 slots or more, each in the entry of the block in which its body begins, or in
-/// one of the next seven. An entry without one is 0. Contracts see the entries as a list.
+/// The places of further tables that have 15 slots or more. Each is in the entry of the block in
+/// which its body begins, or in one of the next seven entries. An entry without a place is 0.
+/// Contracts see the entries as a list.
 #[derive(Drop)]
 pub struct KnownTables {
     places: [u32; ENTRIES],
@@ -40,7 +43,7 @@ impl Model for KnownTables {
 }
 
 impl KnownTables {
-    /// No table.
+    /// Remembers no table.
     pub fn none() -> KnownTables
         ensures { KnowsNone result }
     {
@@ -49,8 +52,8 @@ impl KnownTables {
         }
     }
 
-    /// The tables of a chain, which is gone through once. A table is left out if it has fewer than 15 slots, or if
-    /// others are in all entries that it may be in.
+    /// Remembers the tables of a chain, in one walk along it. It leaves a table out if the table
+    /// has fewer than 15 slots, or if others are in all entries that it may be in.
     pub fn of(region: &Region) -> KnownTables
         requires tiled { IsTiled region.now.bytes }
         requires lent { LendsABody region.now }
@@ -78,7 +81,8 @@ impl KnownTables {
         }
     }
 
-    /// Remembers a table of 15 slots or more by its place, unless others are in all entries that it may be in.
+    /// Remembers a table of 15 slots or more by its place, unless others are in all entries that it
+    /// may be in.
     pub fn remember(&mut self, place: Place)
         ensures { Remembers self.old self.new place.0 }
     {
@@ -101,7 +105,8 @@ impl KnownTables {
         None
     }
 
-    /// Whether one of the first 15 slots of a table stands at an offset, for a table in the entry of its block.
+    /// Returns whether one of the first 15 slots of a table is at an offset, for a table in the
+    /// entry of its block.
     #[inline]
     pub(crate) fn has_slot(&self, slot: u32) -> bool
         ensures { OnTrue result
@@ -110,8 +115,8 @@ impl KnownTables {
         is_word_of(self.table_before(slot), slot)
     }
 
-    /// Whether one of the first 15 slots of a table that is remembered stands at an offset, in whichever entry the table
-    /// is.
+    /// Returns whether one of the first 15 slots of a remembered table is at an offset, in
+    /// whichever entry the table is.
     pub(crate) fn has_slot_further_on(&self, slot: u32) -> bool
         ensures { OnTrue result
             ((image : List ℕ) → KnowsTables image self.now → IsSlot image slot) }
@@ -125,8 +130,8 @@ impl KnownTables {
         false
     }
 
-    /// The place of the table whose first slots may stand at an offset: its body begins in the same block, or in the
-    /// one before. 0 if none is remembered there.
+    /// Returns the place of the table whose first slots may be at an offset: its body begins in the
+    /// same block, or in the one before. 0 if none is remembered there.
     #[inline]
     fn table_before(&self, slot: u32) -> u32
         ensures { IsEntry self.now result }
@@ -160,7 +165,8 @@ fn entry_of(block: u32) -> usize
     block as usize % ENTRIES
 }
 
-/// Whether the word at an offset is one of the 15 after the first word of a body. At 0 is none.
+/// Returns whether the word at an offset is one of the 15 after the first word of a body. The place
+/// 0 is that of no body.
 #[inline]
 fn is_word_of(place: u32, slot: u32) -> bool
     ensures { OnTrue result (IsWordOf place slot) }

@@ -1,9 +1,10 @@
 //! The master pointer tables of a heap image: their slots, as a partial map from slots to places.
 //!
-//! A slot is a word of the table and is named by its offset, which is the handle of the chunk whose
-//! place it holds; an empty slot holds 0 (Palm OS Programmer's Companion, "Memory Architecture").
-//! Callers show that some chunks tile the image, or that the tables lie within the region. `specs/Table.antt` says what a
-//! slot holds. `KnownTables` remembers further tables, so that a slot of theirs is found without a walk along the chain.
+//! A slot is a word of a table. Its offset is its name, and is the handle of the chunk whose place
+//! it holds. An empty slot holds 0 (Palm OS Programmer's Companion, "Memory Architecture"). The
+//! caller must prove that some chunks tile the image, or that the tables lie within the region.
+//! `specs/Table.antt` defines which place a slot holds. `KnownTables` remembers further tables, so
+//! that a slot of theirs is found without a walk along the chain.
 #![tactic(auto)]
 
 mod chain;

@@ -13,8 +13,8 @@ use chunk_format::{
 };
 use raw_region::Region;
 
-/// Where a table is: its place, or 0 for the first table, and how many slots come before its own. A start stays right
-/// as long as the image has the same tables, or more.
+/// The start of a table: its place, or 0 for the first table, and how many slots come before its
+/// own. A start stays valid as long as the image has the same tables, or more.
 #[derive(Clone, Copy, Debug, PartialEq, Eq)]
 pub struct TableStart {
     place: u32,
@@ -22,7 +22,7 @@ pub struct TableStart {
 }
 
 impl TableStart {
-    /// The first table.
+    /// Returns the start of the first table.
     pub fn first() -> TableStart
         ensures { (image : List ℕ) → IsStart image result }
     {
@@ -33,8 +33,9 @@ impl TableStart {
     }
 }
 
-/// The slots of one table: its place, or 0 for the first table, the offset of its first slot, how many slots it has, how
-/// many come before them in the list, and the word `next` that leads to the next table, or 0.
+/// The slots of one table: its place, or 0 for the first table, the offset of its first slot, and
+/// how many slots it has. Also how many slots come before them in the list, and the word `next`
+/// that leads to the next table, or 0.
 #[derive(Clone, Copy)]
 pub struct Row {
     place: u32,
@@ -47,7 +48,7 @@ pub struct Row {
 impl Row {
     ghost use Rattle.master_table.specs.Table.{IsRow, row_start, row_end, Behind};
 
-    /// The slots of the first table.
+    /// Returns the slots of the first table.
     #[inline]
     pub fn of(region: &Region) -> Row
         requires tiled { IsTiled region.now.bytes }
@@ -64,7 +65,7 @@ impl Row {
         }
     }
 
-    /// The slots of a table that stands somewhere in the chain.
+    /// Returns the slots of a table of the image.
     #[inline]
     pub(crate) fn at(region: &Region, start: TableStart) -> Row
         requires tiled { IsTiled region.now.bytes }
@@ -86,7 +87,7 @@ impl Row {
         }
     }
 
-    /// Their table.
+    /// Returns the start of their table.
     #[inline]
     pub(crate) fn table(self) -> TableStart
         ensures { (image : List ℕ) → IsRow image self → IsStart image result }
@@ -97,7 +98,7 @@ impl Row {
         }
     }
 
-    /// How many slots come before these in the list.
+    /// Returns how many slots come before these in the list.
     #[inline]
     pub fn start(self) -> u32
         ensures { result ≡ row_start self }
@@ -105,7 +106,7 @@ impl Row {
         self.before
     }
 
-    /// How many slots the list has up to the last of these.
+    /// Returns how many slots the list has up to the last of these.
     #[inline]
     pub fn end(self) -> u32
         requires { row_end self < 2 ^ 32 }
@@ -114,7 +115,7 @@ impl Row {
         self.before + self.count
     }
 
-    /// How many slots the table has.
+    /// Returns how many slots the table has.
     #[inline]
     pub(crate) fn count(self) -> u32
         ensures { row_start self + result ≡ row_end self }
@@ -122,8 +123,9 @@ impl Row {
         self.count
     }
 
-    /// The word of the slot with an index in the table: a place, or 0 if it is empty. It is read at an offset that is
-    /// a `usize` all along, so that a loop over the index needs no second counter.
+    /// Returns the word of the slot with an index in the table: a place, or 0 if it is empty. It
+    /// computes the offset as a `usize` throughout, so that a loop over the index needs no second
+    /// counter.
     #[inline]
     pub(crate) fn word(self, region: &Region, index: u32) -> u32
         requires tiled { IsTiled region.now.bytes }
@@ -136,7 +138,7 @@ impl Row {
         region.get_u32(self.first as usize + SLOT_SIZE as usize * index as usize)
     }
 
-    /// Whether their table is the last of the chain.
+    /// Returns whether their table is the last of the chain.
     #[inline]
     pub fn is_last(self) -> bool
         ensures { result ≡ (self.next == 0) }
@@ -144,7 +146,7 @@ impl Row {
         self.next == 0
     }
 
-    /// The slots of the next table.
+    /// Returns the slots of the next table.
     #[inline]
     pub fn behind(self, region: &Region) -> Row
         requires tiled { IsTiled region.now.bytes }
@@ -163,7 +165,8 @@ impl Row {
         }
     }
 
-    /// The offset of the slot with a number: that many slots come before it in the list.
+    /// Returns the offset of the slot with a number. The number counts the slots before it in the
+    /// list.
     #[inline]
     pub fn slot(self, region: &Region, number: u32) -> u32
         requires tiled { IsTiled region.now.bytes }
@@ -175,7 +178,7 @@ impl Row {
         self.first + SLOT_SIZE * (number - self.before)
     }
 
-    /// How many slots come before the one at an offset in the list, if it is one of these.
+    /// Returns how many slots come before the one at an offset in the list, if it is one of these.
     #[inline]
     pub fn number(self, region: &Region, slot: u32) -> Option<u32>
         requires tiled { IsTiled region.now.bytes }
@@ -193,8 +196,8 @@ impl Row {
     }
 }
 
-/// How many slots come before the one at an offset in the list, if a slot is there. It goes through the tables up to
-/// the one that has the slot.
+/// Returns how many slots come before the one at an offset in the list, if a slot is there. It
+/// walks along the tables up to the one that has the slot.
 pub(crate) fn find_number(region: &Region, slot: u32) -> Option<u32>
     requires tiled { IsTiled region.now.bytes }
     requires lent { LendsABody region.now }
@@ -220,7 +223,7 @@ pub struct OneTable {
 impl OneTable {
     ghost use Rattle.master_table.specs.Table.{IsOneTable, count_of};
 
-    /// The table of an image.
+    /// Reads the table of an image.
     #[inline]
     pub fn of(region: &Region) -> OneTable
         requires frame { HasFrame region.now }
@@ -232,7 +235,7 @@ impl OneTable {
         }
     }
 
-    /// How many slots there are.
+    /// Returns how many slots there are.
     #[inline]
     pub fn count(self) -> u32
         ensures { result ≡ count_of self }
@@ -240,7 +243,7 @@ impl OneTable {
         self.count as u32
     }
 
-    /// The offset of the slot with a number: that many slots come before it.
+    /// Returns the offset of the slot with a number. The number counts the slots before it.
     #[inline]
     pub fn slot(self, number: u32) -> u32
         requires { number < count_of self }
@@ -249,7 +252,7 @@ impl OneTable {
         FRAME_SIZE + SLOT_SIZE * number
     }
 
-    /// How many slots come before the one at an offset, if a slot is there.
+    /// Returns how many slots come before the one at an offset, if a slot is there.
     #[inline]
     pub fn number(self, slot: u32) -> Option<u32>
         ensures below { IfSome result (λ number. number < count_of self) }

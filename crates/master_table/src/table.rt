@@ -1,4 +1,4 @@
-//! What slots hold.
+//! The places that slots hold.
 #![tactic(auto, using(crate::proofs::LentLaws::frame_of, crate::proofs::LentLaws::table_of, laws_heap::proofs::LentBodies::table_within))]
 
 ghost use Rattle.std.specs.Prelude.{◌≡◌, ◌<◌, ◌≤◌, ◌↔◌, ◌+◌, ℕ, List, length, max, MatchOption, IfSome, IfNone, None};
@@ -29,7 +29,7 @@ pub struct EmptySlot {
     pub table: TableStart,
 }
 
-/// The word of a slot: a place, or 0 where it is empty.
+/// Returns the word of a slot: a place, or 0 if the slot is empty.
 #[inline]
 pub fn word_of(region: &Region, slot: u32) -> u32
     requires table { HasTable region.now }
@@ -39,7 +39,7 @@ pub fn word_of(region: &Region, slot: u32) -> u32
     region.get_u32(slot as usize)
 }
 
-/// How many slots come before the one of a name. None if the name is no slot.
+/// Returns how many slots come before the one of a name. None if the name is no slot.
 #[inline(always)]
 pub fn slots_before(region: &Region, name: Name) -> Option<u32>
     requires tiled { IsTiled region.now.bytes }
@@ -50,8 +50,8 @@ pub fn slots_before(region: &Region, name: Name) -> Option<u32>
     find_number(region, name.0)
 }
 
-/// A lower bound for how many slots come before the one of a name: for a slot of the first table, their number. It
-/// neither walks along the chain nor tests whether the name is a slot.
+/// Returns a lower bound for how many slots come before the one of a name. For a slot of the first
+/// table the bound is exact. It neither walks along the chain nor tests whether the name is a slot.
 #[inline(always)]
 pub fn least_number(region: &Region, name: Name) -> u32
     requires tiled { IsTiled region.now.bytes }
@@ -62,7 +62,7 @@ pub fn least_number(region: &Region, name: Name) -> u32
     number.min(slot_count(region) as u32)
 }
 
-/// The place that a slot holds. None if the name is no slot, or an empty one.
+/// Returns the place that a slot holds. None if the name is no slot, or an empty one.
 #[inline(always)]
 pub fn resolve(region: &Region, name: Name) -> Option<Place>
     requires tiled { IsTiled region.now.bytes }
@@ -76,8 +76,9 @@ pub fn resolve(region: &Region, name: Name) -> Option<Place>
     }
 }
 
-/// The same in a heap, where further tables are remembered: the chain is gone through only if neither the first table
-/// nor one of these has the slot, and no fixed chunk may have its body there.
+/// Returns the same as `resolve` for a heap whose further tables are remembered. It walks along the
+/// chain only if it finds the slot neither in the first table nor in a remembered one. It doesn't
+/// walk either if the word before the name is greater than any place.
 #[inline(always)]
 pub fn resolve_known(region: &Region, known: &KnownTables, name: Name) -> Option<Place>
     requires accepted { HeapAccepted region.now.bytes }
@@ -92,8 +93,8 @@ pub fn resolve_known(region: &Region, known: &KnownTables, name: Name) -> Option
     resolve_further(region, known, name)
 }
 
-/// The same for a name that is no slot of the first table. It is never inlined, so that its callers have only the code
-/// for the first table.
+/// Returns the same for a name that is no slot of the first table. It is never inlined, so that its
+/// callers have only the code for the first table.
 #[inline(never)]
 fn resolve_further(region: &Region, known: &KnownTables, name: Name) -> Option<Place>
     requires accepted { HeapAccepted region.now.bytes }
@@ -114,9 +115,9 @@ fn resolve_further(region: &Region, known: &KnownTables, name: Name) -> Option<P
     resolve(region, name)
 }
 
-/// Whether the word before an offset is greater than a place, as it is before the body of a fixed chunk. The word before
-/// a slot is that of another slot, the directory word or a word `next`. A word that isn't within the region, or is lent,
-/// is not read.
+/// Returns whether the word before an offset is greater than any place, as it is before the body of
+/// a fixed chunk. The word before a slot is that of another slot, the directory word or a word
+/// `next`. It doesn't read a word that isn't within the region, or is lent.
 #[inline]
 fn follows_no_place(region: &Region, at: u32) -> bool
     requires accepted { HeapAccepted region.now.bytes }
@@ -133,7 +134,7 @@ fn follows_no_place(region: &Region, at: u32) -> bool
     region.get_u32(word) >= ABOVE_PLACES
 }
 
-/// The place that a slot holds, if it isn't empty.
+/// Returns the place that a slot holds, if it isn't empty.
 #[inline]
 fn place_in(region: &Region, slot: Name) -> Option<Place>
     requires table { HasTable region.now }
@@ -189,9 +190,9 @@ fn empty_in_row(region: &Region, row: Row, from: u32) -> Option<EmptySlot>
     None
 }
 
-/// The first empty slot. The caller proves that the first `from` slots are in use, and the search passes over these. It
-/// begins with the table `start`, unless more than `from` slots come before that table's own. None exactly if no slot is
-/// free.
+/// Returns the first empty slot. The caller must prove that the first `from` slots are in use, and
+/// the search skips these slots. It begins with the table `start`, unless more than `from` slots
+/// come before that table's own.
 pub fn first_empty_slot(region: &Region, start: TableStart, from: u32) -> Option<EmptySlot>
     requires tiled { IsTiled region.now.bytes }
     requires lent { LendsABody region.now }
@@ -213,7 +214,8 @@ pub fn first_empty_slot(region: &Region, start: TableStart, from: u32) -> Option
     empty_in_row(region, row, at)
 }
 
-/// The slots of a table that is known, or those of the first table if more than `from` slots come before them.
+/// The slots of a table that is known, or those of the first table if more than `from` slots come
+/// before them.
 fn row_from(region: &Region, start: TableStart, from: u32) -> Row
     requires tiled { IsTiled region.now.bytes }
     requires lent { LendsABody region.now }
@@ -229,7 +231,7 @@ fn row_from(region: &Region, start: TableStart, from: u32) -> Row
     }
 }
 
-/// How many slots there are.
+/// Returns how many slots there are.
 pub fn slots_total(region: &Region) -> u32
     requires tiled { IsTiled region.now.bytes }
     requires lent { LendsABody region.now }
@@ -242,7 +244,7 @@ pub fn slots_total(region: &Region) -> u32
     row.end()
 }
 
-/// How many slots are empty.
+/// Returns how many slots are empty.
 pub fn slots_free(region: &Region) -> u32
     requires tiled { IsTiled region.now.bytes }
     requires lent { LendsABody region.now }
@@ -257,7 +259,8 @@ pub fn slots_free(region: &Region) -> u32
     count
 }
 
-/// How many slots are empty up to the last one of a row. `before` of them come before its first.
+/// Returns how many slots are empty up to the last one of a row. `before` of them come before its
+/// first.
 fn count_empty(region: &Region, row: Row, before: u32) -> u32
     requires tiled { IsTiled region.now.bytes }
     requires lent { LendsABody region.now }
@@ -274,7 +277,7 @@ fn count_empty(region: &Region, row: Row, before: u32) -> u32
     count
 }
 
-/// Puts a place into a slot.
+/// Writes a place into a slot.
 #[inline(always)]
 pub fn set(region: &mut Region, slot: Name, place: Place)
     requires within { IsWithin region.old slot.0 4 }

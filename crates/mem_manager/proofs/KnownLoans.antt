@@ -131,7 +131,8 @@ here_of memory lent name found h k f other is =
 pub lent_of_name : (memory : Memory) (lent : Option Name) (name : Name) (found : Found) → KnowsLent memory memory.lent lent → (f : IsFound memory.bytes name.0 found) → lent ≡ Some found.name → IsLent memory name.0
 lent_of_name memory lent name found k f e = subst (λ (n : ℕ). IsLent memory n) f.name_is (known_lent memory lent found.name k e)
 
--- where one name's chunk is changed in its place, and goes on staying with as many bytes, if it does
+-- where one name's chunk is changed in its place, and goes on staying with as many bytes, if it
+-- does
 pub knows_changed : (old new : Memory) (lent : Option Name) (name : ℕ) (found : Found) (now : LiveChunk) → HeapAccepted old.bytes → KnowsLent old old.lent lent → new.lent ≡ old.lent → (f : IsFound old.bytes name found) → ChangesName old.bytes new.bytes name (Some now) (Some found.place.0)
     → now.owner ≢ 0 → length now.bytes ≡ length f.live.bytes → (0 < f.live.lock → 0 < now.lock) → KnowsLent new new.lent lent
 knows_changed old new lent name found now h k same f ch owned many locks = knows_still old new lent k same each where

@@ -1,5 +1,5 @@
--- The words of the steps: what callers may name, calls that leave the region as it is, and what there is
--- where one name is changed.
+-- The words of the steps: what callers may name, calls that leave the region as it is, and what
+-- there is where one name is changed.
 use Rattle.std.proofs.Common.{◌≡◌, ℕ, ◌≤◌, List, Bool, true, false, Option, Some, None, refl, sym, ap, subst, ◌∙◌, arith, inl, inr}
 use Rattle.std.proofs.lemmas.Bool.{cases_eq}
 use Rattle.std.specs.Prelude.{◌⊎◌, if◌then◌else◌, IsSome, Result, Ok, Err}

@@ -1,4 +1,4 @@
--- What a heap lends: all of the body of a chunk that stays, under its name.
+-- The loans of a heap: all of the body of a chunk that stays, under its name.
 use Rattle.std.specs.Prelude.{◌≡◌, ◌≢◌, ◌<◌, ℕ, List, [], ◌∷◌, length, replicate, Option, Some, None}
 use Rattle.heap_model.specs.Memory.{Memory, Lent}
 use Rattle.heap_model.specs.Meaning.{LiveChunk}
@@ -14,12 +14,12 @@ use Rattle.heap_model.specs.declared.names.Name.{Name}
 use Rattle.heap_model.specs.declared.refusal.Refusal.TheVariants.{ChunkNotLocked, Lent as OutAlready}
 use Rattle.raw_region.specs.Parts.{PartOut, IsOut}
 
--- a loan, as contracts see it: the name, and what is lent
+-- a loan, as contracts see it: the name, and the part that is lent
 pub record OnLoan : Type 0 where
   pub name : Name
   pub part : PartOut
 
--- what is lent is all of the body that a name of a caller's stands for, which stays
+-- the lent bytes are all of the body of a chunk that has a caller's name, and the chunk stays
 pub record LendsUnder (memory : Memory) (name : ℕ) (lent : Lent) : Type 0 where
   pub live : LiveChunk
   pub is_held : callers_map memory.bytes name ≡ Some live
@@ -27,14 +27,14 @@ pub record LendsUnder (memory : Memory) (name : ℕ) (lent : Lent) : Type 0 wher
   pub there : place_of memory.bytes name ≡ Some lent.at
   pub whole : lent.count ≡ length live.bytes
 
--- a heap knows the name of what is lent, or that nothing is
+-- a heap knows the name of the lent chunk, or that nothing is lent
 abbrev pub KnowsLent : Memory → Option Lent → Option Name → Type 0
 KnowsLent memory None None = Unit {0}
 KnowsLent memory None (Some name) = ⊥
 KnowsLent memory (Some lent) None = ⊥
 KnowsLent memory (Some lent) (Some name) = LendsUnder memory name.0 lent
 
--- why a name's bytes can't be taken out
+-- the refusals of taking out the bytes under a name
 abbrev pub out_checks : Memory → ℕ → List Check
 out_checks old name =
     unknown (callers_map old.bytes) name
@@ -42,7 +42,7 @@ out_checks old name =
     ∷ ((old.lent ≢ None) brings OutAlready)
     ∷ []
 
--- the bytes under a name were taken out, zeros stand for them, and no chunk has moved
+-- the bytes under a name were taken out, zeros replace them, and no chunk has moved
 pub record TakesOut (old new : Memory) (name : Name) (loan : OnLoan) : Type 0 where
   pub could : NoneHolds (out_checks old name.0)
   pub name_is : loan.name ≡ name

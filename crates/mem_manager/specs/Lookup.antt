@@ -1,4 +1,4 @@
--- What a heap keeps beside its region, and which name has its chunk at a place.
+-- The data of a heap in addition to its region, and the name whose chunk is at a place.
 use Rattle.std.specs.Prelude.{◌≡◌, ◌≢◌, ◌<◌, ◌⊎◌, ℕ, List, Some, None}
 use Rattle.heap_model.specs.Memory.{Memory}
 use Rattle.heap_model.specs.Bytes.{u32_at}
@@ -20,18 +20,18 @@ pub use Rattle.heap_place.specs.declared.found.Found.{Found}
 use Rattle.heap_place.specs.Found.{IsFound}
 use Rattle.mem_manager.specs.Known.{KnowsHeld}
 
--- an empty slot, where the first so many are in use
+-- `slot` is an empty slot, and the first `before` slots are in use
 pub record IsNextEmpty (image : List ℕ) (slot before : ℕ) : Type 0 where
   pub is_slot : IsSlot image slot
   pub empty : u32_at image slot ≡ 0
   pub used : UsedBefore image before
 
--- a slot is at an offset, unless that is 0
+-- a slot is at the offset `slot`, or `slot` is 0
 abbrev pub IsSlotOrNone : List ℕ → ℕ → Type 0
 IsSlotOrNone image slot = 0 < slot → IsSlot image slot
 
--- the heap is accepted, the first so many slots are in use, a table is where it is said to be, a slot that was freed is
--- one, and the names that are remembered stand for chunks
+-- The heap is accepted. Its first `used` slots are in use, and `start` is the start of a table. A
+-- slot was freed at `freed`, unless that is 0. Each remembered name has a chunk.
 pub record IsManaged (image : List ℕ) (used : ℕ) (start : TableStart) (freed : ℕ) (names : List ℕ) : Type 0 where
   pub accepted : HeapAccepted image
   pub in_use : UsedBefore image used
@@ -39,46 +39,47 @@ pub record IsManaged (image : List ℕ) (used : ℕ) (start : TableStart) (freed
   pub free : IsSlotOrNone image freed
   pub known : KnowsHeld image names
 
--- a name's chunk is a caller's, and has its body at this place
+-- a name's chunk is a caller's, and its body is at this place
 pub record IsThere (image : List ℕ) (place name : ℕ) : Type 0 where
   pub live : LiveChunk
   pub known : callers_map image name ≡ Some live
   pub there : place_of image name ≡ Some place
 
--- a name stands for a movable chunk, which may be locked
+-- a name has a movable chunk, which may be locked
 pub record IsMovable (image : List ℕ) (name : ℕ) : Type 0 where
   pub live : LiveChunk
   pub is_held : held image name ≡ Some live
   pub movable : live.lock ≢ fixed_lock
 
--- a name's chunk is a movable one, and stands as it was found
+-- a name's chunk is movable, and is as it was found
 pub record StandsAs (image : List ℕ) (name : ℕ) (found : Found) : Type 0 where
   pub is : IsFound image name found
   pub movable : found.lock ≢ fixed_lock
 
--- A name's body may be read and written, since it is not lent. One of the manager's never is, as no caller can name it.
+-- The body of a name's chunk is not lent, so it may be read and written. The manager's chunks are
+-- never lent, since no caller can name them.
 pub record IsHere (memory : Memory) (name : ℕ) : Type 0 where
   pub not_lent : owner_under memory.bytes name ≢ managers_owner → IsLent memory name → ⊥
 
 -- ---- what the calls for the store leave
 
--- a movable chunk of so many zeros was made under a name that stood for nothing
+-- a movable chunk of `size` zeros was made under a name that had no chunk
 pub record MakesNew (old new : List ℕ) (name size owner : ℕ) : Type 0 where
   pub fresh : held old name ≡ None
   pub leaves : Leaves old new (made (held old) name size owner 0)
 
--- no slot is free, or no stretch has the room for so many bytes
+-- no slot is free, or no stretch has the room for a chunk of `size` bytes
 abbrev pub HasNoRoomFor : List ℕ → ℕ → Type 0
 HasNoRoomFor image size = (free_slots image ≡ 0) ⊎ Short image (need size)
 
--- where a run of neighbouring free chunks has the room for so many bytes nothing moves
+-- if a run of neighbouring free chunks has the room for a chunk of `size` bytes, nothing moves
 abbrev pub MovesOnlyForRoom : List ℕ → List ℕ → ℕ → Type 0
 MovesOnlyForRoom old new size = (NoRun (chunks_of old) (need size) → ⊥) → MovesNothing old new
 
--- where a name's chunk has so many bytes in its place nothing moves
+-- if a name's chunk can have `size` bytes in its place, nothing moves
 abbrev pub MovesOnlyToGrow : List ℕ → List ℕ → ℕ → ℕ → Type 0
 MovesOnlyToGrow old new name size = FitsInPlace old name (need size) → MovesNothing old new
 
--- whether a name's chunk can have so many bytes
+-- the refusals of giving a name's chunk `size` bytes
 abbrev pub checks_of_growth : Memory → ℕ → ℕ → List Check
 checks_of_growth memory name size = growth_checks memory (held memory.bytes) name size

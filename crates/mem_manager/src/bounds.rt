@@ -1,4 +1,4 @@
-//! Arguments of calls: owners, ranges of bytes within a body, and texts that end at a zero byte.
+//! Checks of arguments: owners, ranges of bytes within a body, and texts that end at a zero byte.
 
 ghost use Rattle.std.specs.Prelude.{◌≡◌, ◌<◌, ◌+◌, ◌==◌, Err, OnOk, OnErr, IfErr, not};
 ghost use Rattle.std.specs.List.{take_while};
@@ -8,7 +8,11 @@ use chunk_format::{DATA_OWNER, MANAGERS_OWNER};
 use heap_model::Refusal;
 use memchr::memchr;
 
-/// Refuses an owner that no caller may give: those are 1 to 14.
+/// Refuses an owner that no caller may give. Callers may give 1 to 14.
+///
+/// # Errors
+///
+/// - `InvalidOwner`: the owner isn't one of 1 to 14.
 pub fn check_owner(owner: u8) -> Result<(), Refusal>
     ensures ok { OnOk result (IsNoCaller owner → ⊥) }
     ensures err { OnErr result (IsNoCaller owner) }
@@ -20,7 +24,8 @@ pub fn check_owner(owner: u8) -> Result<(), Refusal>
     Ok(())
 }
 
-/// Refuses `count` bytes from `at` on that reach beyond the end of a body of `length` bytes.
+/// Refuses a range of `count` bytes from `at` on if it reaches beyond the end of a body of `length`
+/// bytes.
 pub(crate) fn check_range(at: u32, count: usize, length: u32) -> Result<(), Refusal>
     ensures ok { OnOk result (length < at + count → ⊥) }
     ensures err { OnErr result (length < at + count) }
@@ -32,7 +37,7 @@ pub(crate) fn check_range(at: u32, count: usize, length: u32) -> Result<(), Refu
     Ok(())
 }
 
-/// The same of `count` bytes and one more.
+/// Refuses, as `check_range` does, a range of `count + 1` bytes.
 pub(crate) fn check_ended_range(at: u32, count: usize, length: u32) -> Result<(), Refusal>
     ensures ok { OnOk result (length < at + (count + 1) → ⊥) }
     ensures err { OnErr result (length < at + (count + 1)) }
@@ -44,7 +49,7 @@ pub(crate) fn check_ended_range(at: u32, count: usize, length: u32) -> Result<()
     Ok(())
 }
 
-/// The bytes in front of the first zero byte, all if there is none.
+/// Returns the bytes before the first zero byte, or all bytes if there is none.
 pub(crate) fn before_zero(text: &[u8]) -> &[u8]
     ensures { result.now ≡ take_while (λ byte. not (byte == 0)) text.now }
 {

@@ -12,7 +12,7 @@ use heap_check::Summary;
 use master_table::slots_total;
 use raw_region::Region;
 
-/// How many chunks of each kind there are, and the free bytes.
+/// The number of chunks of each kind, and the number of free bytes.
 #[derive(Clone, Copy)]
 pub(crate) struct Counts {
     movable: u32,
@@ -21,7 +21,7 @@ pub(crate) struct Counts {
 }
 
 impl Counts {
-    /// The counts with a further chunk.
+    /// Returns the counts with one more chunk.
     #[inline]
     fn with(self, header: Header) -> Counts
         requires { self.movable + self.fixed + self.free + free_by header < 2 ^ 25 }

@@ -1,5 +1,7 @@
-//! The heap. The calls of its manager stand in the modules below: those that ask, that change a chunk
-//! where it stands, that make and free chunks, that move them, and that take bytes out and put them back.
+//! The heap. Its calls are in the modules below: those that ask, that change a chunk in its place,
+//! that make and free chunks, that move them, and that take bytes out and put them back. `row` in
+//! `heap_model`'s specs (`MemorySteps`) gives the errors of each call for callers in their order.
+//! For `take_out`, `out_checks` in this crate's specs (`Loans`) gives them.
 
 ghost use Rattle.std.specs.Prelude.{◌≡◌, ◌≢◌, IfOk, IfErr, OnOk, OnErr, None};
 ghost use Rattle.heap_model.specs.Heap.{HeapAccepted};
@@ -24,22 +26,25 @@ use std::fmt;
 use std::marker::Model;
 use thiserror::Error;
 
-/// A region that is an accepted heap. Contracts see the region's value alone. A call for callers refuses what it can't do;
-/// `adopt` and `put_back` have preconditions. The calls for the store above return only `NotEnoughSpace`, and `sys_resize`
-/// also `Lent` and `ChunkLocked`: everything else is a precondition.
+/// A region that is an accepted heap. Contracts see only the region's value.
+///
+/// A call for callers refuses what it can't do; `adopt` and `put_back` have preconditions. The
+/// calls for the store above return only `NotEnoughSpace`, and `sys_resize` also `Lent` and
+/// `ChunkLocked`: everything else is a precondition.
 #[derive(Drop)]
 pub struct Heap {
     space: Space,
-    /// The first so many slots are in use, so that no search for an empty one goes over them.
+    /// The first `used` slots are in use. The search for an empty slot skips them.
     used: u32,
-    /// The table that had the last empty slot. The next search begins there, or with the first table if a slot that is
-    /// among those before it may be empty.
+    /// The table of the slot that was found empty last. The next search begins there. It begins at
+    /// the first table if a slot among those before it may be empty.
     start: TableStart,
-    /// The slot of a further table that was freed last, or 0. It is given out first if it is empty.
+    /// The slot of a further table that was freed last, or 0. If it is empty, it is given out
+    /// first.
     freed: Name,
-    /// Names of fixed chunks that were found, so that they aren't looked for again.
+    /// Names of fixed chunks that were found. They need no second search.
     known: KnownNames,
-    /// The name of the chunk whose bytes are out.
+    /// The name of the chunk whose bytes are taken out.
     lent: Option<Name>,
 }
 
@@ -56,14 +61,14 @@ impl Model for Heap {
         × KnowsLent heap.space heap.space.lent heap.lent };
 }
 
-/// Where the body of a chunk is that was locked, and its lock count now.
+/// The place of the body of a chunk that was locked, and its new lock count.
 #[derive(Clone, Copy, Debug, PartialEq, Eq)]
 pub struct Locked {
     pub place: Place,
     pub count: u8,
 }
 
-/// A region that is no accepted heap, unchanged, and what is wrong first.
+/// A region that isn't an accepted heap, unchanged, and its first fault.
 #[derive(Drop, Error)]
 #[error("{fault}")]
 pub struct NotAHeap {
@@ -80,7 +85,12 @@ impl fmt::Debug for NotAHeap {
 }
 
 impl Heap {
-    /// Takes a region that is an accepted heap, and hands back any other.
+    /// Makes a heap of a region that is an accepted heap.
+    ///
+    /// # Errors
+    ///
+    /// - `NotAHeap`: the region isn't an accepted heap. It is returned unchanged with its first
+    ///   fault.
     pub fn adopt(region: Region) -> Result<Heap, NotAHeap>
         requires { region.lent ≡ None }
         ensures accepted { OnOk result (HeapAccepted region.bytes) }
@@ -102,7 +112,7 @@ impl Heap {
         }
     }
 
-    /// Returns the region. If a part of it is lent, returns the heap instead.
+    /// Returns the region. If a part of it is lent, returns the heap as the error instead.
     pub fn into_region(self) -> Result<Region, Heap>
         ensures same { IfOk result (λ region. region ≡ self) }
         ensures accepted { IfOk result (λ region. HeapAccepted region.bytes) }

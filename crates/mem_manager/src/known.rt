@@ -7,11 +7,11 @@ ghost use Rattle.mem_manager.specs.Known.{IsKnown, Remembers, entry_of};
 use heap_model::Name;
 use std::marker::Model;
 
-/// How many names are remembered at a time.
+/// The number of names that are remembered at a time.
 const ENTRIES: usize = 64;
 
-/// Names of fixed chunks, each in the entry that its offset gives, so that a new one takes the place of the
-/// one that was there. An entry without a name is 0. Contracts see the entries as a list.
+/// Names of fixed chunks. The offset of a name gives its entry, so a new name replaces the one that
+/// was there. An entry without a name is 0. Contracts see the entries as a list.
 #[derive(Drop)]
 pub(crate) struct KnownNames {
     names: [u32; ENTRIES],
@@ -26,7 +26,7 @@ impl Model for KnownNames {
 }
 
 impl KnownNames {
-    /// No name.
+    /// Returns a table that contains no name.
     pub(crate) fn none() -> KnownNames
         ensures { (name : ℕ) → IsKnown result name → ⊥ }
     {
@@ -35,7 +35,7 @@ impl KnownNames {
         }
     }
 
-    /// Whether a name is among them.
+    /// Returns whether a name is remembered.
     #[inline(always)]
     pub(crate) fn has(&self, name: Name) -> bool
         ensures known { OnTrue result (IsKnown self.now name.0) }
@@ -64,7 +64,7 @@ impl KnownNames {
     }
 }
 
-/// The entry of a name. Bodies of fixed chunks begin at multiples of 8.
+/// Returns the entry of a name. Bodies of fixed chunks begin at multiples of 8.
 #[inline]
 fn entry_of(name: Name) -> usize
     ensures is { result ≡ entry_of name.0 }

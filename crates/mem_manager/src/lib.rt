@@ -1,9 +1,10 @@
-//! The memory manager: chunks are made, asked for, moved and freed by name.
+//! The memory manager: makes chunks, reads and changes them, moves them and frees them, by name.
 //!
-//! `Heap` owns a region that is an accepted heap. The contract of each call for callers is the step of
-//! the abstract store for it: the reply is right, what the image means afterwards is the store after
-//! the call, the image is still accepted, and no chunk that is locked or fixed, and still live, has
-//! moved. The calls for the store above promise what stands under one name afterwards.
+//! `Heap` owns a region that is an accepted heap. A call for callers does its step of the abstract
+//! store (`Does`). Its reply is the right one, and the new image means the store after the step.
+//! The new image is still accepted. No live chunk that is locked or fixed has moved. Calls that
+//! lend bytes have contracts of their own (`TakesOut`, `PutsBack`). Calls for the store above state
+//! what a name's chunk is after the call.
 #![tactic(auto)]
 
 mod bounds;

@@ -7,7 +7,8 @@ use heap_model::Name;
 use raw_region::Part;
 use std::marker::Model;
 
-/// The bytes of a chunk, owned apart from its heap. They are put back by `Heap::put_back`: a loan can't be dropped.
+/// The bytes of a chunk, owned apart from its heap. `Heap::put_back` puts them back. A loan can't
+/// be dropped.
 pub struct Loan {
     pub(crate) name: Name,
     pub(crate) part: Part,
@@ -22,21 +23,21 @@ impl Model for Loan {
 }
 
 impl Loan {
-    /// The name of the chunk.
+    /// Returns the name of the chunk.
     pub fn name(&self) -> Name
         ensures { result ≡ self.now.name }
     {
         self.name
     }
 
-    /// How many bytes there are.
+    /// Returns the number of bytes.
     pub fn len(&self) -> usize
         ensures { result ≡ length self.now.part.bytes }
     {
         self.part.len()
     }
 
-    /// The `n` bytes at `at`.
+    /// Returns the `n` bytes at `at`.
     pub fn slice(&self, at: usize, n: usize) -> &[u8]
         requires { at + n ≤ length self.now.part.bytes }
         ensures { result.now ≡ slice_range self.now.part.bytes at (at + n) }
@@ -44,7 +45,7 @@ impl Loan {
         self.part.slice(at, n)
     }
 
-    /// Copies `bytes` over those of the loan, the first of them to `at`.
+    /// Copies `bytes` over the bytes of the loan, from `at` on.
     pub fn write(&mut self, at: usize, bytes: &[u8])
         requires { at + length bytes.now ≤ length self.old.part.bytes }
         ensures after { self.new ≡ record self.old {

@@ -1,4 +1,4 @@
-//! What a name stands for, and which refusals a chunk brings.
+//! Finds the chunk of a name or of a place, and refuses a chunk that a call can't use.
 
 ghost use Rattle.std.specs.Prelude.{◌≡◌, ◌≢◌, ◌≤◌, ℕ, IsSome, IfSome, IfNone, IfOk, OnOk, IfErr, OnErr, Some, None};
 ghost use Rattle.std.specs.Bool.{OnTrue, OnFalse};
@@ -17,7 +17,7 @@ use chunk_format::{DATA_OWNER, FIXED_LOCK, MANAGERS_OWNER};
 use heap_model::{Name, Place, Refusal};
 use heap_place::{Found, Space};
 
-/// The chunk that a name stands for, whoever owns it. That of a slot is looked up first, and always in line: where a
+/// Finds the chunk of a name, whoever owns it. A slot is looked up first, and always in line: if a
 /// look-up is a call, what it found goes through memory.
 #[inline(always)]
 pub(crate) fn named(space: &Space, known: &KnownNames, name: Name) -> Option<Found>
@@ -36,8 +36,8 @@ pub(crate) fn named(space: &Space, known: &KnownNames, name: Name) -> Option<Fou
     None
 }
 
-/// Whether a name that is no slot's stands for a chunk. Where it isn't remembered, it is looked for among all
-/// chunks.
+/// Returns whether a name that isn't a slot's has a chunk. If the name isn't remembered, all chunks
+/// are searched.
 #[inline(never)]
 fn is_fixed(space: &Space, known: &KnownNames, name: Name) -> bool
     requires accepted { HeapAccepted space.now.bytes }
@@ -55,7 +55,7 @@ fn is_fixed(space: &Space, known: &KnownNames, name: Name) -> bool
     }
 }
 
-/// The caller's chunk that a name stands for. The manager's own are no caller's.
+/// Finds the chunk of a name. Refuses a chunk of the manager.
 #[inline(always)]
 pub(crate) fn find(space: &Space, known: &KnownNames, name: Name) -> Result<Found, Refusal>
     requires accepted { HeapAccepted space.now.bytes }
@@ -75,7 +75,8 @@ pub(crate) fn find(space: &Space, known: &KnownNames, name: Name) -> Result<Foun
     Err(Refusal::InvalidHandle)
 }
 
-/// The caller's chunk that a name stands for, which is remembered where no slot holds the name: then it is a fixed one.
+/// Finds the chunk of a name, as `find` does. Remembers a name that isn't a slot's, since its chunk
+/// is fixed.
 #[inline(always)]
 pub(crate) fn find_again(
     space: &Space,
@@ -101,7 +102,7 @@ pub(crate) fn find_again(
     Err(Refusal::InvalidHandle)
 }
 
-/// A chunk that was found, if it is a caller's.
+/// Returns a chunk that was found, or refuses it if the manager owns it.
 #[inline(always)]
 fn callers(found: Found) -> Result<Found, Refusal>
     ensures is { IfOk result (λ own. own ≡ found) }
@@ -115,7 +116,7 @@ fn callers(found: Found) -> Result<Found, Refusal>
     Ok(found)
 }
 
-/// The name of the caller's chunk whose body is at a place.
+/// Returns the name of the chunk whose body is at a place. Refuses a chunk of the manager.
 pub(crate) fn name_at(space: &Space, known: &KnownNames, place: Place) -> Result<Name, Refusal>
     requires accepted { HeapAccepted space.now.bytes }
     requires lent { LendsABody space.now }
@@ -130,7 +131,8 @@ pub(crate) fn name_at(space: &Space, known: &KnownNames, place: Place) -> Result
     }
 }
 
-/// The chunk whose body is at a place, whoever owns it. The place of a fixed chunk is its name too.
+/// Finds the chunk whose body is at a place, whoever owns it. The place of a fixed chunk is also
+/// its name.
 fn placed(space: &Space, known: &KnownNames, place: Place) -> Option<Found>
     requires accepted { HeapAccepted space.now.bytes }
     requires lent { LendsABody space.now }
@@ -174,7 +176,7 @@ pub(crate) fn check_movable(found: Found) -> Result<(), Refusal>
     Ok(())
 }
 
-/// Refuses a chunk that has no lock; a fixed one counts as locked.
+/// Refuses a chunk that has no lock. A fixed chunk counts as locked.
 #[inline]
 pub(crate) fn check_locked(found: Found) -> Result<(), Refusal>
     ensures ok { OnOk result (found.lock ≢ 0) }

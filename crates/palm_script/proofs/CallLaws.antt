@@ -50,12 +50,12 @@ same_call (Record call) = ap Record (record_call-same call)
 same_call (Resource call) = ap Resource (resource_call-same call)
 same_call (File call) = ap File (file_call-same call)
 
--- a call that wants no memory isn't refused for want of it
+-- a call that takes no memory isn't refused with out of memory
 pub never_wants : (old : Region) (call : Call) (outcome : Outcome) (new : Region) (fact : Type 0) → Answers old call outcome new → may_want_memory call ≡ false → OnWant outcome fact
 never_wants old call (Replied reply) new fact answers without = λ want. absurd (answers.1 without want)
 never_wants old call (Reads name at count) new fact answers without = tt
 
--- a reply is want of memory where the answer is
+-- a reply is out of memory only if the result is
 pub want_of : {A : Type 0} (f : A → Reply) (answer : Result A Refusal) → ((a : A) → f a ≢ Refused OutOfMemory) → reply_of f answer ≡ Refused OutOfMemory → answer ≡ Err OutOfMemory
 want_of f (Ok a) other want = absurd (other a want)
 want_of f (Err refusal) other want = cc

@@ -1,4 +1,4 @@
--- Lines behind one another.
+-- Lines, one after another.
 use Rattle.std.proofs.Common.{◌≡◌, ◌≢◌, ℕ, ◌+◌, ◌<◌, ◌≤◌, arith, cond, Bool, List, [], ◌∷◌, ◌++◌, length, take, get_or, refl, sym, ap, ◌∙◌, subst, append_assoc, append-nil, add-one, take-suc, Option, Some, None, true}
 use Rattle.std.proofs.lemmas.List.{take_all}
 use Rattle.std.specs.Option.{option_to_list}

@@ -13,7 +13,7 @@ use Rattle.palm_script.specs.Headline.{AnswersAsRun}
 
 -- ---- a run that goes on
 
--- what is a run from here on is one from the start, with these replies in front
+-- what is a run from here on is one from the start, with these replies before
 pub record GoesOn (start : Memory) (calls : List Call) (count : ℕ) (replies : List Reply) (here : Memory) : Type 0 where
   pub run : (rest : List Reply) (last : Memory) → Run here (drop count calls) rest last → Run start calls (replies ++ rest) last
 
@@ -33,12 +33,12 @@ goes_on-end start calls i replies here all so_far =
 
 -- ---- the headline
 
--- a region, and others behind it
+-- a region, and others after it
 unfoldable behind : Memory → (ℕ → Memory) → ℕ → Memory
 behind first others zero = first
 behind first others (suc count) = others count
 
--- one call in front
+-- one call before
 one_in_front : (image : Memory) (call : Call) (calls : List Call) (reply : Reply) (replies : List Reply) (mid last : Memory) → Accepted image.bytes → DoesInStore image call reply mid → AnswersAsRun mid calls replies last → AnswersAsRun image (call ∷ calls) (reply ∷ replies) last
 unfolding behind
 one_in_front image call calls reply replies mid last accepted does later = record {

@@ -1,4 +1,4 @@
--- What a list of manager calls does to an accepted image.
+-- The headline: what a list of manager calls does to an accepted image.
 use Rattle.std.specs.Prelude.{◌≡◌, ◌<◌, ◌≤◌, ◌+◌, ◌⊎◌, ℕ, List, length, slice_get, Some}
 use Rattle.heap_model.specs.Memory.{Memory}
 use Rattle.heap_model.specs.Space.{Still}
@@ -9,11 +9,14 @@ use Rattle.store_check.specs.declared.fault.StoreFault.TheVariants.{OutOfMemory 
 use Rattle.palm_script.specs.declared.lists.NotRun.{NotRun}
 use Rattle.palm_script.specs.declared.lists.NotRun.TheVariants.{NotAStore, OutOfMemory}
 
--- A list of calls, run from an accepted image, is answered as a run of the abstract store answers, which is a map
--- from names to byte strings beside databases as lists of entries, begun with what the image means. There is a
--- region behind each so many of the calls: it is an accepted image, and means that run's store; each reply is
--- that of its call's step from one of these stores to the next; and every chunk that was locked or fixed, and is
--- still live, is where it was.
+-- A list of calls, run from an accepted image, is answered as a run of the abstract store answers.
+-- The abstract store is a map from names to byte strings, together with databases as lists of
+-- entries. The run begins with the store that the image means.
+--
+-- `region count` is the region after the first `count` calls. It is an accepted image, and means
+-- the store of the run at that point. Each reply is that of its call's step from one of these
+-- stores to the next. In each step every chunk that was locked or fixed, and is still live, keeps
+-- its place.
 pub record AnswersAsRun (image : Memory) (calls : List Call) (replies : List Reply) (last : Memory) : Type 0 where
   pub region : ℕ → Memory
   pub first : region 0 ≡ image
@@ -24,12 +27,13 @@ pub record AnswersAsRun (image : Memory) (calls : List Call) (replies : List Rep
   pub step : (count : ℕ) (call : Call) (reply : Reply) → slice_get calls count ≡ Some call → slice_get replies count ≡ Some reply → DoesInStore (region count) call reply (region (count + 1))
   pub still : (count : ℕ) → count < length calls → Still (region count).bytes (region (count + 1)).bytes
 
--- No call was done, and the region is handed back as it was: it is no accepted image, or memory was refused.
+-- No call was done, and the region is returned unchanged. Either it is no accepted image, or an
+-- allocation failed, for the check or for the replies.
 abbrev pub HandsBack : Memory → NotRun → Type 0
 HandsBack region (NotAStore error) = (error.region ≡ region) × ((error.fault ≡ CheckOutOfMemory) ⊎ (Accepted region.bytes → ⊥))
 HandsBack region (OutOfMemory store) = store ≡ region
 
--- memory was refused, for the check or for the replies
+-- an allocation failed, for the check or for the replies
 abbrev pub WantsMemory : NotRun → Type 0
 WantsMemory (NotAStore error) = error.fault ≡ CheckOutOfMemory
 WantsMemory (OutOfMemory store) = Unit

@@ -21,8 +21,8 @@ use script_calls::Outcome::{Reads, Replied};
 use script_calls::{Given, GivenBytes, Outcome, do_database_call, do_memory_call};
 use std::alloc::Global;
 
-/// Does one call and answers its reply. Memory is taken by `read`, `import` and `export` alone; where
-/// it is refused, so is the call.
+/// Does one call and returns its reply. Only `read`, `import` and `export` take memory. If the
+/// allocation fails, the call is refused with `OutOfMemory`.
 pub fn do_call(alloc: Global, store: &mut Store, call: &Call) -> Reply
     ensures does { DoesInStore store.old call.now result store.new }
     ensures no_memory { result ≡ Reply.Refused Refusal.OutOfMemory → GrowthRefused }
@@ -31,7 +31,8 @@ pub fn do_call(alloc: Global, store: &mut Store, call: &Call) -> Reply
     do_call_from(&alloc, store, call)
 }
 
-/// `do_call`, where each growth asks for a grant. Only a refused growth is answered by `OutOfMemory`.
+/// The same as `do_call`, with a grant of `memory` for each allocation. The reply is `OutOfMemory`
+/// only if an allocation failed.
 pub fn do_call_from<A: Allowance>(memory: &A, store: &mut Store, call: &Call) -> Reply
     ensures does { DoesInStore store.old call.now result store.new }
     ensures moves { Moves store.old call.now store.new }
@@ -43,7 +44,7 @@ pub fn do_call_from<A: Allowance>(memory: &A, store: &mut Store, call: &Call) ->
     }
 }
 
-/// The bytes of a chunk, copied.
+/// Copies bytes of a chunk.
 fn read<A: Allowance>(memory: &A, store: &Store, name: Name, at: u32, count: u32) -> Reply
     ensures does { DoesInStore store.now (calls.Call.Memory (MemoryCall.Read name at count))
         result store.now }
@@ -58,8 +59,9 @@ fn read<A: Allowance>(memory: &A, store: &Store, name: Name, at: u32, count: u32
     }
 }
 
-/// Does a call, if it isn't a `read`. What it gives as chunks and databases is looked up in these
-/// tables, and its bytes are decoded into a buffer. Only a refused growth is answered by `OutOfMemory`.
+/// Does a call, if it isn't a `read`. It looks up the chunks and databases of the call in the
+/// tables `names` and `databases`, and decodes its bytes into `buffer`. The reply is `OutOfMemory`
+/// only if an allocation failed.
 pub(crate) fn do_given<A: Allowance, C: Given<Name>, D: Given<Db>, B: GivenBytes>(
     memory: &A,
     store: &mut Store,

@@ -15,8 +15,8 @@ use palm_store::Store;
 use pdb_files::{exported, import_from};
 use script_calls::{Given, GivenBytes, data, database};
 
-/// Does a call on files, which may want memory; where it is refused, so is the call. Only a refused growth is
-/// answered by `OutOfMemory`.
+/// Does a call on files, which takes memory. If the allocation fails, the call is refused with
+/// `OutOfMemory`. The reply is `OutOfMemory` only if an allocation failed.
 pub(crate) fn do_file_call<A: Allowance, D: Given<Db>, B: GivenBytes>(
     memory: &A,
     store: &mut Store,

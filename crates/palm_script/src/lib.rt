@@ -1,9 +1,10 @@
 //! Scripts of manager calls.
 //!
-//! `do_call` does one call and answers its reply, and `run_calls` those of a list. `check_and_run` checks an
-//! image and runs a list of calls from it: its promise, `specs/Headline.antt`, is what the library is for.
-//! `run` does the calls of a script, line by line, and prints a reply line for each; `parse` reads the
-//! script. `specs/Lines.antt` of script_calls says what lines do, bind, print and export.
+//! `do_call` does one call and returns its reply, and `run_calls` does the calls of a list.
+//! `check_and_run` checks an image and runs a list of calls from it. Its contract, which
+//! `specs/Headline.antt` defines, is the purpose of the library. `run` does the calls of a script,
+//! line by line, and prints a reply line for each. `parse` reads the script. `specs/Lines.antt` of
+//! script_calls defines the calls of lines, and what lines bind, print and export.
 //!
 //! | module | does |
 //! |---|---|

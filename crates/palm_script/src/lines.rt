@@ -19,8 +19,9 @@ use script_calls::{Given, Outcome, bind_line, number, put_data, put_refusal, put
 use script_lines::Line;
 use std::io::Write;
 
-/// Does the call of a line, binds what it binds and prints its reply line, and answers the file that it
-/// exports. Only an import or an export takes memory, and is refused for want of it only by a refused growth.
+/// Does the call of a line, binds its label, prints its reply line and returns the file that it
+/// exports. Only an import or an export takes memory. It runs out of memory only if an allocation
+/// failed.
 pub(crate) fn do_line<A: Allowance, W: Write>(
     memory: &A,
     store: &mut Store,
@@ -59,7 +60,7 @@ pub(crate) fn do_line<A: Allowance, W: Write>(
     }
 }
 
-/// The file that a line exports that was answered so, if it exports one.
+/// Returns the file that a line exports, if its reply is one.
 fn exported_file(line: &Line<'_>, reply: Reply) -> Option<Bytes>
     ensures { words.exported line.now reply ≡ option_to_list result }
 {
@@ -69,7 +70,7 @@ fn exported_file(line: &Line<'_>, reply: Reply) -> Option<Bytes>
     }
 }
 
-/// What comes of the call of a line. Only a refused growth is answered by `OutOfMemory`.
+/// Returns the outcome of the call of a line. It is `OutOfMemory` only if an allocation failed.
 fn outcome_of<A: Allowance>(
     memory: &A,
     store: &mut Store,
@@ -101,14 +102,15 @@ fn outcome_of<A: Allowance>(
     }
 }
 
-/// The size of a chunk.
+/// Returns the size of a chunk.
 fn size_of(store: &Store, name: Name) -> Outcome
     ensures { Answers store.now (calls.Memory (MemoryCall.Size name)) result store.now }
 {
     Outcome::Replied(number(store.size(name)))
 }
 
-/// The input file of a number, counted from 1; of one that names none, no bytes.
+/// Returns the input file with a number, counted from 1. Returns no bytes if there is none with
+/// this number.
 fn input_of(inputs: &[Bytes], file: u32) -> &[u8]
     ensures { result.now ≡ words.input_of inputs.now file }
 {

@@ -1,4 +1,4 @@
-//! Lists of calls, one behind another.
+//! Lists of calls, done one after another.
 
 ghost use Rattle.std.specs.Prelude.{◌≡◌, All, IfErr, IfOk, OnErr, None};
 ghost use Rattle.heap_model.specs.Runs.{Run};
@@ -17,17 +17,21 @@ use std::alloc::Global;
 use std::fmt;
 use thiserror::Error;
 
-/// Memory for the replies was refused, and no call was done.
+/// The allocation for the replies failed, and no call was done.
 #[derive(Clone, Copy, Debug, PartialEq, Eq, Error)]
 #[error("OutOfMemory")]
 pub struct OutOfMemory;
 
-/// Does the calls of a list, and answers the reply to each. A call that is refused doesn't end the run.
+/// Does the calls of a list, and returns the reply to each. A call that is refused doesn't end the
+/// run.
 ///
-/// A loan may be out. It stays out, and its holder alone has its bytes.
+/// A loan may be out. It stays out, and only its holder has its bytes.
 ///
-/// Room for all replies is taken before the first call. Behind it memory is taken by `read`, `import` and
-/// `export` alone; where it is refused, so is the call.
+/// It allocates room for all replies before the first call. After that only `read`, `import` and
+/// `export` take memory. If an allocation of a call fails, the call is refused with `OutOfMemory`.
+///
+/// # Errors
+/// - `OutOfMemory`: if the allocation for the replies failed. Then no call was done.
 pub fn run_calls(
     alloc: Global,
     store: &mut Store,
@@ -44,8 +48,8 @@ pub fn run_calls(
     run_calls_from(&alloc, store, calls)
 }
 
-/// `run_calls`, where each growth asks for a grant. Only a refused growth is answered by `OutOfMemory`, by
-/// the whole list and by each call of it.
+/// The same as `run_calls`, with a grant of `memory` for each allocation. The list and each of its
+/// calls report `OutOfMemory` only if an allocation failed.
 pub fn run_calls_from<A: Allowance>(
     memory: &A,
     store: &mut Store,
@@ -71,10 +75,10 @@ pub fn run_calls_from<A: Allowance>(
 /// Why the calls of a list weren't done.
 #[derive(Drop, Error)]
 pub enum NotRun {
-    /// The region is no accepted image, or memory for its check was refused.
+    /// The region is no accepted image, or an allocation of its check failed.
     #[error("{0}")]
     NotAStore(NotAStore),
-    /// Memory for the replies was refused.
+    /// The allocation for the replies failed.
     #[error("OutOfMemory")]
     OutOfMemory(Store),
 }
@@ -88,7 +92,11 @@ impl fmt::Debug for NotRun {
     }
 }
 
-/// Checks an image, and runs a list of calls from it: what this promises is what the library is for.
+/// Checks an image, and runs a list of calls from it. Its contract is the purpose of the library.
+///
+/// # Errors
+/// - `NotAStore`: if the region is no accepted image, or an allocation of its check failed.
+/// - `OutOfMemory`: if the allocation for the replies failed.
 pub fn check_and_run(
     alloc: Global,
     region: Region,
@@ -105,8 +113,8 @@ pub fn check_and_run(
     check_and_run_from(&alloc, region, calls)
 }
 
-/// `check_and_run`, where each growth asks for a grant. Only a refused growth is answered by `OutOfMemory`, by
-/// the check, by the whole list and by each call of it.
+/// The same as `check_and_run`, with a grant of `memory` for each allocation. The check, the list
+/// and each of its calls report `OutOfMemory` only if an allocation failed.
 pub fn check_and_run_from<A: Allowance>(
     memory: &A,
     region: Region,

@@ -16,7 +16,7 @@ use record_db::{
 };
 use script_calls::{Given, done, made, named, number, record};
 
-/// Does a call on records and answers its reply.
+/// Does a call on records and returns its reply.
 pub(crate) fn do_record_call<C: Given<Name>, D: Given<Db>>(
     store: &mut Store,
     names: &[Name],

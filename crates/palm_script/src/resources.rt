@@ -15,7 +15,7 @@ use resource_db::{
 };
 use script_calls::{Given, done, made, named, number, resource};
 
-/// Does a call on resources and answers its reply.
+/// Does a call on resources and returns its reply.
 pub(crate) fn do_resource_call<C: Given<Name>, D: Given<Db>>(
     store: &mut Store,
     names: &[Name],

@@ -1,4 +1,4 @@
-//! The lines of a script, one behind another.
+//! Runs the lines of a script, one after another.
 
 ghost use Rattle.std.specs.Prelude.{◌≡◌, ◌≤◌, ◌+◌, ◌++◌, Err, IfOk, OnErr, length, replicate};
 ghost use Rattle.std.specs.Prelude.{vec_capacity, vec_len};
@@ -21,10 +21,10 @@ use thiserror::Error;
 /// Why a run ended early.
 #[derive(Clone, Copy, Debug, PartialEq, Eq, Error)]
 pub enum RunFault {
-    /// Memory was refused, and nothing was run.
+    /// An allocation failed, and no line was run.
     #[error("OutOfMemory")]
     OutOfMemory,
-    /// A write failed, and no line behind that one was run.
+    /// A write failed, and no line after that one was run.
     #[error("Write")]
     Write,
 }
@@ -32,8 +32,13 @@ pub enum RunFault {
 /// Runs the lines of a script, and prints the reply line of each. A line that is refused doesn't
 /// end the run.
 ///
-/// `inputs` are the files that lines import, and the answer lists the files that they export, in order.
-/// Behind the first line only imports and exports take memory; where that is refused, so is the line.
+/// `inputs` are the files that lines import. The result has the files that they export, in order.
+/// Once the first line is run, only imports and exports take memory. If that allocation fails, the
+/// line is refused.
+///
+/// # Errors
+/// - `OutOfMemory`: if an allocation failed before the first line. Then no line was run.
+/// - `Write`: if a write failed or took 0 bytes. Then no line after that one was run.
 pub fn run<W: Write>(
     alloc: Global,
     store: &mut Store,
@@ -57,8 +62,8 @@ pub fn run<W: Write>(
     run_from(&alloc, store, script, inputs, out)
 }
 
-/// `run`, where each growth asks for a grant. Only a refused growth is answered by `OutOfMemory`, by the run
-/// and by each line.
+/// The same as `run`, with a grant of `memory` for each allocation. The run and each line report
+/// `OutOfMemory` only if an allocation failed.
 pub fn run_from<A: Allowance, W: Write>(
     memory: &A,
     store: &mut Store,
@@ -103,7 +108,7 @@ pub fn run_from<A: Allowance, W: Write>(
     Ok(files)
 }
 
-/// A table of so many labels of chunks, none of them bound.
+/// Returns a table of `count` labels of chunks, none of them bound.
 fn unbound_names<A: Allowance>(memory: &A, count: usize) -> Result<Vec<Name>, AllocError>
     ensures names { IfOk result (λ names. names.items ≡ replicate count no_name) }
     ensures short { OnErr result (A.is_short memory.now) }
@@ -111,7 +116,7 @@ fn unbound_names<A: Allowance>(memory: &A, count: usize) -> Result<Vec<Name>, Al
     filled(memory, Name(0), count)
 }
 
-/// The same of labels of databases.
+/// The same for labels of databases.
 fn unbound_databases<A: Allowance>(memory: &A, count: usize) -> Result<Vec<Db>, AllocError>
     ensures databases { IfOk result (λ databases.
         databases.items ≡ replicate count no_database) }
@@ -120,7 +125,7 @@ fn unbound_databases<A: Allowance>(memory: &A, count: usize) -> Result<Vec<Db>, 
     filled(memory, Db(0), count)
 }
 
-/// Puts a file behind the others, if there is one.
+/// Appends a file, if there is one.
 fn add_file(files: &mut Vec<Bytes>, file: Option<Bytes>)
     requires { vec_len files.old + length (option_to_list file) ≤ vec_capacity files.old }
     ensures items { files.new.items ≡ files.old.items ++ option_to_list file }

@@ -1,4 +1,5 @@
--- What the calls look at first: the attributes of a database say which entries it holds, and whether it may be used so.
+-- What the calls look at first: the attributes of a database say which entries it holds, and
+-- whether it may be used so.
 use Rattle.std.proofs.Common.{◌≡◌, ℕ, ◌<◌, Bool, true, List, length, Option, Some, None, refl, sym, ap, ◌∙◌}
 use Rattle.std.proofs.lemmas.Option.{slice_get_within}
 use Rattle.std.specs.Prelude.{slice_get}

@@ -1,4 +1,5 @@
--- That a database is deleted is a step of the store, and so is that a locked chunk of it forbids that.
+-- That a database is deleted is a step of the store, and so is that a locked chunk of it forbids
+-- that.
 use Rattle.std.proofs.Common.{◌≡◌, ◌≢◌, ℕ, ◌+◌, ◌*◌, ◌<◌, ◌≤◌, List, [], ◌∷◌, ◌++◌, length, Option, Some, None, refl, sym, ap, subst, ◌∙◌, arith, inl, inr}
 use Rattle.std.proofs.lemmas.Bool.{cases_eq, cases_lt}
 use Rattle.std.specs.Prelude.{◌==◌, if◌then◌else◌, Any}

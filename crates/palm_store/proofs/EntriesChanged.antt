@@ -1,4 +1,5 @@
--- The entries of one database changed: what follows on two changes, and on one that changes nothing.
+-- The entries of one database changed: what follows on two changes, and on one that changes
+-- nothing.
 use Rattle.std.proofs.Common.{◌≡◌, ℕ, Bool, List, [], ◌∷◌, set, Option, Some, None, refl, sym, ap, subst, ◌∙◌, inl, inr}
 use Rattle.std.proofs.lemmas.Bool.{cases_eq, eq-eqb, ne_eqb}
 use Rattle.std.proofs.lemmas.List.{set-get_or}
@@ -31,7 +32,7 @@ changed_alike image db one other h a alike =
     (ap (λ (s : StoredDatabase). one s.database) h.at ∙ alike ∙ sym (ap (λ (s : StoredDatabase). other s.database) h.at))
     ∙ sym (changed_by_number db other (databases image) h.index h.one once h.inside number)
 
--- two changes, one behind the other
+-- two changes, one after the other
 pub changed_behind : (image : List ℕ) (db : ℕ) (first second both : List (Entry ℕ) → List (Entry ℕ)) (h : Here image db) → Accepted image → second (first h.one.database.entries) ≡ both h.one.database.entries
     → with_changed (with_changed (store_of image).databases db (with_list first)) db (with_list second) ≡ with_changed (store_of image).databases db (with_list both)
 changed_behind image db first second both h a alike =

@@ -71,7 +71,8 @@ counted_names : (q : ℕ) (counts : Bool) (d : Database ℕ) → times q (data_i
 counted_names q true d = refl
 counted_names q false d = refl
 
--- a store whose database was changed and counted is the one that was changed, with its number raised
+-- a store whose database was changed and counted is the one that was changed, with its number
+-- raised
 pub then_raised : (old new : List ℕ) (db : Db) (change : Database ℕ → Database ℕ) (store : Store) → LeavesStore old new (record store { databases = with_changed store.databases db.0 (λ database. counted (change database)) })
     → LeavesStore old new (raised (record store { databases = with_changed store.databases db.0 change }) db)
 then_raised old new db change store leaves =

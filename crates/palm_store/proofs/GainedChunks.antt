@@ -1,4 +1,5 @@
--- Chunks of zeros that were made for data: one, several one after the other, and all of them freed again.
+-- Chunks of zeros that were made for data: one, several one after the other, and all of them freed
+-- again.
 use Rattle.std.proofs.Common.{◌≡◌, ◌≢◌, ℕ, suc, ◌+◌, ◌-◌, ◌<◌, ◌≤◌, List, [], ◌∷◌, ◌++◌, length, get_or, set, take, drop, replicate, Option, Some, None, refl, sym, ap, subst, ◌∙◌, arith, length-append, inl, inr}
 use Rattle.std.proofs.lemmas.Bool.{cases_eq}
 use Rattle.std.proofs.lemmas.List.{map-append, get_or-map, length-map, take-map, take-append-drop, take_more, take_more_set}

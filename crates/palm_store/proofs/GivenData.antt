@@ -1,5 +1,5 @@
--- A caller's chunk that becomes the data of an entry: of a new one, or of one that hands over the data that it
--- had.
+-- A caller's chunk that becomes the data of an entry: of a new one, or of one that hands over the
+-- data that it had.
 use Rattle.std.proofs.Common.{◌≡◌, ◌≢◌, ℕ, zero, suc, ◌+◌, ◌<◌, ◌≤◌, Bool, true, List, [], ◌∷◌, length, Option, Some, None, refl, sym, ap, subst, ◌∙◌, arith, rules, inl, inr}
 use Rattle.std.proofs.lemmas.Bool.{cases_eq}
 use Rattle.std.proofs.lemmas.List.Elements.{All-nil, All-cons}

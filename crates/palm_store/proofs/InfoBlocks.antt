@@ -1,4 +1,5 @@
--- A database gets an info block, which was a caller's chunk, or has one no longer, which a caller gets.
+-- A database gets an info block, which was a caller's chunk, or has one no longer, which a caller
+-- gets.
 use Rattle.std.proofs.Common.{◌≡◌, ◌≢◌, ℕ, ◌+◌, ◌<◌, List, ◌∷◌, map, refl, sym, ap, subst, ◌∙◌, arith, inl, inr}
 use Rattle.std.specs.Prelude.{◌⊎◌}
 use Rattle.heap_model.specs.Chunk.{data_owner}

@@ -189,7 +189,8 @@ change_lacks : (id index : ℕ) (change : Entry ℕ → Entry ℕ) → ((other :
 unfolding LacksStill with_change_at
 change_lacks id index change gets database none = changed_if_lacks id index change database (slice_get database.entries index) gets refl none
 
--- The entry of an index is changed, which gets none of the IDs; the modification number may be raised.
+-- The entry of an index is changed, which gets none of the IDs; the modification number may be
+-- raised.
 pub change_free : (counts : Bool) (old mid new : Store) (db : Db) (index : ℕ) (change : Entry ℕ → Entry ℕ) (known : KnownIds)
     → mid.databases ≡ (entry_changed old db index change).databases → new.databases ≡ (raised_if counts mid db).databases → GetsNone known change → StandFree old known → StandFree new known
 unfolding ids_found LacksStill with_change_at

@@ -75,7 +75,7 @@ one_live e = cc
 pub lock_of : (image : List ℕ) (name : ℕ) (one other : LiveChunk) → held image name ≡ Some one → one.lock ≡ 0 → held image name ≡ Some other → other.lock ≡ 0
 lock_of image name one other e none f = ap (λ (l : LiveChunk). l.lock) (one_live (sym f ∙ e)) ∙ none
 
--- bytes that were written behind those of a chunk that grew for them
+-- bytes that were written after those of a chunk that grew for them
 pub more_written : (old part : List ℕ) → overwritten (sized_to old (length old + length part)) (length old) part ≡ old ++ part
 unfolding overwritten
 more_written old part =

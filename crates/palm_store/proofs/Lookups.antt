@@ -1,5 +1,5 @@
--- Calls that ask of the databases of a store. They leave the region as it is, so of each its refusals and
--- its answer are left to show.
+-- Calls that ask of the databases of a store. They leave the region as it is, so of each its
+-- refusals and its answer are left to show.
 use Rattle.std.proofs.Common.{◌≡◌, ◌≢◌, ℕ, ◌<◌, ◌≤◌, List, length, map, get_or, Bool, Option, Some, None, Result, refl, sym, ap, subst, ◌∙◌, arith, inl}
 use Rattle.std.proofs.lemmas.List.Elements.{All-map}
 use Rattle.std.proofs.lemmas.Grind.{get_or_default_zero}

@@ -1,4 +1,5 @@
--- The chunks that a database names: they are for data, each is named once, and all of them are freed.
+-- The chunks that a database names: they are for data, each is named once, and all of them are
+-- freed.
 use Rattle.std.proofs.Common.{◌≡◌, ◌≢◌, ℕ, suc, ◌+◌, ◌-◌, ◌<◌, ◌≤◌, List, [], ◌∷◌, ◌++◌, length, get_or, take, drop, Option, Some, None, refl, sym, ap, subst, ◌∙◌, arith, inl, inr}
 use Rattle.std.proofs.lemmas.Bool.{cases_eq}
 use Rattle.std.proofs.lemmas.List.{take-append-drop, take_more, get_or-map, length-map}

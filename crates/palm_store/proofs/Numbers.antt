@@ -1,5 +1,5 @@
--- The databases of an accepted image by their numbers: which names of chunks are numbers, and what stands
--- under one.
+-- The databases of an accepted image by their numbers: which names of chunks are numbers, and what
+-- stands under one.
 use Rattle.std.proofs.Common.{◌≡◌, ◌≢◌, ℕ, ◌*◌, ◌/◌, ◌<◌, List, [], length, get_or, None, sym, ap, ◌∙◌, arith, inl, inr}
 use Rattle.std.proofs.lemmas.Bool.{cases_lt}
 use Rattle.std.proofs.lemmas.List.{get_or-map, length-map}

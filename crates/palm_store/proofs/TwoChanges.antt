@@ -1,4 +1,4 @@
--- A change of a store and another one behind it, as the modification number raised.
+-- A change of a store and another one after it, as the modification number raised.
 use Rattle.std.proofs.Common.{◌≡◌, ℕ, List, Option, Some, None, refl, sym, ap, ◌∙◌, arith}
 use Rattle.std.specs.Prelude.{IsSome}
 use Rattle.std.specs.Option.{is_some}
@@ -18,7 +18,7 @@ is_there (Some one) some = (one, refl)
 
 -- ---- both changes
 
--- a change that leaves a store, and another one behind it
+-- a change that leaves a store, and another one after it
 pub left_after : (old mid new : List ℕ) (left change store : Store) → LeavesStore old mid left → LeavesStore mid new change → SameStore change store → MakesNone mid new → LeavesStore old new store
 left_after old mid new left change store one two same none = record {
   accepted = two.accepted;

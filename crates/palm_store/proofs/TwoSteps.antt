@@ -1,5 +1,5 @@
--- What several calls leave, one behind the other: one that writes a database anew, and those that change what
--- one other name stands for.
+-- What several calls leave, one after the other: one that writes a database anew, and those that
+-- change what one other name stands for.
 use Rattle.std.proofs.Common.{◌≡◌, ◌≢◌, ℕ, ◌<◌, List, [], Option, Some, None, refl, sym, ap, subst, ◌∙◌, arith, inl, inr}
 use Rattle.std.proofs.lemmas.Bool.{cases_eq}
 use Rattle.std.proofs.lemmas.List.Elements.{All-nil, All-cons}

@@ -1,4 +1,5 @@
--- A slot taken out of the directory: the bytes of those behind it slide to the front, and the chunk shrinks.
+-- A slot taken out of the directory: the bytes of those after it slide to the front, and the chunk
+-- shrinks.
 use Rattle.std.proofs.Common.{◌≡◌, ◌≢◌, ℕ, ◌+◌, ◌-◌, ◌*◌, ◌<◌, ◌≤◌, List, ◌++◌, length, take, drop, Some, Result, Ok, Err, refl, sym, ap, ◌∙◌, arith, length-append, length-take, length-drop}
 use Rattle.std.specs.Prelude.{slice_range, IfErr, IsOk}
 use Rattle.heap_model.specs.Bytes.{overwritten, sized_to}

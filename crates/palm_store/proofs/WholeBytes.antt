@@ -1,4 +1,5 @@
--- A header and its entries, written one after the other into a chunk of the manager's that has room for them.
+-- A header and its entries, written one after the other into a chunk of the manager's that has room
+-- for them.
 use Rattle.std.proofs.Common.{◌≡◌, ◌≢◌, ℕ, zero, suc, ◌+◌, ◌*◌, ◌<◌, ◌≤◌, Bool, true, false, List, [], ◌∷◌, ◌++◌, length, get_or, take, drop, Some, refl, sym, ap, subst, ◌∙◌, append_assoc, arith, length-append, length-take, length-drop, inl, inr}
 use Rattle.std.proofs.Math.Seq.{take-append_seam}
 use Rattle.std.proofs.lemmas.Bool.{cases_eq}
@@ -33,11 +34,11 @@ use Rattle.palm_store.proofs.ListedSlots.{put_here, put_apart, lock_of}
 
 -- ---- bytes on the way
 
--- the header, and the entries in front of an index
+-- the header, and the entries before an index
 front_of : List ℕ → List (Entry ℕ) → ℕ → List ℕ
 front_of body es index = take 78 body ++ flat_map entry_bytes (take index es)
 
--- and what stood behind them
+-- and what stood after them
 pub so_far : List ℕ → Bool → List (Entry ℕ) → ℕ → List ℕ
 so_far body resources es index = front_of body es index ++ drop (entry_offset resources index) body
 
@@ -190,7 +191,7 @@ body_now old new slot bytes own l =
 
 -- ---- the entries
 
--- the entries in front of an index are written behind the header
+-- the entries before an index are written after the header
 pub record Writes (old new : List ℕ) (slot : ℕ) (resources : Bool) (entries : List WholeEntry) (names : List ℕ) (index : ℕ) : Type 0 where
   pub leaves : Leaves old new (rewritten (held old) slot (so_far (bytes_under old slot) resources (entries_named entries (drop 2 names)) index))
   pub fits : All (EntryFits resources) (take index (entries_named entries (drop 2 names)))
@@ -216,7 +217,7 @@ at_least : (resources : Bool) (n : ℕ) → 78 ≤ entry_offset resources n
 at_least false n = omega arith
 at_least true n = omega arith
 
--- an entry that is asked for, with the name beside it, among those of the database
+-- an entry that is asked for, with the name at the same index, among those of the database
 pub record IsEntryAt (resources : Bool) (entries : List WholeEntry) (names : List ℕ) (index : ℕ) (e : Entry ℕ) : Type 0 where
   pub below : index < length entries
   pub is : get_or (entries_named entries (drop 2 names)) index e ≡ e

@@ -1,4 +1,5 @@
--- A whole database that was made is a step of the store: it comes behind the others, and its data to the map.
+-- A whole database that was made is a step of the store: it comes after the others, and its data to
+-- the map.
 use Rattle.std.proofs.Common.{◌≡◌, ◌≢◌, ℕ, ◌+◌, ◌<◌, Bool, List, [], ◌∷◌, ◌++◌, length, map, drop, Option, Some, None, refl, sym, ap, subst, ◌∙◌, arith, length-append, inl, inr}
 use Rattle.std.proofs.lemmas.Bool.{cases_eq}
 use Rattle.std.proofs.lemmas.List.Elements.{All-nil, All-cons, All-head, All-tail}
@@ -85,7 +86,7 @@ whole_ids info entries names can =
       distinct = subst (λ (xs : List ℕ). Distinct xs) (sym ids) can.ids;
     }
 
--- ---- it comes behind the others
+-- ---- it comes after the others
 
 abbrev stored : ℕ → DbInfo → List WholeEntry → List ℕ → StoredDatabase
 stored db info entries names = record { db = db; database = whole_database info entries names }

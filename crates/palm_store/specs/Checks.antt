@@ -1,4 +1,4 @@
--- The checks with which the calls on entries begin, and what is told of an entry.
+-- The first checks of the calls on entries, and the information on an entry.
 use Rattle.std.specs.Prelude.{◌≡◌, not, ℕ, Bool, true, false, List, [], ◌∷◌, IsSome}
 use Rattle.heap_model.specs.MemorySteps.{Of, IsLocked}
 use Rattle.heap_model.specs.Database.{has_resources, is_read_only}
@@ -22,18 +22,18 @@ abbrev pub are_resources : EntryKind → Bool
 are_resources Records = false
 are_resources Resources = true
 
--- what refuses a call on entries of a kind where there are those of the other
+-- the refusal of a call on entries of a kind, if there are entries of the other kind
 abbrev pub wrong_kind : EntryKind → Refusal
 wrong_kind Records = NotRecordDatabase
 wrong_kind Resources = NotResourceDatabase
 
--- a database with these attributes holds entries of the other kind
+-- a database with these attributes has entries of the other kind
 abbrev pub HasOtherKind : ℕ → EntryKind → Type 0
 HasOtherKind attributes kind = has_resources attributes ≡ not (are_resources kind)
 
 -- ---- checks
 
--- those of the attributes of a database: a call that writes looks at one more
+-- the checks of the attributes of a database: a call that writes makes one more
 abbrev pub attribute_checks : ℕ → EntryKind → Access → List Check
 attribute_checks attributes kind Read = (HasOtherKind attributes kind brings wrong_kind kind) ∷ []
 attribute_checks attributes kind Write = (HasOtherKind attributes kind brings wrong_kind kind) ∷ ((is_read_only attributes ≡ true) brings ReadOnly) ∷ []
@@ -41,32 +41,32 @@ attribute_checks attributes kind Write = (HasOtherKind attributes kind brings wr
 abbrev pub other_kind : Store → Db → EntryKind → Check
 other_kind store db kind = In store db (λ database. HasOtherKind database.header.attributes kind) brings wrong_kind kind
 
--- those of a database, and other checks behind them
+-- the checks of a database, and other checks after them
 abbrev pub opening_checks : List ℕ → Db → EntryKind → Access → List Check → List Check
 opening_checks image db kind Read others = no_database (store_of image) db ∷ other_kind (store_of image) db kind ∷ others
 opening_checks image db kind Write others = no_database (store_of image) db ∷ other_kind (store_of image) db kind ∷ read_only (store_of image) db ∷ others
 
--- those of an entry
+-- the checks of an entry at an index
 abbrev pub finding_checks : List ℕ → Db → ℕ → EntryKind → Access → List Check
 finding_checks image db index kind access = opening_checks image db kind access (no_entry (store_of image) db index ∷ [])
 
 -- ---- an entry of the image
 
--- this is told of the entry at an index
+-- the information is that of the entry at an index
 abbrev pub IsTold : List ℕ → Db → ℕ → heard.Entry → Type 0
 IsTold image db index entry = OfEntry (entry_under (store_of image) db index) (Tells entry)
 
--- what is told is of a record, or of a resource
+-- the information is on a record, or on a resource, as the kind is
 abbrev pub IsOfKind : EntryKind → heard.Entry → Type 0
 IsOfKind Records (entries.Record info) = Unit {0}
 IsOfKind Records (entries.Resource info) = ⊥
 IsOfKind Resources (entries.Record info) = ⊥
 IsOfKind Resources (entries.Resource info) = Unit {0}
 
--- a chunk that callers may name has this name
+-- callers may name a chunk by this name
 abbrev pub IsNamed : List ℕ → ℕ → Type 0
 IsNamed image name = IsSome ((store_of image).map name)
 
--- and it is locked
+-- callers may name a chunk by this name, and it is locked
 abbrev pub IsLockedChunk : List ℕ → ℕ → Type 0
 IsLockedChunk image name = Of ((store_of image).map name) IsLocked

@@ -8,7 +8,7 @@ use Rattle.heap_model.specs.StoreWords.{with_number}
 abbrev pub HasNumber : List ℕ → ℕ → Type 0
 HasNumber image db = IsSome (with_number (store_of image) db)
 
--- and it is this one
+-- the database of this number in the store that the image means
 abbrev pub HasDatabase : List ℕ → ℕ → Database ℕ → Type 0
 HasDatabase image db database = with_number (store_of image) db ≡ Some (record { db = db; database = database })
 
@@ -27,6 +27,7 @@ pub record HasOtherName (image : List ℕ) (db : ℕ) (name : List ℕ) (other :
   pub apart : other ≢ db
   pub named : name_under image other ≡ name
 
--- the slots that the header under a number has, those of the info blocks first
+-- the slots in the header and the entries of the database under a number, those of the info blocks
+-- first
 abbrev pub named_under : List ℕ → ℕ → List ℕ
 named_under image db = data_in (database_in (bytes_under image db))

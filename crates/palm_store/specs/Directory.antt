@@ -1,5 +1,5 @@
--- What making and deleting a database leaves of the directory: a slot that is listed last, with a chunk for
--- its header, and one that is listed no longer.
+-- The directory after a database is made or deleted: a slot is listed last, with a chunk for its
+-- header, or is listed no longer.
 use Rattle.std.specs.Prelude.{◌≡◌, ◌≢◌, ◌<◌, ◌+◌, ◌*◌, ◌++◌, ◌⊎◌, ℕ, List, length, take, drop, None, Some}
 use Rattle.heap_model.specs.Bytes.{u32_bytes}
 use Rattle.heap_model.specs.Chunk.{need, managers_owner}
@@ -10,9 +10,9 @@ use Rattle.heap_model.specs.Space.{Still, ShortFor}
 use Rattle.heap_model.specs.Store.{directory_bytes}
 use Rattle.mem_manager.specs.Lookup.{HasNoRoomFor}
 
--- The new image is an accepted heap of the same length with the same slots, whose directory lists this slot
--- behind those of the old one. The directory is the same chunk, or one is made where there was none; every
--- other name stands for what it stood for. No chunk that stays has moved.
+-- The new image is an accepted heap of the same length with the same slots. Its directory lists
+-- this slot after those of the old one. The directory is the same chunk, or is made if there was
+-- none. Every other name stands for the same as before. No chunk that stays has moved.
 pub record ListsLast (old new : List ℕ) (slot : ℕ) : Type 0 where
   pub accepted : HeapAccepted new
   pub len : length new ≡ length old
@@ -23,8 +23,8 @@ pub record ListsLast (old new : List ℕ) (slot : ℕ) : Type 0 where
   pub last : directory_bytes new ≡ directory_bytes old ++ u32_bytes slot
   pub others : (name : ℕ) → name ≢ directory_of new → held new name ≡ held old name
 
--- The same, where the slot stood for nothing, and is the name of a chunk of the manager's with these bytes
--- now.
+-- The same, if the slot stood for nothing, and now is the name of a chunk of the manager's with
+-- these bytes.
 pub record ListsNew (old new : List ℕ) (slot : ℕ) (bytes : List ℕ) : Type 0 where
   pub accepted : HeapAccepted new
   pub len : length new ≡ length old
@@ -38,15 +38,16 @@ pub record ListsNew (old new : List ℕ) (slot : ℕ) (bytes : List ℕ) : Type 
   pub chunk : held new slot ≡ Some (record { bytes = bytes; lock = 0; owner = managers_owner })
   pub others : (name : ℕ) → name ≢ slot → name ≢ directory_of new → held new name ≡ held old name
 
--- a directory of one slot can't be made where there is none, or the one that there is can't grow by a slot
+-- There is no directory and no room for one with one slot, or there is one and it can't grow by a
+-- slot.
 abbrev pub HasNoRoomToList : List ℕ → Type 0
 HasNoRoomToList image =
     ((directory_of image ≡ 0) × HasNoRoomFor image slot_size)
     ⊎ ((0 < directory_of image) × ShortFor image (directory_of image) (need (length (directory_bytes image) + slot_size)))
 
--- The new image is an accepted heap of the same length with the same slots, and the directory is the same
--- chunk. It has the bytes of the old one but the four of the slot at this index. Every other name stands for
--- what it stood for, and no chunk that stays has moved.
+-- The new image is an accepted heap of the same length with the same slots, and the directory is
+-- the same chunk. It has the bytes of the old one without the four of the slot at this index. Every
+-- other name stands for the same as before. No chunk that stays has moved.
 pub record Unlists (old new : List ℕ) (index : ℕ) : Type 0 where
   pub accepted : HeapAccepted new
   pub len : length new ≡ length old

@@ -1,4 +1,4 @@
--- What the calls on entries ask and promise of the store that an image means, by the image.
+-- The preconditions and postconditions of the calls on entries, on the store that an image means.
 use Rattle.std.specs.Prelude.{◌≡◌, ◌≢◌, ◌<◌, ◌≤◌, ℕ, Bool, true, false, List, [], length, Option, Some, None}
 use Rattle.heap_model.specs.Memory.{Memory}
 use Rattle.heap_model.specs.Chunk.{fixed_lock, data_owner}
@@ -28,14 +28,14 @@ resources_of_image image db = resources_under (store_of image) db
 abbrev pub data_of_image : List ℕ → Db → ℕ → ℕ
 data_of_image image db index = data_under (store_of image) db index
 
--- the database has these attributes, and so many entries
+-- the database has these attributes; and below, this number of entries
 abbrev pub HasDbAttributes : List ℕ → Db → ℕ → Type 0
 HasDbAttributes image db attributes = In (store_of image) db (λ database. database.header.attributes ≡ attributes)
 
 abbrev pub HasCount : List ℕ → Db → ℕ → Type 0
 HasCount image db count = count ≡ length (entries_of_image image db)
 
--- this is heard of an index: what the entry there says, or that there is none
+-- the information on an index: that of the entry there, or none if there is no entry
 abbrev pub IsHeard : List ℕ → Db → ℕ → Option heard.Entry → Type 0
 IsHeard image db index None = length (entries_of_image image db) ≤ index
 IsHeard image db index (Some entry) = OfEntry (entry_under (store_of image) db index) (Tells entry)
@@ -59,7 +59,7 @@ MayBeGiven image name = Of ((store_of image).map name) (λ live. (live.owner ≢
 abbrev pub MayHave : List ℕ → Db → ℕ → EntryInfo → Type 0
 MayHave image db index info = CanHave (store_of image) db (resources_of_image image db) index info
 
--- ---- what refuses a call
+-- ---- the checks of a call
 
 abbrev pub checks_of_making : List ℕ → Db → ℕ → List Check
 checks_of_making image db size = making_checks image (store_of image) db size
@@ -67,30 +67,31 @@ checks_of_making image db size = making_checks image (store_of image) db size
 abbrev pub checks_of_attaching : List ℕ → Db → List Check
 checks_of_attaching image db = attaching_checks image (store_of image) db
 
--- whether a database can take a name's chunk
+-- the checks of a name's chunk that a database takes
 abbrev pub checks_of_giving : List ℕ → ℕ → List Check
 checks_of_giving image name = giving_checks (store_of image).map name []
 
 abbrev pub checks_of_growth : Memory → ℕ → ℕ → List Check
 checks_of_growth memory name size = growth_checks memory (store_of memory.bytes).map name size
 
--- ---- what a call leaves
+-- ---- the effect of a call
 
--- the store that is left is what the old one becomes by a change
+-- the new image means the changed store of the old one
 abbrev pub LeavesChanged : Memory → Memory → (Store → Store) → Type 0
 LeavesChanged old new change = LeavesStore old.bytes new.bytes (change (store_of old.bytes))
 
--- a store where a database counts a call more, if that is asked
+-- a store in which a database counts one call more, if that is asked
 abbrev pub raised_if : Bool → Store → Db → Store
 raised_if true store db = raised store db
 raised_if false store db = store
 
--- an entry that was made of what the caller said is there, with its data under a slot, and the call is counted
+-- The entry that was made from the caller's information is there, with its data under a slot. The
+-- database counts the call.
 abbrev pub LeavesMade : Memory → Memory → Db → ℕ → NewEntry → ℕ → ℕ → Type 0
 LeavesMade old new db at entry slot size =
     (made : Entry ℕ) × IsMadeOf (store_of old.bytes) db entry slot made × LeavesChanged old new (λ store. raised (entry_made store db at made size) db)
 
--- the same, where its data is a chunk that was a caller's
+-- the same, if its data is a chunk that was a caller's
 abbrev pub LeavesAttached : Memory → Memory → Db → ℕ → NewEntry → ℕ → Type 0
 LeavesAttached old new db at entry slot =
     (made : Entry ℕ) × IsMadeOf (store_of old.bytes) db entry slot made × LeavesChanged old new (λ store. raised (entry_attached store db at made) db)
@@ -98,7 +99,8 @@ LeavesAttached old new db at entry slot =
 abbrev pub entry_informed : Store → Db → ℕ → EntryInfo → Store
 entry_informed store db index info = entry_changed store db index (with_info info)
 
--- the same, where its data is a caller's chunk, and the chunk that it had gets an owner
+-- A store in which an entry gets information and a caller's chunk for its data. The chunk of its
+-- old data gets an owner.
 abbrev pub entry_given : Store → Db → ℕ → EntryInfo → ℕ → ℕ → Store
 entry_given store db index info name owner = entry_swapped store db index (with_info info) name owner
 

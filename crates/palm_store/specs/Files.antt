@@ -1,4 +1,4 @@
--- What the calls for files ask and promise of the store that an image means.
+-- The preconditions and postconditions of the calls for files, on the store that an image means.
 use Rattle.std.specs.Prelude.{◌≡◌, ◌⊎◌, ℕ, List, length}
 use Rattle.heap_model.specs.Chunk.{data_owner}
 use Rattle.heap_model.specs.Leaving.{rewritten}
@@ -10,10 +10,10 @@ use Rattle.heap_model.specs.EntrySteps.{with_chunks}
 abbrev pub IsDataName : List ℕ → ℕ → Type 0
 IsDataName image name = (name ≡ 0) ⊎ (owner_under image name ≡ data_owner)
 
--- a name stands for a chunk for data of so many bytes, which has no lock
+-- a name stands for a chunk for data with `count` bytes, which has no lock
 abbrev pub HasDataOf : List ℕ → ℕ → ℕ → Type 0
 HasDataOf image name count = Of ((store_of image).map name) (λ live. (live.owner ≡ data_owner) × (live.lock ≡ 0) × (length live.bytes ≡ count))
 
--- a store where the chunk under a name has these bytes
+-- a store in which the chunk under a name has these bytes
 abbrev pub data_filled : Store → ℕ → List ℕ → Store
 data_filled store name bytes = with_chunks store (rewritten store.map name bytes)

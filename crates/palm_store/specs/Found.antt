@@ -1,2 +1,2 @@
--- Where the chunk of a database stands, for the crates above.
+-- The chunk of a database in its current state, for the crates above.
 pub use Rattle.mem_manager.specs.Lookup.{StandsAs}

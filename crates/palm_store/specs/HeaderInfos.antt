@@ -1,9 +1,9 @@
--- What stays of a header that is set.
+-- The fields of a header that stay when it is set.
 use Rattle.std.specs.Prelude.{◌≡◌}
 use Rattle.heap_model.specs.Database.{has_resources}
 use Rattle.db_format.specs.declared.header.DbHeader.{DbHeader}
 
--- the info blocks stay, and so do the number of the entries and which kind they are of
+-- the info blocks, the number of the entries and their kind stay
 pub record KeepsEntries (old new : DbHeader) : Type 0 where
   pub app_info : new.app_info ≡ old.app_info
   pub sort_info : new.sort_info ≡ old.sort_info

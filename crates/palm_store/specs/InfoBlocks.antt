@@ -7,10 +7,10 @@ use Rattle.heap_model.specs.DatabaseSteps.{info_block_under}
 use Rattle.heap_model.specs.declared.names.Db.{Db}
 use Rattle.heap_model.specs.declared.names.Which.{Which}
 
--- the name of an info block; 0 where there is none
+-- the name of an info block, or 0 if there is none
 abbrev pub block_of_image : List ℕ → Db → Which → ℕ
 block_of_image image db which = info_block_under (store_of image) db which
 
--- what the calls look at first that change the info blocks of a database
+-- the first checks of the calls that change the info blocks of a database
 abbrev pub writing_checks : List ℕ → Db → List Check
 writing_checks image db = no_database (store_of image) db ∷ read_only (store_of image) db ∷ []

@@ -17,15 +17,16 @@ ids_in store db = filter_map unique_id (entries_in store db)
 abbrev pub StandFree : Store → KnownIds → Type 0
 StandFree store known = AreFree (ids_in store known.db) known.ids
 
--- neither has this entry, which comes to a database
+-- no record of the database has one of the IDs, and this entry, which comes to a database, doesn't
+-- either
 abbrev pub StandFreeBeside : Store → Entry ℕ → KnownIds → Type 0
 StandFreeBeside store entry known = (id : ℕ) → IsAmong known.ids id → (times id (ids_in store known.db) ≡ 0) × (HasId id entry → ⊥)
 
--- an entry has none of the IDs behind a change that it hadn't before
+-- after a change, an entry has none of the IDs that it didn't have before
 abbrev pub GetsNone : KnownIds → (Entry ℕ → Entry ℕ) → Type 0
 GetsNone known change = (id : ℕ) → IsAmong known.ids id → (entry : Entry ℕ) → HasId id (change entry) → HasId id entry
 
--- the image is accepted, and what is known of its IDs holds
+-- the image is accepted, and the IDs that are known to be free are free
 pub record IsStore (image : List ℕ) (known : KnownIds) : Type 0 where
   pub accepted : Accepted image
   pub free : StandFree (store_of image) known

@@ -11,8 +11,8 @@ use Rattle.mem_manager.specs.Loans.{OnLoan, out_checks}
 use Rattle.palm_store.specs.EntryCalls.{LeavesChanged}
 use Rattle.palm_store.specs.Files.{data_filled}
 
--- The bytes under a name were taken out, and zeros stand for them. Of the store nothing else has changed, and no chunk has
--- moved.
+-- The bytes under a name were taken out, and zeros stand for them. Nothing else of the store has
+-- changed, and no chunk has moved.
 pub record TakesOut (old new : Memory) (name : Name) (loan : OnLoan) : Type 0 where
   pub could : NoneHolds (out_checks old name.0)
   pub name_is : loan.name ≡ name
@@ -23,8 +23,8 @@ pub record TakesOut (old new : Memory) (name : Name) (loan : OnLoan) : Type 0 wh
   pub unmoved : MovesNothing old.bytes new.bytes
   pub rest : new ≡ record old { bytes = new.bytes; lent = new.lent }
 
--- The bytes under the name of a loan are the loan's. Of the store nothing else has changed, no chunk has moved, and nothing
--- is lent.
+-- The bytes under the name of a loan are those of the loan. Nothing else of the store has changed,
+-- no chunk has moved, and nothing is lent.
 pub record PutsBack (old new : Memory) (loan : OnLoan) : Type 0 where
   pub leaves : LeavesChanged old new (λ store. data_filled store loan.name.0 loan.part.bytes)
   pub unmoved : MovesNothing old.bytes new.bytes

@@ -1,5 +1,5 @@
--- The calls on a store by their kinds, and the reply of one that may be refused: what it answers, or the
--- refusal.
+-- The calls on a store by their kinds, and the reply to a call that may be refused: its result, or
+-- the refusal.
 use Rattle.std.specs.Prelude.{ℕ, Result}
 use Rattle.heap_model.specs.Memory.{Memory}
 use Rattle.heap_model.specs.MemorySteps.{MemoryCall, reply_of}
@@ -29,7 +29,7 @@ number_or_refused result = reply_of (λ number. replies.Number number) result
 abbrev pub name_or_refused : Result Name Refusal → Reply
 name_or_refused result = reply_of (λ name. replies.Named name) result
 
--- what the call that makes an entry answers, as a reply
+-- the result of the call that makes an entry, as a reply
 abbrev pub made_reply : ℕ × Name → Reply
 made_reply made = replies.Made made.0 made.1
 

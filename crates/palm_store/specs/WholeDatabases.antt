@@ -1,5 +1,5 @@
--- Databases that are made whole: what is asked for, the database that comes of it, and the chunks that the
--- store gains for its data.
+-- Whole new databases: the description of one, the database made from it, and the chunks that the
+-- store gets for its data.
 use Rattle.std.specs.Prelude.{◌≡◌, ◌≢◌, ◌≤◌, ◌<◌, ◌+◌, ◌++◌, ◌⊎◌, ℕ, Bool, true, false, List, [], ◌∷◌, length, map, drop, replicate, Option, Some, None, All}
 use Rattle.std.specs.List.{AllZip, filter_map}
 use Rattle.heap_model.specs.Chunk.{data_owner, managers_owner}
@@ -30,19 +30,19 @@ use Rattle.palm_store.specs.declared.databases.whole.WholeEntry.{WholeEntry}
 use Rattle.palm_store.specs.declared.databases.whole.WholeEntry.TheVariants as whole
 use Rattle.palm_store.specs.declared.databases.whole.BlockSizes.{BlockSizes}
 
--- ---- what is asked for
+-- ---- the description
 
 -- the size of an entry's data, if it is to have any
 abbrev pub size_of_data : WholeEntry → Option ℕ
 size_of_data (whole.Record attributes id size) = size
 size_of_data (whole.Resource kind id size) = Some size
 
--- the sizes of all that the database is to have data for: its info blocks, and then its entries
+-- the sizes of the data of the database: its info blocks, and then its entries
 abbrev pub data_sizes : BlockSizes → List WholeEntry → List (Option ℕ)
 data_sizes blocks entries = blocks.app_info ∷ blocks.sort_info ∷ map size_of_data entries
 
--- An entry can come to a database: it is a record with an ID, deleted where it has no data, or it is a
--- resource, as the database has them.
+-- An entry can come to a database. It is a record with an ID, and deleted if it has no data, or it
+-- is a resource, as the database has them.
 abbrev pub CanCome : Bool → WholeEntry → Type 0
 CanCome resources (whole.Record attributes id size) = (resources ≡ false) × (0 < id) × (id ≤ greatest_id) × (size ≡ None → is_deleted attributes ≡ true)
 CanCome resources (whole.Resource kind id size) = resources ≡ true
@@ -52,8 +52,8 @@ abbrev pub id_asked : WholeEntry → Option ℕ
 id_asked (whole.Record attributes id size) = Some id
 id_asked (whole.Resource kind id size) = None
 
--- These can be the header and the entries of a database: the name is one, the entries are as many as the
--- header says, 65,535 at most, and of its kind, and no two records have one ID.
+-- These can be the header and the entries of a database. The name is a database's name. The header
+-- gives the number of the entries, at most 65,535, and their kind. No two records have the same ID.
 pub record CanBeWhole (info : DbInfo) (entries : List WholeEntry) : Type 0 where
   pub name : IsDatabaseName info.name
   pub entry_count : info.entry_count ≡ length entries
@@ -63,7 +63,7 @@ pub record CanBeWhole (info : DbInfo) (entries : List WholeEntry) : Type 0 where
 
 -- ---- the database that comes
 
--- what the header says of the database alone
+-- the fields of the header that describe the database alone
 abbrev pub header_asked : DbInfo → DatabaseHeader
 header_asked info = record {
   name = info.name;
@@ -83,7 +83,8 @@ abbrev pub entry_named : WholeEntry → ℕ → Entry ℕ
 entry_named (whole.Record attributes id size) name = a_record attributes id name
 entry_named (whole.Resource kind id size) name = a_resource kind id name
 
--- the entries, each with its data under the name beside it; 0 stands where names are too few
+-- the entries, each with its data under the name at the same index, or under 0 if there are too few
+-- names
 abbrev pub entries_named : List WholeEntry → List ℕ → List (Entry ℕ)
 entries_named [] names = []
 entries_named (one ∷ more) [] = entry_named one 0 ∷ entries_named more []
@@ -93,7 +94,8 @@ abbrev pub first_of : List ℕ → ℕ
 first_of [] = 0
 first_of (name ∷ names) = name
 
--- the database with its data under these names: those of the info blocks first, and then those of the entries
+-- the database with its data under these names: those of the info blocks first, and then those of
+-- the entries
 abbrev pub whole_database : DbInfo → List WholeEntry → List ℕ → Database ℕ
 whole_database info entries names = record {
   header = header_asked info;
@@ -108,27 +110,27 @@ whole_database info entries names = record {
 abbrev pub numbers_in : List Name → List ℕ
 numbers_in names = map (λ name. name.0) names
 
--- For a size a name came, which stood for nothing, and stands for a chunk of so many zeros now; for none there
--- is no name.
+-- For a size, the name stood for nothing, and now stands for a chunk of `size` zeros for data,
+-- without a lock. For no size, the name is 0.
 abbrev pub IsGained : ChunkMap → ChunkMap → Option ℕ → ℕ → Type 0
 IsGained old new None name = name ≡ 0
 IsGained old new (Some size) name = (0 < name) × (old name ≡ None) × (new name ≡ Some (record { bytes = replicate size 0; lock = 0; owner = data_owner }))
 
--- A map gained a chunk of zeros for each of some sizes, with the owner of data and no lock, each under a name
--- of its own. Every other name stands for what it stood for.
+-- A map got a chunk of zeros for each given size, with the owner of data and no lock, each under a
+-- name of its own. Every other name stands for the same as before.
 pub record GainsZeros (old new : ChunkMap) (sizes : List (Option ℕ)) (names : List ℕ) : Type 0 where
   pub each : AllZip (IsGained old new) sizes names
   pub once : (name : ℕ) → 0 < name → times name names ≤ 1
   pub others : (name : ℕ) → (0 < name → times name names ≡ 0) → new name ≡ old name
 
--- The store gained a database, behind its others, with the header and the entries that were asked for, and
--- with a chunk of zeros for each info block and each data, under these names.
+-- The store got a database after its others, with the given header and entries. It has a chunk of
+-- zeros for each info block and each data, under these names.
 pub record GainsWhole (old new : Store) (db : ℕ) (info : DbInfo) (blocks : BlockSizes) (entries : List WholeEntry) (names : List ℕ) : Type 0 where
   pub databases : new.databases ≡ old.databases ++ record { db = db; database = whole_database info entries names } ∷ []
   pub map : GainsZeros old.map new.map (data_sizes blocks entries) names
 
--- The call has made the database, and may have made the directory for it. The image is accepted, as long as
--- before and with the same slots. No chunk that was locked or fixed has moved.
+-- The call has made the database, and may have made the directory for it. The image is accepted, as
+-- long as before and with the same slots. No chunk that was locked or fixed has moved.
 pub record MakesWhole (old new : List ℕ) (db : ℕ) (info : DbInfo) (blocks : BlockSizes) (entries : List WholeEntry) (names : List ℕ) : Type 0 where
   pub accepted : Accepted new
   pub gains : GainsWhole (store_of old) (store_of new) db info blocks entries names
@@ -144,11 +146,11 @@ pub record MakesWhole (old new : List ℕ) (db : ℕ) (info : DbInfo) (blocks : 
 abbrev pub whole_size : DbInfo → List WholeEntry → ℕ
 whole_size info entries = entry_offset (has_resources info.attributes) (length entries)
 
--- the parts may not all find room
+-- too few slots are free, or the parts, one after the other, can run out of room
 abbrev pub RunsOut : List ℕ → ℕ → List Part → Type 0
 RunsOut image slots parts = (free_slots image < slots) ⊎ Stuck (rooms image) parts
 
--- what refuses the call
+-- the checks of the call
 abbrev pub checks_of_whole : List ℕ → DbInfo → BlockSizes → List WholeEntry → List Check
 checks_of_whole image info blocks entries =
     taken (store_of image) 0 info.name
@@ -156,15 +158,15 @@ checks_of_whole image info blocks entries =
     ∷ may_run_out image (whole_slots image (data_sizes blocks entries)) (whole_parts image (whole_size info entries) (data_sizes blocks entries))
     ∷ []
 
--- ---- on the way
+-- ---- while the call is in progress
 
 -- each part found room in its turn, and these rooms are left
 abbrev pub Spends : List ℕ → List Part → List ℕ → Type 0
 Spends left [] rest = rest ≡ left
 Spends left (part ∷ parts) rest = (lowered : List ℕ) × LowersOne (rooms_for left part) lowered (taken_by part) × Spends lowered parts rest
 
--- Chunks for data of these sizes were made, and nothing else has changed: the heap is in the same frame, no
--- chunk that stays has moved, and no chunk has changed its stretch.
+-- Chunks for data of these sizes were made, and nothing else has changed. The heap is in the same
+-- frame, no chunk that stays has moved, and no chunk has changed its stretch.
 pub record MakesAll (old new : List ℕ) (sizes : List (Option ℕ)) (names : List ℕ) : Type 0 where
   pub gains : GainsZeros (held old) (held new) sizes names
   pub frame : SameFrame old new
@@ -173,10 +175,11 @@ pub record MakesAll (old new : List ℕ) (sizes : List (Option ℕ)) (names : Li
   pub stretches : KeepsStretches old new
   pub slots : free_slots old ≤ free_slots new + length (makings sizes)
 
--- The new image is an accepted heap of the same length with the same slots, whose directory lists this slot
--- behind those of the old one; it is the same chunk, or one is made where there was none. The slot stood for
--- nothing, and is the name of a chunk of the manager's with these bytes now. Chunks for data of these sizes
--- were made, and every other name stands for what it stood for. No chunk that stays has moved.
+-- The new image is an accepted heap of the same length with the same slots. Its directory lists
+-- this slot after those of the old one. It is the same chunk, or is made if there was none. The
+-- slot stood for nothing, and now is the name of a chunk of the manager's with these bytes. Chunks
+-- for data of these sizes were made, and every other name stands for the same as before. No chunk
+-- that stays has moved.
 pub record ListsWhole (old new : List ℕ) (slot : ℕ) (bytes : List ℕ) (sizes : List (Option ℕ)) (names : List ℕ) : Type 0 where
   pub accepted : HeapAccepted new
   pub len : length new ≡ length old
@@ -198,8 +201,8 @@ pub record MakesAndLists (old new : List ℕ) (slot : ℕ) (sizes : List (Option
   pub makes : MakesAll old mid sizes names
   pub lists : ListsLast mid new slot
 
--- Chunks of their own are under these names, where one isn't 0: each name stands there once, and none is locked or the
--- directory's.
+-- Each of these names that isn't 0 has a movable chunk of its own: the name occurs once, and the
+-- chunk is neither locked nor the directory.
 pub record AreOwnChunks (image : List ℕ) (names : List ℕ) : Type 0 where
   pub movable : (name : ℕ) → 0 < name → 0 < times name names → IsMovable image name
   pub unlocked : (name : ℕ) → 0 < name → 0 < times name names → Of (held image name) IsLocked → ⊥

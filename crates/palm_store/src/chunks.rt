@@ -1,4 +1,4 @@
-//! The chunk of a slot that a database has, or of a name that it is to have.
+//! Chunks of slots that a database has, and of names that it gets.
 
 ghost use Rattle.std.specs.Prelude.{◌≡◌, ◌<◌, OnOk, IfErr};
 ghost use Rattle.heap_model.specs.Lending.{KeepsLoan};
@@ -15,7 +15,7 @@ ghost use Rattle.palm_store.specs.EntryCalls.{MayBeGiven, checks_of_giving};
 use heap_model::{Name, Refusal};
 use mem_manager::{DATA_OWNER, FIXED_LOCK, Heap, MANAGERS_OWNER};
 
-/// Frees the chunk of a slot, if there is one. It has no lock, so that it isn't lent.
+/// Frees the chunk of a slot, if there is one. The chunk has no lock, so it isn't lent.
 #[inline(always)]
 pub(crate) fn free_chunk_of(heap: &mut Heap, slot: Name)
     requires heap { HeapAccepted heap.old.bytes }
@@ -33,7 +33,12 @@ pub(crate) fn free_chunk_of(heap: &mut Heap, slot: Name)
     }
 }
 
-/// Whether a database can take the chunk of a name. Refused: `InvalidHandle`, `OwnedByDatabase`, `ChunkFixed`.
+/// Checks that a database can take the chunk of a name.
+///
+/// # Errors
+/// - `InvalidHandle`: if the name is neither a caller's chunk nor data of a database.
+/// - `OwnedByDatabase`: if the chunk is one for data.
+/// - `ChunkFixed`: if the chunk is fixed.
 #[inline(always)]
 pub(crate) fn check_taken(heap: &Heap, name: Name) -> Result<(), Refusal>
     ensures may { OnOk result (MayBeGiven heap.now.bytes name.0) }

@@ -1,8 +1,9 @@
-//! What the calls that make, change and delete databases are made of: the directory, the header of a database,
-//! its info blocks, and the other chunks that a database names.
+//! The parts of the calls that make, change and delete databases: the directory, the header of a
+//! database, its info blocks, and the other chunks that a database names.
 //!
-//! A call that takes room for several chunks takes it for one after the other, and writes what they are to
-//! hold only once it has all of it. Where one is refused it gives back what it took.
+//! A call that takes room for several chunks takes it for one after the other. It writes their
+//! contents only once it has all of the room. If one chunk is refused, the call frees those that it
+//! made.
 
 mod blocks;
 mod clearing;

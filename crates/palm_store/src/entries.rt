@@ -1,4 +1,4 @@
-//! What the calls on the entries of databases are made of, for records and resources alike.
+//! The parts of the calls on the entries of databases, for records and resources alike.
 
 mod infos;
 mod known;

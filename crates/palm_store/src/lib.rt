@@ -1,13 +1,15 @@
-//! The store of a Palm OS device: movable chunks reached through handles, and databases made of them.
+//! The store of a Palm OS device: movable chunks reached through handles, and databases made of
+//! them.
 //!
-//! `Store` owns a region that is an accepted image. The contract of each method that is a call on chunks or
-//! databases is the step of the abstract store for that call: the reply is right, and what the image means
-//! afterwards is the store after the call. The image is still accepted, and no chunk that is locked or fixed,
-//! and still live, has moved.
+//! `Store` owns a region that is an accepted image. The contract of each method that is a call on
+//! chunks or databases is the step of the abstract store for that call. The reply is right, and the
+//! image afterwards means the store after the call. The image is still accepted. No chunk that is
+//! locked or fixed, and still live, has moved.
 //!
-//! A call on entries, whose crates are record_db and resource_db, looks first whether the database is there and
-//! holds entries of the kind, and, if it changes it, whether it may be written; then, where it takes an index,
-//! whether there are so many. `open_entries` and `find_entry` are these checks, in the order of the call's row.
+//! A call on entries is in the crates record_db and resource_db. It first checks that the database
+//! exists and has entries of the kind. If it changes the database, it then checks that the database
+//! isn't read-only. If it takes an index, it then checks that there is an entry at the index.
+//! `open_entries` and `find_entry` make these checks, in the order of the call's row.
 #![tactic(auto, using(laws_heap::proofs::KeptLoans::keeps_then, laws_heap::proofs::KeptLoans::keeps_itself))]
 
 mod chunks;

@@ -7,7 +7,7 @@ use crate::store::Store;
 use heap_model::Name;
 use mem_manager::FIXED_LOCK;
 
-/// Whether a chunk is locked: a fixed one is not.
+/// Returns whether a chunk is locked. A fixed chunk is not.
 #[inline(always)]
 pub fn is_locked(store: &Store, name: Name) -> bool
     requires { IsNamed store.now.bytes name.0 }

@@ -1,8 +1,8 @@
-//! What is asked of the databases of a store: by name, by index and by number.
+//! Look-ups of the databases of a store: by name, by index and by number.
 //!
-//! The functions take a heap of which the caller shows that its image is `Accepted`, the invariant of the
-//! store, and leave it as it is. Only names and indexes are searched for; a number costs the same however
-//! many databases there are.
+//! The functions take a heap and leave it as it is. The caller must prove that its image is
+//! `Accepted`, which is the invariant of the store. Only names and indexes are searched for. A
+//! number costs the same however many databases there are.
 
 mod directory;
 mod header;

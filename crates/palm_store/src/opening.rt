@@ -1,4 +1,4 @@
-//! What the calls look at first.
+//! The first checks of the calls on entries.
 
 ghost use Rattle.std.specs.Prelude.{◌≡◌, ◌<◌, [], length, OnOk, IfOk, IfErr};
 ghost use Rattle.heap_model.specs.Database.{has_resources};
@@ -14,14 +14,14 @@ use db_format::{DatabaseView, DbAttrs};
 use heap_model::{Db, Entry, Refusal};
 use mem_manager::Found;
 
-/// The entries that a call is on.
+/// The kind of the entries that a call acts on.
 #[derive(Clone, Copy)]
 pub enum EntryKind {
     Records,
     Resources,
 }
 
-/// How a call uses a database. One that is read-only may not be written.
+/// How a call uses a database. A read-only database may not be written.
 #[derive(Clone, Copy)]
 pub enum Access {
     Read,
@@ -29,7 +29,7 @@ pub enum Access {
 }
 
 impl EntryKind {
-    /// Whether the entries are resources.
+    /// Returns whether the entries are resources.
     fn are_resources(self) -> bool
         ensures { result ≡ are_resources self }
     {
@@ -39,7 +39,8 @@ impl EntryKind {
         }
     }
 
-    /// What refuses a call on entries of this kind where the database holds those of the other.
+    /// Returns the refusal of a call on entries of this kind, if the database has those of the
+    /// other kind.
     fn wrong_kind(self) -> Refusal
         ensures { result ≡ wrong_kind self }
     {
@@ -50,9 +51,14 @@ impl EntryKind {
     }
 }
 
-/// A database that holds entries of a kind and may be used so.
+/// Opens a database that has entries of a kind, for an access.
 ///
-/// Refused: `NoSuchDatabase`; `NotRecordDatabase` or `NotResourceDatabase`; `ReadOnly`, where it is to be written.
+/// The order is that of `opening_checks`.
+///
+/// # Errors
+/// - `NoSuchDatabase`: if no database has the number.
+/// - `NotRecordDatabase` or `NotResourceDatabase`: if it has entries of the other kind.
+/// - `ReadOnly`: if the access is `Access::Write` and the database is read-only.
 #[inline(always)]
 pub fn open_database<'a>(
     store: &'a Store,
@@ -73,17 +79,19 @@ pub fn open_database<'a>(
     Ok(database)
 }
 
-/// A database that was opened for a call.
+/// A database that is open for a call.
 #[derive(Clone, Copy)]
 pub struct Opened {
-    /// Its chunk, as it stands.
+    /// The chunk of the database, in its current state.
     pub chunk: Found,
     pub entry_count: u32,
 }
 
-/// A database that holds entries of a kind and may be used so, for a call that changes it.
+/// Opens a database that has entries of a kind, for an access, and returns its chunk and entry
+/// count.
 ///
-/// Refused: as `open_database`.
+/// # Errors
+/// The same as for `open_database`.
 #[inline(always)]
 pub fn open_entries(
     store: &Store,
@@ -109,9 +117,10 @@ pub fn open_entries(
     })
 }
 
-/// How many entries a database has that holds those of a kind and may be used so.
+/// Returns the number of entries of a database that has entries of a kind, for an access.
 ///
-/// Refused: as `open_database`.
+/// # Errors
+/// The same as for `open_database`.
 #[inline(always)]
 pub fn count_entries(store: &Store, db: Db, kind: EntryKind, access: Access) -> Result<u32, Refusal>
     ensures accepted { Accepted store.now.bytes }
@@ -128,14 +137,19 @@ pub fn count_entries(store: &Store, db: Db, kind: EntryKind, access: Access) -> 
 /// An entry, and the chunk of its database.
 #[derive(Clone, Copy)]
 pub struct EntryAt {
-    /// The chunk, as it stands.
+    /// The chunk of the database, in its current state.
     pub chunk: Found,
     pub entry: Entry,
 }
 
-/// What the entry of an index says, of a database that holds entries of a kind and may be used so.
+/// Returns the fields of the entry at an index, of a database that has entries of a kind, for an
+/// access.
 ///
-/// Refused: as `open_database`; `IndexOutOfRange`.
+/// The order is that of `finding_checks`.
+///
+/// # Errors
+/// - Those of `open_database`.
+/// - `IndexOutOfRange`: if there is no entry at the index.
 #[inline(always)]
 pub fn find_entry(
     store: &Store,
@@ -167,7 +181,7 @@ pub fn find_entry(
     })
 }
 
-/// Looks whether a database with these attributes holds entries of a kind and may be used so.
+/// Checks that a database with these attributes has entries of a kind and allows an access.
 #[inline(always)]
 fn check_attributes(attributes: DbAttrs, kind: EntryKind, access: Access) -> Result<(), Refusal>
     ensures kind { OnOk result (has_resources attributes.0 ≡ are_resources kind) }

@@ -1,8 +1,13 @@
-//! The store. Its calls stand in the modules below: those of the memory manager, that ask, that change a
-//! chunk where it stands, and that make, free and move chunks; those that take the bytes of a chunk out and put
-//! them back; the one that gives a store a chain of tables; those on databases and on their info blocks; those on
-//! entries, for the crates of records and resources; and those that make a whole database, fill its data and read
-//! it, for the crate of files.
+//! The store. Its calls are in the modules below:
+//!
+//! - `asking`, `changing`, `making`: the calls of the memory manager. They read, change a chunk at
+//!   its place, or make, free and move chunks.
+//! - `loans`: the calls that take the bytes of a chunk out and put them back.
+//! - `migrating`: the call that gives a store a chain of tables.
+//! - `databases`, `blocks`: the calls on databases and on their info blocks.
+//! - `entries`, `attributes`: the calls on entries, for the crates of records and resources.
+//! - `whole`, `files`: the calls that make a whole database, fill its data and read it, for the
+//!   crate of files.
 
 ghost use Rattle.std.specs.Prelude.{◌≡◌, ◌≢◌, ◌⊎◌, ◌↔◌, is_ok, IfOk, IfErr, OnOk, OnErr, Err, None};
 ghost use Rattle.heap_model.specs.Store.{Accepted};
@@ -35,14 +40,16 @@ use std::marker::Model;
 use store_check::{StoreFault, StoreSummary, check_store_from};
 use thiserror::Error;
 
-/// A region that is an accepted image. Contracts see the region's value alone. No method has a precondition but
-/// `check`, `put_back`, those on entries and those for files: what a call can't do it refuses. Neither its region
-/// nor its heap is handed out, so no byte of it is written but by its calls.
+/// A region that is an accepted image. Contracts see only the region's value. Only `check`,
+/// `put_back`, the methods on entries and those for files have a precondition. Every other method
+/// refuses a call that it can't do. The store gives neither its region nor its heap away, so only
+/// its calls write to them.
 #[derive(Drop)]
 pub struct Store {
     heap: Heap,
-    /// The IDs that a pass over the entries of a database has shown to be free. A call that gives a record an
-    /// ID leaves those behind it, and one that changes the directory, or all records, forgets them.
+    /// IDs that a pass over the entries of a database has found to be free. A call that gives a
+    /// record an ID keeps those after it. A call that changes the directory, or all records,
+    /// forgets all of them.
     known: KnownIds,
 }
 
@@ -57,8 +64,8 @@ impl Model for Store {
     ghost invariant = { λ store. IsStore store.heap.bytes store.known };
 }
 
-/// A region that is no accepted image, or for whose check memory was refused: unchanged, and what is
-/// wrong first.
+/// A region that is no accepted image, or for whose check an allocation failed. It contains the
+/// unchanged region, and the first fault.
 #[derive(Drop, Error)]
 #[error("{fault}")]
 pub struct NotAStore {
@@ -74,21 +81,22 @@ impl fmt::Debug for NotAStore {
     }
 }
 
-/// Why an image was not written, or not all of it.
+/// Why an image was not written, or not completely.
 #[derive(Clone, Copy, Debug, PartialEq, Eq, Error)]
 pub enum ImageFault {
-    /// A body is lent, so that its bytes are not there.
+    /// A body is lent, so its bytes are not in the image.
     #[error("Lent")]
     Lent,
-    /// A write failed, or took 0 bytes.
+    /// A write failed, or wrote 0 bytes.
     #[error("Write")]
     Write,
 }
 
 impl Store {
-    /// Takes a region that is an accepted image, and hands back any other. Takes memory for the check: a
-    /// mark for each slot, or with a chain of tables two for each word of the image, and then a bit for each
-    /// number up to the greatest ID, 32 KiB at least and 2 MiB at most; it is free again afterwards.
+    /// Makes a store of a region that is an accepted image, and returns any other region. The check
+    /// allocates a mark for each slot, or, with a chain of tables, two for each word of the image.
+    /// It then allocates a bit for each number up to the greatest ID, at least 32 KiB and at most 2
+    /// MiB. It frees this memory again.
     pub fn check(alloc: Global, region: Region) -> Result<Store, NotAStore>
         requires { region.lent ≡ None }
         ensures accepted { OnOk result (Accepted region.bytes) }
@@ -103,7 +111,8 @@ impl Store {
         Store::check_from(&alloc, region)
     }
 
-    /// `check`, where each growth asks for a grant. Only a refused growth is answered by `OutOfMemory`.
+    /// The same as `check`, but each allocation asks for a grant. It reports `OutOfMemory` only if
+    /// an allocation failed.
     pub fn check_from<A: Allowance>(memory: &A, region: Region) -> Result<Store, NotAStore>
         requires { region.lent ≡ None }
         ensures accepted { OnOk result (Accepted region.bytes) }
@@ -121,7 +130,8 @@ impl Store {
         }
     }
 
-    /// Takes a region whose caller knows that it is an accepted image, without a look at it.
+    /// Makes a store of a region without a check. The caller must prove that it is an accepted
+    /// image.
     pub(crate) fn of_accepted(region: Region) -> Store
         requires accepted { Accepted region.bytes }
         requires whole { region.lent ≡ None }
@@ -148,7 +158,7 @@ impl Store {
         }
     }
 
-    /// The counts of the chunks, which are walked for it, and of the databases.
+    /// Returns the counts of the chunks and of the databases. It walks the chunks.
     pub fn summary(&self) -> StoreSummary
         ensures { Summarizes self.now.bytes result }
     {
@@ -158,8 +168,8 @@ impl Store {
         }
     }
 
-    /// Writes the image, and flushes nothing. Where a write fails or takes 0 bytes, a front of it was
-    /// written. While something is lent, nothing is written.
+    /// Writes the image, and flushes nothing. If a write fails or writes 0 bytes, a prefix of the
+    /// image was written. While a body is lent, nothing is written.
     pub fn write_image<W: Write>(&self, writer: &mut Counted<W>) -> Result<(), ImageFault>
         ensures lent { (result ≡ Err ImageFault.Lent) ↔ (self.now.lent ≢ None) }
         ensures nothing { self.now.lent ≢ None → writer.new ≡ writer.old }

@@ -1,4 +1,4 @@
--- Writes of a text in parts: what went out is a front of it.
+-- Writes of a text in parts: the bytes written are a prefix of it.
 use Rattle.std.proofs.Common.{◌≡◌, ℕ, ◌<◌, ◌-◌, ◌≤◌, List, [], ◌++◌, length, take, drop, refl, sym, ap, ◌∙◌, subst, arith, append_assoc, append-nil, take-append-drop, take_at, length-append}
 use Rattle.std.specs.Prelude.{Option, Bool, ◌==◌, ◌&&◌, not, cond}
 use Rattle.std.proofs.lemmas.Bool.Decides.{nat_tests}

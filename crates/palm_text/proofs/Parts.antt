@@ -28,7 +28,7 @@ stops contents old new a b first = (front_more _ _ a b first.0, first.1, first.2
 pub nothing : {W : Type 0} (contents : W → Option (List ℕ)) (w : Writing W) → Writes contents w w [] true
 nothing contents w = (Appends-nil _, refl, refl)
 
--- a text, and a flush behind it
+-- a text, and a flush after it
 pub then_flush : {W : Type 0} (contents : W → Option (List ℕ)) (old between new : Writing W) (text : List ℕ) (ok : Bool) → Writes contents old between text true → Flushes contents between new ok → Puts contents old new text ok
 then_flush contents old between new text true all flush = record { between = between; writes = all; flushes = flush }
 then_flush contents old between new text false all flush = inr (record { between = between; writes = all; flushes = flush })

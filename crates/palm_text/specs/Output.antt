@@ -2,14 +2,16 @@
 use Rattle.std.specs.Prelude.{◌⊎◌, ℕ, Bool, true, false, List, Option}
 use Rattle.palm_text.specs.Counted.{Flushes, Writing, Writes}
 
--- All of a text was written and no write failed. Then the writer was flushed once, which succeeded or failed.
+-- All of a text was written without a fault, and then the writer was flushed once. `ok` says
+-- whether the flush succeeded.
 pub record WritesAndFlushes {W : Type 0} (contents : W → Option (List ℕ)) (old new : Writing W) (text : List ℕ) (ok : Bool) : Type 0 where
   pub between : Writing W
   pub writes : Writes contents old between text true
   pub flushes : Flushes contents between new ok
 
--- Success: all of the text was written, no write failed, and the flush after it succeeded. Failure: a prefix was
--- written, a write failed and nothing was flushed; or all of the text was written, and the flush failed.
+-- Success: all of the text was written without a fault, and the flush after it succeeded.
+-- Failure: a prefix was written, there was a fault, and nothing was flushed; or all of the text was
+-- written without a fault, and the flush failed.
 abbrev pub Puts : {W : Type 0} → (W → Option (List ℕ)) → Writing W → Writing W → List ℕ → Bool → Type 0
 Puts contents old new text true = WritesAndFlushes contents old new text true
 Puts contents old new text false = Writes contents old new text false ⊎ WritesAndFlushes contents old new text false

@@ -1,4 +1,4 @@
--- The text of pieces.
+-- The text of each piece, and of a line of pieces.
 use Rattle.std.specs.Prelude.{◌++◌, ◌==◌, ◌&&◌, not, nat_le, ℕ, Bool, if◌then◌else◌, List, [], ◌∷◌, codes, decimal}
 use Rattle.std.specs.List.{list_all}
 use Rattle.hex.specs.Hex.{encode_lower}
@@ -6,11 +6,11 @@ use Rattle.heap_model.specs.Bytes.{u16_bytes, u32_bytes}
 use Rattle.palm_text.specs.declared.pieces.Piece.{Piece}
 use Rattle.palm_text.specs.declared.pieces.Piece.TheVariants.{Text, Spelled, FourBytes, Number, Hex, Hex8, Hex16, Hex32}
 
--- what may stand in quotes: all from a space to `~` but `"`
+-- the bytes that quotes may contain: all from a space to `~`, except `"`
 abbrev pub is_printable : ℕ → Bool
 is_printable b = nat_le 32 b && nat_le b 126 && not (b == 34)
 
--- bytes with a quote behind them, and in quotes
+-- bytes with a quote after them, and bytes in quotes
 abbrev pub closed : List ℕ → List ℕ
 closed bytes = bytes ++ codes "\""
 
@@ -21,7 +21,7 @@ quoted bytes = codes "\"" ++ closed bytes
 abbrev pub marked_hex : List ℕ → List ℕ
 marked_hex bytes = codes "x:" ++ encode_lower bytes
 
--- bytes as scripts spell text: in quotes, where all of them may stand there
+-- bytes as scripts spell text: in quotes if all of them are printable, otherwise in hex
 abbrev pub spelled : List ℕ → List ℕ
 spelled bytes = if list_all is_printable bytes then quoted bytes else marked_hex bytes
 
@@ -35,7 +35,7 @@ piece_text (Hex8 number) = encode_lower (number ∷ [])
 piece_text (Hex16 number) = encode_lower (u16_bytes number)
 piece_text (Hex32 number) = encode_lower (u32_bytes number)
 
--- the pieces' texts, one behind another
+-- the texts of the pieces, one after another
 abbrev pub text_of : List Piece → List ℕ
 text_of [] = []
 text_of (piece ∷ pieces) = piece_text piece ++ text_of pieces

@@ -10,15 +10,15 @@ use std::io;
 use std::io::Write;
 use std::marker::Model;
 
-/// A writer with two counts that contracts alone see: its faults, which are writes of one byte or more
-/// that failed or took 0 bytes, and its flushes. Contracts also see how the last call ended, if that was a
-/// flush. Its bytes are those of the writer inside.
+/// A writer with two counts that only contracts see: its faults and its flushes. A fault is a write
+/// of one byte or more that failed or took 0 bytes. If the last call was a flush, contracts also
+/// see whether it succeeded. Its bytes are those of the writer inside.
 #[derive(Drop)]
 pub struct Counted<W: Write> {
     inner: W,
     faults: Tally,
     flushes: Tally,
-    /// Where the last call was a flush, whether that got through.
+    /// Whether the last call succeeded, if that was a flush.
     flushed: Option<bool>,
 }
 
@@ -34,7 +34,7 @@ impl<W: Write> Model for Counted<W> {
 }
 
 impl<W: Write> Counted<W> {
-    /// Counts from 0 on.
+    /// Wraps a writer, with both counts 0.
     pub fn new(inner: W) -> Counted<W>
         ensures { result ≡ writing inner 0 0 None }
     {
@@ -46,7 +46,7 @@ impl<W: Write> Counted<W> {
         }
     }
 
-    /// Gives the writer back.
+    /// Returns the writer inside.
     pub fn into_inner(self) -> W
         ensures { result ≡ self.writer }
     {
@@ -61,7 +61,7 @@ impl<W: Write> Counted<W> {
         inner
     }
 
-    /// Writes once: a front of `bytes`, whose length it answers.
+    /// Writes a prefix of `bytes` by one call of the writer, and returns its length.
     pub fn write(&mut self, bytes: &[u8]) -> io::Result<usize>
         ensures bound { WritesAtMost result bytes.now }
         ensures bytes { WriteAppends (W.contents self.old.writer) (W.contents self.new.writer)
@@ -82,7 +82,7 @@ impl<W: Write> Counted<W> {
         result
     }
 
-    /// Flushes the writer. A flush that fails counts as a flush, and not as a fault.
+    /// Flushes the writer. A failed flush counts as a flush, but not as a fault.
     pub fn flush(&mut self) -> io::Result<()>
         ensures { Flushes W.contents self.old self.new (is_ok result) }
     {

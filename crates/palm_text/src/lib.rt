@@ -1,8 +1,9 @@
 //! Text for writers whose faults are counted.
 //!
-//! A line is an array of `Piece`s, and `put_pieces` writes it. Either all of it is written, or a
-//! write failed, the writer's count rose, and a front of it was: `Writes` says so of every function here
-//! that writes. `put` flushes behind the text. Nothing takes memory.
+//! A line is an array of `Piece`s, and `put_pieces` writes it. If it succeeds, all of the line was
+//! written. If it fails, a prefix was written, and the writer's count of faults rose. `Writes`
+//! states this for every function here that writes. `put` also flushes after the text. Nothing
+//! allocates.
 #![tactic(auto)]
 
 mod counted;

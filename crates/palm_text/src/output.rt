@@ -1,4 +1,4 @@
-//! Writing all of some bytes, and flushing behind them.
+//! Writes all of some bytes, and flushes after them.
 
 ghost use Rattle.std.specs.Prelude.{is_ok};
 ghost use Rattle.palm_text.specs.Counted.{Writes};
@@ -13,8 +13,8 @@ use thiserror::Error;
 #[error("a write failed")]
 pub struct WriteFault;
 
-/// Writes all of `bytes`, and flushes nothing. After a write that fails or takes 0 bytes nothing more is
-/// written.
+/// Writes all of `bytes`, and doesn't flush. It stops at the first write that fails or takes 0
+/// bytes.
 pub fn put_all<W: Write>(out: &mut Counted<W>, bytes: &[u8]) -> Result<(), WriteFault>
     ensures { Writes W.contents out.old out.new bytes.now (is_ok result) }
 {
@@ -28,8 +28,8 @@ pub fn put_all<W: Write>(out: &mut Counted<W>, bytes: &[u8]) -> Result<(), Write
     Ok(())
 }
 
-/// Writes all of `bytes`, and flushes once. After a write that fails or takes 0 bytes nothing more is
-/// written, and nothing flushed.
+/// Writes all of `bytes`, and flushes once. At the first write that fails or takes 0 bytes it stops
+/// and doesn't flush.
 #[tactic(auto, using(crate::proofs::Parts::then_flush))]
 pub fn put<W: Write>(out: &mut Counted<W>, bytes: &[u8]) -> Result<(), WriteFault>
     ensures { Puts W.contents out.old out.new bytes.now (is_ok result) }

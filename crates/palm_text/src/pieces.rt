@@ -1,4 +1,4 @@
-//! Lines in pieces.
+//! Lines that are written piece by piece.
 
 ghost use Rattle.std.specs.Prelude.{◌≤◌, is_ok, length};
 ghost use Rattle.hex.specs.Hex.{encode_lower};
@@ -13,7 +13,7 @@ use byteorder::{BigEndian, ByteOrder};
 use itoa::Buffer;
 use std::io::Write;
 
-/// How many bytes are printed in hex at a time.
+/// The number of bytes that are printed in hex at a time.
 const TURN: usize = 32;
 
 /// A piece of a line.
@@ -21,14 +21,14 @@ const TURN: usize = 32;
 pub enum Piece<'a> {
     /// These bytes.
     Text(&'a [u8]),
-    /// A text as scripts spell it: in quotes, where each byte is a character from space to `~` but `"`,
-    /// and else as `x:` and two hex digits in lower case for each byte.
+    /// A text as scripts spell it. It is in quotes if each byte is a character from space to `~`,
+    /// except `"`. Otherwise it is `x:` and two hex digits in lower case for each byte.
     Spelled(&'a [u8]),
-    /// The four bytes of a number, as such a text: so a type or a creator is printed.
+    /// The four bytes of a number, as a spelled text. Types and creators are printed this way.
     FourBytes(u32),
     /// A number in decimal.
     Number(u32),
-    /// Two hex digits in lower case for each byte; nothing where there is none.
+    /// Two hex digits in lower case for each byte, and nothing for no bytes.
     Hex(&'a [u8]),
     /// A number in two hex digits in lower case.
     Hex8(u8),
@@ -38,7 +38,7 @@ pub enum Piece<'a> {
     Hex32(u32),
 }
 
-/// Writes pieces, one behind another.
+/// Writes pieces, one after another.
 pub fn put_pieces<W: Write>(out: &mut Counted<W>, pieces: &[Piece]) -> Result<(), WriteFault>
     ensures { Writes W.contents out.old out.new (text_of pieces.now) (is_ok result) }
 {
@@ -69,7 +69,7 @@ fn put_piece<W: Write>(out: &mut Counted<W>, piece: &Piece) -> Result<(), WriteF
     }
 }
 
-/// Writes the four bytes of a number as a text.
+/// Writes the four bytes of a number as a spelled text.
 fn put_four_bytes<W: Write>(out: &mut Counted<W>, number: u32) -> Result<(), WriteFault>
     ensures { Writes W.contents out.old out.new (spelled (u32_bytes number)) (is_ok result) }
 {
@@ -96,7 +96,7 @@ fn put_hex_32<W: Write>(out: &mut Counted<W>, number: u32) -> Result<(), WriteFa
     put_hex_turn(out, &bytes)
 }
 
-/// Writes bytes in hex, in turns, which take no memory.
+/// Writes bytes in hex, `TURN` at a time, so it needs no memory.
 pub(crate) fn put_hex<W: Write>(out: &mut Counted<W>, bytes: &[u8]) -> Result<(), WriteFault>
     ensures { Writes W.contents out.old out.new (encode_lower bytes.now) (is_ok result) }
 {

@@ -1,4 +1,4 @@
-//! Bytes as scripts spell text.
+//! Writes bytes as scripts spell text.
 
 ghost use Rattle.std.specs.Prelude.{◌≡◌, is_ok};
 ghost use Rattle.std.specs.List.{list_all};
@@ -11,7 +11,7 @@ use crate::output::{WriteFault, put_all};
 use crate::pieces::put_hex;
 use std::io::Write;
 
-/// Whether all of these may stand in quotes.
+/// Reports whether quotes may contain all of these bytes.
 pub fn are_printable(bytes: &[u8]) -> bool
     ensures { result ≡ list_all pieces.is_printable bytes.now }
 {
@@ -23,14 +23,14 @@ pub fn are_printable(bytes: &[u8]) -> bool
     true
 }
 
-/// Whether a byte may stand in quotes.
+/// Reports whether quotes may contain a byte.
 fn is_printable(byte: u8) -> bool
     ensures { result ≡ pieces.is_printable byte }
 {
     byte >= b' ' && byte <= b'~' && byte != b'"'
 }
 
-/// Writes bytes in quotes where all may stand there, and else in hex.
+/// Writes bytes in quotes if all are printable, and otherwise in hex.
 pub(crate) fn put_spelled<W: Write>(out: &mut Counted<W>, bytes: &[u8]) -> Result<(), WriteFault>
     ensures { Writes W.contents out.old out.new (spelled bytes.now) (is_ok result) }
 {
@@ -50,7 +50,7 @@ fn put_quoted<W: Write>(out: &mut Counted<W>, bytes: &[u8]) -> Result<(), WriteF
     }
 }
 
-/// Writes bytes and the quote behind them.
+/// Writes bytes and the quote after them.
 fn put_closed<W: Write>(out: &mut Counted<W>, bytes: &[u8]) -> Result<(), WriteFault>
     ensures { Writes W.contents out.old out.new (closed bytes.now) (is_ok result) }
 {

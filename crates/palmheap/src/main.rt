@@ -1,6 +1,6 @@
 //! The program `palmheap`, which makes, checks and changes heap images.
 //!
-//! What it does stands in the crate `palmheap_program`.
+//! The crate `palmheap_program` has its functions.
 #![tactic(auto)]
 
 use palmheap_program::{read_words, run};

@@ -1,4 +1,4 @@
--- Faults as numbers, and what is answered of a file and of an image.
+-- Faults as numbers, and the results for a file and for an image.
 use Rattle.std.specs.Prelude.{◌≡◌, ◌≢◌, ◌<◌, ◌≤◌, ◌⊎◌, ℕ, List, length}
 use Rattle.allowance.specs.Refusals.{GrowthRefused}
 use Rattle.heap_model.specs.Store.{Accepted}
@@ -40,7 +40,7 @@ bad_size = answer 4 0 0
 abbrev pub bad_slot_count : Answer
 bad_slot_count = answer 5 0 0
 
--- it is the fault of a file, an image or a script
+-- this is the fault of a file or of an image
 abbrev pub IsFault : Answer → Type 0
 IsFault found = 20 ≤ found.kind
 
@@ -81,9 +81,9 @@ of_store (BadName db) = answer 46 db 0
 of_store (SameName db) = answer 47 db 0
 of_store OutOfMemory = no_memory
 
--- ---- what is answered
+-- ---- results
 
--- a growth was refused, and that is the answer
+-- an allocation failed, and this is the result
 abbrev pub WantsMemory : Answer → Type 0
 WantsMemory found = (found ≡ no_memory) × GrowthRefused
 
@@ -91,11 +91,11 @@ WantsMemory found = (found ≡ no_memory) × GrowthRefused
 abbrev pub IsFileFault : List ℕ → Answer → Type 0
 IsFileFault file found = (fault : FileFault) × files.IsFirstFault file fault × (found ≡ of_file fault)
 
--- a file has no fault, or this is its first one
+-- the file has no fault, or this is its first one
 abbrev pub IsFileAnswer : List ℕ → Answer → Type 0
 IsFileAnswer file found = ((found ≡ no_fault) × files.HasNoFault file) ⊎ IsFileFault file found
 
--- A file is longer than what is read here, or this is its first fault, or a growth was refused.
+-- The file is longer than `most_bytes`, or this is its first fault, or an allocation failed.
 abbrev pub IsFileRefusal : List ℕ → Answer → Type 0
 IsFileRefusal file found = WantsMemory found ⊎ (((found ≡ too_large) × (most_bytes < length file)) ⊎ IsFileFault file found)
 
@@ -120,7 +120,7 @@ pub record HasCounts (image : List ℕ) (counts : Counts) : Type 0 where
   pub summarizes : Summarizes image summary
   pub counts_are : counts ≡ counts_of summary
 
--- An image is accepted, and these are its counts; or this is its first fault, or a growth was refused, and the counts are
--- what they were.
+-- The image is accepted, and these are its counts. Otherwise this is its first fault, or an
+-- allocation failed, and the counts are unchanged.
 abbrev pub IsImageAnswer : List ℕ → (old new : Counts) → Answer → Type 0
 IsImageAnswer image old new found = ((found ≡ no_fault) × HasCounts image new) ⊎ ((WantsMemory found ⊎ IsImageFault image found) × (new ≡ old))

@@ -1,29 +1,31 @@
--- Where the blocks of a file stand, as C sees them.
+-- The places of the blocks of a file, for C.
 use Rattle.std.specs.Prelude.{◌≡◌, ◌<◌, ◌⊎◌, ℕ, List, Option, Some, None, if◌then◌else◌, length, map, take, slice_range}
 use Rattle.heap_model.specs.Files.{HasNoFault, blocks_in}
 use Rattle.palmheap_c.specs.declared.answers.Answer.{Answer}
 use Rattle.palmheap_c.specs.declared.blocks.Block.{Block}
 use Rattle.palmheap_c.specs.Answers.{IsFileFault, WantsMemory, no_fault, no_room}
 
--- the bytes of a block of a file, if it is there
+-- the bytes of a block of a file, if there is one
 abbrev pub found : List ℕ → Block → Option (List ℕ)
 found file block = if block.is_there then Some (slice_range file block.start block.end) else None
 
--- the first of these are the blocks of a file, which has no fault and as many blocks as that
+-- the file has no fault, and the first `count` of these blocks are its blocks
 pub record AreBlocks (file : List ℕ) (blocks : List Block) (count : ℕ) : Type 0 where
   pub good : HasNoFault file
   pub counted : count ≡ length (blocks_in file)
   pub are : map (found file) (take count blocks) ≡ blocks_in file
 
--- a file has no fault, and more blocks than there is room for
+-- the file has no fault, and there are too few places for its blocks
 pub record HasMoreBlocks (file : List ℕ) (old new : List Block) (count : ℕ) : Type 0 where
   pub good : HasNoFault file
   pub counted : count ≡ length (blocks_in file)
   pub more : length old < count
   pub same : new ≡ old
 
--- The blocks of a file were put; or they are too many; or the file has a fault, or a growth was refused, and the caller's
--- blocks and the count are what they were.
+-- The result of the search for the blocks of a file. There are three cases:
+-- - The blocks were written.
+-- - There are too few places for them, and the places are unchanged.
+-- - The file has a fault, or an allocation failed. The places and the count are unchanged.
 abbrev pub IsBlocksAnswer : List ℕ → (old new : List Block) → (was count : ℕ) → Answer → Type 0
 IsBlocksAnswer file old new was count found =
     ((found ≡ no_fault) × AreBlocks file new count)

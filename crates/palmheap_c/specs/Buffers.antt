@@ -1,24 +1,25 @@
--- Bytes that are put into a buffer of the caller's.
+-- Bytes that are written into a buffer of the caller.
 use Rattle.std.specs.Prelude.{◌≡◌, ◌<◌, ◌≤◌, ◌++◌, ◌⊎◌, ℕ, List, length, drop}
 use Rattle.palmheap_c.specs.declared.answers.Answer.{Answer}
 use Rattle.palmheap_c.specs.Answers.{IsFileRefusal, no_fault, no_room}
 
--- The bytes stand at the front of the buffer, and its other bytes are what they were.
+-- The buffer begins with the bytes, and its other bytes are unchanged.
 pub record Fills (bytes old new : List ℕ) : Type 0 where
   pub fit : length bytes ≤ length old
   pub front : new ≡ bytes ++ drop (length bytes) old
 
--- The buffer is too short for the bytes, and is what it was.
+-- The buffer is too short for the bytes, and is unchanged.
 pub record IsTooShort (bytes old new : List ℕ) : Type 0 where
   pub too_short : length old < length bytes
   pub same : new ≡ old
 
--- The buffer got the bytes, or it is too short. The count is theirs either way.
+-- The buffer got the bytes, or it is too short. The count is the number of bytes in both cases.
 pub record PutsBytes (bytes old new : List ℕ) (count : ℕ) (found : Answer) : Type 0 where
   pub counted : count ≡ length bytes
   pub answered : ((found ≡ no_fault) × Fills bytes old new) ⊎ ((found ≡ no_room) × IsTooShort bytes old new)
 
--- The bytes of a file that are such were put; or the file is refused, and the buffer and the count are what they were.
+-- Bytes with `IsSuch` were written, or the buffer is too short for them. Otherwise the file is
+-- refused, and the buffer and the count are unchanged.
 abbrev pub IsBytesAnswer : (List ℕ → Type 0) → List ℕ → (old new : List ℕ) → (was count : ℕ) → Answer → Type 0
 IsBytesAnswer IsSuch file old new was count found =
     ((bytes : List ℕ) × IsSuch bytes × PutsBytes bytes old new count found)

@@ -1,4 +1,4 @@
-//! What the functions for files and images return: faults as numbers.
+//! The results of the functions for files and images: faults as numbers.
 
 ghost use Rattle.std.specs.Prelude.{◌≡◌, ◌≢◌};
 ghost use Rattle.palmheap_c.specs.Answers as answers;
@@ -7,7 +7,8 @@ use heap_check::HeapFault;
 use heap_model::{FileFault, Which};
 use store_check::StoreFault;
 
-/// What was found: the kind of a fault, or 0 if there is none, and the numbers that locate it, 0 if the kind has none.
+/// The result of a function: the kind of a fault and the numbers that locate it. The kind is 0 if
+/// there is no fault. A number is 0 if the kind doesn't have it.
 #[repr(C)]
 #[derive(Clone, Copy, Debug, PartialEq, Eq)]
 pub struct Answer {
@@ -29,7 +30,7 @@ pub(crate) const NO_MEMORY: Answer = Answer {
     entry: 0,
 };
 
-/// A buffer of the caller's is too short.
+/// A buffer of the caller is too short.
 pub(crate) const NO_ROOM: Answer = Answer {
     kind: 2,
     at: 0,
@@ -57,7 +58,7 @@ pub(crate) const BAD_SLOT_COUNT: Answer = Answer {
     entry: 0,
 };
 
-/// A kind that has no numbers.
+/// Returns a kind without numbers.
 fn plain(kind: u32) -> Answer
     ensures { result ≡ answers.answer kind 0 0 }
 {
@@ -68,14 +69,14 @@ fn plain(kind: u32) -> Answer
     }
 }
 
-/// A kind that has a number.
+/// Returns a kind with one number.
 fn numbered(kind: u32, at: u32) -> Answer
     ensures { result ≡ answers.answer kind at 0 }
 {
     Answer { kind, at, entry: 0 }
 }
 
-/// The fault of a file.
+/// Returns the fault of a file.
 pub(crate) fn of_file(fault: FileFault) -> Answer
     ensures is { result ≡ answers.of_file fault }
     ensures faulty { answers.IsFault result }
@@ -90,7 +91,7 @@ pub(crate) fn of_file(fault: FileFault) -> Answer
     }
 }
 
-/// The fault of an image.
+/// Returns the fault of an image.
 pub(crate) fn of_store(fault: StoreFault) -> Answer
     ensures is { result ≡ answers.of_store fault }
     ensures faulty { result ≢ answers.no_fault }
@@ -117,7 +118,7 @@ pub(crate) fn of_store(fault: StoreFault) -> Answer
     }
 }
 
-/// The fault of an image that is no heap.
+/// Returns the fault of an image that is no heap.
 fn of_heap(fault: HeapFault) -> Answer
     ensures is { result ≡ answers.of_heap fault }
     ensures faulty { result ≢ answers.no_fault }

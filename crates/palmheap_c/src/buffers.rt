@@ -1,4 +1,4 @@
-//! Results that go to a buffer of the caller's, and writes that fail.
+//! Results that go to a buffer of the caller, and writes that fail.
 
 ghost use Rattle.std.specs.Prelude.{◌≡◌, ◌<◌};
 ghost use Rattle.allowance.specs.Refusals.{GrowthRefused};
@@ -10,7 +10,8 @@ use allowance::failed;
 use palm_text::Counted;
 use std::alloc::Global;
 
-/// Copies bytes to the front of a buffer, if it has room for them. `count` gets their number, also if it has not.
+/// Copies bytes to the start of a buffer, if it has room for them. Sets `count` to their number in
+/// both cases.
 pub(crate) fn put_bytes(bytes: &[u8], buffer: &mut [u8], count: &mut usize) -> Answer
     ensures { PutsBytes bytes.now buffer.old buffer.new count.new result }
 {
@@ -22,7 +23,8 @@ pub(crate) fn put_bytes(bytes: &[u8], buffer: &mut [u8], count: &mut usize) -> A
     NO_FAULT
 }
 
-/// Takes note of a write into a vector that failed. A vector takes each write, unless it can't grow.
+/// Records that a write into a vector failed. A write into a vector fails only if an allocation
+/// failed.
 pub(crate) fn refused_write(alloc: Global, _out: &Counted<Vec<u8>>) -> Answer
     requires { 0 < _out.now.faults }
     ensures is { result ≡ no_memory }

@@ -1,12 +1,12 @@
-//! The counts of an image, as C sees them.
+//! The counts of an image, for C.
 
 ghost use Rattle.std.specs.Prelude.{◌≡◌};
 ghost use Rattle.palmheap_c.specs.Answers as answers;
 
 use store_check::StoreSummary;
 
-/// The counts of an accepted image: its size in bytes, its slots, its movable and its fixed chunks, the sizes of its
-/// free chunks together, and its databases.
+/// The counts of an accepted image: its size in bytes, its slots, its movable chunks, its fixed
+/// chunks, the bytes of its free chunks together, and its databases.
 #[repr(C)]
 #[derive(Clone, Copy, Debug, PartialEq, Eq)]
 pub struct Counts {

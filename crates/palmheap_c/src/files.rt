@@ -1,4 +1,5 @@
-//! Functions on PDB and PRC files (Palm OS File Format Specification). They keep nothing between calls.
+//! Functions on PDB and PRC files (Palm OS File Format Specification). They keep no state between
+//! calls.
 
 ghost use Rattle.std.specs.Prelude.{◌≡◌, ◌⊎◌, map, IfOk, IfErr};
 ghost use Rattle.heap_model.specs.Files.{HasNoFault, blocks_in};
@@ -18,10 +19,11 @@ use palm_text::Counted;
 use pdb_format::{Block as FileBlock, check_file, find_blocks};
 use std::alloc::Global;
 
-/// The most bytes that a file may have which is listed or rewritten: 16 MiB.
+/// The greatest size of a file that can be listed or rewritten: 16 MiB.
 const MOST_BYTES: usize = 1 << 24;
 
-/// Checks whether a database can be read from a file, and returns its first fault. Takes no memory.
+/// Checks whether a database can be read from a file, and returns its first fault. Allocates
+/// nothing.
 #[unsafe(no_mangle)]
 pub extern "C" fn palmheap_pdb_check(file: &[u8]) -> Answer
     ensures { IsFileAnswer file.now result }
@@ -32,8 +34,8 @@ pub extern "C" fn palmheap_pdb_check(file: &[u8]) -> Answer
     }
 }
 
-/// Finds where the blocks of a file stand: the AppInfo block, the SortInfo block, and the data of the entries in order.
-/// `count` gets their number, also if `blocks` is too short for them.
+/// Finds the places of the blocks of a file: the AppInfo block, the SortInfo block, and the data of
+/// the entries in order. Sets `count` to their number, also if `blocks` is too short for them.
 #[unsafe(no_mangle)]
 pub extern "C" fn palmheap_pdb_blocks(
     alloc: Global,
@@ -55,7 +57,7 @@ pub extern "C" fn palmheap_pdb_blocks(
     NO_FAULT
 }
 
-/// Where the blocks of a file stand.
+/// Returns the places of the blocks of a file.
 fn blocks_of(alloc: Global, file: &[u8]) -> Result<Vec<Option<FileBlock>>, Answer>
     ensures good { IfOk result (λ blocks. HasNoFault file.now) }
     ensures are { IfOk result (λ blocks. map (bytes_at file.now) blocks.items ≡ blocks_in file.now) }
@@ -70,8 +72,9 @@ fn blocks_of(alloc: Global, file: &[u8]) -> Result<Vec<Option<FileBlock>>, Answe
     }
 }
 
-/// Puts the canonical form of a file into a buffer: the file that is written of the database that it is read as.
-/// `count` gets its length, also if the buffer is too short for it.
+/// Writes the canonical form of a file into a buffer: the file that is written for the database
+/// that is read from the original file. Sets `count` to its size in bytes, also if the buffer is
+/// too short for it.
 #[unsafe(no_mangle)]
 pub extern "C" fn palmheap_canonical(
     alloc: Global,
@@ -87,7 +90,7 @@ pub extern "C" fn palmheap_canonical(
     }
 }
 
-/// The canonical form of a file.
+/// Returns the canonical form of a file.
 fn canonical_of(alloc: Global, file: &[u8]) -> Result<Vec<u8>, Answer>
     ensures ok { IfOk result (λ bytes. IsCanonical file.now bytes.items) }
     ensures err { IfErr result (IsFileRefusal file.now) }
@@ -104,8 +107,8 @@ fn canonical_of(alloc: Global, file: &[u8]) -> Result<Vec<u8>, Answer>
     }
 }
 
-/// Puts the listing of a file into a buffer, the text that the command `list` prints. `count` gets its length, also
-/// if the buffer is too short for it.
+/// Writes the listing of a file into a buffer: the text that the command `list` prints. Sets
+/// `count` to its size in bytes, also if the buffer is too short for it.
 #[unsafe(no_mangle)]
 pub extern "C" fn palmheap_pdb_list(
     alloc: Global,
@@ -121,7 +124,7 @@ pub extern "C" fn palmheap_pdb_list(
     }
 }
 
-/// The listing of a file.
+/// Returns the listing of a file.
 fn listing_of(alloc: Global, file: &[u8]) -> Result<Vec<u8>, Answer>
     ensures ok { IfOk result (λ text. IsListing file.now text.items) }
     ensures err { IfErr result (IsFileRefusal file.now) }

@@ -1,4 +1,4 @@
-//! Functions on images. They keep nothing between calls.
+//! Functions on images. They keep no state between calls.
 
 ghost use Rattle.std.specs.Prelude.{◌≡◌, ◌≢◌, ◌⊎◌, length};
 ghost use Rattle.allowance.specs.Refusals.{GrowthRefused};
@@ -13,8 +13,8 @@ use raw_region::Region;
 use std::alloc::Global;
 use store_check::check_store;
 
-/// Makes an image of all the bytes of a buffer, with this number of slots and no chunk in it. The layout is this
-/// project's own (docs/FORMAT.md).
+/// Makes an image of all the bytes of a buffer, with this number of slots and without chunks. The
+/// layout is this project's own (docs/FORMAT.md).
 #[unsafe(no_mangle)]
 pub extern "C" fn palmheap_new(alloc: Global, image: &mut [u8], slots: u16) -> Answer
     ensures made { result ≡ no_fault
@@ -41,8 +41,8 @@ pub extern "C" fn palmheap_new(alloc: Global, image: &mut [u8], slots: u16) -> A
     }
 }
 
-/// Checks whether some bytes are an accepted image, and returns its first fault. `counts` gets what it has, if it is
-/// accepted.
+/// Checks whether some bytes are an accepted image, and returns their first fault. If the image is
+/// accepted, sets `counts`.
 #[unsafe(no_mangle)]
 pub extern "C" fn palmheap_check(alloc: Global, image: &[u8], counts: &mut Counts) -> Answer
     ensures { IsImageAnswer image.now counts.old counts.new result }

@@ -1,8 +1,9 @@
-//! palmheap for callers in C, or in a language that can call C: a static library, whose functions `include/palmheap.h`
-//! declares.
+//! palmheap for callers in C, or in a language that can call C. It is a static library, and
+//! `include/palmheap.h` declares its functions.
 //!
-//! Each function takes what it reads as a pointer and a length, and writes to memory of the caller's. No function has a
-//! precondition on the bytes: it reports what is wrong with them. A parameter of the type `Global` takes no place in C.
+//! Each function takes its input as a pointer and a length, and writes to memory of the caller. No
+//! function has a precondition on the bytes: it reports their first fault. A parameter of the type
+//! `Global` has no counterpart in C.
 //!
 //! | module | does |
 //! |---|---|

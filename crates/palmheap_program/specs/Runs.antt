@@ -1,5 +1,6 @@
--- What `run` prints and writes. Where a definition ends in a `Bool`, it says whether all got through. Where one begins
--- with `short`, a line was refused for want of memory only where that holds.
+-- What `run` prints and writes. A definition that ends in a `Bool` has it true if all was written
+-- and flushed, and false if a write or a flush failed. If a definition has `short`, a line was
+-- refused as out of memory only if `short` holds.
 use Rattle.std.specs.Prelude.{◌≡◌, ◌≢◌, ◌⊎◌, ℕ, Bool, true, false, List, Option, Ok, Err}
 use Rattle.heap_model.specs.Memory.{Memory}
 use Rattle.palm_text.specs.Counted.{Flushes, Writing}
@@ -13,70 +14,75 @@ use Rattle.palm_text.specs.Output.{Puts}
 use Rattle.program_io.specs.declared.status.Status.{Status}
 use Rattle.program_io.specs.declared.status.Status.TheVariants.{Done, Refused, BadWords, ReadFault, WriteFault, NoMemory}
 
--- The image is no accepted one, and a line that starts with `bad` says why; or it is one and no script is
--- read from the text, and a line says why.
+-- The image is not accepted, and a line that starts with `bad` has the reason. Or it is accepted,
+-- but the script is refused, and a line has the reason.
 abbrev pub PutsRefusal : {V : Type 0} → (image script : List ℕ) → (V → Option (List ℕ)) → Writing V → Writing V → Bool → Type 0
 PutsRefusal image script contents old new ok =
     ((Accepted image → ⊥) × PutsBad contents old new ok)
     ⊎ (Accepted image × ((fault : LineFault) × (read_script script ≡ Err fault) × PutsFault fault contents old new ok))
 
--- The lines of a script were run, all of their text was written and no write failed, and then the writer
--- was flushed once, which got through or didn't. These are the files that the lines export.
+-- The lines of a script were run, all of their text was written, and no write failed. Then the
+-- writer was flushed once, and `ok` is whether the flush succeeded. These are the files that the
+-- lines export.
 pub record RunsAndFlushes {V : Type 0} (short : Type 0) (contents : V → Option (List ℕ)) (inputs : List (List ℕ)) (lines : List Line) (region : Memory) (old : Writing V) (region_after : Memory) (new : Writing V) (files : List (List ℕ)) (ok : Bool) : Type 0 where
   pub between : Writing V
   pub ran : RunsThroughShort short contents inputs lines region old region_after between files
   pub flushes : Flushes contents between new ok
 
--- A write failed in the reply line of some line of a script, which leaves this region; or the lines were
--- run, all of their text was written, no write failed, and the flush behind it did.
+-- A write failed in the reply line of a line of the script, which leaves this region. Or the lines
+-- were run, all of their text was written and no write failed, but the flush after it did.
 abbrev pub PrintingFails : {V : Type 0} → Type 0 → (V → Option (List ℕ)) → List (List ℕ) → List Line → Memory → Writing V → Memory → Writing V → Type 0
 PrintingFails short contents inputs lines region old region_after new =
     BreaksOffShort short contents inputs lines region old region_after new
     ⊎ ((files : List (List ℕ)) × RunsAndFlushes short contents inputs lines region old region_after new files false)
 
--- The lines of a script were run on a region, and their text printed and flushed; and the image that came
--- of it was written.
+-- The lines of a script were run on a region, and their text was printed and flushed. Then the new
+-- image was written.
 pub record RunsAndWrites {W V : Type 0} (short : Type 0) (inputs : List (List ℕ)) (lines : List Line) (region : Memory) (contents : V → Option (List ℕ)) (old new : Writing V) (image_contents : W → Option (List ℕ)) (image_old image_new : Writing W) (files : List (List ℕ)) (ok : Bool) : Type 0 where
   pub region_after : Memory
   pub prints : RunsAndFlushes short contents inputs lines region old region_after new files true
   pub accepted : Accepted region_after.bytes
   pub written : Puts image_contents image_old image_new region_after.bytes ok
 
--- The lines of a script were run on a region, and a write or a flush failed, behind which nothing was written:
--- it was one of their text, and no image was written; or it was one of the image, behind all of the text.
+-- The lines of a script were run on a region, and a write or a flush failed. Nothing was written
+-- after it. There are two cases:
+-- - It failed for the text of the lines, and no image was written.
+-- - It failed for the image, after all of the text.
 pub record EndsEarly {W V : Type 0} (short : Type 0) (inputs : List (List ℕ)) (lines : List Line) (region : Memory) (contents : V → Option (List ℕ)) (old new : Writing V) (image_contents : W → Option (List ℕ)) (image_old image_new : Writing W) : Type 0 where
   pub failed : ((region_after : Memory) × PrintingFails short contents inputs lines region old region_after new × (image_new ≡ image_old))
       ⊎ ((files : List (List ℕ)) × RunsAndWrites short inputs lines region contents old new image_contents image_old image_new files false)
 
--- These are the lines of the script of a text, and a region of these bytes, an accepted image.
+-- These are the lines of the script, and a region with the bytes of an accepted image.
 pub record ReadsAs (image script : List ℕ) (lines : List Line) (region : Memory) : Type 0 where
   pub image_is : region.bytes ≡ image
   pub before : Accepted image
   pub read : read_script script ≡ Ok lines
 
--- The script of a text was run on a region of these bytes, an accepted image, and its text printed and
--- flushed; and the image that came of it was written. These are the files that it exports.
+-- The script was run on a region with the bytes of an accepted image, and its text was printed and
+-- flushed. Then the new image was written. These are the files that the script exports.
 abbrev pub RunsScriptShort : {W V : Type 0} → Type 0 → (image script : List ℕ) → List (List ℕ) → (V → Option (List ℕ)) → Writing V → Writing V → (W → Option (List ℕ)) → Writing W → Writing W → List (List ℕ) → Bool → Type 0
 RunsScriptShort short image script inputs contents old new image_contents image_old image_new files ok =
     (lines : List Line) × (region : Memory) × ReadsAs image script lines region
     × RunsAndWrites short inputs lines region contents old new image_contents image_old image_new files ok
 
--- A write or a flush failed in `run`, and nothing was written after it: it was one of the line for a
--- refusal, and no image was written; or one behind it, in the text of the script's lines or in the image.
+-- A write or a flush failed in `run`, and nothing was written after it. There are two cases:
+-- - The image or the script is refused, it failed for the line with the reason, and no image was
+--   written.
+-- - It failed for the text of the script's lines, or for the image.
 abbrev pub RunBreaksOffShort : {W V : Type 0} → Type 0 → (image script : List ℕ) → List (List ℕ) → (V → Option (List ℕ)) → Writing V → Writing V → (W → Option (List ℕ)) → Writing W → Writing W → Type 0
 RunBreaksOffShort short image script inputs contents old new image_contents image_old image_new =
     (PutsRefusal image script contents old new false × (image_new ≡ image_old))
     ⊎ ((lines : List Line) × (region : Memory) × ReadsAs image script lines region
     × EndsEarly short inputs lines region contents old new image_contents image_old image_new)
 
--- the same, where nothing is known of memory
+-- the same, if nothing is known of memory
 abbrev pub RunsScript : {W V : Type 0} → (image script : List ℕ) → List (List ℕ) → (V → Option (List ℕ)) → Writing V → Writing V → (W → Option (List ℕ)) → Writing W → Writing W → List (List ℕ) → Bool → Type 0
 RunsScript image script inputs contents old new image_contents image_old image_new files ok = RunsScriptShort (Unit {0}) image script inputs contents old new image_contents image_old image_new files ok
 
 abbrev pub RunBreaksOff : {W V : Type 0} → (image script : List ℕ) → List (List ℕ) → (V → Option (List ℕ)) → Writing V → Writing V → (W → Option (List ℕ)) → Writing W → Writing W → Type 0
 RunBreaksOff image script inputs contents old new image_contents image_old image_new = RunBreaksOffShort (Unit {0}) image script inputs contents old new image_contents image_old image_new
 
--- what `run` wrote, by the status with which it ends, and the files that the script exports, where it was run
+-- what `run` wrote, by its status, and the files that the script exports, if it was run
 pub record EndsRun {W V : Type 0} (image script : List ℕ) (inputs : List (List ℕ)) (contents : V → Option (List ℕ)) (old new : Writing V) (image_contents : W → Option (List ℕ)) (image_old image_new : Writing W) (files : List (List ℕ)) (status : Status) : Type 0 where
   pub done : status ≡ Done → RunsScript image script inputs contents old new image_contents image_old image_new files true
   pub refused : status ≡ Refused → PutsRefusal image script contents old new true

@@ -1,22 +1,27 @@
-//! The program `palmheap`, as a function over a runtime and the words of the command line; and its command `run`.
+//! The program `palmheap`, as a function over a runtime and the words of the command line, and its
+//! command `run`.
 //!
-//! `cmd_run` is a function over bytes and counted writers, whose contract says which status comes when, what was written by
-//! then, and where a write failed; `cmd_run_from` is its form over any `Allowance`, which reports out of memory only if an
-//! allocation failed. The crate `image_commands` has the other commands.
+//! `cmd_run` works over bytes and counted writers. Its contract defines when it returns each
+//! status, what was written by then, and where a write failed. `cmd_run_from` is its form over any
+//! `Allowance`. It reports out of memory only if an allocation failed. The crates `image_commands`
+//! and `store_commands` have the other commands.
 //!
-//! The functions around it meet the system, as those of `image_commands` over paths do. Start at `run`.
+//! The other functions call the system, like the functions of `image_commands` over paths. Start
+//! with `run`.
 //!
 //! | module | does |
 //! |---|---|
 //! | `run_command` | the command `run`, over bytes: a script, run on an image |
 //! | `scripts` | the command `run`, over files |
-//! | `words` | takes the words of the command line |
-//! | `requests` | does what they ask for, and answers those that ask for no command |
+//! | `stores` | the commands `databases`, `export` and `import`, over files and folders |
+//! | `words` | reads the words of the command line |
+//! | `requests` | fulfils their request, and prints the text for words without a command |
 #![tactic(auto)]
 
 mod requests;
 mod run_command;
 mod scripts;
+mod stores;
 mod words;
 
 pub use requests::run;

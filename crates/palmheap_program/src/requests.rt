@@ -1,9 +1,10 @@
-//! What the words of the command line ask for.
+//! The requests of the words of the command line.
 
 ghost use Rattle.std.specs.Prelude.{◌≡◌, ◌≢◌, ◌⊎◌};
 ghost use Rattle.clap.specs.Values.{kind_of};
 
 use crate::scripts::run_script;
+use crate::stores::{databases, export, import};
 use clap::error::ErrorKind;
 use image_commands::{
     STANDARD_OUTPUT, canonical, check, fail, list, map, migrate, new, pack, unpack,
@@ -12,11 +13,12 @@ use program_io::command_line::{self, Request};
 use program_io::{Status, report_write_fault};
 use std::io::Input;
 use std::rt::Files;
+use store_commands::ImageChoice;
 
-/// Does what the words of the command line ask for, of which the first is the program's own name. What
-/// broke it off is on standard error then.
+/// Fulfils the request of the words of the command line. The first word is the program's own name.
+/// If the run fails, standard error has the reason.
 ///
-/// Which status comes of which files no contract can say: the stored runs of `test_program` show it.
+/// No contract can relate the status to the files. The stored runs of `test_program` test it.
 pub fn run<R: Files + Input + Print + Eprint + AllocGlobal>(rt: &R, words: &[String]) -> Status {
     match command_line::parse(rt.alloc(), words) {
         Ok(Request::New { size, slots, out }) => new(rt, size, slots, out),
@@ -35,12 +37,27 @@ pub fn run<R: Files + Input + Print + Eprint + AllocGlobal>(rt: &R, words: &[Str
         Ok(Request::Canonical { file, out }) => canonical(rt, file, out),
         Ok(Request::Unpack { file, folder }) => unpack(rt, file, folder),
         Ok(Request::Pack { folder, out }) => pack(rt, folder, out),
+        Ok(Request::Databases { image }) => databases(rt, image),
+        Ok(
+            Request::Export {
+                image,
+                folder,
+                names,
+            },
+        ) => export(rt, image, folder, names.as_slice()),
+        Ok(
+            Request::Import {
+                out,
+                size,
+                slots,
+                files,
+            },
+        ) => import(rt, out, ImageChoice { size, slots }, files.as_slice()),
         Err(error) => answer(rt, &error),
     }
 }
 
-/// Prints the text for words that ask for no command: what is wrong with them, or the help or the
-/// version that they ask for.
+/// Prints the text for words without a command: their error, or the help or the version.
 fn answer<R: Print + Eprint>(rt: &R, error: &clap::Error) -> Status
     ensures statuses { (result ≡ Status.Done) ⊎ (result ≡ Status.BadWords)
         ⊎ (result ≡ Status.WriteFault) ⊎ (result ≡ Status.NoMemory) }

@@ -19,11 +19,11 @@ use script_lines::parse_from;
 use std::alloc::Global;
 use std::io::Write;
 
-/// Runs a script on an image: prints the reply lines to `out`, and then writes the image to
-/// `image_out`. The files that the script exports go to `files`, once all that is done.
+/// Runs a script on an image. It prints the reply lines to `out`, and then writes the image to
+/// `image_out`. Last it puts the files that the script exports into `files`.
 ///
-/// A refused image or script prints why, the image before the script, and then nothing is run or
-/// written. After a write that fails nothing more is written.
+/// If the image or the script is refused, it prints the reason. It checks the image before the
+/// script. Nothing is run or written then. After a write fails, it writes nothing more.
 pub fn cmd_run<W: Write, V: Write>(
     alloc: Global,
     image: &[u8],
@@ -47,7 +47,7 @@ pub fn cmd_run<W: Write, V: Write>(
     cmd_run_from(&alloc, image, script, inputs, image_out, files, out)
 }
 
-/// `cmd_run`, where each growth asks for a grant.
+/// The same as `cmd_run`. Each allocation asks `memory` for a grant.
 pub fn cmd_run_from<A: Allowance, W: Write, V: Write>(
     memory: &A,
     image: &[u8],
@@ -74,7 +74,7 @@ pub fn cmd_run_from<A: Allowance, W: Write, V: Write>(
     }
 }
 
-/// `cmd_run_from`, on an image that lies in a region, of which nothing may be lent. It makes no copy of it.
+/// The same as `cmd_run_from`, on an image in a region. The region is not copied.
 pub fn run_region_from<A: Allowance, W: Write, V: Write>(
     memory: &A,
     region: Region,
@@ -102,8 +102,8 @@ pub fn run_region_from<A: Allowance, W: Write, V: Write>(
     }
 }
 
-/// The store of an image, and the script of a text. What is refused is said, the image before the
-/// script.
+/// Returns the store of an image, and the script of a text. It prints why one of them is refused.
+/// It checks the image before the script.
 fn read<'a, A: Allowance, V: Write>(
     memory: &A,
     region: Region,
@@ -141,7 +141,7 @@ fn read<'a, A: Allowance, V: Write>(
     }
 }
 
-/// Runs a script on a store of which nothing is lent, prints its reply lines, and then writes the image.
+/// Runs a script on a store, prints its reply lines, and then writes the image.
 fn run_script<A: Allowance, W: Write, V: Write>(
     memory: &A,
     mut store: Store,

@@ -12,8 +12,8 @@ use std::io;
 use std::io::BufWriter;
 use std::rt::Files;
 
-/// Runs `run`. All input files are read before the image is looked at, and the exported files are written
-/// once all else is done.
+/// Does the command `run`. It reads all input files before it checks the image. It writes the
+/// exported files last.
 pub(crate) fn run_script<R: Files + Print + Eprint + AllocGlobal>(
     rt: &R,
     image: &str,
@@ -41,8 +41,8 @@ pub(crate) fn run_script<R: Files + Print + Eprint + AllocGlobal>(
     }
 }
 
-/// Runs a script on an image, writes the image that comes of it, and answers the files that it exports.
-/// What broke it off is on standard error then.
+/// Runs a script on an image, writes the new image, and returns the files that the script exports.
+/// If it fails, standard error has the reason.
 fn run_to<R: Files + Print + Eprint + AllocGlobal>(
     rt: &R,
     image: Region,
@@ -73,7 +73,7 @@ fn run_to<R: Files + Print + Eprint + AllocGlobal>(
     );
     let (image_out, image_fault) = image_out.into_inner().into_parts();
     image_out.close();
-    // What is left in `out` behind a fault is thrown away, where dropping it would write again.
+    // After a fault, the bytes left in `out` are thrown away. Dropping `out` would write again.
     let (out, _) = out.into_inner().into_parts();
     let (_, fault) = out.into_parts();
     report_outcome(rt, status, &[(path, image_fault), (STANDARD_OUTPUT, fault)]);

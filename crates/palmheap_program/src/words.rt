@@ -9,8 +9,13 @@ use std::io::ErrorKind;
 use std::rt::Env;
 use std::{env, io};
 
-/// The words of the command line, the program's own name first. What keeps them from being read is on
-/// standard error then.
+/// Returns the words of the command line, with the program's own name first. If it fails, standard
+/// error has the reason.
+///
+/// # Errors
+///
+/// - `NoMemory`: if an allocation failed.
+/// - `BadWords`: if the words can't be read for another reason.
 pub fn read_words<R: Env + Eprint + AllocGlobal>(rt: &R) -> Result<Vec<String>, Status>
     ensures { IfErr result (λ status. (status ≡ Status.BadWords) ⊎ (status ≡ Status.NoMemory)) }
 {
@@ -23,7 +28,8 @@ pub fn read_words<R: Env + Eprint + AllocGlobal>(rt: &R) -> Result<Vec<String>, 
     }
 }
 
-/// Reports on standard error why the words of the command line can't be read, and returns the status.
+/// Prints on standard error why the words of the command line can't be read, and returns the
+/// status.
 fn fail_to_read_words<R: Eprint>(rt: &R, error: io::Error) -> Status
     ensures statuses { (result ≡ Status.BadWords) ⊎ (result ≡ Status.NoMemory) }
     ensures no_memory { error_kind error ≡ ErrorKind.OutOfMemory → result ≡ Status.NoMemory }

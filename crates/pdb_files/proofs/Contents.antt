@@ -1,4 +1,5 @@
--- The content of a database, which is given by its bytes: how many entries it has, and the one of an index.
+-- The content of a database, which is given by its bytes: how many entries it has, and the one of
+-- an index.
 use Rattle.std.proofs.Common.{◌≡◌, ℕ, suc, ◌+◌, ◌<◌, Option, List, [], ◌∷◌, length, map, get_or, drop, refl, sym, ap, ◌∙◌, arith, add-one, drop-cons}
 use Rattle.std.proofs.lemmas.List.{length-map, get_or-map}
 use Rattle.std.proofs.lemmas.List.FromFn.{length-map-range_with_len, get_or-map-range_with_len}
@@ -59,7 +60,7 @@ same_offset at other block same e f = ap (λ (n : ℕ). block_offset n block) e 
 
 -- ---- its header
 
--- where the first block stands
+-- where the first block is
 pub first_block_is : (chunks : ChunkMap) (bytes : List ℕ) → first_block (content chunks (database_in bytes)) ≡ entry_offset (resources_in bytes) (entry_count_in bytes) + 2
 unfolding database_in header_in
 first_block_is chunks bytes = ap (λ (n : ℕ). entry_offset (resources_in bytes) n + 2) (length-entries chunks bytes)

@@ -67,7 +67,7 @@ names_here image bytes db a is =
     ])
     )
 
--- it can be exported, where no block of it is lent
+-- it can be exported, if no block of it is lent
 pub exportable : (memory : Memory) (bytes : List ℕ) (db : ℕ) → Accepted memory.bytes → HasDatabase memory.bytes db (database_in bytes) → IsSpelled (database_in bytes) bytes → HasShape bytes → (Any (IsLent memory) (data_in (database_in bytes)) → ⊥) → IsExportable memory bytes
 exportable memory bytes db a has spelled shape unlent = record {
   shape = shape;

@@ -1,4 +1,4 @@
--- The parts of a file, one behind the other, and the entries and their data, one after the other.
+-- The parts of a file in their order, and the entries and their data, one after the other.
 use Rattle.std.proofs.Common.{◌≡◌, ℕ, ◌+◌, ◌<◌, ◌≤◌, Bool, true, false, Option, Result, Ok, Err, List, [], ◌∷◌, ◌++◌, length, drop, refl, sym, ap, subst, ◌∙◌, arith, append_assoc, length-append}
 use Rattle.std.proofs.lemmas.Grind.{common_steps}
 use Rattle.std.specs.Prelude.{IsErr, is_ok}
@@ -61,12 +61,12 @@ as_blocks contents old new d app sort ok app_is sort_is parts =
     subst (λ (text : List ℕ). Writes contents old new (text ++ (block_bytes d.sort_info ++ data_text d.entries)) ok) app_is
     (subst (λ (text : List ℕ). Writes contents old new (app ++ (text ++ data_text d.entries)) ok) sort_is parts)
 
--- a fault is handed on
+-- a fault is returned
 pub failed : {W A E : Type 0} (contents : W → Option (List ℕ)) (old new : Writing W) (text : List ℕ) (result : Result A E) → IsErr result → Writes contents old new text false → Writes contents old new text (is_ok result)
 failed contents old new text (Ok done) wrong first = absurd cc
 failed contents old new text (Err error) wrong first = first
 
--- an entry, and those behind it
+-- an entry, and those after it
 pub then_entry : {W : Type 0} (contents : W → Option (List ℕ)) (old mid new : Writing W) (chunks : ChunkMap) (bytes : List ℕ) (at i size : ℕ) (text : List ℕ) (ok : Bool) → i < entry_count_in bytes
     → text ≡ entry_bytes (file_entry chunks at (entry_in bytes i)) → size ≡ block_size (bytes_named chunks (entry_data (entry_in bytes i)))
     → Writes contents old mid text true → Writes contents mid new (entries_text (at + size) (drop (i + 1) (entries_of chunks bytes))) ok → Writes contents old new (entries_text at (drop i (entries_of chunks bytes))) ok
@@ -80,7 +80,7 @@ stops_entry contents old new chunks bytes at i text below is first = rw (text_fr
 pub no_entry : {W : Type 0} (contents : W → Option (List ℕ)) (w : Writing W) (chunks : ChunkMap) (bytes : List ℕ) (at i : ℕ) → entry_count_in bytes ≤ i → Writes contents w w (entries_text at (drop i (entries_of chunks bytes))) true
 no_entry contents w chunks bytes at i past = rw (none_left chunks bytes i past) (nothing contents w)
 
--- the data of an entry, and that of those behind it
+-- the data of an entry, and that of those after it
 pub then_data : {W : Type 0} (contents : W → Option (List ℕ)) (old mid new : Writing W) (chunks : ChunkMap) (bytes : List ℕ) (i slot : ℕ) (text : List ℕ) (ok : Bool) → i < entry_count_in bytes → slot ≡ entry_data (entry_in bytes i)
     → text ≡ block_bytes (bytes_named chunks slot) → Writes contents old mid text true → Writes contents mid new (data_text (drop (i + 1) (entries_of chunks bytes))) ok → Writes contents old new (data_text (drop i (entries_of chunks bytes))) ok
 then_data contents old mid new chunks bytes i slot text ok below at is first rest =

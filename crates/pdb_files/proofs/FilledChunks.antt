@@ -29,9 +29,9 @@ use Rattle.palm_store.specs.Files.{HasDataOf, data_filled}
 use Rattle.palm_store.proofs.TwoSteps.{with_bytes, rewritten_here, rewritten_apart}
 use Rattle.pdb_files.specs.Filling.{HasBlock, zeros_for, AreFilled, AreOnce, Refills}
 
--- ---- names that stand once
+-- ---- names that are in the list once
 
--- a number at two indexes stands there twice
+-- a number at two indexes is in the list twice
 twice : (xs : List ℕ) (i j : ℕ) → i < j → j < length xs → get_or xs i 0 ≡ get_or xs j 0 → 2 ≤ times (get_or xs j 0) xs
 twice [] i j less inside e = absurd (omega arith)
 twice (x ∷ xs) i zero less inside e = absurd (omega arith)
@@ -45,7 +45,7 @@ twice (x ∷ xs) (suc i) (suc j) less inside e =
     let more = twice xs i j (omega arith) (omega arith) e in
     omega arith
 
--- the names at two indexes are different ones, where the one isn't 0
+-- the names at two indexes are different, if one isn't 0
 pub names_apart : (names : List ℕ) (i j : ℕ) → AreOnce names → i < length names → j < length names → i ≢ j → 0 < get_or names i 0 → get_or names j 0 ≢ get_or names i 0
 names_apart names i j once inside other ne some e = elim (cases_lt i j) [
   | inl less ↦
@@ -131,7 +131,7 @@ some_shown : (o : Option LiveChunk) → IsSome (not_owned 0 o) → IsSome o
 some_shown None some = some
 some_shown (Some live) some = refl
 
--- where callers have no new name and the databases are the same, no name is new
+-- if callers have no new name and the databases are the same, no name is new
 none_new : (old new : List ℕ) → Accepted old → Accepted new → directory_of new ≡ directory_of old → databases new ≡ databases old → ((name : ℕ) → IsSome (callers_map new name) → IsSome (callers_map old name)) → MakesNone old new
 unfolding owner_under
 none_new old new before after directory same callers name there = elim (cases_eq (owner_under new name) 0) [

@@ -40,7 +40,7 @@ reached (room ∷ left) size = elim (cases_lt room size) [
   ]
 ]
 
--- where each room is lower than 4 GiB, and a chunk is to have that many bytes, the parts run out of room
+-- if each room is below 4 GiB, and a chunk needs 4 GiB or more, the parts run out of room
 stuck : (left : List ℕ) (sizes : List (Option ℕ)) (more : List Part) (k n : ℕ) → All (λ room. room < 2 ^ 32) left → k < length sizes → get_or sizes k None ≡ Some n → 2 ^ 32 ≤ n → Stuck left (makings sizes ++ more)
 stuck left [] more k n low inside is long = absurd (omega arith)
 stuck left (None ∷ sizes) more zero n low inside is long = absurd cc

@@ -1,4 +1,5 @@
--- A database that was made whole by a plan, and whose blocks are filled, is the one that is read from the file.
+-- A database that was made whole by a plan, and whose blocks are filled, is the one that is read
+-- from the file.
 use Rattle.std.proofs.Common.{◌≡◌, ℕ, zero, suc, ◌+◌, ◌<◌, ◌≤◌, Bool, Option, Some, None, List, [], ◌∷◌, length, get_or, map, drop, refl, sym, ap, subst, ◌∙◌, arith, inl, inr}
 use Rattle.std.specs.Prelude.{All}
 use Rattle.std.specs.List.{AllZip, filter_map}
@@ -178,11 +179,11 @@ imported old mid new file db plan names a good free few is makes refills many fi
 
 -- ---- what is refused
 
--- memory can be refused where nothing before it does
+-- the call can be refused with out of memory, if no check before that refuses
 pub no_memory_left : (old : Memory) (file : List ℕ) → Accepted old.bytes → HasNoFault file → (IsTaken (store_of old.bytes) 0 (name_in file) → ⊥) → length (store_of old.bytes).databases < most_databases → DoesInStore old (calls.File (Import file)) (replies.Refused OutOfMemory) old
 no_memory_left old file a good free few = refused old (calls.File (Import file)) OutOfMemory a (good_brings file _ OutOfMemory good (inr (free, inr ((λ most. omega arith), inl (tt, refl)))))
 
--- where there was no room all is as before
+-- if there was no room, all is as before
 pub no_room_left : (old new : Memory) (file : List ℕ) (plan : Plan) (refusal : Refusal) → Accepted old.bytes → HasNoFault file → (IsTaken (store_of old.bytes) 0 (name_in file) → ⊥) → length (store_of old.bytes).databases < most_databases → IsPlan file plan
     → FirstBrings (checks_of_whole old.bytes plan.info plan.sizes plan.entries.items) refusal → LeavesChanged old new (λ store. store) → StoreAsBefore old new → KeepsLoan old new → new ≡ record old { bytes = new.bytes; slid = new.slid }
     → DoesInStore old (calls.File (Import file)) (replies.Refused refusal) new

@@ -1,4 +1,4 @@
--- What refuses the call: the faults of the file, a name that is taken, and too many databases.
+-- The refusals of the call: a fault of the file, a name that is taken, and too many databases.
 use Rattle.std.proofs.Common.{◌≡◌, ◌≢◌, ℕ, ◌≤◌, ◌++◌, true, false, Result, Ok, Err, Option, Some, None, List, [], ◌∷◌, length, refl, sym, ap, subst, ◌∙◌, arith, inl, inr}
 use Rattle.std.specs.Prelude.{All, is_ok}
 use Rattle.std.specs.Option.{is_some}
@@ -44,7 +44,7 @@ pub fault_brings : (file : List ℕ) (fault : FileFault) (behind : List Check) �
 fault_brings file fault behind first =
     subst (λ (faults : List FileFault). FirstBrings (fault_checks file faults behind) (BadFile fault)) (sym first.order) (first_brings file first.before fault first.after behind first.earlier first.here)
 
--- where there is none, the other checks come
+-- if there is none, the other checks come
 passed_brings : (file : List ℕ) (faults : List FileFault) (behind : List Check) (refusal : Refusal) → All (λ other. HasFault file other → ⊥) faults → FirstBrings behind refusal → FirstBrings (fault_checks file faults behind) refusal
 passed_brings file [] behind refusal good brought = brought
 passed_brings file (one ∷ faults) behind refusal good brought =
@@ -61,7 +61,7 @@ passed_none file (one ∷ faults) behind good none =
 pub good_none : (file : List ℕ) (behind : List Check) → HasNoFault file → NoneHolds behind → NoneHolds (fault_checks file (file_faults file) behind)
 good_none file behind good none = passed_none file (file_faults file) behind good none
 
--- what some checks bring, they bring in front of others
+-- the refusals that some checks bring, they also bring before other checks
 then_brings : (file : List ℕ) (faults : List FileFault) (behind more : List Check) (refusal : Refusal) → (FirstBrings behind refusal → FirstBrings more refusal) → FirstBrings (fault_checks file faults behind) refusal → FirstBrings (fault_checks file faults more) refusal
 then_brings file [] behind more refusal onto brought = onto brought
 then_brings file (one ∷ faults) behind more refusal onto (inl here) = inl here
@@ -85,7 +85,7 @@ front_brings old file refusal brought = then_brings file (file_faults file) (fro
   onto (inr (free, inl many)) = inr (free, inl many)
   onto (inr (free, inr (few, none))) = absurd none
 
--- ---- none of what refuses a database that is made whole is want of memory
+-- ---- a database that is made whole is never refused with out of memory
 
 pub whole_not_memory : (image : List ℕ) (info : DbInfo) (blocks : BlockSizes) (entries : List WholeEntry) (refusal : Refusal) → FirstBrings (checks_of_whole image info blocks entries) refusal → refusal ≢ OutOfMemory
 whole_not_memory image info blocks entries refusal (inl taken) e = (let is = taken.1 in absurd cc)

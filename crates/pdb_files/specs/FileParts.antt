@@ -1,4 +1,4 @@
--- The parts of the file of a database, which is given by its bytes as they lie in an image.
+-- The parts of the file of a database, which is given by its bytes in an image.
 use Rattle.std.specs.Prelude.{◌≡◌, ◌+◌, ◌<◌, ◌^◌, ℕ, List, map, Option, All}
 use Rattle.std.specs.List.{flat_map}
 use Rattle.heap_model.specs.Memory.{Memory}
@@ -11,7 +11,7 @@ use Rattle.pdb_format.specs.Writable.{file_size}
 use Rattle.palm_store.specs.Files.{IsDataName}
 use Rattle.pdb_files.specs.declared.exporting.places.Places.{Places}
 
--- what a slot stands for in an image
+-- the block that a slot stands for in an image, if any
 abbrev pub block_under : List ℕ → ℕ → Option (List ℕ)
 block_under image slot = bytes_named (store_of image).map slot
 
@@ -19,28 +19,30 @@ block_under image slot = bytes_named (store_of image).map slot
 abbrev pub content_of : List ℕ → List ℕ → Database (Option (List ℕ))
 content_of image bytes = content (store_of image).map (database_in bytes)
 
--- a database names this, and its bytes may be read: it isn't lent
+-- a database names this slot, and its bytes may be read: it isn't lent
 pub record MayBeRead (memory : Memory) (slot : ℕ) : Type 0 where
   pub named : IsDataName memory.bytes slot
   pub here : IsLent memory slot → ⊥
 
--- the database that these bytes spell names chunks for data alone, of which none is lent
+-- the database that these bytes spell names only chunks for data, and none of them is lent
 abbrev pub NamesData : Memory → List ℕ → Type 0
 NamesData memory bytes = All (MayBeRead memory) (data_in (database_in bytes))
 
--- the bytes are those of a database of which no block is lent, whose file is short enough for offsets of four bytes
+-- the bytes are those of a database of which no block is lent, and whose file is short enough for
+-- offsets of four bytes
 pub record IsExportable (memory : Memory) (bytes : List ℕ) : Type 0 where
   pub shape : HasShape bytes
   pub spelled : IsSpelled (database_in bytes) bytes
   pub names : NamesData memory bytes
   pub short : file_size (content_of memory.bytes bytes) < 2 ^ 32
 
--- the offsets in the header of a database's file, and where the data of its entries begins
+-- the offsets in the header of a database's file, and the offset where the data of its entries
+-- begins
 pub record ArePlaces (database : Database (Option (List ℕ))) (places : Places) : Type 0 where
   pub app_info : places.app_info ≡ block_offset (first_block database) database.app_info
   pub sort_info : places.sort_info ≡ block_offset (first_block database + block_size database.app_info) database.sort_info
   pub «data» : places.«data» ≡ first_block database + block_size database.app_info + block_size database.sort_info
 
--- an entry as a file has it, whose data stands at an offset
+-- an entry as a file has it, with its data at an offset
 abbrev pub file_entry : ChunkMap → ℕ → Entry ℕ → Entry ℕ
 file_entry chunks at entry = entry_with (block_offset at) (idle_entry (entry_with (bytes_named chunks) entry))

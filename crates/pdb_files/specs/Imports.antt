@@ -1,4 +1,4 @@
--- What refuses the call that reads a database from a file, before memory or room is asked for.
+-- The checks of the call that imports a database, before it asks for memory or room.
 use Rattle.std.specs.Prelude.{◌≤◌, ℕ, List, [], ◌∷◌, length}
 use Rattle.heap_model.specs.Database.{name_in}
 use Rattle.heap_model.specs.Store.{most_databases, store_of}

@@ -1,4 +1,4 @@
--- What is planned of the database that a file is read as, before any of it is made.
+-- The plan for the database that is read from a file, before any of it is made.
 use Rattle.std.specs.Prelude.{◌≡◌, ◌≤◌, ◌<◌, ◌+◌, ◌-◌, ◌^◌, ℕ, Bool, true, false, List, length, map, slice_index, slice_index_or, Option, Some, None, All}
 use Rattle.std.specs.List.{AllZip, filter_map}
 use Rattle.heap_model.specs.UniqueIds.{greatest_id, seed_in, with_seed}
@@ -14,41 +14,42 @@ use Rattle.palm_store.specs.declared.databases.whole.WholeEntry.TheVariants as w
 use Rattle.palm_store.specs.WholeDatabases.{size_of_data, data_sizes, CanCome, id_asked, CanBeWhole, header_asked}
 use Rattle.pdb_files.specs.declared.importing.plan.Plan.{Plan}
 
--- it has less than 4 GiB, if it is there
+-- a block is absent or has less than 4 GiB
 abbrev pub IsShort : Option Block → Type 0
 IsShort None = Unit {0}
 IsShort (Some block) = block.end - block.start < 2 ^ 32
 
 -- ---- entries
 
--- an entry of a file is planned as this one, whatever the ID of a record is then, and whatever the data is
+-- an entry of a file is planned as this one, apart from a record's ID and the data
 abbrev pub IsPlannedAs : Entry ℕ → WholeEntry → Type 0
 IsPlannedAs (a_record attributes id at) (whole.Record other_attributes other_id size) = other_attributes ≡ idle_attributes attributes
 IsPlannedAs (a_record attributes id at) (whole.Resource other_kind other_id size) = ⊥
 IsPlannedAs (a_resource kind id at) (whole.Record other_attributes other_id size) = ⊥
 IsPlannedAs (a_resource kind id at) (whole.Resource other_kind other_id size) = (other_kind ≡ kind) × (other_id ≡ id)
 
--- the ID of the entry of an index, which a resource doesn't have
+-- the unique ID that is planned for the entry at an index, if it is a record
 abbrev pub id_planned : Bool → List ℕ → ℕ → Option ℕ
 id_planned false ids index = Some (slice_index ids index)
 id_planned true ids index = None
 
--- this is planned of the entry of an index, with these IDs for records: it can come to a database
+-- this is the plan for the entry at an index, with these IDs for records; a database can have it
 pub record IsPlannedOf (file ids : List ℕ) (index : ℕ) (entry : WholeEntry) : Type 0 where
   pub planned : IsPlannedAs (entry_in file index) entry
   pub size : size_of_data entry ≡ size_of_block (slice_index_or (blocks_in file) (2 + index) None)
   pub id : id_asked entry ≡ id_planned (resources_in file) ids index
   pub can : CanCome (resources_in file) entry
 
--- the same of each of the first entries
+-- these are the plans for the first `count` entries
 pub record ArePlannedOf (file ids : List ℕ) (entries : List WholeEntry) (count : ℕ) : Type 0 where
   pub long : length entries ≡ count
   pub each : (index : ℕ) (default : WholeEntry) → index < count → IsPlannedOf file ids index (slice_index_or entries index default)
 
 -- ---- all of it
 
--- A database can be made by the plan, and read from the file: its header and its entries are those of the file, with the
--- IDs that the records get, and the sizes are those of its blocks, which stand where the plan says.
+-- A database can be made by the plan, and it is the one read from the file. Its header and its
+-- entries are those of the file, with the IDs that the records get. The sizes are those of the
+-- file's blocks, which are where the plan says.
 pub record IsPlan (file : List ℕ) (plan : Plan) : Type 0 where
   pub can : CanBeWhole plan.info plan.entries.items
   pub last_seed : ℕ

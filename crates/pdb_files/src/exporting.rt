@@ -1,4 +1,4 @@
-//! Writing the file of a database.
+//! The calls that write the file of a database.
 
 ghost use Rattle.std.specs.Prelude.{◌≡◌, ◌↔◌, ◌<◌, ℕ, None, Err, is_ok, length, IfOk, OnErr, Any};
 ghost use Rattle.palm_text.specs.Counted.{Writes};
@@ -28,7 +28,7 @@ use std::alloc::AllocError;
 use std::io::Write;
 use thiserror::Error;
 
-/// Why no file was written.
+/// Why no whole file was written.
 #[derive(Clone, Copy, Debug, PartialEq, Eq, Error)]
 pub enum ExportFault {
     /// The store has no database of this number.
@@ -42,9 +42,13 @@ pub enum ExportFault {
     Write,
 }
 
-/// Writes the file of a database, PDB or PRC, and answers how many bytes it has. Takes no memory, and
-/// flushes nothing. Where a write fails or takes 0 bytes, a front of the file was written. Where a block of the
-/// database is lent, nothing is.
+/// Writes the file of a database, PDB or PRC, and returns its length in bytes. It allocates no
+/// memory, and flushes nothing.
+///
+/// # Errors
+/// - `NoSuchDatabase`: if the store has no database of this number. Nothing was written.
+/// - `Lent`: if a block of the database is lent. Nothing was written.
+/// - `Write`: if a write failed, or took 0 bytes. A prefix of the file was written.
 pub fn export<W: Write>(store: &Store, db: Db, out: &mut Counted<W>) -> Result<u32, ExportFault>
     ensures unknown { (result ≡ Err ExportFault.NoSuchDatabase)
         ↔ (with_number (store_of store.now.bytes) db.0 ≡ None) }
@@ -72,10 +76,12 @@ pub fn export<W: Write>(store: &Store, db: Db, out: &mut Counted<W>) -> Result<u
     }
 }
 
-/// The file of a database as bytes, for which memory is taken once. Only a refused growth is answered by
-/// `OutOfMemory`.
+/// Returns the file of a database as bytes. It allocates memory once.
 ///
-/// Refused: `NoSuchDatabase`; `Lent`, where a block of the database is lent; `OutOfMemory`.
+/// # Errors
+/// - `NoSuchDatabase`: if the store has no database of this number.
+/// - `Lent`: if a block of the database is lent.
+/// - `OutOfMemory`: if `memory` refused the allocation or it failed, and only then.
 pub fn exported<A: Allowance>(memory: &A, store: &Store, db: Db) -> Result<Bytes, Refusal>
     ensures does { DoesInStore store.now (calls.Call.File (FileCall.Export db))
         (reply_of (λ bytes. Reply.Data bytes) result) store.now }
@@ -93,7 +99,7 @@ pub fn exported<A: Allowance>(memory: &A, store: &Store, db: Db) -> Result<Bytes
     }
 }
 
-/// The file of a database, given by its bytes.
+/// Returns the file of a database, given by its bytes.
 fn file_bytes<A: Allowance>(memory: &A, store: &Store, bytes: &[u8]) -> Result<Bytes, AllocError>
     requires { IsExportable store.now bytes.now }
     ensures file { IfOk result (λ file. file ≡ file_of (content_of store.now.bytes bytes.now)) }
@@ -106,7 +112,8 @@ fn file_bytes<A: Allowance>(memory: &A, store: &Store, bytes: &[u8]) -> Result<B
     }
 }
 
-/// Takes note of a write into a vector that failed. A vector takes each write, unless it can't grow.
+/// Records that a write into a vector failed. A vector takes each write, unless an allocation
+/// fails.
 fn refused_write<A: Allowance>(memory: &A, _out: &Counted<Vec<u8>>) -> AllocError
     requires { 0 < _out.now.faults }
     ensures { A.is_short memory.now }

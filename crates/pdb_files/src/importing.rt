@@ -1,4 +1,4 @@
-//! The call that reads a database from a file.
+//! The call that imports a database from a file.
 
 ghost use Rattle.std.specs.Prelude.{◌≡◌, ◌<◌, ◌+◌, ◌≢◌, length, Err, IfOk, OnOk, IfErr, OnErr};
 ghost use Rattle.heap_model.specs.Store.{Accepted, most_databases, store_of};
@@ -26,13 +26,18 @@ use pdb_format::{Block, check_file, find_blocks_from};
 use plan::{Plan, are_short, read_plan};
 use std::alloc::{AllocError, Global};
 
-/// Reads a database from a PDB or PRC file: it comes behind the others. Its records get the IDs that they have in the
-/// file, but a fresh one each where that is 0 or an earlier record has it, and none of them is busy.
+/// Imports a database from a PDB or PRC file, and makes it the last of the store. No record is
+/// busy. Its records keep the IDs of the file. A record whose ID is 0, or is that of an earlier
+/// record, gets a fresh one.
 ///
-/// Refused, in this order: `BadFile`, with the first fault of the file; `AlreadyExists`, where a database has the name;
-/// `TooManyEntries`, where there are 1,024 databases; `OutOfMemory`, where memory is refused for what the file says of
-/// its blocks and entries; `NotEnoughSpace`, where slots or room can run out for its header, its blocks and the
-/// directory, one after the other. Then nothing is left of it.
+/// # Errors
+/// `file_row` (`heap_model`) has their order. If it fails, nothing is left of the database.
+/// - `BadFile`: if the file has a fault. The error has the first one.
+/// - `AlreadyExists`: if a database of the store has the name.
+/// - `TooManyEntries`: if the store has 1,024 databases.
+/// - `OutOfMemory`: if an allocation for the lists of blocks and entries failed.
+/// - `NotEnoughSpace`: if slots or room can run out for the header, the blocks and the directory,
+///   one after the other.
 pub fn import(alloc: Global, store: &mut Store, file: &[u8]) -> Result<Db, Refusal>
     ensures does { DoesInStore store.old (calls.Call.File (FileCall.Import file.now))
         (database_or_refused result) store.new }
@@ -43,7 +48,8 @@ pub fn import(alloc: Global, store: &mut Store, file: &[u8]) -> Result<Db, Refus
     import_from(&alloc, store, file)
 }
 
-/// `import`, where each growth asks for a grant. Only a refused growth is answered by `OutOfMemory`.
+/// The same as `import`, but each allocation asks `memory` for a grant first. It returns
+/// `OutOfMemory` only if an allocation was refused or failed.
 pub fn import_from<A: Allowance>(memory: &A, store: &mut Store, file: &[u8]) -> Result<Db, Refusal>
     ensures does { DoesInStore store.old (calls.Call.File (FileCall.Import file.now))
         (database_or_refused result) store.new }
@@ -67,9 +73,12 @@ pub fn import_from<A: Allowance>(memory: &A, store: &mut Store, file: &[u8]) -> 
     make(store, file, &plan, &mut names)
 }
 
-/// Looks whether the database of a file can come to a store, but for memory and room.
+/// Checks that the database of a file can be imported, apart from memory and room.
 ///
-/// Refused: `BadFile`, `AlreadyExists`, `TooManyEntries`.
+/// # Errors
+/// - `BadFile`: if the file has a fault.
+/// - `AlreadyExists`: if a database of the store has the name.
+/// - `TooManyEntries`: if the store has 1,024 databases.
 fn check_import(store: &Store, file: &[u8]) -> Result<(), Refusal>
     ensures accepted { Accepted store.now.bytes }
     ensures good { OnOk result (HasNoFault file.now) }
@@ -92,9 +101,11 @@ fn check_import(store: &Store, file: &[u8]) -> Result<(), Refusal>
     Ok(())
 }
 
-/// Makes the database that a file is planned to become, and fills its blocks. Names of these are put down in `names`.
+/// Makes the planned database of a file, and fills its blocks. It writes the names of the blocks to
+/// `names`.
 ///
-/// Refused: `NotEnoughSpace`.
+/// # Errors
+/// - `NotEnoughSpace`: if slots or room ran out.
 fn make(store: &mut Store, file: &[u8], plan: &Plan, names: &mut [Name]) -> Result<Db, Refusal>
     requires accepted { Accepted store.old.bytes }
     requires good { HasNoFault file.now }
@@ -113,7 +124,7 @@ fn make(store: &mut Store, file: &[u8], plan: &Plan, names: &mut [Name]) -> Resu
     Ok(db)
 }
 
-/// A name for each block, which names nothing yet.
+/// Returns a name for each block, all `Name(0)`.
 fn no_names<A: Allowance>(memory: &A, blocks: &[Option<Block>]) -> Result<Vec<Name>, AllocError>
     ensures len { IfOk result (λ names. length names.items ≡ length blocks.now) }
     ensures short { OnErr result (A.is_short memory.now) }

@@ -1,8 +1,8 @@
-//! Databases in files, PDB and PRC (Palm OS File Format Specification), and in a store. What is read from a file comes to
-//! the store whole, or nothing of it does; and the file of a database is written.
+//! Imports databases from PDB and PRC files into a store, and exports them to files (Palm OS File
+//! Format Specification). An import adds the whole database, or none of it.
 //!
-//! `pdb_format` says what is in such a file. `specs/Plans.antt` has what is made of one that is read, and
-//! `specs/FileParts.antt` the parts of one that is written.
+//! `pdb_format` describes the files. `specs/Plans.antt` defines the plan for a database that is
+//! imported, and `specs/FileParts.antt` the parts of a file that is written.
 #![tactic(auto)]
 
 mod exporting;

@@ -15,7 +15,7 @@ use Rattle.heap_model.specs.declared.file_fault.FileFault.TheVariants.{Truncated
 abbrev pub IsWithout : List ℕ → FileFault → Type 0
 IsWithout file fault = HasFault file fault → ⊥
 
--- the faults that are looked for in front of those of entries
+-- the faults that are looked for before those of entries
 abbrev pub head_faults : List FileFault
 head_faults = Truncated ∷ ChainedList ∷ EmptyName ∷ BadInfo App ∷ BadInfo Sort ∷ []
 
@@ -95,7 +95,7 @@ all_numbered P each from (suc count) holds =
     All-cons P (each from) (map each (range_with_len (from + 1) count)) (holds from (omega arith) (omega arith))
     (all_numbered P each (from + 1) count (λ index low high. holds index (omega arith) (omega arith)))
 
--- such a list, parted in front of an index
+-- that list, parted before an index
 numbered_parts : {X : Type 0} (each : ℕ → X) (index count : ℕ) → index < count → numbered each count ≡ numbered each index ++ each index ∷ drop (suc index) (numbered each count)
 numbered_parts each index count inside =
     let xs = numbered each count in

@@ -20,7 +20,7 @@ block_count file = length-map-range_with_len (λ rank. block_at file rank (slice
 pub length-blocks : (file : List ℕ) (blocks : List (Option Block)) → map (bytes_at file) blocks ≡ blocks_in file → length blocks ≡ 2 + entry_count_in file
 length-blocks file blocks are = sym (length-map blocks (bytes_at file)) ∙ ap length are ∙ block_count file
 
--- the block of a rank, by where it stands
+-- the block of a rank, by its place
 pub block_of : (file : List ℕ) (blocks : List (Option Block)) (rank : ℕ) → map (bytes_at file) blocks ≡ blocks_in file → rank < length blocks → bytes_at file (get_or blocks rank None) ≡ get_or (blocks_in file) rank None
 block_of file blocks rank are inside = sym (get_or-map (bytes_at file) blocks rank None None inside) ∙ ap (λ (bs : List (Option (List ℕ))). get_or bs rank None) are
 
@@ -51,7 +51,7 @@ none_at : (file : List ℕ) (rank at : ℕ) → size_of_block (block_at file ran
 none_at file rank zero none = refl
 none_at file rank (suc at) none = absurd cc
 
--- where an entry has no block, its offset is 0
+-- if an entry has no block, its offset is 0
 pub none_planned : (file : List ℕ) (index : ℕ) (entry : Entry ℕ) → index < entry_count_in file → entry ≡ entry_in file index → size_of_block (get_or (blocks_in file) (2 + index) None) ≡ None → entry_data entry ≡ 0
 none_planned file index entry inside is none =
     let count = offset_count file in
@@ -67,7 +67,7 @@ good_entry file good index inside bad =
     let fault = get_or-map-range_with_len BadOffset 0 (entry_count_in file) index index Truncated inside (omega arith) in
     subst (λ f. HasFault file f → ⊥) fault (good (suc (suc (suc (suc (suc index))))) Truncated (omega arith)) (inside, bad)
 
--- a record has none only where it is deleted
+-- a record has none only if it is deleted
 pub record_block : (file : List ℕ) (index attributes id at : ℕ) → HasNoFault file → index < entry_count_in file → a_record attributes id at ≡ entry_in file index → at ≡ 0 → is_deleted attributes ≡ true
 record_block file index attributes id at good inside is none = elim (true_or_false (is_deleted attributes)) [
   | inl deleted ↦ deleted

@@ -1,4 +1,5 @@
--- What is known of a file without fault: it has its header and its entries, and its blocks begin within it.
+-- What is known of a file without fault: it has its header and its entries, and its blocks begin
+-- within it.
 use Rattle.std.proofs.Common.{◌≡◌, ℕ, zero, suc, ◌+◌, ◌<◌, ◌≤◌, Bool, true, false, List, length, get_or, refl, ap, subst, ◌∙◌, arith, inl, inr}
 use Rattle.std.proofs.lemmas.Bool.{cases_eq, cases_lt}
 use Rattle.std.proofs.lemmas.List.{length-map, get_or-map}

@@ -59,7 +59,7 @@ put_more offsets last items blocks index sorted inside are =
           ∙ are.rest other (λ j less e. none_has j (omega arith) e);
     }
 
--- where all are put down, they are the blocks of the file
+-- once all are put down, they are the blocks of the file
 pub all_put : (file : List ℕ) (items : List Start) (blocks : List (Option Block)) → AreSorted (offsets_in file) (length file) items → ArePut (offsets_in file) (length file) items blocks (length items)
     → map (bytes_at file) blocks ≡ blocks_in file
 all_put file items blocks sorted are =
@@ -135,7 +135,7 @@ all_within offsets last items blocks sorted are = λ rank d inside.
 
 -- ---- they take no more than the file
 
--- where nothing is put down yet, no bytes are taken
+-- while nothing is put down, no bytes are taken
 pub none_taken : (blocks : List (Option Block)) → All (λ block. block ≡ None) blocks → sum_by length_within blocks ≡ 0
 none_taken blocks empty =
     let none_long : (block : Option Block) → block ≡ None → length_within block ≤ 0 = λ block e. omega (arith, ap length_within e) in
@@ -158,7 +158,7 @@ taken_more offsets last items blocks index sorted inside are so_far =
     let here = begins_inside last items index inside in
     omega arith
 
--- where all are put down, they take no more than there is
+-- once all are put down, they take no more than there is
 pub taken_most : (last : ℕ) (items : List Start) (blocks : List (Option Block)) (index : ℕ) → length items ≤ index → sum_by length_within blocks + begins last items 0 ≡ begins last items index → sum_by length_within blocks ≤ last
 taken_most last items blocks index all so_far =
     let long = length-map items (λ (start : Start). start.at) in

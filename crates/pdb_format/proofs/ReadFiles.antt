@@ -1,5 +1,5 @@
--- What a file says of its header, its entries and its blocks, with the IDs that its records have, is the database that is
--- read from it.
+-- The header, the entries and the blocks of a file, with the IDs that its records have, are the
+-- database that is read from it.
 use Rattle.std.proofs.Common.{◌≡◌, ℕ, zero, suc, ◌+◌, ◌<◌, Bool, true, false, Option, Some, None, List, [], length, get_or, refl, sym, ap, subst, ◌∙◌, arith, inl, inr}
 use Rattle.std.specs.List.{AllZip, filter_map}
 use Rattle.std.proofs.lemmas.List.{length-map, get_or-map, ext_get_or, nil_from_length}

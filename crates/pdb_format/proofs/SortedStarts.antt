@@ -1,4 +1,4 @@
--- Where the starts of blocks are sorted, each block ends where the next one begins.
+-- Once the starts of blocks are sorted, each block ends where the next one begins.
 use Rattle.std.proofs.Common.{◌≡◌, ℕ, zero, suc, ◌+◌, ◌-◌, ◌<◌, ◌≤◌, Bool, true, false, cond, List, [], ◌∷◌, ◌++◌, length, get_or, take, drop, map, refl, sym, ap, subst, ◌∙◌, arith, inl, inr}
 use Rattle.std.specs.Prelude.{◌⊎◌, ◌^◌, min, nat_lt, nat_le, filter, slice_index}
 use Rattle.std.specs.List.{All, fold, sum_by}
@@ -35,7 +35,7 @@ fold_min_is last e (x ∷ xs) most low (inl is) = fold_min_is (min last x) e xs 
 fold_min_is last e (x ∷ xs) most low (inr (inl is)) = fold_min_is (min last x) e xs (omega arith) low.1 (inl (omega arith))
 fold_min_is last e (x ∷ xs) most low (inr (inr there)) = fold_min_is (min last x) e xs (let h = low.0 in omega arith) low.1 (inr there)
 
--- what passes a test is at least a number, where each number that passes is
+-- what passes a test is at least a number, if each number that passes is
 kept_low : (e : ℕ) (test : ℕ → Bool) (xs : List ℕ) → ((k : ℕ) → k < length xs → test (get_or xs k 0) ≡ true → e ≤ get_or xs k 0) → IsLow e (filter test xs)
 kept_low e test [] each = tt
 kept_low e test (x ∷ xs) each =
@@ -93,7 +93,7 @@ one_ranked : (offsets : List ℕ) (rank count : ℕ) (there : Bool) → ranked r
 one_ranked offsets rank count true = omega arith
 one_ranked offsets rank count false = omega arith
 
--- a rank stands among them once at most, and not at all behind the first ranks
+-- a rank is among them once at most, and not at all after the first ranks
 ranked_once : (offsets : List ℕ) (rank count : ℕ) → (ranked rank (first_starts offsets count) ≤ 1) × (count ≤ rank → ranked rank (first_starts offsets count) ≡ 0)
 ranked_once offsets rank zero = (omega arith, λ less. refl)
 ranked_once offsets rank (suc count) =
@@ -111,7 +111,7 @@ ranked_once offsets rank (suc count) =
           (omega arith, λ less. let zero_before = before.1 (omega arith) in omega arith)
     ]
 
--- and once, where its block is there
+-- and once, if its block is there
 ranked_there : (offsets : List ℕ) (rank count : ℕ) → rank < count → is_there (start_of offsets rank) ≡ true → 1 ≤ ranked rank (first_starts offsets count)
 ranked_there offsets rank zero inside there = absurd (omega arith)
 ranked_there offsets rank (suc count) inside there =
@@ -201,7 +201,7 @@ start_found offsets last items sorted rank inside some =
     let at = (items_are offsets last items sorted found.0 found.1).0.1 in
     (found.0, found.1, found.2, at ∙ ap (λ (r : ℕ). get_or offsets r 0) found.2)
 
--- the next start is among those behind a block
+-- the next start is among those after a block
 next_among : (offsets : List ℕ) (last : ℕ) (items : List Start) → AreSorted offsets last items → (i e : ℕ) → i < length items
     → (e ≡ last) ⊎ ((i + 1 < length items) × (e ≡ (get_or items (i + 1) none).at))
     → (e ≡ last) ⊎ Among e (starts_behind offsets (get_or items i none).rank (get_or items i none).at)
@@ -237,8 +237,8 @@ next_among offsets last items sorted i e inside (inr next) =
       ]
     ])
 
--- a block ends at a number that is at most the starts behind its own, and is the next of these or, where there is none,
--- the file's end
+-- a block ends at a number that is at most the starts after its own. The number is the next of
+-- these starts, or the file's end if there is none.
 end_is : (offsets : List ℕ) (last : ℕ) (items : List Start) → AreSorted offsets last items → (i e : ℕ) → i < length items → e ≤ last
     → ((j : ℕ) → i < j → j < length items → e ≤ (get_or items j none).at)
     → (e ≡ last) ⊎ ((i + 1 < length items) × (e ≡ (get_or items (i + 1) none).at))

@@ -1,4 +1,4 @@
--- Blocks that stand one behind the other in a file are the blocks that are read from it.
+-- Blocks that follow each other in a file are the blocks that are read from it.
 use Rattle.std.proofs.Common.{◌≡◌, ℕ, zero, suc, ◌+◌, ◌-◌, ◌<◌, Option, Some, None, List, ◌∷◌, ◌++◌, length, get_or, take, drop, refl, sym, ap, ◌∙◌, append_assoc, arith, length-append}
 use Rattle.std.specs.Prelude.{min, slice_range, slice_index}
 use Rattle.std.specs.List.{fold}
@@ -13,7 +13,7 @@ use Rattle.pdb_format.proofs.WrittenOffsets.{all_bytes, running, length-running,
 some : List ℕ → Option (List ℕ)
 some bytes = Some bytes
 
--- a block that begins behind the file's start
+-- a block that begins after the file's start
 pub block_there : (file : List ℕ) (rank at : ℕ) → 0 < at → block_at file rank at ≡ Some (slice_range file at (block_end file rank at))
 block_there file rank zero low = absurd (omega arith)
 block_there file rank (suc at) low = refl
@@ -32,7 +32,7 @@ between front before bytes after o is =
 parted : (before after : List (Option (List ℕ))) (block : Option (List ℕ)) → all_bytes (before ++ block ∷ after) ≡ all_bytes before ++ (block_bytes block ++ all_bytes after)
 parted before after block = flat_map-append block_bytes before (block ∷ after)
 
--- where the offsets of a file are those of the blocks behind its front, a block is read back
+-- if the offsets of a file are those of the blocks after its prefix, a block is read back
 offset_here : (at : ℕ) (before after : List (Option (List ℕ))) (block : Option (List ℕ)) → get_or (running at (before ++ block ∷ after)) (length before) 0 ≡ block_offset (at + length (all_bytes before)) block
 offset_here at before after block =
     let o : ℕ = at + length (all_bytes before) in
@@ -73,7 +73,7 @@ read_at file front blocks i d low is offsets inside =
     ∙ ap (block_at file (length before)) here
     ∙ read_back file front before after block low (is ∙ ap (λ (xs : List (Option (List ℕ))). front ++ all_bytes xs) parts) there)
 
--- the blocks of such a file are these
+-- the blocks of a file with these offsets are these
 pub blocks_read : (file front : List ℕ) (blocks : List (Option (List ℕ))) → 0 < length front → file ≡ front ++ all_bytes blocks → offsets_in file ≡ running (length front) blocks → blocks ≡ blocks_in file
 blocks_read file front blocks low is offsets =
     let long = ap length offsets ∙ length-running (length front) blocks in

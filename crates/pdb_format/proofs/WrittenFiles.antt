@@ -173,7 +173,7 @@ placed_fits d is =
       entry_count = omega arith;
     }
 
--- what stands in front of the first block
+-- the part before the first block
 front : Database (Option (List ℕ)) → List ℕ
 front d = spelled (placed d) ++ 0 ∷ 0 ∷ []
 

@@ -1,4 +1,4 @@
--- A database is read off its spelling whatever stands behind it.
+-- A database is read from its spelling, whatever follows it.
 use Rattle.std.proofs.Common.{◌≡◌, ℕ, zero, suc, ◌+◌, ◌<◌, ◌≤◌, Bool, true, false, List, ◌∷◌, ◌++◌, length, get_or, map, refl, sym, ap, ◌∙◌, arith}
 use Rattle.std.specs.List.{range_with_len, take_while}
 use Rattle.std.specs.Prelude.{◌==◌, not}
@@ -12,7 +12,7 @@ use Rattle.heap_model.specs.Database.{DatabaseHeader, Entry, a_record, a_resourc
 use Rattle.laws_store.proofs.Spellings.{database_read, count_read, resources_read, next_list_read, entry_read}
 use Rattle.laws_store.proofs.Shapes.{spelled_shape}
 
--- ---- numbers in a front
+-- ---- numbers in a prefix
 
 number_front : (i n : ℕ) (xs ys : List ℕ) → i + n ≤ length xs → big_from i n (xs ++ ys) ≡ big_from i n xs
 number_front i n xs ys inside = sym (big_from-take i n (length xs) (xs ++ ys) inside) ∙ ap (big_from i n) (take_at xs ys (length xs) refl)
@@ -103,7 +103,7 @@ database_front xs ys inside ends =
     (ap (numbered (entry_in (xs ++ ys))) (count_front xs ys inside)
     ∙ same_numbered (entry_in (xs ++ ys)) (entry_in xs) 0 (entry_count_in xs) (λ i low high. entry_in_front xs ys i inside ends (omega arith)))
 
--- ---- a spelling with something behind it
+-- ---- a spelling with something after it
 
 -- what the head of a file says that begins with the spelling of a database
 pub record IsHeaded (file : List ℕ) (database : Database ℕ) : Type 0 where

@@ -9,7 +9,7 @@ use Rattle.heap_model.specs.UniqueIds.{seed_in, with_seed}
 use Rattle.heap_model.specs.Files.{keeps_id, kept_ids, AreGiven, HaveIds}
 use Rattle.laws_store.proofs.Times.{same-no, times-cons, Distinct-head, Distinct-tail}
 
--- behind records of the earlier IDs, each of these is kept
+-- after records of the earlier IDs, each of these is kept
 abbrev AllKept : List ℕ → List ℕ → Type 0
 AllKept earlier [] = ⊤
 AllKept earlier (id ∷ ids) = (keeps_id earlier id ≡ true) × AllKept (id ∷ earlier) ids

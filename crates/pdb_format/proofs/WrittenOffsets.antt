@@ -1,4 +1,4 @@
--- Blocks that stand one behind the other: their offsets, where each of them ends, and the bytes between.
+-- Blocks that follow each other: their offsets, where each of them ends, and the bytes between.
 use Rattle.std.proofs.Common.{◌≡◌, ℕ, ◌+◌, ◌<◌, ◌≤◌, Bool, true, false, cond, Option, Some, None, List, [], ◌∷◌, ◌++◌, length, take, drop, refl, sym, ap, ◌∙◌, arith, length-append}
 use Rattle.std.specs.Prelude.{min, nat_lt, nat_le, filter}
 use Rattle.std.specs.List.{flat_map, fold}
@@ -8,11 +8,11 @@ use Rattle.std.proofs.lemmas.List.{take_at, drop_at, drop-drop}
 use Rattle.heap_model.specs.Files.{starts_behind, block_bytes, block_size, block_offset}
 use Rattle.laws_heap.proofs.Tests.{leb-is-true, lt-leb-false}
 
--- the bytes of some blocks, one behind the other
+-- the bytes of some blocks, one after the other
 abbrev pub all_bytes : List (Option (List ℕ)) → List ℕ
 all_bytes blocks = flat_map block_bytes blocks
 
--- the offsets of some blocks, the first of which would stand at an offset
+-- the offsets of some blocks, the first of which would be at an offset
 abbrev pub running : ℕ → List (Option (List ℕ)) → List ℕ
 running at [] = []
 running at (block ∷ blocks) = block_offset at block ∷ running (at + block_size block) blocks
@@ -47,7 +47,7 @@ passed_over test x xs e = ap (λ (b : Bool). cond b (x ∷ filter test xs) (filt
 kept : (test : ℕ → Bool) (x : ℕ) (xs : List ℕ) → test x ≡ true → filter test (x ∷ xs) ≡ x ∷ filter test xs
 kept test x xs e = ap (λ (b : Bool). cond b (x ∷ filter test xs) (filter test xs)) e
 
--- no block in front of an offset begins behind it
+-- no block before an offset begins after it
 none_before : (o at : ℕ) (blocks : List (Option (List ℕ))) → at + length (all_bytes blocks) ≤ o → filter (nat_lt o) (running at blocks) ≡ []
 none_before o at [] inside = refl
 none_before o at (block ∷ blocks) inside =
@@ -56,7 +56,7 @@ none_before o at (block ∷ blocks) inside =
     passed_over (nat_lt o) (block_offset at block) (running (at + block_size block) blocks) (le-ltb o (block_offset at block) (omega arith))
     ∙ none_before o (at + block_size block) blocks (omega arith)
 
--- no block behind an offset begins in front of it
+-- no block after an offset begins before it
 none_sooner : (o n m : ℕ) (blocks : List (Option (List ℕ))) → 0 < o → o ≤ m → n ≤ m → fold min n (filter (nat_le o) (running m blocks)) ≡ n
 none_sooner o n m [] some low high = refl
 none_sooner o n m (None ∷ blocks) some low high =
@@ -85,7 +85,7 @@ first_next o m last (Some bytes ∷ blocks) some low ends =
 empty : List ℕ
 empty = []
 
--- the block behind some others ends where those behind it begin
+-- the block after some others ends where those after it begin
 pub end_found : (at last : ℕ) (before after : List (Option (List ℕ))) (block : Option (List ℕ)) → 0 < at → last ≡ at + length (all_bytes (before ++ block ∷ after))
     → fold min last (starts_behind (running at (before ++ block ∷ after)) (length before) (at + length (all_bytes before))) ≡ at + length (all_bytes before) + block_size block
 unfolding empty

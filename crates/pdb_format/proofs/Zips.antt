@@ -14,7 +14,7 @@ zip_at R (x ∷ xs) [] k d e all inside = absurd all
 zip_at R (x ∷ xs) (y ∷ ys) zero d e all inside = all.0
 zip_at R (x ∷ xs) (y ∷ ys) (suc k) d e all inside = zip_at R xs ys k d e all.1 (omega arith)
 
--- what a function gives of the numbers from one on, beside a list
+-- what a function gives of the numbers from one on, element by element with a list
 pub numbered_zip : {A B : Type 0} (R : A → B → Type 0) (f : ℕ → A) (ys : List B) (from count : ℕ) → length ys ≡ count → ((k : ℕ) (e : B) → k < count → R (f (from + k)) (get_or ys k e)) → AllZip R (map f (range_with_len from count)) ys
 numbered_zip R f [] from zero long each = tt
 numbered_zip R f [] from (suc count) long each = absurd (omega arith)
@@ -27,7 +27,7 @@ numbered_zip R f (y ∷ ys) from (suc count) long each =
           subst (λ (n : ℕ). R (f n) (get_or ys k e)) next (each (suc k) e (omega arith))),
     )
 
--- ---- what a function gives where it gives something
+-- ---- what a function gives, if it gives something
 
 pub all_given : {A : Type 0} (h : A → Option ℕ) (xs : List A) (ids : List ℕ) → length xs ≡ length ids → ((k : ℕ) (d : A) → k < length xs → h (get_or xs k d) ≡ Some (get_or ids k 0)) → filter_map h xs ≡ ids
 all_given h [] [] long each = refl

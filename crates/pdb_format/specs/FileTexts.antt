@@ -8,7 +8,7 @@ use Rattle.heap_model.specs.Files.{idle_entry, idle, block_bytes, entries_with_o
 abbrev pub header_text : Database (Option (List ℕ)) → List ℕ
 header_text database = header_bytes (with_offsets (first_block database) (idle database))
 
--- the entries, whose data stands from an offset on
+-- the entries, with offsets for their data, which begins at an offset
 abbrev pub entries_text : ℕ → List (Entry (Option (List ℕ))) → List ℕ
 entries_text first entries = flat_map entry_bytes (entries_with_offsets first (map idle_entry entries))
 

@@ -1,4 +1,4 @@
--- What the definitions of files promise together: the statements of the laws.
+-- The statements of the laws about files.
 use Rattle.std.specs.Prelude.{◌≡◌, ◌≤◌, ◌<◌, ◌+◌, ◌^◌, ℕ, List, length, Option}
 use Rattle.std.specs.List.{Contains}
 use Rattle.heap_model.specs.Bytes.{AreBytes}
@@ -16,11 +16,11 @@ FilesAreRead = (file : List ℕ) → AreBytes file → HasNoFault file → (data
 abbrev pub FilesAreReadOnce : Type 0
 FilesAreReadOnce = (file : List ℕ) (one other : Database (Option (List ℕ))) → Reads file one → Reads file other → one ≡ other
 
--- the file of a database that can be written is read as that database, of which no record is busy
+-- the file of a database that can be written is read as that database, with no record busy
 abbrev pub WrittenFilesAreRead : Type 0
 WrittenFilesAreRead = (database : Database (Option (List ℕ))) → IsWritable database → Reads (file_of database) (idle database)
 
--- that file is as long as `file_size` says
+-- that file has the size `file_size`
 abbrev pub WrittenFilesHaveTheirSize : Type 0
 WrittenFilesHaveTheirSize = (database : Database (Option (List ℕ))) → IsWritable database → length (file_of database) ≡ file_size database
 
@@ -30,8 +30,8 @@ ContentsAreWritable =
     (image : List ℕ) (stored : StoredDatabase) → AreBytes image → Accepted image → Contains (databases image) stored
     → IsWritable (content (callers_map image) stored.database)
 
--- The blocks of such a content take no more than the image, in which each is a chunk of its own. So its file
--- is short enough for offsets of four bytes, whatever the image holds.
+-- In the image each block of the database's content is a chunk of its own. So the blocks together
+-- are at most as long as the image, and the file is short enough for offsets of four bytes.
 abbrev pub ContentsAreShort : Type 0
 ContentsAreShort =
     (image : List ℕ) (stored : StoredDatabase) → Accepted image → Contains (databases image) stored

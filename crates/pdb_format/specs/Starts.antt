@@ -1,4 +1,4 @@
--- Where the blocks of a file begin, by the offsets that it has for them, and the order in which they stand.
+-- The offsets at which the blocks of a file begin, and the order of the blocks.
 use Rattle.std.specs.Prelude.{◌+◌, ◌*◌, ◌^◌, nat_lt, ℕ, Bool, List, length, map, get_or, slice_index, filter}
 use Rattle.heap_model.specs.Lists.{numbered}
 use Rattle.pdb_format.specs.declared.starts.Start.{Start}
@@ -7,18 +7,19 @@ use Rattle.pdb_format.specs.declared.starts.Start.{Start}
 abbrev pub start_of : List ℕ → ℕ → Start
 start_of offsets rank = record { at = slice_index offsets rank; rank = rank }
 
--- a block is there
+-- the file has the block
 abbrev pub is_there : Start → Bool
 is_there start = nat_lt 0 start.at
 
--- the starts of the blocks that are there, by their rank
+-- the starts of the blocks that the file has, by rank
 abbrev pub starts_in : List ℕ → List Start
 starts_in offsets = filter is_there (numbered (start_of offsets) (length offsets))
 
--- blocks are ordered by their offsets, and at one offset by their rank
+-- blocks are sorted by their offset, and at the same offset by their rank
 abbrev pub order : Start → ℕ
 order start = start.at * 2 ^ 32 + start.rank
 
--- where the block of an index begins among starts, and a number for the end of the file behind the last
+-- the offset at which the block at an index of the starts begins; for the index after the last one,
+-- the end of the file
 abbrev pub begins : ℕ → List Start → ℕ → ℕ
 begins last starts index = get_or (map (λ start. start.at) starts) index last

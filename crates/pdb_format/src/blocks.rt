@@ -12,15 +12,16 @@ use crate::starts::{Start, rank_count, sorted_starts};
 use allowance::{Allowance, filled};
 use std::alloc::{AllocError, Global};
 
-/// Where a block of a file stands: from its offset up to where the next one begins, in bytes from the file's start.
+/// The place of a block in a file: from its offset up to where the next block begins, in bytes from
+/// the file's start.
 #[derive(Clone, Copy, Debug, PartialEq, Eq)]
 pub struct Block {
     pub start: usize,
     pub end: usize,
 }
 
-/// Where the block ends whose start has an index among sorted ones: where the next one begins, or at the end of the
-/// file.
+/// Returns where the block at an index of the sorted starts ends. It ends where the next block
+/// begins, or at the end of the file.
 fn end_of(starts: &[Start], index: usize, last: usize) -> usize
     requires { index < length starts.now }
     ensures { result ≡ begins last starts.now (index + 1) }
@@ -32,7 +33,7 @@ fn end_of(starts: &[Start], index: usize, last: usize) -> usize
     }
 }
 
-/// Puts down where each block stands, at its rank.
+/// Writes the place of each block at its rank.
 fn put_blocks(file: &[u8], starts: &[Start], blocks: &mut [Option<Block>])
     requires good { HasNoFault file.now }
     requires all { IsPermutation (starts_in (offsets_in file.now)) starts.now }
@@ -53,8 +54,12 @@ fn put_blocks(file: &[u8], starts: &[Start], blocks: &mut [Option<Block>])
     }
 }
 
-/// Where the blocks of a file without fault stand: the AppInfo block, the SortInfo block, and the data of the entries in
-/// order. Memory for them can be refused. One sort.
+/// Finds the places of the blocks of a file without fault, by rank: the AppInfo block, the SortInfo
+/// block, and the data of the entries in order. It sorts the offsets once.
+///
+/// # Errors
+///
+/// - `AllocError`: if an allocation failed.
 pub fn find_blocks(alloc: Global, file: &[u8]) -> Result<Vec<Option<Block>>, AllocError>
     requires { HasNoFault file.now }
     ensures are { IfOk result (λ blocks. map (bytes_at file.now) blocks.items ≡ blocks_in file.now) }
@@ -66,7 +71,11 @@ pub fn find_blocks(alloc: Global, file: &[u8]) -> Result<Vec<Option<Block>>, All
     find_blocks_from(&alloc, file)
 }
 
-/// `find_blocks`, where each growth asks for a grant.
+/// The same as `find_blocks`. Each allocation asks `memory` for a grant.
+///
+/// # Errors
+///
+/// - `AllocError`: if `memory` refused a grant, or an allocation failed.
 pub fn find_blocks_from<A: Allowance>(
     memory: &A,
     file: &[u8],

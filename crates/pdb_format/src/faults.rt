@@ -1,4 +1,4 @@
-//! What is wrong with a file.
+//! Finds the first fault of a file.
 
 ghost use Rattle.std.specs.Prelude.{◌≡◌, ◌≢◌, ◌≤◌, ◌<◌, ◌+◌, ◌↔◌, ℕ, length, IsTrue, IfSome, IfNone, OnOk, IfErr};
 ghost use Rattle.heap_model.specs.Lists.{Least};
@@ -12,15 +12,15 @@ ghost use Rattle.db_format.specs.EitherEntry.{entry_of};
 use db_format::{DbEntry, HEADER_SIZE, app_info, entry_count, name_in, next_list, sort_info};
 use heap_model::{FileFault, Which};
 
-/// Whether the file ends before its header does, or before its list of entries does.
+/// Returns whether the file ends before its header does, or before its list of entries does.
 fn is_truncated(file: &[u8]) -> bool
     ensures { IsTrue result ↔ HasFault file.now Truncated }
 {
     file.len() < HEADER_SIZE || file.len() < db_format::entries_end(file)
 }
 
-/// Whether no block begins at this offset: it is in front of the end of the entries, or behind that of the
-/// file.
+/// Returns whether no block may begin at this offset: it is before the end of the entries, or after
+/// the end of the file.
 fn is_outside(file: &[u8], at: u32) -> bool
     requires { header_size ≤ length file.now }
     ensures { IsTrue result ↔ IsOutside file.now at }
@@ -29,7 +29,7 @@ fn is_outside(file: &[u8], at: u32) -> bool
     at < db_format::entries_end(file) || file.len() < at
 }
 
-/// Whether there is an info block, and it can't begin where the file says.
+/// Returns whether there is an info block, and it can't begin at the offset in the file.
 fn is_bad_info(file: &[u8], at: u32) -> bool
     requires { header_size ≤ length file.now }
     ensures { IsTrue result ↔ IsBadInfo file.now at }
@@ -37,8 +37,8 @@ fn is_bad_info(file: &[u8], at: u32) -> bool
     at != 0 && is_outside(file, at)
 }
 
-/// Whether an entry has data, and it can't begin where the file says. The record may have none if it is
-/// deleted.
+/// Returns whether an entry has data, and the data can't begin at the offset in the file. Only a
+/// deleted record may have no data.
 fn has_bad_offset(file: &[u8], entry: DbEntry) -> bool
     requires { header_size ≤ length file.now }
     ensures { IsTrue result ↔ HasBadOffset file.now (entry_of entry) }
@@ -51,7 +51,7 @@ fn has_bad_offset(file: &[u8], entry: DbEntry) -> bool
     }
 }
 
-/// The first entry whose offset is bad.
+/// Returns the index of the first entry with a bad offset.
 fn find_bad_offset(file: &[u8]) -> Option<u16>
     requires header { header_size ≤ length file.now }
     requires entries { entries_end file.now ≤ length file.now }
@@ -66,8 +66,18 @@ fn find_bad_offset(file: &[u8]) -> Option<u16>
     None
 }
 
-/// Looks for what is wrong with a file, and answers the first fault. A file without fault is read as a
-/// database.
+/// Checks a file, and returns its first fault, in the order of `file_faults`. A file without fault
+/// is read as a database.
+///
+/// # Errors
+///
+/// - `Truncated`: if the file ends before its header or its list of entries does.
+/// - `ChainedList`: if the header refers to a further list of entries.
+/// - `EmptyName`: if the name is empty.
+/// - `BadInfo`: if there is this info block, but its offset is before the end of the entries or
+///   after the end of the file.
+/// - `BadOffset`: if the offset of the data of this entry is bad in the same way. It is the first
+///   entry with a bad offset.
 #[tactic(auto, using(crate::proofs::FaultLaws::truncated_first, crate::proofs::FaultLaws::chained_first, crate::proofs::FaultLaws::unnamed_first, crate::proofs::FaultLaws::app_first, crate::proofs::FaultLaws::sort_first, crate::proofs::FaultLaws::first_of_entries, crate::proofs::FaultLaws::no_fault))]
 pub fn check_file(file: &[u8]) -> Result<(), FileFault>
     ensures sound { OnOk result (HasNoFault file.now) }

@@ -1,35 +1,37 @@
-//! The laws, each as the promise of a function.
+//! The laws, each as the postcondition of a function.
 
 ghost use Rattle.pdb_format.specs.Laws.{FilesAreRead, FilesAreReadOnce};
 ghost use Rattle.pdb_format.specs.Laws.{WrittenFilesAreRead, WrittenFilesHaveTheirSize};
 ghost use Rattle.pdb_format.specs.Laws.{ContentsAreWritable, ContentsAreShort};
 
-/// Each file of bytes without fault is read as a database.
+/// States that each file of bytes without fault is read as a database.
 pub fn files_are_read()
     ensures { FilesAreRead }
 {}
 
-/// No file is read as two databases.
+/// States that no file is read as two databases.
 pub fn files_are_read_once()
     ensures { FilesAreReadOnce }
 {}
 
-/// The file that is written of a database is read as that database.
+/// States that the file written for a database is read as that database, with no record busy.
 pub fn written_files_are_read()
     ensures { WrittenFilesAreRead }
 {}
 
-/// The file that is written of a database is as long as its header, its entries and its blocks say.
+/// States that the file written for a database has the size of its header, its entries and its
+/// blocks.
 pub fn written_files_have_their_size()
     ensures { WrittenFilesHaveTheirSize }
 {}
 
-/// The content of each database in an accepted image can be written.
+/// States that the content of each database in an accepted image can be written to a file.
 pub fn contents_are_writable()
     ensures { ContentsAreWritable }
 {}
 
-/// The file of such a content is longer than the image by no more than what stands in front of its blocks.
+/// States that this file is at most as long as the image and the longest part before the first
+/// block together.
 pub fn contents_are_short()
     ensures { ContentsAreShort }
 {}

@@ -1,10 +1,11 @@
-//! Files of databases, PDB and PRC (Palm OS File Format Specification), as bytes: what is wrong with one, where its
-//! blocks stand, and the laws of what is read from files and written to them.
+//! Files of databases, PDB and PRC (Palm OS File Format Specification), as bytes. The crate finds
+//! the first fault of a file and the places of its blocks. It states the laws about files that are
+//! read and written.
 //!
 //! ```text
 //! header           78 bytes, as db_format has them
 //! entries          8 bytes for each record, or 10 for each resource, with offsets of their data
-//! blocks           AppInfo, SortInfo and the data, each from its offset up to where the next one begins
+//! blocks           AppInfo, SortInfo and the data, each from its offset up to the next block
 //! ```
 //!
 //! Offsets count bytes from the file's start.

@@ -1,4 +1,4 @@
-//! Where the blocks of a file begin, in the order in which they stand.
+//! The offsets at which the blocks of a file begin, sorted.
 
 ghost use Rattle.std.specs.Prelude.{◌≡◌, ◌<◌, ◌≤◌, ◌+◌, length, slice_index, IfOk, OnErr};
 ghost use Rattle.std.specs.List.Sorted.{IsPermutation, IsNonDecreasingBy};
@@ -9,8 +9,9 @@ use allowance::{Allowance, push};
 use db_format::{INFO_BLOCKS, app_info, entry_count, entry_slot, has_resources, sort_info};
 use std::alloc::AllocError;
 
-/// Where a block begins in a file, and its rank: 0 for the AppInfo block, 1 for the SortInfo block, and `INFO_BLOCKS`
-/// more than its index for the data of an entry.
+/// The offset at which a block begins in a file, and the rank of the block. The rank is 0 for the
+/// AppInfo block, 1 for the SortInfo block, and `INFO_BLOCKS` more than its index for the data of
+/// an entry.
 #[derive(Clone, Copy)]
 pub(crate) struct Start {
     pub(crate) at: u32,
@@ -18,7 +19,8 @@ pub(crate) struct Start {
 }
 
 impl Start {
-    /// A number by which blocks are ordered as they stand in a file: by their offsets, and at one offset by their rank.
+    /// Returns the number by which blocks are sorted in a file: by their offset, and at the same
+    /// offset by their rank.
     fn order(self) -> u64
         ensures { result ≡ order self }
     {
@@ -26,9 +28,10 @@ impl Start {
     }
 }
 
-/// Returns how many blocks a file may have: its info blocks, and one for each entry.
+/// Returns the number of blocks that a file may have: its info blocks, and one for each entry.
 ///
-/// The rank of a block is 0 for the AppInfo block and 1 for the SortInfo block. The data of entry I has rank I + 2.
+/// The rank of a block is 0 for the AppInfo block and 1 for the SortInfo block. The data of entry I
+/// has rank I + 2.
 pub fn rank_count(file: &[u8]) -> u32
     requires { HasNoFault file.now }
     ensures is { result ≡ length (offsets_in file.now) }
@@ -37,7 +40,8 @@ pub fn rank_count(file: &[u8]) -> u32
     entry_count(file) as u32 + INFO_BLOCKS as u32
 }
 
-/// Returns the offset of the block of a rank in bytes, as the file has it. It is 0 if there is no such block.
+/// Returns the offset of the block of a rank, in bytes from the file's start. It is 0 if the file
+/// doesn't have the block.
 pub fn offset_of(file: &[u8], rank: u32) -> u32
     requires good { HasNoFault file.now }
     requires inside { rank < length (offsets_in file.now) }
@@ -55,7 +59,7 @@ pub fn offset_of(file: &[u8], rank: u32) -> u32
     }
 }
 
-/// Where the blocks of a file begin that are there, by their rank.
+/// Returns the starts of the blocks that the file has, by rank.
 fn starts_of<A: Allowance>(memory: &A, file: &[u8]) -> Result<Vec<Start>, AllocError>
     requires { HasNoFault file.now }
     ensures starts { IfOk result (λ starts. starts.items ≡ starts_in (offsets_in file.now)) }
@@ -71,7 +75,7 @@ fn starts_of<A: Allowance>(memory: &A, file: &[u8]) -> Result<Vec<Start>, AllocE
     Ok(starts)
 }
 
-/// The same in the order in which the blocks stand in the file.
+/// Returns the starts of the blocks that the file has, in the order of the blocks in the file.
 pub(crate) fn sorted_starts<A: Allowance>(memory: &A, file: &[u8]) -> Result<Vec<Start>, AllocError>
     requires { HasNoFault file.now }
     ensures all { IfOk result (λ starts.

@@ -1,22 +1,23 @@
--- The lines for what is refused. Where a definition ends in a `Bool`, it says whether all got through.
+-- The lines for refused inputs. A definition that ends in a `Bool` has it true if all was written
+-- and flushed, and false if a write or a flush failed.
 use Rattle.std.specs.Prelude.{◌≡◌, ◌++◌, ℕ, Bool, List, Option, codes, decimal}
 use Rattle.palm_text.specs.Counted.{Writing}
 use Rattle.script_lines.specs.declared.fault.LineFault.{LineFault}
 use Rattle.palm_text.specs.Output.{Puts}
 
--- `bad`, a fault and a line's end
+-- `bad`, a fault and a newline
 abbrev pub IsBadLine : List ℕ → Type 0
 IsBadLine line = (fault : List ℕ) × (line ≡ codes "bad " ++ (fault ++ codes "\n"))
 
--- a line that says what is bad
+-- a line with `bad` goes to a writer
 abbrev pub PutsBad : {W : Type 0} → (W → Option (List ℕ)) → Writing W → Writing W → Bool → Type 0
 PutsBad contents old new ok = (line : List ℕ) × IsBadLine line × Puts contents old new line ok
 
--- the line for a refused script: `line`, the number of its first faulty line, what is wrong there, and
--- a line's end
+-- the line for a refused script: `line`, the number of its first faulty line, the fault, and a
+-- newline
 abbrev pub IsFaultLine : LineFault → List ℕ → Type 0
 IsFaultLine fault line = (text : List ℕ) × (line ≡ codes "line " ++ (decimal fault.line ++ (codes " " ++ (text ++ codes "\n"))))
 
--- such a line
+-- the line for a refused script goes to a writer
 abbrev pub PutsFault : {V : Type 0} → LineFault → (V → Option (List ℕ)) → Writing V → Writing V → Bool → Type 0
 PutsFault fault contents old new ok = (line : List ℕ) × IsFaultLine fault line × Puts contents old new line ok

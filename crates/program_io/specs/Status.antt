@@ -1,4 +1,4 @@
--- Statuses of runs that broke off.
+-- The statuses of runs that failed.
 use Rattle.std.specs.Prelude.{◌≡◌, ℕ, List, Option, codes}
 use Rattle.std.specs.IoError.{error_kind}
 use Rattle.std.specs.declared.io.Error.{Error}
@@ -9,7 +9,7 @@ use Rattle.program_io.specs.declared.input.InputFault.TheVariants.{Read, TooLong
 use Rattle.program_io.specs.declared.status.Status.{Status}
 use Rattle.program_io.specs.declared.status.Status.TheVariants.{Done, Refused, BadWords, ReadFault, WriteFault, NoMemory}
 
--- the word that standard error gets behind `fault`
+-- the word after `fault` on standard error
 abbrev pub fault_word : Status → Option (List ℕ)
 fault_word Done = None
 fault_word Refused = None
@@ -18,13 +18,13 @@ fault_word ReadFault = Some (codes "read")
 fault_word WriteFault = Some (codes "write")
 fault_word NoMemory = Some (codes "memory")
 
--- the fault of a file that couldn't be opened: want of memory, or the error itself
+-- the fault of a file that couldn't be opened: out of memory, or the error itself
 abbrev pub FaultOf : Error → InputFault → Type 0
 FaultOf error (Read other) = other ≡ error
 FaultOf error TooLong = ⊥
 FaultOf error Memory = error_kind error ≡ OutOfMemory
 
--- what a run comes to that cannot read an input file
+-- the status of a run that can't read an input file
 abbrev pub status_of : InputFault → Status
 status_of (Read error) = ReadFault
 status_of TooLong = ReadFault

@@ -1,13 +1,14 @@
 //! The words of the command line, and the texts of the help.
 //!
-//! `COMMANDS` has a row for each command: start there. `parse` answers what the words ask for.
+//! Start with `COMMANDS`, which has a row for each command. `parse` returns the request of the
+//! words.
 
 use clap::builder::ValueParser;
 use clap::error::{Error, ErrorKind};
 use clap::{Arg, ArgAction, ArgMatches, Command};
 use std::alloc::{AllocError, Global};
 
-/// What the words ask for.
+/// The request of the words.
 #[derive(Drop)]
 pub enum Request<'a> {
     New {
@@ -47,6 +48,21 @@ pub enum Request<'a> {
         folder: &'a str,
         out: &'a str,
     },
+    Databases {
+        image: &'a str,
+    },
+    Export {
+        image: &'a str,
+        folder: &'a str,
+        /// The names of the databases, or none for all of them.
+        names: Vec<&'a str>,
+    },
+    Import {
+        out: &'a str,
+        size: Option<u32>,
+        slots: Option<u16>,
+        files: Vec<&'a str>,
+    },
 }
 
 /// A command: its word, its help, and its arguments in order.
@@ -67,16 +83,20 @@ struct Argument {
     help: &'static str,
 }
 
-/// How many words an argument may be.
+/// The number of words that an argument may have.
 #[derive(Clone, Copy)]
 enum Count {
     One,
-    /// Any number of them, or none.
+    /// Any number of words, or none.
     Any,
+    /// One word or several.
+    Several,
+    /// A word after the option of this name, or none.
+    Option(&'static str),
 }
 
 /// Every command.
-const COMMANDS: [CommandRow; 9] = [
+const COMMANDS: [CommandRow; 12] = [
     CommandRow {
         name: "new",
         about: "Writes an image with nothing in it, and prints 'ok'",
@@ -211,6 +231,63 @@ const COMMANDS: [CommandRow; 9] = [
             },
         ],
     },
+    CommandRow {
+        name: "databases",
+        about: "Prints a line for each database of an image",
+        after_help: Some(STORES),
+        arguments: &[IMAGE],
+    },
+    CommandRow {
+        name: "export",
+        about: "Writes the databases of an image into a folder, as PDB and PRC files",
+        after_help: Some(STORES),
+        arguments: &[
+            IMAGE,
+            Argument {
+                name: "DIR",
+                count: Count::One,
+                values: ValueParser::String,
+                help: "Folder for the files. It is made if there is none. No file that is there is replaced",
+            },
+            Argument {
+                name: "NAME",
+                count: Count::Any,
+                values: ValueParser::String,
+                help: "Names of databases. Without any, all databases are written",
+            },
+        ],
+    },
+    CommandRow {
+        name: "import",
+        about: "Makes an image with the databases of PDB and PRC files in it",
+        after_help: Some(STORES),
+        arguments: &[
+            Argument {
+                name: "OUT",
+                count: Count::One,
+                values: ValueParser::String,
+                help: "File for the image. One that is there is replaced, once the image is whole",
+            },
+            Argument {
+                name: "FILE",
+                count: Count::Several,
+                values: ValueParser::String,
+                help: "PDB and PRC files, in the order in which they are imported; '-' is standard input",
+            },
+            Argument {
+                name: "SIZE",
+                count: Count::Option("size"),
+                values: ValueParser::Unsigned(0, u32::MAX as u64),
+                help: "Size of the image in bytes. Without it, the least that the files need",
+            },
+            Argument {
+                name: "SLOTS",
+                count: Count::Option("slots"),
+                values: ValueParser::Unsigned(0, u16::MAX as u64),
+                help: "How many slots its table has. Without it, the least that the files need",
+            },
+        ],
+    },
 ];
 
 const DATABASE_FILE: Argument = Argument {
@@ -335,12 +412,15 @@ For example, 'palmheap list MemoDB.pdb' prints:
   sort none
   records 1
   0 01 1 88 9
+  needs 168 bytes and 3 slots in a heap
   canonical
 
 The first line has the length of the file. Attributes and the seed are in hex. Dates are seconds since
 1904-01-01 00:00:00 UTC, with the date and time after them. 'app' and 'sort' have the offset and the length
 of an info block, or 'none'. An entry has its index, its values, and the offset and length of its data: the
 values of a record are its attributes in hex and its ID, those of a resource its type and its id.
+
+The line 'needs' has the least SIZE and SLOTS with which an image of 'palmheap new' takes the database.
 
 The last line is 'canonical' if 'palmheap canonical' would write the file as it is, byte for byte. Else it is
 'changes' and words that say what would change:
@@ -399,9 +479,35 @@ deleted, may have 'none' for its file. The name of a file has letters, digits, '
 letter, a digit or '_'. A line that is empty or starts with '#' is passed over. For a faulty line 'pack' prints 'line',
 its number and what is wrong in it, and the exit status is 1.";
 
-/// What the words of a command line ask for. The first word is the program's own name.
+const STORES: &str = "\
+For example, 'palmheap import memos.img MemoDB.pdb' makes an image that is just large enough for the database, and
+prints 'ok' with its size and its slot count, and 'ok' for each file:
+
+  ok 168 3
+  ok
+
+The line 'needs' of 'palmheap list' has the same numbers for one file. If a file is refused, the line 'refused' has
+the number and the name of the refusal, standard error has the name of the file, and no image is written. The exit
+status is 1 then.
+
+'palmheap databases memos.img' prints 'ok' with the number of databases, and a line for each:
+
+  ok 1
+  \"MemoDB\" records \"DATA\" \"memo\" 0000 1 97
+
+The line has the name, which entries the database has, the type, the creator, the attributes in hex, the number of
+entries, and how many bytes its file has.
+
+'palmheap export memos.img out' writes the file out/MemoDB.pdb, and prints 'ok' with the number of files. The name of
+a file is the name of the database, with '.pdb' for records and '.prc' for resources. A byte that is no printable
+ASCII character, '/', '%', and '.' at the start are spelled '%' and two hex digits. If a file is there, nothing is
+written, and the exit status is 3.";
+
+/// Returns the request of the words of a command line. The first word is the program's own name.
 ///
-/// The error is also a request for help or for the version.
+/// # Errors
+///
+/// - the error of `clap`: if the words are no valid request, or ask for the help or the version.
 pub fn parse<'a>(alloc: Global, words: &'a [String]) -> Result<Request<'a>, Error> {
     let mut command = palmheap(alloc)?;
     parse_by(alloc, &mut command, words)
@@ -419,8 +525,8 @@ fn parse_by<'a>(
     }
 }
 
-/// What the matches of `palmheap` ask for. The command has each of its arguments but FILE as a required
-/// one, so nothing is missing.
+/// Returns the request of the matches of `palmheap`. Each argument of a command is required, except
+/// FILE of `run`, NAME and the options, so nothing is missing.
 fn requested<'a>(
     alloc: Global,
     matches: &ArgMatches<'a>,
@@ -435,6 +541,9 @@ fn requested<'a>(
         Some(("canonical", given)) => Ok(canonical_requested(given)),
         Some(("unpack", given)) => Ok(unpack_requested(given)),
         Some(("pack", given)) => Ok(pack_requested(given)),
+        Some(("databases", given)) => Ok(databases_requested(given)),
+        Some(("export", given)) => export_requested(alloc, given),
+        Some(("import", given)) => import_requested(alloc, given),
         _ => Ok(None),
     }
 }
@@ -510,7 +619,46 @@ fn pack_requested<'a>(given: &ArgMatches<'a>) -> Option<Request<'a>> {
     })
 }
 
-/// The whole command line.
+fn databases_requested<'a>(given: &ArgMatches<'a>) -> Option<Request<'a>> {
+    Some(Request::Databases {
+        image: given.get_str("IMAGE")?,
+    })
+}
+
+fn export_requested<'a>(
+    alloc: Global,
+    given: &ArgMatches<'a>,
+) -> Result<Option<Request<'a>>, AllocError> {
+    let names = Vec::from_slice(alloc, given.get_strs("NAME").unwrap_or(&[]))?;
+    Ok(export_of(given, names))
+}
+
+fn export_of<'a>(given: &ArgMatches<'a>, names: Vec<&'a str>) -> Option<Request<'a>> {
+    Some(Request::Export {
+        image: given.get_str("IMAGE")?,
+        folder: given.get_str("DIR")?,
+        names,
+    })
+}
+
+fn import_requested<'a>(
+    alloc: Global,
+    given: &ArgMatches<'a>,
+) -> Result<Option<Request<'a>>, AllocError> {
+    let files = Vec::from_slice(alloc, given.get_strs("FILE").unwrap_or(&[]))?;
+    Ok(import_of(given, files))
+}
+
+fn import_of<'a>(given: &ArgMatches<'a>, files: Vec<&'a str>) -> Option<Request<'a>> {
+    Some(Request::Import {
+        out: given.get_str("OUT")?,
+        size: given.get_one::<u32>("SIZE"),
+        slots: given.get_one::<u16>("SLOTS"),
+        files,
+    })
+}
+
+/// Returns the whole command line.
 fn palmheap<'a>(alloc: Global) -> Result<Command<'a>, AllocError> {
     let mut palmheap = described(alloc);
     for row in &COMMANDS {
@@ -519,7 +667,7 @@ fn palmheap<'a>(alloc: Global) -> Result<Command<'a>, AllocError> {
     Ok(palmheap)
 }
 
-/// The command line without its commands.
+/// Returns the command line without its commands.
 fn described<'a>(alloc: Global) -> Command<'a> {
     Command::new(alloc, "palmheap")
         .version("0.1.0")
@@ -536,7 +684,7 @@ fn with_command<'a>(
     palmheap.subcommand(command(alloc, row)?)
 }
 
-/// The command of a row.
+/// Returns the command of a row.
 fn command<'a>(alloc: Global, row: &CommandRow) -> Result<Command<'a>, AllocError> {
     let mut command = Command::new(alloc, row.name).about(row.about);
     if let Some(text) = row.after_help {
@@ -555,5 +703,10 @@ fn described_argument<'a>(alloc: Global, argument: &Argument) -> Arg<'a> {
     match argument.count {
         Count::One => described.required(true),
         Count::Any => described.num_args(1..).action(ArgAction::Append),
+        Count::Several => described
+            .required(true)
+            .num_args(1..)
+            .action(ArgAction::Append),
+        Count::Option(name) => described.long(name),
     }
 }

@@ -10,6 +10,7 @@ pub struct ErrorOutput<'a, R> {
 }
 
 impl<'a, R: Eprint> ErrorOutput<'a, R> {
+    /// Returns a writer to standard error.
     pub fn new(rt: &'a R) -> ErrorOutput<'a, R> {
         ErrorOutput { rt }
     }
@@ -20,7 +21,8 @@ impl<R: Eprint> Write for ErrorOutput<'_, R> {
     ///
     /// # Errors
     ///
-    /// `InvalidData` if they are not UTF-8; the error of standard error.
+    /// - `InvalidData`: if they are not UTF-8.
+    /// - the error of standard error: if the write failed.
     fn write(&mut self, bytes: &[u8]) -> io::Result<usize> {
         let Ok(text) = str::from_utf8(bytes) else {
             return Err(io::Error::from(ErrorKind::InvalidData));

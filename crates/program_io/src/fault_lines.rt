@@ -1,4 +1,4 @@
-//! The lines for what is refused.
+//! The lines for refused inputs.
 
 ghost use Rattle.std.specs.Prelude.{◌≡◌, ◌⊎◌, IfOk, OnErr, string_bytes, true, false};
 ghost use Rattle.program_io.specs.FaultLines.{IsBadLine, IsFaultLine, PutsBad, PutsFault};
@@ -12,7 +12,8 @@ use std::alloc::AllocError;
 use std::fmt::Display;
 use std::io::Write;
 
-/// Prints `bad` and a fault, and answers `status`.
+/// Prints `bad` and a fault. Returns `status`, or the fault if an allocation, a write or the flush
+/// failed.
 pub fn say_bad<A: Allowance, V: Write, F: Display + Drop>(
     memory: &A,
     fault: F,
@@ -29,7 +30,7 @@ pub fn say_bad<A: Allowance, V: Write, F: Display + Drop>(
     say_text(bad_text(memory, fault), status, out)
 }
 
-/// The line for a fault.
+/// Returns the line for a fault.
 fn bad_text<A: Allowance, F: Display + Drop>(memory: &A, fault: F) -> Result<String, AllocError>
     ensures line { IfOk result (λ line. IsBadLine (string_bytes line)) }
     ensures short { OnErr result (A.is_short memory.now) }
@@ -38,7 +39,8 @@ fn bad_text<A: Allowance, F: Display + Drop>(memory: &A, fault: F) -> Result<Str
     text_of(memory, format_args!("bad {text}\n"))
 }
 
-/// Prints the line for a refused script.
+/// Prints the line for a refused script. Returns `Refused`, or the fault if an allocation, a write
+/// or the flush failed.
 pub fn say_line_fault<A: Allowance, V: Write>(
     memory: &A,
     fault: LineFault,
@@ -54,7 +56,7 @@ pub fn say_line_fault<A: Allowance, V: Write>(
     say_text(line_fault_text(memory, fault), Status::Refused, out)
 }
 
-/// The line for a refused script.
+/// Returns the line for a refused script.
 fn line_fault_text<A: Allowance>(memory: &A, fault: LineFault) -> Result<String, AllocError>
     ensures line { IfOk result (λ line. IsFaultLine fault (string_bytes line)) }
     ensures short { OnErr result (A.is_short memory.now) }

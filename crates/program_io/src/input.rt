@@ -10,27 +10,27 @@ use std::io;
 use std::io::{ErrorKind, Read};
 use thiserror::Error;
 
-/// The most bytes that an input file may have.
+/// The greatest size of an input file in bytes.
 pub const INPUT_LIMIT: usize = 16_777_216;
 
-/// The most bytes that one read asks for.
+/// The greatest number of bytes that one read asks for.
 const TURN: usize = 65_536;
 
-/// Why a file could not be read.
+/// The reason why a file could not be read.
 #[derive(Clone, Copy, Debug, Error)]
 pub enum InputFault {
-    /// It couldn't be opened, or a read failed.
+    /// The file couldn't be opened, or a read failed.
     #[error("{0}")]
     Read(io::Error),
     /// The file has more than `INPUT_LIMIT` bytes.
     #[error("longer than {INPUT_LIMIT} bytes")]
     TooLong,
-    /// Memory was refused.
+    /// An allocation failed.
     #[error("out of memory")]
     Memory,
 }
 
-/// The fault of a file that couldn't be opened: for want of memory, or by its own.
+/// Converts the error of a file that couldn't be opened: out of memory, or the error itself.
 impl From<io::Error> for InputFault {
     ghost use Rattle.program_io.specs.Status.{FaultOf};
 
@@ -44,9 +44,15 @@ impl From<io::Error> for InputFault {
     }
 }
 
-/// Reads to the end, `TURN` bytes at most at a time: until a read gives no byte.
+/// Reads to the end, at most `TURN` bytes at a time, until a read gives no byte.
 ///
-/// A reader that gives more than `INPUT_LIMIT` bytes is read no further than the turn that shows it.
+/// It stops at the read with which the bytes are more than `INPUT_LIMIT`.
+///
+/// # Errors
+///
+/// - `Read`: if a read failed.
+/// - `TooLong`: if the reader gives more than `INPUT_LIMIT` bytes.
+/// - `Memory`: if an allocation failed.
 pub fn read_input<R: Read>(alloc: Global, reader: &mut R) -> Result<Vec<u8>, InputFault>
     ensures limit { IfOk result (λ bytes. vec_len bytes ≤ INPUT_LIMIT) }
     ensures bytes { IfOk result (λ bytes.
@@ -59,7 +65,7 @@ pub fn read_input<R: Read>(alloc: Global, reader: &mut R) -> Result<Vec<u8>, Inp
     read_input_from(&alloc, reader)
 }
 
-/// `read_input`, where each growth asks for a grant.
+/// The same as `read_input`. Each allocation asks `memory` for a grant.
 pub fn read_input_from<A: Allowance, R: Read>(
     memory: &A,
     reader: &mut R,
@@ -80,7 +86,7 @@ pub fn read_input_from<A: Allowance, R: Read>(
     Ok(bytes)
 }
 
-/// A buffer of `n` bytes.
+/// Allocates a buffer of `n` bytes.
 fn buffer<A: Allowance>(memory: &A, n: usize) -> Result<Vec<u8>, AllocError>
     ensures len { IfOk result (λ buffer. length buffer.items ≡ n) }
     ensures short { OnErr result (A.is_short memory.now) }
@@ -88,7 +94,7 @@ fn buffer<A: Allowance>(memory: &A, n: usize) -> Result<Vec<u8>, AllocError>
     zeros(memory, n)
 }
 
-/// Reads once, and keeps what came behind `bytes`. Answers how many bytes came.
+/// Reads once, and appends the new bytes to `bytes`. Returns their number.
 fn read_turn<A: Allowance, R: Read>(
     memory: &A,
     reader: &mut R,
@@ -121,7 +127,7 @@ fn read_turn<A: Allowance, R: Read>(
     }
 }
 
-/// Puts bytes behind others. No bytes take no memory.
+/// Appends bytes. Nothing is allocated if there are none.
 fn extend<A: Allowance>(memory: &A, bytes: &mut Vec<u8>, more: &[u8]) -> Result<(), AllocError>
     ensures items { OnOk result (bytes.new.items ≡ bytes.old.items ++ more.now) }
     ensures short { OnErr result (A.is_short memory.now) }

@@ -1,20 +1,20 @@
-//! What a program reads and writes: the words of its command line, input files, lines on writers whose faults
-//! are counted, output files, and what all that came to.
+//! The input and output of the program: the words of its command line, input files, lines on
+//! writers that count their faults, output files, and the status of a run.
 //!
-//! No file or terminal stands in a contract: each function works over words, readers and writers. Start at
-//! `say`, which prints a line, and at `Status`.
+//! No contract is about files or terminals: each function works over words, readers and writers.
+//! Start with `say`, which prints a line, and with `Status`.
 //!
 //! | module | does |
 //! |---|---|
 //! | `command_line` | reads the words of the command line, and has the texts of the help |
 //! | `input` | reads a file to its end, within the limit |
-//! | `output` | prints a line, and answers the status that a run comes to |
-//! | `fault_lines` | the lines for a refused image and a refused script |
-//! | `output_file` | a file that takes the place of another as a whole |
+//! | `output` | prints a line, and returns the status of the run |
+//! | `fault_lines` | the lines for refused inputs |
+//! | `output_file` | a file that replaces another as a whole |
 //! | `error_output` | standard error, as a writer |
-//! | `noted` | a writer that keeps why it failed first |
-//! | `status` | what a run came to, and the exit status for it |
-//! | `fault_report` | what standard error gets where a run broke off |
+//! | `noted` | a writer that keeps its first error |
+//! | `status` | the status of a run, and its exit status |
+//! | `fault_report` | the lines on standard error if a run failed |
 #![tactic(auto)]
 
 pub mod command_line;

@@ -1,10 +1,10 @@
-//! A writer that keeps why it failed.
+//! A writer that keeps its first error.
 
 use std::io;
 use std::io::{ErrorKind, Write};
 
-/// A writer that writes to another, and keeps that one's first error. A write of bytes that takes
-/// none is an error of the kind `WriteZero`.
+/// A wrapper of a writer that keeps the writer's first error. A write of some bytes that takes none
+/// of them is an error of the kind `WriteZero`.
 #[derive(Drop)]
 pub struct Noted<W: Write> {
     inner: W,
@@ -12,11 +12,12 @@ pub struct Noted<W: Write> {
 }
 
 impl<W: Write> Noted<W> {
+    /// Wraps a writer.
     pub fn new(inner: W) -> Noted<W> {
         Noted { inner, fault: None }
     }
 
-    /// Gives the writer back, with its first error.
+    /// Returns the wrapped writer, and its first error.
     pub fn into_parts(self) -> (W, Option<io::Error>) {
         let Noted { inner, fault } = self;
         (inner, fault)

@@ -1,4 +1,4 @@
-//! Lines that are printed, and what that comes to.
+//! Lines that are printed, and the status that follows.
 
 ghost use Rattle.std.specs.Prelude.{◌≡◌, ◌≢◌, ◌⊎◌, IsOkAnd, string_bytes, true, false};
 ghost use Rattle.std.specs.Result.{IsErr};
@@ -9,7 +9,8 @@ use palm_text::{Counted, put};
 use std::alloc::AllocError;
 use std::io::Write;
 
-/// Prints a line, and answers `status`.
+/// Prints a line and flushes `out`. Returns `status`, or `WriteFault` if a write or the flush
+/// failed.
 pub fn say<V: Write>(line: &[u8], status: Status, out: &mut Counted<V>) -> Status
     requires { status ≢ Status.WriteFault }
     ensures status { (result ≡ status) ⊎ (result ≡ Status.WriteFault) }
@@ -22,7 +23,8 @@ pub fn say<V: Write>(line: &[u8], status: Status, out: &mut Counted<V>) -> Statu
     }
 }
 
-/// Prints a line if there was memory for it, and answers `status`.
+/// Prints a line and flushes `out`. Returns `status`, or the fault if an allocation, a write or the
+/// flush failed.
 pub fn say_text<V: Write>(
     line: Result<String, AllocError>,
     status: Status,

@@ -1,4 +1,4 @@
-//! A file that takes the place of another as a whole.
+//! A file that replaces another as a whole.
 
 use std::alloc::AllocError;
 use std::fs::{File, OpenFile};
@@ -6,26 +6,26 @@ use std::io::Write;
 use std::rt::Files;
 use std::{fs, io};
 
-/// What the name of the file beside another ends in.
+/// The end of the name of the temporary file.
 const SUFFIX: &str = ".palmheap-new";
 
 /// A writer whose bytes appear under a path all at once.
 ///
-/// They go to a file beside the path, and `flush` gives that file the path's name. Until then what
-/// the path names is as it was. A path that names something else than a file, as a device, is
-/// written to directly.
+/// The bytes go to a temporary file next to the path, and `flush` renames it to the path. Until
+/// then the file at the path is unchanged. A path that names something other than a file, for
+/// example a device, is written to directly.
 ///
-/// It is opened by the first write, takes no byte behind the flush that puts it in its place, and has
-/// to be closed.
+/// The first write opens the temporary file. After the flush that renames it, it takes no more
+/// bytes. The caller must close it.
 pub struct OutputFile<'a, R: Files> {
     rt: &'a R,
     path: String,
-    /// The path of the file beside, or none where `path` is written to directly.
+    /// The path of the temporary file, or none if `path` is written to directly.
     beside: Option<String>,
     progress: Progress<R::File>,
 }
 
-/// How far a file is written.
+/// The progress of the writing.
 #[derive(Drop)]
 enum Progress<F: Drop> {
     Unopened,
@@ -34,7 +34,11 @@ enum Progress<F: Drop> {
 }
 
 impl<'a, R: Files + AllocGlobal> OutputFile<'a, R> {
-    /// For this path. Nothing is opened yet.
+    /// Returns a writer for this path, with nothing opened yet.
+    ///
+    /// # Errors
+    ///
+    /// - `AllocError`: if an allocation failed.
     pub fn new(rt: &'a R, path: &str) -> Result<OutputFile<'a, R>, AllocError> {
         let path = followed(rt, path)?;
         let beside = if is_replaceable(rt, path.as_str()) {
@@ -50,8 +54,8 @@ impl<'a, R: Files + AllocGlobal> OutputFile<'a, R> {
         })
     }
 
-    /// Opens the file to write to. What an earlier run left beside the path is removed first, and
-    /// the new file gets the permissions of the one that it is to replace.
+    /// Opens the file to write to. It first removes the temporary file of an earlier run. The new
+    /// file gets the permissions of the file that it will replace.
     fn open(&self) -> io::Result<R::File> {
         let Some(beside) = &self.beside else {
             return File::create(self.rt, self.path.as_str());
@@ -64,7 +68,7 @@ impl<'a, R: Files + AllocGlobal> OutputFile<'a, R> {
         Ok(file)
     }
 
-    /// Ends the writing. What was not flushed is thrown away.
+    /// Ends the writing, and drops the bytes that were not flushed.
     pub fn close(self) {
         let OutputFile {
             rt,
@@ -79,7 +83,7 @@ impl<'a, R: Files + AllocGlobal> OutputFile<'a, R> {
     }
 }
 
-/// The path of what a path leads to, over symbolic links. One that leads nowhere stays as it is.
+/// Follows the symbolic links of a path. A path that leads nowhere is returned unchanged.
 fn followed<R: Files + AllocGlobal>(rt: &R, path: &str) -> Result<String, AllocError> {
     match fs::canonicalize(rt, path) {
         Ok(real) => Ok(real.into_string()),
@@ -88,7 +92,7 @@ fn followed<R: Files + AllocGlobal>(rt: &R, path: &str) -> Result<String, AllocE
     }
 }
 
-/// Whether a file is there, or nothing.
+/// Returns whether there is a file at the path, or nothing.
 fn is_replaceable(rt: &impl Files, path: &str) -> bool {
     match fs::metadata(rt, path) {
         Ok(found) => found.is_file(),
@@ -107,7 +111,7 @@ impl<R: Files + AllocGlobal> Write for OutputFile<'_, R> {
         }
     }
 
-    /// Puts what was written in its place.
+    /// Renames the temporary file to the path.
     fn flush(&mut self) -> io::Result<()> {
         let Progress::Open(file) = &mut self.progress else {
             return Ok(());

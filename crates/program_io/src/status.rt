@@ -1,29 +1,29 @@
-//! What a run of the program came to.
+//! The status of a run of the program.
 
 ghost use Rattle.std.specs.Prelude.{◌≡◌, ◌↔◌, ◌⊎◌, option_map};
 ghost use Rattle.program_io.specs.Status.{fault_word};
 
 use crate::input::InputFault;
 
-/// What a run came to. `code` gives the exit status.
+/// The status of a run. `code` returns the exit status.
 #[derive(Clone, Copy, Debug, PartialEq, Eq)]
 pub enum Status {
-    /// What was asked for was done.
+    /// The request was fulfilled.
     Done,
-    /// An input is not what it should be; standard output says why.
+    /// An input is refused. Standard output has the reason.
     Refused,
-    /// The words of the command line ask for what there is not.
+    /// The words of the command line are no valid request.
     BadWords,
     /// An input file could not be read, or is too long.
     ReadFault,
     /// A write failed.
     WriteFault,
-    /// Memory was refused.
+    /// An allocation failed.
     NoMemory,
 }
 
 impl Status {
-    /// The exit status of the process.
+    /// Returns the exit status of the process.
     pub fn code(self) -> u8
         ensures done { (result ≡ 0) ↔ (self ≡ Status.Done) }
         ensures refused { (result ≡ 1) ↔ (self ≡ Status.Refused) }
@@ -40,7 +40,7 @@ impl Status {
         }
     }
 
-    /// The word for standard error behind `fault`, where the run broke off.
+    /// Returns the word after `fault` on standard error, if the run failed.
     pub fn fault(self) -> Option<&'static str>
         ensures { option_map (λ word. word.now) result ≡ fault_word self }
     {

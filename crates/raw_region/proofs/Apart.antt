@@ -1,4 +1,5 @@
--- A part of bytes with a gap is taken out of what is owned, and put back; and what a `&` to them shows of it. Assumes `Logic`.
+-- A part of bytes with a gap is taken out of what is owned, and put back; and what a `&` to them
+-- shows of it. Assumes `Logic`.
 use Rattle.std.proofs.Common.{◌≡◌, ℕ, zero, suc, ◌+◌, ◌-◌, ◌≤◌, List, [], ◌∷◌, ◌++◌, length, take, drop as drop_l, replicate, slice_range, length-take, length-drop, take-append-drop, refl, sym, ap, ◌∙◌, arith, inl, inr}
 use seplogic.Ra.Ura.{Ura}
 use base.Fraction.{full_share}

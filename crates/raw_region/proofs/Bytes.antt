@@ -47,7 +47,7 @@ one_more_zero zero = refl
 one_more_zero (suc n) = ap (λ (l : List ℕ). 0 ∷ l) (one_more_zero n)
 
 module _ {M : Type 1} {𝓤 : Ura M} (𝓛 : Logic 𝓤) (n b o : ℕ) where
-  -- the first i bytes are zeros, and the others hold nothing
+  -- the first i bytes are zeros, and the others have no value
   abbrev pub Zeros : ℕ → Item 𝓤
   Zeros i = ‵ (part_at (Array u8 i) full_share (replicate i 0) b o)
 

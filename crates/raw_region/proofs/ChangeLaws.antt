@@ -1,9 +1,9 @@
--- Bytes that are changed one behind the other, at equal distances.
+-- Bytes that are changed one after another, at equal distances.
 use Rattle.std.proofs.Common.{◌≡◌, ℕ, zero, suc, ◌+◌, ◌-◌, ◌<◌, ◌≤◌, ◌++◌, List, [], ◌∷◌, length, take, drop, get_or, set, refl, sym, ap, ◌∙◌, arith}
 use Rattle.std.proofs.lemmas.List.{length-set, drop_all, take_all, append-nil}
 use Rattle.raw_region.specs.ByteChanges.{changed_every}
 
--- of the bytes those in front are as they will be, and with those behind changed too all are
+-- the bytes before this one are changed already; if those after it are changed too, all are done
 pub record IsOnWay (change : ℕ → ℕ) (step skip : ℕ) (old now : List ℕ) (at : ℕ) : Type 0 where
   pub same_length : length now ≡ length old
   pub will_be : take at now ++ changed_every change step 0 (drop at now) ≡ changed_every change step skip old

@@ -4,7 +4,7 @@ use Rattle.std.proofs.lemmas.List.{drop-drop, take-append-le, drop-append-le, ta
 use Rattle.std.proofs.Math.Seq.{take-append-add}
 use Rattle.heap_model.specs.Bytes.{overwritten}
 
--- ---- one list in front of another
+-- ---- one list before another
 
 pub part_in_front : (front rest : List ℕ) (at n : ℕ) → at + n ≤ length front
     → slice_range (front ++ rest) at (at + n) ≡ slice_range front at (at + n)
@@ -48,7 +48,7 @@ over_back front rest part at past =
     rw (take_past front rest at past, drop_past front rest (at + length part) (omega arith), end)
     (simp append_assoc refl)
 
--- ---- three: those in front, zeros, and those behind
+-- ---- three: those before, zeros, and those after
 
 pub part_behind : (front behind : List ℕ) (count at n : ℕ) → length front + count ≤ at
     → slice_range (front ++ (replicate count 0 ++ behind)) at (at + n)
@@ -80,7 +80,7 @@ all_many front behind count =
     let all = length-append front (zeros ++ behind) in
     omega (arith, many, rest, all)
 
--- what is lent is cut out, and zeros stand there
+-- what is lent is cut out, and zeros are there
 pub cut_out : (bytes : List ℕ) (at n : ℕ)
     → take at bytes ++ (replicate n 0 ++ drop n (drop at bytes)) ≡ overwritten bytes at (replicate n 0)
 unfolding overwritten

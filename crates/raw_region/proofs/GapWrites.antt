@@ -36,7 +36,7 @@ last_of : (xs ys zs : List ℕ) (n k : ℕ) → length xs ≡ n → length ys �
 last_of xs ys zs n k many more =
     sym (drop-drop k n (xs ++ (ys ++ zs))) ∙ ap (λ (l : List ℕ). drop k l) (drop_at xs (ys ++ zs) n many) ∙ drop_at ys zs k more
 
--- both sides of the gap once these bytes stand before it
+-- both sides of the gap once these bytes are written before it
 module _ (g : Gapped) (at : ℕ) (bytes : List ℕ) (within : at + length bytes ≤ length g.front) where
   over_is : all_with g at bytes ≡ overwritten g.front at bytes ++ (replicate g.gap 0 ++ g.rest)
   over_is = over_front g.front (replicate g.gap 0 ++ g.rest) bytes at within

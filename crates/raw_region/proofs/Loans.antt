@@ -1,5 +1,5 @@
--- What a run of bytes owns is what its parts own, so a part can be a run of its own for a while, as a
--- loan of a part of a region needs it. Assumes `Logic`.
+-- What a run of bytes owns is what its parts own, so a part can be a run of its own for a while, as
+-- a loan of a part of a region needs it. Assumes `Logic`.
 use Rattle.std.proofs.Common.{◌≡◌, ℕ, ◌+◌, ◌-◌, ◌≤◌, List, [], ◌∷◌, ◌++◌, length, take, drop as drop_l, length-take, length-drop, length-append, take-append-drop, refl, sym, arith}
 use seplogic.Ra.Ura.{Ura}
 use base.Fraction.{full_share}

@@ -115,7 +115,7 @@ slid_in_part old part at n low high k within source target is =
     let size : length moved ≡ k = length-taken behind low k (simp length-drop (omega arith)) in
     rw (sym there) (overwritten_in_part old part moved at n high (omega (arith, size)) (rw (sym here) is))
 
--- a list of which the bytes behind a gap slid down into it
+-- a list of which the bytes after a gap slid down into it
 pub slid_down : (old part : List ℕ) (from to n by : ℕ) → from + n ≤ length old → from ≡ to + by
     → part ≡ overwritten (slice_range old to (from + n)) 0
     (slice_range (slice_range old to (from + n)) by (length (slice_range old to (from + n))))

@@ -1,4 +1,5 @@
--- What the walks share: the slots of a signature, and what follows a part of a body. Assumes `Logic`.
+-- What the walks share: the slots of a signature, and what follows a part of a body. Assumes
+-- `Logic`.
 use Rattle.std.proofs.Common.{ℕ, zero, suc, List, [], ◌∷◌}
 use seplogic.Ra.Ura.{Ura}
 use mir.Syntax.{Body}

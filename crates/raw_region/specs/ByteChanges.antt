@@ -1,4 +1,4 @@
--- Bytes at equal distances, changed.
+-- Changes of bytes at equal distances.
 use Rattle.std.specs.Prelude.{◌-◌, ℕ, zero, suc, List, [], ◌∷◌}
 
 -- The bytes at `skip`, `skip + step`, `skip + 2 * step` .. are changed. All others stay.

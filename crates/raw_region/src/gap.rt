@@ -1,16 +1,16 @@
-//! What is lent of a region.
+//! The lent part of a region, as its offset and its length.
 
 ghost use Rattle.std.specs.Prelude.{◌≡◌, ◌+◌, ◌<◌, ◌^◌, IfSome, IfNone, Some};
 ghost use Rattle.raw_region.specs.Gaps.{MissesPart};
 
-/// So many bytes from an offset on.
+/// The `count` bytes at `at`.
 #[derive(Clone, Copy)]
 pub(crate) struct Gap {
     pub(crate) at: usize,
     pub(crate) count: usize,
 }
 
-/// What is lent, unless the `n` bytes at `at` miss it.
+/// Returns the lent part, or `None` if the `n` bytes at `at` miss it.
 #[inline]
 pub(crate) fn met(lent: Option<Gap>, at: usize, n: usize) -> Option<Gap>
     requires small { at + n < 2 ^ 64 }

@@ -1,7 +1,7 @@
-//! The bytes of a region: bytes in a row, but for a gap that somebody else owns meanwhile.
+//! The bytes of a region: bytes in a row, except for a gap while a part of them is lent.
 //!
-//! Only proofs know where the gap is. What is read or written misses it, as the caller proves, so each access goes
-//! through one pointer and tests nothing.
+//! Only proofs know the place of the gap. The caller must prove that a read or write misses it. So
+//! each access goes through one pointer and tests nothing.
 
 ghost use Rattle.std.specs.Prelude.{◌≡◌, ◌+◌, ◌<◌, ◌≤◌, ◌^◌, ℕ, List, [], length, slice_range, replicate};
 ghost use Rattle.raw_region.specs.Ownership.{bytes_apart, apart_lent};
@@ -16,10 +16,10 @@ use std::marker::Model;
 use std::mem::{ManuallyDrop, replace};
 use std::slice;
 
-/// Bytes that nothing else can reach, before a gap and after it. It can't be dropped, and frees nothing.
+/// Owns the bytes before a gap and those after it. It can't be dropped, and frees nothing.
 pub(crate) struct Gapped {
     pub(crate) ptr: *mut u8,
-    /// How many bytes there are, with those of the gap.
+    /// The number of bytes, including those of the gap.
     pub(crate) len: usize,
     pub(crate) ghost front: { List ℕ },
     pub(crate) ghost gap: { ℕ },
@@ -41,7 +41,7 @@ impl Gapped {
     ghost use Rattle.raw_region.specs.Gaps.{bytes_of, MissesGap, KnowsGap, SamePlaces};
     ghost use Rattle.raw_region.specs.ByteChanges.{changed_every};
 
-    /// The bytes of two runs, with a gap between them.
+    /// Joins two runs that have a gap of `gap` bytes between them.
     pub(crate) fn of(front: Run, gap: usize, rest: Run) -> Gapped
         requires { (rest.ptr ≡ front.ptr +ₚ (front.len + gap)) × (front.len + gap + rest.len < 2 ^ 63) }
         ensures { (result.ptr ≡ front.ptr) × (result.len ≡ front.len + gap + rest.len)
@@ -55,7 +55,7 @@ impl Gapped {
         }
     }
 
-    /// The bytes before the gap, which begins at `at`, and those after it.
+    /// Returns the bytes before the gap, which begins at `at`, and those after it.
     pub(crate) fn apart(self, at: usize, gap: usize) -> (Run, Run)
         requires { (at ≡ length self.front) × (gap ≡ self.gap) }
         ensures first { (result.0.ptr ≡ self.ptr) × (result.0.len ≡ at) × (result.0.bytes ≡ self.front) }
@@ -74,7 +74,7 @@ impl Gapped {
         )
     }
 
-    /// The `n` bytes at `at`, to be read.
+    /// Returns the `n` bytes at `at`, to be read.
     #[inline(always)]
     pub(crate) fn part(&self, at: usize, n: usize) -> &[u8]
         requires { (at + n ≤ self.now.len) × MissesGap self.now at n }
@@ -83,7 +83,7 @@ impl Gapped {
         unsafe { slice::from_raw_parts(self.ptr.add(at), n) }
     }
 
-    /// The `n` bytes at `at`, to be written.
+    /// Returns the `n` bytes at `at`, to be written.
     #[inline(always)]
     pub(crate) fn part_mut(&mut self, at: usize, n: usize) -> &mut [u8]
         requires { (at + n ≤ self.old.len) × MissesGap self.old at n }
@@ -93,7 +93,7 @@ impl Gapped {
         unsafe { slice::from_raw_parts_mut(self.ptr.add(at), n) }
     }
 
-    /// The bytes of one run, with no gap.
+    /// Makes a `Gapped` with no gap from one run.
     pub(crate) fn whole(run: Run) -> Gapped
         ensures places { (result.ptr ≡ run.ptr) × (result.len ≡ run.len) }
         ensures bytes { (result.front ≡ run.bytes) × (result.gap ≡ 0) × (result.rest ≡ []) }
@@ -103,7 +103,7 @@ impl Gapped {
         Gapped::of(front, 0, rest)
     }
 
-    /// All bytes as one run, where there is no gap.
+    /// Returns all bytes as one run. There must be no gap.
     pub(crate) fn into_run(self, len: usize) -> Run
         requires { (len ≡ self.len) × (self.gap ≡ 0) × (length self.rest ≡ 0) }
         ensures { (result.ptr ≡ self.ptr) × (result.len ≡ len) × (result.bytes ≡ self.front) }
@@ -146,7 +146,7 @@ impl Gapped {
         BigEndian::write_u32(self.part_mut(at, 4), n);
     }
 
-    /// Makes each of the `n` bytes at `at` the byte `byte`.
+    /// Sets each of the `n` bytes at `at` to `byte`.
     #[inline(always)]
     #[tactic(auto, using(crate::proofs::GapWrites::filled, crate::proofs::GapWrites::same_places))]
     pub(crate) fn fill(&mut self, at: usize, n: usize, byte: u8)
@@ -157,7 +157,7 @@ impl Gapped {
         self.part_mut(at, n).fill(byte);
     }
 
-    /// Of the `n` bytes at `at`, changes those at `skip`, `skip + step`, `skip + 2 * step`, ..
+    /// Changes the bytes at `skip`, `skip + step`, `skip + 2 * step`, .. of the `n` bytes at `at`.
     #[inline(always)]
     #[tactic(auto, using(crate::proofs::GapWrites::all_changed, crate::proofs::GapWrites::same_places))]
     pub(crate) fn change_every<C: ByteChange>(
@@ -178,8 +178,8 @@ impl Gapped {
         words::change_all::<C>(self.part_mut(at, n), skip, step, change);
     }
 
-    /// Copies the `n` bytes at `from` to `to`, as they were before. Both parts lie among the `count` bytes at `at`, and
-    /// these miss the gap.
+    /// Copies the `n` bytes at `from` to `to`. The two parts may overlap. Both lie within the
+    /// `count` bytes at `at`, which miss the gap.
     #[tactic(auto, using(crate::proofs::GapWrites::slid_among, crate::proofs::GapWrites::same_places))]
     pub(crate) fn slide_within(&mut self, at: usize, count: usize, from: usize, to: usize, n: usize)
         requires within { (at + count ≤ self.old.len) × MissesGap self.old at count }

@@ -1,4 +1,4 @@
-//! A part of a region that is lent.
+//! The lent part of a region.
 
 ghost use Rattle.std.specs.Prelude.{◌≡◌, ◌+◌, ◌≤◌, length, slice_range};
 ghost use Rattle.heap_model.specs.Bytes.{overwritten};
@@ -21,14 +21,14 @@ impl Model for Part {
 }
 
 impl Part {
-    /// How many bytes there are.
+    /// Returns the number of bytes.
     pub fn len(&self) -> usize
         ensures { result ≡ length self.now.bytes }
     {
         self.run.len()
     }
 
-    /// The `n` bytes at `at`.
+    /// Returns the `n` bytes at `at`.
     pub fn slice(&self, at: usize, n: usize) -> &[u8]
         requires { at + n ≤ length self.now.bytes }
         ensures { result.now ≡ slice_range self.now.bytes at (at + n) }
@@ -36,7 +36,7 @@ impl Part {
         &self.run.as_slice()[at..at + n]
     }
 
-    /// Copies `bytes` into the part, the first of them to `at`.
+    /// Copies `bytes` into the part, from the offset `at` on.
     pub fn write(&mut self, at: usize, bytes: &[u8])
         requires { at + length bytes.now ≤ length self.old.bytes }
         ensures after { self.new ≡ record self.old { bytes = overwritten self.old.bytes at bytes.now } }

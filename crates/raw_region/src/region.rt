@@ -1,4 +1,4 @@
-//! The type of a region, whose methods call the functions of `words` on its bytes.
+//! The type `Region`, and its methods to read, write, slide and lend bytes.
 
 ghost use Rattle.std.specs.Prelude.{◌≡◌, ◌+◌, ◌<◌, ◌^◌, length, slice_range, replicate, IfOk, OnErr, IfSome, Some, None, IsTrue, ◌↔◌, ◌≤◌};
 ghost use Rattle.heap_model.specs.Memory.{IsWithin, Misses};
@@ -21,23 +21,24 @@ use std::alloc::{AllocError, Global};
 use std::marker::Model;
 use std::mem::{ManuallyDrop, replace};
 
-/// A run of bytes whose length never changes. They lie in one block of memory, which is freed once,
-/// when the region ends; a region of no bytes has no block.
+/// A run of bytes whose length never changes. The bytes lie in one block of memory, which is freed
+/// once, when the region is dropped. A region of no bytes has no block.
 ///
-/// Offsets count bytes from its start. Numbers are big-endian and may lie at any offset, odd ones
-/// too. The caller of each method shows that the bytes it names are within the region.
+/// Offsets count bytes from the region's start. Numbers are big-endian and may lie at any offset,
+/// odd ones too. The caller of each method must prove that the bytes it names are within the
+/// region.
 ///
-/// One part may be lent at a time. Then the region owns the bytes before it and after it, and contracts see zeros in its
-/// place. A region ends only if nothing is lent.
+/// One part may be lent at a time. Then the region owns the bytes before that part and after it,
+/// and contracts see zeros in its place. A region can be dropped only if nothing is lent.
 pub struct Region {
     run: Gapped,
-    /// What is lent.
+    /// The lent part, if there is one.
     gap: Option<Gap>,
     len: usize,
     alloc: Global,
     /// The right to free the block of the bytes, if there is one.
     lease: Option<Lease<Global>>,
-    /// How many bytes were slid.
+    /// The number of bytes that `slide` copied.
     slid: Tally,
 }
 
@@ -64,7 +65,10 @@ impl Model for Region {
 }
 
 impl Region {
-    /// A region of `size` zeros. The only error is that memory was refused.
+    /// Returns a region of `size` zeros.
+    ///
+    /// # Errors
+    /// - `AllocError`: if the allocation failed.
     pub fn zeroed(alloc: Global, size: u32) -> Result<Region, AllocError>
         ensures bytes { IfOk result (λ region. region.bytes ≡ replicate size 0) }
         ensures len { IfOk result (λ region. length region.bytes ≡ size) }
@@ -74,7 +78,7 @@ impl Region {
         Region::zeroed_from(&alloc, size)
     }
 
-    /// `zeroed`, where the growth asks for a grant.
+    /// The same as `zeroed`, with a grant of `memory` for the allocation.
     pub fn zeroed_from<A: Allowance>(memory: &A, size: u32) -> Result<Region, AllocError>
         ensures bytes { IfOk result (λ region. region.bytes ≡ replicate size 0) }
         ensures len { IfOk result (λ region. length region.bytes ≡ size) }
@@ -84,7 +88,10 @@ impl Region {
         Region::of_zeros(memory, size as usize)
     }
 
-    /// A region that is a copy of `bytes`. The only error is that memory was refused.
+    /// Returns a region that is a copy of `bytes`.
+    ///
+    /// # Errors
+    /// - `AllocError`: if the allocation failed.
     pub fn from_bytes(alloc: Global, bytes: &[u8]) -> Result<Region, AllocError>
         ensures bytes { IfOk result (λ region. region.bytes ≡ bytes.now) }
         ensures whole { IfOk result (λ region. region.lent ≡ None) }
@@ -93,7 +100,7 @@ impl Region {
         Region::copied_from(&alloc, bytes)
     }
 
-    /// `from_bytes`, where the growth asks for a grant.
+    /// The same as `from_bytes`, with a grant of `memory` for the allocation.
     pub fn copied_from<A: Allowance>(memory: &A, bytes: &[u8]) -> Result<Region, AllocError>
         ensures bytes { IfOk result (λ region. region.bytes ≡ bytes.now) }
         ensures whole { IfOk result (λ region. region.lent ≡ None) }
@@ -104,7 +111,7 @@ impl Region {
         Ok(region)
     }
 
-    /// A region of `size` zeros, in a block of its own if there are any.
+    /// Returns a region of `size` zeros. It has a block if `size` is not 0.
     fn of_zeros<A: Allowance>(memory: &A, size: usize) -> Result<Region, AllocError>
         requires { size < 2 ^ 63 }
         ensures bytes { IfOk result (λ region. region.bytes ≡ replicate size 0) }
@@ -135,7 +142,7 @@ impl Region {
         })
     }
 
-    /// How many bytes the region has.
+    /// Returns the number of bytes of the region.
     #[inline]
     pub fn len(&self) -> usize
         ensures { result ≡ length self.now.bytes }
@@ -143,7 +150,7 @@ impl Region {
         self.len
     }
 
-    /// All bytes of the region, in order.
+    /// Returns all bytes of the region, in order.
     #[inline]
     pub fn as_slice(&self) -> &[u8]
         requires { self.now.lent ≡ None }
@@ -153,7 +160,7 @@ impl Region {
         words::all(self.run.part(0, self.len))
     }
 
-    /// The number in the two bytes at `at`.
+    /// Reads the number in the two bytes at `at`.
     #[inline]
     #[tactic(auto, using(crate::proofs::PartLaws::u16_at_part))]
     pub fn get_u16(&self, at: usize) -> u16
@@ -163,7 +170,7 @@ impl Region {
         BigEndian::read_u16(self.run.part(at, 2))
     }
 
-    /// The number in the four bytes at `at`.
+    /// Reads the number in the four bytes at `at`.
     #[inline]
     #[tactic(auto, using(crate::proofs::PartLaws::u32_at_part))]
     pub fn get_u32(&self, at: usize) -> u32
@@ -173,7 +180,7 @@ impl Region {
         BigEndian::read_u32(self.run.part(at, 4))
     }
 
-    /// The `n` bytes at `at`.
+    /// Returns the `n` bytes at `at`.
     #[inline]
     pub fn slice(&self, at: usize, n: usize) -> &[u8]
         requires { IsWithin self.now at n }
@@ -204,7 +211,7 @@ impl Region {
         self.run.put_u32(at, n);
     }
 
-    /// Copies `bytes` into the region, the first of them to `at`.
+    /// Copies `bytes` into the region, from the offset `at` on.
     #[inline(always)]
     pub fn write(&mut self, at: usize, bytes: &[u8])
         requires { IsWithin self.old at (length bytes.now) }
@@ -215,7 +222,7 @@ impl Region {
         self.run.write(at, bytes);
     }
 
-    /// Makes each of the `n` bytes at `at` the byte `byte`.
+    /// Sets each of the `n` bytes at `at` to `byte`.
     pub fn fill(&mut self, at: usize, n: usize, byte: u8)
         requires { IsWithin self.old at n }
         ensures after { self.new
@@ -225,7 +232,7 @@ impl Region {
         self.run.fill(at, n, byte);
     }
 
-    /// Of the `n` bytes at `at`, changes those at `skip`, `skip + step`, `skip + 2 * step`, ..
+    /// Changes the bytes at `skip`, `skip + step`, `skip + 2 * step`, .. of the `n` bytes at `at`.
     pub fn change_every<C: ByteChange>(
         &mut self,
         at: usize,
@@ -246,7 +253,7 @@ impl Region {
         self.run.change_every(at, n, skip, step, change);
     }
 
-    /// Copies the `n` bytes at `from` to `to`, as they were before, also where the two parts overlap.
+    /// Copies the `n` bytes at `from` to `to`, and counts them. The two parts may overlap.
     pub fn slide(&mut self, from: usize, to: usize, n: usize)
         requires from { IsWithin self.old from n }
         requires to { IsWithin self.old to n }
@@ -264,7 +271,7 @@ impl Region {
         }
     }
 
-    /// Copies the `n` bytes at `from` up to `to`. It counts nothing.
+    /// Copies the `n` bytes at `from` up to `to`, and counts nothing.
     fn slide_up(&mut self, from: usize, to: usize, n: usize)
         requires from { IsWithin self.old from n }
         requires to { IsWithin self.old to n }
@@ -282,7 +289,7 @@ impl Region {
         }
     }
 
-    /// Copies the `n` bytes at `from` down to `to`. It counts nothing.
+    /// Copies the `n` bytes at `from` down to `to`, and counts nothing.
     fn slide_down(&mut self, from: usize, to: usize, n: usize)
         requires from { IsWithin self.old from n }
         requires to { IsWithin self.old to n }
@@ -300,7 +307,7 @@ impl Region {
         }
     }
 
-    /// Whether the `n` bytes at `at` miss what is lent.
+    /// Reports whether the `n` bytes at `at` miss the lent part.
     #[inline]
     pub fn misses(&self, at: usize, n: usize) -> bool
         requires { at + n < 2 ^ 64 }
@@ -309,7 +316,8 @@ impl Region {
         gap::met(self.gap, at, n).is_none()
     }
 
-    /// Lends the `n` bytes at `at`. Until they are taken back the region doesn't own them, and lends nothing else.
+    /// Lends the `n` bytes at `at`. Until they are taken back, the region doesn't own them and
+    /// lends nothing else.
     pub fn lend(&mut self, at: usize, n: usize) -> Part
         requires within { IsWithin self.old at n }
         requires none { self.old.lent ≡ None }
@@ -329,7 +337,7 @@ impl Region {
         Part { run }
     }
 
-    /// Takes back the part that is lent.
+    /// Takes back the lent part.
     pub fn take_back(&mut self, part: Part)
         requires { IsOut self.old.lent part }
         ensures bytes { IfSome self.old.lent

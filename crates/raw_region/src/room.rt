@@ -1,7 +1,7 @@
-//! A block from the allocator in which nothing lies yet, and the way back.
+//! A block from the allocator that has no values yet: taken, filled with zeros and freed.
 //!
-//! Here and in `run` alone a pointer is used, and the proof of each function that does so is written
-//! by hand. What the allocator promises is its contract, which std has.
+//! The proof of each function that uses a pointer is written by hand. The allocator's contract is
+//! in std.
 
 ghost use Rattle.std.specs.Prelude.{◌≡◌, ◌<◌, ◌^◌, ℕ, IfSome, replicate};
 ghost use Rattle.raw_region.specs.Ownership.{room_of, bytes_type};
@@ -11,7 +11,7 @@ use crate::run::Run;
 use std::alloc::Allocator;
 use std::marker::{Model, PhantomData};
 
-/// A block of `size` bytes in which nothing lies. It can't be dropped.
+/// A block of `size` bytes that has no values yet. It can't be dropped.
 pub(crate) struct Room {
     pub(crate) ptr: *mut u8,
     pub(crate) size: usize,
@@ -35,7 +35,7 @@ impl<A: Allocator> Model for Lease<A> {
 }
 
 impl Room {
-    /// A block of `size` bytes, or `None` if the allocation failed.
+    /// Allocates a block of `size` bytes. Returns `None` if the allocation failed.
     pub(crate) fn new<A: Allocator>(alloc: &A, size: usize) -> Option<(Room, Lease<A>)>
         requires { (0 < size) × (size < 2 ^ 63) }
         ensures { IfSome result (λ made. (made.0.size ≡ size) × (made.1.alloc ≡ alloc.now)
@@ -60,7 +60,7 @@ impl Room {
         unsafe { alloc.deallocate(ptr, size, 1) }
     }
 
-    /// The same block, with zeros in it.
+    /// Fills the block with zeros.
     pub(crate) fn zeroed(self) -> Run
         ensures { (result.ptr ≡ self.ptr) × (result.bytes ≡ replicate self.size 0) }
     {

@@ -1,10 +1,11 @@
-//! Bytes in a row behind a raw pointer.
+//! Bytes in a row, reached by a raw pointer.
 //!
-//! A run knows nothing of where its block begins or ends, so a part of a block is a run too. That is
-//! how a part of a region is lent: a run is cut into the bytes before a part, the part and those after
-//! it, each a run of its own. Joined again, they are what the three have by then. The laws `cut_at` and
-//! `joined_at` of `proofs/Loans.antt` say so of what a run owns. The right to free the block stays with
-//! the region meanwhile, and can't be used before the parts are joined.
+//! A run doesn't know where its block begins or ends, so a part of a block is a run too. A part of
+//! a region is lent this way: a run is cut into the bytes before the part, the part, and the bytes
+//! after it. Each of the three is a run. Joined again, they have the bytes that the three runs have
+//! then. The laws `cut_at` and `joined_at` of `proofs/Loans.antt` prove this for the ownership of a
+//! run. The right to free the block stays with the region, which can't use it before the parts are
+//! joined.
 
 ghost use Rattle.std.specs.Prelude.{◌≡◌, ◌+◌, ◌<◌, ◌≤◌, ◌^◌, ◌++◌, ℕ, List, [], length, take, drop};
 ghost use Rattle.raw_region.specs.Ownership.{bytes_at, bytes_lent};
@@ -14,7 +15,7 @@ use crate::room::Room;
 use std::marker::Model;
 use std::slice;
 
-/// Bytes that nothing else can reach. It can't be dropped, and frees nothing.
+/// Owns its bytes. A run can't be dropped, and frees nothing.
 pub(crate) struct Run {
     pub(crate) ptr: *mut u8,
     pub(crate) len: usize,
@@ -39,7 +40,7 @@ impl Run {
         self.as_slice().len()
     }
 
-    /// The bytes, to be read.
+    /// Returns the bytes, to be read.
     #[inline]
     pub(crate) fn as_slice(&self) -> &[u8]
         ensures { result.now ≡ self.now.bytes }
@@ -47,7 +48,7 @@ impl Run {
         unsafe { slice::from_raw_parts(self.ptr, self.len) }
     }
 
-    /// The bytes, to be written.
+    /// Returns the bytes, to be written.
     #[inline]
     pub(crate) fn as_mut_slice(&mut self) -> &mut [u8]
         ensures* writes_back { sem 𝓛 (lends_bytes self.entry result) }
@@ -56,7 +57,7 @@ impl Run {
         unsafe { slice::from_raw_parts_mut(self.ptr, self.len) }
     }
 
-    /// The same part of memory, of whose bytes nothing is known any more.
+    /// Returns the same part of memory, and forgets the values of its bytes.
     pub(crate) fn into_room(self) -> Room
         ensures { (result.ptr ≡ self.ptr) × (result.size ≡ self.len) }
     {
@@ -64,7 +65,7 @@ impl Run {
         Room { ptr, size: len }
     }
 
-    /// No bytes, in no block.
+    /// Returns a run of no bytes, in no block.
     pub(crate) fn empty() -> Run
         ensures { result.bytes ≡ [] }
     {
@@ -75,7 +76,7 @@ impl Run {
         }
     }
 
-    /// The first `at` bytes, and the others.
+    /// Cuts the run after its first `at` bytes.
     pub(crate) fn cut(self, at: usize) -> (Run, Run)
         requires { at ≤ length self.bytes }
         ensures first { (result.0.ptr ≡ self.ptr) × (result.0.len ≡ at) × (result.0.bytes ≡ take at self.bytes) }
@@ -92,7 +93,7 @@ impl Run {
         )
     }
 
-    /// These bytes and those after them.
+    /// Joins this run with the run directly after it.
     pub(crate) fn joined(self, rest: Run) -> Run
         requires { (rest.ptr ≡ self.ptr +ₚ self.len) × (self.len + rest.len < 2 ^ 63) }
         ensures { (result.ptr ≡ self.ptr) × (result.len ≡ self.len + rest.len) × (result.bytes ≡ self.bytes ++ rest.bytes) }

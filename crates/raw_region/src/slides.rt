@@ -1,8 +1,8 @@
 //! Slides that are one call of C's `memcpy` or `memmove`.
 //!
-//! The compiler makes a call of `memcpy` of a copy to a part of the slice that misses what is copied,
-//! and one of `memmove` of a slice that slides within itself by a distance that it knows. Of any other
-//! slide it makes a loop, which takes up to twice as long.
+//! If the two parts of a copy don't overlap, the compiler makes it a call of `memcpy`. If they
+//! overlap and it knows the distance, it makes a call of `memmove`. Any other slide becomes a loop,
+//! which takes up to twice as long.
 
 ghost use Rattle.std.specs.Prelude.{◌≡◌, ◌+◌, ◌-◌, ◌≤◌, ◌⊎◌, length, slice_range};
 ghost use Rattle.heap_model.specs.Bytes.{overwritten};
@@ -22,7 +22,7 @@ pub(crate) fn slide_by<const BY: usize>(bytes: &mut [u8], from: usize, to: usize
     }
 }
 
-/// Copies all bytes but the first `BY` down to the front.
+/// Copies all bytes except the first `BY` down to the start of the slice.
 #[inline(never)]
 #[tactic(auto, using(crate::proofs::PartLaws::overwritten_by_slide))]
 fn close_gap<const BY: usize>(part: &mut [u8])
@@ -32,7 +32,7 @@ fn close_gap<const BY: usize>(part: &mut [u8])
     part.copy_within(BY..part.len(), 0);
 }
 
-/// Copies all bytes but the last `BY` up to the end.
+/// Copies all bytes except the last `BY` up to the end of the slice.
 #[inline(never)]
 fn open_gap<const BY: usize>(part: &mut [u8])
     requires { BY ≤ length part.old }
@@ -41,7 +41,7 @@ fn open_gap<const BY: usize>(part: &mut [u8])
     part.copy_within(0..part.len() - BY, BY);
 }
 
-/// Copies the `n` bytes at `from` to `to`, which miss them.
+/// Copies the `n` bytes at `from` to `to`. The two parts must not overlap.
 #[tactic(auto, using(crate::proofs::PartLaws::copied_up, crate::proofs::PartLaws::copied_down))]
 pub(crate) fn copy_apart(bytes: &mut [u8], from: usize, to: usize, n: usize)
     requires from { from + n ≤ length bytes.old }

@@ -1,4 +1,4 @@
--- Calls on a category take the records in order: what is left after so many of them.
+-- Calls on a category take the records in order: the store after the first `count` of them.
 use Rattle.std.proofs.Common.{◌≡◌, ℕ, zero, suc, ◌+◌, ◌-◌, ◌<◌, ◌≤◌, ◌++◌, Bool, true, false, List, [], ◌∷◌, length, map, take, get_or, Option, Some, None, refl, sym, ap, subst, ◌∙◌, arith, inl, inr}
 use Rattle.std.proofs.lemmas.Bool.{cases_eq, eq-eqb, ne_eqb}
 use Rattle.std.proofs.lemmas.List.{map-append, append_assoc, take_all}
@@ -28,7 +28,7 @@ use Rattle.record_db.proofs.Turns.{first_changed, none_changed, all_changed, lat
 
 -- ---- the database in between
 
--- where the entries of a database are changed, that is its database
+-- the database of a store in which its entries are changed
 pub number_mid : (old mid : List ℕ) (db : Db) (change : List (Entry ℕ) → List (Entry ℕ)) (left : Store) (h : Here old db.0) → SameStore (store_of mid) left → left.databases ≡ with_changed (store_of old).databases db.0 (with_list change)
     → with_number (store_of mid) db.0 ≡ Some (record { db = db.0; database = with_list change h.one.database })
 number_mid old mid db change left h same is =
@@ -50,7 +50,7 @@ all_alike image db change count h a all =
 pub data_append : (category : ℕ) (xs ys : List (Entry ℕ)) → data_of_category category (xs ++ ys) ≡ data_of_category category xs ++ data_of_category category ys
 data_append category xs ys = ap (map entry_data) (filter-append (is_of category) xs ys) ∙ map-append entry_data (filter (is_of category) xs) (filter (is_of category) ys)
 
--- of one entry more
+-- the same, of one entry more
 data_more : (category count : ℕ) (entries : List (Entry ℕ)) → data_of_category category (take (suc count) entries) ≡ data_of_category category (take count entries) ++ data_of_category category (listed_if (slice_get entries count))
 data_more category zero [] = refl
 data_more category zero (entry ∷ entries) = refl
@@ -75,7 +75,7 @@ gone_twice chunks names more name =
           ∙ sym (cond-false (times name (names ++ more) == 0) (chunks name) None (ne_eqb (times name (names ++ more)) 0 (λ e. some (omega (arith, sum, e)))))
     ]
 
--- the store where so many entries were looked at, and those of the category deleted
+-- the store after the first `count` entries were passed, and those of the category deleted
 abbrev pub deleted_so_far : Store → Db → List (Entry ℕ) → ℕ → ℕ → Store
 deleted_so_far store db entries category count =
     with_chunks (with_entries store db (first_changed (deleted_category category) count)) (all_gone store.map (data_of_category category (take count entries)))
@@ -83,7 +83,7 @@ deleted_so_far store db entries category count =
 abbrev pub HasDeleted : List ℕ → List ℕ → Db → List (Entry ℕ) → ℕ → ℕ → Type 0
 HasDeleted old mid db entries category count = LeavesStore old mid (deleted_so_far (store_of old) db entries category count)
 
--- those behind them are as they were
+-- the entries after them are as they were
 pub entry_mid : (old mid : List ℕ) (db : Db) (category count at : ℕ) (h : Here old db.0) → count ≤ at → HasDeleted old mid db h.one.database.entries category count → entry_under (store_of mid) db at ≡ slice_get h.one.database.entries at
 entry_mid old mid db category count at h order one =
     let change : Entry ℕ → Entry ℕ = deleted_category category in
@@ -133,7 +133,7 @@ some_left : (left : Bool) (x : Option LiveChunk) → Of (if left then x else Non
 some_left true x p = p
 some_left false x p = absurd p
 
--- the next one has no data that is locked, where none of the category had at first
+-- the next one has no locked data, if none of the category had any at first
 pub next_unlocked : (old mid : List ℕ) (db : Db) (category count : ℕ) (h : Here old db.0) → HasDeletedSome old mid db category count → (HasLockedOf (store_of old) db category → ⊥)
     → OfEntry (entry_under (store_of mid) db count) (IsOf category) → HasLockedData mid db count → ⊥
 next_unlocked old mid db category count h some none of locked =
@@ -168,7 +168,7 @@ one_passed old mid db category from h a below other some =
     (none_deleted mid db from category entry one.accepted (number_there old mid db category from h some) e (isnt_of category entry (subst (λ (x : Option (Entry ℕ)). OfEntry x (IsOf category) → ⊥) e other)))
     (λ name some_there. some_there)
 
--- so many entries that are not of the category
+-- `count` entries that are not of the category
 pub passed : (old mid : List ℕ) (db : Db) (category from more : ℕ) (h : Here old db.0) → Accepted old → from + more ≤ length h.one.database.entries
     → ((index : ℕ) → from ≤ index → index < from + more → OfEntry (entry_under (store_of mid) db index) (IsOf category) → ⊥) → HasDeletedSome old mid db category from → HasDeletedSome old mid db category (from + more)
 passed old mid db category from zero h a within others some = subst (HasDeletedSome old mid db category) (let same : from ≡ from + 0 = omega arith in same) some

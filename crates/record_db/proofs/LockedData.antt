@@ -7,6 +7,6 @@ use Rattle.heap_model.specs.Meaning.{ChunkMap}
 use Rattle.heap_model.specs.MemorySteps.{Of, IsLocked}
 use Rattle.heap_model.specs.Categories.{IsOf}
 
--- none of so many records is of the category and has data that is locked
+-- none of the first `count` records is of the category and has locked data
 abbrev pub NoneLocked : ChunkMap → List (Entry ℕ) → ℕ → ℕ → Type 0
 NoneLocked chunks entries category end = (at : ℕ) → at < end → OfEntry (slice_get entries at) (IsOf category) → Of (chunks (data_of_entry (slice_get entries at))) IsLocked → ⊥

@@ -1,4 +1,4 @@
--- What a call on a category leaves of one record.
+-- One record after a call on a category.
 use Rattle.std.proofs.Common.{◌≡◌, ℕ, Bool, true, false, List, [], ◌∷◌, map, Option, Some, None, refl, sym, ap, ◌∙◌, arith, inl, inr}
 use Rattle.std.proofs.lemmas.Bool.{cases_eq, eq-eqb, ne_eqb}
 use Rattle.std.specs.Prelude.{◌==◌, IsSome}
@@ -16,7 +16,7 @@ use Rattle.laws_store.proofs.Times.{same-yes, same-no, times-cons}
 use Rattle.palm_store.proofs.EntriesChanged.{entry_alike, entry_kept}
 use Rattle.palm_store.proofs.TwoChanges.{left_as, itself}
 
--- what isn't of a category
+-- a record that isn't of the category
 pub isnt_of : (category : ℕ) (entry : Entry ℕ) → (is_of category entry ≡ true → ⊥) → is_of category entry ≡ false
 isnt_of category entry other = by (is_of category entry) other where
   by : (is : Bool) → (is ≡ true → ⊥) → is ≡ false
@@ -30,7 +30,7 @@ abbrev pub listed_if : Option (Entry ℕ) → List (Entry ℕ)
 listed_if None = []
 listed_if (Some entry) = entry ∷ []
 
--- a store where the record of an index is deleted, if it is of a category, and its data freed
+-- a store in which the record at an index is deleted, if it is of a category, and its data freed
 abbrev pub one_deleted : Store → Db → ℕ → ℕ → Store
 one_deleted store db index category =
     with_chunks (entry_changed store db index (deleted_category category)) (all_gone store.map (data_of_category category (listed_if (entry_under store db index))))

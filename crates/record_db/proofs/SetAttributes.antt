@@ -83,7 +83,7 @@ may_have image db index attributes id slot now a has records e deleted =
     omega (arith, two, once)) in
     (records, omega (arith, positive), omega (arith, small), alone, λ none. deleted (sym (ap data_of_entry e) ∙ none))
 
--- whatever is said of it, where it has data
+-- the same for any attributes, if it has data
 pub live_may_have : (image : List ℕ) (db : Db) (index attributes id slot now : ℕ) → Accepted image → IsSome (with_number (store_of image) db.0) → resources_under (store_of image) db ≡ false → entry_under (store_of image) db index ≡ Some (a_record attributes id slot)
     → 0 < slot → CanHave (store_of image) db (resources_under (store_of image) db) index (infos.Record now id)
 live_may_have image db index attributes id slot now a has records e some =
@@ -98,7 +98,7 @@ id_given number own = elim (cases_eq (id_in number) 0) [
   | inr some ↦ inr (cond-false (id_in number == 0) own (id_in number) (ne_eqb (id_in number) 0 some), omega (arith, some))
 ]
 
--- where an ID is in the number it is given
+-- if an ID is in the number, it is given
 pub given_in : (number own : ℕ) → id_in number ≢ 0 → id_set number own ≡ id_in number
 given_in number own some = cond-false (id_in number == 0) own (id_in number) (ne_eqb (id_in number) 0 some)
 
@@ -133,13 +133,13 @@ no_other image db index attributes id slot number a has records e which both =
 
 -- ---- what it changes
 
--- where it is said with the record's ID, its attributes change alone
+-- if the record keeps its ID, only its attributes change
 pub attributes_set : (counts : Bool) (image new : List ℕ) (db : Db) (index attributes id slot now : ℕ) (change : ℕ → ℕ) → Accepted image → IsSome (with_number (store_of image) db.0) → entry_under (store_of image) db index ≡ Some (a_record attributes id slot) → now ≡ change attributes
     → LeavesStore image new (raised_if counts (entry_changed (store_of image) db index (with_info (infos.Record now id))) db) → LeavesStore image new (raised_if counts (entry_changed (store_of image) db index (with_attributes change)) db)
 attributes_set counts image new db index attributes id slot now change a has e is leaves =
     set_as counts image new db index (a_record attributes id slot) (with_info (infos.Record now id)) (with_attributes change) a has e (ap (λ (x : ℕ). a_record x id slot) is) leaves
 
--- the same, where a caller's chunk becomes its data
+-- the same, if a caller's chunk becomes its data
 pub data_swapped : (image new : List ℕ) (db : Db) (index attributes id slot now name owner : ℕ) (change : ℕ → ℕ) → Accepted image → IsSome (with_number (store_of image) db.0) → entry_under (store_of image) db index ≡ Some (a_record attributes id slot) → now ≡ change attributes
     → LeavesStore image new (raised (entry_swapped (store_of image) db index (with_info (infos.Record now id)) name owner) db) → LeavesStore image new (raised (entry_swapped (store_of image) db index (with_attributes change) name owner) db)
 data_swapped image new db index attributes id slot now name owner change a has e is leaves =

@@ -1,5 +1,5 @@
--- Changes of the entries of a database one behind the other, in the order of their indexes: what is left after
--- so many of them, and after all.
+-- Changes of the entries of a database one after the other, in the order of their indexes: the
+-- entries after the first `count` changes, and after all.
 use Rattle.std.proofs.Common.{◌≡◌, ℕ, zero, suc, ◌<◌, ◌≤◌, ◌++◌, List, [], ◌∷◌, length, map, take, drop, Option, Some, None, refl, ap, ◌∙◌, arith}
 use Rattle.std.proofs.lemmas.List.{take_all, drop_all, append-nil}
 use Rattle.std.specs.Prelude.{slice_get}
@@ -20,7 +20,7 @@ all_changed change count entries all =
     ∙ ap (λ (xs : List (Entry ℕ)). map change entries ++ xs) (drop_all count entries all)
     ∙ append-nil (map change entries)
 
--- those behind them are as they were
+-- the entries after them are as they were
 pub later_kept : (change : Entry ℕ → Entry ℕ) (count at : ℕ) (entries : List (Entry ℕ)) → count ≤ at → slice_get (first_changed change count entries) at ≡ slice_get entries at
 later_kept change zero at [] order = refl
 later_kept change zero at (entry ∷ entries) order = refl

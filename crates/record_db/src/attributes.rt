@@ -1,4 +1,4 @@
-//! The attributes of records that the calls look at, and those that they set.
+//! The attributes of records: tests of them, and the values that calls set.
 
 ghost use Rattle.std.specs.Prelude.{◌≡◌, ◌<◌, bit_or};
 ghost use Rattle.heap_model.specs.Database as databases;
@@ -11,15 +11,15 @@ use bitflags::Flags;
 use db_format::RecordAttrs;
 use raw_region::ByteChange;
 
-/// What stands for all categories, in the calls that count.
+/// The category number that means all categories, in the calls that count.
 pub(crate) const ALL_CATEGORIES: u8 = 0xFF;
 
-/// What a move of the records of one category to another does to the attributes of a record.
+/// The change to a record's attributes when the records of one category move to another.
 #[derive(Clone, Copy)]
 pub(crate) struct Moving {
     pub(crate) to: u8,
     pub(crate) from: u8,
-    /// Whether records that move are dirty then.
+    /// Whether the moved records become dirty.
     pub(crate) dirty: bool,
     ghost fits: { to < categories.categories },
 }
@@ -61,7 +61,7 @@ pub(crate) fn marked(attributes: u8, bits: RecordAttrs) -> u8
     RecordAttrs::from_bits_retain(attributes).union(bits).bits()
 }
 
-/// The attributes of a record that is no longer in use, and dirty then if `dirty` says so.
+/// The attributes of a record that is no longer busy. It is dirty if `dirty` is true.
 pub(crate) fn released(attributes: u8, dirty: bool) -> u8
     ensures { result ≡ steps.released dirty attributes }
 {
@@ -80,14 +80,14 @@ pub(crate) fn of_new_record() -> u8
     RecordAttrs::DIRTY.union(RecordAttrs::BUSY).bits()
 }
 
-/// The attributes of a record whose data was a caller's.
+/// The attributes of a new record whose data was a caller's chunk.
 pub(crate) fn of_attached_record() -> u8
     ensures { result ≡ categories.dirty_bit }
 {
     RecordAttrs::DIRTY.bits()
 }
 
-/// Whether a record is not deleted and of a category, or of any, for 0xFF.
+/// Whether a record is not deleted and is of a category. The number 0xFF means any category.
 pub(crate) fn has_category(attributes: RecordAttrs, category: u8) -> bool
     ensures { result ≡ categories.has_category category attributes.0 }
 {
@@ -97,7 +97,7 @@ pub(crate) fn has_category(attributes: RecordAttrs, category: u8) -> bool
     category == ALL_CATEGORIES || attributes.category() == category
 }
 
-/// The attributes of a record for which others are given: it stays deleted and busy as it was.
+/// The attributes of a record that is given others. It stays deleted and busy as it was.
 pub(crate) fn with_given(attributes: u8, given: u8) -> u8
     ensures { result ≡ steps.attributes_set given attributes }
 {
@@ -107,7 +107,7 @@ pub(crate) fn with_given(attributes: u8, given: u8) -> u8
     old.union(new).bits()
 }
 
-/// The attributes of a record in another category, and dirty if `dirty` says so.
+/// The attributes of a record in another category. It is dirty if `dirty` is true.
 pub(crate) fn recategorized(attributes: RecordAttrs, category: u8, dirty: bool) -> u8
     requires { category < categories.categories }
     ensures { result ≡ categories.recategorized category dirty attributes.0 }

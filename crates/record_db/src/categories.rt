@@ -1,4 +1,5 @@
-//! Categories of records: those of one are counted, moved to another, or deleted.
+//! Categories of records: calls that count the records of one, move them to another, or delete
+//! them.
 
 ghost use Rattle.std.specs.Prelude.{◌≡◌, false, [], ◌∷◌, OnOk, OnErr, IfErr, IfSome, IfNone};
 ghost use Rattle.heap_model.specs.Lending.{KeepsLoan};
@@ -22,9 +23,13 @@ use db_format::CATEGORIES;
 use heap_model::{Db, Refusal};
 use palm_store::{Access, EntryKind, Found, Store, open_database, open_entries};
 
-/// How many records are of a category, 0 to 15, or of any, for 0xFF. Deleted ones are passed over.
+/// Counts the records of a category, 0 to 15, or of any category if it is 0xFF. Deleted records
+/// don't count.
 ///
-/// Refused: `NoSuchDatabase`, `NotRecordDatabase`, `InvalidCategory`.
+/// # Errors
+/// - `NoSuchDatabase`: if the store has no database of this number.
+/// - `NotRecordDatabase`: if it is a resource database.
+/// - `InvalidCategory`: if the category is neither 0 to 15 nor 0xFF.
 pub fn num_in_category(store: &Store, db: Db, category: u8) -> Result<u32, Refusal>
     ensures { DoesRecord store.now (RecordCall.CountInCategory db category)
         (number_or_refused result) store.now }
@@ -34,10 +39,14 @@ pub fn num_in_category(store: &Store, db: Db, category: u8) -> Result<u32, Refus
     Ok(count_of(&records, category, records.entry_count()))
 }
 
-/// The first record from an index on that is of a category, 0 to 15, or of any, for 0xFF. Deleted ones are passed
-/// over.
+/// Returns the index of the first record, from an index on, that is of a category, 0 to 15. The
+/// number 0xFF means any category. Deleted records are skipped.
 ///
-/// Refused: `NoSuchDatabase`, `NotRecordDatabase`, `InvalidCategory`; `IndexOutOfRange`, where there is none.
+/// # Errors
+/// - `NoSuchDatabase`: if the store has no database of this number.
+/// - `NotRecordDatabase`: if it is a resource database.
+/// - `InvalidCategory`: if the category is neither 0 to 15 nor 0xFF.
+/// - `IndexOutOfRange`: if there is no record of the category from the index on.
 pub fn next_in_category(store: &Store, db: Db, from: u32, category: u8) -> Result<u32, Refusal>
     ensures { DoesRecord store.now (RecordCall.NextInCategory db from category)
         (number_or_refused result) store.now }
@@ -47,10 +56,15 @@ pub fn next_in_category(store: &Store, db: Db, from: u32, category: u8) -> Resul
     first_of(&records, from, category).ok_or(Refusal::IndexOutOfRange)
 }
 
-/// How many records of a category, 0 to 15, or of any, for 0xFF, stand in front of an index. Deleted ones are
-/// passed over; the record of the index itself may be of any category, and deleted too.
+/// Counts the records before an index that are of a category, 0 to 15, or of any category if it is
+/// 0xFF. Deleted records don't count. The record at the index may be of any category, and deleted
+/// too.
 ///
-/// Refused: `NoSuchDatabase`, `NotRecordDatabase`, `InvalidCategory`, `IndexOutOfRange`.
+/// # Errors
+/// - `NoSuchDatabase`: if the store has no database of this number.
+/// - `NotRecordDatabase`: if it is a resource database.
+/// - `InvalidCategory`: if the category is neither 0 to 15 nor 0xFF.
+/// - `IndexOutOfRange`: if the database has no record at the index.
 pub fn position_in_category(store: &Store, db: Db, index: u32, category: u8) -> Result<u32, Refusal>
     ensures { DoesRecord store.now (RecordCall.PositionInCategory db index category)
         (number_or_refused result) store.now }
@@ -63,10 +77,14 @@ pub fn position_in_category(store: &Store, db: Db, index: u32, category: u8) -> 
     Ok(count_of(&records, category, index))
 }
 
-/// Gives each record of a category another one. They are dirty then if `dirty` says so. Deleted ones are passed
-/// over.
+/// Moves each record of the category `from` to the category `to`. The moved records are dirty if
+/// `dirty` is true. Deleted records are skipped.
 ///
-/// Refused: `NoSuchDatabase`, `NotRecordDatabase`, `ReadOnly`; `InvalidCategory`, where one of the two is not 0 to 15.
+/// # Errors
+/// - `NoSuchDatabase`: if the store has no database of this number.
+/// - `NotRecordDatabase`: if it is a resource database.
+/// - `ReadOnly`: if the database may only be read.
+/// - `InvalidCategory`: if one of the two categories is not 0 to 15.
 pub fn move_category(
     store: &mut Store,
     db: Db,
@@ -86,10 +104,14 @@ pub fn move_category(
     Ok(())
 }
 
-/// Deletes each record of a category that isn't deleted: its data is freed, and its entry stays.
+/// Deletes each record of a category that isn't deleted: frees its data and keeps its entry.
 ///
-/// Refused: `NoSuchDatabase`, `NotRecordDatabase`, `ReadOnly`; `InvalidCategory`, where it is not 0 to 15;
-/// `ChunkLocked`, where the data of one of them is locked. Then none was deleted.
+/// # Errors
+/// - `NoSuchDatabase`: if the store has no database of this number.
+/// - `NotRecordDatabase`: if it is a resource database.
+/// - `ReadOnly`: if the database may only be read.
+/// - `InvalidCategory`: if the category is not 0 to 15.
+/// - `ChunkLocked`: if the data of a record of the category is locked. Then no record was deleted.
 pub fn delete_category(store: &mut Store, db: Db, category: u8) -> Result<(), Refusal>
     ensures does { DoesRecord store.old (RecordCall.DeleteCategory db category)
         (done_or_refused result) store.new }
@@ -105,7 +127,8 @@ pub fn delete_category(store: &mut Store, db: Db, category: u8) -> Result<(), Re
     Ok(())
 }
 
-/// Deletes each record of a category that isn't deleted, none of which has locked data.
+/// Deletes each record of a category that isn't deleted. The caller must prove that none of them
+/// has locked data.
 fn delete_all_of(store: &mut Store, db: Db, chunk: Found, category: u8)
     requires accepted { Accepted store.old.bytes }
     requires known { HasNumber store.old.bytes db.0 }
@@ -126,7 +149,7 @@ fn delete_all_of(store: &mut Store, db: Db, chunk: Found, category: u8)
     }
 }
 
-/// The first record of a database, from an index on, that is of a category.
+/// Returns the index of the first record of a database, from an index on, that is of a category.
 #[inline]
 fn next_of(store: &Store, db: Db, chunk: Found, from: u32, category: u8) -> Option<u32>
     requires known { HasNumber store.now.bytes db.0 }
@@ -140,7 +163,7 @@ fn next_of(store: &Store, db: Db, chunk: Found, from: u32, category: u8) -> Opti
     first_of(&store.database_in(db, chunk), from, category)
 }
 
-/// Refuses what is no category: it is 0 to 15.
+/// Checks that a category is 0 to 15.
 fn check_category(category: u8) -> Result<(), Refusal>
     ensures passes { OnOk result (NoneHolds (no_category category ∷ [])) }
     ensures refused { IfErr result (FirstBrings (no_category category ∷ [])) }
@@ -151,7 +174,7 @@ fn check_category(category: u8) -> Result<(), Refusal>
     Ok(())
 }
 
-/// Refuses what is no category and doesn't stand for all of them.
+/// Checks that a category is 0 to 15, or the number that means all categories.
 fn check_counted(category: u8) -> Result<(), Refusal>
     ensures passes { OnOk result (NoneHolds (no_categories category ∷ [])) }
     ensures refused { IfErr result (FirstBrings (no_categories category ∷ [])) }

@@ -1,4 +1,4 @@
-//! Records changed, moved and taken out.
+//! Calls that change, move and remove records.
 
 ghost use Rattle.std.specs.Prelude.{◌≡◌, ◌<◌, false, Some, length, bit_or, OnErr};
 ghost use Rattle.heap_model.specs.Database.{a_record};
@@ -19,10 +19,15 @@ use db_format::{GREATEST_ID, RecordAttrs};
 use heap_model::{Db, Name, Refusal};
 use palm_store::{Access, EntryInfo, EntryKind, Store, check_owner, is_locked, open_entries};
 
-/// Frees the data of a record. Its entry stays as that of a deleted one, with its ID.
+/// Frees the data of a record. Its entry stays as that of a deleted record, with its ID.
 ///
-/// Refused: `NoSuchDatabase`, `NotRecordDatabase`, `ReadOnly`, `IndexOutOfRange`, `RecordDeleted`; `ChunkLocked`,
-/// where the data is locked.
+/// # Errors
+/// - `NoSuchDatabase`: if the store has no database of this number.
+/// - `NotRecordDatabase`: if it is a resource database.
+/// - `ReadOnly`: if the database may only be read.
+/// - `IndexOutOfRange`: if the database has no record at the index.
+/// - `RecordDeleted`: if the record is deleted.
+/// - `ChunkLocked`: if the data is locked.
 pub fn delete(store: &mut Store, db: Db, index: u32) -> Result<(), Refusal>
     ensures does { DoesRecord store.old (RecordCall.Delete db index) (done_or_refused result) store.new }
     ensures refused { OnErr result (store.new ≡ store.old) }
@@ -37,7 +42,12 @@ pub fn delete(store: &mut Store, db: Db, index: u32) -> Result<(), Refusal>
 
 /// Marks a record as deleted. Its data stays.
 ///
-/// Refused: `NoSuchDatabase`, `NotRecordDatabase`, `ReadOnly`, `IndexOutOfRange`, `RecordDeleted`.
+/// # Errors
+/// - `NoSuchDatabase`: if the store has no database of this number.
+/// - `NotRecordDatabase`: if it is a resource database.
+/// - `ReadOnly`: if the database may only be read.
+/// - `IndexOutOfRange`: if the database has no record at the index.
+/// - `RecordDeleted`: if the record is deleted.
 pub fn archive(store: &mut Store, db: Db, index: u32) -> Result<(), Refusal>
     ensures does { DoesRecord store.old (RecordCall.Archive db index)
         (done_or_refused result) store.new }
@@ -48,10 +58,14 @@ pub fn archive(store: &mut Store, db: Db, index: u32) -> Result<(), Refusal>
     Ok(())
 }
 
-/// Takes a record out, deleted or not, and frees its data, if it has any.
+/// Removes a record, deleted or not, and frees its data, if it has any.
 ///
-/// Refused: `NoSuchDatabase`, `NotRecordDatabase`, `ReadOnly`, `IndexOutOfRange`; `ChunkLocked`, where the data is
-/// locked.
+/// # Errors
+/// - `NoSuchDatabase`: if the store has no database of this number.
+/// - `NotRecordDatabase`: if it is a resource database.
+/// - `ReadOnly`: if the database may only be read.
+/// - `IndexOutOfRange`: if the database has no record at the index.
+/// - `ChunkLocked`: if the data is locked.
 pub fn remove(store: &mut Store, db: Db, index: u32) -> Result<(), Refusal>
     ensures does { DoesRecord store.old (RecordCall.Remove db index) (done_or_refused result) store.new }
     ensures refused { OnErr result (store.new ≡ store.old) }
@@ -64,10 +78,15 @@ pub fn remove(store: &mut Store, db: Db, index: u32) -> Result<(), Refusal>
     Ok(())
 }
 
-/// Moves a record in front of the one that stands at an index, or behind the last: `to` counts the records as
-/// they stand before the call.
+/// Moves a record before the one at the index `to`, or after the last. `to` counts the records as
+/// they are before the call.
 ///
-/// Refused: `NoSuchDatabase`, `NotRecordDatabase`, `ReadOnly`, `IndexOutOfRange`.
+/// # Errors
+/// - `NoSuchDatabase`: if the store has no database of this number.
+/// - `NotRecordDatabase`: if it is a resource database.
+/// - `ReadOnly`: if the database may only be read.
+/// - `IndexOutOfRange`: if the database has no record at `from`, or `to` is above the count of
+///   records.
 pub fn move_record(store: &mut Store, db: Db, from: u32, to: u32) -> Result<(), Refusal>
     ensures does { DoesRecord store.old (RecordCall.Move db from to) (done_or_refused result) store.new }
     ensures refused { OnErr result (store.new ≡ store.old) }
@@ -80,9 +99,14 @@ pub fn move_record(store: &mut Store, db: Db, from: u32, to: u32) -> Result<(), 
     Ok(())
 }
 
-/// The name of a record's data, for use: the record is busy until it is released.
+/// Marks a record as busy and returns the name of its data. It is busy until it is released.
 ///
-/// Refused: `NoSuchDatabase`, `NotRecordDatabase`, `IndexOutOfRange`, `RecordDeleted`, `RecordBusy`.
+/// # Errors
+/// - `NoSuchDatabase`: if the store has no database of this number.
+/// - `NotRecordDatabase`: if it is a resource database.
+/// - `IndexOutOfRange`: if the database has no record at the index.
+/// - `RecordDeleted`: if the record is deleted.
+/// - `RecordBusy`: if the record is busy already.
 pub fn get(store: &mut Store, db: Db, index: u32) -> Result<Name, Refusal>
     ensures does { DoesRecord store.old (RecordCall.Get db index) (name_or_refused result) store.new }
     ensures refused { OnErr result (store.new ≡ store.old) }
@@ -95,9 +119,12 @@ pub fn get(store: &mut Store, db: Db, index: u32) -> Result<Name, Refusal>
     Ok(live.data)
 }
 
-/// Ends the use of a record, which is dirty then if `dirty` says so.
+/// Ends the use of a record: it is no longer busy. It is dirty if `dirty` is true.
 ///
-/// Refused: `NoSuchDatabase`, `NotRecordDatabase`, `IndexOutOfRange`.
+/// # Errors
+/// - `NoSuchDatabase`: if the store has no database of this number.
+/// - `NotRecordDatabase`: if it is a resource database.
+/// - `IndexOutOfRange`: if the database has no record at the index.
 pub fn release(store: &mut Store, db: Db, index: u32, dirty: bool) -> Result<(), Refusal>
     ensures does { DoesRecord store.old (RecordCall.Release db index dirty)
         (done_or_refused result) store.new }
@@ -112,10 +139,16 @@ pub fn release(store: &mut Store, db: Db, index: u32, dirty: bool) -> Result<(),
     Ok(())
 }
 
-/// Takes a record out, and hands its data over to an owner, 1 to 14. The data keeps its lock; its name is
-/// answered.
+/// Removes a record, gives its data to an owner, 1 to 14, and returns the name of the data. The
+/// data keeps its lock.
 ///
-/// Refused: `NoSuchDatabase`, `NotRecordDatabase`, `ReadOnly`, `IndexOutOfRange`, `RecordDeleted`, `InvalidOwner`.
+/// # Errors
+/// - `NoSuchDatabase`: if the store has no database of this number.
+/// - `NotRecordDatabase`: if it is a resource database.
+/// - `ReadOnly`: if the database may only be read.
+/// - `IndexOutOfRange`: if the database has no record at the index.
+/// - `RecordDeleted`: if the record is deleted.
+/// - `InvalidOwner`: if the owner is not 1 to 14.
 pub fn detach(store: &mut Store, db: Db, index: u32, owner: u8) -> Result<Name, Refusal>
     ensures does { DoesRecord store.old (RecordCall.Detach db index owner)
         (name_or_refused result) store.new }
@@ -127,11 +160,15 @@ pub fn detach(store: &mut Store, db: Db, index: u32, owner: u8) -> Result<Name, 
     Ok(live.data)
 }
 
-/// Sets the attributes of a record, but the bits of a deleted and of a busy one, and its unique ID: the low 24
-/// bits of `id`, where they are not 0.
+/// Sets the attributes of a record, except the deleted and the busy bit, and its unique ID. The new
+/// ID is the low 24 bits of `id`. If they are 0, the record keeps its ID.
 ///
-/// Refused: `NoSuchDatabase`, `NotRecordDatabase`, `ReadOnly`, `IndexOutOfRange`; `DuplicateId`, where another record
-/// has the ID.
+/// # Errors
+/// - `NoSuchDatabase`: if the store has no database of this number.
+/// - `NotRecordDatabase`: if it is a resource database.
+/// - `ReadOnly`: if the database may only be read.
+/// - `IndexOutOfRange`: if the database has no record at the index.
+/// - `DuplicateId`: if another record has the ID.
 pub fn set_record_info(
     store: &mut Store,
     db: Db,
@@ -156,7 +193,8 @@ pub fn set_record_info(
     Ok(())
 }
 
-/// Sets bits of the attributes of a record that has data. The database counts the call if `counts` says so.
+/// Sets bits of the attributes of a record that has data. The database counts the call if `counts`
+/// is true.
 #[inline(always)]
 fn mark(store: &mut Store, db: Db, index: u32, live: LiveRecord, bits: RecordAttrs, counts: bool)
     requires accepted { Accepted store.old.bytes }
@@ -181,7 +219,7 @@ fn mark(store: &mut Store, db: Db, index: u32, live: LiveRecord, bits: RecordAtt
     store.entry_set(db, live.chunk, index, marked, counts);
 }
 
-/// The unique ID in the low 24 bits of a number, and a record's own where they are 0.
+/// Returns the unique ID in the low 24 bits of a number, or the record's own ID if they are 0.
 fn id_or(number: u32, own: u32) -> u32
     ensures { result ≡ id_set number own }
 {

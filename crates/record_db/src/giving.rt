@@ -1,4 +1,4 @@
-//! Records whose data a caller's chunk becomes.
+//! Calls that make a caller's chunk the data of a record.
 
 ghost use Rattle.std.specs.Prelude.{◌≡◌, OnErr};
 ghost use Rattle.heap_model.specs.declared.call.RecordCall.{RecordCall};
@@ -11,13 +11,19 @@ use db_format::RecordAttrs;
 use heap_model::{Db, Name, Refusal};
 use palm_store::{Access, EntryInfo, EntryKind, NewEntry, Store, check_owner, open_entries};
 
-/// Makes a caller's chunk the data of a new record at an index, or behind the last record where there are not
-/// so many. The chunk keeps its lock. The record is dirty, of category 0, and gets a fresh ID. Its index is
-/// answered.
+/// Makes a caller's chunk the data of a new record at an index, and returns the record's index. If
+/// the index is above the count of records, the new record is the last. The chunk keeps its lock.
+/// The record is dirty, of category 0, and gets a fresh ID.
 ///
-/// Refused: `NoSuchDatabase`, `NotRecordDatabase`, `ReadOnly`; `InvalidHandle`, `OwnedByDatabase` and `ChunkFixed`,
-/// where the chunk can't be given; `TooManyEntries`, where there are 65,535 records; `NotEnoughSpace`, where room
-/// for one entry more can run out. Then nothing has changed.
+/// # Errors
+/// If it fails, nothing has changed.
+/// - `NoSuchDatabase`: if the store has no database of this number.
+/// - `NotRecordDatabase`: if it is a resource database.
+/// - `ReadOnly`: if the database may only be read.
+/// - `InvalidHandle`, `OwnedByDatabase`, `ChunkFixed`: if the chunk can't be given. The name stands
+///   for no chunk, for the data of a database, or for a fixed chunk.
+/// - `TooManyEntries`: if the database has 65,535 records.
+/// - `NotEnoughSpace`: if the room for one more entry can run out.
 pub fn attach(store: &mut Store, db: Db, at: u32, name: Name) -> Result<u32, Refusal>
     ensures does { DoesRecord store.old (RecordCall.Attach db at name)
         (number_or_refused result) store.new }
@@ -33,11 +39,19 @@ pub fn attach(store: &mut Store, db: Db, at: u32, name: Name) -> Result<u32, Ref
     Ok(index)
 }
 
-/// Makes a caller's chunk the data of a record, and hands the data that this had over to an owner, 1 to 14. Both
-/// chunks keep their locks, and the record its ID; it is dirty. The name of what was its data is answered.
+/// Makes a caller's chunk the data of a record, and returns the name of its old data. The old data
+/// is given to an owner, 1 to 14. Both chunks keep their locks. The record keeps its ID, and is
+/// dirty.
 ///
-/// Refused: `NoSuchDatabase`, `NotRecordDatabase`, `ReadOnly`, `IndexOutOfRange`, `RecordDeleted`; `InvalidHandle`,
-/// `OwnedByDatabase` and `ChunkFixed`, where the chunk can't be given; `InvalidOwner`.
+/// # Errors
+/// - `NoSuchDatabase`: if the store has no database of this number.
+/// - `NotRecordDatabase`: if it is a resource database.
+/// - `ReadOnly`: if the database may only be read.
+/// - `IndexOutOfRange`: if the database has no record at the index.
+/// - `RecordDeleted`: if the record is deleted.
+/// - `InvalidHandle`, `OwnedByDatabase`, `ChunkFixed`: if the chunk can't be given. The name stands
+///   for no chunk, for the data of a database, or for a fixed chunk.
+/// - `InvalidOwner`: if the owner is not 1 to 14.
 #[tactic(auto, using(crate::proofs::SetAttributes::live_may_have))]
 pub fn attach_replacing(
     store: &mut Store,

@@ -1,8 +1,9 @@
 //! The calls on the records of databases (Palm OS Programmer's API Reference, "Data Manager").
 //!
-//! The contract of each function is the step of the abstract store for that call. Each looks first whether
-//! the database is there and holds records; those that change it, but `get` and `release`, then whether it
-//! may be written, and count the call in its modification number.
+//! The contract of each function is the step of the abstract store for that call. Each function
+//! first checks that the database exists and has records. Functions that change it, except `get`
+//! and `release`, then check that it may be written. They also count the call in its modification
+//! number. The row of each call in `record_row` (`heap_model`) has the order of its refusals.
 #![tactic(auto)]
 
 mod asking;

@@ -1,4 +1,4 @@
-//! Records made and resized.
+//! Calls that make records and resize their data.
 
 ghost use Rattle.std.specs.Prelude.{◌≡◌, ◌≢◌, OnErr, IfErr};
 ghost use Rattle.heap_model.specs.Chunk.{need};
@@ -14,11 +14,16 @@ use crate::records::find_live;
 use heap_model::{Db, Name, Refusal};
 use palm_store::{Access, EntryKind, NewEntry, Store, open_entries};
 
-/// Makes a record of so many bytes of zeros at an index, or behind the last record where there are not so
-/// many. It is dirty and busy, of category 0, and gets a fresh ID. Its index and its name are answered.
+/// Makes a record of `size` zero bytes at an index, and returns the record's index and the name of
+/// its data. If the index is above the count of records, the new record is the last. The record is
+/// dirty and busy, of category 0, and gets a fresh ID.
 ///
-/// Refused: `NoSuchDatabase`, `NotRecordDatabase`, `ReadOnly`; `TooManyEntries`, where there are 65,535;
-/// `NotEnoughSpace`, where no slot is free, or room for the data and for one entry more can run out.
+/// # Errors
+/// - `NoSuchDatabase`: if the store has no database of this number.
+/// - `NotRecordDatabase`: if it is a resource database.
+/// - `ReadOnly`: if the database may only be read.
+/// - `TooManyEntries`: if the database has 65,535 records.
+/// - `NotEnoughSpace`: if no slot is free, or the room for the data and one more entry can run out.
 pub fn new_record(store: &mut Store, db: Db, at: u32, size: u32) -> Result<(u32, Name), Refusal>
     ensures does { DoesRecord store.old (RecordCall.New db at size)
         (reply_of made_reply result) store.new }
@@ -34,11 +39,19 @@ pub fn new_record(store: &mut Store, db: Db, at: u32, size: u32) -> Result<(u32,
     Ok((index, name))
 }
 
-/// Gives the data of a record so many bytes: its first ones, or all of them and zeros behind them.
+/// Resizes the data of a record to `size` bytes. It keeps its first bytes, and any new bytes are
+/// zeros.
 ///
-/// Refused: `NoSuchDatabase`, `NotRecordDatabase`, `ReadOnly`, `IndexOutOfRange`, `RecordDeleted`, `Lent`; where the
-/// data has to grow `ChunkLocked`, if it is locked and doesn't fit in its place, and `NotEnoughSpace`. Then nothing
-/// has changed.
+/// # Errors
+/// If it fails, nothing has changed.
+/// - `NoSuchDatabase`: if the store has no database of this number.
+/// - `NotRecordDatabase`: if it is a resource database.
+/// - `ReadOnly`: if the database may only be read.
+/// - `IndexOutOfRange`: if the database has no record at the index.
+/// - `RecordDeleted`: if the record is deleted.
+/// - `Lent`: if the data is lent.
+/// - `ChunkLocked`: if the data must grow, is locked, and doesn't fit in its place.
+/// - `NotEnoughSpace`: if the data must grow, isn't locked, and there is no room for it.
 pub fn resize_record(store: &mut Store, db: Db, index: u32, size: u32) -> Result<(), Refusal>
     ensures does { DoesRecord store.old (RecordCall.Resize db index size)
         (done_or_refused result) store.new }

@@ -36,7 +36,7 @@ pub(crate) struct LiveRecord {
     pub(crate) data: Name,
 }
 
-/// The record of an index, deleted or not, of a database that may be used so.
+/// Finds the record at an index, deleted or not, in a database that allows this access.
 #[inline(always)]
 pub(crate) fn find_record(
     store: &Store,
@@ -61,7 +61,7 @@ pub(crate) fn find_record(
     })
 }
 
-/// The record of an index that is not deleted, of a database that may be used so.
+/// Finds the record at an index that is not deleted, in a database that allows this access.
 #[inline(always)]
 pub(crate) fn find_live(
     store: &Store,
@@ -94,7 +94,7 @@ pub(crate) fn find_live(
     })
 }
 
-/// Whether a record has data, and it is locked.
+/// Whether a record has data, and the data is locked.
 pub(crate) fn has_locked(store: &Store, data: Option<Name>) -> bool
     requires { IfSome «data» (λ name. IsNamed store.now.bytes name.0) }
     ensures { IsTrue result ↔ IsSomeAnd «data» (λ name. IsLockedChunk store.now.bytes name.0) }
@@ -115,7 +115,7 @@ pub(crate) fn has_id(store: &Store, db: Db, chunk: Found, id: u32) -> bool
     find_id(&store.database_in(db, chunk), id).is_some()
 }
 
-/// Whether the data of a record is locked that is of a category and not deleted.
+/// Whether a record that is of a category and not deleted has locked data.
 pub(crate) fn has_locked_of(store: &Store, db: Db, chunk: Found, category: u8) -> bool
     requires known { HasNumber store.now.bytes db.0 }
     requires chunk { StandsAs store.now.bytes db.0 chunk }

@@ -1,4 +1,4 @@
-//! Records, searched for.
+//! Searches of records.
 
 ghost use Rattle.std.specs.Prelude.{◌≡◌, ◌≤◌, false, length, slice_get, take, count_by, IfSome, IfNone};
 ghost use Rattle.heap_model.specs.Database.{has_resources};
@@ -9,7 +9,7 @@ ghost use Rattle.palm_store.specs.Search.{IsFirst, NoneBehind};
 use crate::attributes::has_category;
 use db_format::DatabaseView;
 
-/// How many of the first `end` records are of a category.
+/// Counts the records of a category among the first `end`.
 pub(crate) fn count_of(records: &DatabaseView, category: u8, end: u32) -> u32
     requires records { has_resources records.now.header.attributes ≡ false }
     requires inside { end ≤ length records.now.entries }
@@ -24,7 +24,7 @@ pub(crate) fn count_of(records: &DatabaseView, category: u8, end: u32) -> u32
     count
 }
 
-/// The first record from an index on that is of a category.
+/// Returns the index of the first record, from an index on, that is of a category.
 #[inline]
 pub(crate) fn first_of(records: &DatabaseView, from: u32, category: u8) -> Option<u32>
     requires { has_resources records.now.header.attributes ≡ false }
@@ -39,7 +39,7 @@ pub(crate) fn first_of(records: &DatabaseView, from: u32, category: u8) -> Optio
     None
 }
 
-/// The record that has a unique ID.
+/// Returns the index of the record that has a unique ID.
 pub(crate) fn find_id(records: &DatabaseView, id: u32) -> Option<u32>
     requires { has_resources records.now.header.attributes ≡ false }
     ensures is { IfSome result (λ index. OfEntry (slice_get records.now.entries index) (HasId id)) }

@@ -24,11 +24,11 @@ use Rattle.palm_store.specs.declared.opening.EntryKind.TheVariants.{Resources}
 use Rattle.palm_store.proofs.SearchLaws.{entries_read, counted_more}
 use Rattle.resource_db.specs.Resources.{IsNth}
 
--- those in front are not more than all
+-- at most as many are before an index as there are in all
 front_least : (test : Entry ℕ → Bool) (entries : List (Entry ℕ)) (count : ℕ) → count_by test (take count entries) ≤ count_by test entries
 front_least test entries count = sum_by-take-le (λ entry. cond (test entry) 1 0) entries count
 
--- where one is found, more are of the type than stand in front of it
+-- if one is found, more resources have the type than those before it
 pub more_than : (entries : List (Entry ℕ)) (kind nth index : ℕ) → IsNth entries kind nth index → nth < count_by (has_type kind) entries
 more_than entries kind nth index is = by (slice_get entries index) refl is.0 where
   by : (x : Option (Entry ℕ)) → slice_get entries index ≡ x → OfEntry x (λ entry. has_type kind entry ≡ true) → nth < count_by (has_type kind) entries
@@ -39,7 +39,7 @@ more_than entries kind nth index is = by (slice_get entries index) refl is.0 whe
       let front = is.1 in
       omega (arith, more, least, front)
 
--- what is found by a type, or that nothing is, is the answer of the call
+-- the result of a search by a type, found or not, is the reply of the call
 pub found_type : (region : Memory) (db : Db) (kind nth : ℕ) (database : Database ℕ) (found : Option ℕ) → Accepted region.bytes → HasDatabase region.bytes db.0 database → NoneHolds (opening_checks region.bytes db Resources Read []) → IfSome found (IsNth database.entries kind nth) → IfNone found (count_by (has_type kind) database.entries ≤ nth)
     → DoesInStore region (calls.Resource (FindType db kind nth)) (number_or_refused (ok_or found ResourceNotFound)) region
 found_type region db kind nth database (Some index) a is none there nothing =

@@ -1,4 +1,4 @@
-//! Resources, asked for.
+//! Queries of resources.
 
 ghost use Rattle.heap_model.specs.MemorySteps.{reply_of};
 ghost use Rattle.heap_model.specs.declared.call.ResourceCall.{ResourceCall};
@@ -11,9 +11,11 @@ use crate::search::{first_with, nth_of_type};
 use heap_model::{Db, Refusal, ResourceInfo};
 use palm_store::{Access, EntryKind, Store, count_entries, open_database};
 
-/// How many resources a database has.
+/// Returns how many resources a database has.
 ///
-/// Refused: `NoSuchDatabase`, `NotResourceDatabase`.
+/// # Errors
+/// - `NoSuchDatabase`: if the store has no database of this number.
+/// - `NotResourceDatabase`: if it is a record database.
 pub fn num_resources(store: &Store, db: Db) -> Result<u32, Refusal>
     ensures { DoesResource store.now (ResourceCall.Count db)
         (number_or_refused result) store.now }
@@ -21,9 +23,12 @@ pub fn num_resources(store: &Store, db: Db) -> Result<u32, Refusal>
     count_entries(store, db, EntryKind::Resources, Access::Read)
 }
 
-/// The type and the id of a resource, and the name of its data.
+/// Returns the type and the ID of a resource, and the name of its data.
 ///
-/// Refused: `NoSuchDatabase`, `NotResourceDatabase`, `IndexOutOfRange`.
+/// # Errors
+/// - `NoSuchDatabase`: if the store has no database of this number.
+/// - `NotResourceDatabase`: if it is a record database.
+/// - `IndexOutOfRange`: if the database has no resource at the index.
 pub fn resource_info(store: &Store, db: Db, index: u32) -> Result<ResourceInfo, Refusal>
     ensures { DoesResource store.now (ResourceCall.Info db index)
         (reply_of (λ info. Reply.Resource info) result) store.now }
@@ -31,9 +36,12 @@ pub fn resource_info(store: &Store, db: Db, index: u32) -> Result<ResourceInfo, 
     Ok(resource_at(store, db, index, Access::Read)?.info)
 }
 
-/// The index of the first resource of a type and an id.
+/// Returns the index of the first resource of a type and an ID.
 ///
-/// Refused: `NoSuchDatabase`, `NotResourceDatabase`; `ResourceNotFound`, where there is none.
+/// # Errors
+/// - `NoSuchDatabase`: if the store has no database of this number.
+/// - `NotResourceDatabase`: if it is a record database.
+/// - `ResourceNotFound`: if no resource has the type and the ID.
 pub fn find_resource(store: &Store, db: Db, kind: u32, id: u16) -> Result<u32, Refusal>
     ensures { DoesResource store.now (ResourceCall.Find db kind id)
         (number_or_refused result) store.now }
@@ -42,9 +50,13 @@ pub fn find_resource(store: &Store, db: Db, kind: u32, id: u16) -> Result<u32, R
     first_with(&resources, kind, id).ok_or(Refusal::ResourceNotFound)
 }
 
-/// The index of a resource of a type: of the first for 0, of the next for 1, and so on.
+/// Returns the index of a resource of a type: of the first if `nth` is 0, of the second if it is 1,
+/// and so on.
 ///
-/// Refused: `NoSuchDatabase`, `NotResourceDatabase`; `ResourceNotFound`, where not so many are of the type.
+/// # Errors
+/// - `NoSuchDatabase`: if the store has no database of this number.
+/// - `NotResourceDatabase`: if it is a record database.
+/// - `ResourceNotFound`: if at most `nth` resources have the type.
 pub fn find_type(store: &Store, db: Db, kind: u32, nth: u32) -> Result<u32, Refusal>
     ensures { DoesResource store.now (ResourceCall.FindType db kind nth)
         (number_or_refused result) store.now }

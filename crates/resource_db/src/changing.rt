@@ -1,4 +1,4 @@
-//! Resources changed and taken out.
+//! Calls that change and remove resources.
 
 ghost use Rattle.std.specs.Prelude.{◌≡◌, OnErr};
 ghost use Rattle.heap_model.specs.declared.call.ResourceCall.{ResourceCall};
@@ -9,10 +9,15 @@ use crate::resources::resource_at;
 use heap_model::{Db, Name, Refusal};
 use palm_store::{Access, EntryInfo, Store, check_owner, is_locked};
 
-/// Takes a resource out, and hands its data over to an owner, 1 to 14. The data keeps its lock; its name is
-/// answered.
+/// Removes a resource, gives its data to an owner, 1 to 14, and returns the name of the data. The
+/// data keeps its lock.
 ///
-/// Refused: `NoSuchDatabase`, `NotResourceDatabase`, `ReadOnly`, `IndexOutOfRange`, `InvalidOwner`.
+/// # Errors
+/// - `NoSuchDatabase`: if the store has no database of this number.
+/// - `NotResourceDatabase`: if it is a record database.
+/// - `ReadOnly`: if the database may only be read.
+/// - `IndexOutOfRange`: if the database has no resource at the index.
+/// - `InvalidOwner`: if the owner is not 1 to 14.
 pub fn detach_resource(store: &mut Store, db: Db, index: u32, owner: u8) -> Result<Name, Refusal>
     ensures does { DoesResource store.old (ResourceCall.Detach db index owner)
         (name_or_refused result) store.new }
@@ -24,10 +29,14 @@ pub fn detach_resource(store: &mut Store, db: Db, index: u32, owner: u8) -> Resu
     Ok(resource.info.data)
 }
 
-/// Takes a resource out, and frees its data.
+/// Removes a resource and frees its data.
 ///
-/// Refused: `NoSuchDatabase`, `NotResourceDatabase`, `ReadOnly`, `IndexOutOfRange`; `ChunkLocked`, where the data is
-/// locked.
+/// # Errors
+/// - `NoSuchDatabase`: if the store has no database of this number.
+/// - `NotResourceDatabase`: if it is a record database.
+/// - `ReadOnly`: if the database may only be read.
+/// - `IndexOutOfRange`: if the database has no resource at the index.
+/// - `ChunkLocked`: if the data is locked.
 pub fn remove_resource(store: &mut Store, db: Db, index: u32) -> Result<(), Refusal>
     ensures does { DoesResource store.old (ResourceCall.Remove db index)
         (done_or_refused result) store.new }
@@ -41,9 +50,13 @@ pub fn remove_resource(store: &mut Store, db: Db, index: u32) -> Result<(), Refu
     Ok(())
 }
 
-/// Gives a resource another type and id. Its data stays.
+/// Gives a resource another type and ID. Its data stays.
 ///
-/// Refused: `NoSuchDatabase`, `NotResourceDatabase`, `ReadOnly`, `IndexOutOfRange`.
+/// # Errors
+/// - `NoSuchDatabase`: if the store has no database of this number.
+/// - `NotResourceDatabase`: if it is a record database.
+/// - `ReadOnly`: if the database may only be read.
+/// - `IndexOutOfRange`: if the database has no resource at the index.
 pub fn set_resource_info(
     store: &mut Store,
     db: Db,

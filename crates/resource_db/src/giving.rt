@@ -1,4 +1,4 @@
-//! Resources whose data a caller's chunk becomes.
+//! The call that makes a caller's chunk the data of a resource.
 
 ghost use Rattle.std.specs.Prelude.{◌≡◌, OnErr};
 ghost use Rattle.heap_model.specs.declared.call.ResourceCall.{ResourceCall};
@@ -8,12 +8,18 @@ ghost use Rattle.resource_db.specs.Resources.{DoesResource};
 use heap_model::{Db, Name, Refusal};
 use palm_store::{Access, EntryKind, NewEntry, Store, open_entries};
 
-/// Makes a caller's chunk the data of a new resource behind all others. The chunk keeps its lock. The index of the
-/// resource is answered.
+/// Makes a caller's chunk the data of a new resource after all others, and returns the resource's
+/// index. The chunk keeps its lock.
 ///
-/// Refused: `NoSuchDatabase`, `NotResourceDatabase`, `ReadOnly`; `InvalidHandle`, `OwnedByDatabase` and `ChunkFixed`,
-/// where the chunk can't be given; `TooManyEntries`, where there are 65,535 resources; `NotEnoughSpace`, where room
-/// for one entry more can run out. Then nothing has changed.
+/// # Errors
+/// If it fails, nothing has changed.
+/// - `NoSuchDatabase`: if the store has no database of this number.
+/// - `NotResourceDatabase`: if it is a record database.
+/// - `ReadOnly`: if the database may only be read.
+/// - `InvalidHandle`, `OwnedByDatabase`, `ChunkFixed`: if the chunk can't be given. The name stands
+///   for no chunk, for the data of a database, or for a fixed chunk.
+/// - `TooManyEntries`: if the database has 65,535 resources.
+/// - `NotEnoughSpace`: if the room for one more entry can run out.
 pub fn attach_resource(
     store: &mut Store,
     db: Db,

@@ -1,8 +1,10 @@
 //! The calls on the resources of databases (Palm OS Programmer's API Reference, "Data Manager").
 //!
-//! The contract of each function is the step of the abstract store for that call. Each looks first whether
-//! the database is there and holds resources; those that change it then whether it may be written, and count the
-//! call in its modification number. Two resources may have the same type and id.
+//! The contract of each function is the step of the abstract store for that call. Each function
+//! first checks that the database exists and has resources. Functions that change it then check
+//! that it may be written, and count the call in its modification number. Two resources may have
+//! the same type and ID. The row of each call in `resource_row` (`heap_model`) has the order of its
+//! refusals.
 #![tactic(auto)]
 
 mod asking;

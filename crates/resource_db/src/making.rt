@@ -1,4 +1,4 @@
-//! Resources made and resized.
+//! Calls that make resources and resize their data.
 
 ghost use Rattle.std.specs.Prelude.{◌≡◌, ◌≢◌, OnErr, IfErr};
 ghost use Rattle.heap_model.specs.Chunk.{need};
@@ -13,10 +13,15 @@ use crate::resources::resource_at;
 use heap_model::{Db, Name, Refusal};
 use palm_store::{Access, EntryKind, NewEntry, Store, open_entries};
 
-/// Makes a resource of so many bytes of zeros behind all others. Its index and the name of its data are answered.
+/// Makes a resource of `size` zero bytes after all others, and returns the resource's index and the
+/// name of its data.
 ///
-/// Refused: `NoSuchDatabase`, `NotResourceDatabase`, `ReadOnly`; `TooManyEntries`, where there are 65,535;
-/// `NotEnoughSpace`, where no slot is free, or room for the data and for one entry more can run out.
+/// # Errors
+/// - `NoSuchDatabase`: if the store has no database of this number.
+/// - `NotResourceDatabase`: if it is a record database.
+/// - `ReadOnly`: if the database may only be read.
+/// - `TooManyEntries`: if the database has 65,535 resources.
+/// - `NotEnoughSpace`: if no slot is free, or the room for the data and one more entry can run out.
 pub fn new_resource(
     store: &mut Store,
     db: Db,
@@ -40,10 +45,18 @@ pub fn new_resource(
     Ok((opened.entry_count, name))
 }
 
-/// Gives the data of a resource so many bytes: its first ones, or all of them and zeros behind them.
+/// Resizes the data of a resource to `size` bytes. It keeps its first bytes, and any new bytes are
+/// zeros.
 ///
-/// Refused: `NoSuchDatabase`, `NotResourceDatabase`, `ReadOnly`, `IndexOutOfRange`, `Lent`; where the data has to
-/// grow `ChunkLocked`, if it is locked and doesn't fit in its place, and `NotEnoughSpace`. Then nothing has changed.
+/// # Errors
+/// If it fails, nothing has changed.
+/// - `NoSuchDatabase`: if the store has no database of this number.
+/// - `NotResourceDatabase`: if it is a record database.
+/// - `ReadOnly`: if the database may only be read.
+/// - `IndexOutOfRange`: if the database has no resource at the index.
+/// - `Lent`: if the data is lent.
+/// - `ChunkLocked`: if the data must grow, is locked, and doesn't fit in its place.
+/// - `NotEnoughSpace`: if the data must grow, isn't locked, and there is no room for it.
 pub fn resize_resource(store: &mut Store, db: Db, index: u32, size: u32) -> Result<(), Refusal>
     ensures does { DoesResource store.old (ResourceCall.Resize db index size)
         (done_or_refused result) store.new }

@@ -13,7 +13,7 @@ ghost use Rattle.palm_store.specs.Checks.{finding_checks};
 use heap_model::{Db, Refusal, ResourceInfo};
 use palm_store::{Access, EntryKind, Found, Store, find_entry};
 
-/// A resource.
+/// A resource, with the chunk of its database.
 #[derive(Clone, Copy)]
 pub(crate) struct FoundResource {
     /// The chunk of its database.
@@ -21,7 +21,7 @@ pub(crate) struct FoundResource {
     pub(crate) info: ResourceInfo,
 }
 
-/// The resource of an index, of a database that may be used so. It has data.
+/// Finds the resource at an index, in a database that allows this access. It has data.
 pub(crate) fn resource_at(
     store: &Store,
     db: Db,

@@ -1,4 +1,4 @@
-//! Resources, searched for.
+//! Searches of resources.
 
 ghost use Rattle.std.specs.Prelude.{◌≡◌, ◌≤◌, true, count_by, IfSome, IfNone};
 ghost use Rattle.heap_model.specs.Database.{has_resources};
@@ -8,7 +8,7 @@ ghost use Rattle.resource_db.specs.Resources.{IsNth};
 
 use db_format::DatabaseView;
 
-/// The first resource of a type and an id.
+/// Returns the index of the first resource of a type and an ID.
 pub(crate) fn first_with(resources: &DatabaseView, kind: u32, id: u16) -> Option<u32>
     requires { has_resources resources.now.header.attributes ≡ true }
     ensures is { IfSome result (IsFirst resources.now.entries 0 (HasTypeAndId kind id)) }
@@ -23,7 +23,7 @@ pub(crate) fn first_with(resources: &DatabaseView, kind: u32, id: u16) -> Option
     None
 }
 
-/// The resource of a type in front of which so many others of the type stand.
+/// Returns the index of the resource of a type with `nth` others of the type before it.
 #[tactic(auto, using(palm_store::proofs::SearchLaws::counted_all))]
 pub(crate) fn nth_of_type(resources: &DatabaseView, kind: u32, nth: u32) -> Option<u32>
     requires { has_resources resources.now.header.attributes ≡ true }

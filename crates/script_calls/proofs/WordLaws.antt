@@ -1,10 +1,10 @@
--- Words, and what stands behind the last of them.
+-- Words, and what stands after the last of them.
 use Rattle.std.proofs.Common.{◌≡◌, ℕ, List, [], ◌∷◌, ◌++◌, refl, sym, ap, ◌∙◌, append_assoc}
 use Rattle.std.specs.Prelude.{codes}
 use Rattle.heap_model.specs.declared.database.DbInfo.{DbInfo}
 use Rattle.script_calls.specs.Lines.{info_words, words_text}
 
--- words with a space in front of each, and an end
+-- words with a space before each, and an end
 unfoldable pub words_before : List (List ℕ) → List ℕ → List ℕ
 words_before [] end = end
 words_before (word ∷ words) end = codes " " ++ (word ++ words_before words end)

@@ -1,4 +1,4 @@
--- What the lines of a script do, bind, print and export.
+-- The calls of a script's lines, and what the lines bind, print and export.
 use Rattle.std.specs.Prelude.{◌≡◌, ◌≢◌, ◌<◌, ◌++◌, ◌==◌, ◌-◌, ℕ, Bool, List, [], ◌∷◌, Option, Some, None, Result, IfOk, is_ok, take, get_or, slice_get, if◌then◌else◌, codes, decimal, true, false, ◌≤◌, length}
 use Rattle.std.specs.List.{flat_map}
 use Rattle.std.specs.Option.{option_to_list}
@@ -38,7 +38,7 @@ use Rattle.script_calls.specs.declared.replies.Told.TheVariants.{Nothing, Values
 
 -- ---- what labels stand for
 
--- what the labels of a table stand for, by their numbers
+-- what each label stands for, by its number
 abbrev pub Table : Type 0 → Type 0
 Table Bound = ℕ → Bound
 
@@ -54,15 +54,15 @@ no_name = record { 0 = 0 }
 abbrev pub no_database : Db
 no_database = record { 0 = 0 }
 
--- no label was ever bound
+-- no label is bound
 abbrev pub unbound : Bindings
 unbound = record { chunks = λ label. no_name; databases = λ label. no_database }
 
--- one label of a table stands for something else
+-- the table in which one label stands for something else
 abbrev pub bind : {Bound : Type 0} → Table Bound → ℕ → Bound → Table Bound
 bind bound label now other = if other == label then now else bound other
 
--- what a list holds: behind its end no label was bound
+-- the table of a list; labels after the end of the list are not bound
 abbrev pub table : {Bound : Type 0} → Bound → List Bound → Table Bound
 table nothing bound label = get_or bound label nothing
 
@@ -71,11 +71,11 @@ tables names databases = record { chunks = table no_name names; databases = tabl
 
 -- ---- the call of each line
 
--- a call over labels, by what they stand for
+-- the call of a call over labels, with each label replaced by what it stands for
 abbrev pub call_among : Bindings → LineCall → Call
 call_among bound call = call_by (λ label. bound.chunks label.0) (λ label. bound.databases label.0) (λ bytes. bytes) call
 
--- the input file of a number, counted from 1; a number that names none stands for a file of no bytes
+-- the input file with a number, counted from 1; an empty file if there is none with this number
 abbrev pub input_of : List (List ℕ) → ℕ → List ℕ
 input_of inputs file = if file == 0 then [] else get_or inputs (file - 1) []
 
@@ -89,7 +89,7 @@ call_of inputs bound (BindDatabase label call) = call_among bound call
 call_of inputs bound (Import label file) = File (files.Import (input_of inputs file))
 call_of inputs bound (Export label) = File (files.Export (bound.databases label.0))
 
--- the calls that may want memory where their answer isn't lent: those on files
+-- the calls that may run out of memory, if the bytes of a `read` are lent: those on files
 abbrev pub may_want_memory : Call → Bool
 may_want_memory (Memory call) = false
 may_want_memory (OnDatabases call) = false
@@ -97,20 +97,20 @@ may_want_memory (OnRecords call) = false
 may_want_memory (OnResources call) = false
 may_want_memory (File call) = true
 
--- What comes of a call: it was done, and no memory was wanted unless it is one on files; or it is a `read`,
--- which is left to the caller.
+-- The outcome of a call. Either it was done, and only a call on files can have run out of memory.
+-- Or it is a `read`, which is left to the caller and changes nothing.
 abbrev pub Answers : Region → Call → Outcome → Region → Type 0
 Answers old call (Replied reply) new = DoesInStore old call reply new × (may_want_memory call ≡ false → reply ≢ Refused OutOfMemory)
 Answers old call (Reads name at count) new = (call ≡ Memory (calls.Read name at count)) × (new ≡ old)
 
--- what holds where a call was refused for want of memory
+-- a fact that is known if the call ran out of memory
 abbrev pub OnWant : Outcome → Type 0 → Type 0
 OnWant (Replied reply) fact = reply ≡ Refused OutOfMemory → fact
 OnWant (Reads name at count) fact = Unit {0}
 
 -- ---- what each line binds
 
--- the chunk that an answer names: that of a name, of what is new, or the data of a resource
+-- the chunk that a reply names: by a name, as the data of a new entry, or as the data of a resource
 abbrev pub chunk_in : Reply → Option Name
 chunk_in (Refused refusal) = None
 chunk_in Done = None
@@ -124,7 +124,7 @@ chunk_in (Made index name) = Some name
 chunk_in (Record info) = None
 chunk_in (Resource info) = Some info.data
 
--- the database that an answer names
+-- the database that a reply names
 abbrev pub database_in : Reply → Option Db
 database_in (Refused refusal) = None
 database_in Done = None
@@ -138,18 +138,18 @@ database_in (Made index name) = None
 database_in (Record info) = None
 database_in (Resource info) = None
 
--- a label of a chunk is bound to the one that was answered, if one was
+-- a label of a chunk is bound to the chunk that a reply names, if it names one
 abbrev pub bound_to : Bindings → ℕ → Option Name → Bindings
 bound_to bound label None = bound
 bound_to bound label (Some name) = record bound { chunks = bind bound.chunks label name }
 
--- and a label of a database
+-- the same for the label of a database
 abbrev pub bound_to_database : Bindings → ℕ → Option Db → Bindings
 bound_to_database bound label None = bound
 bound_to_database bound label (Some db) = record bound { databases = bind bound.databases label db }
 
--- A line that is accepted binds its label: to the name given, or to that of the new chunk or of the data of
--- a record or a resource, or to the database. A refused one binds nothing.
+-- A line that is accepted binds its label: `bind` to the name given, and every other line to the
+-- chunk or the database that its reply names. A refused line binds nothing.
 abbrev pub bound_after : Bindings → Line → Reply → Bindings
 bound_after bound (Bind label name) (Refused refusal) = bound
 bound_after bound (Bind label name) reply = record bound { chunks = bind bound.chunks label.0 (record { 0 = name }) }
@@ -162,13 +162,14 @@ bound_after bound (Export label) reply = bound
 
 -- ---- what is printed
 
--- bytes in hex, and a dash for none
+-- bytes in hex, or a dash for no bytes
 abbrev pub hex_text : List ℕ → List ℕ
 hex_text [] = codes "-"
 hex_text (byte ∷ bytes) = encode_lower (byte ∷ bytes)
 
--- what a header says: the name, the attributes in four hex digits, the version, the dates, the modification
--- number, the type, the creator, the seed in eight hex digits, and the number of entries
+-- the words of a header: the name, the attributes in four hex digits, the version, the dates, the
+-- modification number, the type, the creator, the seed in eight hex digits, and the number of
+-- entries
 abbrev pub info_words : DbInfo → List (List ℕ)
 info_words info =
     spelled info.name
@@ -184,25 +185,25 @@ info_words info =
     ∷ decimal info.entry_count
     ∷ []
 
--- whether there is data
+-- the word for whether a record has data
 abbrev pub data_word : Option Name → List ℕ
 data_word (Some name) = codes "data"
 data_word None = codes "none"
 
--- what the entry of a record says: the attributes in two hex digits, the ID, and whether there is data
+-- the words of a record's entry: the attributes in two hex digits, the ID, and whether it has data
 abbrev pub record_words : RecordInfo → List (List ℕ)
 record_words info = encode_lower (info.attributes ∷ []) ∷ decimal info.id ∷ data_word info.data ∷ []
 
--- what the entry of a resource says: the type and the ID
+-- the words of a resource's entry: the type and the ID
 abbrev pub resource_words : ResourceInfo → List (List ℕ)
 resource_words info = spelled (u32_bytes info.kind) ∷ decimal info.id ∷ []
 
--- words with a space in front of each
+-- words with a space before each
 abbrev pub words_text : List (List ℕ) → List ℕ
 words_text words = flat_map (λ word. codes " " ++ word) words
 
--- The values behind `ok`: numbers, counts, indexes, bytes, and what a header or an entry says. Names, places
--- and the numbers of databases aren't printed.
+-- The values after `ok`: numbers, counts, indexes, bytes, and the words of a header or an entry.
+-- Names, places and the numbers of databases aren't printed.
 abbrev pub values_text : Reply → List ℕ
 values_text (Number number) = codes " " ++ decimal number
 values_text (Locked place count) = codes " " ++ decimal count
@@ -216,7 +217,7 @@ values_text Done = []
 values_text (Named name) = []
 values_text (Database db) = []
 
--- how many bytes are answered
+-- the number of bytes of a reply of bytes
 abbrev pub length_text : Reply → List ℕ
 length_text (Data bytes) = codes " " ++ decimal (length bytes)
 length_text (Refused refusal) = []
@@ -230,8 +231,8 @@ length_text (Made index name) = []
 length_text (Record info) = []
 length_text (Resource info) = []
 
--- What is told of the answer to a line: nothing, its values, or its length; what is answered to be bound
--- has no value.
+-- The part of the reply that a line prints if it is accepted: nothing, its values, or its length.
+-- Names and databases are only bound, and have no value.
 abbrev pub told_of : Line → Told
 told_of (Bind label name) = Nothing
 told_of (Print call) = Values
@@ -251,7 +252,7 @@ abbrev pub which_word : Which → List ℕ
 which_word App = codes "app"
 which_word Sort = codes "sort"
 
--- what is wrong with a file
+-- the fault of a file
 abbrev pub fault_text : FileFault → List ℕ
 fault_text Truncated = codes "Truncated"
 fault_text ChainedList = codes "ChainedList"
@@ -259,7 +260,7 @@ fault_text EmptyName = codes "EmptyName"
 fault_text (BadInfo which) = codes "BadInfo " ++ which_word which
 fault_text (BadOffset index) = codes "BadOffset " ++ decimal index
 
--- what stands behind the name of a refusal: of a file what is wrong with it, and of all others nothing
+-- the text after the name of a refusal: the fault of a bad file, and nothing for all other refusals
 abbrev pub details_text : Refusal → List ℕ
 details_text (BadFile fault) = codes " " ++ fault_text fault
 details_text refusal = []
@@ -276,7 +277,7 @@ reply_line line reply = reply_text (told_of line) reply
 
 -- ---- what is exported
 
--- the file that is answered, if one is
+-- the file in a reply, if it has one
 abbrev pub file_in : Reply → List (List ℕ)
 file_in (Data bytes) = bytes ∷ []
 file_in (Refused refusal) = []
@@ -302,17 +303,17 @@ exported (Export label) reply = file_in reply
 
 -- ---- the run of lines
 
--- The call of a line does its step, and moves no more chunks than it may. Only where the call may want memory it is
--- refused for want of it, and then memory was short.
+-- The call of a line does its step, and moves only the chunks of `Moves`. Only a call on files can
+-- run out of memory, and then memory was short.
 pub record LineStep (short : Type 0) (inputs : List (List ℕ)) (old : Region) (bound : Bindings) (line : Line) (reply : Reply) (new : Region) : Type 0 where
   pub does : DoesInStore old (call_of inputs bound line) reply new
   pub moves : Moves old (call_of inputs bound line) new
   pub takes_no_memory : may_want_memory (call_of inputs bound line) ≡ false → reply ≢ Refused OutOfMemory
   pub no_memory : reply ≡ Refused OutOfMemory → short
 
--- The lines in their order, from a region and what labels stand for: each is one call, its reply line
--- comes behind the text of those before it, and what it exports behind their files; what it binds is
--- bound for those behind it.
+-- The lines in their order, from a region and bindings. Each line is one call. Its reply line
+-- follows the text of the lines before it, and the file that it exports follows their files. The
+-- label that it binds is bound for the lines after it.
 abbrev pub Lines : Type 0 → List (List ℕ) → Region → Bindings → List Line → List ℕ → List (List ℕ) → Region → Bindings → Type 0
 Lines short inputs old bound [] text files new after = (text ≡ []) × (files ≡ []) × (new ≡ old) × (after ≡ bound)
 Lines short inputs old bound (line ∷ lines) text files new after =
@@ -322,8 +323,8 @@ Lines short inputs old bound (line ∷ lines) text files new after =
     × (files ≡ exported line reply ++ more)
     × Lines short inputs mid (bound_after bound line reply) lines rest more new after
 
--- One line: its call is done, what it binds is bound, and its reply line goes to a writer. Where that got
--- through, the file that it exports is answered, if it exports one.
+-- One line: its call is done, its label is bound, and its reply line is written to a writer. If the
+-- write succeeded, the result is the file that the line exports, if it exports one.
 pub record DoesLine {W : Type 0} (short : Type 0) (contents : W → Option (List ℕ)) (inputs : List (List ℕ)) (line : Line) (old : Region) (bound : Bindings) (out : Writing W) (new : Region) (bound_new : Bindings) (out_after : Writing W) (answer : Result (Option (List ℕ)) WriteFault) : Type 0 where
   pub reply : Reply
   pub step : LineStep short inputs old bound line reply new
@@ -331,17 +332,17 @@ pub record DoesLine {W : Type 0} (short : Type 0) (contents : W → Option (List
   pub written : Writes contents out out_after (reply_line line reply) (is_ok answer)
   pub file : IfOk answer (λ file. exported line reply ≡ option_to_list file)
 
--- All lines were run, all of their text was written to a writer that wasn't flushed, and these are the files that
--- they export. A line was refused for want of memory only where memory was short.
+-- All lines were run, and all of their text was written to a writer, which wasn't flushed. `files`
+-- are the files that they export. A line ran out of memory only if memory was short.
 pub record RunsThroughShort {W : Type 0} (short : Type 0) (contents : W → Option (List ℕ)) (inputs : List (List ℕ)) (lines : List Line) (old : Region) (out : Writing W) (new : Region) (out_after : Writing W) (files : List (List ℕ)) : Type 0 where
   pub text : List ℕ
   pub after : Bindings
   pub ran : Lines short inputs old unbound lines text files new after
   pub written : Writes contents out out_after text true
 
--- A write failed in the reply line of some line: the text of the lines before it was written, and a
--- front of that reply line; the writer wasn't flushed. The line's call was done, and no other behind it. A line was
--- refused for want of memory only where memory was short.
+-- A write failed in the reply line of some line. The text of the lines before it was written, and a
+-- prefix of that reply line. The writer wasn't flushed. The line's call was done, and no call after
+-- it. A line ran out of memory only if memory was short.
 pub record BreaksOffShort {W : Type 0} (short : Type 0) (contents : W → Option (List ℕ)) (inputs : List (List ℕ)) (lines : List Line) (old : Region) (out : Writing W) (new : Region) (out_after : Writing W) : Type 0 where
   pub count : ℕ
   pub text : List ℕ
@@ -359,7 +360,7 @@ pub record BreaksOffShort {W : Type 0} (short : Type 0) (contents : W → Option
   pub fault : out.faults < out_after.faults
   pub unflushed : out_after.flushes ≡ out.flushes
 
--- the same, where nothing is known of memory
+-- the same without the statement about memory
 abbrev pub RunsThrough : {W : Type 0} → (W → Option (List ℕ)) → List (List ℕ) → List Line → Region → Writing W → Region → Writing W → List (List ℕ) → Type 0
 RunsThrough contents inputs lines old out new out_after files = RunsThroughShort (Unit {0}) contents inputs lines old out new out_after files
 

@@ -11,15 +11,15 @@ use Rattle.heap_model.specs.StoreSteps.{Call}
 use Rattle.heap_model.specs.declared.call.Call.TheVariants.{Memory}
 use Rattle.heap_model.specs.declared.call.MemoryCall.TheVariants.{HandleNew, PtrNew, Resize, Compact, MoreSlots}
 
--- A call for a new chunk of `size` bytes. If a run of free chunks has the room, nothing moves. Otherwise only chunks of
--- one stretch move, and no byte is slid twice.
+-- A call for a new chunk of `size` bytes. If a run of free chunks has the room, nothing moves.
+-- Otherwise only chunks of one stretch move, and no byte is slid twice.
 pub record MovesForNew (old : Region) (size : ℕ) (new : Region) : Type 0 where
   pub unmoved : (NoRun (chunks_of old.bytes) (need size) → ⊥) → MovesNothing old.bytes new.bytes
   pub one_stretch : MovesOneStretch old.bytes new.bytes
   pub once : new.slid ≡ old.slid + moved_bytes old.bytes new.bytes
 
--- A call that resizes a chunk to `size` bytes. If the chunk and the free chunks directly after it have the room,
--- nothing moves. Otherwise only this chunk and chunks of one stretch move.
+-- A call that resizes a chunk to `size` bytes. If the chunk and the free chunks directly after it
+-- have the room, nothing moves. Otherwise only this chunk and chunks of one stretch move.
 pub record MovesForResize (old : Region) (name size : ℕ) (new : Region) : Type 0 where
   pub unmoved : FitsInPlace old.bytes name (need size) → MovesNothing old.bytes new.bytes
   pub one_stretch : MovesOneStretchAnd old.bytes new.bytes name

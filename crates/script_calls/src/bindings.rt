@@ -1,4 +1,4 @@
-//! What the labels of a script and the bytes that its text lends stand for.
+//! Looks up what the labels of a script, and the bytes that its text lends, stand for.
 
 ghost use Rattle.std.specs.Prelude.{◌≡◌, ◌≤◌, ◌<◌, ℕ, List, length};
 ghost use Rattle.script_lines.specs.LineCounts.{chunk_label_end, database_label_end};
@@ -8,11 +8,12 @@ ghost use Rattle.script_calls.specs.Lines as answers;
 use heap_model::{Bytes, Db, Name, Reply};
 use script_lines::{ChunkLabel, DatabaseLabel, LentBytes, Line};
 
-/// What a call is given for a chunk or a database: that itself, or a label that stands for it.
+/// An argument of a call for a chunk or a database: its name or number, or a label that stands for
+/// it.
 pub trait Given<Named>: Copy {
     ghost meant: { Self → List Named → Named };
 
-    /// What is meant, where the labels stand for these.
+    /// Returns what the argument stands for, if the labels stand for the items of `bound`.
     fn among(self, bound: &[Named]) -> Named
         ensures { result ≡ meant self bound.now };
 }
@@ -33,7 +34,7 @@ impl Given<Db> for Db {
     }
 }
 
-/// A label that was never bound stands for nothing.
+/// A label that was never bound stands for the name of nothing.
 impl Given<Name> for ChunkLabel {
     ghost meant = { λ label names. table no_name names label.0 };
 
@@ -57,14 +58,15 @@ impl Given<Db> for DatabaseLabel {
     }
 }
 
-/// What a call is given for bytes: those themselves, or what the text of a script lends, which is decoded first.
+/// An argument of a call for bytes: the bytes themselves, or those that the text of a script lends,
+/// which are decoded first.
 pub trait GivenBytes {
     ghost spelled: { Self → List ℕ };
 
-    /// How many bytes the buffer has to have.
+    /// The number of bytes that the buffer must have at least.
     ghost room: { Self → ℕ };
 
-    /// The bytes, decoded into a buffer where they have to be.
+    /// Returns the bytes, decoded into the buffer if they are in hex.
     fn decoded<'a>(&'a self, buffer: &'a mut [u8]) -> &'a [u8]
         requires { room self.now ≤ length buffer.old }
         ensures { result.now ≡ spelled self.now };
@@ -90,8 +92,8 @@ impl<'t> GivenBytes for LentBytes<'t> {
     }
 }
 
-/// Binds what a line binds that was answered so: an answer that names nothing of the kind, as a refusal, binds
-/// nothing.
+/// Binds the label of a line to what the reply names. If the reply names nothing of the kind, as a
+/// refusal, it binds nothing.
 pub fn bind_line(names: &mut [Name], databases: &mut [Db], line: &Line<'_>, reply: &Reply)
     requires chunks { chunk_label_end line.now ≤ length names.old }
     requires databases { database_label_end line.now ≤ length databases.old }
@@ -115,7 +117,7 @@ pub fn bind_line(names: &mut [Name], databases: &mut [Db], line: &Line<'_>, repl
     }
 }
 
-/// The chunk that an answer names.
+/// Returns the chunk that a reply names.
 fn chunk_in(reply: &Reply) -> Option<Name>
     ensures { result ≡ answers.chunk_in reply.now }
 {
@@ -133,7 +135,7 @@ fn chunk_in(reply: &Reply) -> Option<Name>
     }
 }
 
-/// The database that an answer names.
+/// Returns the database that a reply names.
 fn database_in(reply: &Reply) -> Option<Db>
     ensures { result ≡ answers.database_in reply.now }
 {

@@ -1,4 +1,4 @@
-//! One call on chunks or on databases, and what comes of a call.
+//! One call on chunks or on databases, and the outcome of a call.
 
 ghost use Rattle.std.specs.Prelude.{◌≡◌, ◌≢◌, ◌≤◌, length};
 ghost use Rattle.heap_model.specs.MemorySteps.{memory_call};
@@ -17,16 +17,16 @@ use crate::replies::{database, done, info, locked, named, number, small_number};
 use heap_model::{DatabaseCall, Db, MemoryCall, Name, Reply};
 use palm_store::Store;
 
-/// What comes of a call, where bytes that a store lends aren't copied.
+/// The outcome of a call. The bytes of a `read` aren't copied.
 #[derive(Drop)]
 pub enum Outcome {
     Replied(Reply),
-    /// The call is a `read` and isn't done, since its bytes are lent by the store: of this name, from
-    /// an offset on, of so many bytes.
+    /// The call is a `read`, and is left to the caller, who reads the bytes from the store. It has
+    /// the name, the offset and the number of bytes.
     Reads(Name, u32, u32),
 }
 
-/// Does a call on databases and answers its reply. It takes no memory.
+/// Does a call on databases and returns its reply. It takes no memory.
 pub fn do_database_call<C: Given<Name>, D: Given<Db>>(
     store: &mut Store,
     names: &[Name],

@@ -1,15 +1,16 @@
-//! What the calls of a script are given and what they answer, and the calls that need the store alone.
+//! The arguments and the replies of a script's calls, and the calls on chunks and on databases.
 //!
-//! A call is given chunks, databases and bytes as they are, or by labels and by a script's text (`Given`,
-//! `GivenBytes`). `do_memory_call` and `do_database_call` do the calls on chunks and on databases; those on
-//! records, resources and files stand in palm_script, which uses this crate. `put_reply` prints a reply line.
-//! `specs/Lines.antt` says what lines do, bind, print and export.
+//! The arguments of a call are names, numbers and bytes, or labels and bytes of a script's text
+//! (`Given`, `GivenBytes`). `do_memory_call` and `do_database_call` do the calls on chunks and on
+//! databases. The calls on records, resources and files are in palm_script, which uses this crate.
+//! `put_reply` prints a reply line. `specs/Lines.antt` defines the calls of lines, and what lines
+//! bind, print and export.
 //!
 //! | module | does |
 //! |---|---|
-//! | `bindings` | what labels and lent bytes stand for, and how a call finds that |
+//! | `bindings` | looks up what labels and lent bytes stand for |
 //! | `calls` | one call on chunks or on databases |
-//! | `replies` | what a manager answers, as a reply; and reply lines |
+//! | `replies` | makes replies of the results of the managers, and prints reply lines |
 #![tactic(auto)]
 
 mod bindings;

@@ -21,8 +21,9 @@ use palm_text::{Counted, Piece, WriteFault, put_pieces};
 use script_lines::Line;
 use std::io::Write;
 
-// ---- what a manager answers, as a reply
+// ---- the result of a manager, as a reply
 
+/// Makes the reply of a result without a value.
 pub fn done(answer: Result<(), Refusal>) -> Reply
     ensures { result ≡ reply_of (λ done. Reply.Done) answer }
 {
@@ -32,6 +33,7 @@ pub fn done(answer: Result<(), Refusal>) -> Reply
     }
 }
 
+/// Makes the reply of a result that is a number.
 pub fn number(answer: Result<u32, Refusal>) -> Reply
     ensures { result ≡ reply_of (λ number. Reply.Number number) answer }
 {
@@ -41,6 +43,7 @@ pub fn number(answer: Result<u32, Refusal>) -> Reply
     }
 }
 
+/// Makes the reply of a result that is a number below 2^8.
 pub fn small_number(answer: Result<u8, Refusal>) -> Reply
     ensures { result ≡ reply_of (λ number. Reply.Number number) answer }
 {
@@ -50,6 +53,7 @@ pub fn small_number(answer: Result<u8, Refusal>) -> Reply
     }
 }
 
+/// Makes the reply of a result that is the name of a chunk.
 pub fn named(answer: Result<Name, Refusal>) -> Reply
     ensures { result ≡ reply_of (λ name. Reply.Named name) answer }
 {
@@ -59,6 +63,7 @@ pub fn named(answer: Result<Name, Refusal>) -> Reply
     }
 }
 
+/// Makes the reply of a result that is a locked chunk: its place and its lock count.
 pub fn locked(answer: Result<Locked, Refusal>) -> Reply
     ensures { result ≡ reply_of (λ locked. Reply.Locked locked.place locked.count) answer }
 {
@@ -68,6 +73,7 @@ pub fn locked(answer: Result<Locked, Refusal>) -> Reply
     }
 }
 
+/// Makes the reply of a result that is a database.
 pub fn database(answer: Result<Db, Refusal>) -> Reply
     ensures { result ≡ reply_of (λ db. Reply.Database db) answer }
 {
@@ -77,6 +83,7 @@ pub fn database(answer: Result<Db, Refusal>) -> Reply
     }
 }
 
+/// Makes the reply of a result that is the header of a database.
 pub fn info(answer: Result<DbInfo, Refusal>) -> Reply
     ensures { result ≡ reply_of (λ info. Reply.Info info) answer }
 {
@@ -86,6 +93,7 @@ pub fn info(answer: Result<DbInfo, Refusal>) -> Reply
     }
 }
 
+/// Makes the reply of a result that is the index of a new entry and the name of its chunk.
 pub fn made(answer: Result<(u32, Name), Refusal>) -> Reply
     ensures { result ≡ reply_of made_reply answer }
 {
@@ -95,6 +103,7 @@ pub fn made(answer: Result<(u32, Name), Refusal>) -> Reply
     }
 }
 
+/// Makes the reply of a result that is the entry of a record.
 pub fn record(answer: Result<RecordInfo, Refusal>) -> Reply
     ensures { result ≡ reply_of (λ info. Reply.Record info) answer }
 {
@@ -104,6 +113,7 @@ pub fn record(answer: Result<RecordInfo, Refusal>) -> Reply
     }
 }
 
+/// Makes the reply of a result that is the entry of a resource.
 pub fn resource(answer: Result<ResourceInfo, Refusal>) -> Reply
     ensures { result ≡ reply_of (λ info. Reply.Resource info) answer }
 {
@@ -113,6 +123,7 @@ pub fn resource(answer: Result<ResourceInfo, Refusal>) -> Reply
     }
 }
 
+/// Makes the reply of a result that is bytes.
 pub fn data(answer: Result<Bytes, Refusal>) -> Reply
     ensures { result ≡ reply_of (λ bytes. Reply.Data bytes) answer }
 {
@@ -124,12 +135,12 @@ pub fn data(answer: Result<Bytes, Refusal>) -> Reply
 
 // ---- reply lines
 
-/// What is told of the answer to a line, where it is no refusal.
+/// The part of a reply that a line prints, if it is no refusal.
 #[derive(Clone, Copy)]
 pub enum Told {
     Nothing,
     Values,
-    /// How many bytes it has.
+    /// The number of bytes of the reply.
     Length,
 }
 
@@ -161,7 +172,7 @@ pub fn put_reply<W: Write>(
     }
 }
 
-/// Prints the reply line of a line whose call answers these bytes, without a copy of them.
+/// Prints the reply line of a line whose reply is `bytes`, without copying them.
 pub fn put_data<W: Write>(
     out: &mut Counted<W>,
     line: &Line<'_>,
@@ -173,7 +184,7 @@ pub fn put_data<W: Write>(
     put_told_bytes(out, told_of(line), bytes)
 }
 
-/// Prints `ok` and what is told of an answer of bytes.
+/// Prints `ok` and the part of a reply of bytes that the line prints.
 fn put_told_bytes<W: Write>(
     out: &mut Counted<W>,
     told: Told,
@@ -189,7 +200,8 @@ fn put_told_bytes<W: Write>(
     }
 }
 
-/// Prints `refused` with the number and the name of a refusal, and behind them what is wrong with a file.
+/// Prints `refused` with the number and the name of a refusal, and after them the fault of a bad
+/// file.
 pub fn put_refusal<W: Write>(out: &mut Counted<W>, refusal: Refusal) -> Result<(), WriteFault>
     ensures { Writes W.contents out.old out.new (refusal_line refusal) (is_ok result) }
 {
@@ -208,7 +220,8 @@ pub fn put_refusal<W: Write>(out: &mut Counted<W>, refusal: Refusal) -> Result<(
     )
 }
 
-/// What stands behind the name of a refusal: of a file what is wrong with it, and of which of its parts.
+/// Returns the text after the name of a refusal: the fault of a bad file, and the faulty part of
+/// it.
 fn details(refusal: Refusal) -> (&'static [u8], Piece<'static>)
     ensures { result.0.now ++ piece_text result.1 ≡ details_text refusal }
 {
@@ -226,7 +239,7 @@ fn details(refusal: Refusal) -> (&'static [u8], Piece<'static>)
 
 const NOTHING: Piece<'static> = Piece::Text(b"");
 
-/// An info block, as scripts name it.
+/// Returns the name of an info block in scripts.
 fn which_word(which: Which) -> &'static [u8]
     ensures { result.now ≡ words.which_word which }
 {
@@ -285,7 +298,7 @@ fn put_length<W: Write>(out: &mut Counted<W>, length: usize) -> Result<(), Write
     )
 }
 
-/// Prints `ok` and bytes in hex, which takes no memory.
+/// Prints `ok` and bytes in hex. It takes no memory.
 fn put_bytes<W: Write>(out: &mut Counted<W>, bytes: &[u8]) -> Result<(), WriteFault>
     ensures { Writes W.contents out.old out.new
         (codes "ok" ++ (codes " " ++ hex_text bytes.now) ++ codes "\n") (is_ok result) }
@@ -299,7 +312,7 @@ fn put_bytes<W: Write>(out: &mut Counted<W>, bytes: &[u8]) -> Result<(), WriteFa
     )
 }
 
-/// Prints `ok` and what the header of a database says.
+/// Prints `ok` and the header of a database.
 fn put_info<W: Write>(out: &mut Counted<W>, info: &DbInfo) -> Result<(), WriteFault>
     ensures { Writes W.contents out.old out.new
         (codes "ok" ++ words_text (info_words info.now) ++ codes "\n") (is_ok result) }
@@ -334,7 +347,7 @@ fn put_info<W: Write>(out: &mut Counted<W>, info: &DbInfo) -> Result<(), WriteFa
     )
 }
 
-/// Prints `ok` and what the entry of a record says.
+/// Prints `ok` and the entry of a record.
 fn put_record<W: Write>(out: &mut Counted<W>, info: &RecordInfo) -> Result<(), WriteFault>
     ensures { Writes W.contents out.old out.new
         (codes "ok" ++ words_text (record_words info.now) ++ codes "\n") (is_ok result) }
@@ -370,7 +383,7 @@ fn put_resource<W: Write>(out: &mut Counted<W>, info: &ResourceInfo) -> Result<(
     )
 }
 
-/// Says whether there is data.
+/// Returns the word for whether there is data.
 fn data_word(name: Option<Name>) -> &'static [u8]
     ensures { result.now ≡ words.data_word name }
 {

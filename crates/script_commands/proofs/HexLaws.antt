@@ -23,7 +23,7 @@ decoded digits spells = by_result (decode_of digits) spells refl
 pub twice : (digits : List ℕ) → is_some (hex_bytes digits) ≡ true → length digits ≡ 2 * length (bytes_of true digits)
 twice digits spells = let (_, _, long, _) = decode_of-ok digits (bytes_of true digits) (decoded digits spells) in long
 
--- and they are decoded where there is just that room
+-- and they are decoded if the room is exact
 pub decoded_in : (digits : List ℕ) (room : ℕ) → is_some (hex_bytes digits) ≡ true → room ≡ length digits / 2 → decode_sized digits room ≡ Ok (bytes_of true digits)
 decoded_in digits room spells is =
     let long = twice digits spells in
@@ -54,7 +54,7 @@ take_none : (count : ℕ) → ◌≡◌ {A = List ℕ} (take count []) []
 take_none zero = refl
 take_none (suc count) = refl
 
--- a pair in front of others, of which a front is taken
+-- a pair before others, of which a prefix is taken
 pair_front : (pair : Result ℕ FromHexError) (rest front : Result (List ℕ) FromHexError) (bytes : List ℕ) (count : ℕ) → (pair >>= λ byte. cons_byte byte rest) ≡ Ok bytes → ((more : List ℕ) → rest ≡ Ok more → front ≡ Ok (take count more)) → (pair >>= λ byte. cons_byte byte front) ≡ Ok (take (suc count) bytes)
 pair_front (Err fault) rest front bytes count is behind = cc
 pair_front (Ok byte) (Err fault) front bytes count is behind = cc
@@ -62,7 +62,7 @@ pair_front (Ok byte) (Ok more) front bytes count is behind =
     let same : byte ∷ more ≡ bytes = cc in
     rw (behind more refl, ← same) refl
 
--- the first digits, two for each of so many bytes
+-- the first digits, two for each of `count` bytes
 pairs_front : (count at : ℕ) (digits bytes : List ℕ) → decode_pairs at digits ≡ Ok bytes → decode_pairs at (take (2 * count) digits) ≡ Ok (take count bytes)
 unfolding decode_pairs
 pairs_front zero at digits bytes is = refl

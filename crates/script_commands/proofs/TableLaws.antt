@@ -1,4 +1,4 @@
--- Commands found in tables, one behind the other.
+-- Commands found in tables, one after the other.
 use Rattle.std.proofs.Common.{◌≡◌, List, [], ◌∷◌, ◌++◌, Bool, true, false, cond, refl}
 use Rattle.std.specs.Prelude.{Some, None}
 use Rattle.std.specs.List.{find}

@@ -1,4 +1,5 @@
--- The commands, one row each: the word, the kinds of the words behind it, and the line that they make.
+-- The commands, one row each: the word, the kinds of the words after it, and the line that they
+-- make.
 use Rattle.std.specs.Prelude.{ℕ, Bool, List, [], ◌∷◌, ◌++◌, map, take, Option, Some, None, codes}
 use Rattle.std.specs.List.{find}
 use Rattle.std.specs.Str.{bytes_eq}
@@ -34,7 +35,7 @@ use Rattle.script_commands.specs.declared.value.Kind.TheVariants as kinds
 use Rattle.script_commands.specs.declared.value.Value.{Value}
 use Rattle.script_commands.specs.declared.value.Value.TheVariants as values
 
--- what makes a line of what words of these kinds stand for
+-- a function to a line, from what words of the given kinds stand for
 abbrev pub Makes : List Kind → Type 0
 Makes [] = Line
 Makes (kinds.Chunk ∷ behind) = ChunkLabel → Makes behind
@@ -48,8 +49,8 @@ Makes (kinds.FourBytes ∷ behind) = ℕ → Makes behind
 Makes (kinds.Bytes ∷ behind) = List ℕ → Makes behind
 Makes (kinds.Text ∷ behind) = List ℕ → Makes behind
 
--- The line of values of these kinds. A word of bytes or text has its bytes apart from the values of the
--- others.
+-- The line made of values of the given kinds, or none if the values are of other kinds. The bytes
+-- of a word of bytes or text are given separately from the values of the other words.
 abbrev pub line_by : (of : List Kind) → Makes of → List Value → List ℕ → Option Line
 line_by [] make [] bytes = Some make
 line_by (kinds.Chunk ∷ behind) make (values.Chunk label ∷ more) bytes = line_by behind (make label) more bytes
@@ -64,8 +65,8 @@ line_by (kinds.Bytes ∷ behind) make more bytes = line_by behind (make bytes) m
 line_by (kinds.Text ∷ behind) make more bytes = line_by behind (make bytes) more bytes
 line_by of make more bytes = None
 
--- A command: its word, the kinds of the words behind it, what makes its line of what they stand for, and
--- so the line of values.
+-- A command: its word, the kinds of the words after it, the function that makes its line of what
+-- they stand for, and the same as a function of a list of values.
 pub record CommandRow : Type 0 where
   pub word : List ℕ
   pub of : List Kind
@@ -75,7 +76,7 @@ pub record CommandRow : Type 0 where
 abbrev pub row : List ℕ → (of : List Kind) → Makes of → CommandRow
 row word of make = record { word = word; of = of; make = make; line = line_by of make }
 
--- the calls of the managers, as lines have them
+-- the calls of the managers, over labels
 abbrev pub LineCall : Type 0
 LineCall = Call ChunkLabel DatabaseLabel (List ℕ)
 
@@ -113,7 +114,7 @@ memory_row Largest = row (codes "largest") [] (Print (in_memory memory.LargestSt
 memory_row Compact = row (codes "compact") [] (Silent (in_memory memory.Compact))
 memory_row MoreSlots = row (codes "moreslots") [] (Print (in_memory memory.MoreSlots))
 
--- the kinds of the words behind `create` and `dbset`
+-- the kinds of the words after `create` and `dbset`
 abbrev pub creation_kinds : List Kind
 creation_kinds =
     kinds.Database ∷ kinds.Text ∷ kinds.FourBytes ∷ kinds.FourBytes ∷ kinds.Flag ∷ kinds.Number ∷ []
@@ -123,7 +124,8 @@ info_kinds =
     kinds.Database ∷ kinds.Text ∷ kinds.Short ∷ kinds.Short ∷ kinds.Number ∷ kinds.Number ∷ kinds.Number
     ∷ kinds.FourBytes ∷ kinds.FourBytes ∷ []
 
--- a name is a text's first bytes, one more than a name may have
+-- a database's name, as a call gives it: the first bytes of a text, at most one more than a name
+-- may have
 abbrev pub name_of : List ℕ → List ℕ
 name_of text = take name_size text
 
@@ -228,6 +230,6 @@ resource_commands = resources.New ∷ resources.Attach ∷ resources.Detach ∷ 
 abbrev pub commands : List Command
 commands = map Memory memory_commands ++ map Database database_commands ++ map Record record_commands ++ map Resource resource_commands
 
--- the command of a word
+-- the command that has a word, if there is one
 abbrev pub command_of : List ℕ → Option Command
 command_of word = find (λ command. bytes_eq (word_of command) word) commands

@@ -1,5 +1,5 @@
--- What is counted in lines: the labels that they bind, by their numbers, the bytes that their calls give, and the
--- lines that export.
+-- Counts of lines: the labels that they bind, by their numbers; the bytes that their calls give;
+-- and the lines that export.
 use Rattle.std.specs.Prelude.{◌≤◌, ◌+◌, ℕ, Bool, true, false, List, [], ◌∷◌, All, length, max}
 use Rattle.script_commands.specs.declared.line.Line.{Line}
 use Rattle.heap_model.specs.declared.call.Call.{Call}
@@ -10,7 +10,7 @@ use Rattle.heap_model.specs.declared.call.FileCall.{FileCall}
 use Rattle.heap_model.specs.declared.call.FileCall.TheVariants as files
 use Rattle.script_commands.specs.declared.line.Line.TheVariants.{Bind, Print, Silent, BindChunk, BindDatabase, Import, Export}
 
--- one more than the number of the label of a chunk that a line binds, and 0 where it binds none
+-- the number of the chunk label that a line binds, plus 1; 0 if it binds none
 abbrev pub chunk_label_end : Line → ℕ
 chunk_label_end (Bind label name) = label.0 + 1
 chunk_label_end (Print call) = 0
@@ -20,7 +20,7 @@ chunk_label_end (BindDatabase label call) = 0
 chunk_label_end (Import label file) = 0
 chunk_label_end (Export label) = 0
 
--- the same of the label of a database
+-- the same for the label of a database
 abbrev pub database_label_end : Line → ℕ
 database_label_end (Bind label name) = 0
 database_label_end (Print call) = 0
@@ -30,18 +30,18 @@ database_label_end (BindDatabase label call) = label.0 + 1
 database_label_end (Import label file) = label.0 + 1
 database_label_end (Export label) = 0
 
--- how many bytes a call of the memory manager gives, where `count` says how many its bytes are
+-- the number of bytes that a call of the memory manager gives; `count` is the length of its bytes
 abbrev pub bytes_written : {Chunk Given : Type 0} → (Given → ℕ) → MemoryCall Chunk Given → ℕ
 bytes_written count (Write name at bytes) = count bytes
 bytes_written count (StrCopy name at text) = count text
 bytes_written count call = 0
 
--- the same of a call on files
+-- the same for a call on files
 abbrev pub bytes_read : {Database Given : Type 0} → (Given → ℕ) → FileCall Database Given → ℕ
 bytes_read count (files.Import file) = count file
 bytes_read count (files.Export db) = 0
 
--- the same of a call of any manager
+-- the same for a call of any manager
 abbrev pub bytes_given : {Chunk Database Given : Type 0} → (Given → ℕ) → Call Chunk Database Given → ℕ
 bytes_given count (Memory call) = bytes_written count call
 bytes_given count (Database call) = 0
@@ -49,7 +49,7 @@ bytes_given count (Record call) = 0
 bytes_given count (Resource call) = 0
 bytes_given count (File call) = bytes_read count call
 
--- how many bytes the call of a line gives
+-- the number of bytes that the call of a line gives
 abbrev pub byte_count : Line → ℕ
 byte_count (Bind label name) = 0
 byte_count (Print call) = bytes_given length call
@@ -59,16 +59,16 @@ byte_count (BindDatabase label call) = bytes_given length call
 byte_count (Import label file) = 0
 byte_count (Export label) = 0
 
--- each line has at most so much of what is counted, as one of the three above
+-- the count of each line is at most `most`; `count` is one of the three counts above
 abbrev pub EachAtMost : (Line → ℕ) → ℕ → List Line → Type 0
 EachAtMost count most lines = All (λ line. count line ≤ most) lines
 
--- the most that a line has, and 0 where there is none
+-- the greatest count of a line; 0 if there are no lines
 abbrev pub greatest : (Line → ℕ) → List Line → ℕ
 greatest count [] = 0
 greatest count (line ∷ lines) = max (count line) (greatest count lines)
 
--- the lines that export a file, where they are accepted
+-- a line exports a file if it is accepted
 abbrev pub is_export : Line → Bool
 is_export (Bind label name) = false
 is_export (Print call) = false

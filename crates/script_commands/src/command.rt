@@ -1,5 +1,6 @@
-//! The commands of scripts: the word of each with the kinds of the words behind it, and the line that
-//! they make. A command is a variant, a row, and an arm of `make_line` in the module of its manager.
+//! The commands of scripts: the word of each with the kinds of the words after it, and the line
+//! that they make. To add a command, add a variant, a row, and an arm of `make_line` in the module
+//! of its manager.
 
 ghost use Rattle.std.specs.Prelude.{◌≡◌, ◌<◌, length};
 ghost use Rattle.std.specs.List.{find};
@@ -20,7 +21,7 @@ use crate::resource_command::{
 };
 use crate::value::{Kind, Value};
 
-/// A command, of the memory manager, of databases, of records or of resources.
+/// A command of the memory manager, of databases, of records or of resources.
 #[derive(Clone, Copy)]
 pub enum Command {
     Memory(MemoryCommand),
@@ -29,7 +30,7 @@ pub enum Command {
     Resource(ResourceCommand),
 }
 
-/// A command's row: its word, which no other command has, and the kinds of the words behind it.
+/// A command's row: its word, which no other command has, and the kinds of the words after it.
 #[derive(Clone, Copy)]
 pub struct CommandRow {
     pub word: &'static [u8],
@@ -43,7 +44,7 @@ pub(crate) fn row(word: &'static [u8], kinds: &'static [Kind]) -> CommandRow
     CommandRow { word, kinds }
 }
 
-/// The row of a command.
+/// Returns the row of a command.
 pub fn row_of(command: Command) -> CommandRow
     ensures word { result.word.now ≡ tables.word_of command }
     ensures found { command_of result.word.now ≡ Some command }
@@ -58,7 +59,7 @@ pub fn row_of(command: Command) -> CommandRow
     }
 }
 
-/// The first of some commands that has a word.
+/// Returns the first of some commands that has a word.
 fn find_in(commands: &[Command], word: &[u8]) -> Option<Command>
     ensures { result ≡ find (λ command. bytes_eq (tables.word_of command) word.now) commands.now }
 {
@@ -70,7 +71,7 @@ fn find_in(commands: &[Command], word: &[u8]) -> Option<Command>
     None
 }
 
-/// The command of a word.
+/// Returns the command of a word, if there is one.
 pub fn find_command(word: &[u8]) -> Option<Command>
     ensures { result ≡ command_of word.now }
 {
@@ -86,7 +87,7 @@ pub fn find_command(word: &[u8]) -> Option<Command>
     find_in(&RESOURCE_COMMANDS, word)
 }
 
-/// The line of a command and what its words stand for, which are of the command's kinds.
+/// Returns the line of a command. `values` and `bytes` are what the words after it stand for.
 pub fn make_line<'a>(command: Command, values: &[Value], bytes: LentBytes<'a>) -> Line<'a>
     requires { AreOfKinds (tables.kinds_of command) values.now }
     ensures { line_of command values.now bytes.entry ≡ Some result }

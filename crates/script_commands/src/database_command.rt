@@ -33,7 +33,7 @@ pub enum DatabaseCommand {
     Export,
 }
 
-/// Every one of them.
+/// All commands of databases.
 pub(crate) const DATABASE_COMMANDS: [Command; 12] = [
     Command::Database(DatabaseCommand::Create),
     Command::Database(DatabaseCommand::Find),
@@ -49,7 +49,7 @@ pub(crate) const DATABASE_COMMANDS: [Command; 12] = [
     Command::Database(DatabaseCommand::Export),
 ];
 
-// What the words behind a command may be.
+// The kinds of the words after a command.
 const NOTHING: &[Kind] = &[];
 
 const DATABASE: &[Kind] = &[Kind::Database];
@@ -83,7 +83,7 @@ const INFO: &[Kind] = &[
     Kind::FourBytes,
 ];
 
-/// The row of a command.
+/// Returns the row of a command.
 pub(crate) fn database_row(command: DatabaseCommand) -> CommandRow
     ensures word { result.word.now ≡ tables.word_of (OfDatabases command) }
     ensures kinds { result.kinds.now ≡ tables.kinds_of (OfDatabases command) }
@@ -104,21 +104,21 @@ pub(crate) fn database_row(command: DatabaseCommand) -> CommandRow
     }
 }
 
-/// The line of a call on databases whose answer is printed.
+/// Returns the line of a call on databases whose reply is printed.
 fn print<'a>(call: DatabaseCall<ChunkLabel, DatabaseLabel>) -> Line<'a>
     ensures { result ≡ Print (on_databases call) }
 {
     Line::Print(Call::Database(call))
 }
 
-/// The line of a call on databases that answers a chunk.
+/// Returns the line of a call on databases whose reply names a chunk.
 fn bind_chunk<'a>(label: ChunkLabel, call: DatabaseCall<ChunkLabel, DatabaseLabel>) -> Line<'a>
     ensures { result ≡ BindChunk label (on_databases call) }
 {
     Line::BindChunk(label, Call::Database(call))
 }
 
-/// The line of a call on databases that answers a database.
+/// Returns the line of a call on databases whose reply names a database.
 fn bind_database<'a>(
     label: DatabaseLabel,
     call: DatabaseCall<ChunkLabel, DatabaseLabel>,
@@ -128,7 +128,7 @@ fn bind_database<'a>(
     Line::BindDatabase(label, Call::Database(call))
 }
 
-/// The line of `create`.
+/// Returns the line of `create`.
 fn creation<'a>(values: &[Value], text: &LentBytes<'a>) -> Line<'a>
     requires { AreOfKinds creation_kinds values.now }
     ensures { line_of (OfDatabases Create) values.now text.now ≡ Some result }
@@ -145,7 +145,7 @@ fn creation<'a>(values: &[Value], text: &LentBytes<'a>) -> Line<'a>
     bind_database(label, call)
 }
 
-/// The line of `dbset`.
+/// Returns the line of `dbset`.
 fn info_line<'a>(values: &[Value], text: &LentBytes<'a>) -> Line<'a>
     requires { AreOfKinds info_kinds values.now }
     ensures { line_of (OfDatabases SetInfo) values.now text.now ≡ Some result }
@@ -171,7 +171,7 @@ fn info_line<'a>(values: &[Value], text: &LentBytes<'a>) -> Line<'a>
     print(DatabaseCall::SetInfo(db, info))
 }
 
-/// The line of a command and what its words stand for.
+/// Returns the line of a command, from what its words stand for.
 pub(crate) fn make_database_line<'a>(
     command: DatabaseCommand,
     values: &[Value],

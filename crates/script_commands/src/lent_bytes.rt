@@ -1,4 +1,4 @@
-//! Bytes as the text of a script lends them.
+//! Bytes that the text of a script lends.
 
 ghost use Rattle.std.specs.Prelude.{◌≡◌, ◌≤◌, length, take};
 ghost use Rattle.std.specs.List.{list_all};
@@ -9,7 +9,8 @@ ghost use Rattle.script_commands.specs.LentBytes.{hex_bytes};
 use heap_model::DbName;
 use std::marker::Model;
 
-/// Bytes that a text lends: as they stand there, or as hex digits, two for each. Contracts see them as a list.
+/// Bytes that a text lends: its own bytes, or those that its hex digits spell, two for each byte.
+/// Contracts see them as a list.
 #[derive(Drop, Debug)]
 pub struct LentBytes<'a> {
     text: &'a [u8],
@@ -28,7 +29,7 @@ impl<'a> Model for LentBytes<'a> {
 }
 
 impl<'a> LentBytes<'a> {
-    /// The bytes of a text, as they stand there.
+    /// Lends a text's own bytes.
     pub fn plain(text: &'a [u8]) -> LentBytes<'a>
         ensures { result ≡ text.now }
     {
@@ -38,7 +39,8 @@ impl<'a> LentBytes<'a> {
         }
     }
 
-    /// The bytes that hex digits of either case spell, if there is an even number of them.
+    /// Lends the bytes that hex digits of either case spell. Returns `None` if their number is odd
+    /// or a byte is no hex digit.
     pub fn hex(digits: &'a [u8]) -> Option<LentBytes<'a>>
         ensures { result ≡ hex_bytes digits.now }
     {
@@ -51,7 +53,7 @@ impl<'a> LentBytes<'a> {
         })
     }
 
-    /// How many there are.
+    /// Returns the number of bytes.
     pub fn len(&self) -> usize
         ensures { result ≡ length self.now }
     {
@@ -62,7 +64,7 @@ impl<'a> LentBytes<'a> {
         }
     }
 
-    /// The bytes in order. Hex digits are decoded into a buffer that has room for what they spell.
+    /// Returns the bytes in order. Hex digits are decoded into the buffer.
     pub fn decoded<'b>(&'b self, buffer: &'b mut [u8]) -> &'b [u8]
         requires room { length self.now ≤ length buffer.old }
         ensures { result.now ≡ self.now }
@@ -75,14 +77,14 @@ impl<'a> LentBytes<'a> {
         bytes
     }
 
-    /// The name of a database that is made of these.
+    /// Returns the database name that the first bytes make.
     pub fn name(&self) -> DbName
         ensures { result ≡ take name_size self.now }
     {
         DbName::of(self.front(NAME_SIZE).decoded(&mut [0; NAME_SIZE]))
     }
 
-    /// The first of them, at most so many.
+    /// Returns the first bytes, at most `most`.
     fn front(&self, most: usize) -> LentBytes<'a>
         ensures { result ≡ take most self.now }
     {
@@ -98,10 +100,10 @@ impl<'a> LentBytes<'a> {
     }
 }
 
-/// The most bytes of a name that are kept.
+/// The greatest number of bytes that `name` takes.
 const NAME_SIZE: usize = 32;
 
-/// Whether all of these are hex digits.
+/// Reports whether all bytes are hex digits.
 fn are_hex_digits(bytes: &[u8]) -> bool
     ensures { result ≡ list_all hex.is_hex_digit bytes.now }
 {
@@ -113,7 +115,7 @@ fn are_hex_digits(bytes: &[u8]) -> bool
     true
 }
 
-/// Whether a byte is a hex digit, of either case.
+/// Reports whether a byte is a hex digit, of either case.
 fn is_hex_digit(byte: u8) -> bool
     ensures { result ≡ hex.is_hex_digit byte }
 {

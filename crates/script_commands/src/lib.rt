@@ -1,9 +1,9 @@
 //! The commands of scripts, and the lines that they make.
 //!
-//! `specs/Commands.antt` has the commands, one row each: the word, the kinds of the words behind it and
-//! the line that they make. `ValueKinds` says which values words of some kinds stand for, `LentBytes` which
-//! bytes a text lends, and `LineCounts` what is counted in lines. `find_command` answers the command of a
-//! word, `row_of` its row, and `make_line` the line of a command and what the words behind it stand for.
+//! `specs/Commands.antt` defines the commands, one row each: the word, the kinds of the words after
+//! it and the line that they make. `ValueKinds` defines which values words of a kind stand for.
+//! `LentBytes` defines which bytes a text lends, and `LineCounts` the counts of lines.
+//! `find_command` returns the command of a word, `row_of` its row, and `make_line` its line.
 #![tactic(auto)]
 
 mod command;

@@ -10,39 +10,41 @@ use heap_model::{Call, FileCall, MemoryCall};
 use std::alloc::{AllocError, Global};
 use std::marker::Model;
 
-/// A label of a chunk by its number: these labels are numbered from 0 in the order in which they first
-/// appear in the script.
+/// A label of a chunk, by its number. The labels of chunks are numbered from 0, in the order in
+/// which they first appear in the script.
 #[derive(Clone, Copy, Debug, PartialEq, Eq)]
 pub struct ChunkLabel(pub usize);
 
-/// A label of a database by its number: these labels are numbered on their own, likewise.
+/// A label of a database, by its number. The labels of databases are numbered separately, in the
+/// same way.
 #[derive(Clone, Copy, Debug, PartialEq, Eq)]
 pub struct DatabaseLabel(pub usize);
 
-/// A call over labels, and bytes that the script's text lends.
+/// A call that names chunks and databases by labels, with bytes that the script's text lends.
 pub type LineCall<'a> = Call<ChunkLabel, DatabaseLabel, LentBytes<'a>>;
 
-/// A line of a script: one call, and what becomes of its answer.
+/// A line of a script: one call, and what is done with its reply.
 #[derive(Drop)]
 pub enum Line<'a> {
-    /// Has the label stand for a name. The call asks for the size of its chunk, which isn't printed.
+    /// Binds the label to a name. The call asks for the size of its chunk, which isn't printed.
     Bind { label: ChunkLabel, name: u32 },
-    /// The answer is printed.
+    /// The reply is printed.
     Print(LineCall<'a>),
-    /// The answer isn't printed.
+    /// The values of the reply aren't printed.
     Silent(LineCall<'a>),
-    /// The call answers a chunk, and the label then stands for it.
+    /// The label is bound to the chunk that the reply names.
     BindChunk(ChunkLabel, LineCall<'a>),
-    /// The call answers a database, and the label then stands for it.
+    /// The label is bound to the database that the reply names.
     BindDatabase(DatabaseLabel, LineCall<'a>),
-    /// Imports the input file of a number, counted from 1, and the label then stands for its database.
+    /// Imports the input file with a number, counted from 1, and binds the label to its database.
     Import { label: DatabaseLabel, file: u32 },
     /// Exports the file of a database. Its length is printed.
     Export(DatabaseLabel),
 }
 
 impl<'a> Line<'a> {
-    /// One more than the number of the label of a chunk that the line binds, and 0 where it binds none.
+    /// Returns the number of the chunk label that the line binds, plus 1. Returns 0 if it binds
+    /// none.
     fn chunk_label_end(&self) -> Option<usize>
         ensures { IfSome result (λ end. end ≡ counts.chunk_label_end self.now) }
     {
@@ -56,7 +58,7 @@ impl<'a> Line<'a> {
         }
     }
 
-    /// The same of the label of a database that the line binds.
+    /// The same for the label of a database.
     fn database_label_end(&self) -> Option<usize>
         ensures { IfSome result (λ end. end ≡ counts.database_label_end self.now) }
     {
@@ -70,7 +72,7 @@ impl<'a> Line<'a> {
         }
     }
 
-    /// How many bytes the line's call gives.
+    /// Returns the number of bytes that the line's call gives.
     fn byte_count(&self) -> usize
         ensures { result ≡ counts.byte_count self.now }
     {
@@ -83,7 +85,7 @@ impl<'a> Line<'a> {
         }
     }
 
-    /// Whether the line exports a file, where it is accepted.
+    /// Reports whether the line exports a file if it is accepted.
     fn is_export(&self) -> bool
         ensures { result ≡ counts.is_export self.now }
     {
@@ -117,7 +119,7 @@ impl<'a> Model for Script<'a> {
 }
 
 impl<'a> Script<'a> {
-    /// The script of no lines.
+    /// Returns a script of no lines.
     pub fn new(alloc: Global) -> Script<'a>
         ensures { result ≡ [] }
     {
@@ -129,8 +131,11 @@ impl<'a> Script<'a> {
         }
     }
 
-    /// Puts a line behind the others. A script with the label `usize::MAX` would need a table of more labels
-    /// than memory has bytes: such a line asks for that table, and the growth is refused.
+    /// Appends a line.
+    ///
+    /// # Errors
+    /// - `AllocError`: if the allocation failed, or if the line binds the label `usize::MAX`. A
+    ///   table of that many labels can't be allocated.
     pub fn push<A: Allowance>(&mut self, memory: &A, line: Line<'a>) -> Result<(), AllocError>
         ensures ok { OnOk result (self.new ≡ self.old ++ (line.entry ∷ [])) }
         ensures same { OnErr result (self.new ≡ self.old) }
@@ -145,14 +150,14 @@ impl<'a> Script<'a> {
         Ok(())
     }
 
-    /// The lines, in order.
+    /// Returns the lines, in order.
     pub fn lines(&self) -> &[Line<'a>]
         ensures { result.now ≡ self.now }
     {
         &self.lines
     }
 
-    /// One more than the greatest label of a chunk that a line binds, and 0 where none binds one.
+    /// Returns the greatest chunk label that a line binds, plus 1. Returns 0 if no line binds one.
     pub fn chunk_label_count(&self) -> usize
         ensures count { result ≡ greatest counts.chunk_label_end self.now }
         ensures below { EachAtMost counts.chunk_label_end result self.now }
@@ -160,7 +165,7 @@ impl<'a> Script<'a> {
         self.chunk_label_count
     }
 
-    /// The same of the labels of databases.
+    /// The same for the labels of databases.
     pub fn database_label_count(&self) -> usize
         ensures count { result ≡ greatest counts.database_label_end self.now }
         ensures below { EachAtMost counts.database_label_end result self.now }
@@ -168,7 +173,7 @@ impl<'a> Script<'a> {
         self.database_label_count
     }
 
-    /// The most bytes that a line's call gives, and 0 where none gives any.
+    /// Returns the greatest number of bytes that a line's call gives.
     pub fn most_bytes(&self) -> usize
         ensures most { result ≡ greatest counts.byte_count self.now }
         ensures each { EachAtMost counts.byte_count result self.now }
@@ -176,7 +181,7 @@ impl<'a> Script<'a> {
         self.most_bytes
     }
 
-    /// How many lines export a file, where they are accepted.
+    /// Returns the number of lines that export a file if they are accepted.
     pub fn export_count(&self) -> usize
         ensures { result ≡ count_by counts.is_export self.now }
     {
@@ -184,7 +189,8 @@ impl<'a> Script<'a> {
     }
 }
 
-/// One more than the number of the label of a chunk that a line binds, and the same of a database.
+/// Returns the number of the chunk label that a line binds, plus 1, and the same for a database
+/// label.
 fn label_ends<A: Allowance>(memory: &A, line: &Line<'_>) -> Result<(usize, usize), AllocError>
     ensures chunk { IfOk result (λ ends. ends.0 ≡ counts.chunk_label_end line.now) }
     ensures database { IfOk result (λ ends. ends.1 ≡ counts.database_label_end line.now) }
@@ -196,7 +202,7 @@ fn label_ends<A: Allowance>(memory: &A, line: &Line<'_>) -> Result<(usize, usize
     }
 }
 
-/// What comes of a growth by more bytes than any memory has: it is asked for, and refused.
+/// Asks for more bytes than any memory has, and returns the error of that allocation.
 fn refused_growth<A: Allowance>(memory: &A, size: usize) -> AllocError
     requires large { 2 ^ 63 ≤ size }
     ensures short { A.is_short memory.now }
@@ -216,7 +222,7 @@ fn count_exports(lines: &[Line<'_>]) -> usize
     count
 }
 
-/// How many bytes a call gives.
+/// Returns the number of bytes that a call gives.
 fn count_bytes(call: &LineCall<'_>) -> usize
     ensures { result ≡ bytes_given length call.now }
 {
@@ -228,7 +234,7 @@ fn count_bytes(call: &LineCall<'_>) -> usize
     }
 }
 
-/// How many bytes a call of the memory manager gives.
+/// Returns the number of bytes that a call of the memory manager gives.
 fn count_written(call: &MemoryCall<ChunkLabel, LentBytes<'_>>) -> usize
     ensures { result ≡ counts.bytes_written length call.now }
 {

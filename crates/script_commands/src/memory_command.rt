@@ -39,7 +39,7 @@ pub enum MemoryCommand {
     MoreSlots,
 }
 
-/// Every one of them.
+/// All commands of the memory manager.
 pub(crate) const MEMORY_COMMANDS: [Command; 20] = [
     Command::Memory(MemoryCommand::Bind),
     Command::Memory(MemoryCommand::New),
@@ -63,7 +63,7 @@ pub(crate) const MEMORY_COMMANDS: [Command; 20] = [
     Command::Memory(MemoryCommand::MoreSlots),
 ];
 
-// What the words behind a command may be.
+// The kinds of the words after a command.
 const NOTHING: &[Kind] = &[];
 
 const BYTE: &[Kind] = &[Kind::Byte];
@@ -84,7 +84,7 @@ const CHUNK_TWO_NUMBERS: &[Kind] = &[Kind::Chunk, Kind::Number, Kind::Number];
 
 const CHUNK_TWO_NUMBERS_BYTE: &[Kind] = &[Kind::Chunk, Kind::Number, Kind::Number, Kind::Byte];
 
-/// The row of a command.
+/// Returns the row of a command.
 pub(crate) fn memory_row(command: MemoryCommand) -> CommandRow
     ensures word { result.word.now ≡ tables.word_of (Memory command) }
     ensures kinds { result.kinds.now ≡ tables.kinds_of (Memory command) }
@@ -113,21 +113,21 @@ pub(crate) fn memory_row(command: MemoryCommand) -> CommandRow
     }
 }
 
-/// The line of a call of the memory manager whose answer is printed.
+/// Returns the line of a call of the memory manager whose reply is printed.
 fn print<'a>(call: MemoryCall<ChunkLabel, LentBytes<'a>>) -> Line<'a>
     ensures { result ≡ Print (in_memory call.entry) }
 {
     Line::Print(Call::Memory(call))
 }
 
-/// The line of a call of the memory manager that answers a chunk.
+/// Returns the line of a call of the memory manager whose reply names a chunk.
 fn bind<'a>(label: ChunkLabel, call: MemoryCall<ChunkLabel, LentBytes<'a>>) -> Line<'a>
     ensures { result ≡ BindChunk label (in_memory call.entry) }
 {
     Line::BindChunk(label, Call::Memory(call))
 }
 
-/// The line of a command and what its words stand for.
+/// Returns the line of a command, from what its words stand for.
 pub(crate) fn make_memory_line<'a>(
     command: MemoryCommand,
     values: &[Value],

@@ -39,7 +39,7 @@ pub enum RecordCommand {
     DeleteCategory,
 }
 
-/// Every one of them.
+/// All commands of records.
 pub(crate) const RECORD_COMMANDS: [Command; 21] = [
     Command::Record(RecordCommand::New),
     Command::Record(RecordCommand::Delete),
@@ -64,7 +64,7 @@ pub(crate) const RECORD_COMMANDS: [Command; 21] = [
     Command::Record(RecordCommand::DeleteCategory),
 ];
 
-// What the words behind a command may be.
+// The kinds of the words after a command.
 const DATABASE: &[Kind] = &[Kind::Database];
 
 const DATABASE_BYTE: &[Kind] = &[Kind::Database, Kind::Byte];
@@ -110,7 +110,7 @@ const DATABASE_TWO_NUMBERS_CHUNK: &[Kind] = &[
     Kind::Chunk,
 ];
 
-/// The row of a command.
+/// Returns the row of a command.
 pub(crate) fn record_row(command: RecordCommand) -> CommandRow
     ensures word { result.word.now ≡ tables.word_of (OfRecords command) }
     ensures kinds { result.kinds.now ≡ tables.kinds_of (OfRecords command) }
@@ -140,21 +140,21 @@ pub(crate) fn record_row(command: RecordCommand) -> CommandRow
     }
 }
 
-/// The line of a call on records whose answer is printed.
+/// Returns the line of a call on records whose reply is printed.
 fn print<'a>(call: RecordCall<ChunkLabel, DatabaseLabel>) -> Line<'a>
     ensures { result ≡ Print (on_records call) }
 {
     Line::Print(Call::Record(call))
 }
 
-/// The line of a call on records that answers a chunk.
+/// Returns the line of a call on records whose reply names a chunk.
 fn bind<'a>(label: ChunkLabel, call: RecordCall<ChunkLabel, DatabaseLabel>) -> Line<'a>
     ensures { result ≡ BindChunk label (on_records call) }
 {
     Line::BindChunk(label, Call::Record(call))
 }
 
-/// The line of a command and what its words stand for.
+/// Returns the line of a command, from what its words stand for.
 pub(crate) fn make_record_line<'a>(command: RecordCommand, values: &[Value]) -> Line<'a>
     requires { AreOfKinds (tables.kinds_of (OfRecords command)) values.now }
     ensures { (bytes : List ℕ) → line_of (OfRecords command) values.now bytes ≡ Some result }

@@ -28,7 +28,7 @@ pub enum ResourceCommand {
     Count,
 }
 
-/// Every one of them.
+/// All commands of resources.
 pub(crate) const RESOURCE_COMMANDS: [Command; 10] = [
     Command::Resource(ResourceCommand::New),
     Command::Resource(ResourceCommand::Attach),
@@ -42,7 +42,7 @@ pub(crate) const RESOURCE_COMMANDS: [Command; 10] = [
     Command::Resource(ResourceCommand::Count),
 ];
 
-// What the words behind a command may be.
+// The kinds of the words after a command.
 const DATABASE: &[Kind] = &[Kind::Database];
 
 const DATABASE_NUMBER: &[Kind] = &[Kind::Database, Kind::Number];
@@ -84,7 +84,7 @@ const DATABASE_TYPE_ID_NUMBER_CHUNK: &[Kind] = &[
 
 const DATABASE_TYPE_NUMBER: &[Kind] = &[Kind::Database, Kind::FourBytes, Kind::Number];
 
-/// The row of a command.
+/// Returns the row of a command.
 pub(crate) fn resource_row(command: ResourceCommand) -> CommandRow
     ensures word { result.word.now ≡ tables.word_of (OfResources command) }
     ensures kinds { result.kinds.now ≡ tables.kinds_of (OfResources command) }
@@ -103,21 +103,21 @@ pub(crate) fn resource_row(command: ResourceCommand) -> CommandRow
     }
 }
 
-/// The line of a call on resources whose answer is printed.
+/// Returns the line of a call on resources whose reply is printed.
 fn print<'a>(call: ResourceCall<ChunkLabel, DatabaseLabel>) -> Line<'a>
     ensures { result ≡ Print (on_resources call) }
 {
     Line::Print(Call::Resource(call))
 }
 
-/// The line of a call on resources that answers a chunk.
+/// Returns the line of a call on resources whose reply names a chunk.
 fn bind<'a>(label: ChunkLabel, call: ResourceCall<ChunkLabel, DatabaseLabel>) -> Line<'a>
     ensures { result ≡ BindChunk label (on_resources call) }
 {
     Line::BindChunk(label, Call::Resource(call))
 }
 
-/// The line of a command and what its words stand for.
+/// Returns the line of a command, from what its words stand for.
 pub(crate) fn make_resource_line<'a>(command: ResourceCommand, values: &[Value]) -> Line<'a>
     requires { AreOfKinds (tables.kinds_of (OfResources command)) values.now }
     ensures { (bytes : List ℕ) → line_of (OfResources command) values.now bytes ≡ Some result }

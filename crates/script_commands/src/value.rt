@@ -1,14 +1,14 @@
-//! The kinds of the words behind a command, and what such words stand for.
+//! The kinds of the words after a command, and what words of these kinds stand for.
 
 use crate::line::{ChunkLabel, DatabaseLabel};
 use heap_model::Which;
 
-/// What a word of a command is to be.
+/// The kind of a word after a command.
 #[derive(Clone, Copy)]
 pub enum Kind {
     /// A chunk's label: a letter, then letters, digits or `_`, at most 31 characters.
     Chunk,
-    /// A database's label, likewise.
+    /// A database's label, spelled the same way.
     Database,
     /// A number below 2^8.
     Byte,

@@ -1,4 +1,5 @@
-//! What the words of a line stand for, by their kinds. A line is made of values of its command's kinds alone.
+//! What the words of a line stand for, by their kinds. A line is made only of values of its
+//! command's kinds.
 
 ghost use Rattle.std.specs.Prelude.{◌≡◌, ◌≢◌, ◌∷◌, [], IfSome, map, take};
 ghost use Rattle.std.specs.Option.{IfNone};
@@ -19,7 +20,7 @@ pub(crate) trait OfKind: Copy {
     /// The same as a value of any kind.
     ghost as_value: { Self → Value };
 
-    /// What a value of the kind is, and nothing where it is of another.
+    /// Returns what a value stands for, or `None` if it is of another kind.
     fn of(value: Value) -> Option<Self>
         ensures some { IfSome result (λ item. value ≡ as_value item) }
         ensures none { IfNone result (kind_of value ≢ kind) };
@@ -133,7 +134,7 @@ impl OfKind for FourBytes {
     }
 }
 
-/// What the first word stands for, and the values of the words behind it.
+/// Returns what the first word stands for, and the values of the words after it.
 pub(crate) fn cut<T: OfKind>(values: &[Value]) -> (T, &[Value])
     requires { take 1 (map kind_of values.now) ≡ T.kind ∷ [] }
     ensures { values.now ≡ T.as_value result.0 ∷ result.1.now }
@@ -142,7 +143,7 @@ pub(crate) fn cut<T: OfKind>(values: &[Value]) -> (T, &[Value])
     (T::of(*first).unwrap(), rest)
 }
 
-/// What the only word stands for.
+/// Returns what the only word stands for.
 pub(crate) fn one<A: OfKind>(values: &[Value]) -> A
     requires { map kind_of values.now ≡ A.kind ∷ [] }
     ensures { values.now ≡ A.as_value result ∷ [] }
@@ -151,7 +152,7 @@ pub(crate) fn one<A: OfKind>(values: &[Value]) -> A
     first
 }
 
-/// What two words stand for.
+/// Returns what two words stand for.
 pub(crate) fn two<A: OfKind, B: OfKind>(values: &[Value]) -> (A, B)
     requires { map kind_of values.now ≡ A.kind ∷ B.kind ∷ [] }
     ensures { values.now ≡ A.as_value result.0 ∷ B.as_value result.1 ∷ [] }
@@ -160,7 +161,7 @@ pub(crate) fn two<A: OfKind, B: OfKind>(values: &[Value]) -> (A, B)
     (first, one(rest))
 }
 
-/// What three words stand for.
+/// Returns what three words stand for.
 pub(crate) fn three<A: OfKind, B: OfKind, C: OfKind>(values: &[Value]) -> (A, B, C)
     requires { map kind_of values.now ≡ A.kind ∷ B.kind ∷ C.kind ∷ [] }
     ensures { values.now ≡ A.as_value result.0 ∷ B.as_value result.1 ∷ C.as_value result.2 ∷ [] }
@@ -170,7 +171,7 @@ pub(crate) fn three<A: OfKind, B: OfKind, C: OfKind>(values: &[Value]) -> (A, B,
     (first, second, third)
 }
 
-/// What four words stand for.
+/// Returns what four words stand for.
 pub(crate) fn four<A: OfKind, B: OfKind, C: OfKind, D: OfKind>(values: &[Value]) -> (A, B, C, D)
     requires { map kind_of values.now ≡ A.kind ∷ B.kind ∷ C.kind ∷ D.kind ∷ [] }
     ensures { values.now ≡ A.as_value result.0 ∷ B.as_value result.1 ∷ C.as_value result.2

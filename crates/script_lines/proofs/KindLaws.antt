@@ -18,7 +18,7 @@ use Rattle.script_lines.specs.Numbering.{Numberings, label_number}
 use Rattle.script_lines.specs.Reading.{none_read}
 use Rattle.script_lines.specs.Spellings.{is_label, number_below, spelled_bytes, spelled_text, spelled_flag, spelled_which, spelled_four}
 
--- values of some kinds were put behind others
+-- values of some kinds were put after others
 abbrev pub Adds : List Kind → List Value → List Value → Type 0
 Adds kinds old new = map kind_of new ≡ map kind_of old ++ filter has_value kinds
 

@@ -16,7 +16,7 @@ onto : (x : List ℕ) (ps : List (List ℕ)) → 0 < length ps → lines_of_part
 onto x [] some = absurd (omega arith)
 onto x (y ∷ ps) some = refl
 
--- a line that a line feed ends loses the carriage return in front of it
+-- a line that a line feed ends loses the carriage return before it
 pub lines_ended : (bs : List ℕ) → feed bs < length bs → lines bs ≡ strip_carriage_return (take (feed bs) bs) ∷ lines (drop (feed bs + 1) bs)
 lines_ended bs within =
     ap lines_of_parts (slice_split_first (λ b. b == 10) bs 0 within) ∙ onto (take (feed bs) bs) (parts (drop (feed bs + 1) bs)) (omega (arith, length-slice_split (λ b. b == 10) (drop (feed bs + 1) bs)))
@@ -36,6 +36,6 @@ behind_first zero b (x ∷ bs) rest e = cc
 behind_first (suc n) b [] rest e = cc
 behind_first (suc n) b (x ∷ bs) rest e = behind_first n b bs rest e
 
--- what stands behind the byte at a place
+-- what stands after the byte at a place
 pub drop_next : (n b : ℕ) (bs rest : List ℕ) → drop n bs ≡ b ∷ rest → drop (n + 1) bs ≡ rest
 drop_next n b bs rest e = rw add-one (behind_first n b bs rest e)

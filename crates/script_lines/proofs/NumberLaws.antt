@@ -8,7 +8,7 @@ use Rattle.script_lines.specs.Spellings.{below, number_behind, digit_value}
 more : (base n v : ℕ) → 0 < base → n ≤ n * base + v
 more base n v some = let times : n * 1 ≤ n * base = mul-le-mul_left n (omega arith) in omega arith
 
--- digits behind a number that is too great spell none that is below the limit
+-- digits after a number that is too great spell none that is below the limit
 pub below_beyond : (base n limit : ℕ) (digits : List ℕ) → 0 < base → limit ≤ n → below limit (number_behind base n digits) ≡ None
 below_beyond base n limit [] some beyond = let e : nat_lt n limit ≡ false = search (rules, tests) in rw e refl
 below_beyond base n limit (digit ∷ digits) some beyond = by_digit (nat_lt (digit_value digit) base) refl (λ m far. below_beyond base m limit digits some far)

@@ -34,7 +34,7 @@ words_of-quoted text h = quoted_word-closed (34 ∷ []) text h
 no_blank_digit : (b d : ℕ) → hex_digit_value b ≡ Some d → is_blank b ≡ false
 no_blank_digit b d h = grind arith
 
--- two bytes that are no blanks, and what goes on with a word behind them
+-- two bytes that are no blanks, and what goes on with a word after them
 plain_word-two : (word more : List ℕ) (x y : ℕ) → is_blank x ≡ false → is_blank y ≡ false → ((front : List ℕ) → plain_word front more ≡ Ok ((front ++ more) ∷ [])) → plain_word word (x ∷ y ∷ more) ≡ Ok ((word ++ x ∷ y ∷ more) ∷ [])
 unfolding words_of
 plain_word-two word more x y first second goes_on =

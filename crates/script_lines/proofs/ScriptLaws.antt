@@ -18,7 +18,7 @@ use Rattle.script_lines.specs.Views.{Adds}
 use Rattle.script_lines.specs.Numbering.{Numberings, none_numbered}
 use Rattle.script_lines.specs.Reading.{HasLine, LineRead, read_lines, read_script, unless_faulty, words_in, line_unless_broken, line_of_words, read_line}
 
--- words in front of others
+-- words before others
 split_words : (word : List ℕ) (words : List (List ℕ)) (behind : Result (List (List ℕ)) ℕ) → Ok words ≡ with_word word behind → (more : List (List ℕ)) × (behind ≡ Ok more) × (words ≡ word ∷ more)
 split_words word words (Ok more) e = (more, refl, cc)
 split_words word words (Err number) e = cc

@@ -22,7 +22,7 @@ drop_more n b bs = let e : 1 + n ≡ suc n = omega arith in rw e refl
 take_more : (n b : ℕ) (bs : List ℕ) → take (1 + n) (b ∷ bs) ≡ b ∷ take n bs
 take_more n b bs = let e : 1 + n ≡ suc n = omega arith in rw e refl
 
--- the first blank or other byte, by the byte in front
+-- the first blank or other byte, by the byte before
 blanks_more : (b : ℕ) (bs : List ℕ) → is_blank b ≡ true → blanks (b ∷ bs) ≡ 1 + blanks bs
 blanks_more b bs e = rw e refl
 
@@ -35,7 +35,7 @@ plain_more b bs e = rw e refl
 plain_none : (b : ℕ) (bs : List ℕ) → is_blank b ≡ true → plain (b ∷ bs) ≡ 0
 plain_none b bs e = rw e refl
 
--- blanks in front change no words
+-- blanks before change no words
 pub words_of-blanks : (bs : List ℕ) → words_of (drop (blanks bs) bs) ≡ words_of bs
 unfolding words_of
 words_of-blanks [] = refl
@@ -53,7 +53,7 @@ is_passed_over-blanks (b ∷ bs) = by_first (is_blank b) refl (is_passed_over-bl
     by_first true e more = rw (blanks_more b bs e, drop_more, e) more
     by_first false e more = rw (blanks_none b bs e) refl
 
--- behind them stands no blank
+-- after them stands no blank
 pub no_blank : (bs : List ℕ) (b : ℕ) (rest : List ℕ) → drop (blanks bs) bs ≡ b ∷ rest → is_blank b ≡ false
 no_blank [] b rest e = cc
 no_blank (c ∷ bs) b rest e = by_first (is_blank c) refl (no_blank bs b rest)
@@ -86,7 +86,7 @@ unfolding words_of
 closed_word-cut word [] = refl
 closed_word-cut word (b ∷ bs) = grind (arith, common_steps)
 
--- what the first byte behind the blanks says of a line
+-- what the first byte after the blanks says of a line
 pub passed_at : (text : List ℕ) (b : ℕ) (inside : List ℕ) → drop (blanks text) text ≡ b ∷ inside → is_passed_over text ≡ (b == 35)
 passed_at text b inside e = sym (is_passed_over-blanks text) ∙ rw (e, no_blank text b inside e) refl
 
@@ -117,7 +117,7 @@ pub quoted_at : (text inside : List ℕ) → drop (blanks text) text ≡ 34 ∷ 
 unfolding words_of
 quoted_at text inside e within = sym (words_of-blanks text) ∙ rw (e, quoted_word-cut (34 ∷ []) inside within, closed_word-cut, (two_more (quote inside) 34 inside).0, (two_more (quote inside) 34 inside).1) refl
 
--- a count of words, or the number of the broken one, with some words in front
+-- a count of words, or the number of the broken one, with some words before
 abbrev pub counted_behind : ℕ → Result ℕ ℕ → Result ℕ ℕ
 counted_behind front (Ok count) = Ok (front + count)
 counted_behind front (Err number) = Err (front + number)

@@ -1,4 +1,4 @@
--- How a text is cut: its first line and the rest, its first word and the rest.
+-- How a text is cut into its first line and the rest, or its first word and the rest.
 use Rattle.std.specs.Prelude.{◌≡◌, ◌<◌, ◌≤◌, ◌+◌, ℕ, List, [], ◌∷◌, length, Bool, true, Ok, Err}
 use Rattle.std.specs.Str.Lines.{lines}
 use Rattle.script_lines.specs.Words.{is_blank, words_of, with_word}
@@ -12,7 +12,7 @@ pub record CutsLine (text : List ℕ) (cut : LineCut) : Type 0 where
   pub shorter : length cut.rest.now < length text
   pub within : length cut.line.now + length cut.rest.now ≤ length text
 
--- whether a quoted word may end in front of a text
+-- whether a quoted word may end before a text
 abbrev pub ends_word : List ℕ → Bool
 ends_word [] = true
 ends_word (b ∷ bs) = is_blank b

@@ -1,4 +1,4 @@
--- What a line's words stand for, each by the kind that its command takes there.
+-- What the words of a line stand for, each by the kind that the command takes at its place.
 use Rattle.std.specs.Prelude.{ℕ, ◌+◌, ◌^◌, if◌then◌else◌, List, [], ◌∷◌, ◌++◌, Option, Some, None, Result, Ok, Err}
 use Rattle.std.specs.Option.{option_map, option_map_or}
 use Rattle.script_lines.specs.declared.fault.ScriptFault.{ScriptFault}
@@ -10,14 +10,14 @@ use Rattle.script_commands.specs.declared.value.Value.TheVariants.{Chunk as Chun
 use Rattle.script_lines.specs.Numbering.{Numberings, label_number, with_chunk_label, with_database_label}
 use Rattle.script_lines.specs.Spellings.{is_label, number_below, spelled_bytes, spelled_text, spelled_flag, spelled_which, spelled_four}
 
--- what was read of a line so far: the values of its words; the bytes of its word of bytes or text,
--- of which no line has two; and the labels that have appeared in the script
+-- The part of a line that was read so far: the values of its words, the bytes of its word of bytes
+-- or text, and the labels that have appeared in the script. No line has two words of bytes or text.
 pub record WordsRead : Type 0 where
   pub values : List Value
   pub bytes : List ℕ
   pub labels : Numberings
 
--- the same with a value more
+-- the same with one more value
 abbrev pub with_value : WordsRead → Value → WordsRead
 with_value read value = record {
   values = read.values ++ value ∷ [];
@@ -25,7 +25,7 @@ with_value read value = record {
   labels = read.labels;
 }
 
--- the same with its bytes
+-- the same with the bytes of a word of bytes or text
 abbrev pub with_bytes : WordsRead → List ℕ → WordsRead
 with_bytes read bytes = record {
   values = read.values;
@@ -33,7 +33,7 @@ with_bytes read bytes = record {
   labels = read.labels;
 }
 
--- the same with a chunk's label more
+-- the same with one more label of a chunk
 abbrev pub with_chunk : WordsRead → List ℕ → WordsRead
 with_chunk read word = record {
   values = read.values ++ ChunkValue (record { 0 = label_number read.labels.chunks word }) ∷ [];
@@ -41,7 +41,7 @@ with_chunk read word = record {
   labels = with_chunk_label read.labels word;
 }
 
--- the same with a database's label more
+-- the same with one more label of a database
 abbrev pub with_database : WordsRead → List ℕ → WordsRead
 with_database read word = record {
   values = read.values ++ DatabaseValue (record { 0 = label_number read.labels.databases word }) ∷ [];
@@ -49,7 +49,7 @@ with_database read word = record {
   labels = with_database_label read.labels word;
 }
 
--- the same with a word more, if that is of its kind
+-- the same with one more word, if the word is of its kind
 abbrev pub read_word : WordsRead → Kind → List ℕ → Option WordsRead
 read_word read Chunk word = if is_label word then Some (with_chunk read word) else None
 read_word read Database word = if is_label word then Some (with_database read word) else None
@@ -66,8 +66,8 @@ read_word read FourBytes word =
 read_word read Bytes word = option_map (with_bytes read) (spelled_bytes word)
 read_word read Text word = option_map (with_bytes read) (spelled_text word)
 
--- the same with some words more, the first of them word `number` of its line; the first that isn't of
--- its kind is the fault
+-- The same with more words, the first of which is word `number` of its line. The fault is the first
+-- word that isn't of its kind.
 abbrev pub read_words : ℕ → WordsRead → List Kind → List (List ℕ) → Result WordsRead ScriptFault
 read_words number read [] words = Ok read
 read_words number read (kind ∷ kinds) [] = Err WrongCount

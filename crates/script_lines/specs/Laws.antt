@@ -1,4 +1,4 @@
--- What is printed is read back: the statements of the laws.
+-- The statements of the laws: printed texts are read back.
 use Rattle.std.specs.Prelude.{◌≡◌, ◌<◌, ◌^◌, ℕ, List, [], ◌∷◌, Some, Ok}
 use Rattle.heap_model.specs.Bytes.{AreBytes, u32_bytes}
 use Rattle.palm_text.specs.Pieces.{spelled}
@@ -9,10 +9,10 @@ use Rattle.script_lines.specs.Spellings.{spelled_text, spelled_four}
 abbrev pub TextsAreWords : Type 0
 TextsAreWords = (text : List ℕ) → AreBytes text → words_of (spelled text) ≡ Ok (spelled text ∷ [])
 
--- which spells that text
+-- the word as which a text is printed spells that text
 abbrev pub TextsAreReadBack : Type 0
 TextsAreReadBack = (text : List ℕ) → AreBytes text → spelled_text (spelled text) ≡ Some text
 
--- and so are the four bytes of a number, which spell it
+-- the word as which the four bytes of a number are printed spells that number
 abbrev pub FourBytesAreReadBack : Type 0
 FourBytesAreReadBack = (number : ℕ) → number < 2 ^ 32 → spelled_four (spelled (u32_bytes number)) ≡ Some number

@@ -2,7 +2,7 @@
 use Rattle.std.specs.Prelude.{ℕ, ◌+◌, List, Option, None, Some, is_some, unwrap_or, if◌then◌else◌}
 use Rattle.std.specs.Str.{bytes_eq}
 
--- the labels that have appeared: the number of each, and how many they are
+-- the labels that have appeared: the number of each, and their count
 pub record Numbering : Type 0 where
   pub number : List ℕ → Option ℕ
   pub count : ℕ
@@ -10,11 +10,11 @@ pub record Numbering : Type 0 where
 abbrev pub no_labels : Numbering
 no_labels = record { number = λ word. None; count = 0 }
 
--- the number of a label: the one that it has, or else the next
+-- the number of a label: the one that it has, or the next if it is new
 abbrev pub label_number : Numbering → List ℕ → ℕ
 label_number labels word = unwrap_or (labels.number word) labels.count
 
--- the labels with one that hadn't appeared, which takes the next number
+-- the labels with a new one, which takes the next number
 abbrev pub with_next : Numbering → List ℕ → Numbering
 with_next labels word = record {
   number = λ other. if bytes_eq word other then Some labels.count else labels.number other;
@@ -25,7 +25,8 @@ with_next labels word = record {
 abbrev pub with_label : Numbering → List ℕ → Numbering
 with_label labels word = if is_some (labels.number word) then labels else with_next labels word
 
--- the labels of chunks that have appeared, and those of databases: one label may stand in both tables
+-- the labels of chunks that have appeared, and those of databases; both tables may have the same
+-- label
 pub record Numberings : Type 0 where
   pub chunks : Numbering
   pub databases : Numbering

@@ -19,7 +19,7 @@ abbrev pub is_label : List ℕ → Bool
 is_label [] = false
 is_label (b ∷ bs) = is_ascii_alphabetic b && nat_lt (length bs) 31 && list_all is_label_byte bs
 
--- what a digit stands for, and 16 for a byte that is none
+-- the value of a digit; 16 for a byte that is no digit
 abbrev pub digit_value : ℕ → ℕ
 digit_value b =
     if nat_le 48 b && nat_le b 57 then b - 48
@@ -27,7 +27,7 @@ digit_value b =
     else if nat_le 65 b && nat_le b 70 then b - 55
     else 16
 
--- the number that digits of a base spell behind others, which spell `front`
+-- the number that digits of a base spell after others, which spell `front`
 abbrev pub number_behind : ℕ → ℕ → List ℕ → Option ℕ
 number_behind base front [] = Some front
 number_behind base front (digit ∷ digits) =
@@ -62,7 +62,7 @@ hex_below limit word = below limit (number_in 16 8 word)
 abbrev pub spelled_bytes : List ℕ → Option (List ℕ)
 spelled_bytes word = if bytes_eq word (codes "-") then Some [] else if length word == 0 then None else hex_bytes word
 
--- what stands between the first byte of a word and its last
+-- the bytes between the first byte of a word and its last
 abbrev pub inside : List ℕ → List ℕ
 inside word = take (length word - 2) (drop 1 word)
 
@@ -77,7 +77,7 @@ spelled_text word =
     else if is_quoted word && list_all is_printable (inside word) then Some (inside word)
     else None
 
--- four bytes as a number, if there are so many
+-- bytes as a number, if there are four
 abbrev pub number_of_four : List ℕ → Option ℕ
 number_of_four bytes = if length bytes == 4 then Some (u32_at bytes 0) else None
 

@@ -1,4 +1,4 @@
--- What the program's values say: the tables of labels, and the values of a line's words.
+-- The program's tables of labels, and its values of a line's words, as contracts see them.
 use Rattle.std.specs.Prelude.{◌≡◌, Bool, true, false, Option, Some, None}
 use Rattle.std.specs.BTreeMap.{get_by, btree_map_len}
 use Rattle.std.specs.Cmp.Lexicographic.{slice_cmp}
@@ -16,15 +16,15 @@ numbering labels = record {
   count = btree_map_len labels.numbers;
 }
 
--- the same of both tables
+-- the same for both tables
 abbrev pub numberings : LabelTables → Numberings
 numberings labels = record { chunks = numbering labels.chunks; databases = numbering labels.databases }
 
--- what the values of a line's words say, with the labels
+-- the values of a line's words, with the labels
 abbrev pub words_read : Values → LabelTables → WordsRead
 words_read values labels = record { values = values.values.items; bytes = values.bytes; labels = numberings labels }
 
--- what came of a word that was to be added: the words read, if it is of its kind
+-- the result of adding a word: if it is of its kind, the new words; otherwise `is_of_kind` is false
 abbrev pub Adds : Option WordsRead → Bool → WordsRead → Type 0
 Adds None is_of_kind new = is_of_kind ≡ false
 Adds (Some after) is_of_kind new = (is_of_kind ≡ true) × (new ≡ after)

@@ -18,7 +18,7 @@ pub(crate) struct Labels<'a> {
 }
 
 impl<'a> Labels<'a> {
-    /// No labels.
+    /// Returns a table of no labels.
     pub fn new(alloc: Global) -> Labels<'a>
         ensures { numbering result ≡ no_labels }
     {
@@ -27,7 +27,7 @@ impl<'a> Labels<'a> {
         }
     }
 
-    /// The number of the label that a word spells. A label that hasn't appeared takes the next one.
+    /// Returns the number of the label that a word spells. A new label takes the next number.
     fn number<A: Allowance>(&mut self, memory: &A, word: &'a [u8]) -> Result<usize, AllocError>
         ensures number { IfOk result (λ number.
             number ≡ label_number (numbering self.old) word.now) }
@@ -45,7 +45,7 @@ impl<'a> Labels<'a> {
         }
     }
 
-    /// The same, if the word is a label.
+    /// The same as `number` if the word is a label, and otherwise `None`.
     pub fn number_if_label<A: Allowance>(
         &mut self,
         memory: &A,
@@ -64,7 +64,8 @@ impl<'a> Labels<'a> {
     }
 }
 
-/// The two tables of labels. A label of the same spelling in both is two labels.
+/// The two tables of labels: of chunks and of databases. If both have a label of the same spelling,
+/// it is two labels.
 #[derive(Drop)]
 pub(crate) struct LabelTables<'a> {
     pub chunks: Labels<'a>,
@@ -72,7 +73,7 @@ pub(crate) struct LabelTables<'a> {
 }
 
 impl<'a> LabelTables<'a> {
-    /// No labels.
+    /// Returns a table of no labels.
     pub fn new(alloc: Global) -> LabelTables<'a>
         ensures { numberings result ≡ none_numbered }
     {

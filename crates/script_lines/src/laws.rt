@@ -1,4 +1,4 @@
-//! The laws of what is printed and read, each as the promise of a function.
+//! The laws that printed texts are read back, each as the postcondition of a function.
 
 ghost use Rattle.script_lines.specs.Laws.{FourBytesAreReadBack, TextsAreReadBack, TextsAreWords};
 
@@ -8,7 +8,7 @@ pub fn texts_are_read_back()
     ensures texts { TextsAreReadBack }
 {}
 
-/// A type or a creator is printed as a word that reads as it.
+/// A type or a creator is printed as a word, which reads as that type or creator.
 pub fn four_bytes_are_read_back()
     ensures { FourBytesAreReadBack }
 {}

@@ -1,12 +1,20 @@
 //! The lines of scripts: how a script is read from its text.
 //!
-//! `specs/Reading.antt` says what a text reads as, line for line: start there. `Words` says how a
-//! line is cut into words, `Spellings` how a word of each kind is spelled, `Kinds` what the words of a
-//! line stand for; and `Numbering` which number a label has in its table, that of chunks or that of
-//! databases. What a line is, and the commands, are script_commands'. `Laws` says that what palm_text
-//! prints of a text is read back.
-//! `parse` answers that script or its first faulty line, and nothing else unless memory is refused.
-//! Each growth asks an `Allowance` first, and want of memory is answered only after a refused growth.
+//! `parse` returns the script of a text, or its first faulty line. It reports out of memory only if
+//! an allocation failed. Each allocation asks an `Allowance` for a grant first.
+//!
+//! Start with `specs/Reading.antt`: it defines the script of a text, line for line.
+//!
+//! | file in `specs/` | defines |
+//! |---|---|
+//! | `Reading` | the script of a text, or its first faulty line |
+//! | `Words` | how a line is cut into words |
+//! | `Spellings` | how a word of each kind is spelled |
+//! | `Kinds` | what the words of a line stand for |
+//! | `Numbering` | the number of a label in its table, that of chunks or that of databases |
+//! | `Laws` | what palm_text prints of a text is read back |
+//!
+//! The crate `script_commands` defines the lines and the commands.
 #![tactic(auto)]
 
 mod fault;
@@ -17,7 +25,7 @@ mod spelling;
 mod text;
 mod value;
 
-/// The lines, which are those of script_commands.
+/// The lines, from `script_commands`.
 pub mod line {
     pub use script_commands::{ChunkLabel, DatabaseLabel, LentBytes, Line, LineCall, Script};
 }

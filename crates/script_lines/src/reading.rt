@@ -16,8 +16,8 @@ use allowance::Allowance;
 use script_commands::{Kind, Line, Script, find_command, make_line, row_of};
 use std::alloc::Global;
 
-/// What the words of a text stand for, by kind, or the number of the first that isn't of its kind;
-/// the first of the text is word 2.
+/// Returns what the words of a text stand for, by kind, or the number of the first word that isn't
+/// of its kind. The first word of the text is word 2.
 fn read_values<'a, A: Allowance>(
     memory: &A,
     kinds: &[Kind],
@@ -53,7 +53,7 @@ fn read_values<'a, A: Allowance>(
     Ok(values)
 }
 
-/// The line of a command's word and the words behind it, of which there are so many.
+/// Returns the line of a command's word and the words after it.
 fn read_command<'a, A: Allowance>(
     memory: &A,
     word: &[u8],
@@ -83,7 +83,7 @@ fn read_command<'a, A: Allowance>(
     Ok(make_line(command, &values, bytes))
 }
 
-/// A line, read from its text; none, where it is passed over.
+/// Reads a line from its text. Returns `None` if the line is passed over.
 fn read_line<'a, A: Allowance>(
     memory: &A,
     text: &'a [u8],
@@ -111,13 +111,13 @@ fn read_line<'a, A: Allowance>(
     }
 }
 
-/// Memory was refused.
+/// The fault of a failed allocation.
 const REFUSED: LineFault = LineFault {
     line: 0,
     fault: ScriptFault::OutOfMemory,
 };
 
-/// The script of a text, or its first faulty line.
+/// Reads a script from its text, or returns its first faulty line.
 pub fn parse<'a>(alloc: Global, text: &'a [u8]) -> Result<Script<'a>, LineFault>
     ensures ok { IfOk result (λ script. read_script text.now ≡ Ok script) }
     ensures err { IfErr result (λ e. e.fault ≢ ScriptFault.OutOfMemory
@@ -130,7 +130,8 @@ pub fn parse<'a>(alloc: Global, text: &'a [u8]) -> Result<Script<'a>, LineFault>
     parse_from(&alloc, text)
 }
 
-/// `parse`, where each growth asks for a grant. Want of memory is answered only after a refused growth.
+/// The same as `parse`, with a grant of `memory` for each allocation. It reports out of memory only
+/// if an allocation failed.
 pub fn parse_from<'a, A: Allowance>(memory: &A, text: &'a [u8]) -> Result<Script<'a>, LineFault>
     ensures ok { IfOk result (λ script. read_script text.now ≡ Ok script) }
     ensures err { IfErr result (λ e. e.fault ≢ ScriptFault.OutOfMemory

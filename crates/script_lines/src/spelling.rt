@@ -12,10 +12,10 @@ use heap_model::Which;
 use palm_text::are_printable;
 use script_commands::LentBytes;
 
-/// The longest label.
+/// The length of the longest label.
 const MAX_LABEL: usize = 31;
 
-/// Whether a word spells a label.
+/// Reports whether a word spells a label.
 pub(crate) fn is_label(word: &[u8]) -> bool
     ensures { result ≡ spellings.is_label word.now }
 {
@@ -27,14 +27,14 @@ pub(crate) fn is_label(word: &[u8]) -> bool
     }
 }
 
-/// Whether a byte may stand in a label behind its first.
+/// Reports whether a label may contain a byte after its first byte.
 fn is_label_byte(byte: u8) -> bool
     ensures { result ≡ spellings.is_label_byte byte }
 {
     byte.is_ascii_alphabetic() || byte.is_ascii_digit() || byte == b'_'
 }
 
-/// Whether all of these may.
+/// Reports whether a label may contain all of these bytes after its first byte.
 fn are_label_bytes(bytes: &[u8]) -> bool
     ensures { result ≡ list_all spellings.is_label_byte bytes.now }
 {
@@ -46,7 +46,7 @@ fn are_label_bytes(bytes: &[u8]) -> bool
     true
 }
 
-/// The value of a digit, 16 for what is none.
+/// Returns the value of a digit, or 16 if the byte is no digit.
 fn digit_value(byte: u8) -> u64
     ensures { result ≡ spellings.digit_value byte }
 {
@@ -58,7 +58,8 @@ fn digit_value(byte: u8) -> u64
     }
 }
 
-/// The number that digits of a base spell, if each is a digit and it is below 2^32.
+/// Returns the number that digits of a base spell. Returns `None` if a byte is no digit or the
+/// number is not below 2^32.
 fn number_in(base: u64, digits: &[u8]) -> Option<u32>
     requires least { 0 < base }
     requires most { base ≤ 16 }
@@ -78,7 +79,7 @@ fn number_in(base: u64, digits: &[u8]) -> Option<u32>
     u32::try_from(number).ok()
 }
 
-/// The number that a word spells.
+/// Returns the number that a word spells.
 pub fn number_of(word: &[u8]) -> Option<u32>
     ensures { result ≡ number_below (2 ^ 32) word.now }
 {
@@ -94,7 +95,7 @@ pub fn number_of(word: &[u8]) -> Option<u32>
     number_in(10, word)
 }
 
-/// The number that a word of one to eight hex digits spells.
+/// Returns the number that a word of one to eight hex digits spells.
 pub fn hex_of(word: &[u8]) -> Option<u32>
     ensures { result ≡ hex_below (2 ^ 32) word.now }
 {
@@ -104,35 +105,35 @@ pub fn hex_of(word: &[u8]) -> Option<u32>
     number_in(16, word)
 }
 
-/// The number below 2^16 that hex digits spell.
+/// Returns the number below 2^16 that hex digits spell.
 pub fn hex_short_of(word: &[u8]) -> Option<u16>
     ensures { result ≡ hex_below (2 ^ 16) word.now }
 {
     u16::try_from(hex_of(word)?).ok()
 }
 
-/// The number below 2^8 that hex digits spell.
+/// Returns the number below 2^8 that hex digits spell.
 pub fn hex_byte_of(word: &[u8]) -> Option<u8>
     ensures { result ≡ hex_below (2 ^ 8) word.now }
 {
     u8::try_from(hex_of(word)?).ok()
 }
 
-/// The number below 2^8 that a word spells.
+/// Returns the number below 2^8 that a word spells.
 pub(crate) fn byte_of(word: &[u8]) -> Option<u8>
     ensures { result ≡ number_below (2 ^ 8) word.now }
 {
     u8::try_from(number_of(word)?).ok()
 }
 
-/// The number below 2^16 that a word spells.
+/// Returns the number below 2^16 that a word spells.
 pub fn short_of(word: &[u8]) -> Option<u16>
     ensures { result ≡ number_below (2 ^ 16) word.now }
 {
     u16::try_from(number_of(word)?).ok()
 }
 
-/// The flag that a word spells.
+/// Returns the flag that a word spells.
 pub(crate) fn flag_of(word: &[u8]) -> Option<bool>
     ensures { result ≡ spelled_flag word.now }
 {
@@ -143,7 +144,7 @@ pub(crate) fn flag_of(word: &[u8]) -> Option<bool>
     }
 }
 
-/// The info block that a word names.
+/// Returns the info block that a word names.
 pub(crate) fn which_of(word: &[u8]) -> Option<Which>
     ensures { result ≡ spelled_which word.now }
 {
@@ -154,7 +155,7 @@ pub(crate) fn which_of(word: &[u8]) -> Option<Which>
     }
 }
 
-/// The bytes that a word spells.
+/// Returns the bytes that a word spells.
 pub(crate) fn bytes_of(word: &[u8]) -> Option<LentBytes<'_>>
     ensures { result ≡ spelled_bytes word.now }
 {
@@ -167,7 +168,7 @@ pub(crate) fn bytes_of(word: &[u8]) -> Option<LentBytes<'_>>
     LentBytes::hex(word)
 }
 
-/// The bytes between the quotes of a word.
+/// Returns the bytes between the quotes of a word.
 fn inside_quotes(word: &[u8]) -> Option<&[u8]>
     ensures { MatchOption result (is_quoted word.now ≡ false)
         (λ inside. (is_quoted word.now ≡ true) × (inside.now ≡ spellings.inside word.now)) }
@@ -178,7 +179,7 @@ fn inside_quotes(word: &[u8]) -> Option<&[u8]>
     }
 }
 
-/// The text that a word spells.
+/// Returns the text that a word spells.
 pub fn text_of(word: &[u8]) -> Option<LentBytes<'_>>
     ensures { result ≡ spelled_text word.now }
 {
@@ -192,7 +193,7 @@ pub fn text_of(word: &[u8]) -> Option<LentBytes<'_>>
     Some(LentBytes::plain(inside))
 }
 
-/// The four bytes of the text that a word spells, if it has so many, as a number.
+/// Returns the text that a word spells as a number, if it has four bytes.
 pub fn four_bytes_of(word: &[u8]) -> Option<u32>
     ensures { result ≡ spelled_four word.now }
 {

@@ -8,14 +8,14 @@ ghost use Rattle.script_lines.specs.Words.{words_of, word_count};
 ghost use Rattle.script_lines.specs.Cuts as cuts;
 ghost use Rattle.script_lines.specs.Cuts.{CutsLine, CutsWord};
 
-/// A space or a tab.
+/// Reports whether a byte is a space or a tab.
 fn is_blank(byte: u8) -> bool
     ensures { result ≡ words.is_blank byte }
 {
     byte == b' ' || byte == b'\t'
 }
 
-/// How many bytes stand before the first line feed; all, where there is none.
+/// Returns the number of bytes before the first line feed, or of all bytes if there is none.
 fn line_end(text: &[u8]) -> usize
     ensures value { result ≡ position_or_len (λ b. b == 10) text.now }
     ensures within { result ≤ length text.now }
@@ -28,7 +28,7 @@ fn line_end(text: &[u8]) -> usize
     text.len()
 }
 
-/// A line without the carriage return at its end, if it has one.
+/// Returns a line without the carriage return at its end, if it has one.
 fn without_return(line: &[u8]) -> &[u8]
     ensures value { result.now ≡ strip_carriage_return line.now }
     ensures within { length result.now ≤ length line.now }
@@ -39,15 +39,15 @@ fn without_return(line: &[u8]) -> &[u8]
     }
 }
 
-/// The first line of a text, and what follows it.
+/// The first line of a text, and the text after it.
 #[derive(Clone, Copy)]
 pub struct LineCut<'a> {
     pub line: &'a [u8],
     pub rest: &'a [u8],
 }
 
-/// Cuts the first line off a text that isn't empty. The line comes without the carriage return and the line feed at
-/// its end.
+/// Cuts the first line off a text that isn't empty. The line is returned without the line feed that
+/// ends it, and without a carriage return before that line feed.
 pub fn cut_line(text: &[u8]) -> LineCut<'_>
     requires { 0 < length text.now }
     ensures { CutsLine text.now result }
@@ -62,7 +62,7 @@ pub fn cut_line(text: &[u8]) -> LineCut<'_>
     }
 }
 
-/// How many spaces and tabs a text begins with.
+/// Returns the number of spaces and tabs that a text begins with.
 fn blank_end(text: &[u8]) -> usize
     ensures value { result ≡ position_or_len (λ b. not (words.is_blank b)) text.now }
     ensures within { result ≤ length text.now }
@@ -75,7 +75,7 @@ fn blank_end(text: &[u8]) -> usize
     text.len()
 }
 
-/// How many bytes stand before the first space or tab; all, where there is none.
+/// Returns the number of bytes before the first space or tab, or of all bytes if there is none.
 fn word_end(text: &[u8]) -> usize
     ensures value { result ≡ position_or_len words.is_blank text.now }
     ensures within { result ≤ length text.now }
@@ -88,7 +88,7 @@ fn word_end(text: &[u8]) -> usize
     text.len()
 }
 
-/// How many bytes stand before the first quote; all, where there is none.
+/// Returns the number of bytes before the first quote, or of all bytes if there is none.
 fn quote_end(text: &[u8]) -> usize
     ensures value { result ≡ position_or_len (λ b. b == 34) text.now }
     ensures within { result ≤ length text.now }
@@ -101,7 +101,7 @@ fn quote_end(text: &[u8]) -> usize
     text.len()
 }
 
-/// Whether a line has no words, or its first word starts with `#`.
+/// Reports whether a line has no words, or its first word starts with `#`.
 pub fn is_passed_over(line: &[u8]) -> bool
     ensures { result ≡ words.is_passed_over line.now }
 {
@@ -112,7 +112,7 @@ pub fn is_passed_over(line: &[u8]) -> bool
     }
 }
 
-/// Whether a word may end in front of this text.
+/// Reports whether a quoted word may end before this text.
 fn ends_word(text: &[u8]) -> bool
     ensures { result ≡ cuts.ends_word text.now }
 {
@@ -122,18 +122,18 @@ fn ends_word(text: &[u8]) -> bool
     }
 }
 
-/// The first word of a text.
+/// The first word of a text, cut off.
 #[derive(Clone, Copy)]
 pub enum WordCut<'a> {
-    /// There is none.
+    /// There is no word.
     Absent,
-    /// It is a quoted word that isn't closed, or isn't followed by a space, a tab or the end.
+    /// The word is a quoted word that isn't closed, or isn't followed by a space, a tab or the end.
     Broken,
-    /// The word, and what follows it.
+    /// The word, and the text after it.
     Word { word: &'a [u8], rest: &'a [u8] },
 }
 
-/// The first word of a text.
+/// Cuts the first word off a text.
 pub fn cut_word(text: &[u8]) -> WordCut<'_>
     ensures { CutsWord text.now result }
 {
@@ -158,7 +158,7 @@ pub fn cut_word(text: &[u8]) -> WordCut<'_>
     }
 }
 
-/// How many words a line has, or the number of its first broken word, counted from 1.
+/// Returns the number of words of a line, or the number of its first broken word, counted from 1.
 pub fn count_words(line: &[u8]) -> Result<usize, usize>
     ensures { result ≡ word_count (words_of line.now) }
 {

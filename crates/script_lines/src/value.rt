@@ -12,8 +12,8 @@ use allowance::Allowance;
 use script_commands::{ChunkLabel, DatabaseLabel, Kind, LentBytes, Value};
 use std::alloc::{AllocError, Global};
 
-/// What the words behind a command stand for: their values in order, but the bytes of a word of
-/// bytes or text stand apart, since no line has two such words.
+/// What the words after a command stand for: their values in order. The bytes of a word of bytes or
+/// text are kept separately, since no line has two words of these kinds.
 #[derive(Drop)]
 pub(crate) struct Values<'a> {
     pub values: Vec<Value>,
@@ -21,7 +21,7 @@ pub(crate) struct Values<'a> {
 }
 
 impl<'a> Values<'a> {
-    /// Those of no words.
+    /// Returns the values of no words.
     pub fn new(alloc: Global) -> Values<'a>
         ensures values { result.values.items ≡ [] }
         ensures bytes { result.bytes ≡ [] }
@@ -32,7 +32,7 @@ impl<'a> Values<'a> {
         }
     }
 
-    /// Puts a value behind the others.
+    /// Appends a value.
     fn push<A: Allowance>(&mut self, memory: &A, value: Value) -> Result<(), AllocError>
         ensures values { OnOk result
             (self.new.values.items ≡ self.old.values.items ++ (value ∷ [])) }
@@ -42,7 +42,7 @@ impl<'a> Values<'a> {
         allowance::push(memory, &mut self.values, value)
     }
 
-    /// Puts a value behind the others, if there is one, and answers whether there is.
+    /// Appends a value, if there is one, and reports whether there is.
     fn add_value<A: Allowance>(
         &mut self,
         memory: &A,
@@ -63,7 +63,7 @@ impl<'a> Values<'a> {
         }
     }
 
-    /// Takes bytes for those of the line, if there are any, and answers whether there are.
+    /// Sets the bytes of the line, if there are any, and reports whether there are.
     fn add_bytes(&mut self, bytes: Option<LentBytes<'a>>) -> bool
         ensures bytes { MatchOption bytes.entry (result ≡ false)
             (λ bytes. (result ≡ true) × (self.new.bytes ≡ bytes)) }
@@ -78,7 +78,7 @@ impl<'a> Values<'a> {
         }
     }
 
-    /// Adds what a word of a kind stands for, and answers whether it is of that kind.
+    /// Adds what a word of a kind stands for, and reports whether the word is of that kind.
     pub fn add<A: Allowance>(
         &mut self,
         memory: &A,

@@ -33,7 +33,7 @@ first_none : (rows : List (StoreFault → Type 0)) (fault : StoreFault) → Firs
 first_none [] fault f n = f
 first_none (row ∷ rows) fault f n = elim f [ inl here ↦ n.0 fault here | inr later ↦ first_none rows fault later.1 n.1 ]
 
--- ---- no row brings want of memory
+-- ---- no row brings `OutOfMemory`
 
 pub marked_not_memory : (image : List ℕ) → FirstBrought (marked_faults image) OutOfMemory → ⊥
 marked_not_memory image f = elim f [
@@ -65,13 +65,13 @@ own_not_memory image f = elim f [
   ]
 ]
 
--- ---- what is known where the first three passes found nothing
+-- ---- what is known if the first three passes found nothing
 
 pub listed_named : (image : List ℕ) → HeapAccepted image → NoneBrought (slot_faults image) → NoneBrought (header_faults image) → NoneBrought (entry_faults image) → AreNamed image
 listed_named image h slots headers entries =
     are_named image h (no_least (IsBadSlot image) (λ k l. slots.0 _ (k, l, refl))) (no_least (IsBadHeader image) (λ k l. headers.0 _ (k, l, refl))) (no_least_pair (IsBadEntry image) (λ k i l. entries.0 _ (k, i, l, refl)))
 
--- the front of a table that is cut to as many as are listed
+-- the prefix of a table that is cut to as many as are listed
 pub listed_cut : (image directory : List ℕ) (table : List Body) (count : ℕ) → IsListing image directory → count ≡ length directory / 4 → NotesListed image table → AreListed image (take count table)
 listed_cut image directory table count l is noted = subst (λ (n : ℕ). AreListed image (take n table)) (sym (is ∙ l.count)) noted
 

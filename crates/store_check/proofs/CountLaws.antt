@@ -18,7 +18,7 @@ use Rattle.store_check.specs.Owners.{IsOurOwner, IsOurs}
 use Rattle.store_check.proofs.SlotWords.{slot_word}
 use Rattle.store_check.proofs.OwnerLaws.{owner_noted}
 
--- ---- how often they stand among all that is accounted for
+-- ---- how often they are among all slots that are accounted for
 
 times_accounted : (image : List ℕ) (q : ℕ) → times q (accounted image) ≡ same (directory_of image) q + (times q (listed image) + times q (named image))
 times_accounted image q = let cons = times-cons q (directory_of image) (listed image ++ named image) in let rest = times-append q (listed image) (named image) in omega arith
@@ -163,7 +163,7 @@ twice_inside image marks k n m twice = word_inside image (marked_word k) n.heap 
 pub unmarked_inside : (image marks owners : List ℕ) (k : ℕ) → AreNamed image → HasOwners image owners → AreMarks (accounted image) marks → IsUnmarked marks owners k → marked_word k < 2 ^ 24
 unmarked_inside image marks owners k n noted m unmarked = word_inside image (marked_word k) n.heap (stray_slot image n (marked_word k) (unmarked_stray image marks owners n noted m k unmarked))
 
--- the first word with the mark 2 is the least slot that is shared; where there is none, none is
+-- the first word with the mark 2 is the least slot that is shared; if there is none, none is
 pub least_shared : (image marks : List ℕ) (k : ℕ) → AreNamed image → HasRoom image (length marks) → AreMarks (accounted image) marks → Least (IsMarkedTwice marks) k → Least (IsShared image) (marked_word k)
 least_shared image marks k n room m l =
     least_slot image (IsShared image) (IsMarkedTwice marks) (length marks) n.heap room (shared_slot image n) (shared_marked image marks n m) k (marked_shared image marks n m k l.here) l
@@ -171,7 +171,7 @@ least_shared image marks k n room m l =
 pub none_shared : (image marks : List ℕ) → AreNamed image → HasRoom image (length marks) → AreMarks (accounted image) marks → ((k : ℕ) → IsMarkedTwice marks k → ⊥) → (slot : ℕ) → IsShared image slot → ⊥
 none_shared image marks n room m = no_slot image (IsShared image) (IsMarkedTwice marks) (length marks) n.heap room (shared_slot image n) (shared_marked image marks n m)
 
--- the first word without a mark that has such a chunk is the least slot that is stray; where there is
+-- the first word without a mark that has such a chunk is the least slot that is stray; if there is
 -- none, none is
 pub least_stray : (image marks owners : List ℕ) (k : ℕ) → AreNamed image → HasOwners image owners → HasRoom image (length marks) → AreMarks (accounted image) marks → Least (IsUnmarked marks owners) k → Least (IsStray image) (marked_word k)
 least_stray image marks owners k n noted room m l =

@@ -1,4 +1,4 @@
--- An accepted heap is accepted with its databases where it has no fault.
+-- An accepted heap is accepted with its databases if it has no fault.
 use Rattle.std.proofs.Common.{◌≡◌, ℕ, ◌*◌, ◌/◌, ◌%◌, ◌<◌, ◌≤◌, Bool, true, false, List, [], ◌∷◌, length, map, get_or, take, refl, sym, ap, subst, ◌∙◌, arith, inl, inr}
 use Rattle.std.proofs.lemmas.Bool.{cases_eq, cases_lt, false≢true}
 use Rattle.std.proofs.lemmas.Bool.Decides.{Decides-and, Decides-or, Decides-eqb, Decides-like}
@@ -178,7 +178,7 @@ header_decided image bytes nn = record {
   sort_info = info_decided image (u32_at bytes 56) (λ none. nn (λ h. none h.sort_info));
 }
 
--- the records have unique IDs exactly where none is bad
+-- the records have unique IDs exactly if none is bad
 ids_right : (bytes : List ℕ) → ((index : ℕ) → HasBadId bytes index → ⊥) → HasUniqueIds (database_in bytes)
 unfolding database_in
 ids_right bytes good = counts_unique (database_in bytes)
@@ -210,7 +210,7 @@ database_named image bytes h entries =
     (All-cons (IsInfoBlock image) (u32_at bytes 56) (map entry_data items) h.sort_info
     (All-map (IsInfoBlock image) entry_data items (all_numbered (λ entry. IsInfoBlock image (entry_data entry)) (entry_in bytes) (entry_count_in bytes) (λ i below. entry_named image (entry_in bytes i) (entries i below)))))
 
--- what all databases name are chunks for data, where no slot, no header and no entry is bad
+-- what all databases name are chunks for data, if no slot, no header and no entry is bad
 pub are_named : (image : List ℕ) → HeapAccepted image → SlotsRight image → ((db : ℕ) → IsBadHeader image db → ⊥) → ((db index : ℕ) → IsBadEntry image db index → ⊥) → AreNamed image
 unfolding named stored_at header_at
 are_named image h slots headers entries = record {

@@ -60,7 +60,7 @@ greatest_all image db greatest all g earlier below = g.ids earlier (omega arith)
 
 -- ---- room in a set
 
--- where no ID is above the greatest, a set that has room for that has room for all
+-- if no ID is above the greatest, a set that has room for that has room for all
 pub room_for_all : (image : List ℕ) (greatest size : ℕ) → ((db : ℕ) → db < listed_count image → HasIdsUpTo (header_at image db) greatest) → greatest / 8 < size → HasRoomForAll image size
 room_for_all image greatest size up room db below index id inside e = let most = up db below index id inside e in omega arith
 
@@ -94,7 +94,8 @@ bad_more image bytes seen new db is none empty n = record {
 
 -- ---- rising IDs
 
--- the IDs of the records so far rise, the last of them is the greatest, and 0 stands for the last of none
+-- the IDs of the records so far rise, the last of them is the greatest, and 0 stands for the last
+-- of none
 pub record Risen (bytes : List ℕ) (index last : ℕ) : Type 0 where
   pub above : (later id : ℕ) → later < index → id_at bytes later ≡ Some id → (0 < id) × ((earlier other : ℕ) → earlier < later → id_at bytes earlier ≡ Some other → other < id)
   pub greatest : (earlier id : ℕ) → earlier < index → id_at bytes earlier ≡ Some id → id ≤ last

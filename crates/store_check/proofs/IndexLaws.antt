@@ -1,4 +1,4 @@
--- Lists that a function of the index gives, by what stands at each index.
+-- Lists that a function of the index gives, by the item at each index.
 use Rattle.std.proofs.Common.{◌≡◌, ℕ, ◌<◌, length, get_or, sym, subst, ◌∙◌, arith}
 use Rattle.std.proofs.lemmas.List.FromFn.{length-map-range_with_len, get_or-map-range_with_len}
 use Rattle.std.specs.Prelude.{All}

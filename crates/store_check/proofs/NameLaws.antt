@@ -10,7 +10,7 @@ use Rattle.store_check.specs.Faults.{IsSameName, same_name_faults, NoneBrought}
 use Rattle.store_check.specs.Names.{HaveNames, field_number, name_number, HasNamesBefore}
 use Rattle.store_check.proofs.PassLaws.{none_more}
 
--- two names are the same where their fields are
+-- two names are the same if their fields are
 pub same_fields : (one other : List ℕ) → HasName one → HasName other → ((take 32 one ≡ take 32 other) ↔ (name_in one ≡ name_in other))
 same_fields one other h g = (
   λ e. name_read (name_in other) one g.name (e ∙ g.field),

@@ -1,4 +1,4 @@
--- What a mark says of the owner of a slot's chunk.
+-- The owner of a slot's chunk, by its mark.
 use Rattle.std.proofs.Common.{◌≡◌, ℕ, ◌<◌, List, length, sym, subst, ◌∙◌, arith, inl, inr}
 use Rattle.std.proofs.lemmas.Bool.{false≢true}
 use Rattle.std.specs.Prelude.{slice_index}

@@ -1,4 +1,4 @@
--- What passes over the headers and the entries find.
+-- The findings of passes over the headers and the entries.
 use Rattle.std.proofs.Common.{◌≡◌, ℕ, ◌+◌, ◌<◌, ◌≤◌, List, length, get_or, set, take, refl, sym, subst, ◌∙◌, length-take-le, get_or-take, get_or-set_same, get_or-set_other, arith, inl, inr}
 use Rattle.std.proofs.lemmas.Bool.{cases_lt}
 use Rattle.std.proofs.lemmas.Option.{get_or_from_slice_get, slice_get_within}

@@ -1,4 +1,4 @@
--- The words that marks belong to: each slot is one, and has a mark where there are enough.
+-- The words that marks belong to: each slot is one, and has a mark if there are enough.
 use Rattle.std.proofs.Common.{◌≡◌, ℕ, ◌-◌, ◌/◌, false, true, List, length, sym, subst, ◌∙◌, arith}
 use Rattle.heap_model.specs.Slots.{IsSlot, is_chained, slot_count}
 use Rattle.heap_model.specs.Heap.{HeapAccepted}

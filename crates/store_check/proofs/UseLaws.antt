@@ -15,7 +15,7 @@ use Rattle.store_check.specs.Listing.{listed_at, listed_count, header_at, entrie
 one_more : {X : Type 0} (each : ℕ → X) (n : ℕ) → numbered each (n + 1) ≡ numbered each n ++ each n ∷ []
 one_more each n = let e : n + 1 ≡ suc n = omega arith in ap (numbered each) e ∙ numbered_more each n
 
--- what follows where there is no value
+-- what follows if there is no value
 pub none_maps : {A : Type 0} {P Q : Type 0} (found : Option A) → (P → Q) → IfNone found P → IfNone found Q
 none_maps None f p = f p
 none_maps (Some value) f p = tt

@@ -1,4 +1,4 @@
--- What the check answers, and the rows of the faults in the parts in which it looks for them.
+-- The results of the check, and the rows of the faults in the parts in which it tests for them.
 use Rattle.std.specs.Prelude.{◌≡◌, ◌⊎◌, ◌++◌, ℕ, List, length}
 use Rattle.heap_model.specs.Heap.{HeapAccepted}
 use Rattle.heap_model.specs.Store.{listed, Accepted}
@@ -14,30 +14,31 @@ pub record Summarizes (image : List ℕ) (summary : StoreSummary) : Type 0 where
   pub heap : heaps.Summarizes image summary.heap
   pub databases : summary.databases ≡ length (listed image)
 
--- memory was refused, which it is of an accepted heap alone; or this is the image's first fault
+-- an allocation failed, which is reported only for an accepted heap; or this is the image's first
+-- fault
 abbrev pub IsAnswered : List ℕ → StoreFault → Type 0
 IsAnswered image fault = ((fault ≡ OutOfMemory) × HeapAccepted image) ⊎ IsFirstFault image fault
 
--- memory was refused, or this is the first fault that some rows of the table bring
+-- an allocation failed, or this is the first fault that some rows of the table bring
 abbrev pub IsFirstOr : List (StoreFault → Type 0) → StoreFault → Type 0
 IsFirstOr rows fault = (fault ≡ OutOfMemory) ⊎ FirstBrought rows fault
 
--- memory was refused, or the image isn't accepted
+-- an allocation failed, or the image isn't accepted
 abbrev pub IsRefusal : List ℕ → StoreFault → Type 0
 IsRefusal image fault = (fault ≡ OutOfMemory) ⊎ (Accepted image → ⊥)
 
--- of what the directory lists
+-- the faults of the databases that the directory lists
 abbrev pub listed_faults : List ℕ → List (StoreFault → Type 0)
 listed_faults image = slot_faults image ++ (header_faults image ++ entry_faults image)
 
--- of how often chunks are named
+-- the faults of chunks that are named twice, or by nothing
 abbrev pub chunk_faults : List ℕ → List (StoreFault → Type 0)
 chunk_faults image = shared_faults image ++ stray_faults image
 
--- of what is found by marks for slots
+-- the faults that are found by marks for slots
 abbrev pub marked_faults : List ℕ → List (StoreFault → Type 0)
 marked_faults image = listed_faults image ++ chunk_faults image
 
--- of IDs and names
+-- the faults of IDs and names
 abbrev pub own_faults : List ℕ → List (StoreFault → Type 0)
 own_faults image = id_faults image ++ (name_faults image ++ same_name_faults image)

@@ -1,5 +1,5 @@
--- The faults of a store, in the order in which they are looked for. Each is looked for in all databases,
--- in their order, before the next is.
+-- The faults of a store, in the order in which they are tested. All databases are tested for a
+-- fault, in their order, before the next fault.
 use Rattle.std.specs.Prelude.{◌≡◌, ◌≢◌, ◌<◌, ◌≤◌, ◌+◌, ◌*◌, ◌⊎◌, ℕ, List, [], ◌∷◌, length, Option, Some}
 use Rattle.heap_model.specs.Chunk.{managers_owner, data_owner}
 use Rattle.heap_model.specs.Heap.{directory_of}
@@ -16,10 +16,10 @@ use Rattle.store_check.specs.declared.fault.StoreFault.{StoreFault}
 use Rattle.store_check.specs.declared.fault.StoreFault.TheVariants.{Heap, BadDirectorySlot, BadHeader, BadEntry, SharedChunk, StrayChunk, BadId, BadName, SameName}
 use Rattle.store_check.specs.Listing.{listed_at, listed_count, header_at}
 
--- ---- what each fault says
+-- ---- each fault by itself
 
--- a word of the directory that is incomplete, is one too many, isn't the slot of a chunk of the manager's,
--- is the directory's own slot, or stands earlier
+-- A word of the directory that is incomplete, is one too many, or occurs earlier. Or it is the
+-- directory's own slot, or not the slot of a chunk of the manager's.
 abbrev pub IsBadSlot : List ℕ → ℕ → Type 0
 IsBadSlot image index =
     (listed_size * index < length (directory_bytes image))
@@ -28,70 +28,74 @@ IsBadSlot image index =
     ⊎ ((IsHeaderSlot image (listed_at image index) → ⊥)
     ⊎ ((earlier : ℕ) × (earlier < index) × (listed_at image earlier ≡ listed_at image index)))))
 
--- these bytes are a header and its entries, whole, and its info words are 0 or the slots of chunks for
--- data
+-- these bytes are a whole header and its entries, and its info words are 0 or the slots of chunks
+-- for data
 pub record HasHeader (image bytes : List ℕ) : Type 0 where
   pub whole : IsWhole bytes
   pub app_info : IsInfoBlock image (u32_at bytes app_info_at)
   pub sort_info : IsInfoBlock image (u32_at bytes sort_info_at)
 
--- the bytes of a database's header aren't
+-- the bytes of this database's header aren't as `HasHeader` demands
 abbrev pub IsBadHeader : List ℕ → ℕ → Type 0
 IsBadHeader image db = (db < listed_count image) × (HasHeader image (header_at image db) → ⊥)
 
--- the slot of an entry is 0 where it mustn't be, or neither 0 nor the slot of a chunk for data
+-- this entry doesn't have its data in a chunk for data. Only a deleted record may have the slot 0.
 abbrev pub HasBadEntry : List ℕ → List ℕ → ℕ → Type 0
 HasBadEntry image bytes index = (index < entry_count_in bytes) × (HasData image (entry_in bytes index) → ⊥)
 
+-- no entry of the header is bad
 abbrev pub HasGoodEntries : List ℕ → List ℕ → Type 0
 HasGoodEntries image bytes = (index : ℕ) → HasBadEntry image bytes index → ⊥
 
+-- the entry with this index in this database is bad
 abbrev pub IsBadEntry : List ℕ → ℕ → ℕ → Type 0
 IsBadEntry image db index = (db < listed_count image) × HasBadEntry image (header_at image db) index
 
--- two entries or info blocks name the slot
+-- the slot isn't 0, and two entries or info blocks name it
 abbrev pub IsShared : List ℕ → ℕ → Type 0
 IsShared image slot = (slot ≢ 0) × (2 ≤ times slot (named image))
 
--- the slot's chunk is one for data and named by none, or it is one of the manager's and neither the
+-- the slot's chunk is one for data that nothing names, or one of the manager's that is neither the
 -- directory nor listed in it
 abbrev pub IsStray : List ℕ → ℕ → Type 0
 IsStray image slot =
     ((owner_under image slot ≡ data_owner) × (times slot (named image) ≡ 0))
     ⊎ ((owner_under image slot ≡ managers_owner) × (slot ≢ directory_of image) × (times slot (listed image) ≡ 0))
 
--- the unique ID of the entry of an index, if it is a record's
+-- the unique ID of the entry with an index, if it is a record's
 abbrev pub id_at : List ℕ → ℕ → Option ℕ
 id_at bytes index = unique_id (entry_in bytes index)
 
--- the ID of a record is 0, or an earlier record's of that database
+-- the ID of this record is 0, or that of an earlier record of the database
 abbrev pub HasBadId : List ℕ → ℕ → Type 0
 HasBadId bytes index =
     (index < entry_count_in bytes)
     × ((id_at bytes index ≡ Some 0) ⊎ ((id earlier : ℕ) × (earlier < index) × (id_at bytes earlier ≡ Some id) × (id_at bytes index ≡ Some id)))
 
+-- no record of the header has a bad ID
 abbrev pub HasGoodIds : List ℕ → Type 0
 HasGoodIds bytes = (index : ℕ) → HasBadId bytes index → ⊥
 
+-- the record with this index in this database has a bad ID
 abbrev pub IsBadId : List ℕ → ℕ → ℕ → Type 0
 IsBadId image db index = (db < listed_count image) × HasBadId (header_at image db) index
 
--- the field of the database's name has none
+-- the field for this database's name has none
 abbrev pub IsBadName : List ℕ → ℕ → Type 0
 IsBadName image db = (db < listed_count image) × (HasName (header_at image db) → ⊥)
 
--- an earlier database has the name
+-- an earlier database has the name of this one
 abbrev pub IsSameName : List ℕ → ℕ → Type 0
 IsSameName image db = (db < listed_count image) × ((earlier : ℕ) × (earlier < db) × (name_in (header_at image earlier) ≡ name_in (header_at image db)))
 
--- ---- the table
+-- ---- the table of faults
 
 infix 70 ◌locates_both◌
--- where this holds of a pair of numbers, there is this fault with both
+-- for each pair of numbers that satisfies P, the image has this fault with both
 abbrev pub ◌locates_both◌ : {Fault : Type 0} → (ℕ → ℕ → Type 0) → (ℕ → ℕ → Fault) → Fault → Type 0
 ◌locates_both◌ P named fault = (m n : ℕ) × P m n × (fault ≡ named m n)
 
--- of the directory, the headers and the entries
+-- the faults of the directory, the headers and the entries
 abbrev pub slot_faults : List ℕ → List (StoreFault → Type 0)
 slot_faults image = (Least (IsBadSlot image) locates BadDirectorySlot) ∷ []
 
@@ -101,14 +105,14 @@ header_faults image = (Least (IsBadHeader image) locates BadHeader) ∷ []
 abbrev pub entry_faults : List ℕ → List (StoreFault → Type 0)
 entry_faults image = (LeastPair (IsBadEntry image) locates_both BadEntry) ∷ []
 
--- of chunks that are named twice, or by nothing
+-- the faults of chunks that are named twice, or by nothing
 abbrev pub shared_faults : List ℕ → List (StoreFault → Type 0)
 shared_faults image = (Least (IsShared image) locates SharedChunk) ∷ []
 
 abbrev pub stray_faults : List ℕ → List (StoreFault → Type 0)
 stray_faults image = (Least (IsStray image) locates StrayChunk) ∷ []
 
--- of IDs and names
+-- the faults of IDs and names
 abbrev pub id_faults : List ℕ → List (StoreFault → Type 0)
 id_faults image = (LeastPair (IsBadId image) locates_both BadId) ∷ []
 
@@ -118,7 +122,7 @@ name_faults image = (Least (IsBadName image) locates BadName) ∷ []
 abbrev pub same_name_faults : List ℕ → List (StoreFault → Type 0)
 same_name_faults image = (Least (IsSameName image) locates SameName) ∷ []
 
--- of an accepted heap
+-- the faults of the databases in an accepted heap
 abbrev pub store_faults : List ℕ → List (StoreFault → Type 0)
 store_faults image =
     (Least (IsBadSlot image) locates BadDirectorySlot)
@@ -135,7 +139,7 @@ store_faults image =
 abbrev pub BringsHeap : List ℕ → StoreFault → Type 0
 BringsHeap image fault = (first : HeapFault) × heaps.IsFirstFault image first × (fault ≡ Heap first)
 
--- the heap's own, and then those
+-- all faults: that of the heap, and then those of the databases
 abbrev pub faults : List ℕ → List (StoreFault → Type 0)
 faults image = BringsHeap image ∷ store_faults image
 
@@ -144,6 +148,6 @@ abbrev pub NoneBrought : List (StoreFault → Type 0) → Type 0
 NoneBrought [] = Unit {0}
 NoneBrought (row ∷ rows) = ((fault : StoreFault) → row fault → ⊥) × NoneBrought rows
 
--- the image has the fault, and none of those that are looked for earlier
+-- the image has the fault, and none of those that are tested earlier
 abbrev pub IsFirstFault : List ℕ → StoreFault → Type 0
 IsFirstFault image fault = FirstBrought (faults image) fault

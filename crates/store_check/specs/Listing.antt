@@ -9,7 +9,7 @@ use Rattle.db_format.specs.Headers.{IsWhole}
 use Rattle.store_check.specs.declared.lookup.Body.{Body}
 use Rattle.store_check.specs.Lookup.{HasBody}
 
--- the word of an index in the directory: the slot of a header, where it is a right one
+-- the directory's word with an index: the slot of a header, if the word is valid
 abbrev pub listed_at : List ℕ → ℕ → ℕ
 listed_at image index = u32_at (directory_bytes image) (listed_size * index)
 
@@ -17,11 +17,11 @@ listed_at image index = u32_at (directory_bytes image) (listed_size * index)
 abbrev pub listed_count : List ℕ → ℕ
 listed_count image = length (directory_bytes image) / listed_size
 
--- the bytes of the header of the database of an index, and of its entries
+-- the bytes of the header of the database with an index, and of its entries
 unfoldable pub header_at : List ℕ → ℕ → List ℕ
 header_at image db = bytes_under image (listed_at image db)
 
--- the entries that are read off the bytes of a header
+-- the entries that are read from the bytes of a header
 abbrev pub entries_in : List ℕ → List (Entry ℕ)
 entries_in bytes = numbered (entry_in bytes) (entry_count_in bytes)
 
@@ -29,8 +29,8 @@ entries_in bytes = numbered (entry_in bytes) (entry_count_in bytes)
 abbrev pub entry_slots : List ℕ → List ℕ
 entry_slots bytes = map entry_data (entries_in bytes)
 
--- These are the bytes of the directory in an accepted heap, and each of its words is a right one: what
--- is known where no slot of it is bad.
+-- These are the bytes of the directory in an accepted heap, and each of its words is valid. This is
+-- known if no slot of the directory is bad.
 pub record IsListing (image directory : List ℕ) : Type 0 where
   pub heap : HeapAccepted image
   pub bytes : directory ≡ directory_bytes image
@@ -38,18 +38,19 @@ pub record IsListing (image directory : List ℕ) : Type 0 where
   pub few : length directory / listed_size ≤ most_databases
   pub headers : (db : ℕ) → db < listed_count image → IsHeaderSlot image (listed_at image db)
 
--- These are the headers that an accepted heap lists, each by where it lies in the image: what is known
--- where each was found.
+-- These are the headers that an accepted heap lists, each by its place and length in the image.
+-- This is known after each was found.
 pub record AreListed (image : List ℕ) (headers : List Body) : Type 0 where
   pub heap : HeapAccepted image
   pub count : length headers ≡ listed_count image
   pub few : length headers ≤ most_databases
   pub each : (db : ℕ) (header : Body) → slice_get headers db ≡ Some header → HasBody image (listed_at image db) header
 
--- the front of the table notes them
+-- a prefix of the table has the headers that are listed
 abbrev pub NotesListed : List ℕ → List Body → Type 0
 NotesListed image table = AreListed image (take (listed_count image) table)
 
--- each database that is listed has a whole header with its entries: what is known where no header is bad
+-- each database that is listed has a whole header with its entries: this is known if no header is
+-- bad
 pub record HaveHeaders (image : List ℕ) : Type 0 where
   pub whole : (db : ℕ) → db < listed_count image → IsWhole (header_at image db)

@@ -1,4 +1,4 @@
--- What a look-up of a slot finds.
+-- The result of looking up a slot.
 use Rattle.std.specs.Prelude.{◌≡◌, ◌≤◌, ◌+◌, ℕ, List, length, slice_range, Option, Some, None}
 use Rattle.heap_model.specs.declared.names.Place.{Place}
 use Rattle.heap_model.specs.Store.{bytes_under}

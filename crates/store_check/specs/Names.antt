@@ -6,7 +6,7 @@ use Rattle.heap_model.specs.Database.{HasName}
 use Rattle.bit_sets.specs.Sets.{HasNumber}
 use Rattle.store_check.specs.Listing.{listed_count, header_at}
 
--- each database that is listed has a name: what is known where none is bad
+-- each database that is listed has a name: this is known if no name is bad
 pub record HaveNames (image : List ℕ) : Type 0 where
   pub names : (db : ℕ) → db < listed_count image → HasName (header_at image db)
 
@@ -14,17 +14,17 @@ pub record HaveNames (image : List ℕ) : Type 0 where
 abbrev pub name_numbers : ℕ
 name_numbers = 262139
 
--- the number of a field for a name, by its words: each counts for another multiple
+-- the number of a field for a name, from its words: each word is multiplied by a number of its own
 abbrev pub field_number : List ℕ → ℕ
 field_number field =
     (u32_at field 0 + 3 * u32_at field 4 + 5 * u32_at field 8 + 7 * u32_at field 12
     + (11 * u32_at field 16 + 13 * u32_at field 20 + 17 * u32_at field 24 + 19 * u32_at field 28))
     % name_numbers
 
--- that of the name in the bytes of a header
+-- the number of the name in the bytes of a header
 abbrev pub name_number : List ℕ → ℕ
 name_number bytes = field_number (take name_size bytes)
 
--- the numbers of the names of the databases in front of an index are in the set
+-- the numbers of the names of the databases before an index are in the set
 abbrev pub HasNamesBefore : List ℕ → List ℕ → ℕ → Type 0
 HasNamesBefore image seen db = (earlier : ℕ) → earlier < db → HasNumber seen (name_number (header_at image earlier))

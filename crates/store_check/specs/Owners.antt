@@ -11,7 +11,8 @@ IsOurOwner owner = (owner ≡ managers_owner) ⊎ (owner ≡ data_owner)
 abbrev pub IsOurs : List ℕ → ℕ → Type 0
 IsOurs image slot = IsOurOwner (owner_under image slot)
 
--- the number is the manager's, or that of data, exactly where this is the owner of the slot's chunk
+-- `owner` is the manager's exactly if the owner of the slot's chunk is. The same for the owner of
+-- data.
 pub record TellsOwner (image : List ℕ) (slot owner : ℕ) : Type 0 where
   pub managers : (owner ≡ managers_owner) ↔ (owner_under image slot ≡ managers_owner)
   pub «data» : (owner ≡ data_owner) ↔ (owner_under image slot ≡ data_owner)

@@ -34,10 +34,16 @@ use heap_check::{MOST_MARKS, NO_OWNER, check_heap, check_heap_noting, marks_need
 use raw_region::Region;
 use std::alloc::Global;
 
-/// Whether the bytes of a region are an accepted heap with databases: its counts, or else its first
-/// fault. It takes memory for a mark for each slot, or with a chain of tables two for each word of the
-/// image, which are up to 8 MiB, and then a bit for each number up to the greatest ID, 32 KiB at least and
-/// 2 MiB at most, and changes nothing. Only where memory is refused does it answer `OutOfMemory`.
+/// Checks whether the bytes of a region are an accepted heap with databases, and returns its
+/// counts. It changes nothing. It allocates:
+///
+/// - a byte for each slot; with a chain of tables up to two bytes for each word of the image, at
+///   most 8 MiB;
+/// - a bit for each number up to the greatest ID, at least 32 KiB and at most 2 MiB.
+///
+/// # Errors
+/// - `OutOfMemory`: an allocation failed.
+/// - Any other fault: the image's first one, in the order of `faults`.
 pub fn check_store(alloc: Global, region: &Region) -> Result<StoreSummary, StoreFault>
     requires whole { region.now.lent ≡ None }
     ensures accepted { OnOk result (Accepted region.now.bytes) }
@@ -49,7 +55,11 @@ pub fn check_store(alloc: Global, region: &Region) -> Result<StoreSummary, Store
     check_store_from(&alloc, region)
 }
 
-/// `check_store`, where each growth asks for a grant. Only a refused growth is answered by `OutOfMemory`.
+/// Checks an image as `check_store` does, with memory from an allowance.
+///
+/// # Errors
+/// - `OutOfMemory`: an allocation failed.
+/// - Any other fault: the image's first one, in the order of `faults`.
 pub fn check_store_from<A: Allowance>(
     memory: &A,
     region: &Region,
@@ -68,8 +78,8 @@ pub fn check_store_from<A: Allowance>(
     check_noting(memory, region, &mut owners)
 }
 
-/// The same of an image of so many words that memory is taken for the marks of owners, once its heap is
-/// known to be accepted.
+/// Does the same for an image with more words than `MOST_MARKS`. It allocates the marks of owners
+/// after its heap was found accepted.
 fn check_large<A: Allowance>(memory: &A, region: &Region) -> Result<StoreSummary, StoreFault>
     requires whole { region.now.lent ≡ None }
     ensures accepted { OnOk result (Accepted region.now.bytes) }
@@ -89,7 +99,7 @@ fn check_large<A: Allowance>(memory: &A, region: &Region) -> Result<StoreSummary
     Ok(StoreSummary { heap, databases })
 }
 
-/// The same, with marks in which the heap's check notes owners.
+/// Does the same, with marks in which the heap's check notes owners.
 fn check_noting<A: Allowance>(
     memory: &A,
     region: &Region,
@@ -112,7 +122,7 @@ fn check_noting<A: Allowance>(
     Ok(StoreSummary { heap, databases })
 }
 
-/// Looks for the faults of the databases in an accepted heap, and answers how many they are.
+/// Tests for the faults of the databases in an accepted heap, and returns the number of databases.
 fn check_databases<A: Allowance>(
     memory: &A,
     region: &Region,
@@ -131,7 +141,7 @@ fn check_databases<A: Allowance>(
     check_with_table(memory, region, owners, &mut table)
 }
 
-/// The same, with a table in which the headers are noted as they are found.
+/// Does the same, with a table in which the headers are noted as they are found.
 fn check_with_table<A: Allowance>(
     memory: &A,
     region: &Region,
@@ -156,7 +166,7 @@ fn check_with_table<A: Allowance>(
     Ok(headers.len() as u32)
 }
 
-/// The numbers in a region are bytes: it is known of those that a slice has.
+/// Proves that the numbers in a region are bytes, as those in a slice are.
 fn know_bytes(region: &Region)
     requires whole { region.now.lent ≡ None }
     ensures { AreBytes region.now.bytes }
@@ -164,7 +174,7 @@ fn know_bytes(region: &Region)
     let _bytes = region.as_slice();
 }
 
-/// Looks for the faults that are found by marks, with marks of its own.
+/// Tests for the faults that are found by marks, with its own marks.
 fn check_marks<A: Allowance>(
     memory: &A,
     region: &Region,
@@ -190,7 +200,7 @@ fn check_marks<A: Allowance>(
     check_with_marks(region, directory, owners, &mut marks, table)
 }
 
-/// Looks for the faults that are found by these marks, none of which is set yet.
+/// Tests for the faults that are found by these marks, none of which is set yet.
 fn check_with_marks(
     region: &Region,
     directory: &[u8],
@@ -222,8 +232,9 @@ fn check_with_marks(
     }
 }
 
-/// Looks for the faults of what the directory lists, whose own slot is marked. All that must be named is
-/// then marked too, and the front of the table has all headers.
+/// Tests for the faults of the databases that the directory lists. The directory's own slot is
+/// marked. If there is no fault, all slots that must be named are marked too, and a prefix of the
+/// table has all headers.
 fn check_listed(
     region: &Region,
     directory: &[u8],
@@ -259,7 +270,7 @@ fn check_listed(
     }
 }
 
-/// How many bytes a set takes that has room for all IDs, and for the numbers of names.
+/// Returns the size in bytes of a set with room for all IDs, and for the numbers of names.
 fn set_size(region: &Region, headers: &[Body]) -> usize
     requires whole { region.now.lent ≡ None }
     requires listed { AreListed region.now.bytes headers.now }
@@ -271,7 +282,7 @@ fn set_size(region: &Region, headers: &[Body]) -> usize
     greatest.max(NAME_NUMBERS) as usize / 8 + 1
 }
 
-/// Looks for the faults of IDs and names, with a set of numbers of its own.
+/// Tests for the faults of IDs and names, with its own set of numbers.
 fn check_ids_and_names<A: Allowance>(
     memory: &A,
     region: &Region,
@@ -290,7 +301,7 @@ fn check_ids_and_names<A: Allowance>(
     check_with_set(region, headers, &mut seen)
 }
 
-/// Looks for the faults of IDs and names, with this set of numbers, which is empty.
+/// Tests for the faults of IDs and names, with this set of numbers, which is empty.
 fn check_with_set(region: &Region, headers: &[Body], seen: &mut [u8]) -> Result<(), StoreFault>
     requires whole { region.now.lent ≡ None }
     requires listed { AreListed region.now.bytes headers.now }

@@ -1,4 +1,4 @@
-//! Words that are marked twice, and those of chunks that nothing names.
+//! Words that are marked twice, and words of chunks that nothing names.
 
 ghost use Rattle.std.specs.Prelude.{◌↔◌, ℕ, IsTrue, IfSome, IfNone};
 ghost use Rattle.heap_model.specs.Lists.{Least};
@@ -6,7 +6,8 @@ ghost use Rattle.store_check.specs.Naming.{IsMarkedTwice, IsUnmarked, HasMarkTwo
 
 use crate::owners::is_our_owner;
 
-/// Whether one of the marks is 2. It goes over all of them, which is faster than to stop at the first.
+/// Returns whether one of the marks is 2. It reads all of them, which is faster than to stop at the
+/// first.
 fn has_mark_two(marks: &[u8]) -> bool
     ensures { IsTrue result ↔ HasMarkTwo marks.now }
 {
@@ -17,8 +18,8 @@ fn has_mark_two(marks: &[u8]) -> bool
     found
 }
 
-/// Whether some number has no mark, and yet the owner of a chunk for data or of one of the manager's. It
-/// goes over all of them too.
+/// Returns whether some number has no mark, and yet the owner of a chunk for data or of one of the
+/// manager's. It reads all of them too.
 fn has_unmarked(marks: &[u8], owners: &[u8]) -> bool
     ensures { IsTrue result ↔ HasUnmarked marks.now owners.now }
 {
@@ -29,7 +30,7 @@ fn has_unmarked(marks: &[u8], owners: &[u8]) -> bool
     found
 }
 
-/// The number of the first mark that is 2.
+/// Returns the number of the first mark that is 2.
 pub(crate) fn first_twice(marks: &[u8]) -> Option<usize>
     ensures some { IfSome result (Least (IsMarkedTwice marks.now)) }
     ensures none { IfNone result ((number : ℕ) → IsMarkedTwice marks.now number → ⊥) }
@@ -45,7 +46,8 @@ pub(crate) fn first_twice(marks: &[u8]) -> Option<usize>
     None
 }
 
-/// The first number that has no mark, and yet the owner of a chunk for data or of one of the manager's.
+/// Returns the first number that has no mark, and yet the owner of a chunk for data or of one of
+/// the manager's.
 pub(crate) fn first_unmarked(marks: &[u8], owners: &[u8]) -> Option<usize>
     ensures some { IfSome result (Least (IsUnmarked marks.now owners.now)) }
     ensures none { IfNone result ((number : ℕ) → IsUnmarked marks.now owners.now number → ⊥) }

@@ -20,7 +20,8 @@ use crate::owners::is_for_data;
 use db_format::{DbEntry, app_info, entry_count, sort_info};
 use raw_region::Region;
 
-/// Whether an entry has its data in a chunk for data. The record may have none if it is deleted.
+/// Returns whether an entry has its data in a chunk for data. A record may have no data if it is
+/// deleted.
 fn has_data(entry: DbEntry, owners: &[u8]) -> bool
     ensures { (image : List ℕ) → HeapAccepted image → HasOwners image owners.now
         → (IsTrue result ↔ HasData image (entry_of entry)) }
@@ -33,8 +34,8 @@ fn has_data(entry: DbEntry, owners: &[u8]) -> bool
     }
 }
 
-/// The first bad entry of the database of an index. Where there is none, what the database names is
-/// marked.
+/// Returns the first bad entry of the database with an index. If there is none, all slots that the
+/// database names are marked.
 fn find_bad_entry_in(
     region: &Region,
     headers: &[Body],
@@ -67,8 +68,8 @@ fn find_bad_entry_in(
     None
 }
 
-/// The first bad entry of all databases, in their order. Where there is none, all that they name is
-/// marked.
+/// Returns the first bad entry of all databases, in their order. If there is none, all slots that
+/// they name are marked.
 pub(crate) fn find_bad_entry(
     region: &Region,
     headers: &[Body],

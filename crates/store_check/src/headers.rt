@@ -16,7 +16,7 @@ use crate::words::listed_count;
 use db_format::{app_info, is_whole, sort_info};
 use raw_region::Region;
 
-/// Whether an info word names no chunk, or one for data.
+/// Returns whether an info word names no chunk, or one for data.
 fn is_info_block(slot: u32, owners: &[u8]) -> bool
     ensures { (image : List ℕ) → HeapAccepted image → HasOwners image owners.now
         → (IsTrue result ↔ IsInfoBlock image slot) }
@@ -24,7 +24,7 @@ fn is_info_block(slot: u32, owners: &[u8]) -> bool
     slot == 0 || is_for_data(slot, owners)
 }
 
-/// Whether the bytes are a header and its entries, whole, and its info blocks are there.
+/// Returns whether the bytes are a whole header and its entries, and its info blocks are there.
 fn has_header(bytes: &[u8], owners: &[u8]) -> bool
     ensures { (image : List ℕ) → HeapAccepted image → HasOwners image owners.now
         → (IsTrue result ↔ HasHeader image bytes.now) }
@@ -34,7 +34,8 @@ fn has_header(bytes: &[u8], owners: &[u8]) -> bool
         && is_info_block(sort_info(bytes), owners)
 }
 
-/// The first database with a bad header. Where there is none, the front of the table has all headers.
+/// Returns the first database with a bad header. If there is none, a prefix of the table has all
+/// headers.
 pub(crate) fn find_bad_header(
     region: &Region,
     directory: &[u8],

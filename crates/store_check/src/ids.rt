@@ -1,4 +1,4 @@
-//! The unique IDs of records, each database for itself.
+//! The unique IDs of records, for each database on its own.
 #![tactic(auto, using(laws_heap::proofs::Lending::all_within, laws_heap::proofs::Lending::all_misses))]
 
 ghost use Rattle.std.specs.Prelude.{◌≡◌, ◌≤◌, ◌<◌, ◌^◌, ◌↔◌, ℕ, Some, false, length, IsTrue, IfOk, IfSome, IfNone, OnErr, None};
@@ -18,7 +18,7 @@ use db_format::{entry_count, has_resources};
 use raw_region::Region;
 use std::alloc::AllocError;
 
-/// A set of so many bytes with no number in it. The only error is a refused growth.
+/// Allocates a set of `size` bytes with no number in it. The only error is a failed allocation.
 pub(crate) fn empty_set<A: Allowance>(memory: &A, size: usize) -> Result<Vec<u8>, AllocError>
     ensures len { IfOk result (λ seen. length seen.items ≡ size) }
     ensures empty { IfOk result (λ seen. HasNone seen.items) }
@@ -27,7 +27,7 @@ pub(crate) fn empty_set<A: Allowance>(memory: &A, size: usize) -> Result<Vec<u8>
     zeros(memory, size)
 }
 
-/// The ID of a record.
+/// Returns the ID of a record.
 #[inline]
 fn record_id(header: &[u8], index: u16) -> u32
     requires whole { IsWhole header.now }
@@ -39,7 +39,7 @@ fn record_id(header: &[u8], index: u16) -> u32
     db_format::record_id(header, index)
 }
 
-/// The greatest of an ID and those of a database's records, if it has records.
+/// Returns the greatest of an ID and those of a database's records, if it has records.
 fn greatest_id_in(header: &[u8], least: u32) -> u32
     requires whole { IsWhole header.now }
     requires small { least < 2 ^ 24 }
@@ -57,7 +57,7 @@ fn greatest_id_in(header: &[u8], least: u32) -> u32
     greatest
 }
 
-/// The greatest ID of all records, 0 where there is none.
+/// Returns the greatest ID of all records, or 0 if there are no records.
 pub(crate) fn greatest_id(region: &Region, headers: &[Body]) -> u32
     requires whole { region.now.lent ≡ None }
     requires listed { AreListed region.now.bytes headers.now }
@@ -73,7 +73,8 @@ pub(crate) fn greatest_id(region: &Region, headers: &[Body]) -> u32
     greatest
 }
 
-/// Whether the ID of each record of a database is above 0 and above those in front: then none is bad.
+/// Returns whether the ID of each record of a database is above 0 and above those before it. Then
+/// no ID is bad.
 fn has_rising_ids(header: &[u8]) -> bool
     requires whole { IsWhole header.now }
     requires records { resources_in header.now ≡ false }
@@ -90,8 +91,8 @@ fn has_rising_ids(header: &[u8]) -> bool
     true
 }
 
-/// The first record of a database whose ID is 0 or an earlier one's. Where there is none, the set has
-/// their IDs.
+/// Returns the first record of a database whose ID is 0 or an earlier one's. If there is none, the
+/// set has their IDs.
 fn find_bad_id_among(header: &[u8], seen: &mut [u8]) -> Option<u16>
     requires whole { IsWhole header.now }
     requires records { resources_in header.now ≡ false }
@@ -125,10 +126,12 @@ fn forget_each(header: &[u8], seen: &mut [u8])
     }
 }
 
-/// How many bytes of a set are cleared at once in about the time in which one ID is taken out.
+/// The number of bytes of a set that can be cleared at once in about the time in which one ID is
+/// taken out.
 const BYTES_FOR_ONE: usize = 32;
 
-/// Empties a set that has the IDs of a database's records, and clears it as a whole where they are many.
+/// Empties a set that has the IDs of a database's records. If the records are many, it clears the
+/// whole set.
 fn forget_ids(header: &[u8], seen: &mut [u8])
     requires whole { IsWhole header.now }
     requires records { resources_in header.now ≡ false }
@@ -143,8 +146,8 @@ fn forget_ids(header: &[u8], seen: &mut [u8])
     }
 }
 
-/// The first record of a database, if it has records, whose ID is 0 or an earlier one's. Where there is
-/// none, the set is empty again.
+/// Returns the first record of a database, if it has records, whose ID is 0 or an earlier one's. If
+/// there is none, the set is empty again.
 fn find_bad_id_in(header: &[u8], seen: &mut [u8]) -> Option<u16>
     requires whole { IsWhole header.now }
     requires room { HasRoomForIds header.now (length seen.old) }
@@ -163,7 +166,8 @@ fn find_bad_id_in(header: &[u8], seen: &mut [u8]) -> Option<u16>
     bad
 }
 
-/// The first record of all databases, in their order, whose ID is 0 or an earlier one's of its database.
+/// Returns the first record of all databases, in their order, whose ID is 0 or that of an earlier
+/// record of its database.
 pub(crate) fn find_bad_id(region: &Region, headers: &[Body], seen: &mut [u8]) -> Option<StoreFault>
     requires whole { region.now.lent ≡ None }
     requires listed { AreListed region.now.bytes headers.now }

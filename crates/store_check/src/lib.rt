@@ -1,15 +1,20 @@
-//! The checker of stores: whether an image is an accepted heap with databases in it, and if not, its
-//! first fault.
+//! The checker of stores: whether an image is an accepted heap with databases in it, and if not,
+//! its first fault.
 //!
-//! `check_store` has the heap checked and the owner of each slot's chunk noted, and then looks for each
-//! fault in all databases before it looks for the next. Each header that the directory lists is looked up
-//! once: the pass that looks for bad ones notes where it lies, and those behind it read it there. A mark
-//! for each slot, counted up to two, says how often slots are listed and named. It is found by the offset
-//! of the slot, so in an image with a chain of tables each word has one. Where the IDs of a database
-//! don't rise, a set of numbers, a bit for each, tells whether an ID was met before; it serves the
-//! databases in turn, and then the names, which are compared only where their numbers meet.
-//! `specs/Faults.antt` says what each fault means and in which order they are looked for; `heap_model` says
-//! what an accepted image is.
+//! `check_store` checks the heap, and notes the owner of each slot's chunk. Then it tests all
+//! databases for each fault, before it tests for the next fault:
+//!
+//! - It looks up each header that the directory lists once. The pass that tests for bad headers
+//!   notes the offset of each, and later passes read the header there.
+//! - A mark for each slot, counted up to two, records how often the slot is listed and named. The
+//!   mark is found by the offset of the slot, so in an image with a chain of tables each word has
+//!   one.
+//! - If the IDs of a database don't rise, a set with a bit for each number records which IDs were
+//!   met. The set serves the databases in turn, and then the names. Two names are compared only if
+//!   their numbers are the same.
+//!
+//! `specs/Faults.antt` defines each fault and the order of the tests. `heap_model` defines what an
+//! accepted image is.
 #![tactic(auto)]
 
 mod check;

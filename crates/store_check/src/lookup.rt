@@ -1,4 +1,4 @@
-//! The chunks of the manager: where their bodies are, by their slots, and the bytes there.
+//! The chunks of the manager: the places of their bodies, by their slots, and the bytes there.
 #![tactic(auto, using(laws_heap::proofs::Lending::all_within, laws_heap::proofs::Lending::all_misses))]
 
 ghost use Rattle.std.specs.Prelude.{◌≡◌, ◌≤◌, ◌<◌, ◌+◌, length, slice_range, None};
@@ -14,20 +14,20 @@ use heap_model::Place;
 use master_table::word_of;
 use raw_region::Region;
 
-/// The body of a movable chunk: where it is, and how many bytes it has.
+/// The body of a movable chunk: its place and its length in bytes.
 #[derive(Clone, Copy)]
 pub(crate) struct Body {
     pub(crate) place: Place,
     pub(crate) length: u32,
 }
 
-/// What stands in a table where no body is noted yet.
+/// The entry of a table in which no body is noted yet.
 pub(crate) const NO_BODY: Body = Body {
     place: Place(0),
     length: 0,
 };
 
-/// The body at a place of the chunk with this header, if it is a movable one.
+/// Returns the body at a place of the chunk with this header, if it is a movable one.
 #[inline]
 fn as_movable(header: Header, place: Place) -> Option<Body>
     ensures { result ≡ movable_by header place }
@@ -38,7 +38,7 @@ fn as_movable(header: Header, place: Place) -> Option<Body>
     }
 }
 
-/// The body of a chunk of the manager's: its slot holds the place.
+/// Returns the body of a chunk of the manager's. Its slot holds the place.
 fn body_under(region: &Region, slot: u32) -> Body
     requires whole { region.now.lent ≡ None }
     requires accepted { HeapAccepted region.now.bytes }
@@ -49,7 +49,7 @@ fn body_under(region: &Region, slot: u32) -> Body
     as_movable(Header::at(region, place.0 - HEADER_SIZE), place).unwrap()
 }
 
-/// The bytes of a body.
+/// Returns the bytes of a body.
 #[inline]
 pub(crate) fn bytes_of(region: &Region, body: Body) -> &[u8]
     requires whole { region.now.lent ≡ None }
@@ -60,7 +60,7 @@ pub(crate) fn bytes_of(region: &Region, body: Body) -> &[u8]
     region.slice(body.place.0 as usize, body.length as usize)
 }
 
-/// The bytes of the directory. There are none where the directory word is 0.
+/// Returns the bytes of the directory. There are none if the directory word is 0.
 pub(crate) fn directory_in(region: &Region) -> &[u8]
     requires whole { region.now.lent ≡ None }
     requires accepted { HeapAccepted region.now.bytes }
@@ -73,7 +73,8 @@ pub(crate) fn directory_in(region: &Region) -> &[u8]
     bytes_of(region, body_under(region, slot))
 }
 
-/// The body under the word of an index in the directory: the header of that database and its entries.
+/// Returns the body under the directory's word with an index: the header of that database and its
+/// entries.
 pub(crate) fn find_header(region: &Region, directory: &[u8], db: usize) -> Body
     requires whole { region.now.lent ≡ None }
     requires listing { IsListing region.now.bytes directory.now }
@@ -83,7 +84,7 @@ pub(crate) fn find_header(region: &Region, directory: &[u8], db: usize) -> Body
     body_under(region, word_at(directory, db))
 }
 
-/// The bytes of the header of the database of an index, and of its entries.
+/// Returns the bytes of the header of the database with an index, and of its entries.
 #[inline]
 pub(crate) fn header_of<'a>(region: &'a Region, headers: &[Body], db: usize) -> &'a [u8]
     requires whole { region.now.lent ≡ None }

@@ -1,4 +1,4 @@
-//! Marks for the words where slots can stand: how often each was met, two standing for more.
+//! Marks for the words that can be slots. A mark counts how often its word was met, up to two.
 #![tactic(auto, using(laws_heap::proofs::Lending::all_within, laws_heap::proofs::Lending::all_misses))]
 
 ghost use Rattle.std.specs.Prelude.{◌≡◌, ◌≤◌, ◌<◌, ◌*◌, ◌^◌, ◌↔◌, ℕ, [], ◌∷◌, List, length, IsTrue, IfOk, OnErr, None};
@@ -14,8 +14,8 @@ use heap_check::{mark_number, marks_needed};
 use raw_region::Region;
 use std::alloc::AllocError;
 
-/// How many marks are taken for an image: one for each slot of an only table, and with a chain of tables
-/// one for each word of the image.
+/// Returns how many marks an image gets: one for each slot of an only table, and with a chain of
+/// tables one for each word of the image.
 pub(crate) fn mark_count(region: &Region) -> usize
     requires whole { region.now.lent ≡ None }
     requires accepted { HeapAccepted region.now.bytes }
@@ -29,7 +29,7 @@ pub(crate) fn mark_count(region: &Region) -> usize
     }
 }
 
-/// So many marks, none of which is set. The only error is a refused growth.
+/// Allocates `count` marks, none of which is set. The only error is a failed allocation.
 pub(crate) fn no_marks<A: Allowance>(memory: &A, count: usize) -> Result<Vec<u8>, AllocError>
     ensures len { IfOk result (λ marks. length marks.items ≡ count) }
     ensures clear { IfOk result (λ marks. AreMarks [] marks.items) }
@@ -38,7 +38,7 @@ pub(crate) fn no_marks<A: Allowance>(memory: &A, count: usize) -> Result<Vec<u8>
     zeros(memory, count)
 }
 
-/// Marks a slot once more. What no slot can be has no mark.
+/// Marks a slot once more. A word that can't be a slot has no mark.
 #[inline]
 pub(crate) fn mark(slot: u32, marks: &mut [u8])
     ensures { AddsMarks (slot ∷ []) marks.old marks.new }
@@ -52,7 +52,7 @@ pub(crate) fn mark(slot: u32, marks: &mut [u8])
     }
 }
 
-/// The offset of the word that the mark of a number belongs to.
+/// Returns the offset of the word that the mark with a number belongs to.
 pub(crate) fn word_of_mark(number: usize) -> u32
     requires { marked_word number < 2 ^ 24 }
     ensures { result ≡ marked_word number }
@@ -60,7 +60,7 @@ pub(crate) fn word_of_mark(number: usize) -> u32
     FRAME_SIZE + SLOT_SIZE * number as u32
 }
 
-/// Whether a slot is marked.
+/// Returns whether a slot is marked.
 #[inline]
 pub(crate) fn is_marked(slot: u32, marks: &[u8]) -> bool
     ensures { (xs : List ℕ) → HasMark slot (length marks.now) → AreMarks xs marks.now

@@ -15,7 +15,7 @@ use crate::words::word_at;
 use db_format::{NAME_SIZE, has_name};
 use raw_region::Region;
 
-/// The first database whose field for a name has none.
+/// Returns the first database whose field for a name has none.
 pub(crate) fn find_bad_name(region: &Region, headers: &[Body]) -> Option<StoreFault>
     requires whole { region.now.lent ≡ None }
     requires listed { AreListed region.now.bytes headers.now }
@@ -32,11 +32,11 @@ pub(crate) fn find_bad_name(region: &Region, headers: &[Body]) -> Option<StoreFa
     None
 }
 
-/// How many numbers there are for names: a prime, so that names which differ in one of their words alone
-/// seldom share one.
+/// How many numbers there are for names. It is a prime, so that names which differ only in one of
+/// their words seldom share a number.
 pub(crate) const NAME_NUMBERS: u32 = 262_139;
 
-/// A number that all fields for a name with the same bytes have.
+/// Returns the number of a field for a name. Fields with the same bytes have the same number.
 fn number_of_name(header: &[u8]) -> u32
     requires { name_size ≤ length header.now }
     ensures is { result ≡ name_number header.now }
@@ -54,7 +54,7 @@ fn number_of_name(header: &[u8]) -> u32
     ((front + back) % NAME_NUMBERS as u64) as u32
 }
 
-/// Whether two databases have the same name, where each has one.
+/// Returns whether two databases have the same name. Each must have one.
 fn is_same_name(header: &[u8], other: &[u8]) -> bool
     requires long { name_size ≤ length header.now }
     requires other_long { name_size ≤ length other.now }
@@ -65,7 +65,7 @@ fn is_same_name(header: &[u8], other: &[u8]) -> bool
     header[..NAME_SIZE] == other[..NAME_SIZE]
 }
 
-/// Whether an earlier database has the name of the one of an index.
+/// Returns whether an earlier database has the name of the one with an index.
 fn has_earlier_name(region: &Region, headers: &[Body], db: usize) -> bool
     requires whole { region.now.lent ≡ None }
     requires listed { AreListed region.now.bytes headers.now }
@@ -83,7 +83,8 @@ fn has_earlier_name(region: &Region, headers: &[Body], db: usize) -> bool
     false
 }
 
-/// Whether an earlier database has the name of the one of an index, by the numbers of the names in front.
+/// Returns whether an earlier database has the name of the one with an index. It compares names
+/// only if the set of the earlier names' numbers has the number.
 fn has_same_name(region: &Region, headers: &[Body], db: usize, number: u32, seen: &[u8]) -> bool
     requires whole { region.now.lent ≡ None }
     requires listed { AreListed region.now.bytes headers.now }
@@ -101,8 +102,8 @@ fn has_same_name(region: &Region, headers: &[Body], db: usize, number: u32, seen
     has_earlier_name(region, headers, db)
 }
 
-/// The first database with the name of an earlier one. The set gets the numbers of all names in front,
-/// so that names are compared only where the number is in it: the fewer others are, the fewer are.
+/// Returns the first database with the name of an earlier one. The set gets the numbers of all
+/// earlier names. Names are compared only if the number is in the set.
 pub(crate) fn find_same_name(
     region: &Region,
     headers: &[Body],

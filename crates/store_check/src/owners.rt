@@ -15,8 +15,8 @@ use heap_check::{NO_OWNER, mark_number, note_owners};
 use raw_region::Region;
 use std::alloc::AllocError;
 
-/// The owners of the chunks of an image's slots, in memory that is taken for them. The only error is a
-/// refused growth.
+/// Allocates marks, and notes in them the owners of the chunks of an image's slots. The only error
+/// is a failed allocation.
 pub(crate) fn noted_owners<A: Allowance>(memory: &A, region: &Region) -> Result<Vec<u8>, AllocError>
     requires whole { region.now.lent ≡ None }
     requires accepted { HeapAccepted region.now.bytes }
@@ -28,7 +28,8 @@ pub(crate) fn noted_owners<A: Allowance>(memory: &A, region: &Region) -> Result<
     Ok(owners)
 }
 
-/// So many marks for owners, and no owner is noted. The only error is a refused growth.
+/// Allocates `count` marks for owners, in which no owner is noted. The only error is a failed
+/// allocation.
 fn no_owners<A: Allowance>(memory: &A, count: usize) -> Result<Vec<u8>, AllocError>
     ensures len { IfOk result (λ owners. length owners.items ≡ count) }
     ensures clear { IfOk result (λ owners. NoneMarked owners.items) }
@@ -37,7 +38,7 @@ fn no_owners<A: Allowance>(memory: &A, count: usize) -> Result<Vec<u8>, AllocErr
     filled(memory, NO_OWNER, count)
 }
 
-/// The owner of a slot's chunk, by what was noted. What is no slot has none.
+/// Returns the noted owner of a slot's chunk. A word that is no slot has none.
 #[inline]
 fn noted_owner(slot: u32, owners: &[u8]) -> u8
     ensures { (image : List ℕ) → HeapAccepted image → HasOwners image owners.now
@@ -55,7 +56,7 @@ fn noted_owner(slot: u32, owners: &[u8]) -> u8
     }
 }
 
-/// Whether this is the owner of chunks of the manager's or of those for data.
+/// Returns whether this is the owner of chunks of the manager's, or of chunks for data.
 #[inline]
 pub(crate) fn is_our_owner(owner: u8) -> bool
     ensures { IsTrue result ↔ IsOurOwner owner }
@@ -63,7 +64,7 @@ pub(crate) fn is_our_owner(owner: u8) -> bool
     owner == MANAGERS_OWNER || owner == DATA_OWNER
 }
 
-/// Whether a slot has a chunk of the manager's.
+/// Returns whether a slot has a chunk of the manager's.
 pub(crate) fn is_managers(slot: u32, owners: &[u8]) -> bool
     ensures { (image : List ℕ) → HeapAccepted image → HasOwners image owners.now
         → (IsTrue result ↔ (owner_under image slot ≡ managers_owner)) }
@@ -71,7 +72,7 @@ pub(crate) fn is_managers(slot: u32, owners: &[u8]) -> bool
     noted_owner(slot, owners) == MANAGERS_OWNER
 }
 
-/// Whether a slot has a chunk for data.
+/// Returns whether a slot has a chunk for data.
 #[inline]
 pub(crate) fn is_for_data(slot: u32, owners: &[u8]) -> bool
     ensures { (image : List ℕ) → HeapAccepted image → HasOwners image owners.now

@@ -21,7 +21,7 @@ use chunk_format::SLOT_SIZE;
 use db_format::MOST_DATABASES;
 use raw_region::Region;
 
-/// Whether a slot has no chunk of the manager's, or is marked.
+/// Returns whether a slot has no chunk of the manager's, or is marked.
 fn is_other_or_marked(slot: u32, owners: &[u8], marks: &[u8]) -> bool
     ensures { (image xs : List ℕ) → HeapAccepted image → HasOwners image owners.now
         → HasRoom image (length marks.now) → AreMarks xs marks.now
@@ -31,8 +31,8 @@ fn is_other_or_marked(slot: u32, owners: &[u8], marks: &[u8]) -> bool
     !is_managers(slot, owners) || is_marked(slot, marks)
 }
 
-/// The first bad word of the directory, where its own slot is marked. All that it lists is then marked
-/// too.
+/// Returns the first bad word of the directory, whose own slot is marked. If there is none, all
+/// slots that it lists are marked too.
 pub(crate) fn find_bad_slot(region: &Region, owners: &[u8], marks: &mut [u8]) -> Option<StoreFault>
     requires whole { region.now.lent ≡ None }
     requires accepted { HeapAccepted region.now.bytes }

@@ -2,7 +2,7 @@
 
 use heap_check::Summary;
 
-/// What an accepted store has: the counts of its heap, and its databases.
+/// The counts of an accepted store: those of its heap, and the number of its databases.
 #[derive(Clone, Copy, Debug, PartialEq, Eq)]
 pub struct StoreSummary {
     pub heap: Summary,

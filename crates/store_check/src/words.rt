@@ -7,7 +7,7 @@ ghost use Rattle.heap_model.specs.Slots.{slot_size};
 use byteorder::{BigEndian, ByteOrder};
 use chunk_format::SLOT_SIZE;
 
-/// How many slots the bytes of a directory list: its whole words.
+/// Returns how many slots the bytes of a directory list: its whole words.
 #[inline]
 pub(crate) fn listed_count(directory: &[u8]) -> usize
     ensures { result ≡ length directory.now / slot_size }
@@ -15,7 +15,7 @@ pub(crate) fn listed_count(directory: &[u8]) -> usize
     directory.len() / SLOT_SIZE as usize
 }
 
-/// The word of an index in these bytes: of a directory a slot.
+/// Returns the word with an index in these bytes. In a directory it is a slot.
 #[inline]
 pub(crate) fn word_at(bytes: &[u8], index: usize) -> u32
     requires { slot_size * index + slot_size ≤ length bytes.now }

@@ -1,4 +1,4 @@
-//! A call on a store, and the same on the plain model beside it.
+//! A call on a store, and the same on the plain model next to it.
 
 ghost use Rattle.std.specs.Prelude.{◌≡◌, IfOk, None};
 
@@ -15,7 +15,7 @@ use std::test::Fail;
 use test_model::{Difference, Image, PlainStore, broken_store_rule};
 use test_support::equal;
 
-/// An image, and beside it the store that it means.
+/// An image, and the store that it means.
 #[derive(Drop)]
 pub struct Beside {
     pub image: Vec<u8>,
@@ -42,7 +42,8 @@ impl Beside {
         Ok(call)
     }
 
-    /// Does a call on both, where the image is checked as a store for it, and checks what came of it.
+    /// Does a call on both, where the image is checked as a store for it, and checks what came of
+    /// it.
     pub fn call(&mut self, alloc: Global, spot: &str, call: &Call) -> Result<Reply, Fail> {
         let mut store = store_of(alloc, &self.image)?;
         self.call_on(alloc, &mut store, spot, call)
@@ -73,8 +74,8 @@ impl Beside {
         Ok(reply)
     }
 
-    /// The same while the bytes under a name are out. They are put back after the call, as they were, and must stand
-    /// where they stood.
+    /// The same while the bytes under a name are out. They are put back after the call, as they
+    /// were, and must stand where they stood.
     pub fn call_lent(
         &mut self,
         alloc: Global,
@@ -148,8 +149,8 @@ pub fn body_of(image: &Image, name: Name) -> Option<(Place, usize)> {
     Some((piece.place, piece.live?.bytes.len()))
 }
 
-/// Does a call on the model. The replies must be the same, the image must be accepted and mean just the
-/// model's store, and the call must have kept to its rules.
+/// Does a call on the model. The replies must be the same, the image must be accepted and mean just
+/// the model's store, and the call must have kept to its rules.
 fn check(
     alloc: Global,
     spot: &str,

@@ -55,7 +55,8 @@ impl Counts {
         0
     }
 
-    /// The first outcome of a table that has not come up: of each call that it was accepted, and each refusal.
+    /// The first outcome of a table that has not come up: of each call that it was accepted, and
+    /// each refusal.
     pub fn missing(&self, table: &[(&'static str, &[Refusal])]) -> Option<Outcome> {
         for (call, refusals) in table {
             let missing = self.missing_of(call, refusals);

@@ -1,4 +1,5 @@
-//! Calls that are drawn, so that calls of every kind come up, accepted and refused for every reason.
+//! Calls that are drawn, so that calls of every kind come up, accepted and refused for every
+//! reason.
 //!
 //! What a call names is drawn from an image or a store: most often something that is there.
 

@@ -4,14 +4,14 @@ use std::alloc::Global;
 use std::test::Fail;
 use test_support::changed_words;
 
-/// 1,024 bytes with 17 slots and three databases, as another writer could leave them: slots and chunks
-/// in other orders, free neighbours that aren't joined, slack that isn't zero, locked data.
+/// 1,024 bytes with 17 slots and three databases, as another writer could leave them: slots and
+/// chunks in other orders, free neighbours that aren't joined, slack that isn't zero, locked data.
 ///
-/// The numbers of the databases are 36, 24 and 48. The first has an AppInfo block and records of several
-/// attributes: with two locks, deleted without data, deleted with data that has 14 locks, busy, secret
-/// without a byte; its modification number is the greatest, and the ID that is next to its seed is taken, as
-/// is the one behind that. The second has a SortInfo block and two
-/// resources of one type and ID. The third has the longest name and no entries, and is read-only.
+/// The numbers of the databases are 36, 24 and 48. The first has an AppInfo block and records of
+/// several attributes: with two locks, deleted without data, deleted with data that has 14 locks,
+/// busy, secret without a byte; its modification number is the greatest, and the ID that is next to
+/// its seed is taken, as is the one after that. The second has a SortInfo block and two resources
+/// of one type and ID. The third has the longest name and no entries, and is read-only.
 pub const MIXED: &str = "50484931 00000400 0011 0000 00000010 \
     00000128 00000150 000000A0 00000088 000002C0 00000178 00000288 00000160 00000230 \
     000002A8 00000228 000002B0 00000218 00*20 \
@@ -46,7 +46,7 @@ pub fn blank_image(alloc: Global, size: u32, slots: u16) -> Result<Vec<u8>, Fail
     Ok(Vec::from_slice(alloc, region.as_slice())?)
 }
 
-/// A blank image with a chain of tables: behind the slots the word `next` is 0.
+/// A blank image with a chain of tables: after the slots the word `next` is 0.
 pub fn chained_image(alloc: Global, size: u32, slots: u16) -> Result<Vec<u8>, Fail> {
     let area = (20 + 4 * u32::from(slots)).next_multiple_of(8);
     let Some(room) = size.checked_sub(area) else {

@@ -1,6 +1,8 @@
-//! A store and the plain model beside it, for tests: calls that are done on both, and must have one meaning.
+//! A store and the plain model next to it, for tests: calls that are done on both, and must have
+//! one meaning.
 //!
-//! A difference comes back as a failure that says which call it was. Nothing but tests uses this crate.
+//! A difference comes back as a failure that says which call it was. Nothing but tests uses this
+//! crate.
 //!
 //! | module | does |
 //! |---|---|

@@ -2,8 +2,8 @@
 
 use heap_model::{FileFault, Refusal, Which};
 
-/// Each call with the refusals that it must have met, beside being accepted. That there are too many
-/// databases or records has tests of its own; a heap has too few slots for too many resources.
+/// Each call with the refusals that it must have met, besides being accepted. That there are too
+/// many databases or records has tests of its own; a heap has too few slots for too many resources.
 pub const OUTCOMES: [(&str, &[Refusal]); 63] = [
     (
         "handle_new",

@@ -1,4 +1,5 @@
-//! Commands that break off: each growth of memory is refused in turn, and each write fails after each byte.
+//! Commands that break off: each allocation fails in turn, and each write fails after
+//! each byte.
 
 use crate::samples::{MIXED_FILE, changed, listed};
 use file_commands::{cmd_canonical_from, cmd_list_from};

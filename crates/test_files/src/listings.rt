@@ -21,6 +21,7 @@ seed 00000000
 app none
 sort none
 records 0
+needs 128 bytes and 2 slots in a heap
 ";
 
 const ORDER_LINES: &str = "\
@@ -41,6 +42,7 @@ records 3
 0 00 0 108 0
 1 03 5 104 4
 2 20 5 108 4
+needs 208 bytes and 5 slots in a heap
 changes busy ids order
 ";
 
@@ -61,6 +63,7 @@ sort none
 resources 2
 0 \"tSTR\" 1000 100 3
 1 \"tSTR\" 1001 103 3
+needs 192 bytes and 4 slots in a heap
 canonical
 ";
 
@@ -80,6 +83,7 @@ app none
 sort none
 records 1
 0 01 1 88 9
+needs 168 bytes and 3 slots in a heap
 canonical
 ";
 
@@ -100,6 +104,7 @@ sort 99 2
 records 2
 0 8f 16777215 none
 1 20 0 96 3
+needs 200 bytes and 5 slots in a heap
 changes busy ids order
 ";
 
@@ -130,7 +135,8 @@ fn files_have_their_listings(rt: HostRuntime) -> Result<(), Fail> {
     Ok(())
 }
 
-/// Numbers of seconds, and the lines for them: around the ends of months and years, leap years and not.
+/// Numbers of seconds, and the lines for them: around the ends of months and years, leap years and
+/// not.
 static MOMENTS: [([u8; 4], &str); 12] = [
     ([0x00, 0x00, 0x00, 0x01], "created 1 1904-01-01 00:00:01"),
     (

@@ -232,7 +232,8 @@ fn lines_that_are_missing(rt: HostRuntime) -> Result<(), Fail> {
     Ok(())
 }
 
-/// What is put together of the parts of a file is its canonical form; and taken apart again it has the same text and parts.
+/// What is put together of the parts of a file is its canonical form; and taken apart again it has
+/// the same text and parts.
 fn check_round(alloc: Global, file: &[u8]) -> Result<bool, Fail> {
     let Some(folder) = folder_of(alloc, file)? else {
         return Ok(false);

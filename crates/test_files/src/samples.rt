@@ -11,8 +11,8 @@ use test_support::bytes_of;
 pub(crate) const MEMO_FILE: &str = "4d656d6f4442 00*26 0000 0000 e72ea9db 00*20 44415441 6d656d6f \
     00000000 00000000 0001 00000058 01 000001 0000 68656c6c6f20776f 72";
 
-/// A file of two records, a deleted one without data and a busy one, with both info blocks after the data and bytes
-/// between. Its name has quotes, and each date is another.
+/// A file of two records, a deleted one without data and a busy one, with both info blocks after
+/// the data and bytes between. Its name has quotes, and each date is another.
 pub(crate) const MIXED_FILE: &str = "2251220a 00*28 8042 0102 ffffffff 00015180 7c25b080 00000007 \
     00000065 00000063 61001f62 7e7e7e7e 01020304 00000000 0002 \
     00000000 8f ffffff 00000060 20 000000 0000 4142 43 4449";

@@ -133,7 +133,7 @@ loose_first (movable bytes zero owner slot) cs n = (refl, n)
 loose_first (movable bytes (suc count) owner slot) cs n = absurd n
 loose_first (fixed bytes owner) cs n = absurd n
 
--- chunks of which none stays end in front of one that stays
+-- chunks of which none stays end before one that stays
 ends_before : (front : List Chunk) (c : Chunk) (back mid after : List Chunk) → front ++ c ∷ back ≡ mid ++ after → IsTrue (stays c) → NoneStays mid → (rest : List Chunk) × (front ≡ mid ++ rest)
 ends_before front c back [] after e s n = (front, refl)
 ends_before [] c back (d ∷ mid) after e s n = let same = (heads e).0 in let loose = (loose_first d mid n).0 in absurd (no_true (subst IsTrue (ap stays same ∙ loose) s))
@@ -142,7 +142,7 @@ ends_before (f ∷ front) c back (d ∷ mid) after e s n =
     let rest = ends_before front c back mid after t.1 s (loose_first d mid n).1 in
     (rest.0, let one = t.0 in let more = rest.1 in cc)
 
--- they are in front of it, or behind it
+-- they are before it, or after it
 sides : (front : List Chunk) (c : Chunk) (back before mid after : List Chunk) → front ++ c ∷ back ≡ before ++ (mid ++ after) → IsTrue (stays c) → NoneStays mid
     → ((rest : List Chunk) × (front ≡ before ++ (mid ++ rest))) ⊎ ((rest : List Chunk) × (before ≡ front ++ c ∷ rest) × (back ≡ rest ++ (mid ++ after)))
 sides front c back [] mid after e s n = inl (ends_before front c back mid after e s n)
@@ -162,7 +162,7 @@ none_front at xs ys name e = or_front _ _ (sym (live_under-append at xs ys name)
 none_back : (at : ℕ) (xs ys : List Chunk) (name : ℕ) → live_under at (xs ++ ys) name ≡ None → live_under (at + total xs) ys name ≡ None
 none_back at xs ys name e = or_back _ _ (sym (live_under-append at xs ys name) ∙ e)
 
--- Two chunks have moved: one that isn't behind a chunk that stays, and one that isn't in front of it.
+-- Two chunks have moved: one that isn't after a chunk that stays, and one that isn't before it.
 pub record MovedApart (old new : List ℕ) (first second : ℕ) : Type 0 where
   pub front : List Chunk
   pub c : Chunk
@@ -188,7 +188,7 @@ moves_two_and old new first second moved a p q m = elim (sides a.front a.c a.bac
   start : ℕ
   start = area_start old
 
--- the same with no name beside the stretch
+-- the same with no name besides the stretch
 pub moves_two : (old new : List ℕ) (first second : ℕ) → MovedApart old new first second → MovesOneStretch old new → ⊥
 moves_two old new first second a m = moves_two_and old new first second (first + second + 1) a (λ e. omega arith) (λ e. omega arith) (record {
   before = m.before;

@@ -4,8 +4,8 @@ use Rattle.heap_model.specs.Bytes.{u16_bytes, u32_bytes}
 use Rattle.heap_model.specs.Database.{DatabaseHeader}
 use Rattle.test_formats.specs.HeapImages.{words}
 
--- a header without dates: the name's field, attributes and version, the offsets of info blocks, the type, the
--- seed and the number of entries
+-- a header without dates: the name's field, attributes and version, the offsets of info blocks, the
+-- type, the seed and the number of entries
 abbrev pub header : List ℕ → ℕ → ℕ → ℕ → ℕ → ℕ → ℕ → List ℕ
 header name attributes_version app_info sort_info kind seed count =
     name ++ replicate (32 - length name) 0 ++ u32_bytes attributes_version ++ replicate 16 0
@@ -19,8 +19,8 @@ header_read name seed = record { name = name; attributes = 0; version = 0; creat
 abbrev pub empty_file : List ℕ
 empty_file = header (codes "Empty") 0 0 0 0x44415441 0 0
 
--- Three records. The first and the last have one offset, and the block of the second stands in front of theirs;
--- one has the ID 0, and two have 5.
+-- Three records. The first and the last have one offset, and the block of the second stands before
+-- theirs; one has the ID 0, and two have 5.
 abbrev pub order_file : List ℕ
 order_file =
     header (codes "Order") 0 0 0 0x44415441 0 3 ++ words (0x6C ∷ 0 ∷ 0x68 ∷ 0x03000005 ∷ 0x6C ∷ 0x20000005 ∷ [])
@@ -46,9 +46,9 @@ resource_file =
 abbrev pub backward_file : List ℕ
 backward_file = header (codes "Back") 0 100 98 0x44415441 0 2 ++ words (96 ∷ 1 ∷ 94 ∷ 2 ∷ []) ++ 1 ∷ 2 ∷ 3 ∷ 4 ∷ 5 ∷ 6 ∷ 7 ∷ []
 
--- Five records and both info blocks, of which this is the offset of SortInfo. The name's field has no zero; behind the entries are two bytes that no block
--- has; the blocks stand against the order of the list; where that is 124, three begin at one
--- offset; a deleted record has no data and
+-- Five records and both info blocks, of which this is the offset of SortInfo. The name's field has
+-- no zero; after the entries are two bytes that no block has; the blocks stand against the order of
+-- the list; where that is 124, three begin at one offset; a deleted record has no data and
 -- another's begins where the file ends; three have one ID, and the seed is the greatest ID.
 abbrev pub odd_file : ℕ → List ℕ
 odd_file sort_info =
@@ -56,6 +56,6 @@ odd_file sort_info =
     ++ words (124 ∷ 0x33000007 ∷ 120 ∷ 0x00000007 ∷ 0 ∷ 0xE0000007 ∷ 130 ∷ 0xA0000000 ∷ 122 ∷ 0x40000000 ∷ [])
     ++ 9 ∷ 9 ∷ 1 ∷ 2 ∷ 3 ∷ 4 ∷ 5 ∷ 6 ∷ 7 ∷ 8 ∷ 9 ∷ 10 ∷ []
 
--- the field of a name with other bytes behind its first zero
+-- the field of a name with other bytes after its first zero
 abbrev pub noisy_name : List ℕ
 noisy_name = 0x41 ∷ 0 ∷ replicate 30 0x42

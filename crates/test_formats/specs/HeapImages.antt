@@ -46,6 +46,6 @@ all_but number = replicate number true ++ false ∷ replicate (14 - number) true
 abbrev pub BreaksAlone : List ℕ → ℕ → Type 0
 BreaksAlone image number = tests_of image ≡ all_but number
 
--- nothing is spelled where these two words stand in front of 32 more bytes
+-- nothing is spelled where these two words stand before 32 more bytes
 abbrev pub IsOutOfShape : ℕ → ℕ → Type 0
 IsOutOfShape first second = chunk_at (small_image 0 0 (first ∷ second ∷ [])) 24 ≡ None

@@ -4,8 +4,8 @@ use Rattle.heap_model.specs.Chunk.{Chunk, free, movable}
 use Rattle.test_formats.specs.HeapImages.{words}
 use Rattle.test_formats.specs.Stretches.{zeros_of}
 
--- chunks with 8 bytes of zeros each, by their two words; two words that are zero are 16 bytes more of the
--- chunk in front
+-- chunks with 8 bytes of zeros each, by their two words; two words that are zero are 16 bytes more
+-- of the chunk before them
 abbrev pub with_bodies : List ℕ → List ℕ
 with_bodies [] = []
 with_bodies (first ∷ []) = words (first ∷ [])

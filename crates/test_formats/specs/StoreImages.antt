@@ -19,8 +19,8 @@ resource_image =
 abbrev pub empty_header : ℕ → List ℕ
 empty_header letter = letter ∷ replicate 31 0 ++ replicate 28 0 ++ words (0x44415441 ∷ 0x54657374 ∷ 0 ∷ 0 ∷ 0 ∷ [])
 
--- 224 bytes with 4 slots: a directory, whose first word and body these are, and two databases without
--- entries
+-- 224 bytes with 4 slots: a directory, whose first word and body these are, and two databases
+-- without entries
 abbrev pub two_databases : ℕ → ℕ → ℕ → ℕ → ℕ → List ℕ
 two_databases first_word one_slot other_slot one_letter other_letter =
     words (0x50484931 ∷ 224 ∷ 0x00040000 ∷ 0x10 ∷ 0x28 ∷ 0x38 ∷ 0x90 ∷ 0 ∷ first_word ∷ 0x00FFFFF8 ∷ one_slot ∷ other_slot ∷ 0x02000058 ∷ 0x00FFFFF2 ∷ [])

@@ -18,7 +18,7 @@ chunk_of slot = movable (replicate 24 0) 0 1 slot
 abbrev pub locked_of : ℕ → Chunk
 locked_of slot = movable (replicate 24 0) 1 1 slot
 
--- the same with so many zeros
+-- the same with `count` zeros
 abbrev pub zeros_of : ℕ → ℕ → Chunk
 zeros_of count slot = movable (replicate count 0) 0 1 slot
 
@@ -30,11 +30,11 @@ one_between = three_chunks (0 ∷ 0x48 ∷ 0 ∷ []) (0x80000020 ∷ 0 ∷ []) (
 abbrev pub locked_between : List ℕ
 locked_between = three_chunks (0 ∷ 0x48 ∷ 0 ∷ []) (0x80000020 ∷ 0 ∷ []) (0x20 ∷ 0x11FFFFEA ∷ []) (0x80000020 ∷ 0 ∷ [])
 
--- the same, with the chunk in front and the free bytes behind it in two chunks
+-- the same, with the chunk first and the free bytes after it in two chunks
 abbrev pub one_in_front : List ℕ
 one_in_front = three_chunks (0 ∷ 0x28 ∷ 0 ∷ []) (0x20 ∷ 0x01FFFFFA ∷ []) (0x80000020 ∷ 0 ∷ []) (0x80000020 ∷ 0 ∷ [])
 
--- two chunks behind a free one
+-- two chunks after a free one
 abbrev pub two_behind : List ℕ
 two_behind = three_chunks (0 ∷ 0x48 ∷ 0x68 ∷ []) (0x80000020 ∷ 0 ∷ []) (0x20 ∷ 0x01FFFFEA ∷ []) (0x20 ∷ 0x01FFFFDC ∷ [])
 
@@ -42,11 +42,11 @@ two_behind = three_chunks (0 ∷ 0x48 ∷ 0x68 ∷ []) (0x80000020 ∷ 0 ∷ [])
 abbrev pub two_about : List ℕ
 two_about = three_chunks (0x28 ∷ 0x68 ∷ 0 ∷ []) (0x20 ∷ 0x11FFFFF8 ∷ []) (0x80000020 ∷ 0 ∷ []) (0x20 ∷ 0x01FFFFDA ∷ [])
 
--- the numbers from one on, so many of them
+-- `count` numbers, from the given one on
 abbrev pub counted : ℕ → ℕ → List ℕ
 counted from zero = []
 counted from (suc count) = from ∷ counted (from + 1) count
 
--- a chunk of 80 bytes behind a free one of 8, over which it slides into its own bytes
+-- a chunk of 80 bytes after a free one of 8, over which it slides into its own bytes
 abbrev pub behind_a_little : List ℕ
 behind_a_little = words (0x50484931 ∷ 128 ∷ 0x00040000 ∷ 0 ∷ 0x30 ∷ 0 ∷ 0 ∷ 0 ∷ 0x80000008 ∷ 0 ∷ 0x58 ∷ 0x01FFFFF4 ∷ []) ++ counted 0 80

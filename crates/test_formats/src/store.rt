@@ -1,6 +1,6 @@
-//! The format of a store and of files: the definitions of databases and of files, on images and files; headers
-//! and entries; what is wrong with files, and where their blocks stand; fresh IDs, and those that records of
-//! files are given; and what the checker of stores finds.
+//! The format of a store and of files: the definitions of databases and of files, on images and
+//! files; headers and entries; what is wrong with files, and where their blocks stand; fresh IDs,
+//! and those that records of files are given; and what the checker of stores finds.
 //!
 //! A file's header and entries are spelled as a database's in a heap, with offsets for slots.
 

@@ -11,9 +11,9 @@ use std::test::*;
 use test_beside::{Verdict, agreed_verdict, image_of, store_of};
 use test_support::{DATABASE, bytes_of, equal};
 
-/// Calls on chunks, databases, records and resources, each with its reply on the image as it is. They ask of the
-/// database, its records and their data, change them and delete it, and then make another, of
-/// resources, with chunks of callers beside it.
+/// Calls on chunks, databases, records and resources, each with its reply on the image as it is.
+/// They ask of the database, its records and their data, change them and delete it, and then make
+/// another, of resources, with chunks of callers next to it.
 static CALLS: [(&str, &str); 82] = [
     ("find d \"R\"", "ok"),
     ("nth d 0", "ok"),
@@ -127,7 +127,7 @@ fn replies(alloc: Global, calls: &[(&str, &str)]) -> Result<String, Fail> {
     Ok(text)
 }
 
-/// Runs calls on a store, and answers what they print. What they leave is a store.
+/// Runs calls on a store, and returns what they print. What they leave is a store.
 fn run_on(alloc: Global, mut store: Store, calls: &Script<'_>) -> Result<Vec<u8>, Fail>
     requires { store.lent ≡ None }
 {
@@ -171,9 +171,9 @@ fn calls_are_answered_on_the_image_as_it_is(rt: HostRuntime) -> Result<(), Fail>
 /// Ranges of bytes, and with how many values of each byte of a range the image is accepted, by what
 /// docs/FORMAT.md says of these bytes. Every other byte has one.
 static VALUES: [(usize, usize, usize); 22] = [
-    // 8 slots or 7, where the place of the eighth has the zeros behind them
+    // 8 slots or 7, where the place of the eighth has the zeros after them
     (9, 10, 2),
-    // what is behind the number in the directory
+    // what is after the number in the directory
     (60, 64, 256),
     // the name, of one character or two
     (72, 73, 255),
@@ -189,7 +189,7 @@ static VALUES: [(usize, usize, usize); 22] = [
     (157, 158, 254),
     (162, 165, 256),
     (165, 166, 254),
-    // what is behind the last one
+    // what is after the last one
     (166, 168, 256),
     // of the chunks with their data the length, the locks and the bytes
     (168, 169, 8),
@@ -247,7 +247,7 @@ fn takes_value(
     Ok(is_taken)
 }
 
-/// Sets a byte of an image to each value. It is accepted with so many of them.
+/// Sets a byte of an image to each value. It is accepted with the given number of them.
 fn check_byte(
     alloc: Global,
     image: &[u8],

@@ -1,5 +1,5 @@
-//! Each growth of a command, and of a line for what is refused, is refused in turn: that is what it says, and nothing
-//! was written.
+//! Each allocation of a command, and of a line for what is refused, fails in turn: that is what it
+//! says, and nothing was written.
 
 use crate::stores::{WRITTEN, input_files};
 use chunk_format::BlankFault;
@@ -130,7 +130,7 @@ fn migrate_with(
     Ok(cmd_migrate_from(memory, &image, &mut outputs.image, &mut outputs.text))
 }
 
-/// How many growths each has, and its status where none is refused.
+/// The number of allocations of each, and its status if none fails.
 static TRIALS: [(Trial, u32, Status); 12] = [
     (Trial::New(128), 1, Status::Done),
     (Trial::New(100), 2, Status::BadWords),
@@ -150,7 +150,7 @@ static TRIALS: [(Trial, u32, Status); 12] = [
     (Trial::BadLine, 2, Status::Refused),
 ];
 
-/// What a command comes to where a growth behind so many is refused, or none is.
+/// The outcome of a command if the allocation after the given number fails, or none does.
 fn check_behind(
     alloc: Global,
     number: usize,

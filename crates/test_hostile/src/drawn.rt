@@ -13,8 +13,8 @@ use test_beside::{Beside, Counts, image_of, store_of};
 use test_model::Image;
 use test_support::equal;
 
-/// The list so far. Its calls were done one by one on a store next to the plain model, since what can be named depends
-/// on the calls before. Nothing is lent of the store.
+/// The list so far. Its calls were done one by one on a store next to the plain model, since what
+/// can be named depends on the calls before. Nothing is lent of the store.
 #[derive(Drop)]
 pub(crate) struct Drawn {
     /// The image that the list begins with.
@@ -24,7 +24,8 @@ pub(crate) struct Drawn {
     replies: Vec<Reply>,
     beside: Beside,
     store: Store,
-    /// Chunks that were locked or fixed behind each call since the list was run last, and where they were then.
+    /// Chunks that were locked or fixed after each call since the list was run last, and where they
+    /// were then.
     staying: Vec<(Name, Place)>,
 }
 
@@ -55,7 +56,7 @@ impl Drawn {
         })
     }
 
-    /// Draws so many calls more.
+    /// Draws the given number of further calls.
     pub(crate) fn draw(
         &mut self,
         alloc: Global,
@@ -94,15 +95,16 @@ impl Drawn {
         Ok(())
     }
 
-    /// Runs the list as a whole, from the image that it begins with. It must be answered as by the model, call by
-    /// call.
+    /// Runs the list as a whole, from the image that it begins with. Its replies must be those of
+    /// the model, call by call.
     pub(crate) fn check_run(&mut self, alloc: Global) -> Result<(), Fail> {
         let (replies, image) = run_from(alloc, &self.start, &self.calls)?;
         self.check_replies(&replies)?;
         self.check_left(alloc, &image)
     }
 
-    /// What the list leaves must be accepted and mean the model's store, with each chunk that stayed in its place.
+    /// What the list leaves must be accepted and mean the model's store, with each chunk that
+    /// stayed in its place.
     fn check_left(&mut self, alloc: Global, image: &[u8]) -> Result<(), Fail> {
         self.beside.check_meant(alloc, image)?;
         self.check_places(alloc, &Image::decode(alloc, image)?)
@@ -120,7 +122,8 @@ impl Drawn {
         Ok(())
     }
 
-    /// Each chunk that stayed must be in its place. From here on those count that are locked or fixed now.
+    /// Each chunk that stayed must be in its place. From here on those count that are locked or
+    /// fixed now.
     fn check_places(&mut self, alloc: Global, image: &Image) -> Result<(), Fail> {
         for (name, place) in &self.staying {
             equal(

@@ -1,5 +1,5 @@
-//! Files of databases: each byte of one is set to each other value, and ends are missing. Each is read into a store
-//! as a plain model says, and what that leaves is a store.
+//! Files of databases: each byte of one is set to each other value, and ends are missing. Each is
+//! read into a store as a plain model says, and what that leaves is a store.
 
 use crate::bytes::with_byte;
 use heap_model::{Bytes, Call, FileCall, FileFault, Refusal, Reply};
@@ -8,7 +8,8 @@ use std::test::*;
 use test_beside::{Beside, blank_image, store_of};
 use test_support::{ORDER_FILE, TINY_FILE, bytes_of, equal};
 
-/// Reads a file into a store of 1,024 bytes without databases, and answers the reply, which must be the plain model's.
+/// Reads a file into a store of 1,024 bytes without databases, and returns the reply, which must be
+/// the plain model's.
 fn read(alloc: Global, spot: &str, file: Vec<u8>) -> Result<Reply, Fail> {
     let mut beside = Beside::new(alloc, blank_image(alloc, 1024, 16)?)?;
     let call = Call::File(FileCall::Import(Bytes::of(file)));
@@ -50,7 +51,7 @@ fn every_byte_of_a_file_of_resources_has_every_value(rt: HostRuntime) -> Result<
     check_bytes(rt.alloc(), TINY_FILE)
 }
 
-/// What is wrong with the first so many bytes of the file of records.
+/// The fault of the first `length` bytes of the file of records.
 fn fault_of_length(length: usize) -> Option<FileFault> {
     match length {
         0..102 => Some(FileFault::Truncated),

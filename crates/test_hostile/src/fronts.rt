@@ -11,7 +11,7 @@ const SCRIPT: &str = "create d \"Notes\" \"DATA\" \"Test\" 0 5\nrecnew d 0 4 r\n
     catcount d 3\ncatcount d 16\ncatnext d 0 3\ncatpos d 1 255\nrecget d 0 h\ncatmove d 5 3 1\n\
     recinfo d 1\ncatdelete d 5\nrecinfo d 1\ndbinfo d\n";
 
-/// Whether a front of the script is read, by its whole lines and the one that it breaks off.
+/// Whether a prefix of the script is read, by its whole lines and the one that it breaks off.
 fn is_read(alloc: Global, front: &[u8]) -> bool {
     let whole = front.iter().filter(|byte| **byte == b'\n').count();
     let is_whole = front.is_empty() || front.ends_with(b"\n");
@@ -33,7 +33,7 @@ fn check_front(alloc: Global, length: usize) -> Result<(), Fail> {
     holds(format_args!("{length} bytes"), is_read(alloc, front))
 }
 
-/// What is in front of the line that breaks off is read, and that line alone may be bad.
+/// What is before the line that breaks off is read, and that line alone may be bad.
 #[test]
 fn every_front_of_a_script_is_read(rt: HostRuntime) -> Result<(), Fail> {
     for length in 0..=SCRIPT.len() {

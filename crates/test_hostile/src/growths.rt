@@ -1,5 +1,5 @@
-//! Each growth is refused in turn: want of memory is answered where one was, and nothing was done then; and nowhere
-//! else.
+//! Each allocation fails in turn. Out of memory is reported if one failed, and only then, and
+//! nothing was done.
 
 ghost use Rattle.std.specs.Prelude.{◌≡◌, IfOk, IfErr, None};
 ghost use Rattle.palm_script.specs.Headline.{HandsBack};
@@ -29,7 +29,7 @@ use test_support::{
 /// Lines on the image with one chunk.
 const BOUND: &str = "bind a 16\nsize a\nowner a\n";
 
-/// A call for which a growth is refused.
+/// A call for which an allocation fails.
 enum Trial {
     /// A region of zeros.
     Zeros,
@@ -56,9 +56,9 @@ enum Trial {
 /// What came of a call.
 #[derive(Drop)]
 enum Came {
-    /// Want of memory. A growth was refused, and all is as it was.
+    /// Out of memory. An allocation failed, and all is as it was.
     NoMemory,
-    /// No want of memory, and no growth was refused.
+    /// Not out of memory, and no allocation failed.
     Done,
     /// Something else.
     Odd,
@@ -86,7 +86,7 @@ fn check_with(memory: &RefusesOne, alloc: Global, listing: &str, text: &str) -> 
     check_image_with(memory, alloc, &image_of(alloc, &store)?)
 }
 
-/// The region is handed back as it was.
+/// The region is returned as it was.
 fn check_image_with(memory: &RefusesOne, alloc: Global, image: &[u8]) -> Result<Came, Fail> {
     match Store::check_from(memory, Region::from_bytes(alloc, image)?) {
         Ok(_) => Ok(outcome(memory, false, true)),
@@ -182,7 +182,7 @@ fn run_list(memory: &RefusesOne, region: Region) -> Result<(Store, Vec<Reply>), 
     check_and_run_from(memory, region, &calls_in_list())
 }
 
-/// The region is handed back as it was, and so is the store.
+/// The region is returned as it was, and so is the store.
 fn checked_list_with(memory: &RefusesOne, alloc: Global) -> Result<Came, Fail> {
     let image = bytes_of(alloc, BLANK)?;
     match run_list(memory, Region::from_bytes(alloc, &image)?) {
@@ -199,7 +199,7 @@ fn checked_list_with(memory: &RefusesOne, alloc: Global) -> Result<Came, Fail> {
     }
 }
 
-/// Does a call on a store; where memory is refused it must be as it was.
+/// Does a call on a store; where an allocation fails it must be as it was.
 fn call_with(
     memory: &RefusesOne,
     alloc: Global,
@@ -244,7 +244,7 @@ fn export_with(memory: &RefusesOne, alloc: Global, listing: &str) -> Result<Came
     call_with(memory, alloc, store, &Call::File(FileCall::Export(db)))
 }
 
-/// What comes of a call where a growth behind so many is refused.
+/// The outcome of a call if the allocation after the given number fails.
 fn tried_behind(alloc: Global, trial: &Trial, before: u32) -> Result<Came, Fail> {
     let memory = RefusesOne::behind(alloc, before);
     tried(&memory, alloc, trial)
@@ -265,7 +265,7 @@ fn tried(memory: &RefusesOne, alloc: Global, trial: &Trial) -> Result<Came, Fail
     }
 }
 
-/// Calls, and how many growths each has.
+/// Calls, and the number of allocations of each.
 static TRIALS: [(Trial, u32); 23] = [
     (Trial::Zeros, 1),
     (Trial::Copy, 1),
@@ -292,7 +292,7 @@ static TRIALS: [(Trial, u32); 23] = [
     (Trial::Export(TINY_FILE), 1),
 ];
 
-/// Whether none is refused behind so many growths; else there must be want of memory.
+/// Whether no allocation fails after the given number of them; else there must be "out of memory".
 fn is_done(alloc: Global, number: usize, trial: &Trial, before: u32) -> Result<bool, Fail> {
     match tried_behind(alloc, trial, before)? {
         Came::Done => Ok(true),
@@ -301,7 +301,7 @@ fn is_done(alloc: Global, number: usize, trial: &Trial, before: u32) -> Result<b
     }
 }
 
-/// A call has so many growths: behind these none is refused.
+/// A call has the given number of allocations: after these none fails.
 fn check_growths(alloc: Global, number: usize, trial: &Trial, growths: u32) -> Result<(), Fail> {
     for before in 0..=growths {
         let is_right = is_done(alloc, number, trial, before)? == (before == growths);
@@ -318,8 +318,8 @@ fn each_growth_is_refused_in_turn(rt: HostRuntime) -> Result<(), Fail> {
     Ok(())
 }
 
-/// The growths of the run of the lines that import and export a file are refused in turn: behind how many, and
-/// what is printed then. Want of memory in front of the first line is none of these.
+/// The allocations of the run of the lines that import and export a file fail in turn: after how
+/// many, and what is printed then. Out of memory before the first line is none of these.
 static CARRIED_SAID: [(u32, &str); 6] = [
     (4, WITHOUT_IMPORT),
     (5, WITHOUT_IMPORT),
@@ -341,7 +341,7 @@ static CARRIED_SAID: [(u32, &str); 6] = [
 const WITHOUT_IMPORT: &str =
     "refused 26 OutOfMemory\nrefused 10 NoSuchDatabase\nok\nrefused 25 BadFile Truncated\n";
 
-/// What those lines print where a growth behind so many is refused.
+/// What those lines print if the allocation after the given number fails.
 fn carried(alloc: Global, before: u32) -> Result<Vec<u8>, Fail> {
     let mut store = listed_store(alloc, WIDE)?;
     let memory = RefusesOne::behind(alloc, before);
@@ -360,7 +360,7 @@ fn check_carried(alloc: Global, before: u32, text: &str) -> Result<(), Fail> {
     )
 }
 
-/// In front of the first of those lines want of memory ends the run, and nothing was done.
+/// Before the first of those lines "out of memory" ends the run, and nothing was done.
 fn check_not_begun(alloc: Global, before: u32) -> Result<(), Fail> {
     let memory = RefusesOne::behind(alloc, before);
     let came = run_with(&memory, alloc, WIDE, CARRIED)?;
@@ -370,7 +370,8 @@ fn check_not_begun(alloc: Global, before: u32) -> Result<(), Fail> {
     )
 }
 
-/// In a run, an import or an export for which memory is refused is refused, and the lines behind it follow.
+/// In a run, an import or an export for which an allocation fails is refused, and the lines after
+/// it follow.
 #[test]
 fn a_run_goes_on_behind_a_file_that_has_no_memory(rt: HostRuntime) -> Result<(), Fail> {
     for before in 0..4 {
@@ -382,7 +383,7 @@ fn a_run_goes_on_behind_a_file_that_has_no_memory(rt: HostRuntime) -> Result<(),
     Ok(())
 }
 
-/// The number of a refusal, and 0 where there is none.
+/// The number of a refusal, and 0 if there is none.
 fn number_of(reply: &Reply) -> u8 {
     match reply {
         Reply::Refused(refusal) => refusal.number(),
@@ -404,7 +405,7 @@ fn files_in_list(alloc: Global) -> Result<[Call; 4], Fail> {
     ])
 }
 
-/// The replies to that list where a growth behind so many is refused.
+/// The replies to that list if the allocation after the given number fails.
 fn listed(alloc: Global, before: u32) -> Result<Vec<Reply>, Fail> {
     let calls = files_in_list(alloc)?;
     let mut store = listed_store(alloc, WIDE)?;
@@ -415,7 +416,8 @@ fn listed(alloc: Global, before: u32) -> Result<Vec<Reply>, Fail> {
     }
 }
 
-/// How many growths of that list are granted before one is refused, and the numbers of the refusals then.
+/// How many allocations of that list are granted before one is refused, and the numbers of the
+/// refusals then.
 static LISTED: [(u32, [u8; 4]); 13] = [
     (1, [26, 10, 1, 0]),
     (2, [26, 10, 1, 0]),

@@ -1,5 +1,6 @@
-//! Tests of hostile use: memory that is refused at each growth in turn, writers that fail behind each byte,
-//! bytes of images and of files that are damaged, images and scripts at their limits, and long lists of calls.
+//! Tests of hostile use: allocations that fail one by one, writers that fail after
+//! each byte, bytes of images and of files that are damaged, images and scripts at their limits,
+//! and long lists of calls.
 //!
 //! This crate has no code but its tests.
 #![tactic(auto)]

@@ -1,4 +1,4 @@
-//! Images and scripts at their limits: no want of memory is invented for them.
+//! Images and scripts at their limits: no "out of memory" is invented for them.
 
 ghost use Rattle.std.specs.Prelude.{◌≡◌, IfOk, None};
 
@@ -65,8 +65,8 @@ fn an_empty_script_runs_on_the_largest_image(rt: HostRuntime) -> Result<(), Fail
     check_empty_script(rt.alloc(), 65_535)
 }
 
-/// What `check` says of an image of the most bytes and slots whose last slot is that of a chunk with an owner and no
-/// byte.
+/// What `check` says of an image of the most bytes and slots whose last slot is that of a chunk
+/// with an owner and no byte.
 fn said_of_owned(alloc: Global, owner: u32) -> Result<(Status, String), Fail> {
     let words = [
         (262_152, 262_168),
@@ -156,7 +156,7 @@ fn length_of(reply: &Reply) -> Option<usize> {
     }
 }
 
-/// A list of 100,000 calls is run, and each is answered.
+/// A list of 100,000 calls is run, and each has a reply.
 #[test]
 fn a_hundred_thousand_calls_are_done(rt: HostRuntime) -> Result<(), Fail> {
     let mut store = store_of(rt.alloc(), &blank_image(rt.alloc(), 128, 4)?)?;
@@ -169,7 +169,7 @@ fn a_hundred_thousand_calls_are_done(rt: HostRuntime) -> Result<(), Fail> {
     holds("replies", replies.len() == 100_000 && is_right)
 }
 
-/// A file with one record, which has so many bytes.
+/// A file with one record, which has the given number of bytes.
 fn file_of_one(alloc: Global, size: usize) -> Result<Vec<u8>, Fail> {
     let mut file = bytes_of(alloc, EMPTY_FILE)?;
     file.truncate(76);
@@ -189,7 +189,8 @@ fn ten_million_bytes_are_imported(rt: HostRuntime) -> Result<(), Fail> {
     holds("file", out.into_inner().as_slice() == file.as_slice())
 }
 
-/// A script as long as an input file may be: lines of 4,096 bytes that are passed over, and one behind them.
+/// A script as long as an input file may be: lines of 4,096 bytes that are passed over, and one
+/// after them.
 fn longest(alloc: Global) -> Result<String, AllocError> {
     let lines = long_line(alloc)?.as_str().repeat(alloc, 4_095)?;
     let empty_lines = "\n".repeat(alloc, 4_086)?;
@@ -210,7 +211,8 @@ fn the_longest_script_runs(rt: HostRuntime) -> Result<(), Fail> {
     holds("the line behind them", is_run)
 }
 
-/// So many lines that bind as many labels of databases, and then two that use the first and the last.
+/// The given number of lines that bind as many labels of databases, and then two that use the first
+/// and the last.
 fn labels(alloc: Global, count: u32) -> Result<String, AllocError> {
     let mut script = String::from_str(alloc, "create d0 \"A\" \"DATA\" \"Test\" 0 5\n")?;
     for number in 1..count {
@@ -220,7 +222,7 @@ fn labels(alloc: Global, count: u32) -> Result<String, AllocError> {
     Ok(script)
 }
 
-/// Each line is answered, the last two by how many records there are.
+/// Each line has a reply, and the last two give the number of records.
 fn are_answered(ran: &Ran) -> bool {
     let lines = ran.said.iter().filter(|byte| **byte == b'\n').count();
     ran.status == Status::Done && ran.said.ends_with(b"\nok\nok 0\nok 0\n") && lines == 1027

@@ -7,7 +7,8 @@ use std::test::*;
 use test_beside::{Counts, MIXED, OUTCOMES, blank_image, chained_image};
 use test_support::{DATABASE, TWO_DATABASES, bytes_of, equal};
 
-/// Draws the list that a seed gives, in parts of so many calls. Behind each part the whole list so far is run.
+/// Draws the list that a seed gives, in parts of the given number of calls. After each part the
+/// whole list so far is run.
 fn check_list(
     alloc: Global,
     counts: &mut Counts,
@@ -24,8 +25,8 @@ fn check_list(
     Ok(())
 }
 
-/// What a list starts from: a blank image of so many bytes and slots, with one table or with a chain of them, or a
-/// listed one with databases.
+/// What a list starts from: a blank image of the given numbers of bytes and slots, with one table
+/// or with a chain of them, or a listed one with databases.
 enum Start {
     Blank(u32, u16),
     Chained(u32, u16),
@@ -68,7 +69,8 @@ fn check_lists(
     Ok(())
 }
 
-/// Lists of 40 calls, of which each front from 30 calls on is run, so that what holds behind one call is seen.
+/// Lists of 40 calls, of which each prefix from 30 calls on is run, so that what holds after one
+/// call is seen.
 static LAST_FRONTS: [u32; 11] = [30, 1, 1, 1, 1, 1, 1, 1, 1, 1, 1];
 
 #[test]

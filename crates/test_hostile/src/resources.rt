@@ -46,12 +46,12 @@ static CALLS: [(&str, &str); 27] = [
     ("freebytes", "ok 160"),
 ];
 
-/// Ranges of bytes, and with how many values of each byte of a range the image is accepted. Every other byte
-/// has one.
+/// Ranges of bytes, and with how many values of each byte of a range the image is accepted. Every
+/// other byte has one.
 static VALUES: [(usize, usize, usize); 20] = [
-    // 8 slots or 7, where the place of the eighth has the zeros behind them
+    // 8 slots or 7, where the place of the eighth has the zeros after them
     (9, 10, 2),
-    // what is behind the number in the directory
+    // what is after the number in the directory
     (60, 64, 256),
     // the name, of one character or two
     (72, 73, 255),
@@ -65,7 +65,7 @@ static VALUES: [(usize, usize, usize); 20] = [
     // of each resource the type and the ID
     (150, 156, 256),
     (160, 166, 256),
-    // what is behind the last one
+    // what is after the last one
     (170, 176, 256),
     // of the chunks with their data the length, the locks and the bytes
     (176, 177, 8),

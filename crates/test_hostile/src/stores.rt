@@ -1,4 +1,4 @@
-//! Stores behind scripts and files, and the scripts and files.
+//! Stores after scripts and files, and the scripts and files.
 
 ghost use Rattle.std.specs.Prelude.{◌≡◌, IfOk, None};
 
@@ -37,7 +37,7 @@ pub(crate) fn listed_store(alloc: Global, listing: &str) -> Result<Store, Fail>
     store_of(alloc, &bytes_of(alloc, listing)?)
 }
 
-/// The store of a listed image behind a script, and what that printed.
+/// The store of a listed image after a script, and what that printed.
 pub(crate) fn store_behind(
     alloc: Global,
     listing: &str,
@@ -61,7 +61,7 @@ fn printed(alloc: Global, store: &mut Store, text: &str) -> Result<Vec<u8>, Fail
     }
 }
 
-/// Runs a script on a store, and answers why the run ended early, if it did.
+/// Runs a script on a store, and returns why the run ended early, if it did.
 pub(crate) fn ran<W: Write>(
     alloc: Global,
     store: &mut Store,

@@ -3,8 +3,9 @@
 use crate::bytes::{check_bytes, check_replies};
 use std::test::*;
 
-/// 216 bytes with four slots, in the order of the chain: 16 of the directory, 52 of an info block, 56 of the database,
-/// and 36 of a record's data. The second table is at 48 and the third at 32, before it by its offset.
+/// 216 bytes with four slots, in the order of the chain: 16 of the directory, 52 of an info block,
+/// 56 of the database, and 36 of a record's data. The second table is at 48 and the third at 32,
+/// before it by its offset.
 const TABLES: &str = "50484932 000000D8 0001 0000 00000010 00000048 00000030 \
     00000010 F0000000 00000000 000000C0 04000018 F0000000 00000020 000000D0 00000058 00*4 \
     04000010 00FFFFE8 00000038 00*4 02000068 00FFFFF4 \
@@ -12,7 +13,8 @@ const TABLES: &str = "50484932 000000D8 0001 0000 00000010 00000048 00000030 \
     00000024 00 000001 00000000 80 000002 00*2 \
     00000010 0FFFFFB6 4141414141414141 00000008 0FFFFFB6 80000008 00*4";
 
-/// Calls on what it holds, each with its reply on the image as it is. All slots are in use at first.
+/// Calls on what it holds, each with its reply on the image as it is. All slots are in use at
+/// first.
 static CALLS: [(&str, &str); 31] = [
     ("find d \"R\"", "ok"),
     ("recinfo d 0", "ok 00 1 data"),
@@ -49,13 +51,13 @@ static CALLS: [(&str, &str); 31] = [
     ("freebytes", "ok 72"),
 ];
 
-/// Ranges of bytes, and with how many values of each byte of a range the image is accepted. Every other byte
-/// has one.
+/// Ranges of bytes, and with how many values of each byte of a range the image is accepted. Every
+/// other byte has one.
 static VALUES: [(usize, usize, usize); 22] = [
-    // the second table has two slots, or a third with the zeros behind them
+    // the second table has two slots, or a third with the zeros after them
     (40, 41, 2),
     (60, 64, 256),
-    // what is behind the number in the directory
+    // what is after the number in the directory
     (76, 80, 256),
     // the name, of one character or two
     (88, 89, 255),
@@ -66,13 +68,14 @@ static VALUES: [(usize, usize, usize); 22] = [
     // version, dates, modification number; type, creator, seed
     (122, 140, 256),
     (148, 160, 256),
-    // of the first record the attributes and the ID, of the second all attributes but that it is deleted
+    // of the first record the attributes and the ID, of the second all attributes but that it is
+    // deleted
     (170, 173, 256),
     (173, 174, 254),
     (178, 179, 128),
     (179, 181, 256),
     (181, 182, 254),
-    // what is behind the last one
+    // what is after the last one
     (182, 184, 256),
     // of the chunk with the record's data the length, the locks and the bytes
     (184, 185, 8),

@@ -1,5 +1,5 @@
-//! Each write fails in turn: what was written is a front of what was to be, nothing is written behind it, and what a
-//! run did is what the lines did whose reply was begun.
+//! Each write fails in turn: what was written is a prefix of what was to be, nothing is written
+//! after it, and what a run did is what the lines did whose reply was begun.
 
 ghost use Rattle.std.specs.Prelude.{◌≡◌};
 
@@ -39,8 +39,8 @@ fn narrow(alloc: Global, (room, (step, when_full)): Cut) -> Counted<Narrow> {
     Counted::new(Narrow::new(alloc, room, step, when_full))
 }
 
-/// Whether a writer with room for so many bytes took a front of these, nothing came behind the fault, and the fault
-/// was answered just where there was one.
+/// Whether a writer with room for the given number of bytes took a prefix of these, nothing came
+/// after the fault, and the fault was reported exactly if there was one.
 fn is_cut(out: &Narrow, whole: &[u8], room: usize, is_written: bool) -> bool {
     let taken = out.taken.as_slice();
     if room < whole.len() {
@@ -50,7 +50,7 @@ fn is_cut(out: &Narrow, whole: &[u8], room: usize, is_written: bool) -> bool {
     }
 }
 
-/// What writes, of which a writer takes a front.
+/// What writes, of which a writer takes a prefix.
 #[derive(Clone, Copy)]
 enum Trial<'a> {
     /// A store writes its image.
@@ -59,15 +59,15 @@ enum Trial<'a> {
     File(&'a Store, Db),
     /// `check` prints what it says of an image.
     Check(&'a [u8]),
-    /// A script on a listed image prints its replies; the images are those behind its first lines.
+    /// A script on a listed image prints its replies; the images are those after its first lines.
     Run(&'a str, &'a str, &'a [Vec<u8>]),
     /// `new` writes the image.
     NewImage,
-    /// `new` prints its line behind this image.
+    /// `new` prints its line after this image.
     NewLine(&'a [u8]),
     /// The command `run` prints the replies to the lines on files.
     CommandText,
-    /// The command `run` writes the image that these lines leave, behind these replies.
+    /// The command `run` writes the image that these lines leave, after these replies.
     CommandImage(&'a [u8]),
 }
 
@@ -99,7 +99,7 @@ fn check_cut(
     holds(format_args!("{spot}: {cut:?}"), is_right)
 }
 
-/// Cuts a trial behind each byte up to so many, each way.
+/// Cuts a trial after each byte up to `most`, each way.
 fn check_cuts(
     alloc: Global,
     spot: &str,
@@ -168,8 +168,8 @@ fn a_file_is_cut_behind_each_byte(rt: HostRuntime) -> Result<(), Fail> {
     Ok(())
 }
 
-/// Whether the output of a script on a listed image is cut, and the store has the image behind the line whose reply
-/// breaks off.
+/// Whether the output of a script on a listed image is cut, and the store has the image after the
+/// line whose reply breaks off.
 fn run_is_cut(
     alloc: Global,
     (listing, text): (&str, &str),
@@ -198,7 +198,7 @@ fn cut_run(
     Ok((fault, out.into_inner()))
 }
 
-/// Whether a store has the image behind the line in which this output breaks off.
+/// Whether a store has the image after the line in which this output breaks off.
 fn is_behind(alloc: Global, store: &Store, images: &[Vec<u8>], taken: &[u8]) -> Result<bool, Fail> {
     match images.get(line_count(taken).saturating_add(1)) {
         Some(image) => has_image(alloc, store, image),
@@ -211,7 +211,7 @@ fn line_count(text: &[u8]) -> usize {
     text.iter().filter(|byte| **byte == b'\n').count()
 }
 
-/// The images behind the first lines of a script, none of them first.
+/// The images after the first lines of a script, none of them first.
 fn images_behind(alloc: Global, listing: &str, text: &str) -> Result<Vec<Vec<u8>>, Fail> {
     let mut front = String::new(alloc);
     let mut images = Vec::new(alloc);
@@ -235,7 +235,8 @@ const BOTH_WAYS: &str = "import d 2\nrecinfo d 0\nexport d\nimport e 3\nresremov
 
 static RUNS: [(&str, &str); 3] = [(BLANK, WRITTEN), (WIDE, CARRIED), (WIDE, BOTH_WAYS)];
 
-/// Cuts the output of a script behind each byte. The line whose reply breaks off was done, and none behind it.
+/// Cuts the output of a script after each byte. The line whose reply breaks off was done, and none
+/// after it.
 fn check_run(alloc: Global, listing: &str, text: &str) -> Result<(), Fail> {
     let images = images_behind(alloc, listing, text)?;
     let (_, said) = store_behind(alloc, listing, text)?;
@@ -278,7 +279,8 @@ fn what_check_prints_is_cut_behind_each_byte(rt: HostRuntime) -> Result<(), Fail
     Ok(())
 }
 
-/// Whether `new` is cut where its outputs have room for so many bytes: the line follows the image.
+/// Whether `new` is cut where its outputs have room for the given number of bytes: the line follows
+/// the image.
 fn new_is_cut(alloc: Global, image: &[u8], image_room: usize, room: usize, way: Way) -> bool {
     let (mut image_out, mut out) = (narrow(alloc, (image_room, way)), narrow(alloc, (room, way)));
     let status = cmd_new(alloc, 128, 4, &mut image_out, &mut out);
@@ -299,8 +301,8 @@ fn what_new_writes_is_cut_behind_each_byte(rt: HostRuntime) -> Result<(), Fail> 
     check_cuts(rt.alloc(), "line", Trial::NewLine(&image), b"ok\n", 3)
 }
 
-/// What the command `run` writes with the lines on files, where its outputs have room for so many bytes, and how
-/// many files there are.
+/// What the command `run` writes with the lines on files, where its outputs have room for the given
+/// number of bytes, and how many files there are.
 #[derive(Drop)]
 struct Ended {
     image: Narrow,

@@ -1,4 +1,4 @@
-//! Calls on a heap, and on a plain map of chunks beside it.
+//! Calls on a heap, and on a plain map of chunks next to it.
 
 mod adopted;
 mod beside;

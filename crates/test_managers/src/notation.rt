@@ -23,7 +23,8 @@ pub(crate) fn check_reply<D: Display + Drop>(
     equal(spot, said.as_str(), right)
 }
 
-/// The memory manager's call of a text: a word, numbers, and bytes in hex behind a colon, if there are some.
+/// The memory manager's call of a text: a word, numbers, and bytes in hex after a colon, if there
+/// are some.
 pub(crate) fn memory_call_of(alloc: Global, text: &str) -> Result<MemoryCall, Fail> {
     let (front, digits) = text.split_once(": ").unwrap_or((text, ""));
     let bytes = Bytes::of(hex::decode(alloc, digits)?);
@@ -31,7 +32,7 @@ pub(crate) fn memory_call_of(alloc: Global, text: &str) -> Result<MemoryCall, Fa
     Ok(memory_call(word, &numbers, bytes).ok_or("no call")?)
 }
 
-/// The word that a text begins with, and the numbers behind it.
+/// The word that a text begins with, and the numbers after it.
 pub(crate) fn words_of(alloc: Global, text: &str) -> Result<(&str, Vec<u32>), Fail> {
     let mut words = text.split_whitespace();
     let word = words.next().unwrap_or("");
@@ -51,7 +52,7 @@ fn number_of(word: &str) -> Result<u32, Fail> {
     Ok(u32::from_be_bytes(*letters))
 }
 
-/// The memory manager's call of a word and the numbers and bytes behind it.
+/// The memory manager's call of a word and the numbers and bytes after it.
 fn memory_call(word: &str, numbers: &[u32], bytes: Bytes) -> Option<MemoryCall> {
     match numbers {
         [] => call_alone(word),
@@ -136,7 +137,8 @@ pub(crate) fn as_u8(number: u32) -> u8 {
     u8::try_from(number).unwrap_or(u8::MAX)
 }
 
-/// A reply as text. A heap gives those that are written out here alone; others are as `Debug` has them.
+/// A reply as text. A heap gives those that are written out here alone; others are as `Debug` has
+/// them.
 fn text_of(alloc: Global, reply: &Reply) -> Result<String, AllocError> {
     match reply {
         Reply::Refused(refusal) => format!(in alloc; "refused {refusal:?}"),

@@ -1,4 +1,4 @@
-//! Calls on a store, and on a plain list of databases beside it.
+//! Calls on a store, and on a plain list of databases next to it.
 
 mod calls;
 mod examples;

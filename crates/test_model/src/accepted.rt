@@ -1,4 +1,5 @@
-//! Which heaps are accepted with their databases, and the databases that these have (docs/FORMAT.md).
+//! Which heaps are accepted with their databases, and the databases that these have
+//! (docs/FORMAT.md).
 
 use crate::database::{DELETED, Database, Record};
 use crate::image::{Image, u32_at};
@@ -8,7 +9,7 @@ use std::alloc::{AllocError, Global};
 /// The most databases of a store.
 pub(crate) const MOST_DATABASES: usize = 1024;
 
-/// Why an accepted heap is no accepted store, or that memory was refused.
+/// Why an accepted heap is no accepted store, or that an allocation failed.
 #[derive(Clone, Copy, Debug)]
 pub enum Unaccepted {
     Memory,
@@ -20,8 +21,8 @@ pub enum Unaccepted {
     Record(Db),
     /// A database names this, and it is no chunk of a database's.
     Named(Name),
-    /// The chunk of this name is a database's, and isn't named just once; or it is the manager's, and
-    /// neither the directory nor a header that is listed.
+    /// The chunk of this name is a database's, and isn't named just once; or it is the manager's,
+    /// and neither the directory nor a header that is listed.
     Chunk(Name),
     /// An ID in this database is 0 or stands there twice.
     Id(Db),
@@ -35,8 +36,8 @@ impl From<AllocError> for Unaccepted {
     }
 }
 
-/// The databases of an image, in the order of the directory. Refused where the image isn't accepted with
-/// them.
+/// The databases of an image, in the order of the directory. Refused where the image isn't accepted
+/// with them.
 pub(crate) fn databases_of(alloc: Global, image: &Image) -> Result<Vec<Database>, Unaccepted> {
     let headers = headers_of(alloc, image)?;
     let mut databases = Vec::new(alloc);
@@ -65,7 +66,8 @@ fn add_database(
     }
 }
 
-/// Whether databases and chunks of databases fit together, and the manager's chunks are those of databases.
+/// Whether databases and chunks of databases fit together, and the manager's chunks are those of
+/// databases.
 fn check_owned(
     alloc: Global,
     image: &Image,
@@ -170,8 +172,8 @@ fn check_named(image: &Image, named: &[Name]) -> Result<(), Unaccepted> {
     Ok(())
 }
 
-/// Whether each chunk of databases is named once, and each chunk of the manager's is the directory or a
-/// header.
+/// Whether each chunk of databases is named once, and each chunk of the manager's is the directory
+/// or a header.
 fn check_chunks(image: &Image, headers: &[Name], named: &[Name]) -> Result<(), Unaccepted> {
     for piece in &image.pieces {
         let Some(live) = piece.live else {

@@ -31,7 +31,7 @@ impl Database {
         Err(Refusal::IndexOutOfRange)
     }
 
-    /// How many records of a category stand in front of one.
+    /// How many records of a category stand before one.
     pub(crate) fn position_in_category(&self, index: u32, category: u8) -> Result<Reply, Refusal> {
         let records = self.records_to_count(category)?;
         match records.get(..index as usize) {
@@ -63,7 +63,8 @@ impl Database {
         Ok(Reply::Done)
     }
 
-    /// The records of a category are deleted, all of them or, where the data of one is locked, none.
+    /// The records of a category are deleted, all of them or, where the data of one is locked,
+    /// none.
     pub(crate) fn delete_category(
         &mut self,
         alloc: Global,

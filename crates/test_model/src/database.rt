@@ -5,7 +5,7 @@ use crate::image::{are_zeros, byte_at, u16_at, u32_at, up_to_zero};
 use heap_model::{Db, Name};
 use std::alloc::{AllocError, Global};
 
-/// The bytes in front of the entries.
+/// The bytes before the entries.
 pub(crate) const HEADER_LENGTH: usize = 78;
 
 /// The bit of a database's attributes that says that it has resources.
@@ -54,8 +54,8 @@ pub struct Resource {
     pub data: Name,
 }
 
-/// A database. Its number is the offset of the slot of its header. It has records or resources, by its attributes, and
-/// none of the others.
+/// A database. Its number is the offset of the slot of its header. It has records or resources, by
+/// its attributes, and none of the others.
 #[derive(Drop, PartialEq, Eq)]
 pub struct Database {
     pub db: Db,
@@ -79,7 +79,8 @@ impl Database {
         Ok(Database::of(alloc, db, name, body)?)
     }
 
-    /// The database of a number and a name, of which all else is spelled by a header and its entries.
+    /// The database of a number and a name, of which all else is spelled by a header and its
+    /// entries.
     pub(crate) fn of(
         alloc: Global,
         db: Db,
@@ -107,7 +108,8 @@ impl Database {
         self.records.len().saturating_add(self.resources.len())
     }
 
-    /// The names of all its chunks but its header: of its info blocks, and of the data of its entries.
+    /// The names of all its chunks but its header: of its info blocks, and of the data of its
+    /// entries.
     pub(crate) fn names(&self, alloc: Global) -> Result<Vec<Name>, AllocError> {
         let mut names = Vec::new(alloc);
         self.put_names(&mut names)?;
@@ -177,7 +179,7 @@ pub(crate) fn are_resources(attributes: u16) -> bool {
     attributes & OF_RESOURCES != 0
 }
 
-/// What so many entries take, by the attributes of their database.
+/// The size of the given number of entries, by the attributes of their database.
 pub(crate) fn entries_length(attributes: u16, count: usize) -> usize {
     let length = if are_resources(attributes) {
         RESOURCE_LENGTH
@@ -198,7 +200,7 @@ fn name_of(word: u32) -> Option<Name> {
     if word == 0 { None } else { Some(Name(word)) }
 }
 
-/// The first entries behind a header, as records.
+/// The first entries after a header, as records.
 fn records_in(alloc: Global, count: u16, bytes: &[u8]) -> Result<Vec<Record>, AllocError> {
     let mut records = Vec::new(alloc);
     let mut at = HEADER_LENGTH;

@@ -1,5 +1,5 @@
-//! The calls on databases, each by the words of docs/SCRIPTS.md: its refusals in their order, what it does
-//! and what it answers.
+//! The calls on databases, each by the words of docs/USING.md: its refusals in their order, what it
+//! does and what it returns.
 
 use crate::accepted::MOST_DATABASES;
 use crate::database::{Database, Header, OF_RESOURCES, is_name};
@@ -44,7 +44,7 @@ impl PlainStore {
         }
     }
 
-    /// A database that was made comes behind the others, unless there was no memory for it.
+    /// A database that was made comes after the others, unless there was no memory for it.
     fn create(
         &mut self,
         alloc: Global,
@@ -59,8 +59,8 @@ impl PlainStore {
         self.add(database)
     }
 
-    /// The number of a database that is made, which is that of a free slot. There may be no room for its chunks,
-    /// its header and then these blocks.
+    /// The number of a database that is made, which is that of a free slot. There may be no room
+    /// for its chunks, its header and then these blocks.
     pub(crate) fn number_for(
         &self,
         alloc: Global,
@@ -80,7 +80,7 @@ impl PlainStore {
         Ok(db)
     }
 
-    /// Adds a database behind the others.
+    /// Adds a database after the others.
     pub(crate) fn add(&mut self, database: Database) -> Result<Reply, Refusal> {
         let db = database.db;
         match self.databases.push(database) {
@@ -117,8 +117,8 @@ impl PlainStore {
         }
     }
 
-    /// All that a header says but the modification number, which rises, the seed, and whether the entries
-    /// are resources.
+    /// All that a header says but the modification number, which rises, the seed, and whether the
+    /// entries are resources.
     fn set_info(&mut self, alloc: Global, db: Db, info: &DbInfo) -> Result<Reply, Refusal> {
         self.database(db)?;
         let name = info.name.as_slice();
@@ -212,7 +212,8 @@ impl Database {
     }
 }
 
-/// The number of a new database: that of a reply, if that is of a free slot, or else of the first that is.
+/// The number of a new database: that of a reply, if that is of a free slot, or else of the first
+/// that is.
 fn number_in(before: &Image, reply: &Reply) -> Result<Db, Refusal> {
     let Some(first) = before.first_free_slot() else {
         return Err(Refusal::NotEnoughSpace);
@@ -244,8 +245,8 @@ fn check_room(
     check_parts(alloc, before, &parts)
 }
 
-/// What a new database takes: its header of so many bytes, its blocks, and the directory, which is made with one
-/// slot or takes one more.
+/// What a new database takes: its header of the given number of bytes, its blocks, and the
+/// directory, which is made with one slot or takes one more.
 fn parts_of(
     alloc: Global,
     header: usize,

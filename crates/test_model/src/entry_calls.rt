@@ -1,5 +1,5 @@
-//! What calls on records and on resources have in common: whether a database may be written, how many
-//! entries it may have, and room for one more.
+//! What calls on records and on resources have in common: whether a database may be written, how
+//! many entries it may have, and room for one more.
 
 use crate::database::Database;
 use crate::heap::PlainHeap;
@@ -32,8 +32,8 @@ impl Database {
         Ok(())
     }
 
-    /// The name for the data of a new entry, which takes so many bytes of the header: a free slot. The data may
-    /// find no room, or the header none for one entry more.
+    /// The name for the data of a new entry, which takes the given number of bytes of the header: a
+    /// free slot. The data may find no room, or the header none for one entry more.
     pub(crate) fn name_for_data(
         &self,
         alloc: Global,
@@ -59,8 +59,8 @@ impl Database {
         }
     }
 
-    /// A caller's chunk becomes data of a database, for which the header has one entry more, of so many bytes.
-    /// There may be no room for that.
+    /// A caller's chunk becomes data of a database, for which the header has one entry more, of the
+    /// given number of bytes. There may be no room for that.
     pub(crate) fn take_in(
         &self,
         alloc: Global,

@@ -1,7 +1,7 @@
 //! Files of databases, PDB and PRC, taken apart and put together by their bytes (docs/FORMAT.md).
 //!
-//! The header and the entries of a file are read as those of a heap are, so the names of a database that a file
-//! has are the offsets of its blocks.
+//! The header and the entries of a file are read as those of a heap are, so the names of a database
+//! that a file has are the offsets of its blocks.
 
 use crate::database::{
     DELETED, Database, GREATEST_ID, HEADER_LENGTH, Header, Record, Resource, entries_length,
@@ -13,7 +13,8 @@ use heap_model::{Db, FileFault, Name, Refusal, Which};
 use std::alloc::{AllocError, Global};
 use std::slice::Iter;
 
-/// The database of a file, with the IDs and the attributes that the file has. Refused where the file has a fault.
+/// The database of a file, with the IDs and the attributes that the file has. Refused where the
+/// file has a fault.
 pub(crate) fn database_in(alloc: Global, file: &[u8]) -> Result<Database, Refusal> {
     if file.len() < length_of(file) {
         return Err(Refusal::BadFile(FileFault::Truncated));
@@ -95,8 +96,9 @@ impl Area {
     }
 }
 
-/// The blocks of a file, which begin at these offsets, in their order: AppInfo, SortInfo and the data of the
-/// entries. Each goes up to the next start, and is empty where a later one begins with it.
+/// The blocks of a file, which begin at these offsets, in their order: AppInfo, SortInfo and the
+/// data of the entries. Each goes up to the next start, and is empty where a later one begins with
+/// it.
 pub(crate) fn blocks_in<'a>(
     alloc: Global,
     file: &'a [u8],
@@ -128,7 +130,7 @@ fn next_start(starts: &[Name], start: Name, length: usize) -> usize {
     next
 }
 
-/// One of some names for another, where there is one; 0 behind the last.
+/// One of some names for another, where there is one; 0 after the last.
 fn replaced(name: Option<Name>, names: &mut Iter<Name>) -> Option<Name> {
     match name {
         None => None,
@@ -158,8 +160,8 @@ impl Database {
         }
     }
 
-    /// No record is in use, and each has an ID of its own: the first that has one keeps it, and the others get those
-    /// behind the seed, which has the last of these then.
+    /// No record is in use, and each has an ID of its own: the first that has one keeps it, and the
+    /// others get those after the seed, which has the last of these then.
     pub(crate) fn settle(&mut self) {
         for index in 0..self.records.len() {
             self.clean(index);
@@ -169,7 +171,7 @@ impl Database {
         }
     }
 
-    /// The record of an index isn't in use, and has no ID if one in front of it has the same.
+    /// The record of an index isn't in use, and has no ID if one before it has the same.
     fn clean(&mut self, index: usize) {
         if index >= self.records.len() {
             return;
@@ -201,7 +203,7 @@ impl Database {
         HEADER_LENGTH.saturating_add(entries_length(self.header.attributes, self.entry_count()))
     }
 
-    /// What stands in front of the blocks of its file: the header, the entries and two zeros.
+    /// What stands before the blocks of its file: the header, the entries and two zeros.
     pub(crate) fn front_length(&self) -> usize {
         self.header_length().saturating_add(2)
     }
@@ -220,7 +222,7 @@ impl Database {
 }
 
 impl Header {
-    /// Writes a header in front of the number of entries.
+    /// Writes a header before the number of entries.
     fn put(&self, file: &mut [u8], app_info: u32, sort_info: u32) {
         put_at(file, 0, &self.name);
         let mut at = 32usize;

@@ -1,5 +1,5 @@
-//! The calls on files, each by the words of docs/FORMAT.md: its refusals in their order, what it does and what it
-//! answers.
+//! The calls on files, each by the words of docs/FORMAT.md: its refusals in their order, what it
+//! does and what it returns.
 
 use crate::database::Database;
 use crate::file::{blocks_in, database_in};
@@ -26,7 +26,7 @@ impl PlainStore {
         }
     }
 
-    /// The database of a file, behind the others. Each of its blocks is a chunk under a free slot.
+    /// The database of a file, after the others. Each of its blocks is a chunk under a free slot.
     fn import(
         &mut self,
         alloc: Global,
@@ -107,7 +107,7 @@ impl PlainStore {
         Ok(Reply::Data(Bytes::of(file)))
     }
 
-    /// Adds the bytes of chunks to a file, and answers where they begin.
+    /// Adds the bytes of chunks to a file, and returns where they begin.
     fn put_blocks(
         &self,
         alloc: Global,

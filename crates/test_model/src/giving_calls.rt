@@ -1,5 +1,5 @@
-//! The calls that take a caller's chunk into a database, as the data of a record or as an info block, and
-//! those that ask for an info block or hand it back.
+//! The calls that take a caller's chunk into a database, as the data of a record or as an info
+//! block, and those that ask for an info block or return it.
 
 use crate::database::{Database, RECORD_LENGTH};
 use crate::heap::PlainHeap;
@@ -26,7 +26,8 @@ impl Database {
         Ok(Reply::Number(self.list_record(at, name, DIRTY)?))
     }
 
-    /// A chunk becomes the data of a record, which is dirty then, and what was its data goes to a caller.
+    /// A chunk becomes the data of a record, which is dirty then, and what was its data goes to a
+    /// caller.
     pub(crate) fn replace_record(
         &mut self,
         heap: &mut PlainHeap,

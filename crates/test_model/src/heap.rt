@@ -19,7 +19,8 @@ pub struct Chunk {
 #[derive(Drop)]
 pub struct PlainHeap {
     pub(crate) chunks: BTreeMap<u32, Chunk>,
-    /// The name of the chunk whose bytes are lent, if there is one. What stands for them meanwhile means nothing.
+    /// The name of the chunk whose bytes are lent, if there is one. What stands for them meanwhile
+    /// means nothing.
     pub(crate) lent: Option<Name>,
 }
 

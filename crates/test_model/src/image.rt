@@ -3,11 +3,11 @@
 use heap_model::{Name, Place};
 use std::alloc::{AllocError, Global};
 
-/// Why bytes are no accepted heap, or that memory was refused.
+/// Why bytes are no accepted heap, or that an allocation failed.
 #[derive(Clone, Copy, Debug)]
 pub enum Unreadable {
     Memory,
-    /// What stands in front of the slots, or the padding behind them.
+    /// What stands before the slots, or the padding after them.
     Frame,
     /// The chunk at this offset, or that it isn't tied to its slot.
     Chunk(u32),
@@ -27,8 +27,8 @@ impl From<AllocError> for Unreadable {
 /// The lock of a fixed chunk. That of a movable one is its lock count.
 pub(crate) const FIXED: u8 = 15;
 
-/// A live chunk: its name, and what its header and its body have. A further table has the place of its body as its
-/// name here, which callers can't use.
+/// A live chunk: its name, and what its header and its body have. A further table has the place of
+/// its body as its name here, which callers can't use.
 #[derive(Clone, Copy)]
 pub struct Live<'a> {
     pub name: Name,
@@ -44,8 +44,8 @@ impl Live<'_> {
     }
 }
 
-/// A chunk where it stands: the place of its body, what it takes with its header, and what it is where
-/// it isn't free.
+/// A chunk where it stands: the place of its body, what it takes with its header, and what it is
+/// where it isn't free.
 #[derive(Clone, Copy)]
 pub struct Piece<'a> {
     pub place: Place,
@@ -80,7 +80,7 @@ pub(crate) struct Table {
 }
 
 impl Table {
-    /// The offset of the slot of a number: the first is behind the word `next`.
+    /// The offset of the slot of a number: the first is after the word `next`.
     pub(crate) fn slot_at(&self, number: u32) -> u32 {
         self.place
             .saturating_add(4)
@@ -255,7 +255,8 @@ impl<'a> Image<'a> {
         all
     }
 
-    /// The greatest room of a stretch, 0 where there is none: the free bytes between two chunks that stay.
+    /// The greatest room of a stretch, 0 where there is none: the free bytes between two chunks
+    /// that stay.
     pub fn largest_room(&self) -> u32 {
         self.largest_room_without(Name(0))
     }
@@ -275,8 +276,8 @@ impl<'a> Image<'a> {
         largest
     }
 
-    /// The rooms of the stretches in order: what is free in front of each chunk that stays, since the one
-    /// before it, and behind the last. Between two neighbours that stay there is one of 0.
+    /// The rooms of the stretches in order: what is free before each chunk that stays, since the
+    /// one before it, and after the last. Between two neighbours that stay there is one of 0.
     pub(crate) fn rooms(&self, alloc: Global) -> Result<Vec<u64>, AllocError> {
         let mut rooms = Vec::new(alloc);
         let mut room = 0u64;
@@ -313,7 +314,8 @@ impl<'a> Image<'a> {
         }
     }
 
-    /// What the chunk of a name takes with the free chunks directly behind it, 0 where there is none.
+    /// What the chunk of a name takes with the free chunks directly after it, 0 where there is
+    /// none.
     pub(crate) fn size_with_behind(&self, name: Name) -> u64 {
         let mut size = 0u64;
         let mut is_behind = false;
@@ -340,7 +342,7 @@ impl<'a> Image<'a> {
         moved
     }
 
-    /// Whether nothing but a chunk that stays is behind a free one.
+    /// Whether nothing but a chunk that stays is after a free one.
     pub fn is_packed(&self) -> bool {
         let mut is_behind_free = false;
         for piece in &self.pieces {
@@ -378,7 +380,7 @@ impl<'a> Image<'a> {
         self.held_by(name) == Some(0)
     }
 
-    /// Whether a run of neighbouring free chunks has so many bytes, headers included.
+    /// Whether a run of neighbouring free chunks has the given number of bytes, headers included.
     pub(crate) fn has_run(&self, need: u64) -> bool {
         let mut run = 0u64;
         for piece in &self.pieces {
@@ -399,7 +401,7 @@ fn is_chained(bytes: &[u8]) -> bool {
     bytes.starts_with(b"PHI2")
 }
 
-/// The number of slots, where the words in front of them are right.
+/// The number of slots, where the words before them are right.
 fn framed_slots(bytes: &[u8]) -> Option<u16> {
     let size = u32_at(bytes, 4);
     let slot_count = u16_at(bytes, 8);
@@ -433,7 +435,7 @@ fn slots_of(
     Ok(slots)
 }
 
-/// Adds so many slots from an offset on.
+/// Adds the given number of slots from an offset on.
 fn add_slots(
     bytes: &[u8],
     first: u32,
@@ -448,8 +450,8 @@ fn add_slots(
     Ok(())
 }
 
-/// The further tables, along the chain: no more than there are chunks. Refused if a word `next` leads to no table, or
-/// to one that came earlier.
+/// The further tables, along the chain: no more than there are chunks. Refused if a word `next`
+/// leads to no table, or to one that came earlier.
 fn tables_of(
     alloc: Global,
     bytes: &[u8],
@@ -477,12 +479,13 @@ fn tables_of(
     Ok(tables)
 }
 
-/// That the chain leads to no table behind these.
+/// That the chain leads to no table after these.
 fn bad_table(tables: &[Table]) -> Unreadable {
     Unreadable::Table(u32::try_from(tables.len()).unwrap_or(u32::MAX))
 }
 
-/// The table whose body is at a place: a fixed chunk of the manager's that has a word and one slot or more.
+/// The table whose body is at a place: a fixed chunk of the manager's that has a word and one slot
+/// or more.
 fn table_at(pieces: &[Piece], place: u32) -> Option<Table> {
     for piece in pieces {
         if piece.place.0 == place
@@ -514,8 +517,8 @@ fn has_table(tables: &[Table], place: u32) -> bool {
     false
 }
 
-/// Where the chunks begin: behind the slots, a word `next` if there is a chain, and zeros up to a multiple of 8. At
-/// least 8 bytes are there.
+/// Where the chunks begin: after the slots, a word `next` if there is a chain, and zeros up to a
+/// multiple of 8. At least 8 bytes are there.
 fn padded_end(bytes: &[u8], slot_count: u16) -> Option<u32> {
     let next_size = if is_chained(bytes) { 4 } else { 0 };
     let end = 16 + 4 * u32::from(slot_count) + next_size;
@@ -590,7 +593,7 @@ fn live_of(first: u32, second: u32, body: &[u8], at: u32) -> Option<Live<'_>> {
 }
 
 /// The offset of the slot that lies twice this distance from an offset; the distance has 24 bits in
-/// two's complement. It is 0, where no slot is, if that is in front of the image.
+/// two's complement. It is 0, where no slot is, if that is before the image.
 fn slot_at_distance(at: u32, distance: u32) -> u32 {
     if distance < 0x80_0000 {
         at.saturating_add(2 * distance)
@@ -599,7 +602,7 @@ fn slot_at_distance(at: u32, distance: u32) -> u32 {
     }
 }
 
-/// The bytes in front of the first zero byte, all if there is none.
+/// The bytes before the first zero byte, all if there is none.
 pub(crate) fn up_to_zero(bytes: &[u8]) -> &[u8] {
     for (at, byte) in bytes.iter().enumerate() {
         if *byte == 0 {
@@ -618,7 +621,7 @@ pub(crate) fn are_zeros(bytes: &[u8]) -> bool {
     true
 }
 
-/// The byte at an offset, 0 behind the last.
+/// The byte at an offset, 0 after the last.
 pub(crate) fn byte_at(bytes: &[u8], at: usize) -> u8 {
     match bytes.get(at) {
         Some(byte) => *byte,

@@ -6,7 +6,8 @@ use crate::heap::PlainHeap;
 use heap_model::{Name, Refusal};
 
 impl PlainHeap {
-    /// Takes the bytes of a chunk out, which must be locked or fixed. Only one chunk's are out at a time.
+    /// Takes the bytes of a chunk out, which must be locked or fixed. Only one chunk's are out at a
+    /// time.
     pub fn take_out(&mut self, name: Name) -> Result<&[u8], Refusal> {
         if self.chunk(name)?.lock == 0 {
             return Err(Refusal::ChunkNotLocked);

@@ -1,5 +1,5 @@
-//! The calls of the memory manager, each by the words of docs/SCRIPTS.md: its refusals in their order,
-//! what it does and what it answers.
+//! The calls of the memory manager, each by the words of docs/USING.md: its refusals in their
+//! order, what it does and what it returns.
 
 use crate::heap::{Chunk, PlainHeap};
 use crate::image::{FIXED, Image, up_to_zero};
@@ -13,11 +13,11 @@ const MOST_LOCKS: u8 = 14;
 pub(crate) const DATA_OWNER: u8 = 15;
 
 impl PlainHeap {
-    /// Does a call, and answers what the reply to it must be.
+    /// Does a call, and returns what the reply to it must be.
     ///
-    /// Most of that follows from the chunks. How much room there was and where chunks were stands in the
-    /// image before the call, where they are in the one after it, and which of the free names a new
-    /// chunk was given in the reply.
+    /// Most of that follows from the chunks. How much room there was and where chunks were stands
+    /// in the image before the call, where they are in the one after it, and which of the free
+    /// names a new chunk was given in the reply.
     pub fn call(
         &mut self,
         alloc: Global,
@@ -218,7 +218,7 @@ impl PlainHeap {
         Ok(Reply::Done)
     }
 
-    /// Writes the bytes in front of the first zero byte, all if there is none, and one zero byte.
+    /// Writes the bytes before the first zero byte, all if there is none, and one zero byte.
     fn str_copy(&mut self, name: Name, at: u32, text: &[u8]) -> Result<Reply, Refusal> {
         let text = up_to_zero(text);
         let length = u32::try_from(text.len()).unwrap_or(u32::MAX);
@@ -241,7 +241,8 @@ impl PlainHeap {
         }
     }
 
-    /// Frees all chunks of an owner, locked and fixed ones too. None is freed where one of them is lent.
+    /// Frees all chunks of an owner, locked and fixed ones too. None is freed where one of them is
+    /// lent.
     fn free_by_owner(&mut self, owner: u8) -> Result<Reply, Refusal> {
         check_owner(owner)?;
         if self.lends_of(owner) {
@@ -268,8 +269,8 @@ impl PlainHeap {
         Ok(())
     }
 
-    /// So many bytes of a chunk from an offset on, to be written over, which a chunk without a lock doesn't allow.
-    /// A fixed chunk counts as locked.
+    /// The given number of bytes of a chunk from an offset on, to be written over, which a chunk
+    /// without a lock doesn't allow. A fixed chunk counts as locked.
     fn part_mut(&mut self, name: Name, at: u32, count: usize) -> Result<&mut [u8], Refusal> {
         if self.chunk(name)?.lock == 0 {
             return Err(Refusal::ChunkNotLocked);
@@ -291,7 +292,8 @@ impl PlainHeap {
 /// The length of a table of 15 slots: they and the word `next`, 4 bytes each.
 pub(crate) const TABLE_LENGTH: u32 = 64;
 
-/// A table more changes no chunk that has a name. Refused where the image has no chain, or a table has no room.
+/// A table more changes no chunk that has a name. Refused where the image has no chain, or a table
+/// has no room.
 fn more_slots(before: &Image) -> Result<Reply, Refusal> {
     if !before.is_chained() {
         return Err(Refusal::NotEnoughSpace);
@@ -300,9 +302,9 @@ fn more_slots(before: &Image) -> Result<Reply, Refusal> {
     Ok(Reply::Done)
 }
 
-/// Refuses a length of so many bytes with the header, for a chunk that isn't fixed. A locked chunk grows in its place alone, over the free chunks
-/// directly behind it. One without a lock grows wherever a stretch has room, its own size being room in its own
-/// stretch.
+/// Refuses a length of the given number of bytes with the header, for a chunk that isn't fixed. A
+/// locked chunk grows in its place alone, over the free chunks directly after it. One without a
+/// lock grows wherever a stretch has room, its own size being room in its own stretch.
 fn check_length(lock: u8, name: Name, need: u64, before: &Image) -> Result<(), Refusal> {
     if lock > 0 && need > before.size_with_behind(name) {
         return Err(Refusal::ChunkLocked);
@@ -329,7 +331,8 @@ fn check_room(need: u64, room: u32) -> Result<(), Refusal> {
     Ok(())
 }
 
-/// What a chunk of so many bytes takes: 8 for its header, and its bytes rounded up to a multiple of 8.
+/// The size of a chunk with the given number of bytes: 8 for its header, and its bytes rounded up
+/// to a multiple of 8.
 pub(crate) fn need(size: u32) -> u64 {
     8 + u64::from(size).next_multiple_of(8)
 }

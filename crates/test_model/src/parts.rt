@@ -1,12 +1,13 @@
-//! Room for the parts of a call: chunks that it makes, and one that it has grow, one after the other.
+//! Room for the parts of a call: chunks that it makes, and one that it has grow, one after the
+//! other.
 
 use crate::image::Image;
 use crate::memory_calls::need;
 use heap_model::{Name, Refusal, Reply};
 use std::alloc::{AllocError, Global};
 
-/// A part: so many bytes that it takes, headers included, and the stretch where a chunk that grows leaves
-/// what it took before.
+/// A part: the number of bytes that it takes, headers included, and the stretch where a chunk that
+/// grows leaves what it took before.
 #[derive(Clone, Copy)]
 pub(crate) struct Part {
     need: u64,
@@ -14,7 +15,7 @@ pub(crate) struct Part {
 }
 
 impl Part {
-    /// A chunk of so many bytes is made.
+    /// A chunk of the given number of bytes is made.
     pub(crate) fn making(size: usize) -> Part {
         Part {
             need: need(u32::try_from(size).unwrap_or(u32::MAX)),
@@ -22,7 +23,7 @@ impl Part {
         }
     }
 
-    /// The chunk of a name, which doesn't stay, gets so many bytes more.
+    /// The chunk of a name, which doesn't stay, gets the given number of bytes more.
     pub(crate) fn growth(image: &Image, name: Name, more: u32) -> Part {
         let length = match image.live(name) {
             Some(live) => live.bytes.len(),
@@ -50,8 +51,8 @@ pub(crate) fn check_parts(alloc: Global, image: &Image, parts: &[Part]) -> Resul
     }
 }
 
-/// Whether some choice of stretches for the parts, one after the other, leaves a part for which no stretch
-/// has room.
+/// Whether some choice of stretches for the parts, one after the other, leaves a part for which no
+/// stretch has room.
 fn can_run_out(alloc: Global, image: &Image, parts: &[Part]) -> Result<bool, AllocError> {
     if needed(parts) > u64::from(image.free_bytes()) {
         return Ok(true);
@@ -79,7 +80,8 @@ fn needed(parts: &[Part]) -> u64 {
     all
 }
 
-/// The rooms that are left behind each choice of a stretch for a part, none where some rooms have no stretch for it.
+/// The rooms that are left after each choice of a stretch for a part, none where some rooms have no
+/// stretch for it.
 fn place(
     alloc: Global,
     choices: &[Vec<u64>],

@@ -1,5 +1,5 @@
-//! The calls on records, each by what it is for: its refusals in their order, what it does and what it
-//! answers.
+//! The calls on records, each by what it is for: its refusals in their order, what it does and what
+//! it returns.
 
 use crate::database::{DELETED, Database, GREATEST_ID, RECORD_LENGTH, Record, are_resources};
 use crate::heap::PlainHeap;
@@ -136,8 +136,8 @@ impl Database {
         Ok(Reply::Made { index, name })
     }
 
-    /// The entry of a record with this data, at an index or at the end, which is answered: it has a fresh ID,
-    /// which is the seed from then on.
+    /// The entry of a record with this data, at an index or at the end, which is returned: it has a
+    /// fresh ID, which is the seed from then on.
     pub(crate) fn list_record(
         &mut self,
         at: u32,
@@ -203,8 +203,8 @@ impl Database {
         Ok(Reply::Named(data))
     }
 
-    /// It has these attributes, but for the bits of deleted and of busy ones, and this ID, where that is
-    /// not 0.
+    /// It has these attributes, but for the bits of deleted and of busy ones, and this ID, where
+    /// that is not 0.
     fn set_record(&mut self, index: u32, attributes: u8, id: u32) -> Result<Reply, Refusal> {
         self.check_writable()?;
         let old = self.record(index)?;
@@ -232,7 +232,7 @@ impl Database {
         Err(Refusal::UniqueIdNotFound)
     }
 
-    /// It comes in front of the record that stands at `to`, or behind the last.
+    /// It comes before the record that stands at `to`, or after the last.
     fn move_record(&mut self, from: u32, to: u32) -> Result<Reply, Refusal> {
         self.check_writable()?;
         let (from, to) = (from as usize, to as usize);
@@ -327,7 +327,7 @@ impl Database {
     }
 }
 
-/// The first ID behind a seed that no record has; 1 follows on the greatest.
+/// The first ID after a seed that no record has; 1 follows on the greatest.
 pub(crate) fn fresh_id(records: &[Record], seed: u32) -> u32 {
     let mut id = seed;
     for _ in 0..=records.len() {
@@ -349,7 +349,7 @@ pub(crate) fn has_id(records: &[Record], id: u32) -> bool {
     false
 }
 
-/// The ID behind another; 1 follows on the greatest.
+/// The ID after another; 1 follows on the greatest.
 fn next_id(id: u32) -> u32 {
     if id < GREATEST_ID { id + 1 } else { 1 }
 }

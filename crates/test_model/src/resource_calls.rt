@@ -1,5 +1,5 @@
-//! The calls on resources, each by what it is for: its refusals in their order, what it does and what it
-//! answers.
+//! The calls on resources, each by what it is for: its refusals in their order, what it does and
+//! what it returns.
 
 use crate::database::{Database, RESOURCE_LENGTH, Resource, are_resources};
 use crate::heap::PlainHeap;
@@ -108,7 +108,7 @@ impl Database {
         Ok(Reply::Number(self.list_resource(key, name)?))
     }
 
-    /// A resource with this data comes behind all others, at the index that is answered.
+    /// A resource with this data comes after all others, at the index that is returned.
     fn list_resource(&mut self, (kind, id): (u32, u16), data: Name) -> Result<u32, Refusal> {
         let index = u32::try_from(self.resources.len()).unwrap_or(u32::MAX);
         self.count_change();

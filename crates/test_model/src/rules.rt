@@ -1,4 +1,4 @@
-//! What a call leaves alone, whatever it answers.
+//! What a call leaves alone, whatever it returns.
 
 use crate::image::{Image, Table, u32_at};
 use crate::memory_calls::{TABLE_LENGTH, need};
@@ -9,20 +9,21 @@ use heap_model::{
 /// What a call did that it may not do.
 #[derive(Clone, Copy, Debug, PartialEq, Eq)]
 pub enum Rule {
-    /// The length, or a byte in front of the slots: the directory word among them.
+    /// The length, or a byte before the slots: the directory word among them.
     Frame,
-    /// The tables are not those that were there, with one of 15 empty slots behind them where the call has made it.
+    /// The tables are not those that were there, with one of 15 empty slots after them where the
+    /// call has made it.
     Tables,
-    /// A call that only asks, or was refused for another reason than want of room, changed a byte.
+    /// A call that only asks, or was refused for another reason than lack of room, changed a byte.
     Bytes,
     /// A refused call left other free bytes, or another number of free slots.
     Room,
-    /// The chunk of this name moved, though it was locked or fixed, or none had to move, or another one had
-    /// of another stretch.
+    /// The chunk of this name moved, though it was locked or fixed, or none had to move, or another
+    /// one had of another stretch.
     Moved(Name),
     /// Compaction left a free chunk that isn't the last of its stretch.
     Packed,
-    /// The free header in front of this place was written with bits that mean nothing.
+    /// The free header before this place was written with bits that mean nothing.
     FreeHeader(u32),
 }
 
@@ -46,8 +47,9 @@ pub fn broken_rule(
     broken_in_area(asks(call), movable_by(call, before), reply, before, after)
 }
 
-/// The first rule that a call on a store broke. One on databases, records, resources or files may move all chunks
-/// that it may move at all, and the first database that is made makes the directory.
+/// The first rule that a call on a store broke. One on databases, records, resources or files may
+/// move all chunks that it may move at all, and the first database that is made makes the
+/// directory.
 pub fn broken_store_rule(
     call: &Call,
     reply: &Reply,
@@ -67,12 +69,13 @@ pub fn broken_store_rule(
     broken_in_area(asks_in_store(call), Moves::Anything, reply, before, after)
 }
 
-/// Whether two images have the same length, and the same bytes in front of the directory word.
+/// Whether two images have the same length, and the same bytes before the directory word.
 fn has_same_frame(before: &Image, after: &Image) -> bool {
     before.bytes.len() == after.bytes.len() && before.bytes.get(..12) == after.bytes.get(..12)
 }
 
-/// Whether the tables are those that were there, and behind them, if one was made, one of 15 slots, all of them empty.
+/// Whether the tables are those that were there, and after them, if one was made, one of 15 slots,
+/// all of them empty.
 fn has_right_tables(makes_table: bool, before: &Image, after: &Image) -> bool {
     if !makes_table {
         return before.tables.as_slice() == after.tables.as_slice();
@@ -154,8 +157,8 @@ fn broken_in_area(
     }
 }
 
-/// Whether a call was refused before anything was done: where room is short, free chunks may be joined,
-/// and others moved.
+/// Whether a call was refused before anything was done: where room is short, free chunks may be
+/// joined, and others moved.
 fn is_refused_at_once(reply: &Reply) -> bool {
     match reply {
         Reply::Refused(refusal) => *refusal != Refusal::NotEnoughSpace,
@@ -185,8 +188,9 @@ enum Moves {
     Anything,
 }
 
-/// What a call may move: nothing for a new chunk or table for which a run of free chunks has the room, or for a
-/// length that a chunk can have in its place, and one stretch for any other new chunk.
+/// What a call may move: nothing for a new chunk or table for which a run of free chunks has the
+/// room, or for a length that a chunk can have in its place, and one stretch for any other new
+/// chunk.
 fn movable_by(call: &MemoryCall, before: &Image) -> Moves {
     match call {
         MemoryCall::HandleNew { size, .. } | MemoryCall::PtrNew { size, .. } => {
@@ -200,7 +204,7 @@ fn movable_by(call: &MemoryCall, before: &Image) -> Moves {
     }
 }
 
-/// What a new chunk of so many bytes may move.
+/// What a new chunk of the given number of bytes may move.
 fn movable_for(size: u32, before: &Image) -> Moves {
     if before.has_run(need(size)) {
         Moves::Nothing
@@ -232,8 +236,8 @@ fn first_moved(moves: Moves, before: &Image, after: &Image) -> Option<Name> {
     None
 }
 
-/// The place of the first free chunk whose header's first word was written, and has more than the free
-/// bit and the size.
+/// The place of the first free chunk whose header's first word was written, and has more than the
+/// free bit and the size.
 fn odd_free_header(before: &Image, after: &Image) -> Option<u32> {
     for piece in &after.pieces {
         let at = piece.place.0.saturating_sub(8) as usize;

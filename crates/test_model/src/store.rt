@@ -7,8 +7,8 @@ use crate::image::Image;
 use heap_model::{Call, Db, Name, Refusal, Reply};
 use std::alloc::Global;
 
-/// The chunks of callers and of databases, each under its name, and the databases in order. The directory
-/// and the headers of databases are no chunks here.
+/// The chunks of callers and of databases, each under its name, and the databases in order. The
+/// directory and the headers of databases are no chunks here.
 #[derive(Drop)]
 pub struct PlainStore {
     pub(crate) heap: PlainHeap,
@@ -58,11 +58,11 @@ impl PlainStore {
         None
     }
 
-    /// Does a call, and answers what the reply to it must be.
+    /// Does a call, and returns what the reply to it must be.
     ///
-    /// What the store doesn't say stands in the images before and after the call, and in the reply, as
-    /// with the calls of the memory manager. Where a call of several parts may run out of room, it is
-    /// refused exactly if the reply says so.
+    /// What the store doesn't say stands in the images before and after the call, and in the reply,
+    /// as with the calls of the memory manager. Where a call of several parts may run out of room,
+    /// it is refused exactly if the reply says so.
     pub fn call(
         &mut self,
         alloc: Global,

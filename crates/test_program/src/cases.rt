@@ -10,7 +10,7 @@ pub(crate) enum Output {
 }
 
 /// The words of each run behind the program's own name, and what becomes of what it prints.
-pub(crate) static CASES: [(&str, Output); 59] = [
+pub(crate) static CASES: [(&str, Output); 80] = [
     // images that are made, or that there are not
     ("new 64 1 out.img", Taken),
     ("new 127 4 out.img", Taken),
@@ -82,6 +82,34 @@ pub(crate) static CASES: [(&str, Output); 59] = [
     ("pack none out.pdb", Taken),
     ("pack parts none/out.pdb", Taken),
     ("pack parts out.pdb", Refused),
+    // images whose databases are listed, or not
+    ("databases records.img", Taken),
+    ("databases blank.img", Taken),
+    ("databases shared.img", Taken),
+    ("databases none.img", Taken),
+    ("databases records.img", Refused),
+    // databases that are written into a folder: all, one by its name, and none of that name
+    ("export records.img out", Taken),
+    ("export records.img out R", Taken),
+    ("export records.img out R S", Taken),
+    ("export shared.img out", Taken),
+    // a folder that has a file of that name
+    ("export records.img files", Taken),
+    // folders that can't be made or written into, and standard output that takes nothing
+    ("export records.img none/out", Taken),
+    ("export records.img order.pdb", Taken),
+    ("export records.img out", Refused),
+    // files that come to a new image: of the least size, of one that is chosen, and twice
+    ("import out.img order.pdb tiny.prc", Taken),
+    ("import --size 256 --slots 6 out.img tiny.prc", Taken),
+    ("import out.img order.pdb tiny.prc order.pdb", Taken),
+    // standard input in place of a file
+    ("import out.img tiny.prc -", Taken),
+    // a damaged file, one that isn't there, a size that no image has, and standard output that takes nothing
+    ("import out.img order.pdb damaged.pdb", Taken),
+    ("import out.img none.pdb", Taken),
+    ("import --size 127 out.img tiny.prc", Taken),
+    ("import out.img tiny.prc", Refused),
     // words that ask for no command
     ("check", Taken),
     ("--version", Taken),

@@ -28,7 +28,7 @@ impl Content {
 const ROOM: &str = "50484931 00000200 000C 0000 00000000 00*48 800001C0 00*444";
 
 /// The files, each behind its name.
-pub(crate) static INPUTS: [(&str, Content); 17] = [
+pub(crate) static INPUTS: [(&str, Content); 18] = [
     ("blank.img", Listing(BLANK, "")),
     ("room.img", Listing(ROOM, "")),
     ("records.img", Listing(DATABASE, "")),
@@ -74,9 +74,18 @@ pub(crate) static INPUTS: [(&str, Content); 17] = [
             type \"DATA\"\ncreator \"test\"\nseed 0\napp none\nsort none\nresource \"tSTR\" 1 data\n",
         ),
     ),
+    // a file with the name that the database of records.img gets
+    ("files/R.pdb", Text("here already")),
     ("faulty.txt", Text("dbcount\nfrob\n")),
 ];
 
 /// The folders that each run finds. The first is in the place of the second file that a script exports, and the last in the
 /// place of a part.
-pub(crate) static FOLDERS: [&str; 5] = ["full.img.2", "parts", "climbs", "nested", "nested/data"];
+pub(crate) static FOLDERS: [&str; 6] = [
+    "full.img.2",
+    "parts",
+    "climbs",
+    "nested",
+    "files",
+    "nested/data",
+];

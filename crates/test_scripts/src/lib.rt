@@ -27,6 +27,8 @@ mod migration;
 #[cfg(test)]
 mod moving;
 #[cfg(test)]
+mod needs;
+#[cfg(test)]
 mod pieces;
 #[cfg(test)]
 mod reading;
@@ -38,5 +40,7 @@ mod reports;
 mod resources;
 #[cfg(test)]
 mod runs;
+#[cfg(test)]
+mod stores;
 #[cfg(test)]
 mod words;

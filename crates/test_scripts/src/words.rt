@@ -39,12 +39,24 @@ fn shown(alloc: Global, request: &Request) -> Result<String, AllocError> {
         Request::Canonical { file, out } => format!(in alloc; "canonical {file} {out}\n"),
         Request::Unpack { file, folder } => format!(in alloc; "unpack {file} {folder}\n"),
         Request::Pack { folder, out } => format!(in alloc; "pack {folder} {out}\n"),
+        Request::Databases { image } => format!(in alloc; "databases {image}\n"),
+        Request::Export {
+            image,
+            folder,
+            names,
+        } => format!(in alloc; "export {image} {folder} {names:?}\n"),
+        Request::Import {
+            out,
+            size,
+            slots,
+            files,
+        } => format!(in alloc; "import {out} {size:?} {slots:?} {files:?}\n"),
     }
 }
 
 /// Words, and how what comes of them begins, and what stands in it: commands, words that are refused,
 /// and help.
-static CASES: [(&str, &str, &str); 33] = [
+static CASES: [(&str, &str, &str); 39] = [
     ("palmheap new 128 4 a.img", "new 128 4 a.img\n", ""),
     (
         "palmheap new 4294967295 65535 --  -a",
@@ -76,6 +88,24 @@ static CASES: [(&str, &str, &str); 33] = [
         "",
     ),
     ("palmheap pack memos memo.pdb", "pack memos memo.pdb\n", ""),
+    ("palmheap databases a.img", "databases a.img\n", ""),
+    ("palmheap export a.img out", "export a.img out []\n", ""),
+    (
+        "palmheap export a.img out Memo Tool",
+        "export a.img out [\"Memo\", \"Tool\"]\n",
+        "",
+    ),
+    (
+        "palmheap import a.img memo.pdb tool.prc",
+        "import a.img None None [\"memo.pdb\", \"tool.prc\"]\n",
+        "",
+    ),
+    (
+        "palmheap import --slots 9 --size 1024 a.img memo.pdb",
+        "import a.img Some(1024) Some(9) [\"memo.pdb\"]\n",
+        "",
+    ),
+    ("palmheap import a.img", "2 error: ", "<FILE>"),
     (
         "palmheap migrate a.img",
         "2 error: the following required arguments were not provided:\n  <OUT>\n",

@@ -1,4 +1,4 @@
-//! Readers and writers that fail, and memory that is refused.
+//! Readers and writers that fail, and allocations that fail.
 
 ghost use Rattle.std.specs.Prelude.{⊤};
 
@@ -45,7 +45,7 @@ impl Read for Source {
     }
 }
 
-/// How a writer that has no room left answers a write.
+/// The reply of a writer without room to a write.
 #[derive(Clone, Copy, Debug)]
 pub enum WhenFull {
     TakesNothing,
@@ -74,12 +74,13 @@ impl Narrow {
         }
     }
 
-    /// Whether so many bytes were taken, and no call came behind the first that was refused.
+    /// Whether the given number of bytes was taken, and no call came after the first that was
+    /// refused.
     pub fn is_cut_at(&self, room: usize) -> bool {
         self.taken.len() == room && self.refused == 1
     }
 
-    /// Counts a call behind a refused one.
+    /// Counts a call after a refused one.
     fn note_call(&mut self) {
         if self.refused > 0 {
             self.refused = self.refused.saturating_add(1);
@@ -129,7 +130,7 @@ impl Write for Unflushed {
     }
 }
 
-/// Refuses one growth, of which `before` stand in front, and grants every other.
+/// Refuses one allocation, after `before` others, and grants every other.
 pub struct RefusesOne {
     alloc: Global,
     before: Cell<u32>,
@@ -145,7 +146,7 @@ impl RefusesOne {
         }
     }
 
-    /// Whether a growth was refused. Where there are fewer, none is.
+    /// Whether an allocation failed. If there are fewer, none fails.
     pub fn has_refused(&self) -> bool {
         self.refused.get()
     }

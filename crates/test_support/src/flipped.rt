@@ -6,11 +6,11 @@ use std::test::Fail;
 
 /// What a test finds out about an image.
 pub trait Finding {
-    /// Whether an image is answered as it has to be.
+    /// Whether the reply for an image is the right one.
     fn is_right(&self, alloc: Global, image: &[u8]) -> Result<bool, Fail>;
 }
 
-/// Fails a test where an image isn't answered as it has to be that has one bit other than this one.
+/// Fails a test if the reply is wrong for an image that differs from this one in one bit.
 pub fn check_flipped<F: Finding>(finding: &F, alloc: Global, image: &[u8]) -> Result<(), Fail> {
     for at in 0..image.len() {
         check_byte(finding, alloc, image, at)?;

@@ -1,4 +1,5 @@
-//! Heap images and files of databases: listings in hex, and small blank images in which words are changed.
+//! Heap images and files of databases: listings in hex, and small blank images in which words are
+//! changed.
 //!
 //! One of the listings is the worked image of docs/FORMAT.md.
 #![tactic(auto, using(laws_heap::proofs::Lending::all_within))]
@@ -22,7 +23,7 @@ pub const THREE_CHUNKS: &str =
     "50484931 00000080 0004 0000 00000000 00000028 00000048 00000068 00000000 \
     00000020 01FFFFF8 00*24 00000020 01FFFFEA 00*24 00000020 01FFFFDC 00*24";
 
-/// The same with the chunk in the middle free, and the one behind it under the second slot.
+/// The same with the chunk in the middle free, and the one after it under the second slot.
 pub const TWO_CHUNKS: &str = "50484931 00000080 0004 0000 00000000 00000028 00000068 00*8 \
     00000020 01FFFFF8 00*24 80000020 00*28 00000020 01FFFFDA 00*24";
 
@@ -52,12 +53,13 @@ pub const WIDE: &str = "50484931 00000400 0010 0000 00000000 00*64 800003B0 00*9
 pub const EMPTY_FILE: &str =
     "456d707479 00*27 0000 0000 00*24 44415441 54657374 00000000 00000000 0000";
 
-/// The same, as it is written: two bytes of filler are behind it.
+/// The same, as it is written: two bytes of filler are after it.
 pub const EMPTY_WRITTEN: &str =
     "456d707479 00*27 0000 0000 00*24 44415441 54657374 00000000 00000000 0000 0000";
 
-/// A file of three records, whose blocks stand against the order of the list. Two have the same ID and the
-/// first has none; two share an offset, so the first of these is empty; and the last is busy.
+/// A file of three records, whose blocks stand against the order of the list. Two have the same ID
+/// and the first has none; two share an offset, so the first of these is empty; and the last is
+/// busy.
 pub const ORDER_FILE: &str =
     "4f72646572 00*27 0000 0000 00*24 44415441 54657374 00000000 00000000 0003 \
     0000006c 00 000000 00000068 03 000005 0000006c 20 000005 0000 42424242 43434343";
@@ -88,8 +90,8 @@ pub fn bytes_of(alloc: Global, listing: &str) -> Result<Vec<u8>, Fail> {
     Ok(bytes)
 }
 
-/// The image of a listing with bytes changed: each change is an offset and the hex that stands there
-/// instead, as `27: 00, 172: FF000000`.
+/// The image of a listing with bytes changed: each change is an offset and the hex that stands
+/// there instead, as `27: 00, 172: FF000000`.
 pub fn image(alloc: Global, listing: &str, changes: &str) -> Result<Region, Fail>
     ensures whole { IfOk result (λ region. region.lent ≡ None) }
 {

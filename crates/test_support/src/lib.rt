@@ -1,5 +1,5 @@
-//! What tests share: readers and writers that fail, and memory that is refused; what a test says where a value
-//! isn't the one that is wanted; and images and files.
+//! What tests share: readers and writers that fail, and allocations that fail; what a test says
+//! where a value isn't the one that is wanted; and images and files.
 //!
 //! Nothing but tests uses this crate.
 #![tactic(auto)]

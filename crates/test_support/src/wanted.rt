@@ -1,6 +1,7 @@
 //! What a test says where a value isn't the one that is wanted.
 //!
-//! A proof of a test that calls these takes less than half of one of a test with `assert_eq` in a loop.
+//! A proof of a test that calls these takes less than half of one of a test with `assert_eq` in a
+//! loop.
 
 use std::fmt::{Debug, Display};
 use std::test::Fail;

@@ -50,8 +50,9 @@ fn agreed<D: Display + Drop>(alloc: Global, spot: D, region: &Region) -> Result<
     Ok(said)
 }
 
-/// Three further tables of one, two and five slots at 32, 48 and 72, along the chain 48, 72, 32. The slots at 16, 56
-/// and 80 hold the places of chunks at 104, 112 and 120, of which the first is the directory.
+/// Three further tables of one, two and five slots at 32, 48 and 72, along the chain 48, 72, 32.
+/// The slots at 16, 56 and 80 hold the places of chunks at 104, 112 and 120, of which the first is
+/// the directory.
 static TABLES: [(u32, u32); 22] = [
     (12, 16),
     (16, 112),
@@ -116,8 +117,8 @@ fn all_words(alloc: Global) -> Result<Vec<u32>, Fail> {
     Ok(words)
 }
 
-/// Every word from the directory word to the last table, and with how many words the image is accepted. The directory
-/// word may be 0, and the slack after the slots of the table at 48 is open.
+/// Every word from the directory word to the last table, and with how many words the image is
+/// accepted. The directory word may be 0, and the slack after the slots of the table at 48 is open.
 #[test]
 fn every_word_of_a_table_is_changed(rt: HostRuntime) -> Result<(), Fail> {
     let alloc = rt.alloc();

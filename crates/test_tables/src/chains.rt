@@ -343,8 +343,8 @@ static THREE: [(u32, u32); 7] = [
     (72, 0x8000_0038),
 ];
 
-/// The words `next` along the chain: those of the first table and of the further ones at 32, 48 and 64, and what the
-/// check says.
+/// The words `next` along the chain: those of the first table and of the further ones at 32, 48 and
+/// 64, and what the check says.
 static CHAINS: [([u32; 4], Result<[u32; 5], HeapFault>); 11] = [
     ([32, 48, 64, 0], Ok([128, 4, 0, 3, 56])),
     ([64, 0, 32, 48], Ok([128, 4, 0, 3, 56])),
@@ -380,8 +380,8 @@ fn chains_of_three_further_tables_are_checked(rt: HostRuntime) -> Result<(), Fai
     Ok(())
 }
 
-/// The hOffset of a chunk at 40, and what it leads to in place of a slot in use. The only further table has its place at
-/// 32 and its slot at 36.
+/// The hOffset of a chunk at 40, and what it leads to in place of a slot in use. The only further
+/// table has its place at 32 and its slot at 36.
 static NAMED: [(u32, &str); 6] = [
     (0xFF_FFFF, "the middle of a slot"),
     (0xFF_FFFC, "the word next of a table"),
@@ -405,7 +405,8 @@ fn a_chunk_names_a_slot_alone(rt: HostRuntime) -> Result<(), Fail> {
     Ok(())
 }
 
-/// A directory in the first table's slot, and a chunk of owner 1 in the first of a further table, which stands at 40.
+/// A directory in the first table's slot, and a chunk of owner 1 in the first of a further table,
+/// which stands at 40.
 static OWNED: [(u32, u32); 11] = [
     (12, 16),
     (16, 32),

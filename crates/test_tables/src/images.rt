@@ -10,8 +10,8 @@ use std::test::*;
 /// The second word of the header of a fixed chunk of the manager's.
 pub(crate) const TABLE: u32 = 0xF000_0000;
 
-/// An image of a size with one slot in the first table and a word `next` at 20, so that its chunks begin at 24, where
-/// words are changed.
+/// An image of a size with one slot in the first table and a word `next` at 20, so that its chunks
+/// begin at 24, where words are changed.
 pub(crate) fn image(alloc: Global, size: u32, words: &[(u32, u32)]) -> Result<Region, Fail>
     ensures { IfOk result (λ region. region.lent ≡ None) }
 {

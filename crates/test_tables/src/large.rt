@@ -15,7 +15,7 @@ use test_support::equal;
 /// The most bytes of an image.
 const MOST: u32 = 16_777_208;
 
-/// How many chunks of 16 bytes the largest image has behind the head.
+/// How many chunks of 16 bytes the largest image has after the head.
 const TABLES: u32 = 1_048_574;
 
 /// How many an image has whose faults are looked for.
@@ -26,7 +26,8 @@ fn place_of(number: u32) -> u32 {
     number.saturating_mul(16).saturating_add(32)
 }
 
-/// An image full of so many tables of one slot. Each leads to the one before it, so that the chain begins at the last.
+/// An image full of the given number of tables of one slot. Each leads to the one before it, so
+/// that the chain begins at the last.
 fn many_tables(alloc: Global, count: u32) -> Result<Region, Fail>
     ensures { IfOk result (λ region. region.lent ≡ None) }
 {
@@ -60,19 +61,20 @@ fn a_long_chain_has_faults(rt: HostRuntime) -> Result<(), Fail> {
     put_word(&mut region, 32, place_of(SOME_TABLES - 1))?;
     let fault = HeapFault::BadTable(SOME_TABLES);
     equal("a loop", counted(check_heap(&region)), Err(fault))?;
-    // the one in front of it leads to nothing
+    // the one before it leads to nothing
     put_words(&mut region, &[(32, 0), (48, 0)])?;
     let fault = HeapFault::BadFixedOwner(24);
     equal("a stray table", counted(check_heap(&region)), Err(fault))
 }
 
-/// How many slots a table has that takes the whole image, but for a chunk of no bytes behind it.
+/// How many slots a table has that takes the whole image, but for a chunk of no bytes after it.
 const SLOTS: u32 = 4_194_291;
 
 /// The place of that chunk.
 const LAST: u32 = MOST;
 
-/// An image with a table of as many slots as there can be, whose last one holds the place of a chunk of no bytes.
+/// An image with a table of as many slots as there can be, whose last one holds the place of a
+/// chunk of no bytes.
 fn many_slots(alloc: Global) -> Result<Region, Fail>
     ensures { IfOk result (λ region. region.lent ≡ None) }
 {

@@ -1,4 +1,5 @@
-//! Tests of images with a chain of tables: the checks of heaps and of stores, and calls that make tables.
+//! Tests of images with a chain of tables: the checks of heaps and of stores, and calls that make
+//! tables.
 //!
 //! This crate has no code but its tests.
 #![tactic(auto)]

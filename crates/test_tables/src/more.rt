@@ -11,8 +11,8 @@ use std::alloc::Global;
 use std::test::*;
 use test_support::equal;
 
-/// The heap of a blank image with a chain of tables and one slot, by its size and the first word of its chunk, which
-/// begins at 24.
+/// The heap of a blank image with a chain of tables and one slot, by its size and the first word of
+/// its chunk, which begins at 24.
 fn heap(alloc: Global, size: u32, chunk: u32) -> Result<Heap, Fail>
     ensures { IfOk result (λ heap. heap.lent ≡ None) }
 {
@@ -41,7 +41,7 @@ fn region_of(heap: Heap) -> Result<Region, Fail>
     }
 }
 
-/// What a heap counts, and the image behind it, checked anew.
+/// What a heap counts, and the image after it, checked anew.
 fn counts(heap: Heap) -> Result<[u32; 5], Fail>
     requires { heap.lent ≡ None }
 {
@@ -81,8 +81,8 @@ fn no_table_comes_to_an_image_of_the_first_layout(rt: HostRuntime) -> Result<(),
     Ok(())
 }
 
-/// Three tables, one after the other: each slot of them is given, one of the last is freed and given again, and so is
-/// that of the first. Then all chunks of one owner go.
+/// Three tables, one after the other: each slot of them is given, one of the last is freed and
+/// given again, and so is that of the first. Then all chunks of one owner go.
 #[test]
 fn slots_of_each_table_are_given(rt: HostRuntime) -> Result<(), Fail> {
     let mut heap = heap(rt.alloc(), 2048, 0x8000_07E8)?;
@@ -122,8 +122,8 @@ fn check_names(heap: &mut Heap, names: &[Name]) -> Result<(), Fail>
     Ok(())
 }
 
-/// Two tables whose bodies stand 524,288 bytes apart, so that only one of them is remembered. The slots of both are
-/// found, also once the image is adopted anew.
+/// Two tables whose bodies stand 524,288 bytes apart, so that only one of them is remembered. The
+/// slots of both are found, also once the image is adopted anew.
 #[test]
 fn slots_are_found_that_no_one_remembers(rt: HostRuntime) -> Result<(), Fail> {
     let mut heap = heap(rt.alloc(), 1_200_000, 0x8000_0000 + 1_199_976)?;
@@ -173,8 +173,8 @@ fn check_no_name(heap: &mut Heap, name: Name) -> Result<(), Fail>
     Ok(())
 }
 
-/// A table has no name: every call refuses its place, its header, its word next and its slots, which are empty, and so
-/// it does the words of the head. No owner's call counts it.
+/// A table has no name: every call refuses its place, its header, its word next and its slots,
+/// which are empty, and so it does the words of the head. No owner's call counts it.
 #[test]
 fn a_table_has_no_name(rt: HostRuntime) -> Result<(), Fail> {
     let mut heap = heap(rt.alloc(), 256, 0x8000_00E8)?;

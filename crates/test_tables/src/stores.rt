@@ -6,10 +6,11 @@ use std::test::*;
 use store_check::{StoreFault, check_store};
 use test_support::equal;
 
-/// An image of 256 bytes with four slots, in the order of the chain: 16, then 52 and 56 of a table at 48, then 36 of
-/// one at 32. The directory of slot 16 lists a database of two records, whose header is under slot 56. The chunks of
-/// slots 52 and 36 are for data, and nothing names them yet: the app info word is at 140, the sort info word at 144,
-/// the slot of the first record at 166, that of the second at 174, and the attributes of the second at 178.
+/// An image of 256 bytes with four slots, in the order of the chain: 16, then 52 and 56 of a table
+/// at 48, then 36 of one at 32. The directory of slot 16 lists a database of two records, whose
+/// header is under slot 56. The chunks of slots 52 and 36 are for data, and nothing names them yet:
+/// the app info word is at 140, the sort info word at 144, the slot of the first record at 166,
+/// that of the second at 174, and the attributes of the second at 178.
 static WORDS: [(u32, u32); 31] = [
     (12, 16),
     (16, 72),
@@ -44,7 +45,8 @@ static WORDS: [(u32, u32); 31] = [
     (204, 0),
 ];
 
-/// Words that are changed in that image, and what the check says: how many databases, or the first fault.
+/// Words that are changed in that image, and what the check says: how many databases, or the first
+/// fault.
 static ROWS: [(&str, &[(u32, u32)], Result<u32, StoreFault>); 8] = [
     (
         "each chunk for data is named once",

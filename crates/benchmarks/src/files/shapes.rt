@@ -3,44 +3,44 @@
 use crate::work::Work;
 use std::alloc::{AllocError, Global};
 
-/// What a file has.
+/// The shape of a file.
 #[derive(Clone, Copy)]
 pub(crate) enum Shape {
-    /// The records stand one behind the other, and have IDs of their own.
+    /// The records follow one another, and have different IDs.
     Rising,
     /// All records have the same ID.
     EqualIds,
-    /// All records begin at one offset, so that the last one has all bytes.
+    /// All records begin at one offset, so the last one has all bytes.
     OneStart,
 }
 
-/// The shapes, by what is printed of the import and the export of such a file.
+/// The shapes, with the names that are printed for the import and the export of such a file.
 pub(crate) static SHAPES: [(&str, &str, Shape); 3] = [
     ("import", "export", Shape::Rising),
     ("import_equal_ids", "export_equal_ids", Shape::EqualIds),
     ("import_one_start", "export_one_start", Shape::OneStart),
 ];
 
-/// How many bytes a header takes, and the entry of a record.
+/// The sizes of the header and of a record's entry.
 const HEADER_SIZE: u32 = 78;
 
 const ENTRY_SIZE: u32 = 8;
 
-/// What stands in the header between the name, `Files`, and the number of records: the type is `DATA`, and the
-/// creator `Test`.
+/// The name in the header, `Files`, and the fields between it and the number of records. The type
+/// is `DATA`, and the creator `Test`.
 const NAME: [u8; 32] = *b"Files\0\0\0\0\0\0\0\0\0\0\0\0\0\0\0\0\0\0\0\0\0\0\0\0\0\0\0";
 
 const FIELDS: [u8; 44] =
     *b"\0\0\0\0\0\0\0\0\0\0\0\0\0\0\0\0\0\0\0\0\0\0\0\0\0\0\0\0DATATest\0\0\0\0\0\0\0\0";
 
-/// A file of a shape.
+/// Makes a file of a shape.
 pub(crate) fn file_of(alloc: Global, shape: Shape, work: Work<'_>) -> Result<Vec<u8>, AllocError> {
     let mut file = Vec::from_slice(alloc, &NAME)?;
     put_file(&mut file, shape, work)?;
     Ok(file)
 }
 
-/// What is behind the name.
+/// Adds the part of the file after the name.
 fn put_file(file: &mut Vec<u8>, shape: Shape, work: Work<'_>) -> Result<(), AllocError> {
     let records = work.file_records as u32;
     let start = HEADER_SIZE + ENTRY_SIZE * records + 2;
@@ -63,7 +63,7 @@ fn put_file(file: &mut Vec<u8>, shape: Shape, work: Work<'_>) -> Result<(), Allo
     Ok(())
 }
 
-/// The entry of a record, whose bytes are here, unless all records begin at the start.
+/// Adds the entry of a record. Its bytes are here, unless all records begin at the start.
 fn put_entry(
     file: &mut Vec<u8>,
     shape: Shape,

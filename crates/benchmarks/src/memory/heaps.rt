@@ -1,4 +1,4 @@
-//! Heaps of which calls that walk through all chunks get a copy.
+//! Heaps that are copied for calls that walk through all chunks.
 
 ghost use Rattle.std.specs.Prelude.{◌≡◌, IfOk, None};
 
@@ -12,22 +12,22 @@ use raw_region::Region;
 use std::alloc::{AllocError, Global};
 use std::marker::Model;
 
-/// What the small free chunks of one class and the large ones have in their bodies: with their headers 64 and 120
-/// bytes.
+/// The sizes of the bodies of the small and the large free chunks of one class. With their headers
+/// they have 64 and 120 bytes.
 pub(crate) const SMALL: u32 = 56;
 
 pub(crate) const LARGE: u32 = 112;
 
-/// How many free chunks of one class are large, at most.
+/// The maximum number of large free chunks of one class.
 const MOST_LARGE: usize = 32;
 
 /// The first bytes of an image whose tables are a chain.
 const CHAINED_MAGIC: [u8; 4] = *b"PHI2";
 
-/// How many slots a further table has that is made.
+/// The number of slots of a further table.
 pub(crate) const TABLE_SLOTS: u16 = 15;
 
-/// A chunk that was kept, and how many bytes it has.
+/// A chunk that was kept, and its number of bytes.
 #[derive(Clone, Copy)]
 pub(crate) struct Kept {
     pub(crate) name: Name,
@@ -39,12 +39,12 @@ pub(crate) struct Kept {
 pub(crate) struct Original {
     pub(crate) region: Region,
     pub(crate) kept: Vec<Kept>,
-    /// How many free chunks are large, where they are of one class.
+    /// The number of large free chunks, if the free chunks are of one class.
     pub(crate) large: usize,
 }
 
 impl Original {
-    /// A copy of the heap.
+    /// Returns a copy of the heap.
     pub(crate) fn copy(&self, alloc: Global) -> Result<Heap>
         requires { self.now.region.lent ≡ None }
         ensures { IfOk result (λ heap. heap.lent ≡ None) }
@@ -54,7 +54,7 @@ impl Original {
     }
 }
 
-/// The heap of a region.
+/// Makes the heap of a region.
 pub(crate) fn adopted(region: Region) -> Result<Heap>
     requires { region.lent ≡ None }
     ensures { IfOk result (λ heap. heap.lent ≡ None) }
@@ -65,14 +65,15 @@ pub(crate) fn adopted(region: Region) -> Result<Heap>
     }
 }
 
-/// Between two tables is nothing.
+/// There are no bytes between two tables.
 pub(crate) const TABLES_IN_A_ROW: u32 = 0;
 
-/// Between two tables are fewer free bytes than this, and the header of a chunk.
+/// There are fewer free bytes than this between two tables, and the header of a chunk.
 pub(crate) const TABLES_APART: u32 = 1_021;
 
-/// Returns a heap with one slot in its first table and `tables` further tables. A chunk of fewer than `most_between` bytes
-/// was made after each of these and freed at the end, unless that is 0.
+/// Returns a heap with one slot in its first table and `tables` further tables. If `most_between`
+/// isn't 0, a chunk of fewer than `most_between` bytes was made after each further table, and freed
+/// at the end.
 pub(crate) fn chained_heap(alloc: Global, size: u32, tables: u16, most_between: u32) -> Result<Heap>
     ensures { IfOk result (λ heap. heap.lent ≡ None) }
 {
@@ -92,7 +93,7 @@ pub(crate) fn chained_heap(alloc: Global, size: u32, tables: u16, most_between: 
     Ok(heap)
 }
 
-/// A heap that chunks nearly fill, one under each slot, of which every second is free.
+/// Makes a heap that chunks nearly fill, one under each slot, and frees every second one.
 pub(crate) fn full(alloc: Global, blank: Heap, work: Work<'_>) -> Result<Original, AllocError>
     requires { blank.lent ≡ None }
     ensures { IfOk result (λ full. full.region.lent ≡ None) }
@@ -108,8 +109,9 @@ pub(crate) fn full(alloc: Global, blank: Heap, work: Work<'_>) -> Result<Origina
     })
 }
 
-/// The most bytes of a chunk where a heap with one under each slot is nearly full: twice what is left
-/// to each of them on average, behind its header and what rounding adds.
+/// Returns the maximum number of bytes of a chunk for a heap that is nearly full with one chunk
+/// under each slot. It is twice the average room of a chunk without its header and what rounding
+/// adds.
 fn most_when_full(work: Work<'_>) -> u16 {
     let slots = u32::from(work.slots.max(1));
     let area = work.size.saturating_sub(16 + 4 * slots);
@@ -117,9 +119,9 @@ fn most_when_full(work: Work<'_>) -> u16 {
     body.saturating_mul(2).min(u16::MAX as u32) as u16
 }
 
-/// A heap whose free chunks are small, but for a few large ones in their middle. Between two of them stands a chunk
-/// of no bytes, which is kept, and nothing else is free. There is a chunk under each slot before half of them are
-/// freed.
+/// Makes a heap whose free chunks are small, but for a few large ones in the middle. Between two of
+/// them is a chunk of no bytes, which is kept, and nothing else is free. Before half of the chunks
+/// are freed, there is one under each slot.
 pub(crate) fn one_class(alloc: Global, blank: Heap, slots: u16) -> Result<Original, AllocError>
     requires { blank.lent ≡ None }
     ensures { IfOk result (λ made. made.region.lent ≡ None) }
@@ -136,7 +138,7 @@ pub(crate) fn one_class(alloc: Global, blank: Heap, slots: u16) -> Result<Origin
     Ok(original.into_original())
 }
 
-/// Such a heap while it is made, and its chunks: those that are to be free, and those of no bytes.
+/// A heap of one class while it is made, and its chunks: those to free, and those of no bytes.
 #[derive(Drop)]
 struct OneClass {
     heap: Heap,
@@ -157,7 +159,7 @@ impl Model for OneClass {
 }
 
 impl OneClass {
-    /// Makes so many chunks of either kind.
+    /// Makes `pairs` chunks of each kind.
     fn make(&mut self, pairs: usize) -> Result<(), AllocError> {
         for number in 0..pairs {
             let is_large = number >= pairs / 2 && number - pairs / 2 < self.large;
@@ -172,7 +174,7 @@ impl OneClass {
         Ok(())
     }
 
-    /// Takes all that is free, and then frees the chunks that are to be free.
+    /// Takes all free bytes, and then frees the chunks to free.
     fn free_each(&mut self) {
         let rest = self.heap.free_bytes().saturating_sub(8);
         if self.heap.handle_new(rest, OWNER).is_err() {

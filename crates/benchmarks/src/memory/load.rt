@@ -1,4 +1,4 @@
-//! A heap that is under load: its chunks are made, freed and asked for in a fixed order.
+//! A heap under load: its chunks are made, freed and asked for in a fixed order.
 
 ghost use Rattle.std.specs.Prelude.{◌≡◌, None};
 
@@ -14,10 +14,10 @@ use std::marker::Model;
 /// The owner of all chunks.
 pub(crate) const OWNER: u8 = 1;
 
-/// How many bytes are read and written by one call.
+/// The number of bytes that one call reads or writes.
 const WIDTH: u32 = 16;
 
-/// A call that takes the same time however large the heap is, or two of them.
+/// A call, or two of them, whose time doesn't depend on the size of the heap.
 #[derive(Clone, Copy)]
 pub(crate) enum Call {
     LockAndUnlock,
@@ -29,14 +29,15 @@ pub(crate) enum Call {
     TakeOutAndPutBack,
 }
 
-/// A heap of which nothing is lent between two calls here, the handles of its chunks, and the sum of all replies to the calls so far.
+/// A heap, the handles of its chunks, and the sum of all replies so far. Between two calls here
+/// nothing of the heap is lent.
 #[derive(Drop)]
 pub(crate) struct Load {
     heap: Heap,
-    /// The most bytes that a chunk is made with.
+    /// The maximum number of bytes of a new chunk.
     most: u16,
     handles: Vec<Name>,
-    /// Those of the chunks that have 16 bytes.
+    /// The handles of the chunks that have 16 bytes.
     wide: Vec<Name>,
     numbers: Numbers,
     replies: Sum,
@@ -54,7 +55,7 @@ impl Model for Load {
 }
 
 impl Load {
-    /// No chunks yet, which are to have from 0 to `most` bytes.
+    /// Starts with no chunks. Chunks will have 0 to `most` bytes.
     pub(crate) fn new(alloc: Global, heap: Heap, most: u16) -> Load
         requires { heap.lent ≡ None }
     {
@@ -68,7 +69,7 @@ impl Load {
         }
     }
 
-    /// Makes so many chunks.
+    /// Makes `count` chunks.
     pub(crate) fn make(&mut self, count: u16) -> Result<(), AllocError> {
         for _ in 0..count {
             let size = self.numbers.below(self.most as usize + 1) as u32;
@@ -83,7 +84,7 @@ impl Load {
         Ok(())
     }
 
-    /// Frees the chunks of the last handles, so many of them.
+    /// Frees the chunks of the last `count` handles.
     pub(crate) fn free(&mut self, count: u16) {
         for _ in 0..count {
             if let Some(name) = self.handles.pop() {
@@ -99,13 +100,13 @@ impl Load {
         }
     }
 
-    /// Brings the last handles into another order, so many of them.
+    /// Shuffles the last `count` handles.
     pub(crate) fn shuffle(&mut self, count: u16) {
         let from = self.handles.len().saturating_sub(count as usize);
         self.numbers.shuffle(&mut self.handles[from..]);
     }
 
-    /// Looks for the handles of the chunks that have 16 bytes.
+    /// Finds the handles of the chunks that have 16 bytes.
     pub(crate) fn find_wide(&mut self) -> Result<(), AllocError> {
         for name in &self.handles {
             if matches!(self.heap.size(*name), Ok(WIDTH..)) {
@@ -115,8 +116,8 @@ impl Load {
         Ok(())
     }
 
-    /// Locks the chunks that have 16 bytes once more, if they are to be written. They stay locked, so that their bytes
-    /// may be taken out.
+    /// Locks the chunks that have 16 bytes once more, if they are to be written. They stay locked,
+    /// so their bytes may be taken out.
     pub(crate) fn prepare(&mut self, call: Call) {
         if let Call::Write = call {
             self.lock_wide();
@@ -132,7 +133,7 @@ impl Load {
         }
     }
 
-    /// How many calls a pass of this kind has.
+    /// Returns the number of calls of a pass of this kind.
     pub(crate) fn calls(&self, call: Call) -> u128 {
         match call {
             Call::LockAndUnlock => 2 * self.handles.len() as u128,
@@ -142,7 +143,7 @@ impl Load {
         }
     }
 
-    /// Does a call at each handle, or at each one of a chunk that has 16 bytes, so many times.
+    /// Does `passes` times a call at each handle, or at each handle of a chunk that has 16 bytes.
     pub(crate) fn repeat(&mut self, call: Call, passes: u32) {
         for pass in 0..passes {
             match call {
@@ -213,12 +214,12 @@ impl Load {
         }
     }
 
-    /// Adds the sum of all replies, and that of the words of the heap.
+    /// Adds the sum of all replies, and the sum of the words of the heap.
     pub(crate) fn add_to(self, sums: &mut Sums) {
         sums.add(self.replies, region_of(self.heap).as_slice());
     }
 
-    /// The chunks of every second handle, the second among them.
+    /// Returns the chunks of every second handle, from the second on.
     pub(crate) fn kept(&self, alloc: Global) -> Result<Vec<Kept>, AllocError> {
         let mut kept = Vec::new(alloc);
         for name in self.handles.iter().skip(1).step_by(2) {
@@ -239,7 +240,7 @@ impl Load {
     }
 }
 
-/// The region of a heap of which nothing is lent.
+/// Returns the region of a heap of which nothing is lent.
 pub(crate) fn region_of(heap: Heap) -> Region
     requires { heap.lent ≡ None }
     ensures { result ≡ heap }

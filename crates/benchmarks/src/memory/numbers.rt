@@ -5,7 +5,7 @@ ghost use Rattle.std.specs.List.Sorted.{IsPermutation};
 
 use heap_model::Name;
 
-/// The numbers of a linear congruential generator of 32 bits, of which the upper 16 are given out.
+/// The numbers of a linear congruential generator of 32 bits. It returns the upper 16 bits.
 #[derive(Drop)]
 pub(crate) struct Numbers {
     state: u32,
@@ -16,7 +16,7 @@ impl Numbers {
         Numbers { state: 1 }
     }
 
-    /// The next number below a limit.
+    /// Returns the next number below a limit.
     pub(crate) fn below(&mut self, limit: usize) -> usize
         requires { 0 < limit }
         ensures { result < limit }
@@ -28,7 +28,7 @@ impl Numbers {
         (self.state / 0x1_0000) as usize % limit
     }
 
-    /// Brings names into another order.
+    /// Shuffles names.
     pub(crate) fn shuffle(&mut self, names: &mut [Name])
         ensures { IsPermutation names.old names.new }
     {

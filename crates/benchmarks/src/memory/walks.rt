@@ -1,5 +1,5 @@
-//! Calls that walk through a heap whose room lies between its chunks, or move these, and orders of calls for which
-//! lists of free chunks help least.
+//! Calls that walk through a heap with free bytes between its chunks, or that move these chunks.
+//! Also orders of calls for which lists of free chunks help least.
 
 ghost use Rattle.std.specs.Prelude.{◌≡◌};
 
@@ -8,37 +8,37 @@ use crate::memory::load::OWNER;
 use crate::timing::Sum;
 use mem_manager::Heap;
 
-/// How many stretches a heap is parted into.
+/// The number of stretches of a parted heap.
 const STRETCHES: usize = 64;
 
-/// How many chunks are freed for one large one, at most.
+/// The maximum number of chunks that are freed for one large one.
 const MOST_FREED: usize = 2000;
 
-/// Calls on a copy of a heap: the first five on one that is full but for every second chunk, the others on one
-/// whose free chunks are all of one class.
+/// Calls on a copy of a heap. The first five use a heap that is full but for every second chunk,
+/// the others one whose free chunks are all of one class.
 #[derive(Clone, Copy)]
 pub(crate) enum Walk {
     LargestStretch,
     Compact,
-    /// New chunks, for each of which one stretch of a parted heap is compacted.
+    /// New chunks. For each of them one stretch of a parted heap is compacted.
     HandleNew,
     /// Each chunk gets 8 bytes more, and its own length again.
     ResizeInPlace,
     /// A chunk in the middle becomes a quarter of the heap.
     ResizeByMoving,
-    /// New chunks, each of which needs a large free one. These stand far behind the first of their list, so that
-    /// the chunks are walked for each, and their list.
+    /// New chunks, each of which needs a large free one. The large ones are far after the first of
+    /// their list. So each call walks the chunks and their list.
     FarInAList,
-    /// A chunk of no bytes goes to a large free one, far behind the first of its list, and then a chunk is made, in
-    /// turns.
+    /// A chunk of no bytes goes to a large free one, far after the first of its list. Then a chunk
+    /// is made, in turns.
     ResizeInTurn,
-    /// One chunk that takes all the room of many that were freed one by one, of which none are joined.
+    /// One chunk that takes all the room of many chunks that were freed one by one and not joined.
     OverManyFreed,
 }
 
 impl Original {
-    /// Makes a copy of the heap ready: it is parted where stretches are to be compacted, and the chunks between the
-    /// first free ones are freed where they are to be taken by one.
+    /// Prepares a copy of the heap. It is parted if stretches are to be compacted. The chunks
+    /// between the first free ones are freed if one chunk is to take them.
     pub(crate) fn prepare(&self, heap: &mut Heap, walk: Walk)
         ensures { heap.new.lent ≡ heap.old.lent }
     {
@@ -49,7 +49,8 @@ impl Original {
         }
     }
 
-    /// Locks chunks of a heap that part it into stretches of about as many chunks each.
+    /// Locks chunks of a heap, which part it into stretches of about the same number of chunks
+    /// each.
     fn part(&self, heap: &mut Heap)
         ensures { heap.new.lent ≡ heap.old.lent }
     {
@@ -71,7 +72,7 @@ impl Original {
         }
     }
 
-    /// How many chunks are freed for one large one.
+    /// Returns the number of chunks that are freed for one large one.
     fn freed(&self) -> usize {
         MOST_FREED.min(self.kept.len() / 4)
     }
@@ -80,7 +81,7 @@ impl Original {
         self.region.len().min(u32::MAX as usize) as u32
     }
 
-    /// How many calls are made.
+    /// Returns the number of calls.
     pub(crate) fn calls(&self, walk: Walk) -> u128 {
         match walk {
             Walk::HandleNew => STRETCHES as u128 / 2,
@@ -91,7 +92,7 @@ impl Original {
         }
     }
 
-    /// Does the calls, and answers the sum of their replies.
+    /// Does the calls, and returns the sum of their replies.
     pub(crate) fn walk(&self, heap: &mut Heap, walk: Walk) -> Sum
         ensures { heap.new.lent ≡ heap.old.lent }
     {
@@ -109,7 +110,7 @@ impl Original {
         replies
     }
 
-    /// Makes chunks that take three quarters of the room of a stretch each.
+    /// Makes chunks that each take three quarters of the room of a stretch.
     fn make_large(&self, heap: &mut Heap, replies: &mut Sum)
         ensures { heap.new.lent ≡ heap.old.lent }
     {
@@ -153,7 +154,7 @@ impl Original {
         }
     }
 
-    /// Makes a chunk that takes the room of those that were freed, and of the free ones beside them.
+    /// Makes a chunk that takes the room of the freed chunks and of the free ones next to them.
     fn make_over(&self, heap: &mut Heap, replies: &mut Sum)
         ensures { heap.new.lent ≡ heap.old.lent }
     {

@@ -1,4 +1,4 @@
-//! Databases under load: their entries are made, moved, taken out and asked for in a fixed order.
+//! Databases under load: their entries are made, moved, removed and asked for in a fixed order.
 
 ghost use Rattle.std.specs.Prelude.{◌≡◌, None};
 
@@ -14,13 +14,13 @@ use record_db::{
 };
 use std::marker::Model;
 
-/// An index behind all records.
+/// An index after all records.
 const END: u32 = 0xFFFF;
 
-/// The most bytes of a record.
+/// The maximum number of bytes of a record.
 const MOST_BYTES: u32 = 64;
 
-/// The owner that gets what is taken out of the database.
+/// The owner of data that is taken out of the database.
 const CALLER: u8 = 1;
 
 /// The category that is deleted.
@@ -31,15 +31,15 @@ const DELETED_CATEGORY: u8 = 2;
 pub(crate) enum Call {
     /// All records are made, once.
     Fill,
-    /// As many resources are made, once.
+    /// The same number of resources is made, once.
     FillResources,
-    /// New records behind the last.
+    /// New records are made after the last.
     NewAtTheEnd,
     RemoveTheLast,
     RemoveTheFirst,
-    /// The first record is moved behind the last.
+    /// The first record is moved after the last.
     MoveToTheEnd,
-    /// The last record is moved in front of the first.
+    /// The last record is moved before the first.
     MoveToTheFront,
     /// All records are asked for.
     Info,
@@ -50,20 +50,20 @@ pub(crate) enum Call {
     CountCategory,
     /// All records are moved to another category and back.
     MoveCategory,
-    /// The last record is taken out, and its data made the last record's again.
+    /// The last record is detached, and its data attached as the last record again.
     DetachAndAttach,
     /// The last resource is found by its type and its ID.
     FindResource,
     /// The last resource is found as the last of its type.
     FindType,
-    /// The first resource is taken out.
+    /// The first resource is removed.
     RemoveResource,
     /// Every second record is deleted by its category, once.
     DeleteCategory,
 }
 
 impl Call {
-    /// How often so many calls are done.
+    /// Returns the number of rounds of a kind of call.
     pub(crate) fn rounds(self, work: Work<'_>) -> u16 {
         match self {
             Call::Fill | Call::FillResources | Call::DeleteCategory => 1,
@@ -72,12 +72,12 @@ impl Call {
     }
 }
 
-/// A store of which nothing is lent, with a database, and the sum of all replies to the calls so far.
+/// A store of which nothing is lent, with a database, and the sum of all replies so far.
 #[derive(Drop)]
 pub(crate) struct Load {
     store: Store,
     db: Db,
-    /// How many records were asked for to be made.
+    /// The number of records that calls asked to make.
     made: u32,
     replies: Sum,
     resources: ResourceLoad,
@@ -95,7 +95,7 @@ impl Model for Load {
 }
 
 impl Load {
-    /// A load on a database that has no records yet, and on one of resources.
+    /// Makes a load on a database that has no records yet, and on one of resources.
     pub(crate) fn new(store: Store, db: Db, resources: ResourceLoad) -> Load
         requires { store.lent ≡ None }
     {
@@ -108,12 +108,12 @@ impl Load {
         }
     }
 
-    /// How many records there are.
+    /// Returns the number of records.
     fn count(&self) -> u32 {
         num_records(&self.store, self.db).unwrap_or(0)
     }
 
-    /// Makes so many records behind the last, of 0 to 64 bytes.
+    /// Makes `count` records of 0 to 64 bytes after the last one.
     fn make(&mut self, count: u32) {
         for _ in 0..count {
             let size = self.made % (MOST_BYTES + 1);
@@ -128,7 +128,7 @@ impl Load {
         }
     }
 
-    /// How many calls of a kind `repeat` does.
+    /// Returns the number of calls that `repeat` does for a kind.
     pub(crate) fn calls(&self, call: Call, work: Work<'_>) -> u128 {
         match call {
             Call::Fill | Call::FillResources => work.records as u128,
@@ -144,7 +144,7 @@ impl Load {
         }
     }
 
-    /// Gives every second record the category that is deleted, where one is.
+    /// Gives every second record the category that is deleted, if the call deletes one.
     pub(crate) fn prepare(&mut self, call: Call) {
         if let Call::DeleteCategory = call {
             self.categorize();
@@ -174,7 +174,7 @@ impl Load {
         }
     }
 
-    /// Brings the databases back to as many entries as they had before calls of a kind.
+    /// Brings the databases back to the number of entries that they had before the calls of a kind.
     pub(crate) fn even_out(&mut self, call: Call, work: Work<'_>) {
         match call {
             Call::NewAtTheEnd => self.remove_last(work.calls),
@@ -247,7 +247,7 @@ impl Load {
         }
     }
 
-    /// The index of the record with an ID, or the number of records where none of them has it.
+    /// Returns the index of the record with an ID, or the number of records if none has it.
     fn index_of(&self, id: u32, records: u32) -> u32 {
         for index in 0..records {
             if matches!(record_info(&self.store, self.db, index), Ok(info) if info.id == id) {
@@ -290,7 +290,7 @@ impl Load {
         }
     }
 
-    /// Takes a record out, and makes its data the last record's.
+    /// Detaches a record, and attaches its data as the last record.
     fn attach_again(&mut self, index: u32) -> Result<u32, Refusal> {
         let name = detach(&mut self.store, self.db, index, CALLER)?;
         attach(&mut self.store, self.db, END, name)
@@ -309,7 +309,7 @@ impl Load {
         self.replies.add_done(done);
     }
 
-    /// Adds the sums of all replies, and those of the words of the images.
+    /// Adds the sums of all replies, and the sums of the words of the images.
     pub(crate) fn add_to(self, sums: &mut Sums) {
         sums.add(self.replies, region_of(self.store).as_slice());
         self.resources.add_to(sums);

@@ -1,4 +1,4 @@
-//! A database of resources under load: they are made, searched for and taken out in a fixed order.
+//! A database of resources under load: they are made, searched for and removed in a fixed order.
 
 ghost use Rattle.std.specs.Prelude.{◌≡◌, None};
 
@@ -11,21 +11,22 @@ use resource_db::{
 };
 use std::marker::Model;
 
-/// The most bytes of a resource.
+/// The maximum number of bytes of a resource.
 const MOST_BYTES: u32 = 64;
 
-/// The two types that resources have by turns, `code` and `tSTR`: those of even indexes the first.
+/// The two types of resources, `code` and `tSTR`. Even indexes have the first, odd ones the second.
 const KINDS: [u32; 2] = [0x636F_6465, 0x7453_5452];
 
-/// How many IDs there are.
+/// The number of IDs.
 const IDS: u32 = 0x1_0000;
 
-/// A store of which nothing is lent, with a database of resources, and the sum of all replies to the calls so far.
+/// A store of which nothing is lent, with a database of resources, and the sum of all replies so
+/// far.
 #[derive(Drop)]
 pub(crate) struct ResourceLoad {
     store: Store,
     db: Db,
-    /// How many resources were asked for to be made.
+    /// The number of resources that calls asked to make.
     made: u32,
     replies: Sum,
 }
@@ -42,7 +43,7 @@ impl Model for ResourceLoad {
 }
 
 impl ResourceLoad {
-    /// A load on a database that has no resources yet.
+    /// Makes a load on a database that has no resources yet.
     pub(crate) fn new(store: Store, db: Db) -> ResourceLoad
         requires { store.lent ≡ None }
     {
@@ -54,7 +55,7 @@ impl ResourceLoad {
         }
     }
 
-    /// Makes so many resources behind the last, of 0 to 64 bytes.
+    /// Makes `count` resources of 0 to 64 bytes after the last one.
     pub(crate) fn make(&mut self, count: u32) {
         for _ in 0..count {
             let number = self.made;
@@ -72,12 +73,12 @@ impl ResourceLoad {
         }
     }
 
-    /// How many resources there are.
+    /// Returns the number of resources.
     fn count(&self) -> u32 {
         num_resources(&self.store, self.db).unwrap_or(0)
     }
 
-    /// What the last resource is, if there is one.
+    /// Returns the last resource, if there is one.
     fn last(&self) -> Option<ResourceInfo> {
         resource_info(&self.store, self.db, self.count().saturating_sub(1)).ok()
     }
@@ -110,7 +111,7 @@ impl ResourceLoad {
         }
     }
 
-    /// Adds the sum of all replies, and that of the words of the image.
+    /// Adds the sum of all replies, and the sum of the words of the image.
     pub(crate) fn add_to(self, sums: &mut Sums) {
         sums.add(self.replies, region_of(self.store).as_slice());
     }

@@ -1,17 +1,17 @@
-//! Images with databases, written out chunk by chunk.
+//! Images with databases, built chunk by chunk.
 
 ghost use Rattle.std.specs.Prelude.{◌≡◌, IfOk, None};
 
 use raw_region::Region;
 use std::alloc::{AllocError, Global};
 
-/// What an image begins with, `PHI1`.
+/// The magic of an image, `PHI1`.
 const MAGIC: u32 = 0x5048_4931;
 
-/// What the head takes: the slots begin behind it.
+/// The size of the head. The slots begin after it.
 const HEAD: u32 = 16;
 
-/// What the header of a chunk takes.
+/// The size of a chunk's header.
 const CHUNK_HEADER: usize = 8;
 
 /// The owner of the directory and of the headers of databases.
@@ -20,19 +20,19 @@ const MANAGERS_OWNER: u32 = 0;
 /// The owner of chunks for data.
 const DATA_OWNER: u32 = 15;
 
-/// What is wrong with a store, or other than usual.
+/// A fault or a special shape of a store.
 #[derive(Clone, Copy)]
 pub(crate) enum Flaw {
     Nothing,
-    /// The IDs of a database's records go down to 1, where they go up from 1 otherwise.
+    /// The IDs of a database's records go down to 1. Without this flaw they go up from 1.
     FallingIds,
     /// All records of a database have one ID.
     OneId,
-    /// All databases name the same data.
+    /// All databases refer to the same data.
     SharedData,
 }
 
-/// A store: the bytes of its image, and its databases, each with so many records.
+/// A store: the size of its image, the number of its databases, and the number of records of each.
 #[derive(Clone, Copy)]
 pub(crate) struct Store {
     pub(crate) size: u32,
@@ -41,7 +41,7 @@ pub(crate) struct Store {
     pub(crate) flaw: Flaw,
 }
 
-/// Chunks, each under a slot of its own, and the slots.
+/// Chunks, each under its own slot, and the slots.
 #[derive(Drop)]
 struct Chunks {
     start: u32,
@@ -50,14 +50,14 @@ struct Chunks {
 }
 
 impl Store {
-    /// The same with this flaw.
+    /// Returns the store with this flaw.
     pub(crate) fn with(self, flaw: Flaw) -> Store {
         Store { flaw, ..self }
     }
 
-    /// The image. Its slots are the directory's, those of the headers and those of the data, in this order,
-    /// and all are in use. The chunks for data are as long as all of them can be, and what is left behind
-    /// them is a free chunk.
+    /// Makes the image. Its slots are those of the directory, of the headers and of the data, in
+    /// this order, and all are in use. The data chunks are as long as all of them can be. The rest
+    /// of the image is a free chunk after them.
     pub(crate) fn image(self, alloc: Global) -> Result<Region, AllocError>
         ensures { IfOk result (λ region. region.lent ≡ None) }
     {
@@ -87,7 +87,7 @@ impl Store {
         Ok(())
     }
 
-    /// How many chunks for data there are.
+    /// Returns the number of data chunks.
     fn data_chunks(self) -> u32 {
         match self.flaw {
             Flaw::SharedData => self.records as u32,
@@ -95,12 +95,12 @@ impl Store {
         }
     }
 
-    /// The number of the slot of the first chunk for data.
+    /// Returns the number of the slot of the first data chunk.
     fn first_data(self) -> u32 {
         self.databases as u32 + 1
     }
 
-    /// The directory: the slots behind its own.
+    /// Returns the directory's body: the slots after its own.
     fn directory(self, alloc: Global) -> Result<Vec<u8>, AllocError> {
         let mut bytes = Vec::new(alloc);
         for database in 0..self.databases {
@@ -109,7 +109,7 @@ impl Store {
         Ok(bytes)
     }
 
-    /// The header of a database and its records.
+    /// Returns the body of a database's header with its records.
     fn database(self, alloc: Global, number: u16) -> Result<Vec<u8>, AllocError> {
         let mut bytes = Vec::new(alloc);
         put_header(&mut bytes, number, self.records)?;
@@ -117,7 +117,7 @@ impl Store {
         Ok(bytes)
     }
 
-    /// The records of a database.
+    /// Adds the entries of a database's records.
     fn put_entries(self, bytes: &mut Vec<u8>, number: u16) -> Result<(), AllocError> {
         let first = match self.flaw {
             Flaw::SharedData => self.first_data(),
@@ -137,12 +137,12 @@ impl Store {
     }
 }
 
-/// The offset of the slot of a number.
+/// Returns the offset of the slot with a number.
 fn slot(number: u32) -> u32 {
     number.wrapping_mul(4).wrapping_add(HEAD)
 }
 
-/// How many bytes there are, of which no image has more than a `u32` says.
+/// Returns the number of bytes. No image has more bytes than fit a `u32`.
 fn length(bytes: &[u8]) -> u32 {
     bytes.len().min(u32::MAX as usize) as u32
 }
@@ -154,7 +154,8 @@ fn put_words(bytes: &mut Vec<u8>, words: &[u32]) -> Result<(), AllocError> {
     Ok(())
 }
 
-/// The header of a database of so many records. Names are 31 bytes long and differ in the last two alone.
+/// Adds the header of a database with `records` records. Names are 31 bytes long and differ only in
+/// the last two bytes.
 fn put_header(bytes: &mut Vec<u8>, number: u16, records: u16) -> Result<(), AllocError> {
     bytes.resize(29, b'n')?;
     bytes.push((number / 32 % 32) as u8 + b'A')?;
@@ -164,7 +165,7 @@ fn put_header(bytes: &mut Vec<u8>, number: u16, records: u16) -> Result<(), Allo
 }
 
 impl Chunks {
-    /// No chunks yet, where there will be so many.
+    /// Starts with no chunks, with room for `slots` slots.
     fn new(alloc: Global, slots: u32) -> Chunks {
         Chunks {
             start: slot(slots.wrapping_add(1) / 2 * 2),
@@ -173,7 +174,7 @@ impl Chunks {
         }
     }
 
-    /// Where the next chunk goes.
+    /// Returns the offset of the next chunk.
     fn end(&self) -> u32 {
         self.start.wrapping_add(length(&self.area))
     }
@@ -191,7 +192,7 @@ impl Chunks {
         self.area.extend_from_slice(&[0; 8][..slack as usize])
     }
 
-    /// The image of these chunks, with a free one behind them where there is room.
+    /// Makes the image of these chunks, with a free chunk after them if there is room.
     fn into_region(self, alloc: Global, size: u32) -> Result<Region, AllocError>
         ensures { IfOk result (λ region. region.lent ≡ None) }
     {

@@ -1,4 +1,4 @@
-//! The processor time, and times printed.
+//! The processor time, and the print of times.
 
 use crate::timing::Times;
 use crate::work::Work;
@@ -7,15 +7,15 @@ use std::rt::CpuClock;
 use std::time::Duration;
 
 impl Times {
-    /// Adds the processor time that was used since it was so much.
+    /// Adds the processor time since `start`.
     pub(crate) fn add_since(&mut self, rt: &impl CpuClock, start: Duration) -> io::Result<()> {
         let now = rt.thread_cpu_time()?;
         self.add(now.saturating_sub(start))?;
         Ok(())
     }
 
-    /// Prints the best and the median of the times, if there are any and the work asks for them, behind what was
-    /// timed and how many calls each time has.
+    /// Prints the best and the median of the times, after the name of what was timed and the number
+    /// of calls of each time. Prints nothing if there are no times or the work asks for none.
     pub(crate) fn print(
         self,
         rt: &impl Print,
@@ -31,7 +31,8 @@ impl Times {
         Ok(())
     }
 
-    /// Prints the best and the median of the times in microseconds, if there are any, behind what was timed.
+    /// Prints the best and the median of the times in microseconds, if there are any, after the
+    /// name of what was timed.
     pub(crate) fn print_microseconds(self, rt: &impl Print, name: &str) -> io::Result<()> {
         if let (Some(best), Some(median)) = (self.best(), self.into_median()) {
             println!(rt; "{name} best {} median {}", best / 1000, median / 1000)?;

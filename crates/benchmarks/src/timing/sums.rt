@@ -1,10 +1,10 @@
-//! Sums that tell whether two programs saw the same numbers in the same order.
+//! Sums that show whether two programs saw the same numbers in the same order.
 
 use heap_model::{Name, Refusal};
 use std::io;
 
-/// The sum of the numbers seen so far. It is turned by 5 bits before each is added, so that their
-/// order counts.
+/// The sum of the numbers seen so far. It is rotated by 5 bits before each is added, so the order
+/// counts.
 #[derive(Clone, Copy)]
 pub(crate) struct Sum(pub(crate) u32);
 
@@ -28,7 +28,7 @@ impl Sum {
         self.add(refusal.number() as u32);
     }
 
-    /// Adds the number of a refusal, and 0 where there is none.
+    /// Adds the number of a refusal, or 0 if there is none.
     #[inline]
     pub(crate) fn add_done(&mut self, done: Result<(), Refusal>) {
         match done {
@@ -37,7 +37,7 @@ impl Sum {
         }
     }
 
-    /// Adds the number that is answered, or that of a refusal.
+    /// Adds the returned number, or the number of a refusal.
     #[inline]
     pub(crate) fn add_number(&mut self, number: Result<u32, Refusal>) {
         match number {
@@ -46,7 +46,7 @@ impl Sum {
         }
     }
 
-    /// Adds the byte that is answered, or the number of a refusal.
+    /// Adds the returned byte, or the number of a refusal.
     #[inline]
     pub(crate) fn add_byte(&mut self, byte: Result<u8, Refusal>) {
         match byte {
@@ -55,7 +55,7 @@ impl Sum {
         }
     }
 
-    /// Adds the name that is answered, or the number of a refusal.
+    /// Adds the returned name, or the number of a refusal.
     #[inline]
     pub(crate) fn add_name(&mut self, name: Result<Name, Refusal>) {
         match name {
@@ -64,7 +64,7 @@ impl Sum {
         }
     }
 
-    /// The sum of the words of an image, or of a file.
+    /// Returns the sum of the words of an image or of a file.
     pub(crate) fn of_words(bytes: &[u8]) -> Sum {
         let mut sum = Sum(0);
         for word in bytes.as_chunks().0 {
@@ -74,7 +74,7 @@ impl Sum {
     }
 }
 
-/// The sum of all replies, and that of the words of the images in the end.
+/// The sum of all replies, and the sum of the words of the images at the end.
 #[derive(Clone, Copy)]
 pub(crate) struct Sums {
     pub(crate) replies: Sum,
@@ -82,7 +82,7 @@ pub(crate) struct Sums {
 }
 
 impl Sums {
-    /// Those of no replies and of no words.
+    /// Returns the sums of no replies and no words.
     pub(crate) fn new() -> Sums {
         Sums {
             replies: Sum(0),
@@ -90,13 +90,13 @@ impl Sums {
         }
     }
 
-    /// Adds the sum of some replies, and that of the words of the image that they left.
+    /// Adds the sum of some replies, and the sum of the words of the image after them.
     pub(crate) fn add(&mut self, replies: Sum, image: &[u8]) {
         self.replies.add(replies.0);
         self.words.add(Sum::of_words(image).0);
     }
 
-    /// Prints both.
+    /// Prints both sums.
     pub(crate) fn print(self, rt: &impl Print) -> io::Result<()> {
         println!(rt; "replies {} words {}", self.replies.0, self.words.0)
     }

@@ -22,7 +22,7 @@ impl Model for Times {
 }
 
 impl Times {
-    /// No times yet.
+    /// Starts with no times.
     pub(crate) fn new(alloc: Global) -> Times
         ensures { result ≡ [] }
     {
@@ -31,7 +31,11 @@ impl Times {
         }
     }
 
-    /// Adds a time. The only error is that memory was refused.
+    /// Adds a time.
+    ///
+    /// # Errors
+    ///
+    /// - `AllocError`: an allocation failed.
     pub(crate) fn add(&mut self, time: Duration) -> Result<(), AllocError>
         ensures added { OnOk result (self.new ≡ self.old ++ as_nanos time ∷ []) }
         ensures err { OnErr result (self.new ≡ self.old) }
@@ -40,7 +44,7 @@ impl Times {
         Ok(())
     }
 
-    /// The least of the times, if there is one.
+    /// Returns the least time, if there is one.
     pub(crate) fn best(&self) -> Option<u128>
         ensures none { IsNone result ↔ (self.now ≡ []) }
         ensures least { IfSome result (λ best. All (λ time. best ≤ time) self.now) }
@@ -49,7 +53,7 @@ impl Times {
         self.nanoseconds.iter().copied().min()
     }
 
-    /// The time in the middle of the times once they are sorted, if there is one.
+    /// Returns the median of the times, if there is one.
     pub(crate) fn into_median(mut self) -> Option<u128>
         ensures none { IsNone result ↔ (self ≡ []) }
         ensures measured { IfSome result (Contains self) }

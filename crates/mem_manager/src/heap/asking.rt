@@ -1,4 +1,4 @@
-//! Calls that ask of a heap and leave it as it is.
+//! Calls that read a heap and leave it unchanged.
 #![tactic(auto, using(crate::proofs::KnownLoans::knows_lends, crate::proofs::KnownLoans::known_other, laws_heap::proofs::LentBodies::table_within))]
 
 ghost use Rattle.std.specs.Prelude.{◌≡◌, ◌≢◌, ◌≤◌, ◌<◌, Err};
@@ -13,9 +13,11 @@ use crate::lookup::{check_here, find, name_at};
 use heap_model::{Name, Place, Refusal};
 
 impl Heap {
-    /// The size of a chunk's body in bytes, as it was asked for.
+    /// Returns the size of a chunk's body in bytes, as the caller asked for it.
     ///
-    /// Refused: `InvalidHandle`.
+    /// # Errors
+    ///
+    /// - `InvalidHandle`: no chunk has the name, or the manager owns the chunk.
     pub fn size(&self, name: Name) -> Result<u32, Refusal>
         ensures { Does self.now (MemoryCall.Size name) (number_or_refused result) self.now }
     {
@@ -23,9 +25,11 @@ impl Heap {
         Ok(found.length)
     }
 
-    /// The owner of a chunk.
+    /// Returns the owner of a chunk.
     ///
-    /// Refused: `InvalidHandle`.
+    /// # Errors
+    ///
+    /// - `InvalidHandle`: no chunk has the name, or the manager owns the chunk.
     pub fn owner(&self, name: Name) -> Result<u8, Refusal>
         ensures { Does self.now (MemoryCall.Owner name) (number_or_refused result) self.now }
     {
@@ -33,9 +37,11 @@ impl Heap {
         Ok(found.owner)
     }
 
-    /// The lock count of a chunk, up to 14; that of a fixed chunk is 15.
+    /// Returns the lock count of a chunk, 0 to 14. A fixed chunk has 15.
     ///
-    /// Refused: `InvalidHandle`.
+    /// # Errors
+    ///
+    /// - `InvalidHandle`: no chunk has the name, or the manager owns the chunk.
     pub fn locks(&self, name: Name) -> Result<u8, Refusal>
         ensures { Does self.now (MemoryCall.Locks name) (number_or_refused result) self.now }
     {
@@ -43,9 +49,14 @@ impl Heap {
         Ok(found.lock)
     }
 
-    /// `count` bytes of a chunk, from `at` within it on, as they lie in the image. Takes no memory.
+    /// Returns `count` bytes of a chunk, from `at` within it on, as they are in the image. It
+    /// allocates no memory.
     ///
-    /// Refused: `InvalidHandle`, `Lent`, `OutOfBounds`.
+    /// # Errors
+    ///
+    /// - `InvalidHandle`: no chunk has the name, or the manager owns the chunk.
+    /// - `Lent`: the bytes of the chunk are lent.
+    /// - `OutOfBounds`: the range reaches beyond the chunk's end.
     pub fn read(&self, name: Name, at: u32, count: u32) -> Result<&[u8], Refusal>
         ensures does { Does self.now (MemoryCall.Read name at count)
             (reply_of (λ bytes. Reply.Data bytes.now) result) self.now }
@@ -58,25 +69,28 @@ impl Heap {
         Ok(self.space.region().slice(start, count as usize))
     }
 
-    /// The name of the caller's chunk whose body is at a place. Bytes of a body that look like a header
-    /// name nothing.
+    /// Returns the name of the chunk whose body is at a place. Bytes of a body that look like a
+    /// header name nothing.
     ///
-    /// Refused: `InvalidHandle`, where no caller's chunk has its body there.
+    /// # Errors
+    ///
+    /// - `InvalidHandle`: no chunk has its body there, or the manager owns the chunk.
     pub fn recover(&self, place: Place) -> Result<Name, Refusal>
         ensures { Does self.now (MemoryCall.Recover place) (name_or_refused result) self.now }
     {
         name_at(&self.space, &self.known, place)
     }
 
-    /// The sizes of the free chunks together, in bytes.
+    /// Returns the sum of the sizes of the free chunks, in bytes.
     pub fn free_bytes(&self) -> u32
         ensures { Does self.now MemoryCall.FreeBytes (Reply.Number result) self.now }
     {
         self.space.free_bytes()
     }
 
-    /// The greatest room of a stretch, in bytes: the most that its free chunks come to once it is compacted.
-    /// A chunk takes 8 bytes more than its body, and whole units of 8. 0 where there is no stretch.
+    /// Returns the greatest room of a stretch, in bytes, or 0 if there is no stretch. The room of a
+    /// stretch is the sum of its free chunks, which it has in one chunk once it is compacted. A
+    /// chunk takes 8 bytes more than its body, and whole units of 8.
     pub fn largest_stretch(&self) -> u32
         ensures { Does self.now MemoryCall.LargestStretch (Reply.Number result) self.now }
     {

@@ -1,4 +1,4 @@
-//! Calls that change a chunk where it stands.
+//! Calls that change a chunk in its place.
 #![tactic(auto, using(crate::proofs::KnownLoans::knows_lends, crate::proofs::KnownLoans::known_other, laws_heap::proofs::LentBodies::table_within))]
 
 ghost use Rattle.std.specs.Prelude.{◌≡◌, ◌≤◌, ◌<◌};
@@ -11,14 +11,18 @@ use crate::heap::{Heap, Locked};
 use crate::lookup::{check_callers, check_here, check_locked, check_movable, find, find_again};
 use heap_model::{Name, Refusal};
 
-/// The most locks that a movable chunk can have.
+/// The maximum number of locks of a movable chunk.
 const MOST_LOCKS: u8 = 14;
 
 impl Heap {
-    /// Locks a movable chunk once more, up to 14 times: while its lock count is not 0 it keeps its
-    /// place, which is answered with the new count.
+    /// Locks a movable chunk once more, and returns its place and its new lock count. While the
+    /// lock count isn't 0, the chunk keeps its place.
     ///
-    /// Refused: `InvalidHandle`, `ChunkFixed`, `LockOverflow`.
+    /// # Errors
+    ///
+    /// - `InvalidHandle`: no chunk has the name, or the manager owns the chunk.
+    /// - `ChunkFixed`: the chunk is fixed.
+    /// - `LockOverflow`: the chunk has 14 locks already.
     pub fn lock(&mut self, name: Name) -> Result<Locked, Refusal>
         ensures { Does self.old (MemoryCall.Lock name) (lock_or_refused result) self.new }
     {
@@ -35,9 +39,14 @@ impl Heap {
         })
     }
 
-    /// Takes one lock off a movable chunk, and answers how many are left.
+    /// Takes one lock off a movable chunk, and returns its new lock count.
     ///
-    /// Refused: `InvalidHandle`, `ChunkFixed`, `ChunkNotLocked`, `Lent`.
+    /// # Errors
+    ///
+    /// - `InvalidHandle`: no chunk has the name, or the manager owns the chunk.
+    /// - `ChunkFixed`: the chunk is fixed.
+    /// - `ChunkNotLocked`: the chunk has no lock.
+    /// - `Lent`: the bytes of the chunk are lent.
     pub fn unlock(&mut self, name: Name) -> Result<u8, Refusal>
         ensures { Does self.old (MemoryCall.Unlock name) (number_or_refused result) self.new }
     {
@@ -52,7 +61,12 @@ impl Heap {
 
     /// Writes bytes over those of a locked or fixed chunk, from `at` within it on.
     ///
-    /// Refused: `InvalidHandle`, `ChunkNotLocked`, `Lent`, `OutOfBounds`.
+    /// # Errors
+    ///
+    /// - `InvalidHandle`: no chunk has the name, or the manager owns the chunk.
+    /// - `ChunkNotLocked`: the chunk has no lock and isn't fixed.
+    /// - `Lent`: the bytes of the chunk are lent.
+    /// - `OutOfBounds`: the range reaches beyond the chunk's end.
     pub fn write(&mut self, name: Name, at: u32, bytes: &[u8]) -> Result<(), Refusal>
         ensures { Does self.old (MemoryCall.Write name at bytes.now)
             (done_or_refused result) self.new }
@@ -65,9 +79,14 @@ impl Heap {
         Ok(())
     }
 
-    /// Makes each of `count` bytes of a locked or fixed chunk the byte `byte`, from `at` within it on.
+    /// Sets `count` bytes of a locked or fixed chunk to `byte`, from `at` within it on.
     ///
-    /// Refused: `InvalidHandle`, `ChunkNotLocked`, `Lent`, `OutOfBounds`.
+    /// # Errors
+    ///
+    /// - `InvalidHandle`: no chunk has the name, or the manager owns the chunk.
+    /// - `ChunkNotLocked`: the chunk has no lock and isn't fixed.
+    /// - `Lent`: the bytes of the chunk are lent.
+    /// - `OutOfBounds`: the range reaches beyond the chunk's end.
     pub fn set(&mut self, name: Name, at: u32, count: u32, byte: u8) -> Result<(), Refusal>
         ensures { Does self.old (MemoryCall.Set name at count byte)
             (done_or_refused result) self.new }
@@ -80,10 +99,16 @@ impl Heap {
         Ok(())
     }
 
-    /// Writes the bytes of `text` in front of its first zero byte, all if it has none, and then one zero
-    /// byte, over those of a locked or fixed chunk, from `at` within it on.
+    /// Writes the bytes of `text` before its first zero byte, and then one zero byte. They
+    /// overwrite bytes of a locked or fixed chunk, from `at` within it on. If `text` has no zero
+    /// byte, all its bytes are written.
     ///
-    /// Refused: `InvalidHandle`, `ChunkNotLocked`, `Lent`, `OutOfBounds`, for which the zero byte counts.
+    /// # Errors
+    ///
+    /// - `InvalidHandle`: no chunk has the name, or the manager owns the chunk.
+    /// - `ChunkNotLocked`: the chunk has no lock and isn't fixed.
+    /// - `Lent`: the bytes of the chunk are lent.
+    /// - `OutOfBounds`: the range, which includes the zero byte, reaches beyond the chunk's end.
     pub fn str_copy(&mut self, name: Name, at: u32, text: &[u8]) -> Result<(), Refusal>
         ensures { Does self.old (MemoryCall.StrCopy name at text.now)
             (done_or_refused result) self.new }
@@ -97,9 +122,13 @@ impl Heap {
         Ok(())
     }
 
-    /// Gives a chunk that is a caller's to another owner, 1 to 14.
+    /// Gives a caller's chunk to another owner, 1 to 14.
     ///
-    /// Refused: `InvalidHandle`, `OwnedByDatabase`, `InvalidOwner`.
+    /// # Errors
+    ///
+    /// - `InvalidHandle`: no chunk has the name, or the manager owns the chunk.
+    /// - `OwnedByDatabase`: the chunk is data of a database.
+    /// - `InvalidOwner`: the owner isn't one of 1 to 14.
     pub fn set_owner(&mut self, name: Name, owner: u8) -> Result<(), Refusal>
         ensures { Does self.old (MemoryCall.SetOwner name owner) (done_or_refused result) self.new }
     {

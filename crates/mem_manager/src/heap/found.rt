@@ -1,6 +1,6 @@
-//! Calls for the store above on a movable chunk that it has found. Where the chunk stands is looked up once, and handed
-//! to each call beside its name, by which contracts speak: that is of use until the chunk moves, is freed, or gets
-//! another length, owner or lock.
+//! Calls for the store above on a movable chunk that it has found. The chunk is looked up once. The
+//! result is passed to each call with the chunk's name, which contracts refer to. It is valid until
+//! the chunk moves, is freed, or gets another length, owner or lock.
 #![tactic(auto, using(crate::proofs::KnownLoans::knows_lends, crate::proofs::KnownLoans::known_other, laws_heap::proofs::LentBodies::table_within))]
 
 ghost use Rattle.std.specs.Prelude.{◌≡◌, ◌≢◌, ◌≤◌, ◌<◌, ◌+◌, length, slice_range, IfErr, OnOk, OnErr};
@@ -25,7 +25,7 @@ use heap_place::Found;
 use raw_region::ByteChange;
 
 impl Heap {
-    /// A movable chunk, as it stands.
+    /// Finds a movable chunk.
     #[inline(always)]
     pub fn sys_find(&self, name: Name) -> Found
         requires { IsMovable self.now.bytes name.0 }
@@ -35,7 +35,7 @@ impl Heap {
         self.space.movable(name)
     }
 
-    /// The bytes of a movable chunk that was found, as they lie in the image.
+    /// Returns the bytes of a movable chunk that was found, as they are in the image.
     #[inline(always)]
     pub fn sys_body_found(&self, name: Name, found: Found) -> &[u8]
         requires stands { StandsAs self.now.bytes name.0 found }
@@ -63,8 +63,9 @@ impl Heap {
         self.space.write(found, at, bytes);
     }
 
-    /// Changes bytes of a movable chunk that was found: of the `count` bytes from `at` within it on, those at `skip`,
-    /// `skip + step`, `skip + 2 * step` and so on.
+    /// Changes every `step`-th byte of a range of a movable chunk that was found. Of the `count`
+    /// bytes from `at` within the chunk on, those at `skip`, `skip + step`, `skip + 2 * step` and
+    /// so on change.
     #[inline(always)]
     pub fn sys_change_every<C: ByteChange>(
         &mut self,
@@ -92,8 +93,8 @@ impl Heap {
             .change_every(found, at, count, skip, step, change);
     }
 
-    /// Copies `count` bytes of a movable chunk that was found from `from` within it to `to` within it; the ranges may
-    /// overlap.
+    /// Copies `count` bytes of a movable chunk that was found, from `from` within it to `to` within
+    /// it. The ranges may overlap.
     #[inline(always)]
     pub fn sys_slide(&mut self, name: Name, found: Found, from: u32, to: u32, count: u32)
         requires stands { StandsAs self.old.bytes name.0 found }
@@ -110,11 +111,15 @@ impl Heap {
         self.space.slide_within(found, from, to, count);
     }
 
-    /// Gives a movable chunk that was found, the directory too, `size` bytes: its first ones, or all of them and zeros
-    /// behind. What moves is as with `resize`; where it stands then has to be found anew.
+    /// Gives a movable chunk that was found `size` bytes: a prefix of its bytes, or all of them and
+    /// then zeros. The chunk may be the directory. What moves is as with `resize`. After the call
+    /// the chunk must be found again.
     ///
-    /// Refused: `Lent`; `ChunkLocked`, if it is locked and would have to move; `NotEnoughSpace`, if it is not
-    /// locked and no stretch has the room. Then nothing has changed.
+    /// # Errors
+    ///
+    /// - `Lent`: the bytes of the chunk are lent.
+    /// - `ChunkLocked`: the chunk is locked and would have to move.
+    /// - `NotEnoughSpace`: the chunk isn't locked, and no stretch has the room.
     #[inline(always)]
     pub fn sys_resize(&mut self, name: Name, found: Found, size: u32) -> Result<(), Refusal>
         requires stands { StandsAs self.old.bytes name.0 found }
@@ -135,7 +140,7 @@ impl Heap {
         resize_found(&mut self.space, found, size)
     }
 
-    /// Frees a movable chunk that was found, any but the directory.
+    /// Frees a movable chunk that was found. It may not be the directory.
     #[inline(always)]
     pub fn sys_free(&mut self, name: Name, found: Found)
         requires stands { StandsAs self.old.bytes name.0 found }

@@ -1,4 +1,4 @@
-//! What a heap lends and tells to the store above, of any chunk.
+//! Calls by which the store above reads a heap and any of its chunks.
 #![tactic(auto, using(crate::proofs::KnownLoans::knows_lends, crate::proofs::KnownLoans::known_other, laws_heap::proofs::LentBodies::table_within))]
 
 ghost use Rattle.std.specs.Prelude.{◌≡◌, ◌≢◌, IsSome, Some, None, IfSome, IfNone};
@@ -23,7 +23,8 @@ use master_table::TableStart;
 use raw_region::Region;
 
 impl Heap {
-    /// Takes a region whose caller knows that it is an accepted heap, without a look at more than its chain of tables.
+    /// Makes a heap of a region that is an accepted heap, without a check. It reads only the chain
+    /// of tables.
     pub fn of_accepted(region: Region) -> Heap
         requires accepted { HeapAccepted region.bytes }
         requires whole { region.lent ≡ None }
@@ -39,14 +40,14 @@ impl Heap {
         }
     }
 
-    /// The counts of the chunks, which are walked for it.
+    /// Counts the chunks of each kind, in one walk over the chunks.
     pub fn summary(&self) -> Summary
         ensures { Summarizes self.now.bytes result }
     {
         count_chunks(self.space.region())
     }
 
-    /// The bytes of the image.
+    /// Returns the bytes of the image.
     pub fn image(&self) -> &[u8]
         requires { self.now.lent ≡ None }
         ensures { result.now ≡ self.now.bytes }
@@ -55,8 +56,8 @@ impl Heap {
         region.slice(0, region.len())
     }
 
-    /// Any chunk, as it stands, or none where the name stands for nothing. That of a slot costs the same however large
-    /// the heap is.
+    /// Finds any chunk, or returns `None` if the name has none. The chunk of a slot is found in the
+    /// same time however large the heap is.
     #[inline(always)]
     pub fn sys_chunk(&self, name: Name) -> Option<Found>
         ensures is { IfSome result (IsFound self.now.bytes name.0) }
@@ -73,7 +74,7 @@ impl Heap {
         named(&self.space, &self.known, name)
     }
 
-    /// The lock count of any chunk, 15 of a fixed one.
+    /// Returns the lock count of any chunk. A fixed chunk has 15.
     #[inline(always)]
     pub fn sys_locks(&self, name: Name) -> u8
         requires there { IsSome (held self.now.bytes name.0) }
@@ -83,7 +84,7 @@ impl Heap {
         self.space.chunk(name).lock
     }
 
-    /// The bytes of a movable chunk, as they lie in the image.
+    /// Returns the bytes of a movable chunk, as they are in the image.
     #[inline(always)]
     pub fn sys_body(&self, name: Name) -> &[u8]
         requires movable { IsMovable self.now.bytes name.0 }
@@ -93,7 +94,7 @@ impl Heap {
         self.body_of(self.space.movable(name))
     }
 
-    /// The bytes of a chunk that was found.
+    /// Returns the bytes of a chunk that was found.
     #[inline(always)]
     pub(crate) fn body_of(&self, found: Found) -> &[u8]
         requires found { IsOne self.now.bytes found }

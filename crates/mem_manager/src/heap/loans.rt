@@ -1,4 +1,4 @@
-//! Bytes of chunks are taken out, and put back.
+//! Calls that take bytes of a chunk out of the heap, and put them back.
 #![tactic(auto, using(crate::proofs::KnownLoans::knows_lends, crate::proofs::KnownLoans::known_other, laws_heap::proofs::LentBodies::table_within))]
 
 ghost use Rattle.std.specs.Prelude.{◌≡◌, ◌≢◌, ℕ, IfSome, OnSome, IfNone, IfOk, OnErr, IfErr, None};
@@ -15,10 +15,15 @@ use crate::lookup::{check_locked, find};
 use heap_model::{Name, Refusal};
 
 impl Heap {
-    /// Takes the bytes of a locked or fixed chunk out. The heap has zeros in their place until they are put back, and
-    /// lends no others. It takes no memory, and copies no byte.
+    /// Takes the bytes of a locked or fixed chunk out. Zeros replace them in the heap until they
+    /// are put back. Until then the heap lends no other bytes. It allocates no memory and copies no
+    /// byte.
     ///
-    /// Refused: `InvalidHandle`, `ChunkNotLocked`; `Lent`, if a loan is out.
+    /// # Errors
+    ///
+    /// - `InvalidHandle`: no chunk has the name, or the manager owns the chunk.
+    /// - `ChunkNotLocked`: the chunk has no lock and isn't fixed.
+    /// - `Lent`: a loan is out already.
     pub fn take_out(&mut self, name: Name) -> Result<Loan, Refusal>
         ensures taken { IfOk result (λ loan. TakesOut self.old self.new name loan) }
         ensures refused { OnErr result (self.new ≡ self.old) }
@@ -47,7 +52,7 @@ impl Heap {
         self.space.take_back(found, part);
     }
 
-    /// The name of the chunk whose bytes are out, if there is one.
+    /// Returns the name of the chunk whose bytes are taken out, if there is one.
     pub fn lent(&self) -> Option<Name>
         ensures lent { IfSome result (λ name. IsLent self.now name.0) }
         ensures alone { IfSome result (λ name. (other : ℕ) → IsLent self.now other → other ≡ name.0) }

@@ -30,14 +30,16 @@ use master_table::{EmptySlot, TableStart, first_empty_slot, least_number, slots_
 use raw_region::Region;
 
 impl Heap {
-    /// Makes a movable chunk of `size` zeros, without a lock, for an owner of 1 to 14. Its name is the offset
-    /// of a slot that was empty.
+    /// Makes a movable chunk of `size` zeros, without a lock, for an owner of 1 to 14. Its name is
+    /// the offset of a slot that was empty.
     ///
-    /// Where no run of neighbouring free chunks has the room, the chunks of one stretch are packed, and
-    /// those of no other move.
+    /// If no run of neighbouring free chunks has the room, the chunks of one stretch are packed. No
+    /// chunk of another stretch moves.
     ///
-    /// Refused: `InvalidOwner`; `NotEnoughSpace`, where no slot is free, or no stretch has the room. Then
-    /// nothing has changed.
+    /// # Errors
+    ///
+    /// - `InvalidOwner`: the owner isn't one of 1 to 14.
+    /// - `NotEnoughSpace`: no slot is free, or no stretch has the room.
     pub fn handle_new(&mut self, size: u32, owner: u8) -> Result<Name, Refusal>
         ensures does { Does self.old (MemoryCall.HandleNew size owner)
             (name_or_refused result) self.new }
@@ -57,7 +59,10 @@ impl Heap {
 
     /// Makes a fixed chunk of `size` zeros. What moves is as with a movable one.
     ///
-    /// Refused: `InvalidOwner`; `NotEnoughSpace`, where no stretch has the room. Then nothing has changed.
+    /// # Errors
+    ///
+    /// - `InvalidOwner`: the owner isn't one of 1 to 14.
+    /// - `NotEnoughSpace`: no stretch has the room.
     pub fn ptr_new(&mut self, size: u32, owner: u8) -> Result<Name, Refusal>
         ensures does { Does self.old (MemoryCall.PtrNew size owner)
             (name_or_refused result) self.new }
@@ -74,11 +79,12 @@ impl Heap {
         Ok(name)
     }
 
-    /// Makes a further master pointer table of 15 empty slots, the last of the chain. It moves chunks as `ptr_new`
-    /// does.
+    /// Makes a further master pointer table of 15 empty slots, the last of the chain. It moves
+    /// chunks as `ptr_new` does.
     ///
-    /// Refused: `NotEnoughSpace`, if the image has no chain of tables, or if no stretch has the room. Then
-    /// nothing has changed.
+    /// # Errors
+    ///
+    /// - `NotEnoughSpace`: the image has no chain of tables, or no stretch has the room.
     pub fn more_slots(&mut self) -> Result<(), Refusal>
         ensures does { Does self.old MemoryCall.MoreSlots (done_or_refused result) self.new }
         ensures unmoved { MovesOnlyForRoom self.old.bytes self.new.bytes gained_length }
@@ -93,9 +99,14 @@ impl Heap {
         Ok(())
     }
 
-    /// Frees a chunk that is a caller's and has no lock; a fixed one may be freed.
+    /// Frees a caller's chunk that has no lock. A fixed chunk may be freed.
     ///
-    /// Refused: `InvalidHandle`, `OwnedByDatabase`, `ChunkLocked`, `Lent`.
+    /// # Errors
+    ///
+    /// - `InvalidHandle`: no chunk has the name, or the manager owns the chunk.
+    /// - `OwnedByDatabase`: the chunk is data of a database.
+    /// - `ChunkLocked`: the chunk is movable and has a lock.
+    /// - `Lent`: the bytes of the chunk are lent.
     #[inline(always)]
     pub fn free(&mut self, name: Name) -> Result<(), Refusal>
         ensures { Does self.old (MemoryCall.Free name) (done_or_refused result) self.new }
@@ -106,8 +117,8 @@ impl Heap {
         }
     }
 
-    /// Frees the chunk of a name that is no slot's, or refuses. Apart, so that only what the chunk of a slot needs
-    /// stands in line.
+    /// Frees the chunk of a name that isn't a slot's, or refuses. It is a function of its own, so
+    /// that only what the chunk of a slot needs is in line.
     #[inline(never)]
     fn free_other(&mut self, name: Name) -> Result<(), Refusal>
         ensures { Does self.old (MemoryCall.Free name) (done_or_refused result) self.new }
@@ -116,7 +127,7 @@ impl Heap {
         self.free_found(name, found)
     }
 
-    /// Frees the chunk that a name stands for.
+    /// Frees the chunk of a name that was found.
     #[inline(always)]
     fn free_found(&mut self, name: Name, found: Found) -> Result<(), Refusal>
         requires found { IsFound self.old.bytes name.0 found }
@@ -137,9 +148,12 @@ impl Heap {
         Ok(())
     }
 
-    /// Frees all chunks of an owner, 1 to 14, locked and fixed ones too, and answers how many there were.
+    /// Frees all chunks of an owner, 1 to 14, locked and fixed ones too, and returns their number.
     ///
-    /// Refused: `InvalidOwner`; `Lent`, if one of them is lent. Then nothing has changed.
+    /// # Errors
+    ///
+    /// - `InvalidOwner`: the owner isn't one of 1 to 14.
+    /// - `Lent`: the bytes of one of the chunks are lent.
     pub fn free_by_owner(&mut self, owner: u8) -> Result<u32, Refusal>
         ensures { Does self.old (MemoryCall.FreeByOwner owner) (number_or_refused result) self.new }
     {
@@ -160,8 +174,8 @@ impl Heap {
     }
 }
 
-/// An empty slot: the one that was freed last, if it is a further table's and empty, or else the first, which is looked
-/// for behind the first `used` ones.
+/// Finds an empty slot. It is the slot of a further table that was freed last, if that is empty.
+/// Else it is the first empty slot after the first `used` ones.
 pub(crate) fn next_empty_slot(
     region: &Region,
     used: u32,
@@ -187,7 +201,8 @@ pub(crate) fn next_empty_slot(
     first_empty_slot(region, start, used)
 }
 
-/// Makes a movable chunk of `size` zeros, without a lock, under an empty slot that was found, which is answered.
+/// Makes a movable chunk of `size` zeros, without a lock, under an empty slot that was found.
+/// Returns the slot.
 pub(crate) fn make_movable(
     space: &mut Space,
     found: Option<EmptySlot>,
@@ -238,7 +253,7 @@ fn make_table(space: &mut Space) -> Result<(), Refusal>
     Ok(())
 }
 
-/// Room for a chunk of `size` bytes, for which one stretch is packed where it has to be.
+/// Returns room for a chunk of `size` bytes. Packs one stretch if it has to.
 fn room_for(space: &mut Space, size: u32) -> Result<Room, Refusal>
     requires accepted { HeapAccepted space.old.bytes }
     requires lent { LendsABody space.old }
@@ -260,9 +275,9 @@ fn room_for(space: &mut Space, size: u32) -> Result<Room, Refusal>
     make_room(space, needed).ok_or(Refusal::NotEnoughSpace)
 }
 
-/// How many slots, of the first `used`, stand before the one of a name: these stay in use when it is
-/// emptied. Where none of them is the name's, it may be all of them, and of a further table's it may be
-/// fewer.
+/// Returns how many of the first `used` slots are before the slot of a name. They stay in use when
+/// that slot is emptied. If the slot isn't among the first `used`, all of them may stay. If it is
+/// in a further table, the result may be smaller.
 #[inline(always)]
 pub(crate) fn used_without(region: &Region, used: u32, name: Name) -> u32
     requires tiled { IsTiled region.now.bytes }
@@ -273,8 +288,8 @@ pub(crate) fn used_without(region: &Region, used: u32, name: Name) -> u32
     used.min(least_number(region, name))
 }
 
-/// The slot of a further table that will have been freed last, when a chunk that was found is freed: its own, if it has
-/// one there.
+/// Returns the slot of a further table that was freed last, once a chunk that was found is freed.
+/// It is the chunk's own slot if that is in a further table, else `freed`.
 #[inline(always)]
 pub(crate) fn freed_slot(region: &Region, freed: Name, found: Found) -> Name
     requires accepted { HeapAccepted region.now.bytes }

@@ -1,4 +1,4 @@
-//! Calls for the store above, on its own chunks and on those of databases, whose owners are 0 and 15.
+//! Calls for the store above, on its own chunks (owner 0) and on those of databases (owner 15).
 //! They have preconditions. Only `sys_new` refuses, with `NotEnoughSpace`.
 #![tactic(auto, using(crate::proofs::KnownLoans::knows_lends, crate::proofs::KnownLoans::known_other, laws_heap::proofs::LentBodies::table_within))]
 
@@ -19,8 +19,12 @@ use crate::heap::making::{make_movable, next_empty_slot};
 use heap_model::{Name, Refusal};
 
 impl Heap {
-    /// Makes a movable chunk of `size` zeros, without a lock, for any owner. Its name is the offset of a slot
-    /// that was empty. Refused `NotEnoughSpace` alone, and then nothing has changed.
+    /// Makes a movable chunk of `size` zeros, without a lock, for any owner. Its name is the offset
+    /// of a slot that was empty.
+    ///
+    /// # Errors
+    ///
+    /// - `NotEnoughSpace`: no slot is free, or no stretch has the room.
     pub fn sys_new(&mut self, size: u32, owner: u8) -> Result<Name, Refusal>
         requires owner { owner ≤ data_owner }
         ensures made { IfOk result
@@ -43,7 +47,7 @@ impl Heap {
         Ok(slot.name)
     }
 
-    /// `count` bytes of any chunk, from `at` within it on, as they lie in the image.
+    /// Returns `count` bytes of any chunk, from `at` within it on, as they are in the image.
     pub fn sys_read(&self, name: Name, at: u32, count: u32) -> &[u8]
         requires there { IsSome (held self.now.bytes name.0) }
         requires within { at + count ≤ length (bytes_under self.now.bytes name.0) }
@@ -55,7 +59,8 @@ impl Heap {
         self.space.region().slice(start, count as usize)
     }
 
-    /// Gives a movable chunk to another owner, 1 to 15. The directory has none but the manager.
+    /// Gives a movable chunk to another owner, 1 to 15. The directory always belongs to the
+    /// manager.
     #[inline(always)]
     pub fn sys_set_owner(&mut self, name: Name, owner: u8)
         requires movable { IsMovable self.old.bytes name.0 }
@@ -71,14 +76,14 @@ impl Heap {
         self.space.reown(found, owner);
     }
 
-    /// The name of the directory's chunk, or `Name(0)` where there is none.
+    /// Returns the name of the directory's chunk, or `Name(0)` if there is no directory.
     pub fn directory(&self) -> Name
         ensures { result.0 ≡ directory_of self.now.bytes }
     {
         self.space.directory()
     }
 
-    /// Makes a chunk of the manager's the directory.
+    /// Makes a chunk of the manager the directory.
     pub fn set_directory(&mut self, name: Name)
         requires managers { owner_under self.old.bytes name.0 ≡ managers_owner }
         ensures names { NamesDirectory self.old.bytes self.new.bytes name.0 }

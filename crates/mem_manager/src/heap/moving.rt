@@ -24,8 +24,9 @@ use heap_model::{Name, Refusal};
 use heap_place::Found;
 
 impl Heap {
-    /// Gathers the free bytes of each stretch in one chunk behind its live ones, which keep their order, and
-    /// answers how many bytes have moved, headers counted. Each of them is copied once, and no other byte.
+    /// Gathers the free bytes of each stretch in one chunk after its live ones, which keep their
+    /// order. Returns the number of bytes that moved, headers included. It copies each of them
+    /// once, and no other byte.
     pub fn compact(&mut self) -> u32
         ensures does { Does self.old MemoryCall.Compact (Reply.Number result) self.new }
         ensures packed { Packed (chunks_of self.new.bytes) }
@@ -35,12 +36,19 @@ impl Heap {
         self.space.compact()
     }
 
-    /// Gives a chunk `size` bytes: its first ones, or all of them and zeros behind. Where it has them with
-    /// what is free directly behind it, nothing moves; else it may move, and others of one stretch.
+    /// Gives a chunk `size` bytes: a prefix of its bytes, or all of them and then zeros. If its own
+    /// bytes and the free chunk directly after it are enough, nothing moves. Else it may move, and
+    /// other chunks of one stretch too.
     ///
-    /// Refused: `InvalidHandle`, `OwnedByDatabase`, `ChunkFixed`, `Lent`; `ChunkLocked`, where it is locked and
-    /// would have to move; `NotEnoughSpace`, where it is not locked and no stretch has the room, its own
-    /// bytes counted as room of its own stretch. Then nothing has changed.
+    /// # Errors
+    ///
+    /// - `InvalidHandle`: no chunk has the name, or the manager owns the chunk.
+    /// - `OwnedByDatabase`: the chunk is data of a database.
+    /// - `ChunkFixed`: the chunk is fixed.
+    /// - `Lent`: the bytes of the chunk are lent.
+    /// - `ChunkLocked`: the chunk is locked and would have to move.
+    /// - `NotEnoughSpace`: the chunk isn't locked, and no stretch has the room. The chunk's own
+    ///   bytes count as room of its stretch.
     pub fn resize(&mut self, name: Name, size: u32) -> Result<(), Refusal>
         ensures does { Does self.old (MemoryCall.Resize name size)
             (done_or_refused result) self.new }

@@ -25,13 +25,15 @@ use mem_manager::{DATA_OWNER, Found, Heap};
 pub(crate) struct FoundBlock {
     /// The chunk of the database.
     pub(crate) chunk: Found,
-    /// The name of the block, or `Name(0)` where there is none.
+    /// The name of the block, or `Name(0)` if there is none.
     pub(crate) name: Name,
 }
 
-/// An info block of a database that may be written.
+/// Finds an info block of a database that may be written.
 ///
-/// Refused: `NoSuchDatabase`, `ReadOnly`.
+/// # Errors
+/// - `NoSuchDatabase`: if no database has the number.
+/// - `ReadOnly`: if the database is read-only.
 pub(crate) fn find_writable_block(heap: &Heap, db: Db, which: Which) -> Result<FoundBlock, Refusal>
     requires accepted { Accepted heap.now.bytes }
     ensures known { OnOk result (HasNumber heap.now.bytes db.0) }
@@ -51,7 +53,7 @@ pub(crate) fn find_writable_block(heap: &Heap, db: Db, which: Which) -> Result<F
     })
 }
 
-/// The slot of an info block in the bytes of a database, or 0.
+/// Returns the slot of an info block in the bytes of a database, or 0.
 pub(crate) fn block_in(body: &[u8], which: Which) -> u32
     requires { header_size ≤ length body.now }
     ensures { result ≡ info_block which (database_in body.now) }
@@ -62,8 +64,8 @@ pub(crate) fn block_in(body: &[u8], which: Which) -> u32
     }
 }
 
-/// Makes a movable chunk of a caller's an info block of a database that doesn't have that one, and keeps its
-/// locks. The database counts the call.
+/// Makes a movable chunk of a caller's an info block of a database that doesn't have this block.
+/// The chunk keeps its locks. The database counts the call.
 pub(crate) fn give_block(heap: &mut Heap, db: Db, chunk: Found, which: Which, name: Name)
     requires accepted { Accepted heap.old.bytes }
     requires number { HasNumber heap.old.bytes db.0 }
@@ -80,8 +82,8 @@ pub(crate) fn give_block(heap: &mut Heap, db: Db, chunk: Found, which: Which, na
     heap.sys_set_owner(name, DATA_OWNER);
 }
 
-/// Hands an info block of a database over to an owner; its locks stay. The database has it no longer, and counts the
-/// call.
+/// Takes an info block from a database, and gives its chunk to an owner. The chunk keeps its locks.
+/// The database counts the call.
 pub(crate) fn take_block(heap: &mut Heap, db: Db, found: FoundBlock, which: Which, owner: u8)
     requires accepted { Accepted heap.old.bytes }
     requires number { HasNumber heap.old.bytes db.0 }

@@ -20,7 +20,7 @@ use db_format::{INFO_BLOCKS, app_info, entry_count, entry_slot, has_resources, s
 use heap_model::{Db, Name};
 use mem_manager::{FIXED_LOCK, Found, Heap};
 
-/// How many slots a database has: those of its info blocks, and one for each entry.
+/// Returns the number of slots of a database: those of its info blocks, and one for each entry.
 fn slot_count(body: &[u8]) -> u32
     requires { IsSpelled (database_in body.now) body.now }
     ensures { result ≡ length (data_in (database_in body.now)) }
@@ -28,8 +28,8 @@ fn slot_count(body: &[u8]) -> u32
     INFO_BLOCKS as u32 + entry_count(body) as u32
 }
 
-/// The slot at an index among those of a database: that of its AppInfo block, that of its SortInfo block,
-/// and then those of its entries. It is 0 where there is no chunk.
+/// Returns the slot at an index among those of a database: that of its AppInfo block, that of its
+/// SortInfo block, and then those of its entries. It is 0 if there is no chunk.
 fn slot_at(body: &[u8], index: u32) -> Name
     requires spelled { IsSpelled (database_in body.now) body.now }
     requires inside { index < length (data_in (database_in body.now)) }
@@ -46,7 +46,7 @@ fn slot_at(body: &[u8], index: u32) -> Name
     })
 }
 
-/// Whether a slot has a locked chunk.
+/// Returns whether a slot has a locked chunk.
 fn is_locked(heap: &Heap, slot: Name) -> bool
     requires heap { HeapAccepted heap.now.bytes }
     requires movable { 0 < slot.0 → IsMovable heap.now.bytes slot.0 }
@@ -59,7 +59,7 @@ fn is_locked(heap: &Heap, slot: Name) -> bool
     0 < locks && locks < FIXED_LOCK
 }
 
-/// Whether a database names a locked chunk.
+/// Returns whether a database names a locked chunk.
 pub(crate) fn has_locked(heap: &Heap, db: Db, chunk: Found) -> bool
     requires accepted { Accepted heap.now.bytes }
     requires number { HasNumber heap.now.bytes db.0 }
@@ -77,7 +77,7 @@ pub(crate) fn has_locked(heap: &Heap, db: Db, chunk: Found) -> bool
     false
 }
 
-/// Whether a database names the chunk whose body is lent.
+/// Returns whether a database names the chunk whose body is lent.
 pub(crate) fn has_lent(heap: &Heap, db: Db, chunk: Found) -> bool
     requires accepted { Accepted heap.now.bytes }
     requires number { HasNumber heap.now.bytes db.0 }
@@ -96,7 +96,8 @@ pub(crate) fn has_lent(heap: &Heap, db: Db, chunk: Found) -> bool
     false
 }
 
-/// Frees all chunks that a database names, of which none is locked. Its own stays where it is, with its bytes.
+/// Frees all chunks that a database names. None of them is locked. The database's own chunk stays
+/// at its place, with its bytes.
 pub(crate) fn free_data(heap: &mut Heap, db: Db, chunk: Found)
     requires accepted { Accepted heap.old.bytes }
     requires number { HasNumber heap.old.bytes db.0 }

@@ -1,5 +1,5 @@
-//! A database that is made whole: its chunks are made and its slot is listed, and then its header and entries
-//! are written.
+//! A whole new database: its chunks are made and its slot is listed, and then its header and
+//! entries are written.
 
 ghost use Rattle.std.specs.Prelude.{◌≡◌, ◌+◌, ◌≤◌, ◌++◌, [], ◌∷◌, ℕ, List, length, take, drop, replicate, IfOk, IfErr, OnOk, OnErr, All, ◌*◌};
 ghost use Rattle.std.specs.List.{flat_map};
@@ -25,8 +25,10 @@ use db_format::{DbAttrs, INFO_BLOCKS, NameField, entry_offset};
 use heap_model::{DbInfo, Name, Refusal};
 use mem_manager::{Found, Heap, MANAGERS_OWNER};
 
-/// Makes a chunk of zeros for each info block and the data of each entry, and lists a slot last. Refused
-/// `NotEnoughSpace` alone, and then the heap holds what it held.
+/// Makes a chunk of zeros for each info block and the data of each entry, and lists a slot last.
+///
+/// # Errors
+/// - `NotEnoughSpace`: if there is no room. The heap then has the same contents as before.
 fn make_data_and_list(
     heap: &mut Heap,
     slot: Name,
@@ -56,9 +58,11 @@ fn make_data_and_list(
     Ok(())
 }
 
-/// Makes the chunks of a database, of zeros: that of its header, with so many bytes, and those of its data. The
-/// header's slot is listed last, and answered. Refused `NotEnoughSpace` alone, and then the heap holds what it
-/// held.
+/// Makes the chunks of a database, of zeros: that of its header, with `size` bytes, and those of
+/// its data. It lists the header's slot last, and returns it.
+///
+/// # Errors
+/// - `NotEnoughSpace`: if there is no room. The heap then has the same contents as before.
 pub(crate) fn list_whole(
     heap: &mut Heap,
     size: u32,
@@ -88,8 +92,8 @@ pub(crate) fn list_whole(
     Ok(slot)
 }
 
-/// Writes the entries that are asked for, each with the name of its data, behind the header in a chunk of the
-/// manager's that has room for them alone.
+/// Writes the given entries after the header, each with the name of its data. The chunk is one of
+/// the manager's, and has room for exactly these entries.
 fn write_entries(
     heap: &mut Heap,
     slot: Name,
@@ -121,8 +125,8 @@ fn write_entries(
     }
 }
 
-/// Writes the header and the entries that are asked for, with the names of the data, in a chunk of the manager's
-/// that has room for them alone.
+/// Writes the given header and entries, with the names of the data. The chunk is one of the
+/// manager's, and has room for exactly these.
 pub(crate) fn write_whole(
     heap: &mut Heap,
     slot: Name,

@@ -1,4 +1,4 @@
-//! A database that is made: its slot in the directory, and its header.
+//! A new database: its slot in the directory, and its header.
 
 ghost use Rattle.std.specs.Prelude.{◌≡◌, ◌<◌, ◌≤◌, ◌+◌, ◌⊎◌, length, replicate, IfOk, IfErr, OnOk, OnErr, ◌*◌};
 ghost use Rattle.heap_model.specs.Lending.{KeepsLoan};
@@ -23,7 +23,7 @@ use db_format::{DbAttrs, DbHeader, HEADER_SIZE, NameField};
 use heap_model::{Name, Refusal};
 use mem_manager::{Heap, MANAGERS_OWNER};
 
-/// The bytes of a slot, as the directory has them.
+/// Returns the bytes of a slot, as the directory has them.
 fn slot_bytes(slot: Name) -> [u8; 4]
     ensures { result ≡ u32_bytes slot.0 }
 {
@@ -32,7 +32,10 @@ fn slot_bytes(slot: Name) -> [u8; 4]
     bytes
 }
 
-/// Makes the directory, with one slot. Refused `NotEnoughSpace` alone, and then nothing has changed.
+/// Makes the directory, with one slot.
+///
+/// # Errors
+/// - `NotEnoughSpace`: if there is no room. Nothing has changed then.
 fn begin_directory(heap: &mut Heap, slot: Name) -> Result<(), Refusal>
     requires heap { HeapAccepted heap.old.bytes }
     requires none { directory_of heap.old.bytes ≡ 0 }
@@ -50,7 +53,10 @@ fn begin_directory(heap: &mut Heap, slot: Name) -> Result<(), Refusal>
     Ok(())
 }
 
-/// Lists a slot behind those of the directory. Refused `NotEnoughSpace` alone, and then nothing has changed.
+/// Lists a slot after those of the directory.
+///
+/// # Errors
+/// - `NotEnoughSpace`: if there is no room. Nothing has changed then.
 fn extend_directory(heap: &mut Heap, slot: Name) -> Result<(), Refusal>
     requires heap { HeapAccepted heap.old.bytes }
     requires some { 0 < directory_of heap.old.bytes }
@@ -72,7 +78,10 @@ fn extend_directory(heap: &mut Heap, slot: Name) -> Result<(), Refusal>
     Ok(())
 }
 
-/// Lists a slot last. Refused `NotEnoughSpace` alone, and then nothing has changed.
+/// Lists a slot last.
+///
+/// # Errors
+/// - `NotEnoughSpace`: if there is no room. Nothing has changed then.
 pub(crate) fn list_last(heap: &mut Heap, slot: Name) -> Result<(), Refusal>
     requires heap { HeapAccepted heap.old.bytes }
     requires few { length (directory_bytes heap.old.bytes) ≤ listed_size * most_databases }
@@ -90,8 +99,10 @@ pub(crate) fn list_last(heap: &mut Heap, slot: Name) -> Result<(), Refusal>
     }
 }
 
-/// Makes a chunk for a header, of zeros, and lists its slot last. Refused `NotEnoughSpace` alone, and then
-/// the heap holds what it held.
+/// Makes a chunk of zeros for a header, and lists its slot last.
+///
+/// # Errors
+/// - `NotEnoughSpace`: if there is no room. The heap then has the same contents as before.
 pub(crate) fn list_new(heap: &mut Heap) -> Result<Name, Refusal>
     requires accepted { Accepted heap.old.bytes }
     ensures lists { IfOk result (λ slot.
@@ -112,7 +123,7 @@ pub(crate) fn list_new(heap: &mut Heap) -> Result<Name, Refusal>
     Ok(slot)
 }
 
-/// The header of a database without entries.
+/// Returns the header of a database without entries.
 pub(crate) fn empty_header(
     name: NameField,
     kind: u32,

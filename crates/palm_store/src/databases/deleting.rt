@@ -1,4 +1,4 @@
-//! A database that is deleted: its slot in the directory.
+//! A deleted database: its slot in the directory.
 
 ghost use Rattle.std.specs.Prelude.{◌≡◌, ◌<◌, ◌≤◌, ◌+◌, ◌*◌, length};
 ghost use Rattle.heap_model.specs.Lending.{KeepsLoan};
@@ -9,7 +9,8 @@ ghost use Rattle.palm_store.specs.Directory.{Unlists};
 use crate::lookup::SLOT_SIZE;
 use mem_manager::Heap;
 
-/// Takes the slot at an index out of the directory: those behind it move to the front.
+/// Takes the slot at an index out of the directory. The slots after it move one place towards the
+/// start.
 pub(crate) fn unlist(heap: &mut Heap, index: u32)
     requires heap { HeapAccepted heap.old.bytes }
     requires some { 0 < directory_of heap.old.bytes }

@@ -14,8 +14,11 @@ use crate::databases::whole::{BlockSizes, WholeEntry, size_at};
 use heap_model::{Name, Refusal};
 use mem_manager::{DATA_OWNER, Heap};
 
-/// Makes a chunk of so many zeros for data; where no size is given, none is made and `Name(0)` answered.
-/// Refused `NotEnoughSpace` alone, and then nothing has changed.
+/// Makes a chunk of zeros for data, of the given size. If no size is given, it makes none and
+/// returns `Name(0)`.
+///
+/// # Errors
+/// - `NotEnoughSpace`: if there is no room. Nothing has changed then.
 fn make_sized(heap: &mut Heap, size: Option<u32>) -> Result<Name, Refusal>
     requires heap { HeapAccepted heap.old.bytes }
     ensures made { IfOk result (λ name.
@@ -33,7 +36,7 @@ fn make_sized(heap: &mut Heap, size: Option<u32>) -> Result<Name, Refusal>
     }
 }
 
-/// Frees the chunks under these names, where one isn't `Name(0)`.
+/// Frees the chunks of these names, except for `Name(0)`.
 pub(crate) fn free_named(heap: &mut Heap, names: &[Name])
     requires heap { HeapAccepted heap.old.bytes }
     requires own { AreOwnChunks heap.old.bytes (numbers_in names.now) }
@@ -47,8 +50,11 @@ pub(crate) fn free_named(heap: &mut Heap, names: &[Name])
     }
 }
 
-/// Makes a chunk of zeros for each info block and the data of each entry, and puts down their names in that
-/// order. Refused `NotEnoughSpace` alone, and then the heap holds what it held.
+/// Makes a chunk of zeros for each info block and the data of each entry, and puts their names into
+/// `names`, in that order.
+///
+/// # Errors
+/// - `NotEnoughSpace`: if there is no room. The heap then has the same contents as before.
 pub(crate) fn make_data(
     heap: &mut Heap,
     blocks: BlockSizes,

@@ -1,4 +1,4 @@
-//! The header of a database, set.
+//! Setting of the header of a database.
 
 ghost use Rattle.std.specs.Prelude.{◌≡◌};
 ghost use Rattle.heap_model.specs.DatabaseSteps.{header_set};
@@ -9,7 +9,7 @@ use bitflags::Flags;
 use db_format::{DbAttrs, DbHeader, NameField};
 use heap_model::DbInfo;
 
-/// A header with what is given of another, and this name.
+/// Returns a header with the fields of an info, and with this name.
 pub(crate) fn with_info(header: DbHeader, name: NameField, info: &DbInfo) -> DbHeader
     requires { name ≡ info.now.name }
     ensures set { headers.header_of result ≡ header_set info.now (headers.header_of header) }

@@ -1,4 +1,4 @@
-//! What a caller asks for who has a whole database made.
+//! The description of a whole new database, as a caller gives it.
 
 ghost use Rattle.std.specs.Prelude.{◌≡◌, ◌+◌, ◌<◌, None, length, slice_index_or};
 ghost use Rattle.heap_model.specs.Database.{EntryFits};
@@ -12,7 +12,7 @@ use db_format::{
 };
 use heap_model::{DbInfo, Name};
 
-/// What a caller says of an entry of a new database, with the size of its data.
+/// An entry of a new database, with the size of its data.
 #[derive(Clone, Copy)]
 pub enum WholeEntry {
     /// The unique ID is 1 to 0xFFFFFF. A record without data is a deleted one.
@@ -29,14 +29,14 @@ pub enum WholeEntry {
     },
 }
 
-/// How many bytes the info blocks of a new database have, of those that are to be there.
+/// The sizes in bytes of the info blocks of a new database, if they are to exist.
 #[derive(Clone, Copy)]
 pub struct BlockSizes {
     pub app_info: Option<u32>,
     pub sort_info: Option<u32>,
 }
 
-/// How many bytes the data of an entry is to have, if there is to be any.
+/// Returns the size of the data of an entry in bytes, if it is to have any.
 fn size_of(entry: WholeEntry) -> Option<u32>
     ensures { result ≡ size_of_data entry }
 {
@@ -46,7 +46,7 @@ fn size_of(entry: WholeEntry) -> Option<u32>
     }
 }
 
-/// The size at an index among those that a database is to have data for: the AppInfo block, the SortInfo
+/// Returns the size at an index among the data of a database: the AppInfo block, the SortInfo
 /// block, and then the entries.
 pub(crate) fn size_at(blocks: BlockSizes, entries: &[WholeEntry], index: usize) -> Option<u32>
     requires inside { index < 2 + length entries.now }
@@ -59,7 +59,7 @@ pub(crate) fn size_at(blocks: BlockSizes, entries: &[WholeEntry], index: usize) 
     }
 }
 
-/// The entry that is asked for, with its data under a name.
+/// Returns the given entry, with its data under a name.
 pub(crate) fn named_entry(entry: WholeEntry, name: Name, resources: bool) -> DbEntry
     requires { CanCome resources entry }
     ensures is { entry_of result ≡ entry_named entry name.0 }
@@ -80,7 +80,7 @@ pub(crate) fn named_entry(entry: WholeEntry, name: Name, resources: bool) -> DbE
     }
 }
 
-/// The header that is asked for, with its info blocks under these names.
+/// Returns the given header, with its info blocks under these names.
 pub(crate) fn named_header(
     info: &DbInfo,
     name: NameField,

@@ -1,21 +1,21 @@
-//! What callers say of entries, and what is told them.
+//! The information on entries that callers give and get.
 
 use db_format::DbAttrs;
 use heap_model::Entry;
 use mem_manager::Found;
 
-/// What is found at an index of a database.
+/// The database and the entry that a look-up by index finds.
 #[derive(Clone, Copy)]
 pub struct FoundEntry {
     /// The chunk of the database.
     pub chunk: Found,
     /// The attributes of the database.
     pub attributes: DbAttrs,
-    /// What the entry of the index says, if there are so many.
+    /// The fields of the entry at the index, if there is one.
     pub entry: Option<Entry>,
 }
 
-/// What an entry says but for its data.
+/// The fields of an entry except for its data.
 #[derive(Clone, Copy)]
 pub enum EntryInfo {
     /// The unique ID is 1 to 0xFFFFFF.
@@ -24,7 +24,8 @@ pub enum EntryInfo {
     Resource { kind: u32, id: u16 },
 }
 
-/// What a caller says of a new entry. A record gets its ID from the seed of the database.
+/// The fields of a new entry that a caller gives. A record gets its ID from the seed of the
+/// database.
 #[derive(Clone, Copy)]
 pub enum NewEntry {
     Record { attributes: u8 },

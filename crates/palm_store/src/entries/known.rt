@@ -10,29 +10,29 @@ use crate::entries::infos::EntryInfo;
 use fresh_ids::{FreeIds, NO_IDS};
 use heap_model::Db;
 
-/// Unique IDs that no record of a database has. While the next new record's is among them, no entry is read
-/// for it.
+/// Unique IDs that no record of a database has. If the next new record's ID is among them, no entry
+/// is read for it.
 #[derive(Clone, Copy)]
 pub(crate) struct KnownIds {
     pub(crate) db: Db,
     pub(crate) ids: FreeIds,
 }
 
-/// What is known of an image that is new, or whose databases may be others than before.
+/// No known IDs: for a new image, or one whose databases may have changed.
 pub(crate) const NOTHING_KNOWN: KnownIds = KnownIds {
     db: Db(0),
     ids: NO_IDS,
 };
 
 impl KnownIds {
-    /// Those of one database.
+    /// Returns the IDs of one database.
     pub(crate) fn of(self, db: Db) -> FreeIds
         ensures free { (store : stores.Store) → StandFree store self → AreFree (ids_in store db) result }
         ensures all { self.db ≡ db → result ≡ self.ids }
     {
         if self.db.0 == db.0 { self.ids } else { NO_IDS }
     }
-    /// Those of them that are free still when an entry, of whatever database, says this.
+    /// Returns the IDs that are still free after an entry of any database gets these fields.
     pub(crate) fn without(self, info: EntryInfo) -> KnownIds
         ensures free { (store : stores.Store) → StandFree store self → StandFree store result }
         ensures none { GetsNone result (with_info info) }

@@ -28,8 +28,11 @@ use fresh_ids::free_ids;
 use heap_model::{Db, Name, Refusal};
 use mem_manager::{DATA_OWNER, Found, Heap};
 
-/// Makes a chunk of zeros for data, and puts an entry with it in at an index; the database counts the call.
-/// Refused `NotEnoughSpace` alone, and then the heap holds what it held.
+/// Makes a chunk of zeros for data, and puts an entry with it in at an index. The database counts
+/// the call.
+///
+/// # Errors
+/// - `NotEnoughSpace`: if there is no room. The heap then has the same contents as before.
 pub(crate) fn put_in(
     heap: &mut Heap,
     db: Db,
@@ -65,8 +68,10 @@ pub(crate) fn put_in(
     Ok(name)
 }
 
-/// Puts an entry in at an index, with a caller's chunk for its data; the database counts the call. Refused
-/// `NotEnoughSpace` alone, and then nothing has changed.
+/// Puts an entry in at an index, with a caller's chunk for its data. The database counts the call.
+///
+/// # Errors
+/// - `NotEnoughSpace`: if there is no room. Nothing has changed then.
 #[inline(always)]
 pub(crate) fn take_in(
     heap: &mut Heap,
@@ -101,14 +106,14 @@ pub(crate) fn take_in(
     Ok(())
 }
 
-/// A new entry, without data yet, and what is known to be free beside its ID.
+/// A new entry, without data yet, and the IDs that are known to be free besides its own.
 #[derive(Clone, Copy)]
 pub(crate) struct MadeEntry {
     pub(crate) entry: DbEntry,
     pub(crate) known: KnownIds,
 }
 
-/// The new entry: a record gets a fresh ID, the next one where that is known to be free.
+/// Returns the new entry. A record gets a fresh ID: the next one, if that is known to be free.
 #[inline(always)]
 pub(crate) fn new_entry(
     heap: &Heap,

@@ -1,4 +1,4 @@
-//! Entries, read.
+//! Reading of entries.
 
 ghost use Rattle.std.specs.Prelude.{◌≡◌, ◌<◌, ◌≤◌, Some, length, slice_get, IfSome, IfNone};
 ghost use Rattle.heap_model.specs.Database.{has_resources, EntryFits, HasShape, database_in, entry_count_in};
@@ -16,7 +16,7 @@ use db_format::{DbEntry, entry_count};
 use heap_model::{Db, Entry};
 use mem_manager::{Found, Heap};
 
-/// How many entries a database has.
+/// Returns the number of entries of a database.
 #[inline(always)]
 pub(crate) fn count_entries(heap: &Heap, db: Db, chunk: Found) -> u32
     requires accepted { Accepted heap.now.bytes }
@@ -27,7 +27,7 @@ pub(crate) fn count_entries(heap: &Heap, db: Db, chunk: Found) -> u32
     entry_count(header_in(heap, db, chunk)) as u32
 }
 
-/// The entry at an index, as the database has it.
+/// Returns the entry at an index, as the database has it.
 #[inline(always)]
 pub(crate) fn read_entry(heap: &Heap, db: Db, chunk: Found, index: u32) -> DbEntry
     requires accepted { Accepted heap.now.bytes }
@@ -44,7 +44,7 @@ pub(crate) fn read_entry(heap: &Heap, db: Db, chunk: Found, index: u32) -> DbEnt
     DbEntry::read(header_in(heap, db, chunk), index as u16)
 }
 
-/// What the entry at an index says, of the database with these bytes, if there are so many.
+/// Returns the fields of the entry at an index, of the database with these bytes, if there is one.
 #[inline(always)]
 pub(crate) fn entry_at(body: &[u8], index: u32) -> Option<Entry>
     requires { HasShape body.now }

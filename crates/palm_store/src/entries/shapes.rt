@@ -1,4 +1,5 @@
-//! Entries as a database has them: told to callers, and made or changed by what callers say.
+//! Entries as a database has them: converted for callers, and made or changed from the fields that
+//! callers give.
 
 ghost use Rattle.std.specs.Prelude.{◌≡◌, ℕ};
 ghost use Rattle.heap_model.specs.Database.{EntryFits};
@@ -12,7 +13,7 @@ use bitflags::Flags;
 use db_format::{DbEntry, RecordAttrs, RecordEntry, ResourceEntry};
 use heap_model::{Entry, Name, RecordInfo, ResourceInfo};
 
-/// What callers hear of an entry.
+/// Returns the fields of an entry, as callers get them.
 #[inline(always)]
 pub(crate) fn told(entry: DbEntry) -> Entry
     ensures { Tells result (entry_of entry) }
@@ -31,7 +32,7 @@ pub(crate) fn told(entry: DbEntry) -> Entry
     }
 }
 
-/// The name of the chunk in a slot; there is none for 0.
+/// Returns the name of the chunk in a slot; there is none for 0.
 #[inline(always)]
 fn name_of(slot: u32) -> Option<Name>
     ensures { IsNameOf slot result }
@@ -39,7 +40,7 @@ fn name_of(slot: u32) -> Option<Name>
     if slot == 0 { None } else { Some(Name(slot)) }
 }
 
-/// An entry that says what is given, of its kind, and the data that it had.
+/// Returns an entry with the given fields, if they are of its kind, and with the data that it had.
 pub(crate) fn entry_with(entry: DbEntry, info: EntryInfo) -> DbEntry
     requires id { HasFittingId entry }
     requires fits { EntryFits (is_resource entry) (entry_of entry) }
@@ -69,7 +70,7 @@ pub(crate) fn entry_with(entry: DbEntry, info: EntryInfo) -> DbEntry
     }
 }
 
-/// An entry without data: a record is deleted then.
+/// Returns an entry without data. If it is a record, it is deleted then.
 pub(crate) fn emptied(entry: DbEntry) -> DbEntry
     requires id { HasFittingId entry }
     requires fits { EntryFits (is_resource entry) (entry_of entry) }
@@ -92,7 +93,7 @@ pub(crate) fn emptied(entry: DbEntry) -> DbEntry
     }
 }
 
-/// An entry with its data in this slot.
+/// Returns an entry with its data in this slot.
 pub(crate) fn with_slot(entry: DbEntry, slot: Name) -> DbEntry
     requires id { HasFittingId entry }
     ensures is { entry_of result ≡ databases.entry_with (λ (none : ℕ). slot.0) (entry_of entry) }

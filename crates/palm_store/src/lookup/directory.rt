@@ -10,10 +10,10 @@ use byteorder::{BigEndian, ByteOrder};
 use heap_model::Db;
 use mem_manager::Heap;
 
-/// What a number, the slot of a header, takes in the directory.
+/// How many bytes a number, the slot of a header, takes in the directory.
 pub(crate) const SLOT_SIZE: usize = chunk_format::SLOT_SIZE as usize;
 
-/// The bytes of the directory, as they lie in the image. There are none where no database was made yet.
+/// Returns the bytes of the directory in the image. There are none if no database was made yet.
 pub(crate) fn directory_bytes(heap: &Heap) -> &[u8]
     requires { Accepted heap.now.bytes }
     ensures is { result.now ≡ stores.directory_bytes heap.now.bytes }
@@ -28,7 +28,7 @@ pub(crate) fn directory_bytes(heap: &Heap) -> &[u8]
     }
 }
 
-/// The number at an index of the directory's bytes.
+/// Returns the number at an index of the directory's bytes.
 #[inline]
 #[tactic(auto, using(db_format::proofs::WordLaws::u32_at_part))]
 pub(crate) fn listed_in(directory: &[u8], index: usize) -> Db
@@ -39,7 +39,7 @@ pub(crate) fn listed_in(directory: &[u8], index: usize) -> Db
     Db(BigEndian::read_u32(&directory[at..at + SLOT_SIZE]))
 }
 
-/// How many databases there are.
+/// Returns the number of databases.
 pub(crate) fn count_databases(heap: &Heap) -> u32
     requires { Accepted heap.now.bytes }
     ensures { result ≡ length (listed heap.now.bytes) }
@@ -47,7 +47,7 @@ pub(crate) fn count_databases(heap: &Heap) -> u32
     (directory_bytes(heap).len() / SLOT_SIZE) as u32
 }
 
-/// The index of a database in the directory, for which the directory is searched.
+/// Searches the directory for a database, and returns its index.
 pub(crate) fn index_of(heap: &Heap, db: Db) -> u32
     requires accepted { Accepted heap.now.bytes }
     requires number { HasNumber heap.now.bytes db.0 }

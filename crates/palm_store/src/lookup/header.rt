@@ -12,10 +12,11 @@ use db_format::DbHeader;
 use heap_model::{Db, DbInfo, Name, Refusal};
 use mem_manager::{Found, Heap, MANAGERS_OWNER};
 
-/// The chunk of the database that has a number, as it stands. It costs the same however many there are: each chunk of
-/// the manager's is a header or the directory.
+/// Returns the chunk of the database with a number, in its current state. It costs the same however
+/// many databases there are: each chunk of the manager's is a header or the directory.
 ///
-/// Refused: `NoSuchDatabase`.
+/// # Errors
+/// - `NoSuchDatabase`: if no database has the number.
 #[inline(always)]
 pub(crate) fn find_chunk(heap: &Heap, db: Db) -> Result<Found, Refusal>
     requires { Accepted heap.now.bytes }
@@ -33,7 +34,8 @@ pub(crate) fn find_chunk(heap: &Heap, db: Db) -> Result<Found, Refusal>
     Ok(chunk)
 }
 
-/// The bytes of a database whose chunk was found, as they lie in the image: its header, and its entries behind that.
+/// Returns the bytes of a database whose chunk was found, in the image: its header, and its entries
+/// after it.
 #[inline(always)]
 pub(crate) fn header_in(heap: &Heap, db: Db, chunk: Found) -> &[u8]
     requires accepted { Accepted heap.now.bytes }
@@ -46,9 +48,10 @@ pub(crate) fn header_in(heap: &Heap, db: Db, chunk: Found) -> &[u8]
     heap.sys_body_found(Name(db.0), chunk)
 }
 
-/// The bytes of the database that has a number, as `header_in` lends them.
+/// Returns the bytes of the database with a number, as `header_in` does.
 ///
-/// Refused: `NoSuchDatabase`.
+/// # Errors
+/// - `NoSuchDatabase`: if no database has the number.
 #[inline(always)]
 pub(crate) fn find_header(heap: &Heap, db: Db) -> Result<&[u8], Refusal>
     requires { Accepted heap.now.bytes }
@@ -63,7 +66,7 @@ pub(crate) fn find_header(heap: &Heap, db: Db) -> Result<&[u8], Refusal>
     Ok(header_in(heap, db, chunk))
 }
 
-/// The chunk of a database, as it stands.
+/// Returns the chunk of a database, in its current state.
 #[inline(always)]
 pub(crate) fn chunk_of(heap: &Heap, db: Db) -> Found
     requires accepted { Accepted heap.now.bytes }
@@ -73,7 +76,7 @@ pub(crate) fn chunk_of(heap: &Heap, db: Db) -> Found
     heap.sys_find(Name(db.0))
 }
 
-/// The bytes of a database, as `header_in` lends them.
+/// Returns the bytes of a database, as `header_in` does.
 #[inline(always)]
 pub(crate) fn header_of(heap: &Heap, db: Db) -> &[u8]
     requires accepted { Accepted heap.now.bytes }
@@ -85,7 +88,7 @@ pub(crate) fn header_of(heap: &Heap, db: Db) -> &[u8]
     header_in(heap, db, chunk_of(heap, db))
 }
 
-/// What the header in these bytes says.
+/// Reads the fields of the header in these bytes.
 pub(crate) fn info_in(bytes: &[u8]) -> DbInfo
     requires { HasShape bytes.now }
     ensures { result ≡ info_of (database_in bytes.now) }

@@ -11,7 +11,7 @@ use db_format::name_in;
 use heap_model::Db;
 use mem_manager::Heap;
 
-/// Whether a database has this name.
+/// Returns whether a database has this name.
 fn is_named(heap: &Heap, db: Db, name: &[u8]) -> bool
     requires accepted { Accepted heap.now.bytes }
     requires number { HasNumber heap.now.bytes db.0 }
@@ -20,7 +20,7 @@ fn is_named(heap: &Heap, db: Db, name: &[u8]) -> bool
     name_in(header_of(heap, db)) == name
 }
 
-/// The database of another number that has this name; with `Db(0)`, that of any number.
+/// Finds the database of another number that has this name; with `Db(0)`, that of any number.
 pub(crate) fn find_named(heap: &Heap, db: Db, name: &[u8]) -> Option<Db>
     requires { Accepted heap.now.bytes }
     ensures there { IfSome result (λ other. HasOtherName heap.now.bytes db.0 name.now other.0) }
@@ -36,7 +36,8 @@ pub(crate) fn find_named(heap: &Heap, db: Db, name: &[u8]) -> Option<Db>
     None
 }
 
-/// Whether a database of another number has this name; with `Db(0)`, whether any has.
+/// Returns whether a database of another number has this name; with `Db(0)`, whether any database
+/// has.
 pub(crate) fn has_other_name(heap: &Heap, db: Db, name: &[u8]) -> bool
     requires { Accepted heap.now.bytes }
     ensures { IsTrue result ↔ IsTaken (store_of heap.now.bytes) db.0 name.now }

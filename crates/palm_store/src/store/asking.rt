@@ -1,4 +1,4 @@
-//! Calls of the memory manager that ask of a store and leave it as it is.
+//! Calls of the memory manager that read from a store and leave it as it is.
 
 ghost use Rattle.std.specs.Prelude.{◌≢◌, Err};
 ghost use Rattle.heap_model.specs.MemorySteps.{reply_of};
@@ -10,27 +10,30 @@ use crate::store::Store;
 use heap_model::{Name, Place, Refusal};
 
 impl Store {
-    /// The size of a chunk's body in bytes, as it was asked for.
+    /// Returns the size of a chunk's body in bytes, as it was asked for.
     ///
-    /// Refused: `InvalidHandle`.
+    /// # Errors
+    /// - `InvalidHandle`: if the name is neither a caller's chunk nor data of a database.
     pub fn size(&self, name: Name) -> Result<u32, Refusal>
         ensures { DoesMemory self.now (MemoryCall.Size name) (number_or_refused result) self.now }
     {
         self.heap.size(name)
     }
 
-    /// The owner of a chunk.
+    /// Returns the owner of a chunk.
     ///
-    /// Refused: `InvalidHandle`.
+    /// # Errors
+    /// - `InvalidHandle`: if the name is neither a caller's chunk nor data of a database.
     pub fn owner(&self, name: Name) -> Result<u8, Refusal>
         ensures { DoesMemory self.now (MemoryCall.Owner name) (number_or_refused result) self.now }
     {
         self.heap.owner(name)
     }
 
-    /// The lock count of a chunk, up to 14; that of a fixed chunk is 15.
+    /// Returns the lock count of a chunk, up to 14; that of a fixed chunk is 15.
     ///
-    /// Refused: `InvalidHandle`.
+    /// # Errors
+    /// - `InvalidHandle`: if the name is neither a caller's chunk nor data of a database.
     #[inline(always)]
     pub fn locks(&self, name: Name) -> Result<u8, Refusal>
         ensures { DoesMemory self.now (MemoryCall.Locks name) (number_or_refused result) self.now }
@@ -38,9 +41,12 @@ impl Store {
         self.heap.locks(name)
     }
 
-    /// `count` bytes of a chunk, from `at` within it on, as they lie in the image. Takes no memory.
+    /// Returns `count` bytes of a chunk, from `at` within it on, without a copy or an allocation.
     ///
-    /// Refused: `InvalidHandle`, `Lent`, `OutOfBounds`.
+    /// # Errors
+    /// - `InvalidHandle`: if the name is neither a caller's chunk nor data of a database.
+    /// - `Lent`: if the chunk is lent.
+    /// - `OutOfBounds`: if the range reaches beyond the chunk's end.
     pub fn read(&self, name: Name, at: u32, count: u32) -> Result<&[u8], Refusal>
         ensures does { DoesMemory self.now (MemoryCall.Read name at count)
             (reply_of (λ bytes. Reply.Data bytes.now) result) self.now }
@@ -49,25 +55,27 @@ impl Store {
         self.heap.read(name, at, count)
     }
 
-    /// The name of the caller's chunk whose body is at a place. Bytes of a body that look like a header
-    /// name nothing.
+    /// Returns the name of the caller's chunk whose body is at a place. Bytes of a body that look
+    /// like a header name nothing.
     ///
-    /// Refused: `InvalidHandle`, where no caller's chunk has its body there.
+    /// # Errors
+    /// - `InvalidHandle`: if no caller's chunk has its body there.
     pub fn recover(&self, place: Place) -> Result<Name, Refusal>
         ensures { DoesMemory self.now (MemoryCall.Recover place) (name_or_refused result) self.now }
     {
         self.heap.recover(place)
     }
 
-    /// The sizes of the free chunks together, in bytes.
+    /// Returns the total size of the free chunks, in bytes.
     pub fn free_bytes(&self) -> u32
         ensures { DoesMemory self.now MemoryCall.FreeBytes (Reply.Number result) self.now }
     {
         self.heap.free_bytes()
     }
 
-    /// The greatest room of a stretch, in bytes: the most that its free chunks come to once it is compacted.
-    /// A chunk takes 8 bytes more than its body, and whole units of 8. 0 where there is no stretch.
+    /// Returns the greatest room of a stretch, in bytes: the total size of its free chunks, which
+    /// compaction joins. A chunk takes 8 bytes more than its body, rounded up to a multiple of 8.
+    /// The result is 0 if there is no stretch.
     pub fn largest_stretch(&self) -> u32
         ensures { DoesMemory self.now MemoryCall.LargestStretch (Reply.Number result) self.now }
     {

@@ -1,4 +1,4 @@
-//! The attributes of all records of a database, changed by one call.
+//! Changes of the attributes of all records of a database by one call.
 
 ghost use Rattle.std.specs.Prelude.{◌≡◌, false, map};
 ghost use Rattle.heap_model.specs.Lending.{KeepsLoan};
@@ -15,8 +15,8 @@ use mem_manager::Found;
 use raw_region::ByteChange;
 
 impl Store {
-    /// Gives each record of a database the attributes that a change makes of its own, in one pass. The
-    /// database doesn't count the call.
+    /// Changes the attributes of each record of a database, in one pass. The database doesn't count
+    /// the call.
     pub fn change_attributes<C: ByteChange>(&mut self, db: Db, chunk: Found, change: C)
         requires number { HasNumber self.old.bytes db.0 }
         requires chunk { StandsAs self.old.bytes db.0 chunk }

@@ -12,11 +12,17 @@ use heap_model::{Db, Name, Refusal, Which};
 use mem_manager::check_owner;
 
 impl Store {
-    /// Makes a movable chunk of a caller's an info block of a database that doesn't have that one: it becomes one
-    /// for data, and keeps its locks.
+    /// Makes a movable chunk of a caller's an info block of a database that doesn't have this
+    /// block. The chunk becomes one for data, and keeps its locks.
     ///
-    /// Refused: `NoSuchDatabase`, `ReadOnly`; `AlreadyExists`, where the database has the block; `InvalidHandle`,
-    /// `OwnedByDatabase` and `ChunkFixed`, where the chunk can't be given.
+    /// The order is that of the call's row in `database_row`.
+    ///
+    /// # Errors
+    /// - `NoSuchDatabase`: if no database has the number.
+    /// - `ReadOnly`: if the database is read-only.
+    /// - `AlreadyExists`: if the database has the block.
+    /// - `InvalidHandle`, `OwnedByDatabase`, `ChunkFixed`: if the database can't take the chunk, as
+    ///   for `check_given`.
     pub fn set_info_block(&mut self, db: Db, which: Which, name: Name) -> Result<(), Refusal>
         ensures does { DoesDatabase self.old (DatabaseCall.SetInfoBlock db which name)
             (done_or_refused result) self.new }
@@ -32,10 +38,16 @@ impl Store {
         Ok(())
     }
 
-    /// Hands an info block of a database over to an owner, 1 to 14, and answers its name. The chunk keeps its
-    /// locks, and the database has the block no longer.
+    /// Takes an info block from a database, gives its chunk to an owner of 1 to 14, and returns its
+    /// name. The chunk keeps its locks.
     ///
-    /// Refused: `NoSuchDatabase`, `ReadOnly`, `NoInfoBlock`, `InvalidOwner`.
+    /// The order is that of the call's row in `database_row`.
+    ///
+    /// # Errors
+    /// - `NoSuchDatabase`: if no database has the number.
+    /// - `ReadOnly`: if the database is read-only.
+    /// - `NoInfoBlock`: if the database doesn't have the block.
+    /// - `InvalidOwner`: if the owner isn't one of 1 to 14.
     pub fn take_info_block(&mut self, db: Db, which: Which, owner: u8) -> Result<Name, Refusal>
         ensures does { DoesDatabase self.old (DatabaseCall.TakeInfoBlock db which owner)
             (name_or_refused result) self.new }
@@ -52,9 +64,11 @@ impl Store {
         Ok(name)
     }
 
-    /// The name of an info block of a database.
+    /// Returns the name of an info block of a database.
     ///
-    /// Refused: `NoSuchDatabase`, `NoInfoBlock`.
+    /// # Errors
+    /// - `NoSuchDatabase`: if no database has the number.
+    /// - `NoInfoBlock`: if the database doesn't have the block.
     pub fn info_block(&self, db: Db, which: Which) -> Result<Name, Refusal>
         ensures { DoesDatabase self.now (DatabaseCall.InfoBlock db which)
             (name_or_refused result) self.now }

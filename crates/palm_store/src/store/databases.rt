@@ -17,12 +17,17 @@ use db_format::{DbHeader, MOST_DATABASES, NameField};
 use heap_model::{Db, DbInfo, DbName, Name, Refusal};
 
 impl Store {
-    /// Makes a database without entries, which comes behind the others. `date` is that of its creation and
-    /// of its last modification.
+    /// Makes a database without entries, after the others. `date` becomes the date of its creation
+    /// and of its last modification.
     ///
-    /// Refused: `InvalidName`; `AlreadyExists`; `TooManyEntries`, where there are 1,024 databases;
-    /// `NotEnoughSpace`, where slots or room for its header and the directory can run out. Then nothing is
-    /// left of it.
+    /// The order is that of the call's row in `database_row`. If the call is refused, nothing is
+    /// left of the database.
+    ///
+    /// # Errors
+    /// - `InvalidName`: if the name is not valid for a database.
+    /// - `AlreadyExists`: if a database has the name.
+    /// - `TooManyEntries`: if there are 1,024 databases.
+    /// - `NotEnoughSpace`: if slots or room for its header and the directory can run out.
     pub fn create(
         &mut self,
         name: &DbName,
@@ -58,7 +63,9 @@ impl Store {
 
     /// Deletes a database with its info blocks and the data of its entries: all of it or nothing.
     ///
-    /// Refused: `NoSuchDatabase`; `ChunkLocked`, where one of these chunks is locked.
+    /// # Errors
+    /// - `NoSuchDatabase`: if no database has the number.
+    /// - `ChunkLocked`: if one of these chunks is locked.
     pub fn delete_database(&mut self, db: Db) -> Result<(), Refusal>
         ensures does { DoesDatabase self.old (DatabaseCall.Delete db)
             (done_or_refused result) self.new }
@@ -76,9 +83,10 @@ impl Store {
         Ok(())
     }
 
-    /// The database with a name.
+    /// Finds the database with a name.
     ///
-    /// Refused: `NoSuchDatabase`.
+    /// # Errors
+    /// - `NoSuchDatabase`: if no database has the name.
     pub fn find(&self, name: &DbName) -> Result<Db, Refusal>
         ensures { DoesDatabase self.now (DatabaseCall.Find name.now)
             (database_or_refused result) self.now }
@@ -86,9 +94,10 @@ impl Store {
         find_named(&self.heap, Db(0), name.as_slice()).ok_or(Refusal::NoSuchDatabase)
     }
 
-    /// The database of an index, counted from 0 in the order of the directory.
+    /// Finds the database at an index, counted from 0 in the order of the directory.
     ///
-    /// Refused: `NoSuchDatabase`.
+    /// # Errors
+    /// - `NoSuchDatabase`: if no database has the index.
     pub fn nth(&self, index: u32) -> Result<Db, Refusal>
         ensures { DoesDatabase self.now (DatabaseCall.Nth index)
             (database_or_refused result) self.now }
@@ -100,16 +109,17 @@ impl Store {
         Ok(listed_in(directory, index as usize))
     }
 
-    /// How many databases there are.
+    /// Returns the number of databases.
     pub fn count(&self) -> u32
         ensures { DoesDatabase self.now DatabaseCall.Count (Reply.Number result) self.now }
     {
         count_databases(&self.heap)
     }
 
-    /// What the header of a database says, and how many entries it has.
+    /// Returns the fields of a database's header, and its number of entries.
     ///
-    /// Refused: `NoSuchDatabase`.
+    /// # Errors
+    /// - `NoSuchDatabase`: if no database has the number.
     pub fn database_info(&self, db: Db) -> Result<DbInfo, Refusal>
         ensures { DoesDatabase self.now (DatabaseCall.Info db)
             (reply_of (λ info. Reply.Info info) result) self.now }
@@ -117,10 +127,16 @@ impl Store {
         Ok(info_in(find_header(&self.heap, db)?))
     }
 
-    /// Sets the name, the version, the dates, the type and the creator of a database, and its attributes but
-    /// the one that says whether it holds resources. Its modification number rises.
+    /// Sets the name, the version, the dates, the type, the creator and the attributes of a
+    /// database. The attribute that says whether it has resources stays. The modification number
+    /// rises.
     ///
-    /// Refused: `NoSuchDatabase`, `InvalidName`; `AlreadyExists`, where another database has the name.
+    /// The order is that of the call's row in `database_row`.
+    ///
+    /// # Errors
+    /// - `NoSuchDatabase`: if no database has the number.
+    /// - `InvalidName`: if the name is not valid for a database.
+    /// - `AlreadyExists`: if another database has the name.
     pub fn set_database_info(&mut self, db: Db, info: &DbInfo) -> Result<(), Refusal>
         ensures does { DoesDatabase self.old (DatabaseCall.SetInfo db info.now)
             (done_or_refused result) self.new }

@@ -1,5 +1,5 @@
-//! Calls on the entries of databases, for the crates of records and of resources. They refuse only what they
-//! name: all else their callers show.
+//! Calls on the entries of databases, for the crates of records and of resources. They return only
+//! the refusals listed. The caller must prove everything else (see each `requires`).
 
 ghost use Rattle.std.specs.Prelude.{◌≡◌, ◌≢◌, ◌<◌, ◌≤◌, None, length, false, IfSome, IfNone, IfOk, OnOk, OnErr, IfErr};
 ghost use Rattle.heap_model.specs.Lending.{KeepsLoan};
@@ -28,13 +28,14 @@ use db_format::{DatabaseView, DbAttrs};
 use heap_model::{Db, Name, Refusal};
 use mem_manager::{DATA_OWNER, Found};
 
-/// The most entries that a database may have.
+/// The greatest number of entries of a database.
 const MOST_ENTRIES: u32 = 65535;
 
 impl Store {
-    /// The database of a number, to be read.
+    /// Finds the database of a number, to be read.
     ///
-    /// Refused: `NoSuchDatabase`.
+    /// # Errors
+    /// - `NoSuchDatabase`: if no database has the number.
     pub fn find_database<'a>(&'a self, db: Db) -> Result<DatabaseView<'a>, Refusal>
         ensures accepted { Accepted self.now.bytes }
         ensures is { IfOk result (λ view. HasDatabase self.now.bytes db.0 view) }
@@ -45,10 +46,12 @@ impl Store {
         Ok(DatabaseView::of(header))
     }
 
-    /// The chunk of the database of a number, as it stands, for the calls below. It is of use until a call changes the
-    /// store, and behind those changes that promise that it stands (`stands`).
+    /// Finds the chunk of the database of a number, in its current state, for the calls below. The
+    /// result is valid until a call changes the store. After a change with the postcondition
+    /// `stands` it stays valid.
     ///
-    /// Refused: `NoSuchDatabase`.
+    /// # Errors
+    /// - `NoSuchDatabase`: if no database has the number.
     #[inline(always)]
     pub fn find_chunk(&self, db: Db) -> Result<Found, Refusal>
         ensures accepted { Accepted self.now.bytes }
@@ -60,7 +63,7 @@ impl Store {
         find_chunk(&self.heap, db)
     }
 
-    /// The chunk of a database that there is, as `find_chunk` answers it.
+    /// Returns the chunk of an existing database, as `find_chunk` does.
     #[inline(always)]
     pub fn chunk_of(&self, db: Db) -> Found
         requires { HasNumber self.now.bytes db.0 }
@@ -69,7 +72,7 @@ impl Store {
         chunk_of(&self.heap, db)
     }
 
-    /// The database whose chunk was found, to be read.
+    /// Returns the database whose chunk was found, to be read.
     #[inline(always)]
     pub fn database_in<'a>(&'a self, db: Db, chunk: Found) -> DatabaseView<'a>
         requires number { HasNumber self.now.bytes db.0 }
@@ -80,9 +83,11 @@ impl Store {
         DatabaseView::of(header_in(&self.heap, db, chunk))
     }
 
-    /// The attributes of a database, and what its entry at an index says, if there is one.
+    /// Returns the attributes of a database, and the fields of its entry at an index, if there is
+    /// one.
     ///
-    /// Refused: `NoSuchDatabase`.
+    /// # Errors
+    /// - `NoSuchDatabase`: if no database has the number.
     #[inline(always)]
     pub fn find_entry(&self, db: Db, index: u32) -> Result<FoundEntry, Refusal>
         ensures accepted { Accepted self.now.bytes }
@@ -103,11 +108,15 @@ impl Store {
         })
     }
 
-    /// Makes an entry at an index, with so many bytes of zeros for its data. The name of the data is answered,
-    /// and the database counts the call.
+    /// Makes an entry at an index with `size` zeros for its data, and returns the name of the data.
+    /// The database counts the call.
     ///
-    /// Refused: `TooManyEntries`, where there are 65,535; `NotEnoughSpace`, where no slot is free, or room for
-    /// the data and for one entry more in the header can run out. Then nothing is left of it.
+    /// If the call is refused, nothing is left of the entry.
+    ///
+    /// # Errors
+    /// - `TooManyEntries`: if there are 65,535 entries.
+    /// - `NotEnoughSpace`: if no slot is free, or if room for the data and for one entry more in
+    ///   the header can run out.
     #[inline(always)]
     pub fn entry_new(
         &mut self,
@@ -141,9 +150,12 @@ impl Store {
         Ok(name)
     }
 
-    /// Whether a database can take a chunk of a caller's.
+    /// Checks that a database can take a caller's chunk.
     ///
-    /// Refused: `InvalidHandle`; `OwnedByDatabase`, where it is one for data; `ChunkFixed`.
+    /// # Errors
+    /// - `InvalidHandle`: if the name is neither a caller's chunk nor data of a database.
+    /// - `OwnedByDatabase`: if the chunk is one for data.
+    /// - `ChunkFixed`: if the chunk is fixed.
     #[inline(always)]
     pub fn check_given(&self, name: Name) -> Result<(), Refusal>
         ensures may { OnOk result (MayBeGiven self.now.bytes name.0) }
@@ -153,11 +165,12 @@ impl Store {
         check_taken(&self.heap, name)
     }
 
-    /// Makes an entry at an index, whose data is a movable chunk of a caller's: that becomes one for data, and
-    /// keeps its locks. The database counts the call.
+    /// Makes an entry at an index with a caller's movable chunk for its data. The chunk becomes one
+    /// for data, and keeps its locks. The database counts the call.
     ///
-    /// Refused: `TooManyEntries`, where there are 65,535; `NotEnoughSpace`, where room for one entry more in
-    /// the header can run out. Then nothing has changed.
+    /// # Errors
+    /// - `TooManyEntries`: if there are 65,535 entries.
+    /// - `NotEnoughSpace`: if room for one entry more in the header can run out.
     #[inline(always)]
     pub fn entry_attach(
         &mut self,
@@ -189,11 +202,13 @@ impl Store {
         Ok(())
     }
 
-    /// Gives the data of an entry, by its name, so many bytes: its first ones, or all of them and zeros behind
-    /// them.
+    /// Gives the data of an entry, by its name, `size` bytes: its first ones, or all of them and
+    /// zeros after them.
     ///
-    /// Refused: `Lent`; where the data has to grow, `ChunkLocked`, where it is locked and doesn't fit in its place, and
-    /// `NotEnoughSpace`. Then nothing has changed.
+    /// # Errors
+    /// - `Lent`: if the data is lent.
+    /// - `ChunkLocked`: if the data is locked, has to grow, and doesn't fit at its place.
+    /// - `NotEnoughSpace`: if the data has to grow, and there is no room.
     pub fn entry_resize(&mut self, name: Name, size: u32) -> Result<(), Refusal>
         requires own { IsEntryData self.old.bytes name.0 }
         ensures done { OnOk result
@@ -212,7 +227,8 @@ impl Store {
         Ok(())
     }
 
-    /// Sets what an entry says. Its data stays. The database counts the call if `counts` says so.
+    /// Sets the fields of an entry. Its data stays. The database counts the call if `counts` is
+    /// true.
     #[inline(always)]
     pub fn entry_set(&mut self, db: Db, chunk: Found, index: u32, info: EntryInfo, counts: bool)
         requires number { HasNumber self.old.bytes db.0 }
@@ -230,9 +246,9 @@ impl Store {
         self.known = self.known.without(info);
     }
 
-    /// Gives an entry a movable chunk of a caller's for its data, and sets what it says. The chunk becomes one for
-    /// data, and that of the data that the entry had gets an owner; both keep their locks. The database counts
-    /// the call.
+    /// Makes a caller's movable chunk the data of an entry, and sets the entry's fields. The chunk
+    /// becomes one for data. The chunk of the old data gets an owner. Both keep their locks. The
+    /// database counts the call.
     #[inline(always)]
     pub fn entry_swap(
         &mut self,
@@ -264,8 +280,8 @@ impl Store {
         self.known = self.known.without(info);
     }
 
-    /// Moves the entry at an index in front of the one that stands at another, or behind the last: `to` counts
-    /// the entries as they stand before. The database counts the call.
+    /// Moves the entry at `from` to before the one at `to`, or to the end. Both are counted before
+    /// the move. The database counts the call.
     #[inline(always)]
     pub fn entry_move(&mut self, db: Db, chunk: Found, from: u32, to: u32)
         requires number { HasNumber self.old.bytes db.0 }
@@ -281,8 +297,8 @@ impl Store {
         move_entry(&mut self.heap, db, chunk, from as u16, to as u16);
     }
 
-    /// Frees the data of a record, if it has any. The record is deleted then, and keeps its ID and its other
-    /// attributes. The database counts the call if `counts` says so.
+    /// Frees the data of a record, if it has any. The record is deleted then, and keeps its ID and
+    /// its other attributes. The database counts the call if `counts` is true.
     #[inline(always)]
     pub fn entry_free_data(&mut self, db: Db, chunk: Found, index: u32, counts: bool)
         requires number { HasNumber self.old.bytes db.0 }
@@ -309,7 +325,7 @@ impl Store {
         free_chunk_of(&mut self.heap, Name(entry.slot()));
     }
 
-    /// Drops an entry: its data, if it has any, is freed, or handed over to an owner. The database counts the
+    /// Drops an entry. Its data, if it has any, is freed or gets an owner. The database counts the
     /// call.
     #[inline(always)]
     pub fn entry_drop(&mut self, db: Db, chunk: Found, index: u32, owner: Option<u8>)

@@ -1,5 +1,5 @@
-//! Calls for a crate that reads databases from files and writes them to files. They refuse nothing: what they
-//! ask their callers show.
+//! Calls for a crate that reads databases from files and writes them to files. They refuse nothing.
+//! The caller must prove their preconditions.
 
 ghost use Rattle.std.specs.Prelude.{◌≡◌, ◌↔◌, None, length, IfSome, IfNone, IsTrue, Any};
 ghost use Rattle.heap_model.specs.Lending.{IsLent, KeepsLoan};
@@ -17,8 +17,8 @@ use crate::store::Store;
 use heap_model::{Db, Name};
 
 impl Store {
-    /// The bytes of the database of a number, as they lie in the image: its header, and its entries behind
-    /// that. `None` where there is no such database.
+    /// Returns the bytes of the database of a number, in the image: its header, and its entries
+    /// after it. Returns `None` if there is no such database.
     pub fn database_bytes(&self, db: Db) -> Option<&[u8]>
         ensures accepted { Accepted self.now.bytes }
         ensures none { IfNone result (with_number (store_of self.now.bytes) db.0 ≡ None) }
@@ -30,8 +30,8 @@ impl Store {
         find_header(&self.heap, db).ok()
     }
 
-    /// The bytes of a chunk that a database names, as they lie in the image. There are none under `Name(0)`,
-    /// which stands where it has no chunk.
+    /// Returns the bytes of a chunk that a database names, in the image. There are none for
+    /// `Name(0)`, which means that it has no chunk.
     pub fn chunk_bytes(&self, name: Name) -> &[u8]
         requires names { IsDataName self.now.bytes name.0 }
         requires here { IsLent self.now name.0 → ⊥ }
@@ -44,7 +44,7 @@ impl Store {
         }
     }
 
-    /// Whether a database names the chunk whose body is lent.
+    /// Returns whether a database names the chunk whose body is lent.
     pub fn lends_data(&self, db: Db) -> bool
         requires { HasNumber self.now.bytes db.0 }
         ensures { IsTrue result ↔ Any (IsLent self.now) (named_under self.now.bytes db.0) }
@@ -52,7 +52,8 @@ impl Store {
         has_lent(&self.heap, db, chunk_of(&self.heap, db))
     }
 
-    /// Writes bytes over all of a chunk for data without a lock: an info block of a database, or the data of an entry.
+    /// Writes bytes over all of a chunk for data without a lock: an info block of a database, or
+    /// the data of an entry.
     pub fn fill_data(&mut self, name: Name, bytes: &[u8])
         requires { HasDataOf self.old.bytes name.0 (length bytes.now) }
         ensures filled { LeavesChanged self.old self.new

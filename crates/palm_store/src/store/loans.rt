@@ -1,4 +1,4 @@
-//! Bytes of chunks are taken out of a store, and put back.
+//! Calls that take the bytes of chunks out of a store, and put them back.
 
 ghost use Rattle.std.specs.Prelude.{◌≡◌, ◌≢◌, ℕ, IfSome, OnSome, IfNone, IfOk, OnErr, IfErr, None};
 ghost use Rattle.heap_model.specs.Lending.{IsLent};
@@ -12,11 +12,13 @@ use heap_model::{Name, Refusal};
 use mem_manager::Loan;
 
 impl Store {
-    /// Takes the bytes of a locked or fixed chunk out. The store has zeros in their place until they are put back, and
-    /// lends no others. It takes no memory, and copies no byte.
+    /// Takes the bytes of a locked or fixed chunk out, without a copy or an allocation. The store
+    /// has zeros at their place until they are put back. It lends no other bytes until then.
     ///
     /// # Errors
-    /// `InvalidHandle`, `ChunkNotLocked`; `Lent`, if a loan is out.
+    /// - `InvalidHandle`: if the name is neither a caller's chunk nor data of a database.
+    /// - `ChunkNotLocked`: if the chunk is movable and has no lock.
+    /// - `Lent`: if a loan is out.
     pub fn take_out(&mut self, name: Name) -> Result<Loan, Refusal>
         ensures taken { IfOk result (λ loan. TakesOut self.old self.new name loan) }
         ensures refused { OnErr result (self.new ≡ self.old) }
@@ -34,7 +36,7 @@ impl Store {
         self.heap.put_back(loan);
     }
 
-    /// The name of the chunk whose bytes are out, if there is one.
+    /// Returns the name of the chunk whose bytes are out, if there is one.
     pub fn lent(&self) -> Option<Name>
         ensures lent { IfSome result (λ name. IsLent self.now name.0) }
         ensures alone { IfSome result (λ name. (other : ℕ) → IsLent self.now other → other ≡ name.0) }

@@ -14,14 +14,15 @@ use crate::store::Store;
 use heap_model::{Name, Refusal};
 
 impl Store {
-    /// Makes a movable chunk of `size` zeros, without a lock, for an owner of 1 to 14. Its name is the offset
-    /// of a slot that was empty.
+    /// Makes a movable chunk of `size` zeros, without a lock, for an owner of 1 to 14. Its name is
+    /// the offset of a slot that was empty.
     ///
-    /// Where no run of neighbouring free chunks has the room, the chunks of one stretch are packed, and
-    /// those of no other move.
+    /// If no run of neighbouring free chunks has the room, the chunks of one stretch are packed. No
+    /// others move.
     ///
-    /// Refused: `InvalidOwner`; `NotEnoughSpace`, where no slot is free, or no stretch has the room. Then
-    /// nothing has changed.
+    /// # Errors
+    /// - `InvalidOwner`: if the owner isn't one of 1 to 14.
+    /// - `NotEnoughSpace`: if no slot is free, or no stretch has the room.
     pub fn handle_new(&mut self, size: u32, owner: u8) -> Result<Name, Refusal>
         ensures does { DoesMemory self.old (MemoryCall.HandleNew size owner)
             (name_or_refused result) self.new }
@@ -34,9 +35,11 @@ impl Store {
         self.heap.handle_new(size, owner)
     }
 
-    /// Makes a fixed chunk of `size` zeros. What moves is as with a movable one.
+    /// Makes a fixed chunk of `size` zeros. It moves chunks as `handle_new` does.
     ///
-    /// Refused: `InvalidOwner`; `NotEnoughSpace`, where no stretch has the room. Then nothing has changed.
+    /// # Errors
+    /// - `InvalidOwner`: if the owner isn't one of 1 to 14.
+    /// - `NotEnoughSpace`: if no stretch has the room.
     pub fn ptr_new(&mut self, size: u32, owner: u8) -> Result<Name, Refusal>
         ensures does { DoesMemory self.old (MemoryCall.PtrNew size owner)
             (name_or_refused result) self.new }
@@ -49,11 +52,11 @@ impl Store {
         self.heap.ptr_new(size, owner)
     }
 
-    /// Makes a further master pointer table of 15 empty slots, the last of the chain. It moves chunks as `ptr_new`
-    /// does.
+    /// Makes a further master pointer table of 15 empty slots, the last of the chain. It moves
+    /// chunks as `ptr_new` does.
     ///
-    /// Refused: `NotEnoughSpace`, if the image has no chain of tables, or if no stretch has the room. Then
-    /// nothing has changed.
+    /// # Errors
+    /// - `NotEnoughSpace`: if the image has no chain of tables, or if no stretch has the room.
     pub fn more_slots(&mut self) -> Result<(), Refusal>
         ensures does { DoesMemory self.old MemoryCall.MoreSlots (done_or_refused result) self.new }
         ensures unmoved { (NoRun (chunks_of self.old.bytes) (need gained_length) → ⊥)
@@ -65,18 +68,24 @@ impl Store {
         self.heap.more_slots()
     }
 
-    /// Frees a chunk that is a caller's and has no lock; a fixed one may be freed.
+    /// Frees a caller's chunk that has no lock. It may be fixed.
     ///
-    /// Refused: `InvalidHandle`, `OwnedByDatabase`, `ChunkLocked`, `Lent`.
+    /// # Errors
+    /// - `InvalidHandle`: if the name is neither a caller's chunk nor data of a database.
+    /// - `OwnedByDatabase`: if the chunk is one for data.
+    /// - `ChunkLocked`: if the chunk is locked.
+    /// - `Lent`: if the chunk is lent.
     pub fn free(&mut self, name: Name) -> Result<(), Refusal>
         ensures { DoesMemory self.old (MemoryCall.Free name) (done_or_refused result) self.new }
     {
         self.heap.free(name)
     }
 
-    /// Frees all chunks of an owner, 1 to 14, locked and fixed ones too, and answers how many there were.
+    /// Frees all chunks of an owner, 1 to 14, locked and fixed ones too, and returns their number.
     ///
-    /// Refused: `InvalidOwner`; `Lent`, if one of them is lent. Then nothing has changed.
+    /// # Errors
+    /// - `InvalidOwner`: if the owner isn't one of 1 to 14.
+    /// - `Lent`: if one of the chunks is lent.
     pub fn free_by_owner(&mut self, owner: u8) -> Result<u32, Refusal>
         ensures { DoesMemory self.old (MemoryCall.FreeByOwner owner)
             (number_or_refused result) self.new }
@@ -84,8 +93,9 @@ impl Store {
         self.heap.free_by_owner(owner)
     }
 
-    /// Gathers the free bytes of each stretch in one chunk behind its live ones, which keep their order, and
-    /// answers how many bytes have moved, headers counted. Each of them is copied once, and no other byte.
+    /// Gathers the free bytes of each stretch in one chunk after its live ones, which keep their
+    /// order. It returns how many bytes have moved, headers included. It copies each of them once,
+    /// and no other byte.
     pub fn compact(&mut self) -> u32
         ensures does { DoesMemory self.old MemoryCall.Compact (Reply.Number result) self.new }
         ensures packed { Packed (chunks_of self.new.bytes) }
@@ -95,12 +105,18 @@ impl Store {
         self.heap.compact()
     }
 
-    /// Gives a chunk `size` bytes: its first ones, or all of them and zeros behind. Where it has them with
-    /// what is free directly behind it, nothing moves; else it may move, and others of one stretch.
+    /// Gives a chunk `size` bytes: its first ones, or all of them and zeros after them. If the
+    /// bytes fit with the free ones directly after the chunk, nothing moves. Otherwise it may move,
+    /// and other chunks of one stretch too.
     ///
-    /// Refused: `InvalidHandle`, `OwnedByDatabase`, `ChunkFixed`, `Lent`; `ChunkLocked`, where it is locked and
-    /// would have to move; `NotEnoughSpace`, where it is not locked and no stretch has the room, its own
-    /// bytes counted as room of its own stretch. Then nothing has changed.
+    /// # Errors
+    /// - `InvalidHandle`: if the name is neither a caller's chunk nor data of a database.
+    /// - `OwnedByDatabase`: if the chunk is one for data.
+    /// - `ChunkFixed`: if the chunk is fixed.
+    /// - `Lent`: if the chunk is lent.
+    /// - `ChunkLocked`: if the chunk is locked and would have to move.
+    /// - `NotEnoughSpace`: if the chunk is not locked and no stretch has the room. Its own bytes
+    ///   count as room of its own stretch.
     pub fn resize(&mut self, name: Name, size: u32) -> Result<(), Refusal>
         ensures does { DoesMemory self.old (MemoryCall.Resize name size)
             (done_or_refused result) self.new }

@@ -1,4 +1,4 @@
-//! A store gets a chain of master pointer tables.
+//! The call that gives a store a chain of master pointer tables.
 
 ghost use Rattle.std.specs.Prelude.{◌≡◌, ◌≢◌, ◌↔◌, IfOk, IfErr, OnOk, None, true};
 ghost use Rattle.heap_model.specs.Slots.{is_chained};
@@ -13,15 +13,17 @@ use raw_region::Region;
 use std::alloc::Global;
 
 impl Store {
-    /// Gives the store a chain of master pointer tables, so that `more_slots` can add tables. A store that has a chain
-    /// is returned as it is.
+    /// Gives the store a chain of master pointer tables, so that `more_slots` can add tables. A
+    /// store that has a chain is returned as it is.
     ///
-    /// With an even number of slots the image grows by 8 bytes, and then the names of fixed chunks are greater by 8.
-    /// Takes memory for the new image, and frees the old one.
+    /// With an even number of slots the image grows by 8 bytes, and the names of fixed chunks grow
+    /// by 8. It allocates the new image, and frees the old one.
     ///
     /// # Errors
-    /// `Lent` if a body is lent, `TooLarge` if the new image would be larger than 16,777,208 bytes, and `OutOfMemory`
-    /// if an allocation failed. The store comes back with each, unchanged.
+    /// The store is returned unchanged with each error.
+    /// - `Lent`: if a body is lent.
+    /// - `TooLarge`: if the new image would be larger than 16,777,208 bytes.
+    /// - `OutOfMemory`: if an allocation failed.
     pub fn migrate(self, alloc: Global) -> Result<Store, (MigrateFault, Store)>
         ensures migrated { IfOk result (λ store. IsMigrated self.bytes store.bytes) }
         ensures chained { is_chained self.bytes ≡ true → IfOk result (λ store. store ≡ self) }
@@ -39,7 +41,8 @@ impl Store {
         self.migrate_from(&alloc)
     }
 
-    /// `migrate`, where the growth asks for a grant. Only a refused growth is answered by `OutOfMemory`.
+    /// The same as `migrate`, but the allocation asks for a grant. It reports `OutOfMemory` only if
+    /// the allocation failed.
     pub fn migrate_from<A: Allowance>(self, memory: &A) -> Result<Store, (MigrateFault, Store)>
         ensures migrated { IfOk result (λ store. IsMigrated self.bytes store.bytes) }
         ensures chained { is_chained self.bytes ≡ true → IfOk result (λ store. store ≡ self) }
@@ -61,7 +64,7 @@ impl Store {
     }
 }
 
-/// Migrates a region of which nothing is lent.
+/// Migrates a region that lends nothing.
 fn migrate_region<A: Allowance>(memory: &A, region: Region) -> Result<Store, (MigrateFault, Store)>
     requires accepted { Accepted region.bytes }
     requires whole { region.lent ≡ None }

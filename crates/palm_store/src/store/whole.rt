@@ -15,14 +15,18 @@ use db_format::{DbAttrs, MOST_DATABASES, entry_offset};
 use heap_model::{Db, DbInfo, Name, Refusal};
 
 impl Store {
-    /// Makes a database with this header and these entries, which comes behind the others: all of it or
-    /// nothing. Its info blocks and the data of its entries are zeros, and their names are put down in `names`,
-    /// in that order; `Name(0)` stands where there is none.
+    /// Makes a database with this header and these entries, after the others: all of it or nothing.
+    /// Its info blocks and the data of its entries are zeros. Their names are put into `names`, in
+    /// that order; `Name(0)` means that there is none.
     ///
-    /// Refused: `AlreadyExists`, where another database has the name; `TooManyEntries`, where there are 1,024
-    /// databases; `NotEnoughSpace`, where slots or room can run out for its header, its info blocks and data,
-    /// and the directory, one after the other. Then nothing is left of it, and what stands in `names` means
-    /// nothing.
+    /// If the call is refused, nothing is left of the database, and `names` has no meaning. The
+    /// order is that of `checks_of_whole`.
+    ///
+    /// # Errors
+    /// - `AlreadyExists`: if another database has the name.
+    /// - `TooManyEntries`: if there are 1,024 databases.
+    /// - `NotEnoughSpace`: if slots or room can run out. It is taken for the header, the info
+    ///   blocks, the data and the directory, one after the other.
     pub fn create_whole(
         &mut self,
         info: &DbInfo,

@@ -54,7 +54,7 @@ fn put_header<W: Write>(
     put_all(out, &header.to_bytes())
 }
 
-/// Writes the entries, whose data stands from `first` on.
+/// Writes the entries. Their data begins at the offset `first`.
 fn put_entries<W: Write>(
     store: &Store,
     bytes: &[u8],
@@ -78,7 +78,7 @@ fn put_entries<W: Write>(
     Ok(())
 }
 
-/// An entry as its file has it: no record is busy, and its data stands at an offset.
+/// Returns an entry as its file has it: no record is busy, and its data is at the offset `at`.
 fn in_file(entry: DbEntry, at: u32) -> DbEntry
     requires { HasFittingId entry }
     ensures is { (chunks : ChunkMap) → entry_of result ≡ file_entry chunks at (entry_of entry) }

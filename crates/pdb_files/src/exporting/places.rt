@@ -1,4 +1,4 @@
-//! Where the blocks of a database stand in its file, and how long that is.
+//! The offsets of a database's blocks in its file, and the length of the file.
 
 ghost use Rattle.std.specs.Prelude.{◌≡◌, ◌<◌, ◌^◌, length};
 ghost use Rattle.heap_model.specs.Meaning.{ChunkMap};
@@ -11,8 +11,8 @@ use db_format::{app_info, entries_end, entry_count, entry_slot, has_resources, s
 use heap_model::Name;
 use palm_store::Store;
 
-/// The offsets that a header has in a file, 0 where there is no block, and where the data of the entries
-/// begins.
+/// The offsets of the info blocks in a file, 0 for an absent block, and the offset where the data
+/// of the entries begins.
 #[derive(Clone, Copy)]
 pub(crate) struct Places {
     pub(crate) app_info: u32,
@@ -20,7 +20,7 @@ pub(crate) struct Places {
     pub(crate) data: u32,
 }
 
-/// The block that a slot stands for; no bytes, where there is none.
+/// Returns the block that a slot stands for. If there is none, it has no bytes.
 #[inline]
 pub(crate) fn block(store: &Store, slot: u32) -> &[u8]
     requires { MayBeRead store.now slot }
@@ -33,7 +33,7 @@ pub(crate) fn block(store: &Store, slot: u32) -> &[u8]
     }
 }
 
-/// How many bytes it has.
+/// Returns how many bytes a slot's block has.
 #[inline]
 pub(crate) fn block_size(store: &Store, slot: u32) -> u32
     requires own { MayBeRead store.now slot }
@@ -43,7 +43,7 @@ pub(crate) fn block_size(store: &Store, slot: u32) -> u32
     block(store, slot).len() as u32
 }
 
-/// The offset of a block that stands at one, or 0 where the slot stands for none.
+/// Returns the offset `at` of a slot's block, or 0 if the slot stands for none.
 #[inline]
 pub(crate) fn block_offset(at: u32, slot: u32) -> u32
     ensures { (chunks : ChunkMap) → result ≡ files.block_offset at (bytes_named chunks slot) }
@@ -51,7 +51,8 @@ pub(crate) fn block_offset(at: u32, slot: u32) -> u32
     if slot == 0 { 0 } else { at }
 }
 
-/// Where the first block stands in the file of a database: behind the entries and two bytes.
+/// Returns the offset of the first block in the file of a database: after the entries and two
+/// bytes.
 fn first_block(store: &Store, bytes: &[u8]) -> u32
     requires { IsExportable store.now bytes.now }
     ensures { result ≡ files.first_block (content_of store.now.bytes bytes.now) }
@@ -59,7 +60,7 @@ fn first_block(store: &Store, bytes: &[u8]) -> u32
     (entries_end(bytes) + 2) as u32
 }
 
-/// Where the blocks stand in the file of a database, given by its bytes.
+/// Finds the offsets of the blocks in the file of a database, given by its bytes.
 pub(crate) fn find_places(store: &Store, bytes: &[u8]) -> Places
     requires { IsExportable store.now bytes.now }
     ensures { ArePlaces (content_of store.now.bytes bytes.now) result }
@@ -75,7 +76,7 @@ pub(crate) fn find_places(store: &Store, bytes: &[u8]) -> Places
     }
 }
 
-/// How many bytes the file of a database has, given by its bytes.
+/// Returns how many bytes the file of a database has. The database is given by its bytes.
 pub(crate) fn file_size(store: &Store, bytes: &[u8]) -> u32
     requires { IsExportable store.now bytes.now }
     ensures { result ≡ length (files.file_of (content_of store.now.bytes bytes.now)) }

@@ -1,4 +1,4 @@
-//! The bytes of a file's blocks, written into the chunks of the database that was made of it.
+//! Writes the blocks of a file into the chunks of the database that was made for it.
 
 ghost use Rattle.std.specs.Prelude.{◌≡◌, ◌<◌, ◌≤◌, ℕ, length, map, All};
 ghost use Rattle.heap_model.specs.Lending.{KeepsLoan};
@@ -12,8 +12,8 @@ use heap_model::Name;
 use palm_store::Store;
 use pdb_format::Block;
 
-/// Fills the chunks of a file's blocks, which are zeros, each under the name at its index. `Name(0)` stands where there is
-/// no block.
+/// Fills the chunks of a file's blocks. They are zeros before, and each is under the name at the
+/// index of its block. The name of an absent block is `Name(0)`.
 pub(super) fn fill_blocks(store: &mut Store, file: &[u8], blocks: &[Option<Block>], names: &[Name])
     requires accepted { Accepted store.old.bytes }
     requires long { length names.now ≡ length blocks.now }

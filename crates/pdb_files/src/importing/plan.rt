@@ -1,4 +1,4 @@
-//! What a file says of the database that it is read as, before any of that is made.
+//! The plan for the database of a file, before any of it is made.
 
 ghost use Rattle.std.specs.Prelude.{◌≡◌, ◌<◌, ◌≤◌, ◌+◌, ◌↔◌, None, IsTrue, length, map, IfOk, OnErr, All, slice_index_or};
 ghost use Rattle.heap_model.specs.Database.{entry_count_in, IsDatabaseName};
@@ -21,8 +21,8 @@ use palm_store::{BlockSizes, WholeEntry};
 use pdb_format::Block;
 use std::alloc::AllocError;
 
-/// What a file says of its database: the header, the sizes of the info blocks, the entries with the sizes of their data,
-/// and where the blocks stand.
+/// The plan for the database of a file: the header, the sizes of the info blocks, the entries with
+/// the sizes of their data, and where the blocks are in the file.
 #[derive(Drop)]
 pub(super) struct Plan {
     pub(super) info: DbInfo,
@@ -31,7 +31,7 @@ pub(super) struct Plan {
     pub(super) blocks: Vec<Option<Block>>,
 }
 
-/// Reads off a file what its database is to be. The only error is a refused growth.
+/// Reads the plan for the database of a file. The only error is a failed allocation.
 pub(super) fn read_plan<A: Allowance>(
     memory: &A,
     file: &[u8],
@@ -54,7 +54,7 @@ pub(super) fn read_plan<A: Allowance>(
     })
 }
 
-/// Whether a block has less than 4 GiB, if it is there.
+/// Whether a block is absent or has less than 4 GiB.
 fn is_short(block: Option<Block>) -> bool
     requires { IsWithin usize.MAX block }
     ensures { IsTrue result ↔ IsShort block }
@@ -65,7 +65,7 @@ fn is_short(block: Option<Block>) -> bool
     }
 }
 
-/// Whether each of these blocks has less than 4 GiB: no heap has room for more.
+/// Whether each of these blocks is absent or has less than 4 GiB. No heap has room for more.
 pub(super) fn are_short(blocks: &[Option<Block>]) -> bool
     requires { All (IsWithin usize.MAX) blocks.now }
     ensures { IsTrue result ↔ All IsShort blocks.now }
@@ -78,7 +78,7 @@ pub(super) fn are_short(blocks: &[Option<Block>]) -> bool
     true
 }
 
-/// The header of the database of a file, whose last ID by the seed was this one.
+/// Returns the header of a file's database, with `seed` as the low 24 bits of its seed field.
 fn header_of(file: &[u8], seed: u32) -> DbInfo
     requires good { HasNoFault file.now }
     requires seed { seed ≤ greatest_id }
@@ -92,7 +92,7 @@ fn header_of(file: &[u8], seed: u32) -> DbInfo
     info
 }
 
-/// How many bytes a block has, if it is there.
+/// Returns how many bytes a block has, if there is one.
 fn size_of(block: Option<Block>) -> Option<u32>
     requires within { IsWithin usize.MAX block }
     requires short { IsShort block }
@@ -104,7 +104,7 @@ fn size_of(block: Option<Block>) -> Option<u32>
     }
 }
 
-/// How many bytes the info blocks have, which are the first of these.
+/// Returns how many bytes the info blocks have. They are the first of these blocks.
 fn sizes_of(blocks: &[Option<Block>]) -> BlockSizes
     requires within { All (IsWithin usize.MAX) blocks.now }
     requires short { All IsShort blocks.now }
@@ -125,7 +125,7 @@ fn idle(attributes: RecordAttrs) -> u8
     attributes.difference(RecordAttrs::BUSY).bits()
 }
 
-/// The entry that comes of one of a file, with this ID if it is a record, and data of this size.
+/// Plans an entry of a file. A record gets its ID from `ids`, and its data has this size.
 fn plan_entry(file: &[u8], index: u16, ids: &[u32], size: Option<u32>) -> WholeEntry
     requires good { HasNoFault file.now }
     requires inside { index < entry_count_in file.now }
@@ -147,7 +147,7 @@ fn plan_entry(file: &[u8], index: u16, ids: &[u32], size: Option<u32>) -> WholeE
     }
 }
 
-/// The entries that come of those of a file, in their order.
+/// Plans the entries of a file, in their order.
 fn plan_entries<A: Allowance>(
     memory: &A,
     file: &[u8],

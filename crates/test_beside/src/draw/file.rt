@@ -52,7 +52,8 @@ struct Area {
 }
 
 impl Area {
-    /// An offset: most often one of these, seldom the one in front of the first, the one behind the last, or 0.
+    /// An offset: most often one of these, seldom the one before the first, the one after the last,
+    /// or 0.
     fn any(self, random: &mut Pcg32) -> u32 {
         match below(random, 48) {
             0 => self.from.saturating_sub(1),
@@ -73,7 +74,7 @@ impl Area {
     }
 }
 
-/// The area of a file with so many entries: up to 63 bytes.
+/// The area of a file with the given number of entries: up to 63 bytes.
 fn any_area(random: &mut Pcg32, resources: bool, count: u32) -> Area {
     let size = if resources { 10 } else { 8 };
     let from = count.saturating_mul(size).saturating_add(78);
@@ -103,7 +104,8 @@ fn whole_file(random: &mut Pcg32, alloc: Global) -> Result<Vec<u8>, AllocError> 
     Ok(file)
 }
 
-/// The header of a file, in front of the number of entries. Behind the zero that ends its name anything may stand.
+/// The header of a file, before the number of entries. After the zero that ends its name anything
+/// may stand.
 fn any_header(
     random: &mut Pcg32,
     alloc: Global,

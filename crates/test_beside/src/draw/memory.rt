@@ -7,8 +7,8 @@ use rand_pcg::Pcg32;
 use std::alloc::{AllocError, Global};
 use test_model::{Image, Piece};
 
-/// A name: most often that of a chunk in the image, else a slot's, one between slots or in the chunks,
-/// or one beyond the image.
+/// A name: most often that of a chunk in the image, else a slot's, one between slots or in the
+/// chunks, or one beyond the image.
 pub(crate) fn any_name(random: &mut Pcg32, pieces: &[Piece]) -> Name {
     match below(random, 8) {
         0..=4 => match pieces.choose(random) {

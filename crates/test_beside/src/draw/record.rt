@@ -39,8 +39,8 @@ fn known_id(random: &mut Pcg32, databases: &[Database]) -> u32 {
     }
 }
 
-/// An ID: most often that of a record, else the same with a bit above the 24 that an ID has, a small one, or
-/// any number.
+/// An ID: most often that of a record, else the same with a bit above the 24 that an ID has, a
+/// small one, or any number.
 fn any_id(random: &mut Pcg32, databases: &[Database]) -> u32 {
     match below(random, 8) {
         0 => known_id(random, databases) | 0x0100_0000,
@@ -50,8 +50,8 @@ fn any_id(random: &mut Pcg32, databases: &[Database]) -> u32 {
     }
 }
 
-/// A category: most often one of the first, else any of them, the number behind the last, what stands for
-/// all, or any number.
+/// A category: most often one of the first, else any of them, the number after the last, what
+/// stands for all, or any number.
 fn any_category(random: &mut Pcg32) -> u8 {
     match below(random, 12) {
         0 => 16,

@@ -51,7 +51,7 @@ fn any_kind_and_id(random: &mut Pcg32, resources: &[Resource]) -> (u32, u16) {
     }
 }
 
-/// How many others of a type are to stand in front: few, or very many.
+/// How many others of a type are to come before it: few, or very many.
 fn any_nth(random: &mut Pcg32) -> u32 {
     match below(random, 8) {
         0 => u32::MAX,
@@ -86,7 +86,8 @@ pub(crate) fn resource_call(
     }
 }
 
-/// A call that makes, resizes or removes a resource, or by which any chunk is to become the data of one.
+/// A call that makes, resizes or removes a resource, or by which any chunk is to become the data of
+/// one.
 fn changing_call(
     random: &mut Pcg32,
     image: &Image,

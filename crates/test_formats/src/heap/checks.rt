@@ -114,7 +114,7 @@ const OF_ONE_CHUNK: [(&str, &str); 18] = [
     // a slot that points inside the chunk, also where a header seems to stand there
     ("23: 30", "SlotMismatch 20"),
     ("23: 30, 40: 0000001001FFFFF6", "SlotMismatch 20"),
-    // a slot that points at the free chunk, at no chunk, in front of the area, beyond the end
+    // a slot that points at the free chunk, at no chunk, before the area, beyond the end
     ("23: 40", "SlotMismatch 20"),
     ("23: 24", "SlotMismatch 20"),
     ("23: 08", "SlotMismatch 20"),

@@ -1,5 +1,5 @@
-//! The definitions of an image, tried on images: what is read off the images of docs/FORMAT.md, and off
-//! the smallest image that breaks each part of the definition of an accepted heap alone.
+//! The definitions of an image, tried on images: what is read off the images of docs/FORMAT.md, and
+//! off the smallest image that breaks each part of the definition of an accepted heap alone.
 
 ghost use Rattle.std.specs.Prelude.{◌≡◌, ◌++◌, ◌-◌, ◌*◌, ℕ, Bool, true, false, List, [], ◌∷◌, map, length, replicate, Option, Some, None};
 ghost use Rattle.heap_model.specs.Bytes.{u32_bytes};
@@ -49,7 +49,8 @@ fn fixed_chunk_is_read()
         ≡ Some (record { bytes = 1 ∷ 2 ∷ 3 ∷ 4 ∷ []; lock = 15; owner = 14 }) }
 {}
 
-/// Each part of the head is broken by an image that keeps all others. (A length that is not a multiple of 8 has no such image, and the greatest size none that is small.)
+/// Each part of the head is broken by an image that keeps all others. (A length that is not a
+/// multiple of 8 has no such image, and the greatest size none that is small.)
 fn head_parts_break_alone()
     ensures magic { BreaksAlone (padded 64 (0x50484933 ∷ 64 ∷ 0x00010000 ∷ 0 ∷ 0 ∷ 0 ∷ 0x80000028
         ∷ [])) 0 }
@@ -90,7 +91,7 @@ fn area_parts_break_alone()
         ∷ 0 ∷ 0x80000018 ∷ [])) 14 }
 {}
 
-/// Each way in which a chunk is out of shape, and the words beside it that are in shape.
+/// Each way in which a chunk is out of shape, and the words next to it that are in shape.
 fn shape_is_read()
     ensures size_below_8 { IsOutOfShape 0x80000000 0 }
     ensures size_not_whole { IsOutOfShape 0x8000000C 0 }

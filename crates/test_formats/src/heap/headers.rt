@@ -35,8 +35,8 @@ fn sizes_are_rounded_up() -> Result<(), Fail> {
     Ok(())
 }
 
-/// The header at 24 of 64 bytes, where these words stand: as it is looked for, and where there is one,
-/// as that of a chunk that is known to stand there.
+/// The header at 24 of 64 bytes, where these words stand: as it is looked for, and where there is
+/// one, as that of a chunk that is known to stand there.
 fn header_by(alloc: Global, first: u32, second: u32) -> Result<Option<Header>, Fail> {
     let mut region = Region::zeroed(alloc, 64)?;
     region.put_u32(24, first);
@@ -166,7 +166,7 @@ fn a_free_header_leaves_its_second_word(rt: HostRuntime) -> Result<(), Fail> {
     equal("free", found, ([0x8000_0028, 0xAAAA_AAAA], Some(header)))
 }
 
-/// The first slot stands in front of the chunk, and the second one behind it.
+/// The first slot stands before the chunk, and the second one after it.
 #[test]
 fn a_movable_header_names_its_slot(rt: HostRuntime) -> Result<(), Fail> {
     let header = Header::Movable {
@@ -216,8 +216,8 @@ fn the_second_word_is_written_alone(rt: HostRuntime) -> Result<(), Fail> {
     equal("words", found, wanted)
 }
 
-/// From 24 on: a free chunk, a movable one, a fixed one and a free one. Then the fixed one's hOffset
-/// puts it out of shape.
+/// From 24 on: a free chunk, a movable one, a fixed one and a free one. Then the fixed one's
+/// hOffset puts it out of shape.
 #[test]
 fn walks_over_chunks(rt: HostRuntime) -> Result<(), Fail> {
     check_walk(rt.alloc(), 0xF100_0000, &CHUNKS)?;

@@ -89,8 +89,8 @@ impl CheckedSpace {
         self.space.find_room(size)
     }
 
-    /// Makes a movable chunk, under the first empty slot. None where there is no room or no slot, and for what is no
-    /// owner.
+    /// Makes a movable chunk, under the first empty slot. None where there is no room or no slot,
+    /// and for what is no owner.
     pub(crate) fn make(&mut self, count: u32, owner: u8) -> Option<u32> {
         let room = self.space.find_room(chunk_size(count)?)?;
         let slot = first_empty_slot(self.space.region(), TableStart::first(), 0)?.name;
@@ -107,8 +107,8 @@ impl CheckedSpace {
         Some(self.space.claim_fixed(room, count, 14).0)
     }
 
-    /// Gives back the chunk of a name, and answers how many bytes are free there then. None where there is
-    /// no such chunk, and for the directory.
+    /// Gives back the chunk of a name, and returns how many bytes are free there then. None where
+    /// there is no such chunk, and for the directory.
     pub(crate) fn give_back(&mut self, name: Name) -> Option<u32> {
         let found = self.space.find(name)?;
         if found.name.0 == directory(self.space.region()) {
@@ -117,8 +117,8 @@ impl CheckedSpace {
         Some(self.space.give_back(found))
     }
 
-    /// Gives the movable chunk of a name another lock count, and answers it. None where it couldn't: one of the
-    /// manager's has no locks.
+    /// Gives the movable chunk of a name another lock count, and returns it. None where it
+    /// couldn't: one of the manager's has no locks.
     pub(crate) fn relock(&mut self, name: Name, lock: u8) -> Option<u32> {
         let found = self.space.find(name)?;
         if found.lock >= 15 || found.owner == 0 || lock >= 15 {
@@ -128,7 +128,7 @@ impl CheckedSpace {
         Some(u32::from(lock))
     }
 
-    /// Gives back all chunks of an owner, and answers how many there were. None for the manager.
+    /// Gives back all chunks of an owner, and returns how many there were. None for the manager.
     pub(crate) fn give_back_owned(&mut self, owner: u8) -> Option<u32> {
         if owner == 0 {
             return None;
@@ -136,8 +136,8 @@ impl CheckedSpace {
         Some(self.space.give_back_owned(owner))
     }
 
-    /// Gives the chunk of a name `count` bytes, and says whether they fit into what it takes. None where there is
-    /// no such chunk.
+    /// Gives the chunk of a name `count` bytes, and says whether they fit into what it takes. None
+    /// where there is no such chunk.
     pub(crate) fn shrink(&mut self, name: Name, count: u32) -> Option<bool> {
         let found = self.space.find(name)?;
         if chunk_size(count)? > chunk_size(found.length)? {
@@ -147,15 +147,15 @@ impl CheckedSpace {
         Some(true)
     }
 
-    /// Gives the chunk of a name `count` bytes where it stands, and says whether it could. None where there is
-    /// no such chunk.
+    /// Gives the chunk of a name `count` bytes where it stands, and says whether it could. None
+    /// where there is no such chunk.
     pub(crate) fn grow_in_place(&mut self, name: Name, count: u32) -> Option<bool> {
         let found = self.space.find(name)?;
         Some(self.space.grow_in_place(found, count))
     }
 
-    /// Moves the chunk of a name to the first room that has `count` bytes, and says whether it could: one with locks
-    /// stays. None where there is no such chunk.
+    /// Moves the chunk of a name to the first room that has `count` bytes, and says whether it
+    /// could: one with locks stays. None where there is no such chunk.
     pub(crate) fn relocate(&mut self, name: Name, count: u32) -> Option<bool> {
         let found = self.space.find(name)?;
         if found.lock > 0 {

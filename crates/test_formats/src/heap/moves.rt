@@ -1,4 +1,5 @@
-//! What calls may move, tried on pairs of images: each relation holds of some of them, and not of others.
+//! What calls may move, tried on pairs of images: each relation holds of some of them, and not of
+//! others.
 #![tactic(auto, unfolding(heap_model::specs::Bytes::u16_at, heap_model::specs::Bytes::u32_at, heap_model::specs::Bytes::u32_bytes, heap_model::specs::Slots::slots_of, heap_model::specs::Slots::further_tables, heap_model::specs::Reading::chunk_at, heap_model::specs::Reading::chunks_from, heap_model::specs::Reading::chunks_of, heap_model::specs::Reading::held, heap_model::specs::Reading::is_accepted,))]
 
 ghost use Rattle.std.specs.Prelude.{◌≡◌, ◌++◌, true, ◌∷◌};
@@ -26,7 +27,7 @@ fn locked_chunk_is_still()
     ensures not_moved { Still scattered locked_moved → ⊥ }
 {}
 
-/// One chunk is given back, and the locked one takes the free bytes behind it: nothing has moved.
+/// One chunk is given back, and the locked one takes the free bytes after it: nothing has moved.
 fn nothing_moves()
     ensures holds { MovesNothing scattered one_freed }
     ensures not_packed { MovesNothing scattered front_packed → ⊥ }
@@ -63,8 +64,8 @@ fn one_stretch_slides()
     ensures not_locked { SlidesOneStretch scattered locked_moved → ⊥ }
 {}
 
-/// A chunk has its own bytes and those of the free chunks directly behind it, to the last one; also a locked
-/// chunk.
+/// A chunk has its own bytes and those of the free chunks directly after it, to the last one; also
+/// a locked chunk.
 fn chunk_fits_in_place()
     ensures locked { FitsInPlace scattered 24 32 }
     ensures not_locked { FitsInPlace scattered 24 40 → ⊥ }

@@ -70,8 +70,8 @@ const FREE_OF_ONES: Words = &[
     (60, ONES),
 ];
 
-/// What lay in the free chunk is gone from the body, and stays in the slack. What is left of it is the only
-/// one in its list.
+/// What lay in the free chunk is gone from the body, and stays in the slack. What is left of it is
+/// the only one in its list.
 const MAKES_10: &[Told] = &[(
     Step::Make {
         count: 10,
@@ -89,7 +89,7 @@ const CLAIMED_OF_ONES: Words = &[
     (56, 0x8000_0048),
 ];
 
-/// Two chunks of 24 and 40 bytes, and 32 bytes behind them.
+/// Two chunks of 24 and 40 bytes, and 32 bytes after them.
 const MAKES_TWO: &[Told] = &[
     (
         Step::Make {
@@ -123,8 +123,9 @@ const FROM_THE_BACK: &[Told] = &[
     (Step::GiveBack(16), None),
 ];
 
-/// Each is a free chunk of its own. The second word of the back one is the offset of the free chunk behind
-/// it, which is of its class; that of the front one is 0, since it is the only one of its class.
+/// Each is a free chunk of its own. The second word of the back one is the offset of the free chunk
+/// after it, which is of its class; that of the front one is 0, since it is the only one of its
+/// class.
 const LEFT_FROM_THE_BACK: Words = &[
     (32, 0x8000_0018),
     (56, 0x8000_0028),
@@ -132,9 +133,9 @@ const LEFT_FROM_THE_BACK: Words = &[
     (96, 0x8000_0020),
 ];
 
-/// The front chunk is given back first: behind it stands a live chunk, and then a free one that isn't
-/// joined with it. Room that one of the free chunks has is the first of a list, with a free chunk in front of
-/// it or not; and they are one run for room that none of them has.
+/// The front chunk is given back first: after it stands a live chunk, and then a free one that
+/// isn't joined with it. Room that one of the free chunks has is the first of a list, with a free
+/// chunk before it or not; and they are one run for room that none of them has.
 const FROM_THE_FRONT: &[Told] = &[
     (Step::GiveBack(16), Some(24)),
     (Step::GiveBack(20), Some(40)),
@@ -150,7 +151,7 @@ const FROM_THE_FRONT: &[Told] = &[
     (Step::FreeBytes, Some(96)),
 ];
 
-/// A fixed chunk of 10 bytes with a movable one behind it.
+/// A fixed chunk of 10 bytes with a movable one after it.
 const MAKES_FIXED: &[Told] = &[
     (Step::MakeFixed(10), Some(40)),
     (
@@ -171,7 +172,7 @@ const FIXED: Words = &[
     (80, 0x8000_0030),
 ];
 
-/// Then a free one stands behind it, which it isn't joined with.
+/// Then a free one stands after it, which it isn't joined with.
 const GIVES_FIXED_BACK: &[Told] = &[
     (Step::GiveBack(40), Some(24)),
     (Step::MakeFixed(10), Some(40)),
@@ -236,8 +237,8 @@ fn a_region_comes_back(rt: HostRuntime) -> Result<(), Fail> {
     equal("bytes", region.as_slice(), before.as_slice())
 }
 
-/// A heap of a database's kind: the directory, whose owner is 0, of the slot 16, and a chunk of owner 15
-/// of the slot 20, whose body reads as the header of a movable chunk of that slot.
+/// A heap of a database's kind: the directory, whose owner is 0, of the slot 16, and a chunk of
+/// owner 15 of the slot 20, whose body reads as the header of a movable chunk of that slot.
 const WITH_DIRECTORY: Words = &[
     (12, 16),
     (16, 40),

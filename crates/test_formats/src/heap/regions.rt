@@ -41,7 +41,7 @@ fn writes_in_place(rt: HostRuntime) -> Result<(), Fail> {
     equal("bytes", region.slice(0, 12), wanted)
 }
 
-/// Bytes; from where so many of them slide, and to where; and what stands there then.
+/// Bytes; the number of them that slide, from where and to where; and what is there then.
 static SLIDES: [(&[u8], (usize, usize, usize), &[u8]); 11] = [
     (b"abcdefgh", (2, 0, 4), b"cdefefgh"),
     (b"abcdefgh", (0, 2, 4), b"ababcdgh"),
@@ -66,7 +66,7 @@ fn slides_bytes_where_they_overlap(rt: HostRuntime) -> Result<(), Fail> {
     Ok(())
 }
 
-/// Slides so many bytes from one offset to another.
+/// Slides the given number of bytes from one offset to another.
 fn check_slide(mut region: Region, slide: (usize, usize, usize), after: &[u8]) -> Result<(), Fail>
     requires { region.lent ≡ None }
 {

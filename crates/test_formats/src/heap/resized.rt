@@ -12,7 +12,7 @@ use test_support::{equal, image};
 /// How a chunk gets another length.
 #[derive(Clone, Copy)]
 enum Way {
-    /// Where it stands, with free bytes behind it.
+    /// Where it stands, with free bytes after it.
     Grow,
     /// Within what it takes.
     Shrink,
@@ -26,7 +26,7 @@ type Resize = (Way, u32, u32);
 /// Chunks as a listing, and what is changed in their image.
 type Chunks = (&'static str, &'static str);
 
-/// What stands in a listing in front of chunks, and behind them.
+/// What stands in a listing before chunks, and after them.
 type Frame = (&'static str, &'static str);
 
 /// A resize of a chunk among some, whether it can be done, and what it leaves.
@@ -81,15 +81,15 @@ fn check_cases(alloc: Global, frame: Frame, cases: &[Case]) -> Result<(), Fail> 
     Ok(())
 }
 
-/// 128 bytes with 4 slots, in which chunks stand from 32 up to 80, the first of the slot 16. Behind them are a live
-/// chunk, of the slot 20, and a free one.
+/// 128 bytes with 4 slots, in which chunks stand from 32 up to 80, the first of the slot 16. After
+/// them are a live chunk, of the slot 20, and a free one.
 const BEFORE_80: Frame = (
     "50484931 00000080 0004 0000 00000000 00000028 00000058 00*8",
     "00000010 02FFFFE2 4142434445464748 80000020 00*28",
 );
 
-/// A chunk of 10 bytes, with 6 of slack, and free ones of 8 and 16. The first word of the last has other
-/// bits. Where no header stands, each byte is FF.
+/// A chunk of 10 bytes, with 6 of slack, and free ones of 8 and 16. The first word of the last has
+/// other bits. Where no header stands, each byte is FF.
 const SMALL: &str = "06000018 01FFFFF8 FFFFFFFFFFFFFFFF FFFFFFFFFFFFFFFF \
     80000008 FFFFFFFF FF000010 FFFFFFFF FFFFFFFFFFFFFFFF";
 
@@ -97,7 +97,7 @@ const SMALL: &str = "06000018 01FFFFF8 FFFFFFFFFFFFFFFF FFFFFFFFFFFFFFFF \
 const GROWN: &str =
     "00000020 01FFFFF8 FFFFFFFFFFFFFFFF FFFF 00*14 80000010 00000000 FFFFFFFFFFFFFFFF";
 
-/// The same chunk with 3 bytes, in front of the free ones, which are as they were.
+/// The same chunk with 3 bytes, before the free ones, which are as they were.
 const SHRUNK: &str = "05000010 01FFFFF8 FFFFFFFFFFFFFFFF 80000008 00000000 \
     80000008 FFFFFFFF FF000010 FFFFFFFF FFFFFFFFFFFFFFFF";
 
@@ -112,8 +112,8 @@ const FIXED: &str = "16: 00000000, 36: FE000000";
 
 /// Resizes of the chunk where it stands.
 static IN_PLACE: [Case; 22] = [
-    // Bytes that it gains are zero, in its slack too, and what is left of the free chunks is one, with a plain first
-    // word, the only one in its list. What else lay there stays.
+    // Bytes that it gains are zero, in its slack too, and what is left of the free chunks is one,
+    // with a plain first word, the only one in its list. What else lay there stays.
     (
         (Way::Grow, 16, 0),
         (SMALL, ""),
@@ -184,7 +184,8 @@ static IN_PLACE: [Case; 22] = [
         false,
         (SMALL, ""),
     ),
-    // What it takes no more is a free chunk with a plain first word, the only one in its list; its other bytes stay.
+    // What it takes no more is a free chunk with a plain first word, the only one in its list; its
+    // other bytes stay.
     (
         (Way::Shrink, 16, 0),
         (LARGE, ""),
@@ -226,7 +227,8 @@ static IN_PLACE: [Case; 22] = [
         ),
     ),
     ((Way::Shrink, 16, 40), (LARGE, ""), true, (LARGE, "")),
-    // Within what it takes it gains bytes too, and they are zero. The free chunks behind it stay apart.
+    // Within what it takes it gains bytes too, and they are zero. The free chunks after it stay
+    // apart.
     (
         (Way::Shrink, 16, 14),
         (SMALL, ""),
@@ -260,7 +262,8 @@ fn chunks_get_other_lengths_in_place(rt: HostRuntime) -> Result<(), Fail> {
 /// No more than the chunks: these are whole images.
 const NO_FRAME: Frame = ("", "");
 
-/// Behind a head of 128 bytes with 4 slots: a chunk of 10 bytes, of the slot 16, one of 8 bytes and a free one.
+/// After a head of 128 bytes with 4 slots: a chunk of 10 bytes, of the slot 16, one of 8 bytes and
+/// a free one.
 const IN_FRONT: &str = "50484931 00000080 0004 0000 00000000 00000028 00000040 00*8 \
     06000018 01FFFFF8 4142434445464748494A FFFFFFFFFFFF 00000010 02FFFFEE 6162636465666768 \
     80000038 00*52";
@@ -278,8 +281,8 @@ const TO_THE_BACK: &str = "50484931 00000080 0004 0000 00000000 00000050 0000004
 
 /// Resizes of the chunk of the slot 16 that take it elsewhere.
 static ELSEWHERE: [Case; 6] = [
-    // It has its first bytes, and zeros behind them; its slot holds the new place, and its old header is that of a
-    // free chunk, the last of its list; a free one behind it isn't joined.
+    // It has its first bytes, and zeros after them; its slot holds the new place, and its old
+    // header is that of a free chunk, the last of its list; a free one after it isn't joined.
     (
         (Way::Relocate, 16, 12),
         (IN_FRONT, ""),

@@ -22,7 +22,7 @@ static SLOTS: [(u32, u16, Option<u32>); 10] = [
     (16, 4, Some(0)),
     (28, 4, Some(3)),
     (262_152, 65_535, Some(65_534)),
-    // in front of the table, behind it, between two slots, and where there are none
+    // before the table, after it, between two slots, and where there are none
     (0, 4, None),
     (12, 4, None),
     (32, 4, None),
@@ -54,7 +54,7 @@ fn check_slot(alloc: Global, slot: u32, slots: u16, number: Option<u32>) -> Resu
     )
 }
 
-/// The slot of a number, if the table has so many.
+/// The slot of a number, if the table has more slots than that.
 fn slot_of(table: OneTable, number: Option<u32>) -> Option<u32> {
     let number = number?;
     if number >= table.count() {

@@ -1,4 +1,4 @@
-//! Calls one behind another, with what each answers, and the words that they leave.
+//! Calls one after another, with the reply of each, and the words that they leave.
 
 use crate::heap::heaps::{CheckedSpace, heap, image};
 use heap_model::Name;
@@ -14,16 +14,16 @@ pub(crate) enum Step {
     GiveBack(u32),
     GiveBackOwned(u8),
     Relock(u32, u8),
-    /// Where room for so many bytes begins.
+    /// Where room for the given number of bytes begins.
     RoomAt(u32),
-    /// How many bytes the room for so many has.
+    /// How many bytes the room for the given number has.
     RoomSize(u32),
     FreeBytes,
     /// How many bytes the region has.
     AllBytes,
 }
 
-/// A step, and what it answers.
+/// A step, and its reply.
 pub(crate) type Told = (Step, Option<u32>);
 
 /// The words of a blank heap that are changed, each by its offset.
@@ -32,7 +32,7 @@ pub(crate) type Words = &'static [(usize, u32)];
 /// Steps, and the words that they leave, where these are looked at.
 pub(crate) type Stage = (&'static [Told], Option<Words>);
 
-/// Does a step, and answers a name or a count. None where it couldn't be done.
+/// Does a step, and returns a name or a count. None where it couldn't be done.
 fn do_step(space: &mut CheckedSpace, step: Step) -> Option<u32> {
     match step {
         Step::Make { count, owner } => space.make(count, owner),
@@ -47,7 +47,7 @@ fn do_step(space: &mut CheckedSpace, step: Step) -> Option<u32> {
     }
 }
 
-/// Does steps, each of which must answer what stands beside it.
+/// Does steps, each of which must return the reply that is listed with it.
 fn check_steps(space: &mut CheckedSpace, about: &str, steps: &[Told]) -> Result<(), Fail> {
     for (number, (step, answer)) in steps.iter().enumerate() {
         let said = do_step(space, *step);

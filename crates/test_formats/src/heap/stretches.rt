@@ -10,7 +10,8 @@ ghost use Rattle.heap_model.specs.Packing.{lives, staying, packed, moved_by_pack
 ghost use Rattle.heap_model.specs.Resizing.{with_length, shrunk, grown, relocated};
 ghost use Rattle.test_formats.specs.Stretches.{chunk_of, locked_of, zeros_of, counted, one_between, locked_between, one_in_front, two_behind, two_about, behind_a_little};
 
-/// A chunk between two free ones: its stretch has the room of both, and packing slides it to the front.
+/// A chunk between two free ones: its stretch has the room of both, and packing slides it to the
+/// front.
 fn two_rooms_are_one()
     ensures accepted { is_accepted one_between ≡ true }
     ensures chunks { chunks_of one_between ≡ free 32 ∷ chunk_of 20 ∷ free 32 ∷ [] }
@@ -68,7 +69,8 @@ fn stretches_are_packed_apart()
         ≡ 40 ∷ 80 ∷ [] }
 {}
 
-/// The room in front of a chunk counts for its resize, with its own size: 64 bytes are a need of 56 here.
+/// The room before a chunk counts for its resize, with its own size: 64 bytes are a need of 56
+/// here.
 fn room_in_front_counts()
     ensures accepted { is_accepted two_behind ≡ true }
     ensures behind { free_behind two_behind 20 ≡ 0 }
@@ -80,14 +82,14 @@ fn room_in_front_counts()
         ≡ zeros_of 56 20 ∷ chunk_of 24 ∷ [] }
 {}
 
-/// The room behind its neighbours counts, too.
+/// The room after its neighbours counts, too.
 fn room_behind_neighbours_counts()
     ensures opened { opened [] (chunk_of 16) (chunk_of 20 ∷ free 32 ∷ [])
         ≡ chunk_of 16 ∷ free 32 ∷ chunk_of 20 ∷ [] }
     ensures none { opened (chunk_of 16 ∷ []) (chunk_of 20) [] ≡ chunk_of 16 ∷ chunk_of 20 ∷ [] }
 {}
 
-/// A locked chunk may take the free bytes directly behind it.
+/// A locked chunk may take the free bytes directly after it.
 fn locked_chunk_grows_in_place()
     ensures accepted { is_accepted two_about ≡ true }
     ensures behind { free_behind two_about 16 ≡ 32 }
@@ -97,7 +99,8 @@ fn locked_chunk_grows_in_place()
         ≡ movable (replicate 25 0) 1 1 16 ∷ free 24 ∷ chunk_of 20 ∷ [] }
 {}
 
-/// A shorter chunk leaves what it does not need free, and a longer one has zeros behind its own bytes.
+/// A shorter chunk leaves what it does not need free, and a longer one has zeros after its own
+/// bytes.
 fn lengths_are_changed()
     ensures shorter { shrunk 3 (movable (counted 1 17) 2 1 16)
         ≡ movable (1 ∷ 2 ∷ 3 ∷ []) 2 1 16 ∷ free 16 ∷ [] }

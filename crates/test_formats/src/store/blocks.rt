@@ -5,13 +5,15 @@ use std::alloc::Global;
 use std::test::*;
 use test_support::{ORDER_FILE, TINY_FILE, bytes_of, equal};
 
-/// A file of two records with both info blocks, which stand against their order, and none of which is empty.
+/// A file of two records with both info blocks, which stand against their order, and none of which
+/// is empty.
 pub(super) const BACKWARD: &str = "4261636b 00*28 \
     0000 0000 00*16 00000064 00000062 44415441 54657374 00000000 00000000 0002 \
     00000060 00 000001 0000005e 00 000002 01020304050607";
 
-/// A file of five records with both info blocks. Bytes in front of the first block belong to none, three blocks begin
-/// at one offset, a deleted record has no data, and another's begins where the file ends.
+/// A file of five records with both info blocks. Bytes before the first block belong to none, three
+/// blocks begin at one offset, a deleted record has no data, and another's begins where the file
+/// ends.
 const ODD: &str = "4141414141414141414141414141414141414141414141414141414141414141 \
     0008 0000 00*16 0000007c 0000007c 44415441 54657374 b0ffffff 00000000 0005 \
     0000007c 33 000007 00000078 00 000007 00000000 e0 000007 00000082 a0 000000 0000007a 40 000000 \

@@ -79,7 +79,7 @@ fn damaged_files_are_refused(rt: HostRuntime) -> Result<(), Fail> {
     Ok(())
 }
 
-/// How many growths come before the form is there: each of them is refused in turn.
+/// The number of allocations before the form is there: each of them fails in turn.
 #[test]
 fn refused_memory_is_told(rt: HostRuntime) -> Result<(), Fail> {
     let file = bytes_of(rt.alloc(), TINY_FILE)?;

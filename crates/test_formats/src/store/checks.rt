@@ -54,7 +54,7 @@ const OF_DATABASE: [(&str, &str); 31] = [
     ("163: 000001", "BadId 0 1"),
     ("163: 000000", "BadId 0 1"),
     ("155: 000000", "BadId 0 0"),
-    // names: none, with a byte behind it, and with no zero at the end
+    // names: none, with a byte after it, and with no zero at the end
     ("72: 00", "BadName 0"),
     ("74: 01", "BadName 0"),
     ("103: 52", "BadName 0"),
@@ -94,7 +94,7 @@ const TWO_DATABASES: &str =
 
 const OF_TWO: [(&str, &str); 10] = [
     ("", "movable 5 free 16 databases 2"),
-    // a slot that is listed twice, and half a word behind a right one
+    // a slot that is listed twice, and half a word after a right one
     ("60: 00000014", "BadDirectorySlot 1"),
     ("48: 02", "BadDirectorySlot 1"),
     ("48: 04", "StrayChunk 24"),

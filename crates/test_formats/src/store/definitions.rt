@@ -1,5 +1,5 @@
-//! The definitions of databases, tried on images: what is read off them, and which parts of the definition
-//! of an accepted image a changed one breaks.
+//! The definitions of databases, tried on images: what is read off them, and which parts of the
+//! definition of an accepted image a changed one breaks.
 //!
 //! The parts are counted in their order:
 //!
@@ -74,8 +74,9 @@ fn two_databases_are_read()
     ensures none { listed two_rooms ≡ [] }
 {}
 
-/// Each part that has a small image which breaks it alone. (None has a header listed twice and is right
-/// otherwise, since then two databases have a name; and more than 1,024 headers take a large image.)
+/// Each part that has a small image which breaks it alone. (None has a header listed twice and is
+/// right otherwise, since then two databases have a name; and more than 1,024 headers take a large
+/// image.)
 fn parts_break_alone()
     ensures half_a_word { broken (changed 48 (3 ∷ [])) ≡ 1 ∷ [] }
     ensures header_of_owner_1 { broken (changed 68 (1 ∷ [])) ≡ 4 ∷ [] }
@@ -111,7 +112,7 @@ fn elements_are_moved()
     ensures behind_itself { moved {X = ℕ} (1 ∷ 2 ∷ 3 ∷ []) 1 2 ≡ 1 ∷ 2 ∷ 3 ∷ [] }
 {}
 
-/// The IDs behind a seed go on from the greatest to 1.
+/// The IDs after a seed go on from the greatest to 1.
 fn ids_go_round()
     ensures first { next_id 0 ≡ 1 }
     ensures last { next_id 0xFFFFFE ≡ 0xFFFFFF }
@@ -123,8 +124,8 @@ fn ids_go_round()
     ensures upper_bits_stay { with_seed 0x07FFFFFE 2 ≡ 0x07000002 }
 {}
 
-/// A room of 96 bytes has none of 16 left behind a chunk of 88, and one of 88 beside one of 16 has room
-/// for both.
+/// A room of 96 bytes has none of 16 left after a chunk of 88, and one of 88 next to one of 16 has
+/// room for both.
 fn rooms_run_out()
     ensures rooms { rooms two_rooms ≡ 88 ∷ 16 ∷ [] }
     ensures locked { stretch_of two_rooms 16 ≡ 2 }

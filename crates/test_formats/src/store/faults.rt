@@ -127,7 +127,7 @@ fn an_earlier_fault_is_answered(rt: HostRuntime) -> Result<(), Fail> {
     Ok(())
 }
 
-/// What is wrong with the first so many bytes of the file of three records.
+/// The fault of the first `length` bytes of the file of three records.
 fn fault_of_length(length: usize) -> Result<(), FileFault> {
     match length {
         0..102 => Err(FileFault::Truncated),

@@ -35,7 +35,7 @@ fn ids_are_kept()
     ensures resources { unique_ids (database_in resource_file) ≡ [] }
 {}
 
-/// A name is what stands in front of the first zero among 31 bytes.
+/// A name is what stands before the first zero among 31 bytes.
 fn names_are_read()
     ensures no_zero { name_in (odd_file 124) ≡ replicate 31 0x41 }
     ensures behind_zero { name_in noisy_name ≡ 0x41 ∷ [] }

@@ -27,7 +27,8 @@ fn given_by(alloc: Global, file: &[u8]) -> Option<GivenIds> {
     }
 }
 
-/// The field of a seed and the IDs of a file, and then the IDs that are given and the seed that is left.
+/// The field of a seed and the IDs of a file, and then the IDs that are given and the seed that is
+/// left.
 static GIVEN: [(u32, &[u32], &[u32], u32); 16] = [
     (7, &[], &[], 7),
     (0xFF00_0009, &[], &[], 9),
@@ -77,7 +78,7 @@ fn the_first_of_each_id_is_kept(rt: HostRuntime) -> Result<(), Fail> {
     Ok(())
 }
 
-/// So many IDs, all of them the same.
+/// The given number of IDs, all of them the same.
 fn same_ids(alloc: Global, id: u32, count: usize) -> Result<Vec<u32>, AllocError> {
     let ids = vec![in alloc; id; count]?;
     Ok(ids)
@@ -88,7 +89,7 @@ fn largest_file(alloc: Global, seed: u32, id: u32) -> Result<Vec<u8>, AllocError
     file_of(alloc, seed, &same_ids(alloc, id, 65_535)?)
 }
 
-/// As many IDs, those behind a seed.
+/// As many IDs, those after a seed.
 fn all_behind(alloc: Global, seed: u32) -> Result<Vec<u32>, AllocError> {
     let mut ids = Vec::new(alloc);
     for steps in 0..65_535 {
@@ -144,7 +145,7 @@ fn resources_are_given_none(rt: HostRuntime) -> Result<(), Fail> {
     check_ids(rt.alloc(), 0, &file, Vec::new(rt.alloc()), 5)
 }
 
-/// Whether IDs are given where so many growths are granted.
+/// Whether IDs are given if this number of allocations is granted.
 fn is_given(alloc: Global, file: &[u8], granted: u32) -> bool {
     let memory = RefusesOne::behind(alloc, granted);
     match check_file(file) {
@@ -153,7 +154,7 @@ fn is_given(alloc: Global, file: &[u8], granted: u32) -> bool {
     }
 }
 
-/// IDs are given where no less than so many growths are granted.
+/// IDs are given if at least this number of allocations is granted.
 fn check_needed(alloc: Global, file: &[u8], needed: u32) -> Result<(), Fail> {
     for granted in 0..3 {
         let is_given = is_given(alloc, file, granted);
@@ -162,7 +163,7 @@ fn check_needed(alloc: Global, file: &[u8], needed: u32) -> Result<(), Fail> {
     Ok(())
 }
 
-/// Those of records take two growths, and resources none.
+/// Those of records take two allocations, and resources none.
 #[test]
 fn refused_memory_is_told(rt: HostRuntime) -> Result<(), Fail> {
     check_needed(rt.alloc(), &file_of(rt.alloc(), 0, &[5, 0])?, 2)?;

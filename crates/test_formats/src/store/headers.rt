@@ -149,7 +149,8 @@ fn names_have_1_to_31_bytes() -> Result<(), Fail> {
     Ok(())
 }
 
-/// Whether only zeros stand behind the name in the file of records, where this is the last byte of its field.
+/// Whether only zeros stand after the name in the file of records, where this is the last byte of
+/// its field.
 fn check_padding(file: &mut [u8], last: u8, is_right: bool) -> Result<(), Fail> {
     if file.len() != 94 {
         return Err("not two records")?;

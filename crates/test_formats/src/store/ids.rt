@@ -6,7 +6,7 @@ use std::alloc::{AllocError, Global};
 use std::test::*;
 use test_support::equal;
 
-/// The header of a database with this field of a seed, and so many entries.
+/// The header of a database with this field of a seed, and the given number of entries.
 pub(crate) fn header_of(attributes: u8, seed: u32, count: u16) -> [u8; 78] {
     let mut header = [0; 78];
     header[0] = b'A';
@@ -26,8 +26,8 @@ pub(crate) fn database(alloc: Global, seed: u32, ids: &[u32]) -> Result<Vec<u8>,
     Ok(bytes)
 }
 
-/// Free IDs of a database, the fresh one first, if the bytes are one that a record can be put into, and they
-/// are the same once they are known.
+/// Free IDs of a database, the fresh one first, if the bytes are one that a record can be put into,
+/// and they are the same once they are known.
 fn free_of(bytes: &[u8]) -> Option<FreeIds> {
     if !is_whole(bytes) || !has_name(bytes) {
         return None;
@@ -50,7 +50,7 @@ fn fresh_of(bytes: &[u8]) -> Option<u32> {
     }
 }
 
-/// So many IDs behind a seed, the last one first.
+/// The given number of IDs after a seed, the last one first.
 fn run_behind(alloc: Global, seed: u32, count: u32) -> Result<Vec<u32>, AllocError> {
     let mut ids = Vec::new(alloc);
     for steps in (0..count).rev() {
@@ -59,7 +59,7 @@ fn run_behind(alloc: Global, seed: u32, count: u32) -> Result<Vec<u32>, AllocErr
     Ok(ids)
 }
 
-/// The ID so many steps behind a seed.
+/// The ID the given number of steps after a seed.
 pub(crate) fn nth_behind(seed: u32, steps: u32) -> u32 {
     ((seed as u64 + steps as u64) % 0xFF_FFFF) as u32 + 1
 }
@@ -96,7 +96,7 @@ fn the_first_that_no_record_has(rt: HostRuntime) -> Result<(), Fail> {
     Ok(())
 }
 
-/// Of a database with so many IDs behind its seed the fresh one is the next.
+/// In a database with the given number of IDs after its seed, the fresh ID is the next one.
 fn check_run(alloc: Global, seed: u32, count: u32) -> Result<(), Fail> {
     let bytes = database(alloc, seed, &run_behind(alloc, seed, count)?)?;
     equal(
@@ -106,7 +106,7 @@ fn check_run(alloc: Global, seed: u32, count: u32) -> Result<(), Fail> {
     )
 }
 
-/// How many IDs there are behind a seed.
+/// How many IDs there are after a seed.
 static COUNTS: [u32; 5] = [1023, 1024, 1025, 40_000, 65_534];
 
 static SEEDS: [u32; 3] = [0, 0x00FF_8000, 0x00FF_FFFF];
@@ -126,7 +126,8 @@ fn runs_behind_the_seed_are_passed(rt: HostRuntime) -> Result<(), Fail> {
     Ok(())
 }
 
-/// The field of a seed, the IDs of a database, and the first of those that are free and behind the last.
+/// The field of a seed, the IDs of a database, and the first of those that are free and after the
+/// last.
 static FREE: [(u32, &[u32], u32, u32); 7] = [
     (0, &[], 1, 0x0100_0000),
     (5, &[1, 2, 9, 7], 6, 7),

@@ -23,7 +23,7 @@ fn put(region: &mut Region, at: u32, word: u32) -> Result<(), Fail>
     Ok(())
 }
 
-/// Writes words, one behind the other.
+/// Writes words, one after the other.
 fn put_all(region: &mut Region, at: u32, words: &[u32]) -> Result<(), Fail>
     requires { region.old.lent ≡ None }
     ensures { region.new.lent ≡ None }
@@ -36,7 +36,7 @@ fn put_all(region: &mut Region, at: u32, words: &[u32]) -> Result<(), Fail>
     Ok(())
 }
 
-/// The second word of the chunk at `at`, in front of which its slot stands behind `number` others: the
+/// The second word of the chunk at `at`, whose slot is before it, after `number` others: the
 /// owner in its place, and the distance to the slot.
 fn second_word(owner: u32, number: u32, at: u32) -> u32 {
     let slot = number.wrapping_mul(4).wrapping_add(16);
@@ -52,8 +52,9 @@ const ENTRIES: u32 = 262_262;
 
 const CHUNKS: u32 = 786_528;
 
-/// The frame, the directory and the header of an image of the most bytes and slots, with one database that has a
-/// record for each slot but two. Behind the chunks of these a free one takes what is left.
+/// The frame, the directory and the header of an image of the most bytes and slots, with one
+/// database that has a record for each slot but two. After the chunks of these a free one takes
+/// what is left.
 static HEADS: [(u32, &[u32]); 6] = [
     (0, &[0x5048_4931, MOST, 0xFFFF_0000, 16]),
     (16, &[262_168, 262_184]),
@@ -85,7 +86,7 @@ fn put_heads(region: &mut Region) -> Result<(), Fail>
     Ok(())
 }
 
-/// The record behind so many others: its entry, its slot and its chunk.
+/// The record after `number` others: its entry, its slot and its chunk.
 fn put_record(region: &mut Region, index: u32) -> Result<(), Fail>
     requires { region.old.lent ≡ None }
     ensures { region.new.lent ≡ None }
@@ -140,7 +141,7 @@ fn many_records_are_checked(rt: HostRuntime) -> Result<(), Fail> {
     Ok(())
 }
 
-/// An image of so many databases without records.
+/// An image of the given number of databases without records.
 fn many_databases(alloc: Global, count: u16) -> Result<Region, Fail>
     ensures { IfOk result (λ region. region.lent ≡ None) }
 {
@@ -158,7 +159,8 @@ fn many_databases(alloc: Global, count: u16) -> Result<Region, Fail>
     Ok(region)
 }
 
-/// The database behind so many others: its slot, its number in the directory, and its chunk with its name.
+/// The database after `number` others: its slot, its number in the directory, and its chunk with
+/// its name.
 fn put_database(region: &mut Region, headers: u32, index: u32) -> Result<(), Fail>
     requires { region.old.lent ≡ None }
     ensures { region.new.lent ≡ None }
@@ -178,14 +180,14 @@ fn put_database(region: &mut Region, headers: u32, index: u32) -> Result<(), Fai
     )
 }
 
-/// How many databases there are, words that are changed, and what is found then. With 1,024 of them the
-/// name of the last stands at 98,256.
+/// How many databases there are, words that are changed, and what is found then. With 1,024 of them
+/// the name of the last stands at 98,256.
 static OF_MANY_DATABASES: [(u16, &[(u32, u32)], &str); 7] = [
     (1, &[], "movable 2 free 0 databases 1"),
     (1_000, &[], "movable 1001 free 0 databases 1000"),
     (1_001, &[], "movable 1002 free 0 databases 1001"),
     (1_024, &[], "movable 1025 free 0 databases 1024"),
-    // the last has the name of the first, and that of the one in front of it
+    // the last has the name of the first, and that of the one before it
     (1_024, &[(98_256, 0x4141_4141)], "SameName 1023"),
     (1_024, &[(98_256, 0x4141_453F)], "SameName 1023"),
     (1_025, &[], "BadDirectorySlot 1024"),

@@ -1,4 +1,4 @@
-//! Memory that is refused.
+//! Allocations that fail.
 
 ghost use Rattle.std.specs.Prelude.{◌≡◌, None};
 
@@ -9,8 +9,8 @@ use std::test::*;
 use store_check::check_store_from;
 use test_support::{DATABASE, RefusesOne, equal, image};
 
-/// How many growths are granted, changes of the image, and what is found: marks for slots come first,
-/// and then a set of IDs.
+/// The number of allocations that are granted, changes of the image, and what is found: marks for
+/// slots come first, and then a set of IDs.
 type Granted = (u32, &'static str, &'static str);
 
 static GRANTED: [Granted; 8] = [
@@ -24,7 +24,7 @@ static GRANTED: [Granted; 8] = [
     (2, "", "movable 4 free 8 databases 1"),
 ];
 
-/// What is found where so many growths are granted.
+/// What is found if the given number of allocations is granted.
 fn found_with(alloc: Global, granted: u32, region: &Region) -> Result<String, AllocError>
     requires { region.now.lent ≡ None }
 {

@@ -45,7 +45,7 @@ fn make_block(store: &mut Store, db: Db, which: Which, bytes: &[u8]) -> Result<(
     store.set_info_block(db, which, name)
 }
 
-/// Makes a record behind the others.
+/// Makes a record after the others.
 fn make_record(store: &mut Store, db: Db, bytes: &[u8]) -> Result<(), Refusal>
     ensures { store.new.lent ≡ store.old.lent }
 {
@@ -53,8 +53,9 @@ fn make_record(store: &mut Store, db: Db, bytes: &[u8]) -> Result<(), Refusal>
     fill(store, name, bytes)
 }
 
-/// Makes a database with both info blocks and four records: of the first a caller holds the data, the second is
-/// archived and still in use, the third has no data any more, and the last has no byte.
+/// Makes a database with both info blocks and four records: of the first a caller holds the data,
+/// the second is archived and still in use, the third has no data any more, and the last has no
+/// byte.
 fn make_records(store: &mut Store) -> Result<Db, Refusal>
     ensures { store.new.lent ≡ store.old.lent }
 {
@@ -102,7 +103,8 @@ fn make_resources(store: &mut Store) -> Result<Db, Refusal>
     Ok(db)
 }
 
-/// What an export answers to a writer with room for so many bytes, and what that took.
+/// The reply of an export to a writer with room for the given number of bytes, and the bytes that
+/// it took.
 fn export_cut(
     alloc: Global,
     store: &Store,
@@ -116,7 +118,8 @@ fn export_cut(
     (answer, taken)
 }
 
-/// What comes of an export to a writer with room for so many bytes: the answer, and what that took.
+/// The outcome of an export to a writer with room for the given number of bytes: the reply, and the
+/// bytes that it took.
 fn check_cut(alloc: Global, store: &Store, db: Db, file: &[u8], room: usize) -> Result<(), Fail> {
     let (answer, taken) = export_cut(alloc, store, db, room);
     let wanted = if room < file.len() {
@@ -132,7 +135,7 @@ fn check_cut(alloc: Global, store: &Store, db: Db, file: &[u8], room: usize) -> 
     )
 }
 
-/// A database has this file, and a writer that breaks off has a front of it.
+/// A database has this file, and a writer that breaks off has a prefix of it.
 fn check_file(alloc: Global, store: &Store, db: Db, listing: &str) -> Result<(), Fail> {
     let file = bytes_of(alloc, listing)?;
     let whole = exported(&alloc, store, db)?;

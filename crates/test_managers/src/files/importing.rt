@@ -16,14 +16,15 @@ use test_support::{EMPTY_FILE, ORDER_FILE, TINY_FILE, bytes_of, equal};
 const IDS: &str = "496473 00*29 0000 0000 00*24 44415441 54657374 07fffffe 00000000 0002 \
     00000060 00 ffffff 00000060 00 000001 0000";
 
-/// A file of two records with both info blocks, which stand against their order, and none of which is empty.
+/// A file of two records with both info blocks, which stand against their order, and none of which
+/// is empty.
 const BACKWARD: &str = "4261636b 00*28 \
     0000 0000 00*16 00000064 00000062 44415441 54657374 00000000 00000000 0002 \
     00000060 00 000001 0000005e 00 000002 01 02 03 04 05 06 07";
 
-/// A file of five records with both info blocks. No zero ends its name. Bytes in front of the first block belong to
-/// none, three blocks begin at one offset, a deleted record has no data, another's begins where the file ends, and
-/// three records have one ID.
+/// A file of five records with both info blocks. No zero ends its name. Bytes before the first
+/// block belong to none, three blocks begin at one offset, a deleted record has no data, another's
+/// begins where the file ends, and three records have one ID.
 const ODD: &str = "4141414141414141414141414141414141414141414141414141414141414141 \
     fff8 0102 00000001 00000002 00000003 00000004 0000007c 0000007c 44415441 54657374 b0ffffff 00000000 0005 \
     0000007c 33 000007 00000078 00 000007 00000000 e0 000007 00000082 a0 000000 0000007a 40 000009 \
@@ -59,7 +60,7 @@ static RECORDS_READ: [(&str, &[Read]); 4] = [
     ),
 ];
 
-/// What reading a listed file answers.
+/// The reply to reading a listed file.
 fn import_listed(
     alloc: Global,
     store: &mut Store,
@@ -230,7 +231,8 @@ fn the_seed_goes_on(rt: HostRuntime) -> Result<(), Fail> {
     )
 }
 
-/// A record that is made comes behind the two that were read, and has the first ID that is free behind the seed.
+/// A record that is made comes after the two that were read, and has the first ID that is free
+/// after the seed.
 fn check_new(store: &mut Store, db: Db) -> Result<(), Fail>
     ensures { store.new.lent ≡ store.old.lent }
 {
@@ -284,8 +286,8 @@ static BAD_FILES: [(&str, FileFault); 7] = [
          74535452 03e8 00000000 74535452 03e9 00000067 0000 486900 596f00",
         FileFault::BadOffset(0),
     ),
-    // an AppInfo block in front of all that can be one, a SortInfo block behind the end, and both where the list
-    // goes on
+    // an AppInfo block before all that can be one, a SortInfo block after the end, and both where
+    // the list goes on
     (
         "456d707479 00*27 0000 0000 00*16 00000010 00000000 44415441 54657374 00000000 00000000 0000",
         FileFault::BadInfo(Which::App),
@@ -319,7 +321,8 @@ fn a_name_is_taken_once(rt: HostRuntime) -> Result<(), Fail> {
     equal("databases", store.count(), 1)
 }
 
-/// In a store of this size and with so many slots there is no room, and nothing is left of what was begun.
+/// In a store of this size and number of slots there is no room, and nothing is left of what was
+/// begun.
 fn check_short(alloc: Global, size: u32, slots: u16) -> Result<(), Fail> {
     let mut store = blank_store(alloc, size, slots)?;
     let free = store.free_bytes();

@@ -17,7 +17,7 @@ fn is_read(alloc: Global, image: &[u8]) -> Result<bool, Fail> {
     }
 }
 
-/// An image is taken exactly where the plain model reads it, and handed back as it was.
+/// An image is taken exactly where the plain model reads it, and returned as it was.
 #[derive(Clone, Copy)]
 struct Adopting;
 

@@ -1,4 +1,4 @@
-//! A call on a heap, and the same on the plain model beside it.
+//! A call on a heap, and the same on the plain model next to it.
 
 ghost use Rattle.std.specs.Prelude.{◌≡◌, IfOk, None};
 
@@ -13,8 +13,8 @@ use test_beside::body_of;
 use test_model::{Image, PlainHeap, broken_rule};
 use test_support::equal;
 
-/// A heap of which nothing is lent, and beside it all chunks that it holds, and whether the lists of its free chunks are
-/// built.
+/// A heap of which nothing is lent, with all chunks that it holds, and whether the lists
+/// of its free chunks are built.
 #[derive(Drop)]
 pub(crate) struct Beside {
     heap: Heap,
@@ -60,7 +60,8 @@ impl Beside {
         Ok(reply)
     }
 
-    /// Does a call on both while the bytes under a name are out. They are put back after it, as they were.
+    /// Does a call on both while the bytes under a name are out. They are put back after it, as
+    /// they were.
     pub(crate) fn call_lent(
         &mut self,
         alloc: Global,
@@ -113,8 +114,8 @@ impl Beside {
     }
 }
 
-/// Does a call on the model. The replies must be the same, the image must hold just the chunks of the model, and the
-/// call must have kept to its rules.
+/// Does a call on the model. The replies must be the same, the image must hold just the chunks of
+/// the model, and the call must have kept to its rules.
 fn check_call(
     alloc: Global,
     spot: &str,
@@ -132,8 +133,8 @@ fn check_call(
     equal(spot, odd, (None, None))
 }
 
-/// What a call leaves must be an image that can be adopted. While the lists are built, each free chunk must be in the
-/// one of its class.
+/// What a call leaves must be an image that can be adopted. While the lists are built, each free
+/// chunk must be in the one of its class.
 fn check_left(alloc: Global, spot: &str, are_built: bool, image: &Image) -> Result<(), Fail> {
     adopt(Region::from_bytes(alloc, image.bytes)?)?;
     if are_built {

@@ -1,5 +1,5 @@
-//! Calls with the replies that they must have, as lines of text: a line has a call and its reply, with `=`
-//! between.
+//! Calls with the replies that they must have, as lines of text: a line has a call and its reply,
+//! with `=` between.
 
 use crate::heap::beside::Beside;
 use crate::notation::{check_reply, memory_call_of, sides_of};
@@ -27,8 +27,8 @@ fn check_call(
     check_reply(alloc, spot, &reply, right)
 }
 
-/// Does the calls of some lines, one after the other: each on a heap that is adopted for it, if `anew`, and else on
-/// one heap, which may have had calls before.
+/// Does the calls of some lines, one after the other: each on a heap that is adopted for it, if
+/// `anew`, and else on one heap, which may have had calls before.
 pub(crate) fn check_on(
     alloc: Global,
     beside: &mut Beside,

@@ -1,4 +1,5 @@
-//! A caller with a contract of its own, to copy: what follows from the steps of the calls that it makes.
+//! A caller with a contract of its own, to copy: what follows from the steps of the calls that it
+//! makes.
 
 ghost use Rattle.std.specs.Prelude.{◌≡◌, length};
 ghost use Rattle.heap_model.specs.Heap.{HeapAccepted, directory_of};
@@ -9,8 +10,8 @@ use mem_manager::Heap;
 use std::test::*;
 use test_support::{BLANK, equal, image};
 
-/// Makes a movable chunk of owner 1 with a text of up to 31 bytes and a zero byte in it, and answers its
-/// name. The heap stays accepted, whatever is refused.
+/// Makes a movable chunk of owner 1 with a text of up to 31 bytes and a zero byte in it, and
+/// returns its name. The heap stays accepted, whatever is refused.
 fn new_note(heap: &mut Heap, text: &[u8]) -> Result<Name, Refusal>
     ensures accepted { HeapAccepted heap.new.bytes }
     ensures len { length heap.new.bytes ≡ length heap.old.bytes }

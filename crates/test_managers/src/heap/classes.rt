@@ -1,4 +1,4 @@
-//! Free chunks of many sizes, on one heap from end to end, whose image is checked behind each call.
+//! Free chunks of many sizes, on one heap from end to end, whose image is checked after each call.
 
 use crate::heap::beside::Beside;
 use crate::heap::by_hand::{Example, check_all, check_on};
@@ -8,12 +8,12 @@ use std::alloc::Global;
 use std::test::*;
 use test_support::{changed_words, equal};
 
-/// A heap of so many bytes and slots with one free chunk.
+/// A heap of the given numbers of bytes and slots with one free chunk.
 pub(crate) fn blank(alloc: Global, size: u32, slots: u16) -> Result<Beside, Fail> {
     Beside::new(alloc, changed_words(alloc, size, slots, &[])?)
 }
 
-/// Does a call, which must be answered by this reply.
+/// Does a call, which must return this reply.
 pub(crate) fn check(
     alloc: Global,
     beside: &mut Beside,
@@ -40,7 +40,7 @@ pub(crate) fn check_made(
     check(alloc, beside, new, Reply::Named(name(number)))
 }
 
-/// Makes so many chunks of one size, which must get the names of the numbers from 0 on.
+/// Makes the given number of chunks of one size, which must get the names of the numbers from 0 on.
 pub(crate) fn make_all(
     alloc: Global,
     beside: &mut Beside,
@@ -58,7 +58,7 @@ pub(crate) fn check_freed(alloc: Global, beside: &mut Beside, number: u32) -> Re
     check(alloc, beside, MemoryCall::Free(name(number)), Reply::Done)
 }
 
-/// Frees so many chunks, every second one, from the second on.
+/// Frees the given number of chunks, every second one, from the second on.
 fn free_odd(alloc: Global, beside: &mut Beside, count: u32) -> Result<(), Fail> {
     for number in 0..count {
         check_freed(alloc, beside, number.saturating_mul(2).saturating_add(1))?;
@@ -72,7 +72,7 @@ fn body_of_class(class: u32) -> u32 {
         .saturating_sub(8)
 }
 
-/// Makes a chunk of each class, and one of 8 bytes behind each.
+/// Makes a chunk of each class, and one of 8 bytes after each.
 fn make_classes(alloc: Global, beside: &mut Beside) -> Result<(), Fail> {
     for class in 1..17u32 {
         check_made(alloc, beside, body_of_class(class), class * 2 - 2)?;
@@ -105,17 +105,17 @@ fn check_classes(alloc: Global, beside: &mut Beside) -> Result<(), Fail> {
     check(alloc, beside, MemoryCall::FreeBytes, Reply::Number(0))
 }
 
-/// Chunks of 2, 4, 8 and so on up to 65,536 units of 8 bytes are made, each with one of 8 bytes behind it. They
-/// are freed and made again, where they were: each is the only one of its class. Between them lies no
-/// free byte, so none could go elsewhere.
+/// Chunks of 2, 4, 8 and so on up to 65,536 units of 8 bytes are made, each with one of 8 bytes
+/// after it. They are freed and made again, where they were: each is the only one of its class.
+/// Between them lies no free byte, so none could go elsewhere.
 #[test]
 fn the_only_chunk_of_a_class_is_found_again(rt: HostRuntime) -> Result<(), Fail> {
-    // 2^17 - 2 units of 8 bytes, 16 chunks of 8 bytes, and 16 bytes and 32 slots in front of them.
+    // 2^17 - 2 units of 8 bytes, 16 chunks of 8 bytes, and 16 bytes and 32 slots before them.
     let mut beside = blank(rt.alloc(), 144 + 128 + 1_048_560, 32)?;
     check_classes(rt.alloc(), &mut beside)
 }
 
-/// A chunk gets another size, which leaves so many free bytes.
+/// A chunk gets another size, which leaves the given number of free bytes.
 fn check_resized(
     alloc: Global,
     beside: &mut Beside,
@@ -130,8 +130,8 @@ fn check_resized(
     check(alloc, beside, MemoryCall::FreeBytes, Reply::Number(free))
 }
 
-/// Of 16 chunks every second one is freed. The one of this number grows over the next one and gives it back; then
-/// all but the last are made again.
+/// Of 16 chunks every second one is freed. The one of this number grows over the next one and gives
+/// it back; then all but the last are made again.
 fn check_grown(alloc: Global, beside: &mut Beside, number: u32) -> Result<(), Fail> {
     make_all(alloc, beside, 24, 16)?;
     free_odd(alloc, beside, 8)?;
@@ -143,8 +143,8 @@ fn check_grown(alloc: Global, beside: &mut Beside, number: u32) -> Result<(), Fa
     Ok(())
 }
 
-/// Chunks of one class are freed and made again; of two of them the one that is freed last is taken first. The
-/// chunk behind each one grows over it, wherever it stands in its list.
+/// Chunks of one class are freed and made again; of two of them the one that is freed last is taken
+/// first. The chunk after each one grows over it, wherever it stands in its list.
 #[test]
 fn chunks_grow_over_any_of_a_list(rt: HostRuntime) -> Result<(), Fail> {
     for taken in 0..8u32 {
@@ -154,8 +154,8 @@ fn chunks_grow_over_any_of_a_list(rt: HostRuntime) -> Result<(), Fail> {
     Ok(())
 }
 
-/// A chunk grows over two that were freed, which are not joined. The next one that is freed finds the others in
-/// their lists.
+/// A chunk grows over two that were freed, which are not joined. The next one that is freed finds
+/// the others in their lists.
 const GROWN_OVER_TWO: &str = "handle_new 24 1 = named 16
     handle_new 24 1 = named 20
     handle_new 24 1 = named 24
@@ -171,7 +171,8 @@ const GROWN_OVER_TWO: &str = "handle_new 24 1 = named 16
     handle_new 24 1 = named 20
     free_bytes = 48";
 
-/// The room of one stretch is opened behind a chunk; the free chunk of another is in its list behind the next call.
+/// The room of one stretch is opened after a chunk; the free chunk of another is in its list after
+/// the next call.
 const OPENED: &str = "handle_new 24 1 = named 16
     handle_new 24 1 = named 20
     handle_new 24 1 = named 24
@@ -187,8 +188,9 @@ const OPENED: &str = "handle_new 24 1 = named 16
     handle_new 24 1 = named 20
     free_bytes = 48";
 
-/// One of two stretches is packed for a new chunk. The next chunk is made in the other stretch. Then the rest of the
-/// free chunk that it was cut from and the last 16 bytes, which are of one class, are in one list.
+/// One of two stretches is packed for a new chunk. The next chunk is made in the other stretch.
+/// Then the rest of the free chunk that it was cut from and the last 16 bytes, which are of one
+/// class, are in one list.
 const PACKED_FOR_A_NEW_CHUNK: &str = "handle_new 24 1 = named 16
     handle_new 24 1 = named 20
     handle_new 24 1 = named 24
@@ -205,8 +207,9 @@ const PACKED_FOR_A_NEW_CHUNK: &str = "handle_new 24 1 = named 16
     free 36 = done
     free_bytes = 72";
 
-/// The second of three stretches is packed for the chunk of the first one, which grows and goes there. Then the free
-/// chunk of the third stretch is in its list after the next chunk is made, and it is the next of one that is freed.
+/// The second of three stretches is packed for the chunk of the first one, which grows and goes
+/// there. Then the free chunk of the third stretch is in its list after the next chunk is made, and
+/// it is the next of one that is freed.
 const PACKED_FOR_A_CHUNK_THAT_GROWS: &str = "handle_new 24 1 = named 16
     handle_new 24 1 = named 20
     handle_new 24 1 = named 24
@@ -226,8 +229,8 @@ const PACKED_FOR_A_CHUNK_THAT_GROWS: &str = "handle_new 24 1 = named 16
     free 44 = done
     free_bytes = 64";
 
-/// A chunk grows and goes to two neighbours that were freed and aren't joined. The third chunk that was freed is in
-/// its list after the next one is freed.
+/// A chunk grows and goes to two neighbours that were freed and aren't joined. The third chunk that
+/// was freed is in its list after the next one is freed.
 const MOVED_TO_TWO: &str = "handle_new 24 1 = named 16
     handle_new 24 1 = named 20
     handle_new 24 1 = named 24
@@ -247,8 +250,8 @@ const GROWN_OVER_THE_LAST: &str = "resize 16 8 = done
     handle_new 8 1 = named 20
     free_bytes = 560";
 
-/// A chunk grows over the last of 72 in a list, which is behind those that are looked at: the lists are dropped,
-/// and the next chunk that is freed finds all others in theirs.
+/// A chunk grows over the last of 72 in a list, which is after those that are looked at: the lists
+/// are dropped, and the next chunk that is freed finds all others in theirs.
 #[test]
 fn a_chunk_grows_over_one_far_in_a_list(rt: HostRuntime) -> Result<(), Fail> {
     let mut beside = blank(rt.alloc(), 16 + 4 * 144 + 144 * 8, 144)?;

@@ -18,7 +18,7 @@ const MADE_AND_FREED: &str = "handle_new 10 1 = named 16
     handle_new 88 1 = named 16
     free_bytes = 0";
 
-/// A chunk that moves overlaps where it goes to; where nothing is free in front of it, none moves.
+/// A chunk that moves overlaps where it goes to; where nothing is free before it, none moves.
 const COMPACTED: &str = "handle_new 0 1 = named 16
     handle_new 24 1 = named 20
     handle_new 8 1 = named 24
@@ -37,7 +37,7 @@ const COMPACTED: &str = "handle_new 0 1 = named 16
     read 20 0 10 = x4142434445464748494a
     lock 24 = at 72 locks 1";
 
-/// A slot in front that was freed is found again.
+/// An earlier slot that was freed is found again.
 const OUT_OF_SLOTS: &str = "handle_new 0 1 = named 16
     handle_new 0 1 = named 20
     handle_new 0 1 = named 24
@@ -59,8 +59,8 @@ const FREED: &str = "handle_new 0 2 = named 28
     free 72 = refused InvalidHandle
     free_bytes = 48";
 
-/// The manager's own chunk, an empty slot, an offset between slots, places that no name is, and what
-/// lies outside.
+/// The manager's own chunk, an empty slot, an offset between slots, places that no name is, and
+/// what lies outside.
 const OTHER_NAMES: &str = "size 24 = refused InvalidHandle
     size 28 = refused InvalidHandle
     size 0 = refused InvalidHandle
@@ -76,8 +76,8 @@ const OTHER_NAMES: &str = "size 24 = refused InvalidHandle
     size 4294967292 = refused InvalidHandle
     size 4294967295 = refused InvalidHandle";
 
-/// The manager's own chunk has no name for callers; a database's may be locked, read and written, and
-/// keeps its owner.
+/// The manager's own chunk has no name for callers; a database's may be locked, read and written,
+/// and keeps its owner.
 const NOT_A_CALLERS: &str = "free 24 = refused InvalidHandle
     lock 24 = refused InvalidHandle
     unlock 24 = refused InvalidHandle
@@ -128,7 +128,7 @@ const NO_BYTES: &str = "handle_new 0 1 = named 16
     str_copy 16 0 = refused OutOfBounds
     free_bytes = 88";
 
-/// Ranges that end at the length and just behind it, and sums that 32 bits can't hold.
+/// Ranges that end at the length and just after it, and sums that 32 bits can't hold.
 const ENDS: &str = "handle_new 10 1 = named 16
     lock 16 = at 40 locks 1
     write 16 9: 41 = done
@@ -169,8 +169,8 @@ const WITH_FIXED: &str = "handle_new 0 1 = named 16
     free 48 = done
     free_bytes = 88";
 
-/// Locked and fixed chunks go too. The slots of freed chunks are found again, the lowest first, and the
-/// room behind the first of them.
+/// Locked and fixed chunks go too. The slots of freed chunks are found again, the lowest first, and
+/// the room after the first of them.
 const OF_OWNERS: &str = "handle_new 8 5 = named 16
     lock 16 = at 40 locks 1
     handle_new 8 6 = named 20

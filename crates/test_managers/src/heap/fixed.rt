@@ -5,7 +5,8 @@ use crate::heap::images::{FIVE, SPACIOUS};
 use std::test::*;
 use test_support::BLANK;
 
-/// The names are 512 bytes apart, so that each takes the other's place among those that are remembered.
+/// The names are 512 bytes apart, so that each takes the other's place among those that are
+/// remembered.
 const TURNS: &str = "ptr_new 8 1 = named 40
     ptr_new 488 1 = named 56
     ptr_new 8 1 = named 552
@@ -44,7 +45,8 @@ const OWNER_FORGOTTEN: &str = "ptr_new 8 1 = named 40
     ptr_new 8 3 = named 40
     owner 40 = 3";
 
-/// A fixed chunk of an image that is adopted: another owner and other chunks that move leave it known.
+/// A fixed chunk of an image that is adopted: another owner and other chunks that move leave it
+/// known.
 const FOUND: &str = "write 72 0: 4142 = done
     set_owner 72 5 = done
     owner 72 = 5

@@ -1,5 +1,5 @@
-//! Heaps whose free chunks are as bad as can be: of one class that has room in its last one alone, of 8 bytes
-//! each, unjoined, with second words that lead anywhere.
+//! Heaps whose free chunks are as bad as can be: of one class that has room in its last one alone,
+//! of 8 bytes each, unjoined, with second words that lead anywhere.
 
 ghost use Rattle.std.specs.Prelude.{◌≡◌, IfOk, None};
 
@@ -15,7 +15,7 @@ use std::alloc::Global;
 use std::test::*;
 use test_support::changed_words;
 
-/// Does the call of a line on a heap, with no model beside it.
+/// Does the call of a line on a heap, with no model next to it.
 fn check_line(alloc: Global, heap: &mut Heap, line: &str) -> Result<(), Fail>
     ensures { heap.new.lent ≡ heap.old.lent }
 {
@@ -39,7 +39,8 @@ fn check_alone(alloc: Global, region: Region, lines: &str) -> Result<(), Fail>
     Ok(())
 }
 
-/// A heap of so many free chunks of 16 bytes, each with a fixed one of 8 bytes behind it, and a last one of 24.
+/// A heap of the given number of free chunks of 16 bytes, each with a fixed one of 8 bytes after
+/// it, and a last one of 24.
 fn scattered(alloc: Global, count: u32) -> Result<Region, Fail>
     ensures { IfOk result (λ region. region.lent ≡ None) }
 {
@@ -88,7 +89,8 @@ fn unjoined(alloc: Global, second: u32) -> Result<Region, Fail>
     changed_words(alloc, 256, 4, &words)
 }
 
-/// What a second word may be: behind the end, a header, the offset of a chunk or within one, and none.
+/// What a second word may be: after the end, a header, the offset of a chunk or within one, and
+/// none.
 static SECONDS: [u32; 7] = [0xFFFF_FFFF, 0x8000_0020, 32, 40, 248, 36, 0];
 
 const MADE_AND_FREED: &str = "free_bytes = 224
@@ -148,8 +150,8 @@ const ONE_MORE_FREED: &str = "free_bytes = 64
     handle_new 16 1 = named 16
     free_bytes = 48";
 
-/// Chunks of 8 bytes, every second one of which is freed: there is room for those of no bytes alone, until one
-/// between two is freed too.
+/// Chunks of 8 bytes, every second one of which is freed: there is room for those of no bytes
+/// alone, until one between two is freed too.
 #[test]
 fn free_chunks_of_8_bytes(rt: HostRuntime) -> Result<(), Fail> {
     let mut beside = blank(rt.alloc(), 80 + 16 * 8, 16)?;

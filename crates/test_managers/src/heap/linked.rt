@@ -1,9 +1,9 @@
-//! Free chunks in lists, as far as an image shows them. Of each class they follow one another by their second
-//! words, and the last one has 0 there; the heads stand beside the image.
+//! Free chunks in lists, as far as an image shows them. Of each class they follow one another by
+//! their second words, and the last one has 0 there; the heads are not in the image.
 //!
-//! What is proved is that the lists link free chunks of their class, each once. That none is missing is seen
-//! here: while the lists are built, each class has one free chunk that no other of it names, and from that one
-//! the links lead to all others and end.
+//! What is proved is that the lists link free chunks of their class, each once. That none is
+//! missing is seen here: while the lists are built, each class has one free chunk that no other of
+//! it names, and from that one the links lead to all others and end.
 
 use heap_model::{MemoryCall, Name, Reply};
 use std::alloc::{AllocError, Global};
@@ -23,10 +23,10 @@ struct FreeChunk {
     next: u32,
 }
 
-/// Whether the lists are built behind a call, by the call and what it left. They are dropped where a resize takes
-/// several free chunks, or grows over one of a long list, and where a stretch was packed that isn't all of the
-/// heap. Any other call that makes a chunk or a table builds
-/// them, and so do a call that frees chunks and compaction.
+/// Whether the lists are built after a call, by the call and what it left. They are dropped where a
+/// resize takes several free chunks, or grows over one of a long list, and where a stretch was
+/// packed that isn't all of the heap. Any other call that makes a chunk or a table builds them, and
+/// so do a call that frees chunks and compaction.
 pub(crate) fn are_built(
     were_built: bool,
     call: &MemoryCall,
@@ -61,8 +61,8 @@ fn is_one_stretch(image: &Image) -> bool {
     true
 }
 
-/// Whether the chunk of a name went to the front of one free chunk that has the room, and not of several. None
-/// where there was no room at its place.
+/// Whether the chunk of a name went to the front of one free chunk that has the room, and not of
+/// several. None where there was no room at its place.
 fn free_where_it_went(before: &Image, after: &Image, name: Name) -> Option<bool> {
     let went = after.piece(name)?;
     let mut run = 0u32;
@@ -82,7 +82,7 @@ fn free_where_it_went(before: &Image, after: &Image, name: Name) -> Option<bool>
     None
 }
 
-/// Whether at most one free chunk stands directly behind that of a name, and few at all.
+/// Whether at most one free chunk stands directly after that of a name, and few at all.
 fn takes_one_at_most(image: &Image, name: Name) -> bool {
     let mut free = 0u32;
     let mut behind = 0u32;
@@ -131,8 +131,8 @@ pub(crate) fn word_at(image: &[u8], at: usize) -> Option<u32> {
     Some(u32::from_be_bytes(*word))
 }
 
-/// Whether the free chunks of a class are one list: one that no other names comes first, and from it the links
-/// lead to as many as there are, and end.
+/// Whether the free chunks of a class are one list: one that no other names comes first, and from
+/// it the links lead to as many as there are, and end.
 fn are_linked(chunks: &[FreeChunk], class: u32) -> bool {
     let mut count = 0u32;
     let mut first = 0;

@@ -1,4 +1,4 @@
-//! Lists of calls that look random, on a heap and on the plain model beside it.
+//! Lists of calls that look random, on a heap and on the plain model next to it.
 
 ghost use Rattle.std.specs.Prelude.{◌≡◌, None};
 
@@ -32,9 +32,9 @@ fn step(
     Ok(())
 }
 
-/// Does a list of calls that a seed gives, each on the image that the one before left: on a heap that is adopted
-/// for it, if `anew`, and else on one heap from end to end. Where a chunk is placed may differ between the two,
-/// so each call is held against the model alone.
+/// Does a list of calls that a seed gives, each on the image that the one before left: on a heap
+/// that is adopted for it, if `anew`, and else on one heap from end to end. Where a chunk is placed
+/// may differ between the two, so each call is held against the model alone.
 fn run_list(alloc: Global, region: Region, list: (u64, u32), anew: bool) -> Result<(), Fail>
     requires { region.lent ≡ None }
 {
@@ -50,7 +50,8 @@ fn run_list(alloc: Global, region: Region, list: (u64, u32), anew: bool) -> Resu
     Ok(())
 }
 
-/// From a blank image of so many bytes and slots, a list of so many calls is done in both ways.
+/// From a blank image of the given numbers of bytes and slots, a list of the given number of calls
+/// is done in both ways.
 fn run_blank(
     alloc: Global,
     (size, slots): (u32, u16),

@@ -1,4 +1,5 @@
-//! Bodies that are lent: the calls that are refused meanwhile, and all others, which go on as if nothing were lent.
+//! Bodies that are lent: the calls that are refused meanwhile, and all others, which go on as if
+//! nothing were lent.
 
 ghost use Rattle.std.specs.Prelude.{◌≡◌, None};
 ghost use Rattle.heap_model.specs.Lending.{KeepsLoan};
@@ -18,11 +19,12 @@ use test_beside::memory_call;
 use test_model::Image;
 use test_support::{BLANK, equal, image};
 
-/// What an example is about, the listing of its image, lines, the name whose bytes are lent then, and the lines of the
-/// calls that are done meanwhile.
+/// What an example is about, the listing of its image, lines, the name whose bytes are lent then,
+/// and the lines of the calls that are done meanwhile.
 type Example = (&'static str, &'static str, &'static str, u32, &'static str);
 
-/// A chunk of 10 bytes with a lock, a free one of 16, one of owner 2 with 16 bytes, and 24 bytes that are free.
+/// A chunk of 10 bytes with a lock, a free one of 16, one of owner 2 with 16 bytes, and 24 bytes
+/// that are free.
 const TO_BE_LENT: &str = "handle_new 10 1 = named 16
     lock 16 = at 40 locks 1
     handle_new 8 1 = named 20
@@ -51,7 +53,7 @@ const OF_MOVABLE: &str = "read 16 0 1 = refused Lent
     free_by_owner 1 = refused Lent
     more_slots = refused NotEnoughSpace";
 
-/// The chunk behind the free one slides to the lent one, and grows and goes.
+/// The chunk after the free one slides to the lent one, and grows and goes.
 const GOES_ON: &str = "lock 16 = at 40 locks 2
     size 16 = 10
     owner 16 = 1
@@ -208,7 +210,8 @@ fn refused(heap: &mut Heap, name: Name) -> Option<Refusal>
     }
 }
 
-/// What a heap says while the bytes of a name are out: their name, and why those of another name can't be taken out.
+/// What a heap says while the bytes of a name are out: their name, and why those of another name
+/// can't be taken out.
 fn said_meanwhile(
     heap: &mut Heap,
     name: Name,
@@ -227,8 +230,8 @@ fn said_meanwhile(
     Ok((lent, Some(refusal)))
 }
 
-/// Names of the image with five chunks, and why their bytes can't be taken out: while nothing is lent, and while those
-/// of the name 72 are out.
+/// Names of the image with five chunks, and why their bytes can't be taken out: while nothing is
+/// lent, and while those of the name 72 are out.
 static OUT: [(u32, Option<Refusal>, Refusal); 5] = [
     (16, Some(Refusal::ChunkNotLocked), Refusal::ChunkNotLocked),
     (20, None, Refusal::Lent),
@@ -268,8 +271,8 @@ fn staying(image: &Image, random: &mut Pcg32) -> Option<Name> {
     None
 }
 
-/// Does the next call of a list on two heaps. The bytes of the name are out of the first during the call alone, and of
-/// the other one from the start of the list. The replies must be the same.
+/// Does the next call of a list on two heaps. The bytes of the name are out of the first during the
+/// call alone, and of the other one from the start of the list. The replies must be the same.
 fn step(
     alloc: Global,
     beside: &mut Beside,
@@ -306,8 +309,8 @@ fn go_on(
     Ok(())
 }
 
-/// Lends the bytes of a name for some calls, writes the first of them, and puts them back. Both heaps must have the same
-/// image then.
+/// Lends the bytes of a name for some calls, writes the first of them, and puts them back. Both
+/// heaps must have the same image then.
 fn lend(
     alloc: Global,
     beside: &mut Beside,
@@ -333,8 +336,8 @@ fn lend(
     equal("both heaps", apart.image(), beside.image())
 }
 
-/// Does a list of calls that a seed gives: most of them while a body is lent that stays where it is. Returns how many
-/// bodies were lent.
+/// Does a list of calls that a seed gives: most of them while a body is lent that stays where it
+/// is. Returns how many bodies were lent.
 fn run_list(alloc: Global, region: Region, seed: u64) -> Result<u32, Fail>
     requires { region.lent ≡ None }
 {

@@ -1,4 +1,5 @@
-//! Calls on a store as text, each a word and numbers: `new_record 16 0 8`, `find_resource 16 code 1`.
+//! Calls on a store as text, each a word and numbers: `new_record 16 0 8`, `find_resource 16 code
+//! 1`.
 
 use crate::notation::{as_u8, memory_call_of, words_of};
 use heap_model::{Call, DatabaseCall, Db, FileCall, Name, RecordCall, ResourceCall, Which};
@@ -48,7 +49,7 @@ fn call_at(word: &str, db: Db, index: u32) -> Option<Call> {
     }
 }
 
-/// A call with two numbers behind the database. What a category is moved from and to becomes dirty.
+/// A call with two numbers after the database. What a category is moved from and to becomes dirty.
 fn call_with(word: &str, db: Db, first: u32, second: u32) -> Option<Call> {
     match word {
         "new_record" => Some(Call::Record(RecordCall::New {
@@ -81,7 +82,7 @@ fn call_with(word: &str, db: Db, first: u32, second: u32) -> Option<Call> {
     }
 }
 
-/// A call with three numbers behind the database.
+/// A call with three numbers after the database.
 fn call_with_more(word: &str, db: Db, first: u32, second: u32, third: u32) -> Option<Call> {
     match word {
         "set_record_info" => Some(Call::Record(RecordCall::SetInfo {

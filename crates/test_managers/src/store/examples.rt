@@ -6,8 +6,8 @@ use std::test::*;
 use test_beside::MIXED;
 use test_support::TWO_DATABASES;
 
-/// The first database is deleted once one of its info blocks isn't locked, and the other once an info block and
-/// the data of two records aren't.
+/// The first database is deleted once one of its info blocks isn't locked, and the other once an
+/// info block and the data of two records aren't.
 const DELETED: [Step; 10] = [
     Step::Does("lock 56 = at 552 locks 1"),
     Step::Does("delete 24 = refused ChunkLocked"),
@@ -21,15 +21,15 @@ const DELETED: [Step; 10] = [
     Step::Does("delete 36 = done"),
 ];
 
-/// The header of a database has room, and behind it the longer directory has none.
+/// The header of a database has room, and after it the longer directory has none.
 const NOT_LISTED: [Step; 3] = [
     Step::Creates("C", "refused NotEnoughSpace"),
     Step::Does("free_bytes = 88"),
     Step::Does("count = 2"),
 ];
 
-/// All records come into one category, which is deleted. The data of the first has two locks: while it has them
-/// nothing is deleted.
+/// All records come into one category, which is deleted. The data of the first has two locks: while
+/// it has them nothing is deleted.
 const CATEGORY_DELETED: [Step; 7] = [
     Step::Does("move_category 36 0 3 = done"),
     Step::Does("move_category 36 0 5 = done"),

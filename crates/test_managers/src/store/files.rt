@@ -5,7 +5,8 @@ use heap_model::Db;
 use std::test::*;
 use test_support::{BLANK, EMPTY_FILE, EMPTY_WRITTEN, ORDER_FILE, ORDER_WRITTEN, TINY_FILE, WIDE};
 
-/// A file of two records without a byte, whose seed is the last ID but one, and one of which has the last ID.
+/// A file of two records without a byte, whose seed is the last ID but one, and one of which has
+/// the last ID.
 const IDS: &str = "496473 00*29 0000 0000 00*24 44415441 54657374 07fffffe 00000000 0002 \
     00000060 00 ffffff 00000060 00 000001 0000";
 
@@ -14,7 +15,8 @@ const TINY_WRITTEN: &str =
     "54696e79 00*28 0001 0001 00*12 00000001 00*8 6170706c 54657374 00000000 00000000 0001 \
     74535452 03e9 0000005a 0000 596f00";
 
-/// A file of two records with both info blocks, which stand against their order, and none of which is empty.
+/// A file of two records with both info blocks, which stand against their order, and none of which
+/// is empty.
 const BACKWARD: &str =
     "4261636b 00*28 0000 0000 00*16 00000064 00000062 44415441 54657374 00000000 00000000 0002 \
     00000060 00 000001 0000005e 00 000002 01020304050607";
@@ -24,8 +26,9 @@ const BACKWARD_WRITTEN: &str =
     "4261636b 00*28 0000 0000 00*16 00000060 00000061 44415441 54657374 00000000 00000000 0002 \
     00000063 00 000001 00000065 00 000002 0000 07 0506 0304 0102";
 
-/// A file of five records with both info blocks. Bytes in front of the first block belong to none, three blocks begin
-/// at one offset, a deleted record has no data, another's begins where the file ends, and an ID stands three times.
+/// A file of five records with both info blocks. Bytes before the first block belong to none, three
+/// blocks begin at one offset, a deleted record has no data, another's begins where the file ends,
+/// and an ID stands three times.
 const ODD: &str = "4141414141414141414141414141414141414141414141414141414141414141 \
     0008 0000 00*16 0000007c 0000007c 44415441 54657374 b0ffffff 00000000 0005 \
     0000007c 33 000007 00000078 00 000007 00000000 e0 000007 00000082 a0 000000 0000007a 40 000000 \
@@ -49,7 +52,7 @@ const RECORDS: [Step; 5] = [
     Step::Writes(Db(16), ORDER_WRITTEN),
 ];
 
-/// The last ID is taken, and the first behind it.
+/// The last ID is taken, and the first after it.
 const NEXT_ID: [Step; 3] = [
     Step::Reads(IDS, IS_FIRST),
     Step::Does("new_record 16 65535 0 = Made { index: 2, name: Name(32) }"),

@@ -1,4 +1,5 @@
-//! As many databases as there may be, as many records, and as many resources as there are slots for.
+//! As many databases as there may be, as many records, and as many resources as there are slots
+//! for.
 
 ghost use Rattle.std.specs.Prelude.{◌≡◌};
 
@@ -11,7 +12,8 @@ use std::alloc::Global;
 use std::test::*;
 use test_beside::{do_call, image_of, store_of};
 
-/// The last of 1,024 databases is made, and no other; then the first goes, and another gets its number.
+/// The last of 1,024 databases is made, and no other; then the first goes, and another gets its
+/// number.
 static LAST_DATABASES: [Step; 9] = [
     Step::Creates("1024", "Database(Db(4112))"),
     Step::Creates("1025", "refused TooManyEntries"),
@@ -69,8 +71,9 @@ fn records_are_at_most_65535(rt: HostRuntime) -> Result<(), Fail> {
     Ok(())
 }
 
-/// Calls on a database of 65,532 resources where one slot is left, each with its reply. The directory, the header
-/// and the data of each resource take a slot, of which a heap has 65,535: so there are 65,533 resources at most.
+/// Calls on a database of 65,532 resources where one slot is left, each with its reply. The
+/// directory, the header and the data of each resource take a slot, of which a heap has 65,535: so
+/// there are 65,533 resources at most.
 const CROWDED: &str = "find_resource 20 code 65531 = 65531
     new_resource 20 code 65532 0 = Made { index: 65532, name: Name(262152) }
     new_resource 20 code 65533 0 = refused NotEnoughSpace
@@ -95,7 +98,7 @@ fn every_slot_is_a_resource(rt: HostRuntime) -> Result<(), Fail> {
     Ok(())
 }
 
-/// Does the call of a line on a store, with no model beside it.
+/// Does the call of a line on a store, with no model next to it.
 fn check_alone(alloc: Global, store: &mut Store, line: &str) -> Result<(), Fail>
     ensures { store.new.lent ≡ store.old.lent }
 {

@@ -9,8 +9,8 @@ use std::test::*;
 use test_beside::{blank_image, store_of};
 use test_support::bytes_of as listed;
 
-/// A database with the number 20 and 65,532 resources of the type `code`, whose IDs are their indexes and whose
-/// data has no byte. One slot is left, and 32 bytes are free.
+/// A database with the number 20 and 65,532 resources of the type `code`, whose IDs are their
+/// indexes and whose data has no byte. One slot is left, and 32 bytes are free.
 pub(crate) fn crowded_program(alloc: Global) -> Result<Vec<u8>, Fail> {
     let mut bytes = listed(
         alloc,
@@ -36,8 +36,8 @@ pub(crate) fn crowded_program(alloc: Global) -> Result<Vec<u8>, Fail> {
     Ok(bytes)
 }
 
-/// A database with the number 20 and as many records as it may have, all of them deleted and without data,
-/// with the IDs from 1 on. Its seed is the last ID but one.
+/// A database with the number 20 and as many records as it may have, all of them deleted and
+/// without data, with the IDs from 1 on. Its seed is the last ID but one.
 pub(crate) fn full_database(alloc: Global) -> Result<Vec<u8>, Fail> {
     let front = "50484931 00080100 0004 0000 00000010 00000028 00000038 00*8 \
         04000010 00FFFFF8 00000014 00*4 02080050 00FFFFF2 \
@@ -51,7 +51,7 @@ pub(crate) fn full_database(alloc: Global) -> Result<Vec<u8>, Fail> {
     Ok(bytes)
 }
 
-/// A store with so many databases, whose names are the numbers from 1 on.
+/// A store with the given number of databases, whose names are the numbers from 1 on.
 pub(crate) fn with_databases(alloc: Global, count: u32) -> Result<Store, Fail>
     ensures { IfOk result (λ made. made.lent ≡ None) }
 {

@@ -21,8 +21,8 @@ const SET: [Step; 12] = [
     Step::Numbers(Db(16), 9),
 ];
 
-/// The second database is `B`. The first is deleted, and another gets its number: what is known of a database is
-/// nothing to that.
+/// The second database is `B`. The first is deleted, and another gets its number: what is known of
+/// a database is nothing to that.
 const GIVEN_AGAIN: [Step; 13] = [
     Step::Creates("A", "Database(Db(16))"),
     Step::Creates("B", "Database(Db(24))"),

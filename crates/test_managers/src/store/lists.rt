@@ -1,4 +1,4 @@
-//! Lists of calls that look random, on a store and on the plain model beside it.
+//! Lists of calls that look random, on a store and on the plain model next to it.
 
 use rand_pcg::Pcg32;
 use std::alloc::Global;
@@ -6,10 +6,10 @@ use std::test::*;
 use test_beside::{Beside, Counts, MIXED, OUTCOMES, blank_image, chained_image, store_of};
 use test_support::{DATABASE, TWO_DATABASES, bytes_of as listed, equal};
 
-/// Does a list of calls that a seed gives, each on the image that the one before left, and counts what
-/// they answer. Each image must be taken as a store; a call is done on that one, if `anew`, and else on one
-/// store from end to end. Where a chunk is placed may differ between the two, so each call is held against
-/// the model alone.
+/// Does a list of calls that a seed gives, each on the image that the one before left, and counts
+/// what they return. Each image must be taken as a store; a call is done on that one, if `anew`,
+/// and else on one store from end to end. Where a chunk is placed may differ between the two, so
+/// each call is held against the model alone.
 fn run_list(
     alloc: Global,
     counts: &mut Counts,

@@ -1,19 +1,21 @@
-//! Bodies that are lent by a store: what a caller does with one, what is refused meanwhile, and that all other calls go on.
+//! Bodies that are lent by a store: what a caller does with one, what is refused meanwhile, and
+//! that all other calls go on.
 
 ghost use Rattle.std.specs.Prelude.{◌≡◌, ◌≢◌, None};
 ghost use Rattle.heap_model.specs.Lending.{KeepsLoan};
 
 use heap_model::{
     Bytes, Call, DatabaseCall, Db, FileCall, MemoryCall, Name, RecordCall, Refusal, Reply,
+    ResourceCall,
 };
 use palm_store::{ImageFault, MigrateFault, Store};
 use palm_text::Counted;
 use rand::RngExt;
 use rand_pcg::Pcg32;
-use std::alloc::Global;
+use std::alloc::{AllocError, Global};
 use std::test::*;
 use test_beside::{Beside, Counts, MIXED, do_call, image_of, run_calls, store_of};
-use test_model::Image;
+use test_model::{Database, Image};
 use test_support::{DATABASE, TWO_CHUNKS, TWO_DATABASES, bytes_of as listed, equal};
 
 /// The two chunks of an image.
@@ -98,7 +100,8 @@ fn a_body_is_lent_and_put_back(rt: HostRuntime) -> Result<(), Fail> {
     equal("b", store.read(B, 0, 24), Ok(b))
 }
 
-/// While a body is lent, neither the region is given back nor a chain of tables is made. The store comes back.
+/// While a body is lent, neither the region is given back nor a chain of tables is made. The store
+/// comes back.
 #[test]
 fn a_store_that_lends_stays_a_store(rt: HostRuntime) -> Result<(), Fail> {
     let alloc = rt.alloc();
@@ -124,8 +127,9 @@ fn a_store_that_lends_stays_a_store(rt: HostRuntime) -> Result<(), Fail> {
     }
 }
 
-/// Calls on a database of the number 20, and why each is refused while the data of its first record is lent, under the
-/// name 24. 27 comes after the database and the entry are there, and before room.
+/// Calls on a database of the number 20, and why each is refused while the data of its first record
+/// is lent, under the name 24. 27 comes after the database and the entry are there, and before
+/// room.
 fn calls_on_records() -> [(Call, Option<Refusal>); 11] {
     let db = Db(20);
     [
@@ -194,13 +198,25 @@ fn data_of_a_record_is_lent(rt: HostRuntime) -> Result<(), Fail> {
 /// How many calls are done while a body is lent.
 const CALLS: u32 = 12;
 
-/// The name of a chunk of a caller's or a database's that stays where it is, drawn from an image.
-fn staying(image: &Image, random: &mut Pcg32) -> Option<Name> {
+/// The name of a chunk of a caller's or a database's with this many locks at least, drawn from an
+/// image.
+fn any_chunk(
+    alloc: Global,
+    beside: &Beside,
+    random: &mut Pcg32,
+    locks: u8,
+) -> Result<Option<Name>, Fail> {
+    let image = Image::decode(alloc, &beside.image)?;
+    Ok(chunk_of(&image, random, locks))
+}
+
+/// The first such chunk of an image from a piece on that is drawn.
+fn chunk_of(image: &Image, random: &mut Pcg32, locks: u8) -> Option<Name> {
     let count = u32::try_from(image.pieces.len()).ok()?;
     let first = random.random_range(0..count.max(1)) as usize;
     for piece in image.pieces.iter().skip(first) {
         if let Some(live) = piece.live
-            && live.lock > 0
+            && live.lock >= locks
             && live.owner > 0
         {
             return Some(live.name);
@@ -209,8 +225,9 @@ fn staying(image: &Image, random: &mut Pcg32) -> Option<Name> {
     None
 }
 
-/// Two stores with the same image: the bytes of a name are out of the first during each call alone, and of the other one
-/// from the start of some calls to their end. What the calls answer meanwhile is counted.
+/// Two stores with the same image: the bytes of a name are out of the first during each call alone,
+/// and of the other one from the start of some calls to their end. What the calls answer meanwhile
+/// is counted.
 #[derive(Drop)]
 struct Pair {
     store: Store,
@@ -219,7 +236,31 @@ struct Pair {
     ghost whole: { store.lent ≡ None },
 }
 
-/// Does the next call of a list on both. The replies must be the same.
+/// Does a call on both. The replies must be the same.
+fn do_both(
+    alloc: Global,
+    pair: &mut Pair,
+    apart: &mut Store,
+    name: Option<Name>,
+    call: &Call,
+) -> Result<(), Fail>
+    ensures lent { apart.new.lent ≡ apart.old.lent }
+    ensures loan { KeepsLoan apart.old apart.new }
+{
+    let spot = format!(in alloc; "{call:?} while {name:?} is lent")?;
+    let reply = match name {
+        Some(name) => pair
+            .beside
+            .call_lent(alloc, &mut pair.store, name, spot.as_str(), call)?,
+        None => pair
+            .beside
+            .call_on(alloc, &mut pair.store, spot.as_str(), call)?,
+    };
+    pair.counts.add(call, &reply)?;
+    equal(spot.as_str(), do_call(alloc, apart, call), reply)
+}
+
+/// Does the next call of a list on both.
 fn step(
     alloc: Global,
     pair: &mut Pair,
@@ -231,20 +272,100 @@ fn step(
     ensures loan { KeepsLoan apart.old apart.new }
 {
     let call = pair.beside.any_call(random, alloc)?;
-    let spot = format!(in alloc; "{call:?} while {name:?} is lent")?;
-    let reply = match name {
-        Some(name) => pair
-            .beside
-            .call_lent(alloc, &mut pair.store, name, spot.as_str(), &call)?,
-        None => pair
-            .beside
-            .call_on(alloc, &mut pair.store, spot.as_str(), &call)?,
-    };
-    pair.counts.add(&call, &reply)?;
-    equal(spot.as_str(), do_call(alloc, apart, &call), reply)
+    do_both(alloc, pair, apart, name, &call)
 }
 
-/// Does some calls on both while the bytes of a name are out.
+/// Adds the calls of the memory manager that are refused while the bytes of a name are lent.
+fn add_memory_calls(alloc: Global, calls: &mut Vec<Call>, name: Name) -> Result<(), AllocError> {
+    let bytes = Bytes::of(Vec::from_slice(alloc, b"ab")?);
+    let text = Bytes::of(Vec::from_slice(alloc, b"a")?);
+    calls.push(Call::Memory(MemoryCall::Read {
+        name,
+        at: 0,
+        count: 1,
+    }))?;
+    calls.push(Call::Memory(MemoryCall::Write { name, at: 0, bytes }))?;
+    calls.push(Call::Memory(MemoryCall::Set {
+        name,
+        at: 0,
+        count: 1,
+        byte: 7,
+    }))?;
+    calls.push(Call::Memory(MemoryCall::StrCopy { name, at: 0, text }))?;
+    calls.push(Call::Memory(MemoryCall::Unlock(name)))?;
+    calls.push(Call::Memory(MemoryCall::Free(name)))?;
+    calls.push(Call::Memory(MemoryCall::Resize { name, size: 9 }))?;
+    Ok(())
+}
+
+/// Adds a call that resizes the record whose data a name is.
+fn add_record_calls(
+    calls: &mut Vec<Call>,
+    database: &Database,
+    name: Name,
+) -> Result<(), AllocError> {
+    for (index, record) in database.records.iter().enumerate() {
+        if record.data == Some(name)
+            && let Ok(index) = u32::try_from(index)
+        {
+            calls.push(resize(database.db, index, 9))?;
+        }
+    }
+    Ok(())
+}
+
+/// Adds a call that resizes the resource whose data a name is.
+fn add_resource_calls(
+    calls: &mut Vec<Call>,
+    database: &Database,
+    name: Name,
+) -> Result<(), AllocError> {
+    for (index, resource) in database.resources.iter().enumerate() {
+        if resource.data == name
+            && let Ok(index) = u32::try_from(index)
+        {
+            calls.push(Call::Resource(ResourceCall::Resize {
+                db: database.db,
+                index,
+                size: 9,
+            }))?;
+        }
+    }
+    Ok(())
+}
+
+/// All calls that may be refused because the bytes of a name are lent, and exports of all
+/// databases.
+fn calls_on(alloc: Global, beside: &Beside, name: Name) -> Result<Vec<Call>, AllocError> {
+    let mut calls = Vec::new(alloc);
+    add_memory_calls(alloc, &mut calls, name)?;
+    for database in beside.plain.databases() {
+        add_record_calls(&mut calls, database, name)?;
+        add_resource_calls(&mut calls, database, name)?;
+        calls.push(export(database.db))?;
+    }
+    Ok(calls)
+}
+
+/// Does calls on both while the bytes of a name are out, or while none are.
+fn do_all(
+    alloc: Global,
+    pair: &mut Pair,
+    apart: &mut Store,
+    name: Option<Name>,
+    calls: &[Call],
+) -> Result<(), Fail>
+    ensures lent { apart.new.lent ≡ apart.old.lent }
+    ensures loan { KeepsLoan apart.old apart.new }
+{
+    for call in calls {
+        do_both(alloc, pair, apart, name, call)?;
+    }
+    Ok(())
+}
+
+/// Does some calls on both while the bytes of a name are out, and then each call that a lent name
+/// may refuse.
 fn go_on(
     alloc: Global,
     pair: &mut Pair,
@@ -258,11 +379,29 @@ fn go_on(
     for _ in 0..CALLS {
         step(alloc, pair, apart, Some(name), random)?;
     }
-    Ok(())
+    let calls = calls_on(alloc, &pair.beside, name)?;
+    do_all(alloc, pair, apart, Some(name), &calls)
 }
 
-/// Lends the bytes of a name for some calls, writes the first of them, and puts them back. Both stores must have the same
-/// image then.
+/// Does the calls that a lent name may refuse once in four times, when none is lent.
+fn go_on_after(
+    alloc: Global,
+    pair: &mut Pair,
+    apart: &mut Store,
+    name: Name,
+    random: &mut Pcg32,
+) -> Result<(), Fail>
+    ensures { apart.new.lent ≡ apart.old.lent }
+{
+    if random.random_range(0..4u32) > 0 {
+        return Ok(());
+    }
+    let calls = calls_on(alloc, &pair.beside, name)?;
+    do_all(alloc, pair, apart, None, &calls)
+}
+
+/// Lends the bytes of a name for some calls, writes the first of them, and puts them back. Both
+/// stores must have the same image then.
 fn lend(
     alloc: Global,
     pair: &mut Pair,
@@ -290,10 +429,30 @@ fn lend(
         "both stores",
         image_of(alloc, apart)?,
         image_of(alloc, &pair.store)?,
-    )
+    )?;
+    go_on_after(alloc, pair, apart, name, random)
 }
 
-/// Does a list of calls that a seed gives: most of them while a body is lent that stays where it is.
+/// Locks a chunk on both, if there is one.
+fn lock_any(
+    alloc: Global,
+    pair: &mut Pair,
+    apart: &mut Store,
+    random: &mut Pcg32,
+) -> Result<(), Fail>
+    ensures { apart.new.lent ≡ apart.old.lent }
+{
+    match any_chunk(alloc, &pair.beside, random, 0)? {
+        Some(name) => {
+            let lock = Call::Memory(MemoryCall::Lock(name));
+            do_both(alloc, pair, apart, None, &lock)
+        }
+        None => Ok(()),
+    }
+}
+
+/// Does a list of calls that a seed gives: most of them while a body is lent that stays where it
+/// is.
 fn run_list(alloc: Global, counts: Counts, image: Vec<u8>, seed: u64) -> Result<Counts, Fail> {
     let mut random = Pcg32::new(seed, 1);
     let mut apart = store_of(alloc, &image)?;
@@ -303,7 +462,8 @@ fn run_list(alloc: Global, counts: Counts, image: Vec<u8>, seed: u64) -> Result<
         counts,
     };
     for _ in 0..25u32 {
-        let name = staying(&Image::decode(alloc, &pair.beside.image)?, &mut random);
+        lock_any(alloc, &mut pair, &mut apart, &mut random)?;
+        let name = any_chunk(alloc, &pair.beside, &mut random, 1)?;
         match name {
             Some(name) => lend(alloc, &mut pair, &mut apart, name, &mut random)?,
             None => step(alloc, &mut pair, &mut apart, None, &mut random)?,
@@ -313,8 +473,19 @@ fn run_list(alloc: Global, counts: Counts, image: Vec<u8>, seed: u64) -> Result<
     Ok(counts)
 }
 
-/// A call that must have been refused because a body was lent, and done when none was.
-static REFUSED: [(&str, &[Refusal]); 1] = [("read", &[Refusal::Lent])];
+/// The calls that are refused because a body is lent. Each must have been refused so, and done.
+static REFUSED: [(&str, &[Refusal]); 10] = [
+    ("read", &[Refusal::Lent]),
+    ("write", &[Refusal::Lent]),
+    ("set", &[Refusal::Lent]),
+    ("str_copy", &[Refusal::Lent]),
+    ("unlock", &[Refusal::Lent]),
+    ("free", &[Refusal::Lent, Refusal::ChunkLocked]),
+    ("resize", &[Refusal::Lent]),
+    ("resize_record", &[Refusal::Lent]),
+    ("resize_resource", &[Refusal::Lent]),
+    ("export", &[Refusal::Lent]),
+];
 
 #[test]
 fn lists_of_calls_while_bodies_are_lent(rt: HostRuntime) -> Result<(), Fail> {

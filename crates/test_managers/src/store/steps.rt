@@ -1,4 +1,5 @@
-//! Calls with the replies that they must have, as rows, which are done on a store and on the plain model beside it.
+//! Calls with the replies that they must have, as rows, which are done on a store and on the plain
+//! model next to it.
 
 ghost use Rattle.std.specs.Prelude.{◌≡◌};
 
@@ -23,16 +24,16 @@ pub(crate) enum Step {
     Reads(&'static str, &'static str),
     /// What is written of a database is the file of a listing.
     Writes(Db, &'static str),
-    /// A record without a byte is made in front of the others, and gets this ID.
+    /// A record without a byte is made before the others, and gets this ID.
     Numbers(Db, u32),
-    /// So many locks are taken off a chunk, which has no more.
+    /// The given number of locks is taken off a chunk, which has no more.
     Unlocks(Name, u32),
 }
 
 /// What an example is about, the listing of the image that it starts from, and its steps.
 pub(crate) type Example = (&'static str, &'static str, &'static [Step]);
 
-/// Does a call, which must be answered by this reply.
+/// Does a call, which must return this reply.
 fn check(
     alloc: Global,
     about: &str,
@@ -76,7 +77,7 @@ fn file(alloc: Global, listing: &str) -> Result<Bytes, Fail> {
     Ok(Bytes::of(listed(alloc, listing)?))
 }
 
-/// Reads a file, which must be answered by this reply.
+/// Reads a file, which must return this reply.
 fn check_read(
     alloc: Global,
     about: &str,
@@ -107,7 +108,7 @@ fn check_written(
     equal(about, said, Reply::Data(file(alloc, listing)?))
 }
 
-/// Makes a record without a byte in front of the others, which must get this ID.
+/// Makes a record without a byte before the others, which must get this ID.
 fn check_id(
     alloc: Global,
     about: &str,
@@ -127,7 +128,7 @@ fn check_id(
     }
 }
 
-/// Takes so many locks off a chunk, which has no more.
+/// Takes the given number of locks off a chunk, which has no more.
 fn unlock(
     alloc: Global,
     about: &str,

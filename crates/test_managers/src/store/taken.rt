@@ -5,7 +5,7 @@ use std::test::*;
 use test_beside::{MIXED, Verdict, agreed_verdict, store_of};
 use test_support::{Finding, bytes_of as listed, check_flipped};
 
-/// An image is taken exactly where the plain model takes it, and handed back as it was.
+/// An image is taken exactly where the plain model takes it, and returned as it was.
 #[derive(Clone, Copy)]
 struct Checking;
 

@@ -32,7 +32,8 @@ fn info_of_two(name: &[u8], attributes: u16) -> DbInfo
     }
 }
 
-/// Makes a database with an AppInfo block of 3 bytes and two records, one of which is deleted and has no data.
+/// Makes a database with an AppInfo block of 3 bytes and two records, one of which is deleted and
+/// has no data.
 fn make_records(store: &mut Store, names: &mut [Name]) -> Result<Db, Refusal>
     requires { length names.old ≡ 4 }
     ensures len { length names.new ≡ 4 }
@@ -89,7 +90,7 @@ fn small_store(alloc: Global) -> Result<Store, Fail>
     store_of(alloc, &blank_image(alloc, 400, 20)?)
 }
 
-/// The body of a chunk is so many zeros.
+/// The body of a chunk is the given number of zeros.
 fn check_zeros(store: &Store, name: Name, count: u32) -> Result<(), Fail> {
     let head = (store.size(name)?, store.owner(name)?, store.locks(name)?);
     equal("size, owner, locks", head, (count, 15, 0))?;
@@ -110,7 +111,7 @@ fn check_header(
     equal("its block", store.info_block(db, which), Ok(block))
 }
 
-/// The entry of an index, none behind the last.
+/// The entry of an index, none after the last.
 fn check_entry(store: &Store, db: Db, index: u32, entry: Option<Entry>) -> Result<(), Fail> {
     let found = store.find_entry(db, index)?.entry;
     equal(format_args!("entry {index}"), found, entry)
@@ -152,7 +153,7 @@ fn records_are_made_with_their_header(rt: HostRuntime) -> Result<(), Fail> {
     check_records(&store, db, names)
 }
 
-/// The resource of an index has its data under this name, and that is so many zeros.
+/// The resource of an index has its data under this name, and that is the given number of zeros.
 fn check_resource(store: &Store, db: Db, index: u32, data: Name, size: u32) -> Result<(), Fail> {
     let resource = ResourceInfo {
         kind: 0x7453_5452,
@@ -200,8 +201,8 @@ fn whole_databases_are_at_most_1024(rt: HostRuntime) -> Result<(), Fail> {
     equal("another", made, Err(Refusal::TooManyEntries))
 }
 
-/// In an empty store of this size and with so many slots the records are made, or nothing is left of them.
-/// Whether there was no room for them.
+/// In an empty store of this size and number of slots the records are made, or nothing is left
+/// of them. Whether there was no room for them.
 fn is_taken_back(alloc: Global, size: u32, slots: u16) -> Result<bool, Fail> {
     let mut store = store_of(alloc, &blank_image(alloc, size, slots)?)?;
     let before = (store.free_bytes(), store.summary());

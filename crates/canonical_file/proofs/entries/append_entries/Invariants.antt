@@ -5,8 +5,8 @@ use Rattle.pdb_format.specs.FileTexts.{entries_text}
 use Rattle.pdb_format.specs.ReadFiles.{entries_read}
 use Rattle.canonical_file.proofs.entries.append_entries.Given as goal
 
--- The entries that are left make the text whole, and there is room for them. The data that is left ends at an offset of
--- four bytes.
+-- The entries that are left make the text whole, and there is room for them. The data that is left
+-- ends at an offset of four bytes.
 abbrev pub invariant-loop-index : goal.invariant-loop-index
 invariant-loop-index l = record {
   short : l.at + sum_by length_within (drop (2 + l.index) l.blocks) < 2 ^ 32;

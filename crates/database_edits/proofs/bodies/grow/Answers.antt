@@ -1,4 +1,4 @@
--- The chunk of a database has no lock, so that only want of room refuses it to grow.
+-- The chunk of a database has no lock, so that it is refused to grow only for lack of room.
 use Rattle.database_edits.proofs.Lengths.{grew, no_room, by_space}
 use Rattle.database_edits.proofs.bodies.grow.Goals as goal
 

@@ -1,4 +1,5 @@
--- The chunk has the room of an entry more, those behind slide into it, and the header is written field by field.
+-- The chunk has the room of an entry more, those after slide into it, and the header is written
+-- field by field.
 use Rattle.std.proofs.Common.{ℕ, Bool, ◌+◌, refl, sym, ap, subst, ◌∙◌}
 use Rattle.heap_model.specs.Database.{Entry, Database}
 use Rattle.heap_model.specs.Leaving.{database_here}

@@ -1,4 +1,5 @@
--- What stands behind the entry slides over it, the header is written field by field, and then the chunk shrinks.
+-- What follows the entry slides over it, the header is written field by field, and then the chunk
+-- shrinks.
 use Rattle.std.proofs.Common.{refl, ◌+◌, ◌-◌, arith}
 use Rattle.heap_model.specs.Leaving.{database_here}
 use Rattle.database_edits.specs.Edits.{entry_removed}

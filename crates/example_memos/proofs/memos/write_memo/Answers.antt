@@ -4,6 +4,6 @@ use Rattle.heap_model.specs.Runs.{Run}
 use Rattle.example_memos.specs.Memos.{writing}
 use Rattle.example_memos.proofs.memos.write_memo.Goals as goal
 
--- the text that was copied is the one that was given
+-- the copied text is the given text
 pub returns-clause-run : goal.returns-clause-run
 returns-clause-run c = subst (λ (text : List ℕ). IfOk c.run_calls.result (λ replies. Run c.args.store.now (writing c.args.memo text) replies.items c.run_calls.new.store)) c.in-Ok.ensures c.run_calls.ensures.run

@@ -1,7 +1,7 @@
 use Rattle.std.proofs.Common.{◌≡◌, ◌≤◌}
 use Rattle.image_commands.proofs.folders.write_parts.Given as goal
 
--- so many ranks are done
+-- `made.ranks` ranks are done
 abbrev pub invariant-loop-rank : goal.invariant-loop-rank
 invariant-loop-rank g l = record {
   ranks : l.made.ranks ≡ l.rank;

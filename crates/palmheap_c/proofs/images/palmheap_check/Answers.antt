@@ -8,7 +8,7 @@ use Rattle.palmheap_c.specs.declared.counts.Counts.{Counts}
 use Rattle.palmheap_c.specs.Answers.{IsImageAnswer, of_store}
 use Rattle.palmheap_c.proofs.images.palmheap_check.Goals as goal
 
--- a growth was refused, or this is the first fault, as a number
+-- an allocation failed, or this is the first fault, as a number
 answered : (image : List ℕ) (counts : Counts) (fault : StoreFault) (found : Answer) → (fault ≡ OutOfMemory → GrowthRefused) → found ≡ of_store fault → IsAnswered image fault → IsImageAnswer image counts counts found
 answered image counts fault found short e (inl none) = inr (inl (e ∙ ap of_store none.0, short none.0), refl)
 answered image counts fault found short e (inr first) = inr (inr (fault, first, e), refl)

@@ -6,7 +6,7 @@ use Rattle.pdb_format.proofs.SortedStarts.{first_starts, one_more, none_more}
 use Rattle.pdb_format.proofs.starts.starts_of.Goals as goal
 use Rattle.pdb_format.proofs.starts.starts_of.Goals.{then-at-ne0+in_ok-push, else-at-ne0}
 
--- a start is put behind those of the first ranks
+-- a start is put after those of the first ranks
 pushed : (offsets : List ℕ) (rank at : ℕ) (old mid new : List Start) → new ≡ mid → mid ≡ old ++ record { at = at; rank = rank } ∷ [] → old ≡ first_starts offsets rank → at ≡ slice_index offsets rank → 0 < at → new ≡ first_starts offsets (rank + 1)
 pushed offsets rank at old mid new new_is mid_is before is some = new_is ∙ mid_is ∙ ap (λ (xs : List Start). xs ++ record { at = at; rank = rank } ∷ []) before ∙ one_more offsets rank at is some
 

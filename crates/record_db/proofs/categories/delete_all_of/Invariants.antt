@@ -1,4 +1,5 @@
--- Of the records in front of where the search goes on those of the category are deleted, and nothing else has changed.
+-- The records of the category before the index where the search goes on are deleted. Nothing else
+-- has changed.
 use Rattle.std.proofs.Common.{◌≡◌, ◌≤◌, ◌-◌, length}
 use Rattle.heap_model.specs.Lending.{KeepsLoan}
 use Rattle.heap_model.specs.Store.{store_of}

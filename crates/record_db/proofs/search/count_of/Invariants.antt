@@ -1,4 +1,4 @@
--- So many of the records that were passed are of the category.
+-- The count is that of the records of the category among those that were passed.
 use Rattle.std.proofs.Common.{◌≡◌, take, count_by}
 use Rattle.heap_model.specs.Categories.{is_of}
 use Rattle.record_db.proofs.search.count_of.Given as goal

@@ -1,4 +1,4 @@
--- So many of the resources that were passed are of the type, and not more than are to stand in front.
+-- `passed` is the count of the resources of the type that were passed, and is at most `nth`.
 use Rattle.std.proofs.Common.{◌≡◌, ◌≤◌, take, count_by}
 use Rattle.heap_model.specs.ResourceSteps.{has_type}
 use Rattle.resource_db.proofs.search.nth_of_type.Given as goal

@@ -6,7 +6,7 @@ use Rattle.palm_text.specs.Pieces.{piece_text}
 use Rattle.script_calls.specs.Lines.{details_text}
 use Rattle.script_calls.proofs.replies.put_refusal.Goals as goal
 
--- the pieces of the line, one behind another
+-- the pieces of the line, one after another
 joined : (front number space name fault of end its_number its_name details : List ℕ) → number ≡ its_number → name ≡ its_name → fault ++ of ≡ details
     → front ++ (number ++ (space ++ (name ++ (fault ++ (of ++ end))))) ≡ front ++ its_number ++ space ++ its_name ++ details ++ end
 joined front number space name fault of end its_number its_name details is_number is_name are = rw (is_number, is_name, ← are) (simp append_assoc)

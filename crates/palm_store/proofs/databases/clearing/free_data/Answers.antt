@@ -1,4 +1,5 @@
--- The header is as it was, so the next slot is that of the database that was given; its chunk is still there.
+-- The header is as it was, so the next slot is that of the database that was given; its chunk is
+-- still there.
 use Rattle.std.proofs.Common.{◌+◌, refl, sym, subst, ◌∙◌, ◌≡◌, ◌<◌, ℕ, List, length}
 use Rattle.heap_model.specs.Database.{IsSpelled, database_in, data_in}
 use Rattle.laws_store.proofs.CallSteps.{kept_then}

@@ -1,4 +1,5 @@
--- The header's chunk is made, then the data, and then the slot is listed; or all of it is freed again.
+-- The header's chunk is made, then the data, and then the slot is listed; or all of it is freed
+-- again.
 use Rattle.std.proofs.Common.{refl, sym, subst, ◌≤◌, ◌∙◌, List, length, ℕ}
 use Rattle.palm_store.specs.WholeDatabases.{data_sizes, numbers_in}
 use Rattle.palm_store.proofs.ListedSlots.{few_bytes, made_directory, made_movable, fresh_apart}

@@ -1,4 +1,4 @@
--- Each entry is written behind those before it.
+-- Each entry is written after those before it.
 use Rattle.std.proofs.Common.{refl, sym, ◌∙◌, ◌+◌, arith}
 use Rattle.std.proofs.lemmas.List.{get_or-map, length-map}
 use Rattle.heap_model.specs.declared.names.Name.{Name}

@@ -1,4 +1,4 @@
--- The entries that were passed are written behind the header, and nothing else has changed.
+-- The entries that were passed are written after the header, and nothing else has changed.
 use Rattle.palm_store.proofs.WholeBytes.{Writes}
 use Rattle.std.proofs.Common.{◌≡◌}
 use Rattle.heap_model.specs.Lending.{KeepsLoan}

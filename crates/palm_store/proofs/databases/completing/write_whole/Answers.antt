@@ -1,4 +1,4 @@
--- The header is written at the front, and then the entries behind it.
+-- The header is written at the front, and then the entries after it.
 use Rattle.std.proofs.Common.{sym, ap, subst, ◌∙◌, ◌≡◌, ◌++◌, ℕ, List, length, drop, arith}
 use Rattle.std.specs.List.{flat_map}
 use Rattle.heap_model.specs.Database.{Database, entry_bytes, header_bytes, entry_offset}

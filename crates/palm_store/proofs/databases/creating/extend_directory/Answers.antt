@@ -1,5 +1,5 @@
--- The directory has no lock, so that only want of room refuses it to grow; the slot's bytes are written over
--- the last four.
+-- The directory has no lock, so that only lack of room keeps it from growing; the slot's bytes are
+-- written over the last four.
 use Rattle.std.proofs.Common.{refl, ap, arith, ◌≡◌, ◌+◌, length}
 use Rattle.heap_model.specs.Chunk.{need}
 use Rattle.heap_model.specs.Heap.{directory_of}

@@ -1,4 +1,5 @@
--- The header spells what it spelled while the chunk is made; where it can't grow, the chunk is freed again.
+-- The header spells what it spelled while the chunk is made; where it can't grow, the chunk is
+-- freed again.
 use Rattle.std.proofs.Common.{◌≡◌, ◌≤◌, ◌<◌, ◌≢◌, ◌∙◌, Some, replicate, refl, sym, ap, subst, ℕ, List, length}
 use Rattle.heap_model.specs.Memory.{Memory}
 use Rattle.heap_model.specs.Heap.{directory_of}

@@ -1,4 +1,4 @@
--- The number is listed at the index or behind it.
+-- The number is listed at the index or after it.
 use Rattle.std.proofs.Common.{◌-◌, ◌/◌, ◌≤◌, ℕ, length}
 use Rattle.palm_store.specs.Databases.{IsListedAt}
 use Rattle.palm_store.proofs.lookup.directory.index_of.Given as goal

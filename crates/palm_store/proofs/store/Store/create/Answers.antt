@@ -1,5 +1,5 @@
--- What was found of the name and of the databases lets the call go on; the header is written into the chunk
--- that was listed, or all is as before.
+-- What was found of the name and of the databases lets the call go on; the header is written into
+-- the chunk that was listed, or all is as before.
 use Rattle.std.proofs.Common.{refl, ap, sym, subst, ◌∙◌, ◌≡◌, ◌<◌, ◌≤◌, arith, ℕ, List, length, replicate}
 use Rattle.std.proofs.lemmas.List.{length-replicate}
 use Rattle.heap_model.specs.DatabaseFields.{header_size}

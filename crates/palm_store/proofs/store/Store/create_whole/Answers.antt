@@ -1,4 +1,5 @@
--- What was found of the name and of the databases lets the call go on; all is made and written, or all is as before.
+-- What was found of the name and of the databases lets the call go on; all is made and written, or
+-- all is as before.
 use Rattle.std.proofs.Common.{refl, ap, subst, ◌∙◌, ◌<◌, ◌≤◌, inl, inr, ℕ, List, length, replicate}
 use Rattle.std.proofs.lemmas.List.{length-replicate, length-map}
 use Rattle.heap_model.specs.Refusals.{FirstBrings}

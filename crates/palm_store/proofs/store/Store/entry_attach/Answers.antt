@@ -1,4 +1,5 @@
--- What came is the entry that was asked for, with the chunk that was given; what was refused has changed nothing.
+-- What came is the entry that was asked for, with the chunk that was given; what was refused has
+-- changed nothing.
 use Rattle.std.proofs.Common.{◌<◌, ◌∙◌, arith, inl, inr, ℕ, List, length, ◌≤◌, ◌≡◌}
 use Rattle.heap_model.specs.EntrySteps.{most_entries, entries_in, resources_under}
 use Rattle.heap_model.specs.Store.{store_of}

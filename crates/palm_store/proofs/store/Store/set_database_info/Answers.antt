@@ -1,4 +1,5 @@
--- What was found of the database and of the name, and what was written, is what a header that is set has.
+-- What was found of the database and of the name, and what was written, is what a header that is
+-- set has.
 use Rattle.std.proofs.Common.{ℕ, List, refl, subst, inl, inr}
 use Rattle.heap_model.specs.Database.{IsDatabaseName, IsSpelled, database_in}
 use Rattle.heap_model.specs.Bytes.{overwritten}

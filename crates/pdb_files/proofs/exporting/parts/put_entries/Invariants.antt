@@ -4,7 +4,8 @@ use Rattle.pdb_format.specs.FileTexts.{entries_text, data_text}
 use Rattle.pdb_files.specs.FileParts.{content_of}
 use Rattle.pdb_files.proofs.exporting.parts.put_entries.Given as goal
 
--- the data of the entries that are left has room, and whatever is written from here on completes the entries
+-- the data of the entries that are left has room, and whatever is written from here on completes
+-- the entries
 abbrev pub invariant-loop-index : goal.invariant-loop-index
 invariant-loop-index g l = record {
   left : l.at + length (data_text (drop l.index (content_of l.store.bytes l.bytes).entries)) ≡ l.first + length (data_text (content_of l.store.bytes l.bytes).entries);

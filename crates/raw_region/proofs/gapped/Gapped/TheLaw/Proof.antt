@@ -1,4 +1,5 @@
--- A `&` to bytes with a gap is made where one to those before it is, and one to those after it. Assumes `Logic`.
+-- A `&` to bytes with a gap is made of one to those before it and one to those after it. Assumes
+-- `Logic`.
 use Rattle.std.proofs.Common.{ℕ, ◌+◌, List, length}
 use denote.Array.{Array, Array-row_laws}
 use denote.Builtin.{u8}

@@ -1,0 +1,3 @@
+pub mod Needs
+pub mod Blocks
+pub use Rattle.heap_model.specs.Files

@@ -1,0 +1,218 @@
+//! The commands `databases`, `export` and `import`, over files and folders.
+
+ghost use Rattle.std.specs.Prelude.{◌≡◌, ◌≢◌, ◌≤◌, ◌⊎◌, IfErr, length};
+
+use allowance::copied;
+use file_commands::say_count;
+use heap_model::Bytes;
+use image_commands::{STANDARD_OUTPUT, fail, path_in, read_file_or_input, read_image, write_file};
+use palm_text::Counted;
+use program_io::{Noted, OutputFile, Status, report_outcome, report_write_fault};
+use std::alloc::AllocError;
+use std::io::{ErrorKind, Input, Write};
+use std::rt::Files;
+use std::{fs, io, str};
+use store_commands::{
+    Ended, ExportedFile, ImageChoice, cmd_import_from, databases_region_from, export_files,
+};
+
+/// Runs `databases`.
+pub(crate) fn databases<R: Files + Print + Eprint + AllocGlobal>(rt: &R, image: &str) -> Status
+    ensures { result ≢ Status.BadWords }
+{
+    let image = match read_image(rt, image) {
+        Ok(image) => image,
+        Err(status) => return status,
+    };
+    let mut out = Counted::new(Noted::new(io::writer(rt)));
+    let status = databases_region_from(&rt.alloc(), image, &mut out);
+    reported(rt, status, out)
+}
+
+/// Runs `export`.
+pub(crate) fn export<R: Files + Print + Eprint + AllocGlobal>(
+    rt: &R,
+    image: &str,
+    folder: &str,
+    names: &[&str],
+) -> Status {
+    let Ok(words) = words_of(rt, names) else {
+        return fail(rt, Status::NoMemory);
+    };
+    let image = match read_image(rt, image) {
+        Ok(image) => image,
+        Err(status) => return status,
+    };
+    let mut out = Counted::new(Noted::new(io::writer(rt)));
+    let files = match export_files(&rt.alloc(), image, words.as_slice(), &mut out) {
+        Ok(files) => files,
+        Err(ended) => {
+            name_refused(rt, ended, names);
+            return reported(rt, ended.status, out);
+        }
+    };
+    match write_folder(rt, folder, files.as_slice()) {
+        Status::Done => {
+            let status = say_count(files.len(), &mut out);
+            reported(rt, status, out)
+        }
+        status => status,
+    }
+}
+
+/// Runs `import`. The path `-` stands for standard input.
+pub(crate) fn import<R: Files + Input + Print + Eprint + AllocGlobal>(
+    rt: &R,
+    path: &str,
+    choice: ImageChoice,
+    paths: &[&str],
+) -> Status {
+    let files = match read_each(rt, paths) {
+        Ok(files) => files,
+        Err(status) => return status,
+    };
+    let Ok(image_out) = OutputFile::new(rt, path) else {
+        return fail(rt, Status::NoMemory);
+    };
+    let mut image_out = Counted::new(Noted::new(image_out));
+    let mut out = Counted::new(Noted::new(io::writer(rt)));
+    let ended = cmd_import_from(
+        &rt.alloc(),
+        choice,
+        files.as_slice(),
+        &mut image_out,
+        &mut out,
+    );
+    let (image_out, image_fault) = image_out.into_inner().into_parts();
+    image_out.close();
+    let (_, fault) = out.into_inner().into_parts();
+    report_outcome(
+        rt,
+        ended.status,
+        &[(path, image_fault), (STANDARD_OUTPUT, fault)],
+    );
+    name_refused(rt, ended, paths);
+    ended.status
+}
+
+/// Says what broke a command off that writes to standard output alone, and returns it.
+fn reported<R: Eprint, W: Write + Drop>(rt: &R, status: Status, out: Counted<Noted<W>>) -> Status
+    ensures { result ≡ status }
+{
+    let (_, fault) = out.into_inner().into_parts();
+    report_outcome(rt, status, &[(STANDARD_OUTPUT, fault)]);
+    status
+}
+
+/// Says on standard error which of the words a command was refused for, if it was for one.
+fn name_refused<R: Eprint>(rt: &R, ended: Ended, words: &[&str]) {
+    if ended.status != Status::Refused {
+        return;
+    }
+    if let Some(index) = ended.word {
+        if let Some(word) = words.get(index) {
+            let _ = eprintln!(rt; "{word}: refused");
+        }
+    }
+}
+
+/// All of some files, in order. The path `-` stands for standard input.
+fn read_each<R: Files + Input + Eprint + AllocGlobal>(
+    rt: &R,
+    paths: &[&str],
+) -> Result<Vec<Bytes>, Status>
+    ensures { IfErr result (λ status. (status ≡ Status.ReadFault) ⊎ (status ≡ Status.NoMemory)) }
+{
+    let mut files = Vec::new(rt.alloc());
+    for path in paths {
+        let file = Bytes::of(read_file_or_input(rt, path)?);
+        if files.push(file).is_err() {
+            return Err(fail(rt, Status::NoMemory));
+        }
+    }
+    Ok(files)
+}
+
+/// Words as bytes.
+fn words_of<R: AllocGlobal>(rt: &R, words: &[&str]) -> Result<Vec<Bytes>, AllocError> {
+    let mut bytes = Vec::new(rt.alloc());
+    for word in words {
+        bytes.push(Bytes::of(copied(&rt.alloc(), word.as_bytes())?))?;
+    }
+    Ok(bytes)
+}
+
+/// Writes files into a folder, which is made if there is none. If one can't be written, or is there, those that were
+/// written are removed again.
+fn write_folder<R: Files + Eprint + AllocGlobal>(
+    rt: &R,
+    folder: &str,
+    files: &[ExportedFile],
+) -> Status
+    ensures { (result ≡ Status.Done) ⊎ (result ≡ Status.WriteFault) ⊎ (result ≡ Status.NoMemory) }
+{
+    let is_made = match fs::create_dir(rt, folder) {
+        Ok(()) => true,
+        Err(reason) if reason.kind() == ErrorKind::AlreadyExists => false,
+        Err(reason) => {
+            report_write_fault(rt, folder, reason);
+            return Status::WriteFault;
+        }
+    };
+    let (status, count) = write_each(rt, folder, files);
+    if status != Status::Done {
+        remove_files(rt, folder, &files[..count]);
+        if is_made {
+            let _ = fs::remove_dir(rt, folder);
+        }
+    }
+    status
+}
+
+/// Writes files into a folder, up to the first that can't be written, and returns how many were.
+fn write_each<R: Files + Eprint + AllocGlobal>(
+    rt: &R,
+    folder: &str,
+    files: &[ExportedFile],
+) -> (Status, usize)
+    ensures statuses { (result.0 ≡ Status.Done) ⊎ (result.0 ≡ Status.WriteFault)
+        ⊎ (result.0 ≡ Status.NoMemory) }
+    ensures count { result.1 ≤ length files.now }
+{
+    for index in 0..files.len() {
+        let status = write_one(rt, folder, &files[index]);
+        if status != Status::Done {
+            return (status, index);
+        }
+    }
+    (Status::Done, files.len())
+}
+
+/// Writes a file into a folder, as a whole or not at all, unless the folder has something of that name. If that fails,
+/// says why.
+fn write_one<R: Files + Eprint + AllocGlobal>(rt: &R, folder: &str, file: &ExportedFile) -> Status
+    ensures { (result ≡ Status.Done) ⊎ (result ≡ Status.WriteFault) ⊎ (result ≡ Status.NoMemory) }
+{
+    let Ok(path) = path_in(rt.alloc(), folder, name_of(file)) else {
+        return fail(rt, Status::NoMemory);
+    };
+    if fs::symlink_metadata(rt, path.as_str()).is_ok() {
+        report_write_fault(rt, path.as_str(), io::Error::from(ErrorKind::AlreadyExists));
+        return Status::WriteFault;
+    }
+    write_file(rt, path.as_str(), file.bytes.as_slice())
+}
+
+/// The name of a file, which is ASCII.
+fn name_of(file: &ExportedFile) -> &str {
+    str::from_utf8(file.name.as_slice()).unwrap_or("")
+}
+
+/// Removes files from a folder.
+fn remove_files<R: Files + AllocGlobal>(rt: &R, folder: &str, files: &[ExportedFile]) {
+    for file in files {
+        if let Ok(path) = path_in(rt.alloc(), folder, name_of(file)) {
+            let _ = fs::remove_file(rt, path.as_str());
+        }
+    }
+}

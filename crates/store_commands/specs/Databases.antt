@@ -1,0 +1,72 @@
+-- What `databases` prints. Where a definition ends in a `Bool`, it says whether all was written and flushed.
+use Rattle.std.specs.Prelude.{◌≡◌, ◌≢◌, ◌⊎◌, ◌++◌, ℕ, Bool, true, false, List, length, Option, codes, decimal}
+use Rattle.std.specs.List.{flat_map}
+use Rattle.hex.specs.Hex.{encode_lower}
+use Rattle.heap_model.specs.Bytes.{u16_bytes, u32_bytes}
+use Rattle.heap_model.specs.Database.{has_resources}
+use Rattle.heap_model.specs.DatabaseSteps.{info_of}
+use Rattle.heap_model.specs.Files.{file_of}
+use Rattle.heap_model.specs.Store.{StoredDatabase, Store, Accepted, content, store_of}
+use Rattle.heap_model.specs.declared.database.DbInfo.{DbInfo}
+use Rattle.palm_text.specs.Pieces.{spelled}
+use Rattle.palm_text.specs.Counted.{Writing}
+use Rattle.palm_text.specs.Output.{Puts}
+use Rattle.program_io.specs.FaultLines.{PutsBad}
+use Rattle.program_io.specs.declared.status.Status.{Status}
+use Rattle.program_io.specs.declared.status.Status.TheVariants.{Done, Refused, BadWords, ReadFault, WriteFault, NoMemory}
+use Rattle.store_commands.specs.declared.databases.Row.{Row}
+
+-- which entries a database has
+abbrev pub kind_word : Bool → List ℕ
+kind_word true = codes "resources"
+kind_word false = codes "records"
+
+-- the words of a line but the last
+unfoldable pub info_words : DbInfo → List ℕ
+info_words info =
+    spelled info.name ++ (codes " " ++ (kind_word (has_resources info.attributes)
+    ++ (codes " " ++ (spelled (u32_bytes info.kind)
+    ++ (codes " " ++ (spelled (u32_bytes info.creator)
+    ++ (codes " " ++ (encode_lower (u16_bytes info.attributes)
+    ++ (codes " " ++ (decimal info.entry_count ++ codes " "))))))))))
+
+-- the last word
+unfoldable pub size_end : ℕ → List ℕ
+size_end size = decimal size ++ codes "\n"
+
+-- The line of a database: its name, which entries it has, its type and its creator as scripts spell them, its attributes
+-- in hex, how many entries there are, and how many bytes its file has.
+abbrev pub info_line : DbInfo → ℕ → List ℕ
+info_line info size = info_words info ++ size_end size
+
+abbrev pub database_line : Store → StoredDatabase → List ℕ
+database_line store one = info_line (info_of one.database) (length (file_of (content store.map one.database)))
+
+abbrev pub database_lines : Store → List StoredDatabase → List ℕ
+database_lines store stored = flat_map (database_line store) stored
+
+-- how many databases there are
+unfoldable pub count_line : ℕ → List ℕ
+count_line count = codes "ok " ++ (decimal count ++ codes "\n")
+
+-- that line, and a line for each database
+abbrev pub databases_text : Store → List ℕ
+databases_text store = count_line (length store.databases) ++ database_lines store store.databases
+
+-- the same by rows
+abbrev pub row_line : Row → List ℕ
+row_line row = info_line row.info row.size
+
+abbrev pub rows_text : List Row → List ℕ
+rows_text rows = count_line (length rows) ++ flat_map row_line rows
+
+-- what `databases` wrote of an image, by the status with which it ends
+pub record EndsDatabases {V : Type 0} (image : List ℕ) (contents : V → Option (List ℕ)) (old new : Writing V) (status : Status) : Type 0 where
+  pub done : status ≡ Done → Puts contents old new (databases_text (store_of image)) true
+  pub accepted : status ≡ Done → Accepted image
+  pub refused : status ≡ Refused → Accepted image → ⊥
+  pub fault : status ≡ Refused → PutsBad contents old new true
+  pub no_memory : status ≡ NoMemory → new ≡ old
+  pub write_fault : status ≡ WriteFault → (Accepted image × Puts contents old new (databases_text (store_of image)) false) ⊎ ((Accepted image → ⊥) × PutsBad contents old new false)
+  pub good_words : status ≢ BadWords
+  pub reads_nothing : status ≢ ReadFault

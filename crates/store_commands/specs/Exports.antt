@@ -1,0 +1,79 @@
+-- What `export` makes of an image. Where a definition ends in a `Bool`, it says whether all was written and flushed.
+use Rattle.std.specs.Prelude.{◌≡◌, ◌≢◌, ◌<◌, ◌⊎◌, ℕ, Bool, true, false, List, length, map, [], take, slice_index_or, Option, Some, None, All}
+use Rattle.std.specs.List.{AllZip}
+use Rattle.heap_model.specs.DatabaseFields.{name_size}
+use Rattle.heap_model.specs.Database.{has_resources}
+use Rattle.heap_model.specs.Files.{file_of}
+use Rattle.heap_model.specs.Store.{StoredDatabase, Store, Accepted, content, names_of, store_of}
+use Rattle.heap_model.specs.StoreWords.{with_number}
+use Rattle.heap_model.specs.declared.refusal.Refusal.TheVariants.{NoSuchDatabase}
+use Rattle.palm_text.specs.Counted.{Writing}
+use Rattle.palm_text.specs.Output.{Puts}
+use Rattle.program_io.specs.FaultLines.{PutsBad}
+use Rattle.program_io.specs.declared.status.Status.{Status}
+use Rattle.program_io.specs.declared.status.Status.TheVariants.{Done, Refused, BadWords, ReadFault, WriteFault, NoMemory}
+use Rattle.script_calls.specs.Lines.{refusal_line}
+use Rattle.store_commands.specs.FileNames.{file_name}
+use Rattle.store_commands.specs.declared.exports.ExportedFile.{ExportedFile}
+use Rattle.store_commands.specs.declared.exports.Ended.{Ended}
+use Rattle.store_commands.specs.declared.exports.NotNamed.{NotNamed}
+use Rattle.store_commands.specs.declared.exports.NotNamed.TheVariants.{Missing, OutOfMemory}
+
+-- The file of a database: its name, and the bytes that the call `export` answers.
+abbrev pub file_for : Store → StoredDatabase → ExportedFile
+file_for store one = record {
+  name = file_name one.database.header.name (has_resources one.database.header.attributes);
+  bytes = file_of (content store.map one.database);
+}
+
+-- A word of the command line names a database by its bytes. A name has at most 31 bytes, and of a word 32 are looked at.
+abbrev pub meant_by : List ℕ → List ℕ
+meant_by word = take name_size word
+
+-- this is the file of the database that a word names
+pub record IsFileNamed (store : Store) (word : List ℕ) (file : ExportedFile) : Type 0 where
+  pub one : StoredDatabase
+  pub there : with_number store one.db ≡ Some one
+  pub named : one.database.header.name ≡ meant_by word
+  pub is : file ≡ file_for store one
+
+-- the store has no database of this name
+abbrev pub IsMissing : Store → List ℕ → Type 0
+IsMissing store word = All (λ other. other ≢ meant_by word) (names_of store.databases)
+
+-- These are the files of all databases, in their order, if no word names one; or else those that the words name.
+abbrev pub AreExported : Store → List (List ℕ) → List ExportedFile → Type 0
+AreExported store words files =
+    ((length words ≡ 0) × (files ≡ map (file_for store) store.databases))
+    ⊎ ((0 < length words) × AllZip (IsFileNamed store) words files)
+
+-- why there are no files for some words; nothing is said of memory
+abbrev pub IsNotNamed : Store → List (List ℕ) → NotNamed → Type 0
+IsNotNamed store words (Missing index) = (index < length words) × IsMissing store (slice_index_or words index [])
+IsNotNamed store words OutOfMemory = Unit {0}
+
+-- A word names no database, and the line for that refusal was printed.
+pub record PutsMissing {V : Type 0} (image : List ℕ) (words : List (List ℕ)) (contents : V → Option (List ℕ)) (old new : Writing V) (word : Option ℕ) (ok : Bool) : Type 0 where
+  pub accepted : Accepted image
+  pub index : ℕ
+  pub inside : index < length words
+  pub which : word ≡ Some index
+  pub missing : IsMissing (store_of image) (slice_index_or words index [])
+  pub told : Puts contents old new (refusal_line NoSuchDatabase) ok
+
+abbrev pub PutsNotExported : {V : Type 0} → List ℕ → List (List ℕ) → (V → Option (List ℕ)) → Writing V → Writing V → Option ℕ → Bool → Type 0
+PutsNotExported image words contents old new word ok =
+    ((Accepted image → ⊥) × (word ≡ None) × PutsBad contents old new ok)
+    ⊎ PutsMissing image words contents old new word ok
+
+-- why no files were made, by the status, and what was written then
+abbrev pub NotExportedBy : {V : Type 0} → List ℕ → List (List ℕ) → (V → Option (List ℕ)) → Writing V → Writing V → Option ℕ → Status → Type 0
+NotExportedBy image words contents old new word Refused = PutsNotExported image words contents old new word true
+NotExportedBy image words contents old new word WriteFault = PutsNotExported image words contents old new word false
+NotExportedBy image words contents old new word NoMemory = new ≡ old
+NotExportedBy image words contents old new word Done = ⊥
+NotExportedBy image words contents old new word BadWords = ⊥
+NotExportedBy image words contents old new word ReadFault = ⊥
+
+abbrev pub NotExported : {V : Type 0} → List ℕ → List (List ℕ) → (V → Option (List ℕ)) → Writing V → Writing V → Ended → Type 0
+NotExported image words contents old new ended = NotExportedBy image words contents old new ended.word ended.status

@@ -1,0 +1,5 @@
+pub mod Databases
+pub mod Exports
+pub mod FileNames
+pub mod Imports
+pub use Rattle.heap_model.specs.Store

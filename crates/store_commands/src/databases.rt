@@ -1,0 +1,215 @@
+//! The command `databases`: a line for each database of an image.
+
+ghost use Rattle.std.specs.Prelude.{◌≡◌, IfOk, OnErr, None, is_ok, length};
+ghost use Rattle.std.specs.List.{flat_map};
+ghost use Rattle.heap_model.specs.Store.{database_under, store_of};
+ghost use Rattle.palm_store.specs.Databases.{HasNumber};
+ghost use Rattle.palm_text.specs.Counted.{Writes};
+ghost use Rattle.palm_text.specs.Output.{Puts};
+ghost use Rattle.store_commands.specs.Databases.{EndsDatabases, count_line, database_line, database_lines, info_words, kind_word, row_line, rows_text, size_end};
+ghost use Rattle.heap_model.specs.Database as databases;
+ghost use Rattle.allowance.specs.Refusals.{GrowthRefused};
+
+use crate::images::{count_of, file_of_database, flushed, info_of, nth_of, opened};
+use allowance::{Allowance, push};
+use db_format::DbAttrs;
+use heap_model::{Db, DbInfo};
+use itoa::Buffer;
+use palm_store::Store;
+use palm_text::{Counted, Piece, WriteFault, put_pieces};
+use program_io::Status;
+use raw_region::Region;
+use std::alloc::{AllocError, Global};
+use std::io::Write;
+
+/// Checks an image, and prints a line for each of its databases, or `bad` and the first fault.
+pub fn cmd_databases<V: Write>(alloc: Global, image: &[u8], out: &mut Counted<V>) -> Status
+    ensures ends { EndsDatabases image.now V.contents out.old out.new result }
+    ensures short { result ≡ Status.NoMemory → GrowthRefused }
+{
+    cmd_databases_from(&alloc, image, out)
+}
+
+/// `cmd_databases`, where each growth asks for a grant.
+pub fn cmd_databases_from<A: Allowance, V: Write>(
+    memory: &A,
+    image: &[u8],
+    out: &mut Counted<V>,
+) -> Status
+    ensures ends { EndsDatabases image.now V.contents out.old out.new result }
+    ensures short { result ≡ Status.NoMemory → A.is_short memory.now }
+{
+    match Region::copied_from(memory, image) {
+        Ok(region) => databases_region_from(memory, region, out),
+        Err(_) => Status::NoMemory,
+    }
+}
+
+/// `cmd_databases_from`, of an image that lies in a region, of which nothing may be lent.
+pub fn databases_region_from<A: Allowance, V: Write>(
+    memory: &A,
+    region: Region,
+    out: &mut Counted<V>,
+) -> Status
+    requires whole { region.lent ≡ None }
+    ensures ends { EndsDatabases region.bytes V.contents out.old out.new result }
+    ensures short { result ≡ Status.NoMemory → A.is_short memory.now }
+{
+    let store = match opened(memory, region, out) {
+        Ok(store) => store,
+        Err(status) => return status,
+    };
+    let Ok(rows) = rows_of(memory, &store) else {
+        return Status::NoMemory;
+    };
+    match put_flushed(out, rows.as_slice()) {
+        Ok(()) => Status::Done,
+        Err(_) => Status::WriteFault,
+    }
+}
+
+/// What is printed of a database: what its header says, and how many bytes its file has.
+#[derive(Drop)]
+pub(crate) struct Row {
+    pub(crate) info: DbInfo,
+    pub(crate) size: usize,
+}
+
+/// What is printed of a database. The only error is that an allocation failed.
+fn row_of<A: Allowance>(memory: &A, store: &Store, db: Db) -> Result<Row, AllocError>
+    requires whole { store.now.lent ≡ None }
+    requires there { HasNumber store.now.bytes db.0 }
+    ensures row { IfOk result (λ row. row_line row
+        ≡ database_line (store_of store.now.bytes) (database_under store.now.bytes db.0)) }
+    ensures short { OnErr result (A.is_short memory.now) }
+{
+    let info = info_of(store, db);
+    let file = file_of_database(memory, store, db)?;
+    Ok(Row {
+        info,
+        size: file.as_slice().len(),
+    })
+}
+
+/// What is printed of all databases, in their order. The only error is that an allocation failed.
+fn rows_of<A: Allowance>(memory: &A, store: &Store) -> Result<Vec<Row>, AllocError>
+    requires { store.now.lent ≡ None }
+    ensures count { IfOk result (λ rows. length rows.items
+        ≡ length (store_of store.now.bytes).databases) }
+    ensures lines { IfOk result (λ rows. flat_map row_line rows.items
+        ≡ database_lines (store_of store.now.bytes) (store_of store.now.bytes).databases) }
+    ensures short { OnErr result (A.is_short memory.now) }
+{
+    let mut rows = Vec::new(memory.allocator());
+    for index in 0..count_of(store) {
+        let row = row_of(memory, store, nth_of(store, index))?;
+        push(memory, &mut rows, row)?;
+    }
+    Ok(rows)
+}
+
+/// Which entries a database has.
+fn kind_of(attributes: u16) -> &'static [u8]
+    ensures { result.now ≡ kind_word (databases.has_resources attributes) }
+{
+    if DbAttrs(attributes).has_resources() {
+        b"resources"
+    } else {
+        b"records"
+    }
+}
+
+/// Writes the words of a database's line, but the last.
+#[tactic(auto, unfolding(crate::specs::Databases::info_words))]
+fn put_info<W: Write>(out: &mut Counted<W>, info: &DbInfo) -> Result<(), WriteFault>
+    ensures { Writes W.contents out.old out.new (info_words info.now) (is_ok result) }
+{
+    put_pieces(
+        out,
+        &[
+            Piece::Spelled(info.name.as_slice()),
+            Piece::Text(b" "),
+            Piece::Text(kind_of(info.attributes)),
+            Piece::Text(b" "),
+            Piece::FourBytes(info.kind),
+            Piece::Text(b" "),
+            Piece::FourBytes(info.creator),
+            Piece::Text(b" "),
+            Piece::Hex16(info.attributes),
+            Piece::Text(b" "),
+            Piece::Number(u32::from(info.entry_count)),
+            Piece::Text(b" "),
+        ],
+    )
+}
+
+/// Writes the last word of a database's line.
+#[tactic(auto, unfolding(crate::specs::Databases::size_end))]
+fn put_size<W: Write>(out: &mut Counted<W>, size: usize) -> Result<(), WriteFault>
+    ensures { Writes W.contents out.old out.new (size_end size) (is_ok result) }
+{
+    let mut digits = Buffer::new();
+    put_pieces(
+        out,
+        &[
+            Piece::Text(digits.format(size).as_bytes()),
+            Piece::Text(b"\n"),
+        ],
+    )
+}
+
+/// Writes the line of a database.
+#[tactic(auto, using(palm_text::proofs::Parts::then, palm_text::proofs::Parts::stops))]
+fn put_row<W: Write>(out: &mut Counted<W>, row: &Row) -> Result<(), WriteFault>
+    ensures { Writes W.contents out.old out.new (row_line row.now) (is_ok result) }
+{
+    put_info(out, &row.info)?;
+    put_size(out, row.size)
+}
+
+/// Writes the lines of databases.
+fn put_rows<W: Write>(out: &mut Counted<W>, rows: &[Row]) -> Result<(), WriteFault>
+    ensures { Writes W.contents out.old out.new (flat_map row_line rows.now) (is_ok result) }
+{
+    for index in 0..rows.len() {
+        match put_row(out, &rows[index]) {
+            Ok(()) => {}
+            Err(fault) => return Err(fault),
+        }
+    }
+    Ok(())
+}
+
+/// Writes how many databases there are.
+#[tactic(auto, unfolding(crate::specs::Databases::count_line))]
+fn put_count<W: Write>(out: &mut Counted<W>, count: usize) -> Result<(), WriteFault>
+    ensures { Writes W.contents out.old out.new (count_line count) (is_ok result) }
+{
+    let mut digits = Buffer::new();
+    put_pieces(
+        out,
+        &[
+            Piece::Text(b"ok "),
+            Piece::Text(digits.format(count).as_bytes()),
+            Piece::Text(b"\n"),
+        ],
+    )
+}
+
+/// Writes how many databases there are, and their lines.
+#[tactic(auto, using(palm_text::proofs::Parts::then, palm_text::proofs::Parts::stops))]
+fn put_lines<W: Write>(out: &mut Counted<W>, rows: &[Row]) -> Result<(), WriteFault>
+    ensures { Writes W.contents out.old out.new (rows_text rows.now) (is_ok result) }
+{
+    put_count(out, rows.len())?;
+    put_rows(out, rows)
+}
+
+/// The same, and flushes.
+#[tactic(auto, using(palm_text::proofs::Parts::then_flush))]
+fn put_flushed<W: Write>(out: &mut Counted<W>, rows: &[Row]) -> Result<(), WriteFault>
+    ensures { Puts W.contents out.old out.new (rows_text rows.now) (is_ok result) }
+{
+    put_lines(out, rows)?;
+    flushed(out)
+}

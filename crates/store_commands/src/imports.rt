@@ -1,0 +1,366 @@
+//! The command `import`: an image that is just large enough for some files, with their databases in it.
+
+ghost use Rattle.std.specs.Prelude.{◌≡◌, ◌≢◌, ◌≤◌, ◌⊎◌, ℕ, List, Err, IfOk, IfErr, OnOk, None, IfSome, IfNone, All, is_ok, min, replicate, codes, true, false};
+ghost use Rattle.std.specs.List.{concat};
+ghost use Rattle.allowance.specs.Refusals.{GrowthRefused};
+ghost use Rattle.heap_model.specs.Files.{HasNoFault};
+ghost use Rattle.heap_model.specs.Store.{Accepted};
+ghost use Rattle.chunk_format.specs.Blank.{IsRegionSize};
+ghost use Rattle.file_needs.specs.Needs.{enough, full_size};
+ghost use Rattle.palm_text.specs.Counted.{Writes};
+ghost use Rattle.palm_text.specs.Output.{Puts};
+ghost use Rattle.script_calls.specs.Lines.{refusal_line};
+ghost use Rattle.store_commands.specs.Imports.{EndsImport, EndsRefused, ImportsAll, IsChosen, IsFilled, IsNew, IsNoImage, IsNotImported, IsStopped, IsWhy, PutsFilled, image_line, import_text};
+
+use crate::exports::Ended;
+use crate::images::{flushed, put_store, say_refusal};
+use allowance::Allowance;
+use chunk_format::{BlankFault, blank_from, is_image_size};
+use file_needs::{ENOUGH, image_size, image_slots, needs_of_files};
+use heap_model::{Bytes, Refusal};
+use itoa::Buffer;
+use palm_store::Store;
+use palm_text::{Counted, Piece, WriteFault, put_all, put_pieces};
+use pdb_files::import_from;
+use pdb_format::check_file;
+use program_io::{Status, say, say_bad};
+use std::alloc::Global;
+use std::io::Write;
+
+/// The size in bytes and the slot count that are chosen for a new image. What isn't chosen is the least that the files
+/// need.
+#[derive(Clone, Copy, Debug, PartialEq, Eq)]
+pub struct ImageChoice {
+    pub size: Option<u32>,
+    pub slots: Option<u16>,
+}
+
+/// The size in bytes and the slot count of a new image.
+#[derive(Clone, Copy)]
+pub(crate) struct NewImage {
+    pub(crate) size: u32,
+    pub(crate) slots: u16,
+}
+
+/// Why there is no image with the databases of some files.
+#[derive(Clone, Copy)]
+pub(crate) enum NotImported {
+    /// The file of this index is refused.
+    RefusedFile(usize, Refusal),
+    /// The files need more bytes or slots than an image may have.
+    TooLarge,
+    /// No image may have the size.
+    BadSize,
+    /// No image of the size may have so many slots.
+    BadSlotCount,
+    /// An allocation failed.
+    OutOfMemory,
+}
+
+/// Makes an image, imports files into it in their order, and writes it. Then prints `ok` with its size and its slot count,
+/// and `ok` for each file.
+///
+/// If a file is refused, prints its reply line, and writes no image. A file with a fault is refused before the others are
+/// imported. If the files need more than an image may have, prints `bad TooLarge`. If no image has the size or the slots
+/// that are chosen, prints `bad` and the fault.
+pub fn cmd_import<W: Write, V: Write>(
+    alloc: Global,
+    choice: ImageChoice,
+    files: &[Bytes],
+    image_out: &mut Counted<W>,
+    out: &mut Counted<V>,
+) -> Ended
+    ensures ends { EndsImport choice files.now W.contents image_out.old image_out.new
+        V.contents out.old out.new result }
+    ensures short { result.status ≡ Status.NoMemory → GrowthRefused }
+{
+    cmd_import_from(&alloc, choice, files, image_out, out)
+}
+
+/// `cmd_import`, where each growth asks for a grant.
+pub fn cmd_import_from<A: Allowance, W: Write, V: Write>(
+    memory: &A,
+    choice: ImageChoice,
+    files: &[Bytes],
+    image_out: &mut Counted<W>,
+    out: &mut Counted<V>,
+) -> Ended
+    ensures ends { EndsImport choice files.now W.contents image_out.old image_out.new
+        V.contents out.old out.new result }
+    ensures short { result.status ≡ Status.NoMemory → A.is_short memory.now }
+{
+    match filled_store(memory, choice, files) {
+        Ok((image, store)) => put_filled(image, files.len(), &store, image_out, out),
+        Err(why) => say_why(memory, why, out),
+    }
+}
+
+/// A new image with the databases of some files.
+fn filled_store<A: Allowance>(
+    memory: &A,
+    choice: ImageChoice,
+    files: &[Bytes],
+) -> Result<(NewImage, Store), NotImported>
+    ensures filled { IfOk result (λ made. IsFilled choice files.now made.0 made.1) }
+    ensures whole { IfOk result (λ made. made.1.lent ≡ None) }
+    ensures why { IfErr result (IsWhy choice files.now) }
+    ensures short { result ≡ Err NotImported.OutOfMemory → A.is_short memory.now }
+{
+    match check_files(files) {
+        Ok(()) => filled_with(memory, choice, files),
+        Err(why) => Err(why),
+    }
+}
+
+/// A new image with the databases of files that have no fault.
+fn filled_with<A: Allowance>(
+    memory: &A,
+    choice: ImageChoice,
+    files: &[Bytes],
+) -> Result<(NewImage, Store), NotImported>
+    requires { All HasNoFault files.now }
+    ensures filled { IfOk result (λ made. IsFilled choice files.now made.0 made.1) }
+    ensures whole { IfOk result (λ made. made.1.lent ≡ None) }
+    ensures why { IfErr result (IsWhy choice files.now) }
+    ensures short { result ≡ Err NotImported.OutOfMemory → A.is_short memory.now }
+{
+    let image = chosen(memory, choice, files)?;
+    let mut store = new_store(memory, image)?;
+    match import_all(memory, &mut store, files) {
+        Ok(()) => Ok((image, store)),
+        Err(why) => Err(why),
+    }
+}
+
+/// Looks for the first file with a fault.
+fn check_files(files: &[Bytes]) -> Result<(), NotImported>
+    ensures good { OnOk result (All HasNoFault files.now) }
+    ensures why { (choice : ImageChoice) → IfErr result (IsWhy choice files.now) }
+    ensures takes_no_memory { result ≢ Err NotImported.OutOfMemory }
+{
+    for index in 0..files.len() {
+        if let Err(fault) = check_file(files[index].as_slice()) {
+            return Err(NotImported::RefusedFile(index, Refusal::BadFile(fault)));
+        }
+    }
+    Ok(())
+}
+
+/// The size and the slot count of the image for some files.
+fn chosen<A: Allowance>(
+    memory: &A,
+    choice: ImageChoice,
+    files: &[Bytes],
+) -> Result<NewImage, NotImported>
+    requires { All HasNoFault files.now }
+    ensures image { IfOk result (IsChosen choice files.now) }
+    ensures why { IfErr result (IsWhy choice files.now) }
+    ensures short { result ≡ Err NotImported.OutOfMemory → A.is_short memory.now }
+{
+    let Ok(needs) = needs_of_files(memory, files) else {
+        return Err(NotImported::OutOfMemory);
+    };
+    let slots = match choice.slots {
+        Some(slots) => u64::from(slots),
+        None => image_slots(needs.slots),
+    };
+    if slots > u64::from(u16::MAX) {
+        return Err(NotImported::TooLarge);
+    }
+    let size = match choice.size {
+        Some(size) => Some(size),
+        None => fitting_size(slots as u16, files.len(), needs.bytes),
+    };
+    match size {
+        Some(size) => Ok(NewImage {
+            size,
+            slots: slots as u16,
+        }),
+        None => Err(NotImported::TooLarge),
+    }
+}
+
+/// The size of an image that is full with so many databases, whose chunks take so many bytes, if an image may have it.
+fn fitting_size(slots: u16, databases: usize, bytes: u64) -> Option<u32>
+    requires { bytes ≤ enough }
+    ensures fits { (all : ℕ) → bytes ≡ min enough all
+        → IfSome result (λ size. size ≡ full_size slots databases all) }
+    ensures none { (all : ℕ) → bytes ≡ min enough all
+        → IfNone result (IsRegionSize (full_size slots databases all) → ⊥) }
+{
+    let size = image_size(u64::from(slots), (databases as u64).min(ENOUGH), bytes);
+    if is_image_size(size as usize) {
+        Some(size as u32)
+    } else {
+        None
+    }
+}
+
+/// The store of a new image.
+fn new_store<A: Allowance>(memory: &A, image: NewImage) -> Result<Store, NotImported>
+    ensures made { IfOk result (IsNew image) }
+    ensures whole { IfOk result (λ store. store.lent ≡ None) }
+    ensures accepted { IfOk result (λ store. Accepted store.bytes) }
+    ensures why { IfErr result (IsNoImage image) }
+    ensures short { result ≡ Err NotImported.OutOfMemory → A.is_short memory.now }
+{
+    let region = match blank_from(memory, image.size, image.slots) {
+        Ok(region) => region,
+        Err(BlankFault::BadSize) => return Err(NotImported::BadSize),
+        Err(BlankFault::BadSlotCount) => return Err(NotImported::BadSlotCount),
+        Err(BlankFault::OutOfMemory) => return Err(NotImported::OutOfMemory),
+    };
+    match Store::check_from(memory, region) {
+        Ok(store) => Ok(store),
+        Err(_) => Err(NotImported::OutOfMemory),
+    }
+}
+
+/// Imports files into a store, in their order, up to the first that is refused.
+fn import_all<A: Allowance>(
+    memory: &A,
+    store: &mut Store,
+    files: &[Bytes],
+) -> Result<(), NotImported>
+    requires { Accepted store.old.bytes }
+    ensures done { OnOk result (ImportsAll store.old files.now store.new) }
+    ensures accepted { OnOk result (Accepted store.new.bytes) }
+    ensures why { IfErr result (IsStopped store.old files.now) }
+    ensures lent { store.new.lent ≡ store.old.lent }
+    ensures short { result ≡ Err NotImported.OutOfMemory → A.is_short memory.now }
+{
+    for index in 0..files.len() {
+        match import_from(memory, store, files[index].as_slice()) {
+            Ok(_) => {}
+            Err(refusal) => return Err(not_imported(index, refusal)),
+        }
+    }
+    Ok(())
+}
+
+/// Why the file of an index isn't imported, if its import is refused.
+fn not_imported(index: usize, refusal: Refusal) -> NotImported
+    ensures { IsNotImported index refusal result }
+{
+    match refusal {
+        Refusal::OutOfMemory => NotImported::OutOfMemory,
+        _ => NotImported::RefusedFile(index, refusal),
+    }
+}
+
+/// Prints why there is no image.
+fn say_why<A: Allowance, V: Write>(memory: &A, why: NotImported, out: &mut Counted<V>) -> Ended
+    ensures ends { (choice : ImageChoice) (files : List (List ℕ)) → IsWhy choice files why
+        → EndsRefused choice files V.contents out.old out.new result }
+    ensures short { result.status ≡ Status.NoMemory
+        → (why ≡ NotImported.OutOfMemory) ⊎ A.is_short memory.now }
+{
+    let (status, word) = match why {
+        NotImported::RefusedFile(index, refusal) => (say_refused(refusal, out), Some(index)),
+        NotImported::TooLarge => (say(b"bad TooLarge\n", Status::Refused, out), None),
+        NotImported::BadSize => (
+            say_bad(memory, BlankFault::BadSize, Status::BadWords, out),
+            None,
+        ),
+        NotImported::BadSlotCount => (
+            say_bad(memory, BlankFault::BadSlotCount, Status::BadWords, out),
+            None,
+        ),
+        NotImported::OutOfMemory => (Status::NoMemory, None),
+    };
+    Ended { status, word }
+}
+
+/// Prints the reply line for a file that is refused.
+fn say_refused<V: Write>(refusal: Refusal, out: &mut Counted<V>) -> Status
+    ensures statuses { (result ≡ Status.Refused) ⊎ (result ≡ Status.WriteFault) }
+    ensures said { result ≡ Status.Refused
+        → Puts V.contents out.old out.new (refusal_line refusal) true }
+    ensures fault { result ≡ Status.WriteFault
+        → Puts V.contents out.old out.new (refusal_line refusal) false }
+{
+    match say_refusal(out, refusal) {
+        Ok(()) => Status::Refused,
+        Err(_) => Status::WriteFault,
+    }
+}
+
+/// Writes an image into which so many files were imported, and then prints its lines.
+fn put_filled<W: Write, V: Write>(
+    image: NewImage,
+    count: usize,
+    store: &Store,
+    image_out: &mut Counted<W>,
+    out: &mut Counted<V>,
+) -> Ended
+    requires { store.now.lent ≡ None }
+    ensures ends { PutsFilled image count store.now.bytes W.contents image_out.old image_out.new
+        V.contents out.old out.new result.status }
+    ensures word { result.word ≡ None }
+{
+    let status = match put_store(image_out, store) {
+        Ok(()) => match put_flushed(out, image, count) {
+            Ok(()) => Status::Done,
+            Err(_) => Status::WriteFault,
+        },
+        Err(_) => Status::WriteFault,
+    };
+    Ended { status, word: None }
+}
+
+/// Writes the size and the slot count of an image.
+#[tactic(auto, unfolding(crate::specs::Imports::image_line))]
+fn put_image_line<V: Write>(out: &mut Counted<V>, image: NewImage) -> Result<(), WriteFault>
+    ensures { Writes V.contents out.old out.new (image_line image) (is_ok result) }
+{
+    put_pieces(
+        out,
+        &[
+            Piece::Text(b"ok "),
+            Piece::Number(image.size),
+            Piece::Text(b" "),
+            Piece::Number(u32::from(image.slots)),
+            Piece::Text(b"\n"),
+        ],
+    )
+}
+
+/// Writes `ok` for each of so many files.
+fn put_replies<V: Write>(out: &mut Counted<V>, count: usize) -> Result<(), WriteFault>
+    ensures { Writes V.contents out.old out.new (concat (replicate count (codes "ok\n")))
+        (is_ok result) }
+{
+    for done in 0..count {
+        match put_all(out, b"ok\n") {
+            Ok(()) => {}
+            Err(fault) => return Err(fault),
+        }
+    }
+    Ok(())
+}
+
+/// Writes the lines of an image into which so many files were imported.
+#[tactic(auto, using(palm_text::proofs::Parts::then, palm_text::proofs::Parts::stops))]
+fn put_lines<V: Write>(
+    out: &mut Counted<V>,
+    image: NewImage,
+    count: usize,
+) -> Result<(), WriteFault>
+    ensures { Writes V.contents out.old out.new (import_text image count) (is_ok result) }
+{
+    put_image_line(out, image)?;
+    put_replies(out, count)
+}
+
+/// The same, and flushes.
+#[tactic(auto, using(palm_text::proofs::Parts::then_flush))]
+fn put_flushed<V: Write>(
+    out: &mut Counted<V>,
+    image: NewImage,
+    count: usize,
+) -> Result<(), WriteFault>
+    ensures { Puts V.contents out.old out.new (import_text image count) (is_ok result) }
+{
+    put_lines(out, image, count)?;
+    flushed(out)
+}
