@@ -4,7 +4,7 @@ use Rattle.std.specs.Prelude.{◌≡◌, ◌≢◌, ◌≤◌, ◌<◌, ◌+◌,
 use Rattle.std.specs.List.{insert, remove}
 use Rattle.heap_model.specs.Memory.{Memory}
 use Rattle.heap_model.specs.Chunk.{fixed_lock, data_owner}
-use Rattle.heap_model.specs.Slots.{slots_of}
+use Rattle.heap_model.specs.Slots.{tables_of}
 use Rattle.heap_model.specs.Heap.{directory_of}
 use Rattle.heap_model.specs.Meaning.{LiveChunk, ChunkMap}
 use Rattle.heap_model.specs.Reading.{held}
@@ -280,13 +280,13 @@ abbrev pub MakesNone : List ℕ → List ℕ → Type 0
 MakesNone old new = (name : ℕ) → IsSome (held new name) → IsSome (held old name)
 
 -- The new image is accepted and means this store. It is as long as the old one, and has the same
--- slots and the same directory word. Each chunk that stays has as many locks as before. If it is
--- locked or fixed, it has not moved.
+-- tables, so the same slots, and the same directory word. Each chunk that stays has as many locks as
+-- before. If it is locked or fixed, it has not moved.
 pub record LeavesStore (old new : List ℕ) (store : Store) : Type 0 where
   pub accepted : Accepted new
   pub same : SameStore (store_of new) store
   pub len : length new ≡ length old
-  pub slots : slots_of new ≡ slots_of old
+  pub tables : tables_of new ≡ tables_of old
   pub directory : directory_of new ≡ directory_of old
   pub locks : KeepsLocks old new
   pub still : Still old new

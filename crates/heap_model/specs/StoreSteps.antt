@@ -1,10 +1,10 @@
 -- The rows of the calls on a store: all managers' rows together, those of the memory manager as
 -- calls on a store. And the step that a call makes.
-use Rattle.std.specs.Prelude.{◌≡◌, ◌⊎◌, ◌++◌, if◌then◌else◌, Bool, true, false, length, ℕ, List}
+use Rattle.std.specs.Prelude.{◌≡◌, ◌⊎◌, ◌++◌, if◌then◌else◌, Bool, true, false, length, ℕ, List, [], ◌∷◌}
 use Rattle.std.specs.Bool.{OnTrue}
 use Rattle.heap_model.specs.Memory.{Memory}
 use Rattle.heap_model.specs.Lending.{KeepsLoan}
-use Rattle.heap_model.specs.Slots.{slots_of}
+use Rattle.heap_model.specs.Slots.{Tables, tables_of}
 use Rattle.heap_model.specs.Heap.{directory_of}
 use Rattle.heap_model.specs.Meaning.{ChunkMap}
 use Rattle.heap_model.specs.Space.{free_total, free_slots, Still}
@@ -16,7 +16,7 @@ use Rattle.heap_model.specs.DatabaseSteps.{database_call, database_row}
 use Rattle.heap_model.specs.RecordSteps.{record_call, record_row}
 use Rattle.heap_model.specs.ResourceSteps.{resource_call, resource_row}
 use Rattle.heap_model.specs.FileSteps.{file_call, file_row}
-use Rattle.heap_model.specs.MoreTables.{gained_slots}
+use Rattle.heap_model.specs.MoreTables.{gained}
 use Rattle.heap_model.specs.declared.call.MemoryCall.TheVariants.{MoreSlots}
 use Rattle.heap_model.specs.declared.call.DatabaseCall.TheVariants.{Create, Delete}
 use Rattle.heap_model.specs.declared.call.RecordCall.TheVariants as records
@@ -106,23 +106,24 @@ may_slide (calls.Resource call) = false
 may_slide (calls.File (Import file)) = true
 may_slide (calls.File (Export db)) = false
 
--- The slots after a call are those before it, in the same order. An accepted `MoreSlots` adds the
--- slots of its table at the end.
-abbrev pub LeavesSlots : Call → Reply → List ℕ → List ℕ → Type 0
-LeavesSlots (calls.Memory MoreSlots) replies.Done before after = (place : ℕ) × (after ≡ before ++ gained_slots place)
-LeavesSlots call reply before after = after ≡ before
+-- The tables after a call are those before it, in the same order, and so are the slots. An accepted
+-- `MoreSlots` adds a table at the end. A chain stays a chain, and no call makes one.
+abbrev pub LeavesTables : Call → Reply → Tables → Tables → Type 0
+LeavesTables (calls.Memory MoreSlots) replies.Done before after = (place : ℕ) × (after ≡ record before { further = before.further ++ gained place ∷ [] })
+LeavesTables call reply before after = after ≡ before
 
 -- From an accepted image the call does its step to an accepted image. The new image has the same
--- size and the same slots; only `MoreSlots` adds some. No locked chunk has moved, and a name that
--- is lent stays lent. All this is true of a refused call too. The directory is the same chunk,
--- unless there was none and a database was made. Of the region's value only the bytes may change,
--- and the count of slid bytes if the call may slide bytes. A call that only asks changes nothing.
+-- size and the same tables, so the same slots; only `MoreSlots` adds a table. No locked chunk has
+-- moved, and a name that is lent stays lent. All this is true of a refused call too. The directory
+-- is the same chunk, unless there was none and a database was made. Of the region's value only the
+-- bytes may change, and the count of slid bytes if the call may slide bytes. A call that only asks
+-- changes nothing.
 pub record DoesInStore (old : Memory) (call : Call) (reply : Reply) (new : Memory) : Type 0 where
   pub before : Accepted old.bytes
   pub step : StoreStep old call reply new
   pub accepted : Accepted new.bytes
   pub len : length new.bytes ≡ length old.bytes
-  pub slots : LeavesSlots call reply (slots_of old.bytes) (slots_of new.bytes)
+  pub tables : LeavesTables call reply (tables_of old.bytes) (tables_of new.bytes)
   pub directory : (directory_of new.bytes ≡ directory_of old.bytes) ⊎ ((directory_of old.bytes ≡ 0) × HasMade call reply)
   pub still : Still old.bytes new.bytes
   pub loan : KeepsLoan old new

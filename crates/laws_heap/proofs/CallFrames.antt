@@ -1,7 +1,7 @@
 -- The frame that a call of the memory manager leaves, whichever call it is.
-use Rattle.std.proofs.Common.{◌≡◌, ℕ, List, length, arith}
+use Rattle.std.proofs.Common.{◌≡◌, ℕ, Bool, List, length, refl, subst, arith}
 use Rattle.heap_model.specs.Memory.{Memory}
-use Rattle.heap_model.specs.Slots.{slots_of}
+use Rattle.heap_model.specs.Slots.{Table, Tables, tables_of}
 use Rattle.heap_model.specs.Heap.{HeapAccepted, directory_of}
 use Rattle.heap_model.specs.Placing.{SameFrame}
 use Rattle.heap_model.specs.MemorySteps.{MemoryCall, MemoryStep, Frames}
@@ -10,8 +10,7 @@ use Rattle.heap_model.specs.declared.call.Call.TheVariants as calls
 use Rattle.heap_model.specs.declared.call.Reply.{Reply}
 use Rattle.heap_model.specs.declared.call.Reply.TheVariants.{Refused, Done}
 use Rattle.heap_model.specs.declared.refusal.Refusal.{Refusal}
-use Rattle.heap_model.specs.StoreSteps.{LeavesSlots}
-use Rattle.laws_heap.proofs.AddedTables.{slots_more}
+use Rattle.heap_model.specs.StoreSteps.{LeavesTables}
 use Rattle.laws_heap.proofs.SameLayouts.{same_frame}
 
 -- what every call leaves
@@ -24,10 +23,16 @@ pub frames_head : (call : MemoryCall) (reply : Reply) (old new : List ℕ) → F
 frames_head MoreSlots Done old new f = record { accepted = f.1.accepted; len = f.1.len; directory = f.1.directory }
 frames_head call reply old new f = record { accepted = f.accepted; len = f.len; directory = f.directory }
 
--- and which slots there are then
-pub frames_slots : (call : MemoryCall) (reply : Reply) (old new : List ℕ) → Frames call reply old new → LeavesSlots (calls.Memory call) reply (slots_of old) (slots_of new)
-frames_slots MoreSlots Done old new f = (f.0, slots_more old new f.0 f.1.count f.1.further)
-frames_slots call reply old new f = f.slots
+same_fields : (t : Tables) (chained : Bool) (count : ℕ) (further : List Table) → t.chained ≡ chained → t.count ≡ count → t.further ≡ further → t ≡ record { chained = chained; count = count; further = further }
+same_fields t chained count further a b c =
+    subst (λ (x : Bool). t ≡ record { chained = x; count = count; further = further }) a
+    (subst (λ (x : ℕ). t ≡ record { chained = t.chained; count = x; further = further }) b
+    (subst (λ (x : List Table). t ≡ record { chained = t.chained; count = t.count; further = x }) c refl))
+
+-- and which tables there are then
+pub frames_tables : (call : MemoryCall) (reply : Reply) (old new : List ℕ) → Frames call reply old new → LeavesTables (calls.Memory call) reply (tables_of old) (tables_of new)
+frames_tables MoreSlots Done old new f = let g = f.1 in (f.0, same_fields (tables_of new) _ _ _ g.chained g.count g.further)
+frames_tables call reply old new f = f.tables
 
 -- a refused call leaves it as it was
 pub frames_refused : (call : MemoryCall) (refusal : Refusal) (old new : List ℕ) → SameFrame old new → Frames call (Refused refusal) old new

@@ -10,8 +10,8 @@ use Rattle.heap_model.specs.Refusals.{FirstBrings}
 use Rattle.heap_model.specs.MemorySteps.{reply_of}
 use Rattle.heap_model.specs.StoreWords.{SameStore}
 use Rattle.heap_model.specs.EntrySteps.{LeavesStore}
-use Rattle.heap_model.specs.StoreSteps.{Call, StoreStep, may_slide, row_of, LeavesSlots, DoesInStore}
-use Rattle.heap_model.specs.Slots.{slots_of}
+use Rattle.heap_model.specs.StoreSteps.{Call, StoreStep, may_slide, row_of, LeavesTables, DoesInStore}
+use Rattle.heap_model.specs.Slots.{Tables, tables_of}
 use Rattle.heap_model.specs.declared.call.MemoryCall.TheVariants.{MoreSlots}
 use Rattle.heap_model.specs.declared.call.Call.TheVariants as calls
 use Rattle.heap_model.specs.declared.call.Reply.{Reply}
@@ -22,8 +22,8 @@ use Rattle.laws_heap.proofs.KeptLoans.{keeps_itself}
 pub same_store : (region : Memory) → SameStore (store_of region.bytes) (store_of region.bytes)
 same_store region = record { map = λ name. refl; databases = refl }
 
--- no slot was made where the region is as it was
-none_made : (region : Memory) (call : Call) (reply : Reply) → StoreStep region call reply region → LeavesSlots call reply (slots_of region.bytes) (slots_of region.bytes)
+-- no table was made where the region is as it was
+none_made : (region : Memory) (call : Call) (reply : Reply) → StoreStep region call reply region → LeavesTables call reply (tables_of region.bytes) (tables_of region.bytes)
 none_made region (calls.Memory MoreSlots) replies.Done s = let more = s.1.0.1 in absurd (omega arith)
 none_made region call reply s = refl
 
@@ -34,7 +34,7 @@ asks region call reply a step = record {
   step = step;
   accepted = a;
   len = refl;
-  slots = none_made region call reply step;
+  tables = none_made region call reply step;
   directory = inl refl;
   still = λ name live held locked there. refl;
   loan = keeps_itself region;
@@ -58,15 +58,15 @@ pub handed_on : {A : Type 0} {old new : Memory} (f : A → Reply) (call : Call) 
 handed_on f call (Ok answer) is does = let no_error = is.0 in absurd cc
 handed_on {A} {old} {new} f call (Err refusal) is does = subst (λ (r : Refusal). DoesInStore old call (replies.Refused r) new) (sym is.1) does
 
--- a call that leaves some store, and makes no slots
-pub changes : (old new : Memory) (call : Call) (reply : Reply) (store : Store) → ((slots : List ℕ) → LeavesSlots call reply slots slots) → Accepted old.bytes → LeavesStore old.bytes new.bytes store → StoreStep old call reply new → KeepsLoan old new → OnTrue (row_of old call).only_asks (new ≡ old)
+-- a call that leaves some store, and makes no table
+pub changes : (old new : Memory) (call : Call) (reply : Reply) (store : Store) → ((tables : Tables) → LeavesTables call reply tables tables) → Accepted old.bytes → LeavesStore old.bytes new.bytes store → StoreStep old call reply new → KeepsLoan old new → OnTrue (row_of old call).only_asks (new ≡ old)
     → new ≡ record old { bytes = new.bytes; slid = if may_slide call then new.slid else old.slid } → DoesInStore old call reply new
 changes old new call reply store none a leaves step loan asks rest = record {
   before = a;
   step = step;
   accepted = leaves.accepted;
   len = leaves.len;
-  slots = subst (λ (slots : List ℕ). LeavesSlots call reply (slots_of old.bytes) slots) (sym leaves.slots) (none (slots_of old.bytes));
+  tables = subst (λ (tables : Tables). LeavesTables call reply (tables_of old.bytes) tables) (sym leaves.tables) (none (tables_of old.bytes));
   directory = inl leaves.directory;
   still = leaves.still;
   loan = loan;

@@ -19,7 +19,7 @@ use Rattle.heap_model.specs.declared.call.Reply.TheVariants.{Refused, Done, Numb
 use Rattle.heap_model.specs.Store.{Store, owner_of, databases, Accepted, store_of}
 use Rattle.heap_model.specs.StoreSteps as store
 use Rattle.heap_model.specs.StoreSteps.{lifted, DoesInStore}
-use Rattle.laws_heap.proofs.CallFrames.{frames_head, frames_slots}
+use Rattle.laws_heap.proofs.CallFrames.{frames_head, frames_tables}
 use Rattle.laws_heap.proofs.Tests.{cond-false}
 use Rattle.laws_store.proofs.Counts.{has_databases, databases_are, accepted_with}
 use Rattle.laws_store.proofs.MemoryCalls.{known_owner, callers_owner, does_keeps}
@@ -146,7 +146,7 @@ memory_call_steps old new call reply a d =
           (λ n p. (effect_lifts old new call reply n p, stored)) d.step;
       accepted = accepted_with new.bytes (databases old.bytes) has;
       len = head.len;
-      slots = frames_slots call reply old.bytes new.bytes d.frame;
+      tables = frames_tables call reply old.bytes new.bytes d.frame;
       directory = inl head.directory;
       still = d.still;
       loan = d.loan;

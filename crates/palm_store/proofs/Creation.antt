@@ -57,7 +57,7 @@ header_put old mid new slot bytes h l w long =
     record {
       accepted = w.frame.accepted;
       len = w.frame.len ∙ l.len;
-      slots = w.frame.slots ∙ l.slots;
+      tables = w.frame.tables ∙ l.tables;
       still = still_through old mid new l.still w.still (λ name live e locked. l.others name (λ same_slot. fresh_there (held old name) live e (ap (held old) same_slot ∙ l.fresh))
           (λ directory. elim l.directory [
             | inl stays ↦ (let was : name ≡ directory_of old = directory ∙ stays in let some = l.some in absurd (loose_directory name live e locked was (omega arith)))
@@ -259,7 +259,7 @@ created old new db name kind creator resources date a l fits few free loan rest 
       step = ((λ not_name. not_name fits.name, (free, ((λ many. below_most old.bytes room many), (tt, tt)))), (l.fresh, has.same));
       accepted = has.accepted;
       len = l.len;
-      slots = l.slots;
+      tables = l.tables;
       directory = elim l.directory [ inl stays ↦ inl stays | inr begins ↦ inr (begins.0, tt) ];
       still = l.still;
       loan = loan;
@@ -282,7 +282,7 @@ not_created old new name kind creator resources date refusal a named few free la
       step = (inr (λ not_name. not_name named, inr (free, inr ((λ many. below_most old.bytes room many), inl (lacks, is)))), record { store = has.same; free = as_much.0; slots = as_much.1 });
       accepted = has.accepted;
       len = l.frame.len;
-      slots = l.frame.slots;
+      tables = l.frame.tables;
       directory = inl l.frame.directory;
       still = l.still;
       loan = loan;

@@ -137,7 +137,7 @@ deleted old mid new db index a has at free l u loan rest =
       step = ((is_there old.bytes db.0 has, ((λ locked. free (names_locked old.bytes db has locked)), tt)), (tt, left.same));
       accepted = left.accepted;
       len = u.len ∙ l.frame.len;
-      slots = u.slots ∙ l.frame.slots;
+      tables = u.tables ∙ l.frame.tables;
       directory = inl (u.directory ∙ l.frame.directory);
       loan = loan;
       still = still_left old.bytes mid.bytes new.bytes (went one) index a.heap l u;
@@ -154,7 +154,7 @@ not_deleted old db a has locked =
       step = (inr (is_there old.bytes db.0 has, inl (named, refl)), record { store = record { map = λ name. refl; databases = refl }; free = refl; slots = refl });
       accepted = a;
       len = refl;
-      slots = refl;
+      tables = refl;
       directory = inl refl;
       still = λ name live e locked there. refl;
       loan = λ name count is. is;

@@ -83,7 +83,7 @@ set_step old new db info a s loan rest =
       step = ((λ none. (let apart = sym found ∙ none in absurd cc), (λ no_name. no_name name, (s.free, tt))), (tt, has.same));
       accepted = has.accepted;
       len = s.leaves.frame.len;
-      slots = s.leaves.frame.slots;
+      tables = s.leaves.frame.tables;
       directory = inl s.leaves.frame.directory;
       still = s.leaves.still;
       loan = loan;

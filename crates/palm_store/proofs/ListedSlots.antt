@@ -109,7 +109,7 @@ begun old first second new name slot word h none m l n is =
     record {
       accepted = n.accepted;
       len = n.len ∙ l.frame.len ∙ m.leaves.frame.len;
-      slots = n.slots ∙ l.frame.slots ∙ m.leaves.frame.slots;
+      tables = n.tables ∙ l.frame.tables ∙ m.leaves.frame.tables;
       still = still_through old first new m.leaves.still
           (still_through first second new l.still (named_still second new name n) (kept_apart first second name (put_apart first second name 0 word l) (λ live e. lock_of first name (chunk_of (replicate 4 0)) live made refl e)))
           (made_kept old first name 4 m);
@@ -137,7 +137,7 @@ extended old first new directory slot size at word h some is at_is size_is s l w
     record {
       accepted = l.frame.accepted;
       len = l.frame.len ∙ s.frame.len;
-      slots = l.frame.slots ∙ s.frame.slots;
+      tables = l.frame.tables ∙ s.frame.tables;
       still = still_through old first new s.still l.still (kept_apart old first directory (sized_apart old first directory size s) (λ live e. lock_of old directory o.live live o.there loose e));
       some = omega arith;
       directory = inl word_stays;
@@ -161,7 +161,7 @@ listed_new old mid new slot size h m l =
     record {
       accepted = l.accepted;
       len = l.len ∙ m.leaves.frame.len;
-      slots = l.slots ∙ m.leaves.frame.slots;
+      tables = l.tables ∙ m.leaves.frame.tables;
       still = still_through old mid new m.leaves.still l.still (made_kept old mid slot size m);
       some = l.some;
       directory = elim l.directory [

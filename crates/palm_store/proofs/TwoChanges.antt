@@ -24,7 +24,7 @@ left_after old mid new left change store one two same none = record {
   accepted = two.accepted;
   same = record { map = λ name. two.same.map name ∙ same.map name; databases = two.same.databases ∙ same.databases };
   len = two.len ∙ one.len;
-  slots = two.slots ∙ one.slots;
+  tables = two.tables ∙ one.tables;
   directory = two.directory ∙ one.directory;
   locks = λ name before after was now.
       (let between = is_there (held mid name) (none name (ap is_some now)) in
@@ -48,7 +48,7 @@ left_as old new left store leaves same = record {
   accepted = leaves.accepted;
   same = record { map = λ name. leaves.same.map name ∙ same.map name; databases = leaves.same.databases ∙ same.databases };
   len = leaves.len;
-  slots = leaves.slots;
+  tables = leaves.tables;
   directory = leaves.directory;
   locks = leaves.locks;
   still = leaves.still;
@@ -60,7 +60,7 @@ itself image store a same = record {
   accepted = a;
   same = same;
   len = refl;
-  slots = refl;
+  tables = refl;
   directory = refl;
   locks = λ name before after was now. ap (λ (live : LiveChunk). live.lock) (same_some after before (sym now ∙ was));
   still = λ name live was locked there. refl;

@@ -66,7 +66,7 @@ unlisted old mid new directory index at stop size h some is at_is inside stop_is
     record {
       accepted = s.frame.accepted;
       len = s.frame.len ∙ p.frame.len;
-      slots = s.frame.slots ∙ p.frame.slots;
+      tables = s.frame.tables ∙ p.frame.tables;
       directory = word;
       still = still_through old mid new p.still s.still (kept_apart old mid directory (put_apart old mid directory at part p) (λ live e. lock_of old directory o.live live o.there loose e));
       others = λ name other. (let apart : name ≢ directory = λ e. other (e ∙ is) in sized_apart mid new directory size s name apart ∙ put_apart old mid directory at part p name apart);

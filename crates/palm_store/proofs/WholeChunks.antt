@@ -136,7 +136,7 @@ listed_whole old mid new slot size sizes names h m both =
     record {
       accepted = l.accepted;
       len = l.len ∙ mk.frame.len ∙ m.leaves.frame.len;
-      slots = l.slots ∙ mk.frame.slots ∙ m.leaves.frame.slots;
+      tables = l.tables ∙ mk.frame.tables ∙ m.leaves.frame.tables;
       still = still_through old mid new m.leaves.still (still_through mid filled new mk.still l.still (λ name live e locked. kept_gaining (held mid) (held filled) sizes names mk.gains name live e)) (made_kept old mid slot size m);
       some = l.some;
       directory = elim l.directory [
@@ -203,7 +203,7 @@ whole_written old mid new slot before bytes sizes names h l w =
     record {
       accepted = w.frame.accepted;
       len = w.frame.len ∙ l.len;
-      slots = w.frame.slots ∙ l.slots;
+      tables = w.frame.tables ∙ l.tables;
       still = still_through old mid new l.still w.still (locked_kept old mid slot before sizes names h l);
       some = let some = l.some in omega arith;
       directory = elim l.directory [ inl stays ↦ inl (word ∙ stays) | inr begins ↦ inr (begins.0, ap (held old) word ∙ begins.1) ];

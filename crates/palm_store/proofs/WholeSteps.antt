@@ -201,7 +201,7 @@ whole_made old new db info blocks entries names a l fits can many few free =
       };
       fresh = l.fresh;
       len = l.len;
-      slots = l.slots;
+      tables = l.tables;
       directory = elim l.directory [ inl stays ↦ inl stays | inr begins ↦ inr begins.0 ];
       still = l.still;
     }

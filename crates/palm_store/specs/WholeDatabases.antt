@@ -4,7 +4,7 @@ use Rattle.std.specs.Prelude.{◌≡◌, ◌≢◌, ◌≤◌, ◌<◌, ◌+◌,
 use Rattle.std.specs.List.{AllZip, filter_map}
 use Rattle.heap_model.specs.Chunk.{data_owner, managers_owner}
 use Rattle.heap_model.specs.Bytes.{u32_bytes}
-use Rattle.heap_model.specs.Slots.{slots_of}
+use Rattle.heap_model.specs.Slots.{tables_of}
 use Rattle.heap_model.specs.Heap.{HeapAccepted, directory_of}
 use Rattle.heap_model.specs.Meaning.{ChunkMap}
 use Rattle.heap_model.specs.Reading.{held}
@@ -130,13 +130,13 @@ pub record GainsWhole (old new : Store) (db : ℕ) (info : DbInfo) (blocks : Blo
   pub map : GainsZeros old.map new.map (data_sizes blocks entries) names
 
 -- The call has made the database, and may have made the directory for it. The image is accepted, as
--- long as before and with the same slots. No chunk that was locked or fixed has moved.
+-- long as before and with the same tables. No chunk that was locked or fixed has moved.
 pub record MakesWhole (old new : List ℕ) (db : ℕ) (info : DbInfo) (blocks : BlockSizes) (entries : List WholeEntry) (names : List ℕ) : Type 0 where
   pub accepted : Accepted new
   pub gains : GainsWhole (store_of old) (store_of new) db info blocks entries names
   pub fresh : held old db ≡ None
   pub len : length new ≡ length old
-  pub slots : slots_of new ≡ slots_of old
+  pub tables : tables_of new ≡ tables_of old
   pub directory : (directory_of new ≡ directory_of old) ⊎ (directory_of old ≡ 0)
   pub still : Still old new
 
@@ -175,7 +175,7 @@ pub record MakesAll (old new : List ℕ) (sizes : List (Option ℕ)) (names : Li
   pub stretches : KeepsStretches old new
   pub slots : free_slots old ≤ free_slots new + length (makings sizes)
 
--- The new image is an accepted heap of the same length with the same slots. Its directory lists
+-- The new image is an accepted heap of the same length with the same tables. Its directory lists
 -- this slot after those of the old one. It is the same chunk, or is made if there was none. The
 -- slot stood for nothing, and now is the name of a chunk of the manager's with these bytes. Chunks
 -- for data of these sizes were made, and every other name stands for the same as before. No chunk
@@ -183,7 +183,7 @@ pub record MakesAll (old new : List ℕ) (sizes : List (Option ℕ)) (names : Li
 pub record ListsWhole (old new : List ℕ) (slot : ℕ) (bytes : List ℕ) (sizes : List (Option ℕ)) (names : List ℕ) : Type 0 where
   pub accepted : HeapAccepted new
   pub len : length new ≡ length old
-  pub slots : slots_of new ≡ slots_of old
+  pub tables : tables_of new ≡ tables_of old
   pub still : Still old new
   pub some : 0 < directory_of new
   pub directory : (directory_of new ≡ directory_of old) ⊎ ((directory_of old ≡ 0) × (held old (directory_of new) ≡ None))

@@ -111,7 +111,7 @@ itself image names a = record {
   databases = refl;
   others = λ name none. refl;
   len = refl;
-  slots = refl;
+  tables = refl;
   directory = refl;
   unmoved = λ name before after. refl;
   none_made = λ name there. there;
@@ -167,7 +167,7 @@ one_refilled old mid new names index bytes inside some before leaves unmoved =
           let apart : other ≢ name = λ e. (let at = times-some other names index 0 inside (sym e) in let zero_times = gone (omega arith) in omega arith) in
           leaves.same.map other ∙ rewritten_apart (callers_map mid) name other bytes apart ∙ before.others other gone;
       len = leaves.len ∙ before.len;
-      slots = leaves.slots ∙ before.slots;
+      tables = leaves.tables ∙ before.tables;
       directory = leaves.directory ∙ before.directory;
       unmoved = λ other first last. unmoved other (none other last) last ∙ before.unmoved other first (none other last);
       none_made = λ other there. before.none_made other (none other there);

@@ -169,7 +169,7 @@ imported old mid new file db plan names a good free few is makes refills many fi
   step = (good_none file _ good (free, ((λ most. omega arith), (tt, (tt, tt)))), (makes.fresh, gains_read old.bytes mid.bytes new.bytes file db.0 plan names good is makes refills many filled));
   accepted = refills.accepted;
   len = refills.len ∙ makes.len;
-  slots = refills.slots ∙ makes.slots;
+  tables = refills.tables ∙ makes.tables;
   directory = elim makes.directory [ inl stays ↦ inl (refills.directory ∙ stays) | inr begins ↦ inr (begins, tt) ];
   still = still_filled old.bytes mid.bytes new.bytes names makes.still refills;
   loan = loan;
@@ -192,7 +192,7 @@ no_room_left old new file plan refusal a good free few is why leaves before loan
   step = (good_brings file _ refusal good (lacking why), before);
   accepted = leaves.accepted;
   len = leaves.len;
-  slots = leaves.slots;
+  tables = leaves.tables;
   directory = inl leaves.directory;
   still = leaves.still;
   loan = loan;

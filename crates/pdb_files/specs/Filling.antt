@@ -2,7 +2,7 @@
 use Rattle.std.specs.Prelude.{◌≡◌, ◌≤◌, ◌<◌, ℕ, List, length, replicate, slice_index, slice_index_or, Option, Some, None}
 use Rattle.heap_model.specs.Chunk.{data_owner}
 use Rattle.heap_model.specs.Lists.{times}
-use Rattle.heap_model.specs.Slots.{slots_of}
+use Rattle.heap_model.specs.Slots.{tables_of}
 use Rattle.heap_model.specs.Heap.{directory_of}
 use Rattle.heap_model.specs.Meaning.{ChunkMap}
 use Rattle.heap_model.specs.Space.{MovesNothing}
@@ -30,14 +30,14 @@ abbrev pub AreOnce : List ℕ → Type 0
 AreOnce names = (name : ℕ) → 0 < name → times name names ≤ 1
 
 -- The image is still accepted and has the same databases. Each name that isn't in the list stands
--- for what it stood for before. The image has the same length, the same slots and the same
+-- for what it stood for before. The image has the same length, the same tables and the same
 -- directory word. Nothing has moved, and no name is new.
 pub record Refills (old new names : List ℕ) : Type 0 where
   pub accepted : Accepted new
   pub databases : (store_of new).databases ≡ (store_of old).databases
   pub others : (name : ℕ) → (0 < name → times name names ≡ 0) → (store_of new).map name ≡ (store_of old).map name
   pub len : length new ≡ length old
-  pub slots : slots_of new ≡ slots_of old
+  pub tables : tables_of new ≡ tables_of old
   pub directory : directory_of new ≡ directory_of old
   pub unmoved : MovesNothing old new
   pub none_made : MakesNone old new
