@@ -3,6 +3,8 @@ _palmheap() {
     local word=${COMP_WORDS[COMP_CWORD]}
     if [ "$COMP_CWORD" = 1 ] || { [ "$COMP_CWORD" = 2 ] && [ "${COMP_WORDS[1]}" = help ]; }; then
         mapfile -t COMPREPLY < <(compgen -W 'list canonical unpack pack new check map run migrate import databases export help --help --version' -- "$word")
+    elif [[ $word == -* && ${COMP_WORDS[1]} =~ ^(list|check|databases)$ ]]; then
+        mapfile -t COMPREPLY < <(compgen -W '--json --help' -- "$word")
     else
         mapfile -t COMPREPLY < <(compgen -f -- "$word")
     fi

@@ -22,8 +22,16 @@ time_text seconds =
     ++ (decimal (seconds / 600 % 6) ++ (decimal (seconds / 60 % 10) ++ (codes ":"
     ++ (decimal (seconds / 10 % 6) ++ decimal (seconds % 10)))))))
 
+-- the date, and the time on it
+abbrev pub utc_text : ℕ → Date → List ℕ
+utc_text seconds date = date_text date ++ (codes " " ++ time_text (seconds % 86400))
+
+-- the text of the date and the time in UTC
+abbrev pub IsUtcText : ℕ → List ℕ → Type 0
+IsUtcText seconds text = (date : Date) × IsDay (seconds / 86400) date × (text ≡ utc_text seconds date)
+
 abbrev pub moment_text : ℕ → Date → List ℕ
-moment_text seconds date = decimal seconds ++ (codes " " ++ (date_text date ++ (codes " " ++ time_text (seconds % 86400))))
+moment_text seconds date = decimal seconds ++ (codes " " ++ utc_text seconds date)
 
 -- the text of a moment; 0 seconds mean that there is none
 pub record IsMomentText (seconds : ℕ) (text : List ℕ) : Type 0 where

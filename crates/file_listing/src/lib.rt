@@ -35,3 +35,5 @@ mod parts;
 
 pub use fault_lines::{fault_place, put_fault};
 pub use listing::{ListFault, put_listing};
+pub use moments::utc_text;
+pub use needs::size_and_slots;

@@ -3,7 +3,7 @@
 ghost use Rattle.std.specs.Prelude.{◌≡◌, ◌/◌, IfOk, OnErr, string_bytes};
 ghost use Rattle.db_format.specs.Headers.{header_of};
 ghost use Rattle.file_listing.specs.Moments as moments;
-ghost use Rattle.file_listing.specs.Moments.{IsDay, IsMomentText};
+ghost use Rattle.file_listing.specs.Moments.{IsDay, IsMomentText, IsUtcText};
 ghost use Rattle.file_listing.specs.Parts.{AreMoments};
 
 use allowance::{Allowance, text_of};
@@ -68,6 +68,28 @@ fn time_text<A: Allowance>(memory: &A, seconds: u32) -> Result<String, AllocErro
             seconds % 10,
         ),
     )
+}
+
+/// Returns the text of a date and of the time on it, `seconds` after 1904-01-01 00:00:00.
+fn day_text<A: Allowance>(memory: &A, seconds: u32, date: Date) -> Result<String, AllocError>
+    ensures text { IfOk result (λ text. string_bytes text ≡ moments.utc_text seconds date) }
+    ensures short { OnErr result (A.is_short memory.now) }
+{
+    let date = date_text(memory, date)?;
+    let time = time_text(memory, seconds % DAY)?;
+    text_of(memory, format_args!("{date} {time}"))
+}
+
+/// Returns the text of the date and the time in UTC, `seconds` after 1904-01-01 00:00:00.
+///
+/// # Errors
+///
+/// - `AllocError`: if an allocation failed.
+pub fn utc_text<A: Allowance>(memory: &A, seconds: u32) -> Result<String, AllocError>
+    ensures text { IfOk result (λ text. IsUtcText seconds (string_bytes text)) }
+    ensures short { OnErr result (A.is_short memory.now) }
+{
+    day_text(memory, seconds, date_of(seconds))
 }
 
 /// Returns the text of a moment, `seconds` after 1904-01-01 00:00:00: the seconds, the date and the

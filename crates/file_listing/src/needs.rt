@@ -12,7 +12,7 @@ use pdb_format::Block;
 use std::io::Write;
 
 /// Returns the least size and number of slots of a new image with the database of a file.
-fn size_and_slots(file: &[u8], blocks: &[Option<Block>]) -> (u64, u64)
+pub fn size_and_slots(file: &[u8], blocks: &[Option<Block>]) -> (u64, u64)
     requires { HasBlocks file.now blocks.now }
     ensures size { result.0 ≡ needed_size file.now }
     ensures slots { result.1 ≡ needed_slots file.now }

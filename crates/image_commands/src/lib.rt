@@ -21,12 +21,14 @@
 //! | `images` | the commands `new`, `check` and `migrate`, over files |
 //! | `maps` | the command `map`, over files |
 //! | `file_listings` | the commands `list` and `canonical`, over files |
+//! | `documents` | the commands `list --json` and `check --json`, over files |
 //! | `folders` | the commands `unpack` and `pack`, over files and folders |
 //! | `files` | reads and writes files |
 //! | `faults` | reports why a command did not start |
 #![tactic(auto)]
 
 mod commands;
+mod documents;
 mod faults;
 mod file_listings;
 mod files;
@@ -38,6 +40,7 @@ mod maps;
 mod migrate_command;
 
 pub use commands::{check_region_from, cmd_check, cmd_check_from, cmd_new, cmd_new_from};
+pub use documents::{check_json, list_json, report_document};
 pub use faults::{STANDARD_OUTPUT, fail};
 pub use file_listings::{canonical, list};
 pub use files::{read_file, read_file_or_input, read_files, read_image, write_file, write_files};

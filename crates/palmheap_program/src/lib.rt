@@ -14,10 +14,12 @@
 //! | `run_command` | the command `run`, over bytes: a script, run on an image |
 //! | `scripts` | the command `run`, over files |
 //! | `stores` | the commands `databases`, `export` and `import`, over files and folders |
+//! | `documents` | `list`, `check` and `databases` in the form that is asked for; `databases --json` |
 //! | `words` | reads the words of the command line |
 //! | `requests` | fulfils their request, and prints the text for words without a command |
 #![tactic(auto)]
 
+mod documents;
 mod requests;
 mod run_command;
 mod scripts;

@@ -3,12 +3,11 @@
 ghost use Rattle.std.specs.Prelude.{◌≡◌, ◌≢◌, ◌⊎◌};
 ghost use Rattle.clap.specs.Values.{kind_of};
 
+use crate::documents::{check_as, databases_as, list_as};
 use crate::scripts::run_script;
-use crate::stores::{databases, export, import};
+use crate::stores::{export, import};
 use clap::error::ErrorKind;
-use image_commands::{
-    STANDARD_OUTPUT, canonical, check, fail, list, map, migrate, new, pack, unpack,
-};
+use image_commands::{STANDARD_OUTPUT, canonical, fail, map, migrate, new, pack, unpack};
 use program_io::command_line::{self, Request};
 use program_io::{Status, report_write_fault};
 use std::io::Input;
@@ -22,7 +21,7 @@ use store_commands::ImageChoice;
 pub fn run<R: Files + Input + Print + Eprint + AllocGlobal>(rt: &R, words: &[String]) -> Status {
     match command_line::parse(rt.alloc(), words) {
         Ok(Request::New { size, slots, out }) => new(rt, size, slots, out),
-        Ok(Request::Check { image }) => check(rt, image),
+        Ok(Request::Check { image, form }) => check_as(rt, image, form),
         Ok(
             Request::Run {
                 image,
@@ -33,11 +32,11 @@ pub fn run<R: Files + Input + Print + Eprint + AllocGlobal>(rt: &R, words: &[Str
         ) => run_script(rt, image, script, out, files.as_slice()),
         Ok(Request::Migrate { image, out }) => migrate(rt, image, out),
         Ok(Request::Map { image }) => map(rt, image),
-        Ok(Request::List { file }) => list(rt, file),
+        Ok(Request::List { file, form }) => list_as(rt, file, form),
         Ok(Request::Canonical { file, out }) => canonical(rt, file, out),
         Ok(Request::Unpack { file, folder }) => unpack(rt, file, folder),
         Ok(Request::Pack { folder, out }) => pack(rt, folder, out),
-        Ok(Request::Databases { image }) => databases(rt, image),
+        Ok(Request::Databases { image, form }) => databases_as(rt, image, form),
         Ok(
             Request::Export {
                 image,

@@ -8,6 +8,15 @@ use clap::error::{Error, ErrorKind};
 use clap::{Arg, ArgAction, ArgMatches, Command};
 use std::alloc::{AllocError, Global};
 
+/// The form in which facts are printed.
+#[derive(Clone, Copy, Debug, PartialEq, Eq)]
+pub enum Form {
+    /// Lines of text.
+    Text,
+    /// One JSON document.
+    Json,
+}
+
 /// The request of the words.
 #[derive(Drop)]
 pub enum Request<'a> {
@@ -18,6 +27,7 @@ pub enum Request<'a> {
     },
     Check {
         image: &'a str,
+        form: Form,
     },
     Run {
         image: &'a str,
@@ -35,6 +45,7 @@ pub enum Request<'a> {
     },
     List {
         file: &'a str,
+        form: Form,
     },
     Canonical {
         file: &'a str,
@@ -50,6 +61,7 @@ pub enum Request<'a> {
     },
     Databases {
         image: &'a str,
+        form: Form,
     },
     Export {
         image: &'a str,
@@ -93,6 +105,8 @@ enum Count {
     Several,
     /// A word after the option of this name, or none.
     Option(&'static str),
+    /// None: an option of this name is there or not.
+    Flag(&'static str),
 }
 
 /// Every command.
@@ -126,8 +140,8 @@ const COMMANDS: [CommandRow; 12] = [
     CommandRow {
         name: "check",
         about: "Checks an image, and prints what is in it or the first fault",
-        after_help: None,
-        arguments: &[IMAGE],
+        after_help: Some(CHECKS),
+        arguments: &[IMAGE, JSON],
     },
     CommandRow {
         name: "run",
@@ -181,7 +195,7 @@ const COMMANDS: [CommandRow; 12] = [
         name: "list",
         about: "Lists a PDB or PRC file: its header, its entries and where their data stands",
         after_help: Some(LISTINGS),
-        arguments: &[DATABASE_FILE],
+        arguments: &[DATABASE_FILE, JSON],
     },
     CommandRow {
         name: "canonical",
@@ -235,7 +249,7 @@ const COMMANDS: [CommandRow; 12] = [
         name: "databases",
         about: "Prints a line for each database of an image",
         after_help: Some(STORES),
-        arguments: &[IMAGE],
+        arguments: &[IMAGE, JSON],
     },
     CommandRow {
         name: "export",
@@ -304,6 +318,13 @@ const IMAGE: Argument = Argument {
     help: "File with the image",
 };
 
+const JSON: Argument = Argument {
+    name: "JSON",
+    count: Count::Flag("json"),
+    values: ValueParser::String,
+    help: "Prints one JSON document with the same facts, on one line",
+};
+
 const ABOUT: &str = "\
 Makes, checks and changes heap images: the memory of a Palm OS device, kept in a file";
 
@@ -324,6 +345,15 @@ Exit status:
   4  there was not enough memory
 On 3 and 4 the first line on standard error is 'fault read', 'fault write' or 'fault memory'; behind
 the first two a second line names the file and says why.";
+
+const CHECKS: &str = "\
+For example, 'palmheap check --json device.img' prints:
+
+  {\"size\":128,\"slots\":4,\"movable\":2,\"fixed\":0,\"free\":72,\"databases\":1}
+
+An image that is refused prints the name of its first fault and the numbers behind it, and the exit status is 1:
+
+  {\"fault\":\"BadEntry\",\"numbers\":[0,1]}";
 
 const MIGRATION: &str = "\
 An image that 'new' writes has one table, and when its slots are in use no more chunks can be movable.
@@ -435,7 +465,20 @@ A file that cannot be read as a database prints its first fault and the offset o
 and the exit status is 1:
 
   bad BadOffset 1
-  at 86";
+  at 86
+
+With --json the same facts are one JSON document, on one line. Attributes, the seed and dates are numbers, and a date
+that isn't 0 has its text in UTC beside it. 'app', 'sort', and the offset and the length of data, are null where there is
+none. A byte outside ASCII is the character of its Windows-1252 code, and the hex digits of all bytes stand beside it:
+
+  {\"size\":97,\"name\":\"MemoDB\",\"name_hex\":\"4d656d6f4442\",\"attributes\":0,\"version\":0,
+   \"created\":3878595035,\"created_utc\":\"2026-11-27 03:30:35\",\"modified\":0,\"modified_utc\":null,
+   \"backup\":0,\"backup_utc\":null,\"number\":0,\"type\":\"DATA\",\"type_hex\":\"44415441\",
+   \"creator\":\"memo\",\"creator_hex\":\"6d656d6f\",\"seed\":0,\"app\":null,\"sort\":null,\"kind\":\"records\",
+   \"entries\":[{\"index\":0,\"attributes\":1,\"id\":1,\"offset\":88,\"length\":9}],
+   \"needs\":{\"size\":168,\"slots\":3},\"changes\":[]}
+
+  {\"fault\":\"BadOffset\",\"numbers\":[1],\"at\":86}";
 
 const CANONICAL_FORMS: &str = "\
 For example, 'palmheap canonical old.pdb new.pdb' writes new.pdb and prints 'ok' with its length, and a line
@@ -496,7 +539,10 @@ status is 1 then.
   \"MemoDB\" records \"DATA\" \"memo\" 0000 1 97
 
 The line has the name, which entries the database has, the type, the creator, the attributes in hex, the number of
-entries, and how many bytes its file has.
+entries, and how many bytes its file has. With --json it prints one JSON document, on one line:
+
+  {\"databases\":[{\"name\":\"MemoDB\",\"name_hex\":\"4d656d6f4442\",\"kind\":\"records\",\"type\":\"DATA\",
+   \"type_hex\":\"44415441\",\"creator\":\"memo\",\"creator_hex\":\"6d656d6f\",\"attributes\":0,\"count\":1,\"size\":97}]}
 
 'palmheap export memos.img out' writes the file out/MemoDB.pdb, and prints 'ok' with the number of files. The name of
 a file is the name of the database, with '.pdb' for records and '.prc' for resources. A byte that is no printable
@@ -559,6 +605,7 @@ fn new_requested<'a>(given: &ArgMatches<'a>) -> Option<Request<'a>> {
 fn check_requested<'a>(given: &ArgMatches<'a>) -> Option<Request<'a>> {
     Some(Request::Check {
         image: given.get_str("IMAGE")?,
+        form: form_of(given),
     })
 }
 
@@ -595,6 +642,7 @@ fn map_requested<'a>(given: &ArgMatches<'a>) -> Option<Request<'a>> {
 fn list_requested<'a>(given: &ArgMatches<'a>) -> Option<Request<'a>> {
     Some(Request::List {
         file: given.get_str("FILE")?,
+        form: form_of(given),
     })
 }
 
@@ -622,7 +670,17 @@ fn pack_requested<'a>(given: &ArgMatches<'a>) -> Option<Request<'a>> {
 fn databases_requested<'a>(given: &ArgMatches<'a>) -> Option<Request<'a>> {
     Some(Request::Databases {
         image: given.get_str("IMAGE")?,
+        form: form_of(given),
     })
+}
+
+/// Returns the form that is asked for.
+fn form_of(given: &ArgMatches) -> Form {
+    if given.get_flag("JSON") {
+        Form::Json
+    } else {
+        Form::Text
+    }
 }
 
 fn export_requested<'a>(
@@ -708,5 +766,6 @@ fn described_argument<'a>(alloc: Global, argument: &Argument) -> Arg<'a> {
             .num_args(1..)
             .action(ArgAction::Append),
         Count::Option(name) => described.long(name),
+        Count::Flag(name) => described.long(name).action(ArgAction::SetTrue),
     }
 }

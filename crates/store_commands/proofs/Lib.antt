@@ -1,3 +1,4 @@
+pub mod Documents
 pub mod Lookups
 pub mod Lines
 pub mod Imported

@@ -5,13 +5,11 @@ use Rattle.std.specs.List.{flat_map, concat, AllZip}
 use Rattle.std.proofs.lemmas.List.{append-nil, drop_all, take_more, map_push}
 use Rattle.std.proofs.lemmas.Option.{slice_get_within, get_or_from_slice_get}
 use Rattle.std.proofs.lemmas.List.Concat.{flat_map-append}
-use Rattle.heap_model.specs.Store.{StoredDatabase, Store}
+use Rattle.heap_model.specs.Store.{Store}
 use Rattle.palm_text.specs.Counted.{Writing, Writes}
 use Rattle.palm_text.proofs.Parts.{then, stops, nothing}
-use Rattle.store_commands.specs.declared.databases.Row.{Row}
 use Rattle.store_commands.specs.declared.exports.ExportedFile.{ExportedFile}
-use Rattle.store_commands.specs.Exports.{file_for, IsFileNamed}
-use Rattle.store_commands.specs.Databases.{row_line, rows_text, count_line, database_line, database_lines, databases_text}
+use Rattle.store_commands.specs.Exports.{IsFileNamed}
 
 module _ {X : Type 0} (line : X → List ℕ) where
   -- the line of an index, and those after it
@@ -67,24 +65,13 @@ pub taken_more : {X : Type 0} (xs : List X) (i : ℕ) (x : X) → slice_get xs i
 taken_more {X} xs i x at =
     take_more xs i x (slice_get_within xs i x at) ∙ ap (λ (y : X). take i xs ++ y ∷ []) (get_or_from_slice_get xs i x x at)
 
--- the line of a row more, which is that of the next database
-pub row_more : (store : Store) (rows : List Row) (row : Row) (i : ℕ) (one : StoredDatabase) → flat_map row_line rows ≡ database_lines store (take i store.databases) → slice_get store.databases i ≡ Some one
-    → row_line row ≡ database_line store one → flat_map row_line (rows ++ row ∷ []) ≡ database_lines store (take (i + 1) store.databases)
-row_more store rows row i one lines at is =
-    line_more row_line rows row
-    ∙ ap (λ (text : List ℕ). text ++ row_line row) lines
-    ∙ ap (λ (last : List ℕ). database_lines store (take i store.databases) ++ last) is
-    ∙ sym (line_more (database_line store) (take i store.databases) one)
-    ∙ ap (database_lines store) (sym (taken_more store.databases i one at))
-
--- the file of the next database more
-pub file_more : (store : Store) (files : List ExportedFile) (file : ExportedFile) (i : ℕ) (one : StoredDatabase) → files ≡ map (file_for store) (take i store.databases) → slice_get store.databases i ≡ Some one
-    → file ≡ file_for store one → files ++ file ∷ [] ≡ map (file_for store) (take (i + 1) store.databases)
-file_more store files file i one so_far at is =
-    ap (λ (fs : List ExportedFile). fs ++ file ∷ []) so_far
-    ∙ ap (λ (f : ExportedFile). map (file_for store) (take i store.databases) ++ f ∷ []) is
-    ∙ sym (map_push (file_for store) (take i store.databases) one)
-    ∙ ap (map (file_for store)) (sym (taken_more store.databases i one at))
+-- what is made of the items of a list up to an index, and of the next one
+pub made_more : {X Y : Type 0} (make : X → Y) (xs : List X) (ys : List Y) (y : Y) (i : ℕ) (x : X) → ys ≡ map make (take i xs) → slice_get xs i ≡ Some x → y ≡ make x → ys ++ y ∷ [] ≡ map make (take (i + 1) xs)
+made_more {X} {Y} make xs ys y i x so_far at is =
+    ap (λ (made : List Y). made ++ y ∷ []) so_far
+    ∙ ap (λ (last : Y). map make (take i xs) ++ last ∷ []) is
+    ∙ sym (map_push make (take i xs) x)
+    ∙ ap (map make) (sym (taken_more xs i x at))
 
 -- the items of two lists, and one more of each
 zip_push : {A B : Type 0} (R : A → B → Type 0) (xs : List A) (ys : List B) (x : A) (y : B) → AllZip R xs ys → R x y → AllZip R (xs ++ x ∷ []) (ys ++ y ∷ [])
@@ -99,9 +86,3 @@ pub named_more : (store : Store) (words : List (List ℕ)) (files : List Exporte
 named_more store words files file i word so_far inside is one =
     subst (λ (ws : List (List ℕ)). AllZip (IsFileNamed store) ws (files ++ file ∷ [])) (sym (take_more words i word inside))
     (zip_push (IsFileNamed store) (take i words) files (get_or words i word) file so_far (subst (λ (w : List ℕ). IsFileNamed store w file) is one))
-
--- so the text by rows is that of the databases
-pub text_is : (store : Store) (rows : List Row) → length rows ≡ length store.databases → flat_map row_line rows ≡ database_lines store store.databases → rows_text rows ≡ databases_text store
-text_is store rows count lines =
-    ap (λ (n : ℕ). count_line n ++ flat_map row_line rows) count
-    ∙ ap (λ (text : List ℕ). count_line (length store.databases) ++ text) lines

@@ -1,18 +1,16 @@
 -- The databases of a store by their numbers, names and indexes, as the calls on it answer.
-use Rattle.std.proofs.Common.{◌≡◌, ◌≢◌, ℕ, ◌<◌, ◌≤◌, List, map, length, Option, Some, None, refl, sym, ap, subst, ◌∙◌, arith, inl, inr}
-use Rattle.std.specs.Prelude.{IsSome, All, slice_get, slice_index_or, option_map}
-use Rattle.std.specs.Option.{is_some}
+use Rattle.std.proofs.Common.{◌≡◌, ◌≢◌, ℕ, ◌<◌, List, map, length, Option, Some, None, refl, sym, ap, ◌∙◌, arith, inl, inr}
+use Rattle.std.specs.Prelude.{IsSome, All, slice_get, option_map}
 use Rattle.std.proofs.lemmas.Option.{slice_get-map, slice_get_within, get_or_from_slice_get}
 use Rattle.std.specs.List.{Any}
 use Rattle.heap_model.specs.Memory.{Memory}
 use Rattle.heap_model.specs.Lending.{IsLent}
-use Rattle.heap_model.specs.Lists.{times}
 use Rattle.heap_model.specs.Database.{Database, data_in}
 use Rattle.heap_model.specs.DatabaseSteps.{info_of}
 use Rattle.heap_model.specs.Files.{file_of}
 use Rattle.heap_model.specs.Leaving.{database_here}
 use Rattle.heap_model.specs.Store.{StoredDatabase, database_under, databases, listed, numbers_of, names_of, content, store_of}
-use Rattle.heap_model.specs.StoreWords.{OfDatabase, with_number, In}
+use Rattle.heap_model.specs.StoreWords.{OfDatabase, with_number}
 use Rattle.heap_model.specs.StoreSteps.{DoesInStore}
 use Rattle.heap_model.specs.declared.names.Db.{Db}
 use Rattle.heap_model.specs.declared.database.DbInfo.{DbInfo}

@@ -1,5 +1,5 @@
 -- What `databases` prints. Where a definition ends in a `Bool`, it says whether all was written and flushed.
-use Rattle.std.specs.Prelude.{◌≡◌, ◌≢◌, ◌⊎◌, ◌++◌, ℕ, Bool, true, false, List, length, Option, codes, decimal}
+use Rattle.std.specs.Prelude.{◌≡◌, ◌≢◌, ◌⊎◌, ◌++◌, ℕ, Bool, true, false, List, length, map, Option, codes, decimal}
 use Rattle.std.specs.List.{flat_map}
 use Rattle.hex.specs.Hex.{encode_lower}
 use Rattle.heap_model.specs.Bytes.{u16_bytes, u32_bytes}
@@ -36,29 +36,30 @@ size_end size = decimal size ++ codes "\n"
 
 -- The line of a database: its name, which entries it has, its type and its creator as scripts spell them, its attributes
 -- in hex, how many entries there are, and how many bytes its file has.
-abbrev pub info_line : DbInfo → ℕ → List ℕ
-info_line info size = info_words info ++ size_end size
-
-abbrev pub database_line : Store → StoredDatabase → List ℕ
-database_line store one = info_line (info_of one.database) (length (file_of (content store.map one.database)))
-
-abbrev pub database_lines : Store → List StoredDatabase → List ℕ
-database_lines store stored = flat_map (database_line store) stored
+abbrev pub row_line : Row → List ℕ
+row_line row = info_words row.info ++ size_end row.size
 
 -- how many databases there are
 unfoldable pub count_line : ℕ → List ℕ
 count_line count = codes "ok " ++ (decimal count ++ codes "\n")
 
 -- that line, and a line for each database
-abbrev pub databases_text : Store → List ℕ
-databases_text store = count_line (length store.databases) ++ database_lines store store.databases
-
--- the same by rows
-abbrev pub row_line : Row → List ℕ
-row_line row = info_line row.info row.size
-
 abbrev pub rows_text : List Row → List ℕ
 rows_text rows = count_line (length rows) ++ flat_map row_line rows
+
+-- what is printed of a database: the values of its header, and how many bytes its file has
+abbrev pub row_of : Store → StoredDatabase → Row
+row_of store one = record {
+  info = info_of one.database;
+  size = length (file_of (content store.map one.database));
+}
+
+-- the rows of the databases of a store, in their order
+abbrev pub rows_in : Store → List Row
+rows_in store = map (row_of store) store.databases
+
+abbrev pub databases_text : Store → List ℕ
+databases_text store = rows_text (rows_in store)
 
 -- what `databases` wrote of an image, by the status with which it ends
 pub record EndsDatabases {V : Type 0} (image : List ℕ) (contents : V → Option (List ℕ)) (old new : Writing V) (status : Status) : Type 0 where

@@ -1,4 +1,5 @@
 pub mod Databases
+pub mod DatabasesJson
 pub mod Exports
 pub mod FileNames
 pub mod Imports

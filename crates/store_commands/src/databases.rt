@@ -1,12 +1,12 @@
 //! The command `databases`: a line for each database of an image.
 
-ghost use Rattle.std.specs.Prelude.{◌≡◌, IfOk, OnErr, None, is_ok, length};
+ghost use Rattle.std.specs.Prelude.{◌≡◌, IfOk, OnErr, None, is_ok};
 ghost use Rattle.std.specs.List.{flat_map};
 ghost use Rattle.heap_model.specs.Store.{database_under, store_of};
 ghost use Rattle.palm_store.specs.Databases.{HasNumber};
 ghost use Rattle.palm_text.specs.Counted.{Writes};
 ghost use Rattle.palm_text.specs.Output.{Puts};
-ghost use Rattle.store_commands.specs.Databases.{EndsDatabases, count_line, database_line, database_lines, info_words, kind_word, row_line, rows_text, size_end};
+ghost use Rattle.store_commands.specs.Databases.{EndsDatabases, count_line, info_words, kind_word, row_line, row_of, rows_in, rows_text, size_end};
 ghost use Rattle.heap_model.specs.Database as databases;
 ghost use Rattle.allowance.specs.Refusals.{GrowthRefused};
 
@@ -76,11 +76,11 @@ pub(crate) struct Row {
 }
 
 /// What is printed of a database. The only error is that an allocation failed.
-fn row_of<A: Allowance>(memory: &A, store: &Store, db: Db) -> Result<Row, AllocError>
+fn row_of_number<A: Allowance>(memory: &A, store: &Store, db: Db) -> Result<Row, AllocError>
     requires whole { store.now.lent ≡ None }
     requires there { HasNumber store.now.bytes db.0 }
-    ensures row { IfOk result (λ row. row_line row
-        ≡ database_line (store_of store.now.bytes) (database_under store.now.bytes db.0)) }
+    ensures row { IfOk result (λ row. row
+        ≡ row_of (store_of store.now.bytes) (database_under store.now.bytes db.0)) }
     ensures short { OnErr result (A.is_short memory.now) }
 {
     let info = info_of(store, db);
@@ -92,17 +92,14 @@ fn row_of<A: Allowance>(memory: &A, store: &Store, db: Db) -> Result<Row, AllocE
 }
 
 /// What is printed of all databases, in their order. The only error is that an allocation failed.
-fn rows_of<A: Allowance>(memory: &A, store: &Store) -> Result<Vec<Row>, AllocError>
+pub(crate) fn rows_of<A: Allowance>(memory: &A, store: &Store) -> Result<Vec<Row>, AllocError>
     requires { store.now.lent ≡ None }
-    ensures count { IfOk result (λ rows. length rows.items
-        ≡ length (store_of store.now.bytes).databases) }
-    ensures lines { IfOk result (λ rows. flat_map row_line rows.items
-        ≡ database_lines (store_of store.now.bytes) (store_of store.now.bytes).databases) }
+    ensures rows { IfOk result (λ rows. rows.items ≡ rows_in (store_of store.now.bytes)) }
     ensures short { OnErr result (A.is_short memory.now) }
 {
     let mut rows = Vec::new(memory.allocator());
     for index in 0..count_of(store) {
-        let row = row_of(memory, store, nth_of(store, index))?;
+        let row = row_of_number(memory, store, nth_of(store, index))?;
         push(memory, &mut rows, row)?;
     }
     Ok(rows)

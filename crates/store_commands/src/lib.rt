@@ -9,18 +9,21 @@
 //! |---|---|
 //! | `images` | opens an image, and looks up its databases |
 //! | `databases` | the command `databases` |
+//! | `databases_json` | the command `databases --json` |
 //! | `exports` | the command `export`, but for the folder |
 //! | `file_names` | the name of a database's file |
 //! | `imports` | the command `import` |
 #![tactic(auto)]
 
 mod databases;
+mod databases_json;
 mod exports;
 mod file_names;
 mod images;
 mod imports;
 
 pub use databases::{cmd_databases, cmd_databases_from, databases_region_from};
+pub use databases_json::{cmd_databases_json, cmd_databases_json_from, databases_json_region_from};
 pub use exports::{Ended, ExportedFile, export_files};
 pub use file_names::file_name;
 pub use imports::{ImageChoice, cmd_import, cmd_import_from};

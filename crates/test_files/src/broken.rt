@@ -1,10 +1,12 @@
 //! Commands that break off: each allocation fails in turn, and each write fails after
 //! each byte.
 
-use crate::samples::{MIXED_FILE, changed, listed};
+use crate::samples::{MIXED_FILE, changed, documented, listed};
 use file_commands::{cmd_canonical_from, cmd_list_from};
+use json_documents::cmd_list_json_from;
 use palm_text::Counted;
 use program_io::Status;
+use std::alloc::Global;
 use std::io::ErrorKind;
 use std::test::*;
 use test_support::{
@@ -24,6 +26,26 @@ fn refused_memory_prints_nothing(rt: HostRuntime) -> Result<(), Fail> {
         let memory = RefusesOne::behind(rt.alloc(), granted);
         let mut out = Counted::new(Vec::new(rt.alloc()));
         let status = cmd_list_from(&memory, &file, &mut out);
+        if !memory.has_refused() {
+            holds(granted, granted > 10)?;
+            return equal(granted, status, Status::Done);
+        }
+        equal(granted, status, Status::NoMemory)?;
+        equal(granted, out.into_inner().len(), 0)?;
+    }
+    Err("too many growths")?
+}
+
+#[test]
+fn refused_memory_prints_no_document(rt: HostRuntime) -> Result<(), Fail> {
+    let file = bytes_of(rt.alloc(), MIXED_FILE)?;
+    if file.len() > MOST {
+        return Ok(());
+    }
+    for granted in 0..100 {
+        let memory = RefusesOne::behind(rt.alloc(), granted);
+        let mut out = Counted::new(Vec::new(rt.alloc()));
+        let status = cmd_list_json_from(&memory, &file, &mut out);
         if !memory.has_refused() {
             holds(granted, granted > 10)?;
             return equal(granted, status, Status::Done);
@@ -91,6 +113,32 @@ fn a_full_writer_gets_a_prefix_of_a_fault(rt: HostRuntime) -> Result<(), Fail> {
     Ok(())
 }
 
+/// Documents of a file and of a damaged one are cut in the same way.
+#[test]
+fn a_full_writer_gets_a_prefix_of_a_document(rt: HostRuntime) -> Result<(), Fail> {
+    check_document_cuts(rt.alloc(), &bytes_of(rt.alloc(), TINY_FILE)?)?;
+    check_document_cuts(
+        rt.alloc(),
+        &changed(rt.alloc(), ORDER_FILE, 86, &[0, 0, 0, 0x65])?,
+    )
+}
+
+fn check_document_cuts(alloc: Global, file: &[u8]) -> Result<(), Fail> {
+    let (_, text) = documented(alloc, file)?;
+    if file.len() > MOST {
+        return Ok(());
+    }
+    for room in 0..text.len() {
+        let mut out = Counted::new(Narrow::new(alloc, room, 5, WhenFull::TakesNothing));
+        let status = cmd_list_json_from(&alloc, file, &mut out);
+        equal(room, status, Status::WriteFault)?;
+        let narrow = out.into_inner();
+        holds(room, narrow.is_cut_at(room))?;
+        holds(room, text.starts_with(&narrow.taken))?;
+    }
+    Ok(())
+}
+
 /// A flush that fails is a write fault of each command, after all that comes before it.
 #[test]
 fn flushes_that_fail(rt: HostRuntime) -> Result<(), Fail> {
@@ -101,6 +149,9 @@ fn flushes_that_fail(rt: HostRuntime) -> Result<(), Fail> {
     let mut out = Counted::new(Unflushed(Vec::new(rt.alloc())));
     let status = cmd_list_from(&rt.alloc(), &file, &mut out);
     equal("list", status, Status::WriteFault)?;
+    let mut out = Counted::new(Unflushed(Vec::new(rt.alloc())));
+    let status = cmd_list_json_from(&rt.alloc(), &file, &mut out);
+    equal("list --json", status, Status::WriteFault)?;
     let mut file_out = Counted::new(Unflushed(Vec::new(rt.alloc())));
     let mut out = Counted::new(Vec::new(rt.alloc()));
     let status = cmd_canonical_from(&rt.alloc(), &file, &mut file_out, &mut out);

@@ -10,6 +10,8 @@ mod canonical;
 #[cfg(test)]
 mod changes;
 #[cfg(test)]
+mod documents;
+#[cfg(test)]
 mod listings;
 #[cfg(test)]
 mod parts;

@@ -1,6 +1,7 @@
 //! Files, and what is printed of them.
 
 use file_commands::{cmd_canonical_from, cmd_list_from};
+use json_documents::cmd_list_json;
 use palm_text::Counted;
 use program_io::Status;
 use std::alloc::Global;
@@ -27,6 +28,16 @@ pub(crate) fn listed(alloc: Global, file: &[u8]) -> Result<(Status, Vec<u8>), Fa
     }
     let mut out = Counted::new(Vec::new(alloc));
     let status = cmd_list_from(&alloc, file, &mut out);
+    Ok((status, out.into_inner()))
+}
+
+/// What `list --json` prints of a file, and its status.
+pub(crate) fn documented(alloc: Global, file: &[u8]) -> Result<(Status, Vec<u8>), Fail> {
+    if file.len() > MOST {
+        return Err("a file that is too long")?;
+    }
+    let mut out = Counted::new(Vec::new(alloc));
+    let status = cmd_list_json(alloc, file, &mut out);
     Ok((status, out.into_inner()))
 }
 

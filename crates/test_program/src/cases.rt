@@ -10,7 +10,7 @@ pub(crate) enum Output {
 }
 
 /// The words of each run behind the program's own name, and what becomes of what it prints.
-pub(crate) static CASES: [(&str, Output); 80] = [
+pub(crate) static CASES: [(&str, Output); 96] = [
     // images that are made, or that there are not
     ("new 64 1 out.img", Taken),
     ("new 127 4 out.img", Taken),
@@ -110,6 +110,25 @@ pub(crate) static CASES: [(&str, Output); 80] = [
     ("import out.img none.pdb", Taken),
     ("import --size 127 out.img tiny.prc", Taken),
     ("import out.img tiny.prc", Refused),
+    // the same facts as JSON: files, one that is damaged, standard input, and standard output that takes nothing
+    ("list --json order.pdb", Taken),
+    ("list --json tiny.prc", Taken),
+    ("list --json damaged.pdb", Taken),
+    ("list --json none.pdb", Taken),
+    ("list --json -", Taken),
+    ("list --json order.pdb", Refused),
+    // images: accepted, with a fault of the heap, and with two of the databases
+    ("check --json records.img", Taken),
+    ("check --json long.img", Taken),
+    ("check --json twins.img", Taken),
+    ("check --json none.img", Taken),
+    ("check --json records.img", Refused),
+    // their databases
+    ("databases --json records.img", Taken),
+    ("databases --json blank.img", Taken),
+    ("databases --json shared.img", Taken),
+    ("databases --json none.img", Taken),
+    ("databases --json records.img", Refused),
     // words that ask for no command
     ("check", Taken),
     ("--version", Taken),

@@ -3,6 +3,8 @@
 #![tactic(auto)]
 
 #[cfg(test)]
+mod broken_documents;
+#[cfg(test)]
 mod call_lists;
 #[cfg(test)]
 mod calls;
@@ -12,6 +14,8 @@ mod categories;
 mod commands;
 #[cfg(test)]
 mod databases;
+#[cfg(test)]
+mod documents;
 #[cfg(test)]
 mod files;
 #[cfg(test)]

@@ -169,7 +169,7 @@ fn no_image_has_a_wrong_size(rt: HostRuntime) -> Result<(), Fail> {
 }
 
 /// An image with these files.
-fn image_of(alloc: Global, listings: &[&str]) -> Result<Vec<u8>, Fail> {
+pub(crate) fn image_of(alloc: Global, listings: &[&str]) -> Result<Vec<u8>, Fail> {
     let told = import_on(alloc, NOTHING_CHOSEN, &files_of(alloc, listings)?);
     equal("status", told.ended.status, Status::Done)?;
     Ok(told.image)

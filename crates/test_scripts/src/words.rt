@@ -26,7 +26,7 @@ fn asked(alloc: Global, line: &str) -> Result<String, AllocError> {
 fn shown(alloc: Global, request: &Request) -> Result<String, AllocError> {
     match request {
         Request::New { size, slots, out } => format!(in alloc; "new {size} {slots} {out}\n"),
-        Request::Check { image } => format!(in alloc; "check {image}\n"),
+        Request::Check { image, form } => format!(in alloc; "check {image} {form:?}\n"),
         Request::Run {
             image,
             script,
@@ -35,11 +35,11 @@ fn shown(alloc: Global, request: &Request) -> Result<String, AllocError> {
         } => format!(in alloc; "run {image} {script} {out} {files:?}\n"),
         Request::Migrate { image, out } => format!(in alloc; "migrate {image} {out}\n"),
         Request::Map { image } => format!(in alloc; "map {image}\n"),
-        Request::List { file } => format!(in alloc; "list {file}\n"),
+        Request::List { file, form } => format!(in alloc; "list {file} {form:?}\n"),
         Request::Canonical { file, out } => format!(in alloc; "canonical {file} {out}\n"),
         Request::Unpack { file, folder } => format!(in alloc; "unpack {file} {folder}\n"),
         Request::Pack { folder, out } => format!(in alloc; "pack {folder} {out}\n"),
-        Request::Databases { image } => format!(in alloc; "databases {image}\n"),
+        Request::Databases { image, form } => { format!(in alloc; "databases {image} {form:?}\n") },
         Request::Export {
             image,
             folder,
@@ -56,14 +56,14 @@ fn shown(alloc: Global, request: &Request) -> Result<String, AllocError> {
 
 /// Words, and how what comes of them begins, and what stands in it: commands, words that are refused,
 /// and help.
-static CASES: [(&str, &str, &str); 39] = [
+static CASES: [(&str, &str, &str); 44] = [
     ("palmheap new 128 4 a.img", "new 128 4 a.img\n", ""),
     (
         "palmheap new 4294967295 65535 --  -a",
         "new 4294967295 65535 -a\n",
         "",
     ),
-    ("palmheap check a.img", "check a.img\n", ""),
+    ("palmheap check a.img", "check a.img Text\n", ""),
     (
         "palmheap run a.img calls.txt b.img",
         "run a.img calls.txt b.img []\n",
@@ -76,7 +76,7 @@ static CASES: [(&str, &str, &str); 39] = [
     ),
     ("palmheap migrate a.img b.img", "migrate a.img b.img\n", ""),
     ("palmheap map a.img", "map a.img\n", ""),
-    ("palmheap list memo.pdb", "list memo.pdb\n", ""),
+    ("palmheap list memo.pdb", "list memo.pdb Text\n", ""),
     (
         "palmheap canonical memo.pdb new.pdb",
         "canonical memo.pdb new.pdb\n",
@@ -88,7 +88,16 @@ static CASES: [(&str, &str, &str); 39] = [
         "",
     ),
     ("palmheap pack memos memo.pdb", "pack memos memo.pdb\n", ""),
-    ("palmheap databases a.img", "databases a.img\n", ""),
+    ("palmheap databases a.img", "databases a.img Text\n", ""),
+    ("palmheap check --json a.img", "check a.img Json\n", ""),
+    ("palmheap list memo.pdb --json", "list memo.pdb Json\n", ""),
+    (
+        "palmheap databases --json a.img",
+        "databases a.img Json\n",
+        "",
+    ),
+    ("palmheap map --json a.img", "2 error: ", "--json"),
+    ("palmheap check --json", "2 error: ", "<IMAGE>"),
     ("palmheap export a.img out", "export a.img out []\n", ""),
     (
         "palmheap export a.img out Memo Tool",

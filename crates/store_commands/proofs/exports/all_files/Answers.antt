@@ -2,12 +2,12 @@ use Rattle.std.proofs.Common.{ap, ◌∙◌, map, arith}
 use Rattle.std.proofs.lemmas.List.{take_all}
 use Rattle.heap_model.specs.Store.{store_of, database_under}
 use Rattle.store_commands.specs.Exports.{file_for}
-use Rattle.store_commands.proofs.Lines.{file_more}
+use Rattle.store_commands.proofs.Lines.{made_more}
 use Rattle.store_commands.proofs.exports.all_files.Goals as goal
 
 pub loop-index-preserved : goal.loop-index-preserved
 loop-index-preserved g c =
-    rw c.in_ok-push.ensures.items (file_more (store_of c.args.store.now.bytes) c.loop-index.files.items c.in_ok-file.file c.loop-index.index (database_under c.args.store.now.bytes c.nth_of.result.0) c.loop-index.invariant c.nth_of.ensures.is c.in_ok-file.ensures.file)
+    rw c.in_ok-push.ensures.items (made_more (file_for (store_of c.args.store.now.bytes)) (store_of c.args.store.now.bytes).databases c.loop-index.files.items c.in_ok-file.file c.loop-index.index (database_under c.args.store.now.bytes c.nth_of.result.0) c.loop-index.invariant c.nth_of.ensures.is c.in_ok-file.ensures.file)
 
 pub returns-clause-files : goal.returns-clause-files
 returns-clause-files g c =

@@ -1,4 +1,4 @@
-use Rattle.std.proofs.Common.{true, false, arith}
+use Rattle.std.proofs.Common.{true, false}
 use Rattle.std.specs.Prelude.{codes}
 use Rattle.store_commands.proofs.Lines.{then_copy, stops_copy, no_copy}
 use Rattle.store_commands.proofs.imports.put_replies.Goals as goal

@@ -1,0 +1,35 @@
+-- Strings of a document.
+use Rattle.std.specs.Prelude.{ℕ, Bool, ◌-◌, ◌==◌, ◌&&◌, ◌++◌, nat_le, nat_lt, not, if◌then◌else◌, List, [], ◌∷◌, slice_index_or, codes}
+use Rattle.std.specs.List.{flat_map}
+use Rattle.hex.specs.Hex.{encode_lower}
+use Rattle.heap_model.specs.Bytes.{u16_bytes}
+use Rattle.json_documents.specs.declared.strings.TheConstants.{CODES}
+
+-- the code of the character of a byte
+abbrev pub code_of : ℕ → ℕ
+code_of b = if nat_le 128 b && nat_lt b 160 then slice_index_or CODES (b - 128) 0 else b
+
+-- a byte that stands in a string as it is: a character from space to `~`, except `"` and `\`
+abbrev pub is_plain : ℕ → Bool
+is_plain b = nat_le 32 b && nat_le b 126 && not (b == 34) && not (b == 92)
+
+-- any other one as `\u` and its code in four hex digits
+abbrev pub escaped : ℕ → List ℕ
+escaped b = codes "\\u" ++ encode_lower (u16_bytes (code_of b))
+
+abbrev pub character : ℕ → List ℕ
+character b = if is_plain b then b ∷ [] else escaped b
+
+abbrev pub characters : List ℕ → List ℕ
+characters bytes = flat_map character bytes
+
+-- the string of some bytes: their characters in quotes
+abbrev pub closed : List ℕ → List ℕ
+closed bytes = characters bytes ++ codes "\""
+
+abbrev pub string : List ℕ → List ℕ
+string bytes = codes "\"" ++ closed bytes
+
+-- the string of their hex digits
+abbrev pub hex_string : List ℕ → List ℕ
+hex_string bytes = codes "\"" ++ (encode_lower bytes ++ codes "\"")

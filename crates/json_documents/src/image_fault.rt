@@ -1,0 +1,172 @@
+//! The document for an image that is refused.
+
+ghost use Rattle.std.specs.Prelude.{◌≡◌, ◌⊎◌, is_ok, true, false};
+ghost use Rattle.palm_text.specs.Counted.{Writes};
+ghost use Rattle.palm_text.specs.Output.{Puts};
+ghost use Rattle.json_documents.specs.Faults as words;
+ghost use Rattle.json_documents.specs.Faults.{image_fault_json, named_fault_json};
+
+use crate::output::flushed;
+use crate::pieces::{JsonPiece, put_json};
+use heap_check::HeapFault;
+use palm_text::{Counted, WriteFault};
+use program_io::Status;
+use std::io::Write;
+use store_check::StoreFault;
+
+/// The numbers of a fault.
+#[derive(Clone, Copy)]
+pub(crate) enum Numbers {
+    Zero,
+    One(u32),
+    Two(u32, u32),
+}
+
+/// Prints the document for the fault of an image.
+pub fn say_image_fault<V: Write>(out: &mut Counted<V>, fault: StoreFault) -> Status
+    ensures statuses { (result ≡ Status.Refused) ⊎ (result ≡ Status.WriteFault) }
+    ensures refused { result ≡ Status.Refused
+        → Puts V.contents out.old out.new (image_fault_json fault) true }
+    ensures write { result ≡ Status.WriteFault
+        → Puts V.contents out.old out.new (image_fault_json fault) false }
+{
+    match put_flushed(out, fault) {
+        Ok(()) => Status::Refused,
+        Err(_) => Status::WriteFault,
+    }
+}
+
+/// Writes the document for the fault of an image, and flushes `out`.
+#[tactic(auto, using(palm_text::proofs::Parts::then_flush))]
+fn put_flushed<V: Write>(out: &mut Counted<V>, fault: StoreFault) -> Result<(), WriteFault>
+    ensures { Puts V.contents out.old out.new (image_fault_json fault) (is_ok result) }
+{
+    put_image_fault(out, fault)?;
+    flushed(out)
+}
+
+/// Writes the document for the fault of an image.
+fn put_image_fault<W: Write>(out: &mut Counted<W>, fault: StoreFault) -> Result<(), WriteFault>
+    ensures { Writes W.contents out.old out.new (image_fault_json fault) (is_ok result) }
+{
+    put_named(out, image_fault_name(fault), image_fault_numbers(fault))
+}
+
+/// Writes the document for a fault with this name and these numbers.
+fn put_named<W: Write>(
+    out: &mut Counted<W>,
+    name: &[u8],
+    numbers: Numbers,
+) -> Result<(), WriteFault>
+    ensures { Writes W.contents out.old out.new (named_fault_json name.now numbers) (is_ok result) }
+{
+    match numbers {
+        Numbers::Zero => put_json(
+            out,
+            &[
+                JsonPiece::Text(b"{\"fault\":\""),
+                JsonPiece::Text(name),
+                JsonPiece::Text(b"\",\"numbers\":[]}\n"),
+            ],
+        ),
+        Numbers::One(number) => put_json(
+            out,
+            &[
+                JsonPiece::Text(b"{\"fault\":\""),
+                JsonPiece::Text(name),
+                JsonPiece::Text(b"\",\"numbers\":["),
+                JsonPiece::Number(number),
+                JsonPiece::Text(b"]}\n"),
+            ],
+        ),
+        Numbers::Two(first, second) => put_json(
+            out,
+            &[
+                JsonPiece::Text(b"{\"fault\":\""),
+                JsonPiece::Text(name),
+                JsonPiece::Text(b"\",\"numbers\":["),
+                JsonPiece::Number(first),
+                JsonPiece::Text(b","),
+                JsonPiece::Number(second),
+                JsonPiece::Text(b"]}\n"),
+            ],
+        ),
+    }
+}
+
+/// Returns the name of the fault of an image.
+fn image_fault_name(fault: StoreFault) -> &'static [u8]
+    ensures { result.now ≡ words.image_fault_name fault }
+{
+    match fault {
+        StoreFault::Heap(fault) => heap_fault_name(fault),
+        StoreFault::BadDirectorySlot(_) => b"BadDirectorySlot",
+        StoreFault::BadHeader(_) => b"BadHeader",
+        StoreFault::BadEntry(_, _) => b"BadEntry",
+        StoreFault::SharedChunk(_) => b"SharedChunk",
+        StoreFault::StrayChunk(_) => b"StrayChunk",
+        StoreFault::BadId(_, _) => b"BadId",
+        StoreFault::BadName(_) => b"BadName",
+        StoreFault::SameName(_) => b"SameName",
+        StoreFault::OutOfMemory => b"OutOfMemory",
+    }
+}
+
+/// Returns the name of the fault of a heap.
+fn heap_fault_name(fault: HeapFault) -> &'static [u8]
+    ensures { result.now ≡ words.heap_fault_name fault }
+{
+    match fault {
+        HeapFault::TooShort => b"TooShort",
+        HeapFault::BadMagic => b"BadMagic",
+        HeapFault::BadSize => b"BadSize",
+        HeapFault::BadSlotCount => b"BadSlotCount",
+        HeapFault::BadReserved => b"BadReserved",
+        HeapFault::BadPadding => b"BadPadding",
+        HeapFault::BadChunk(_) => b"BadChunk",
+        HeapFault::BadTable(_) => b"BadTable",
+        HeapFault::SlotMismatch(_) => b"SlotMismatch",
+        HeapFault::ChunkWithoutSlot(_) => b"ChunkWithoutSlot",
+        HeapFault::BadFixedOwner(_) => b"BadFixedOwner",
+        HeapFault::BadDirectory => b"BadDirectory",
+    }
+}
+
+/// Returns the numbers of the fault of an image.
+fn image_fault_numbers(fault: StoreFault) -> Numbers
+    ensures { result ≡ words.image_fault_numbers fault }
+{
+    match fault {
+        StoreFault::Heap(fault) => heap_fault_numbers(fault),
+        StoreFault::BadEntry(database, index) | StoreFault::BadId(database, index) => {
+            Numbers::Two(database, index)
+        }
+        StoreFault::BadDirectorySlot(number)
+        | StoreFault::BadHeader(number)
+        | StoreFault::SharedChunk(number)
+        | StoreFault::StrayChunk(number)
+        | StoreFault::BadName(number)
+        | StoreFault::SameName(number) => Numbers::One(number),
+        StoreFault::OutOfMemory => Numbers::Zero,
+    }
+}
+
+/// Returns the numbers of the fault of a heap.
+fn heap_fault_numbers(fault: HeapFault) -> Numbers
+    ensures { result ≡ words.heap_fault_numbers fault }
+{
+    match fault {
+        HeapFault::BadChunk(number)
+        | HeapFault::BadTable(number)
+        | HeapFault::SlotMismatch(number)
+        | HeapFault::ChunkWithoutSlot(number)
+        | HeapFault::BadFixedOwner(number) => Numbers::One(number),
+        HeapFault::TooShort
+        | HeapFault::BadMagic
+        | HeapFault::BadSize
+        | HeapFault::BadSlotCount
+        | HeapFault::BadReserved
+        | HeapFault::BadPadding
+        | HeapFault::BadDirectory => Numbers::Zero,
+    }
+}

@@ -1,0 +1,51 @@
+//! JSON documents with the facts that `list` and `check` print as text.
+//!
+//! A document is one object on one line, in ASCII. It is written piece by piece, without memory of
+//! its own. A string has a character for each byte: its ASCII character, or the character of its
+//! code in Windows-1252. Beside each string from a file stands the same in hex, so a reader can get
+//! the exact bytes.
+//!
+//! ```text
+//! {"size":97,"name":"MemoDB","name_hex":"4d656d6f4442","attributes":0,"version":0,
+//! "created":3878595035,"created_utc":"2026-11-27 03:30:35","modified":0,"modified_utc":null,
+//! "backup":0,"backup_utc":null,"number":0,"type":"DATA","type_hex":"44415441",
+//! "creator":"memo","creator_hex":"6d656d6f","seed":0,"app":null,"sort":null,
+//! "kind":"records","entries":[{"index":0,"attributes":1,"id":1,"offset":88,"length":9}],
+//! "needs":{"size":168,"slots":3},"changes":[]}
+//! ```
+//!
+//! Start with `specs/FileDocument.antt`, which defines this document; it has no line breaks inside.
+//!
+//! | module | does |
+//! |---|---|
+//! | `pieces`, `strings` | pieces of documents; strings |
+//! | `parts` | the parts of a file's document that need memory |
+//! | `head`, `blocks`, `entries`, `ending` | the parts of a file's document, in order |
+//! | `file_document` | the document of a file |
+//! | `file_fault` | the document for a damaged file |
+//! | `list_command` | the command `list --json` |
+//! | `image_document` | the document of the counts of an image |
+//! | `image_fault` | the document for an image that is refused |
+//! | `check_command` | the command `check --json` |
+#![tactic(auto)]
+
+mod blocks;
+mod check_command;
+mod ending;
+mod entries;
+mod file_document;
+mod file_fault;
+mod head;
+mod image_document;
+mod image_fault;
+mod list_command;
+mod output;
+mod parts;
+mod pieces;
+mod strings;
+
+pub use check_command::{check_json_region_from, cmd_check_json, cmd_check_json_from};
+pub use file_document::{DocumentFault, put_file_document};
+pub use image_fault::say_image_fault;
+pub use list_command::{cmd_list_json, cmd_list_json_from};
+pub use pieces::{JsonPiece, put_json};

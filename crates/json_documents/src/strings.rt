@@ -1,0 +1,97 @@
+//! Strings.
+
+ghost use Rattle.std.specs.Prelude.{◌≡◌, ◌++◌, ◌∷◌, [], codes, is_ok};
+ghost use Rattle.palm_text.specs.Counted.{Writes};
+ghost use Rattle.json_documents.specs.Strings as words;
+ghost use Rattle.json_documents.specs.Strings.{character, characters, closed, escaped, hex_string, string};
+
+use palm_text::{Counted, Piece, WriteFault, put_all, put_pieces};
+use std::io::Write;
+
+/// The codes of the bytes 0x80 to 0x9F in Windows-1252. A byte without a character there has its
+/// own code.
+pub(crate) const CODES: [u16; 32] = [
+    0x20AC, 0x0081, 0x201A, 0x0192, 0x201E, 0x2026, 0x2020, 0x2021, 0x02C6, 0x2030, 0x0160, 0x2039,
+    0x0152, 0x008D, 0x017D, 0x008F, 0x0090, 0x2018, 0x2019, 0x201C, 0x201D, 0x2022, 0x2013, 0x2014,
+    0x02DC, 0x2122, 0x0161, 0x203A, 0x0153, 0x009D, 0x017E, 0x0178,
+];
+
+/// Writes the string of some bytes.
+pub(crate) fn put_string<W: Write>(out: &mut Counted<W>, bytes: &[u8]) -> Result<(), WriteFault>
+    ensures { Writes W.contents out.old out.new (string bytes.now) (is_ok result) }
+{
+    match put_all(out, b"\"") {
+        Ok(()) => put_closed(out, bytes),
+        Err(fault) => Err(fault),
+    }
+}
+
+/// Writes the characters of some bytes, and the quote after them.
+fn put_closed<W: Write>(out: &mut Counted<W>, bytes: &[u8]) -> Result<(), WriteFault>
+    ensures { Writes W.contents out.old out.new (closed bytes.now) (is_ok result) }
+{
+    match put_characters(out, bytes) {
+        Ok(()) => put_all(out, b"\""),
+        Err(fault) => Err(fault),
+    }
+}
+
+/// Writes the characters of some bytes.
+fn put_characters<W: Write>(out: &mut Counted<W>, bytes: &[u8]) -> Result<(), WriteFault>
+    ensures { Writes W.contents out.old out.new (characters bytes.now) (is_ok result) }
+{
+    for byte in bytes {
+        match put_character(out, *byte) {
+            Ok(()) => {}
+            Err(fault) => return Err(fault),
+        }
+    }
+    Ok(())
+}
+
+/// Writes the character of a byte.
+fn put_character<W: Write>(out: &mut Counted<W>, byte: u8) -> Result<(), WriteFault>
+    ensures { Writes W.contents out.old out.new (character byte) (is_ok result) }
+{
+    if is_plain(byte) {
+        put_all(out, &[byte])
+    } else {
+        put_escaped(out, byte)
+    }
+}
+
+/// Writes the escape of a byte.
+fn put_escaped<W: Write>(out: &mut Counted<W>, byte: u8) -> Result<(), WriteFault>
+    ensures { Writes W.contents out.old out.new (escaped byte) (is_ok result) }
+{
+    let code = code_of(byte);
+    put_pieces(out, &[Piece::Text(b"\\u"), Piece::Hex16(code)])
+}
+
+/// Returns whether a byte stands in a string as it is.
+fn is_plain(byte: u8) -> bool
+    ensures { result ≡ words.is_plain byte }
+{
+    byte >= b' ' && byte <= b'~' && byte != b'"' && byte != b'\\'
+}
+
+/// Returns the code of the character of a byte.
+fn code_of(byte: u8) -> u16
+    ensures { result ≡ words.code_of byte }
+{
+    if byte >= 128 && byte < 160 {
+        CODES[byte as usize - 128]
+    } else {
+        u16::from(byte)
+    }
+}
+
+/// Writes the string of the hex digits of some bytes.
+pub(crate) fn put_hex_string<W: Write>(out: &mut Counted<W>, bytes: &[u8]) -> Result<(), WriteFault>
+    ensures { Writes W.contents out.old out.new (hex_string bytes.now) (is_ok result) }
+{
+    put_pieces(
+        out,
+        &[Piece::Text(b"\""), Piece::Hex(bytes), Piece::Text(b"\"")],
+    )
+}

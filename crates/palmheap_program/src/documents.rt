@@ -1,0 +1,71 @@
+//! The commands that print text or a document, over files.
+
+ghost use Rattle.std.specs.Prelude.{◌≢◌};
+
+use crate::stores::databases;
+use image_commands::{check, check_json, fail, list, list_json, read_image, report_document};
+use palm_text::Counted;
+use program_io::command_line::Form;
+use program_io::{Noted, Status};
+use std::io;
+use std::io::{BufWriter, Input};
+use std::rt::Files;
+use store_commands::databases_json_region_from;
+
+/// Runs `list`, and prints in this form.
+pub(crate) fn list_as<R: Files + Input + Print + Eprint + AllocGlobal>(
+    rt: &R,
+    file: &str,
+    form: Form,
+) -> Status
+    ensures { result ≢ Status.BadWords }
+{
+    match form {
+        Form::Text => list(rt, file),
+        Form::Json => list_json(rt, file),
+    }
+}
+
+/// Runs `check`, and prints in this form.
+pub(crate) fn check_as<R: Files + Print + Eprint + AllocGlobal>(
+    rt: &R,
+    image: &str,
+    form: Form,
+) -> Status
+    ensures { result ≢ Status.BadWords }
+{
+    match form {
+        Form::Text => check(rt, image),
+        Form::Json => check_json(rt, image),
+    }
+}
+
+/// Runs `databases`, and prints in this form.
+pub(crate) fn databases_as<R: Files + Print + Eprint + AllocGlobal>(
+    rt: &R,
+    image: &str,
+    form: Form,
+) -> Status
+    ensures { result ≢ Status.BadWords }
+{
+    match form {
+        Form::Text => databases(rt, image),
+        Form::Json => databases_json(rt, image),
+    }
+}
+
+/// Runs `databases --json`.
+fn databases_json<R: Files + Print + Eprint + AllocGlobal>(rt: &R, image: &str) -> Status
+    ensures { result ≢ Status.BadWords }
+{
+    let image = match read_image(rt, image) {
+        Ok(image) => image,
+        Err(status) => return status,
+    };
+    let Ok(out) = BufWriter::new(rt.alloc(), Noted::new(io::writer(rt))) else {
+        return fail(rt, Status::NoMemory);
+    };
+    let mut out = Counted::new(out);
+    let status = databases_json_region_from(&rt.alloc(), image, &mut out);
+    report_document(rt, status, out)
+}

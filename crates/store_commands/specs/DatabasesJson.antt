@@ -1,0 +1,71 @@
+-- What `databases --json` prints. Where a definition ends in a `Bool`, it says whether all was written and flushed.
+use Rattle.std.specs.Prelude.{◌≡◌, ◌≢◌, ◌⊎◌, ◌++◌, ℕ, Bool, true, false, List, [], ◌∷◌, Option, codes, decimal}
+use Rattle.std.specs.List.{flat_map}
+use Rattle.heap_model.specs.Bytes.{u32_bytes}
+use Rattle.heap_model.specs.Database.{has_resources}
+use Rattle.heap_model.specs.Store.{Store, Accepted, store_of}
+use Rattle.heap_model.specs.declared.database.DbInfo.{DbInfo}
+use Rattle.palm_text.specs.Counted.{Writing}
+use Rattle.palm_text.specs.Output.{Puts}
+use Rattle.json_documents.specs.Strings.{string, hex_string}
+use Rattle.json_documents.specs.Ends.{PutsImageFault}
+use Rattle.program_io.specs.declared.status.Status.{Status}
+use Rattle.program_io.specs.declared.status.Status.TheVariants.{Done, Refused, BadWords, ReadFault, WriteFault, NoMemory}
+use Rattle.store_commands.specs.declared.databases.Row.{Row}
+use Rattle.store_commands.specs.Databases.{rows_in}
+
+-- which entries a database has
+abbrev pub kind_json : Bool → List ℕ
+kind_json true = codes ",\"kind\":\"resources\",\"type\":"
+kind_json false = codes ",\"kind\":\"records\",\"type\":"
+
+-- The object of a database: its name, which entries it has, its type and its creator, its attributes, how many entries
+-- there are, and how many bytes its file has.
+unfoldable pub info_json : DbInfo → List ℕ
+info_json info =
+    codes "{\"name\":" ++ (string info.name
+    ++ (codes ",\"name_hex\":" ++ (hex_string info.name
+    ++ (kind_json (has_resources info.attributes) ++ (string (u32_bytes info.kind)
+    ++ (codes ",\"type_hex\":" ++ (hex_string (u32_bytes info.kind)
+    ++ (codes ",\"creator\":" ++ (string (u32_bytes info.creator)
+    ++ (codes ",\"creator_hex\":" ++ (hex_string (u32_bytes info.creator)
+    ++ (codes ",\"attributes\":" ++ (decimal info.attributes
+    ++ (codes ",\"count\":" ++ (decimal info.entry_count ++ codes ",")))))))))))))))
+
+unfoldable pub size_json : ℕ → List ℕ
+size_json size = codes "\"size\":" ++ (decimal size ++ codes "}")
+
+abbrev pub row_json : Row → List ℕ
+row_json row = info_json row.info ++ size_json row.size
+
+-- the objects of databases, with commas between
+abbrev pub next_json : Row → List ℕ
+next_json row = codes "," ++ row_json row
+
+abbrev pub more_json : List Row → List ℕ
+more_json rows = flat_map next_json rows
+
+abbrev pub rows_json : List Row → List ℕ
+rows_json [] = []
+rows_json (row ∷ rows) = row_json row ++ more_json rows
+
+abbrev pub closed_json : List Row → List ℕ
+closed_json rows = rows_json rows ++ codes "]}\n"
+
+unfoldable pub document : List Row → List ℕ
+document rows = codes "{\"databases\":[" ++ closed_json rows
+
+-- the document of the databases of a store
+abbrev pub databases_json : Store → List ℕ
+databases_json store = document (rows_in store)
+
+-- what `databases --json` wrote of an image, by the status with which it ends
+pub record EndsDatabasesJson {V : Type 0} (image : List ℕ) (contents : V → Option (List ℕ)) (old new : Writing V) (status : Status) : Type 0 where
+  pub done : status ≡ Done → Puts contents old new (databases_json (store_of image)) true
+  pub accepted : status ≡ Done → Accepted image
+  pub refused : status ≡ Refused → Accepted image → ⊥
+  pub fault : status ≡ Refused → PutsImageFault image contents old new true
+  pub no_memory : status ≡ NoMemory → new ≡ old
+  pub write_fault : status ≡ WriteFault → (Accepted image × Puts contents old new (databases_json (store_of image)) false) ⊎ ((Accepted image → ⊥) × PutsImageFault image contents old new false)
+  pub good_words : status ≢ BadWords
+  pub reads_nothing : status ≢ ReadFault
