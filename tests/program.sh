@@ -127,12 +127,13 @@ says 'files in and out' 0 'ok
 ok 80
 refused 10 NoSuchDatabase
 refused 25 BadFile Truncated
-ok 80' '' run blank.img files.txt b.img calls.txt empty.pdb
+ok 80' 'line 4: there is no FILE 3' run blank.img files.txt b.img calls.txt empty.pdb
 { cat empty.pdb; printf '\000\000'; } >wanted.pdb
 is 'the first exported file' '' "$(cmp wanted.pdb b.img.1 2>&1)"
 is 'the second exported file' '' "$(cmp wanted.pdb b.img.2 2>&1)"
 is 'the old exported file is as it was' old "$(cat old.pdb)"
 is 'the exported files' 'b.img.1 b.img.2' "$(echo b.img.*)"
+says 'files of an earlier run' 0 'ok 96' "$(printf '%s is from an earlier run\n' b.img.1 b.img.2)" run a.img calls.txt b.img
 rm old.pdb b.img.1 b.img.2
 mkdir c.img.2
 says 'an exported file to a folder' 3 'ok
@@ -149,6 +150,18 @@ says 'an exported file to a full device' 3 'ok
 ok 80' 'fault write
 c.img.1: No space left on device (os error 28)' run blank.img files.txt c.img empty.pdb
 rm c.img c.img.1
+
+# standard input in place of a file, and a file of that name
+a_summary=$(printf 'ok size 128 slots 4 movable 0 fixed 0 free 96\ndatabases 0')
+says 'an image on standard input' 0 "$a_summary" '' check - <a.img
+says 'a script on standard input' 0 'ok 96' '' run a.img - c.img <calls.txt
+says 'a file of that name' 0 ok '' new 128 4 ./-
+says 'its check' 0 "$a_summary" '' check ./-
+says 'a file on standard input in place of an image' 1 'bad BadMagic' \
+    "standard input looks like a PDB or PRC file: 'palmheap list -' lists it" check - <empty.pdb
+says 'a refused line, and its number' 5 '1 refused 25 BadFile Truncated
+2 refused 10 NoSuchDatabase' 'line 1: there is no FILE 1' run --numbers --strict blank.img files.txt c.img
+rm c.img ./-
 
 # folders of parts: what is there stays, a part is a file, and what can't be written whole leaves nothing
 says 'a file that is unpacked' 0 'ok 1' '' unpack empty.pdb parts

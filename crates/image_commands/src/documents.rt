@@ -4,6 +4,7 @@ ghost use Rattle.std.specs.Prelude.{◌≡◌, ◌≢◌};
 
 use crate::faults::{STANDARD_OUTPUT, fail};
 use crate::files::{read_file_or_input, read_image};
+use crate::suggestions::{looks_like_file, suggest_list};
 use json_documents::{check_json_region_from, cmd_list_json_from};
 use palm_text::Counted;
 use program_io::{Noted, Status, report_outcome};
@@ -27,8 +28,8 @@ pub fn list_json<R: Files + Input + Print + Eprint + AllocGlobal>(rt: &R, path: 
     report_document(rt, status, out)
 }
 
-/// Runs `check --json` on the image at a path.
-pub fn check_json<R: Files + Print + Eprint + AllocGlobal>(rt: &R, path: &str) -> Status
+/// Runs `check --json` on the image at a path. The path `-` means standard input.
+pub fn check_json<R: Files + Input + Print + Eprint + AllocGlobal>(rt: &R, path: &str) -> Status
     ensures { result ≢ Status.BadWords }
 {
     let image = match read_image(rt, path) {
@@ -39,8 +40,13 @@ pub fn check_json<R: Files + Print + Eprint + AllocGlobal>(rt: &R, path: &str) -
         return fail(rt, Status::NoMemory);
     };
     let mut out = Counted::new(out);
-    let status = check_json_region_from(&rt.alloc(), &image, &mut out);
-    report_document(rt, status, out)
+    let status = report_document(
+        rt,
+        check_json_region_from(&rt.alloc(), &image, &mut out),
+        out,
+    );
+    suggest_list(rt, path, status, looks_like_file(&image));
+    status
 }
 
 /// Reports on standard error why a command failed that writes a document to standard output, if it

@@ -11,6 +11,7 @@ use program_io::{
 };
 use raw_region::Region;
 use std::alloc::{AllocError, Global};
+use std::fs;
 use std::fs::File;
 use std::io::Input;
 use std::rt::Files;
@@ -51,29 +52,32 @@ pub fn read_file_or_input<R: Files + Input + Eprint + AllocGlobal>(
     }
 }
 
-/// Reads a whole file into a region.
+/// Reads a whole file into a region. The path `-` means standard input.
 ///
 /// # Errors
 /// - `ReadFault`: the file can't be read, or is longer than `INPUT_LIMIT`.
 /// - `NoMemory`: an allocation failed.
-pub fn read_image<R: Files + Eprint + AllocGlobal>(rt: &R, path: &str) -> Result<Region, Status>
+pub fn read_image<R: Files + Input + Eprint + AllocGlobal>(
+    rt: &R,
+    path: &str,
+) -> Result<Region, Status>
     ensures limit { IfOk result (λ region. length region.bytes ≤ INPUT_LIMIT) }
     ensures whole { IfOk result (λ region. region.lent ≡ None) }
     ensures faults { IfErr result (λ status. (status ≡ Status.ReadFault) ⊎ (status ≡ Status.NoMemory)) }
 {
-    let bytes = read_file(rt, path)?;
+    let bytes = read_file_or_input(rt, path)?;
     match Region::copied_from(&rt.alloc(), bytes.as_slice()) {
         Ok(region) => Ok(region),
         Err(_) => Err(fail(rt, Status::NoMemory)),
     }
 }
 
-/// Reads some files as wholes, in order.
+/// Reads some files as wholes, in order. The path `-` means standard input.
 ///
 /// # Errors
 /// - `ReadFault`: a file can't be read, or is longer than `INPUT_LIMIT`.
 /// - `NoMemory`: an allocation failed.
-pub fn read_files<R: Files + Eprint + AllocGlobal>(
+pub fn read_files<R: Files + Input + Eprint + AllocGlobal>(
     rt: &R,
     paths: &[&str],
 ) -> Result<Vec<Bytes>, Status>
@@ -82,7 +86,7 @@ pub fn read_files<R: Files + Eprint + AllocGlobal>(
 {
     let mut files = Vec::new(rt.alloc());
     for path in paths {
-        let file = Bytes::of(read_file(rt, path)?);
+        let file = Bytes::of(read_file_or_input(rt, path)?);
         if files.push(file).is_err() {
             return Err(fail(rt, Status::NoMemory));
         }
@@ -106,6 +110,23 @@ pub fn write_files<R: Files + Eprint + AllocGlobal>(rt: &R, path: &str, files: &
         }
     }
     Status::Done
+}
+
+/// Reports on standard error which exported files of an earlier run are next to the image. `count`
+/// is the number of files that this run wrote. It reports them in order, up to the first number
+/// without a file.
+pub fn report_left_files<R: Files + Eprint + AllocGlobal>(rt: &R, path: &str, count: usize) {
+    for number in count..usize::MAX {
+        let Ok(left) = export_path(rt.alloc(), path, number + 1) else {
+            return;
+        };
+        match fs::metadata(rt, left.as_str()) {
+            Ok(found) if found.is_file() => {
+                let _ = eprintln!(rt; "{left} is from an earlier run");
+            }
+            _ => return,
+        }
+    }
 }
 
 /// Returns the path of an exported file: the path of the image, a point and the file's number, from

@@ -6,9 +6,11 @@ use crate::commands::{check_region_from, cmd_new_from};
 use crate::faults::{STANDARD_OUTPUT, fail};
 use crate::files::read_image;
 use crate::migrate_command::migrate_region_from;
+use crate::suggestions::{looks_like_file, suggest_list};
 use palm_text::Counted;
 use program_io::{Noted, OutputFile, Status, report_outcome};
 use std::io;
+use std::io::Input;
 use std::rt::Files;
 
 /// Runs `new`: writes a blank image to a path.
@@ -34,8 +36,8 @@ pub fn new<R: Files + Print + Eprint + AllocGlobal>(
     status
 }
 
-/// Runs `check` on the image at a path.
-pub fn check<R: Files + Print + Eprint + AllocGlobal>(rt: &R, path: &str) -> Status
+/// Runs `check` on the image at a path. The path `-` means standard input.
+pub fn check<R: Files + Input + Print + Eprint + AllocGlobal>(rt: &R, path: &str) -> Status
     ensures { result ≢ Status.BadWords }
 {
     let image = match read_image(rt, path) {
@@ -46,17 +48,24 @@ pub fn check<R: Files + Print + Eprint + AllocGlobal>(rt: &R, path: &str) -> Sta
     let status = check_region_from(&rt.alloc(), &image, &mut out);
     let (_, fault) = out.into_inner().into_parts();
     report_outcome(rt, status, &[(STANDARD_OUTPUT, fault)]);
+    suggest_list(rt, path, status, looks_like_file(&image));
     status
 }
 
-/// Runs `migrate` on an image, and writes the new image to a path.
-pub fn migrate<R: Files + Print + Eprint + AllocGlobal>(rt: &R, image: &str, path: &str) -> Status
+/// Runs `migrate` on an image, and writes the new image to a path. The path `-` of the image means
+/// standard input.
+pub fn migrate<R: Files + Input + Print + Eprint + AllocGlobal>(
+    rt: &R,
+    image_path: &str,
+    path: &str,
+) -> Status
     ensures { result ≢ Status.BadWords }
 {
-    let image = match read_image(rt, image) {
+    let image = match read_image(rt, image_path) {
         Ok(image) => image,
         Err(status) => return status,
     };
+    let is_file = looks_like_file(&image);
     let Ok(image_out) = OutputFile::new(rt, path) else {
         return fail(rt, Status::NoMemory);
     };
@@ -67,5 +76,6 @@ pub fn migrate<R: Files + Print + Eprint + AllocGlobal>(rt: &R, image: &str, pat
     image_out.close();
     let (_, fault) = out.into_inner().into_parts();
     report_outcome(rt, status, &[(path, image_fault), (STANDARD_OUTPUT, fault)]);
+    suggest_list(rt, image_path, status, is_file);
     status
 }

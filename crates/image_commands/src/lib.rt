@@ -25,6 +25,7 @@
 //! | `folders` | the commands `unpack` and `pack`, over files and folders |
 //! | `files` | reads and writes files |
 //! | `faults` | reports why a command did not start |
+//! | `suggestions` | reports that a refused image looks like a PDB or PRC file |
 #![tactic(auto)]
 
 mod commands;
@@ -38,15 +39,20 @@ mod images;
 mod map_command;
 mod maps;
 mod migrate_command;
+mod suggestions;
 
 pub use commands::{check_region_from, cmd_check, cmd_check_from, cmd_new, cmd_new_from};
 pub use documents::{check_json, list_json, report_document};
 pub use faults::{STANDARD_OUTPUT, fail};
 pub use file_listings::{canonical, list};
-pub use files::{read_file, read_file_or_input, read_files, read_image, write_file, write_files};
+pub use files::{
+    read_file, read_file_or_input, read_files, read_image, report_left_files, write_file,
+    write_files,
+};
 pub use folders::{pack, path_in, unpack};
 pub use image_output::put_store;
 pub use images::{check, migrate, new};
 pub use map_command::{cmd_map, cmd_map_from, map_region_from};
 pub use maps::map;
 pub use migrate_command::{cmd_migrate, cmd_migrate_from, migrate_region_from};
+pub use suggestions::{looks_like_file, suggest_list};

@@ -5,14 +5,15 @@ ghost use Rattle.std.specs.Prelude.{◌≢◌};
 use crate::faults::{STANDARD_OUTPUT, fail};
 use crate::files::read_image;
 use crate::map_command::map_region_from;
+use crate::suggestions::{looks_like_file, suggest_list};
 use palm_text::Counted;
 use program_io::{Noted, Status, report_outcome};
 use std::io;
-use std::io::BufWriter;
+use std::io::{BufWriter, Input};
 use std::rt::Files;
 
-/// Runs `map` on the image at a path: prints its picture.
-pub fn map<R: Files + Print + Eprint + AllocGlobal>(rt: &R, path: &str) -> Status
+/// Runs `map` on the image at a path: prints its picture. The path `-` means standard input.
+pub fn map<R: Files + Input + Print + Eprint + AllocGlobal>(rt: &R, path: &str) -> Status
     ensures { result ≢ Status.BadWords }
 {
     let image = match read_image(rt, path) {
@@ -28,5 +29,6 @@ pub fn map<R: Files + Print + Eprint + AllocGlobal>(rt: &R, path: &str) -> Statu
     let (out, _) = out.into_inner().into_parts();
     let (_, fault) = out.into_parts();
     report_outcome(rt, status, &[(STANDARD_OUTPUT, fault)]);
+    suggest_list(rt, path, status, looks_like_file(&image));
     status
 }

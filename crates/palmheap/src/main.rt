@@ -3,13 +3,13 @@
 //! The crate `palmheap_program` has its functions.
 #![tactic(auto)]
 
-use palmheap_program::{read_words, run};
+use palmheap_program::{Ending, read_words, run};
 use std::process::ExitCode;
 
 fn main(rt: HostRuntime) -> ExitCode {
-    let status = match read_words(&rt) {
+    let ending = match read_words(&rt) {
         Ok(words) => run(&rt, words.as_slice()),
-        Err(status) => status,
+        Err(status) => Ending::Ended(status),
     };
-    ExitCode::from(status.code())
+    ExitCode::from(ending.code())
 }

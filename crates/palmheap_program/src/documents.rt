@@ -3,7 +3,10 @@
 ghost use Rattle.std.specs.Prelude.{◌≢◌};
 
 use crate::stores::databases;
-use image_commands::{check, check_json, fail, list, list_json, read_image, report_document};
+use image_commands::{
+    check, check_json, fail, list, list_json, looks_like_file, read_image, report_document,
+    suggest_list,
+};
 use palm_text::Counted;
 use program_io::command_line::Form;
 use program_io::{Noted, Status};
@@ -27,7 +30,7 @@ pub(crate) fn list_as<R: Files + Input + Print + Eprint + AllocGlobal>(
 }
 
 /// Runs `check`, and prints in this form.
-pub(crate) fn check_as<R: Files + Print + Eprint + AllocGlobal>(
+pub(crate) fn check_as<R: Files + Input + Print + Eprint + AllocGlobal>(
     rt: &R,
     image: &str,
     form: Form,
@@ -41,7 +44,7 @@ pub(crate) fn check_as<R: Files + Print + Eprint + AllocGlobal>(
 }
 
 /// Runs `databases`, and prints in this form.
-pub(crate) fn databases_as<R: Files + Print + Eprint + AllocGlobal>(
+pub(crate) fn databases_as<R: Files + Input + Print + Eprint + AllocGlobal>(
     rt: &R,
     image: &str,
     form: Form,
@@ -54,18 +57,21 @@ pub(crate) fn databases_as<R: Files + Print + Eprint + AllocGlobal>(
     }
 }
 
-/// Runs `databases --json`.
-fn databases_json<R: Files + Print + Eprint + AllocGlobal>(rt: &R, image: &str) -> Status
+/// Runs `databases --json`. The path `-` means standard input.
+fn databases_json<R: Files + Input + Print + Eprint + AllocGlobal>(rt: &R, path: &str) -> Status
     ensures { result ≢ Status.BadWords }
 {
-    let image = match read_image(rt, image) {
+    let image = match read_image(rt, path) {
         Ok(image) => image,
         Err(status) => return status,
     };
+    let is_file = looks_like_file(&image);
     let Ok(out) = BufWriter::new(rt.alloc(), Noted::new(io::writer(rt))) else {
         return fail(rt, Status::NoMemory);
     };
     let mut out = Counted::new(out);
     let status = databases_json_region_from(&rt.alloc(), image, &mut out);
-    report_document(rt, status, out)
+    let status = report_document(rt, status, out);
+    suggest_list(rt, path, status, is_file);
+    status
 }

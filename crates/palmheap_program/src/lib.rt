@@ -13,6 +13,8 @@
 //! |---|---|
 //! | `run_command` | the command `run`, over bytes: a script, run on an image |
 //! | `scripts` | the command `run`, over files |
+//! | `ending` | how a run of the program ends |
+//! | `meanings` | the command `explain` |
 //! | `stores` | the commands `databases`, `export` and `import`, over files and folders |
 //! | `documents` | `list`, `check` and `databases` in the form that is asked for; `databases --json` |
 //! | `words` | reads the words of the command line |
@@ -20,12 +22,15 @@
 #![tactic(auto)]
 
 mod documents;
+mod ending;
+mod meanings;
 mod requests;
 mod run_command;
 mod scripts;
 mod stores;
 mod words;
 
+pub use ending::Ending;
 pub use requests::run;
 pub use run_command::{cmd_run, cmd_run_from, run_region_from};
 pub use words::read_words;

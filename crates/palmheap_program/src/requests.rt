@@ -4,7 +4,9 @@ ghost use Rattle.std.specs.Prelude.{◌≡◌, ◌≢◌, ◌⊎◌};
 ghost use Rattle.clap.specs.Values.{kind_of};
 
 use crate::documents::{check_as, databases_as, list_as};
-use crate::scripts::run_script;
+use crate::ending::Ending;
+use crate::meanings::explain;
+use crate::scripts::{RunPaths, run_script};
 use crate::stores::{export, import};
 use clap::error::ErrorKind;
 use image_commands::{STANDARD_OUTPUT, canonical, fail, map, migrate, new, pack, unpack};
@@ -18,8 +20,8 @@ use store_commands::ImageChoice;
 /// If the run fails, standard error has the reason.
 ///
 /// No contract can relate the status to the files. The stored runs of `test_program` test it.
-pub fn run<R: Files + Input + Print + Eprint + AllocGlobal>(rt: &R, words: &[String]) -> Status {
-    match command_line::parse(rt.alloc(), words) {
+pub fn run<R: Files + Input + Print + Eprint + AllocGlobal>(rt: &R, words: &[String]) -> Ending {
+    let status = match command_line::parse(rt.alloc(), words) {
         Ok(Request::New { size, slots, out }) => new(rt, size, slots, out),
         Ok(Request::Check { image, form }) => check_as(rt, image, form),
         Ok(
@@ -28,8 +30,17 @@ pub fn run<R: Files + Input + Print + Eprint + AllocGlobal>(rt: &R, words: &[Str
                 script,
                 out,
                 files,
+                shown,
             },
-        ) => run_script(rt, image, script, out, files.as_slice()),
+        ) => {
+            let paths = RunPaths {
+                image,
+                script,
+                files: files.as_slice(),
+                out,
+            };
+            return run_script(rt, paths, shown);
+        }
         Ok(Request::Migrate { image, out }) => migrate(rt, image, out),
         Ok(Request::Map { image }) => map(rt, image),
         Ok(Request::List { file, form }) => list_as(rt, file, form),
@@ -52,8 +63,10 @@ pub fn run<R: Files + Input + Print + Eprint + AllocGlobal>(rt: &R, words: &[Str
                 files,
             },
         ) => import(rt, out, ImageChoice { size, slots }, files.as_slice()),
+        Ok(Request::Explain { word }) => explain(rt, word),
         Err(error) => answer(rt, &error),
-    }
+    };
+    Ending::Ended(status)
 }
 
 /// Prints the text for words without a command: their error, or the help or the version.

@@ -1,55 +1,155 @@
 //! The command `run`.
 
-ghost use Rattle.std.specs.Prelude.{◌≡◌, ◌≢◌, ◌⊎◌, IfErr, None};
+ghost use Rattle.std.specs.Prelude.{◌≡◌, ◌≢◌, ◌⊎◌, IfErr, None, false};
 
+use crate::ending::Ending;
 use crate::run_command::run_region_from;
 use heap_model::Bytes;
-use image_commands::{STANDARD_OUTPUT, fail, read_file, read_files, read_image, write_files};
+use hints::{line_numbers, missing_files};
+use image_commands::{
+    STANDARD_OUTPUT, fail, looks_like_file, read_file_or_input, read_files, read_image,
+    report_left_files, suggest_list, write_files,
+};
 use palm_text::Counted;
+use program_io::command_line::Shown;
 use program_io::{Noted, OutputFile, Status, report_outcome};
 use raw_region::Region;
+use reply_lines::Replies;
+use script_lines::parse_from;
+use std::alloc::AllocError;
 use std::io;
-use std::io::BufWriter;
+use std::io::{BufWriter, Input};
 use std::rt::Files;
+
+/// The paths of a run. The path `-` of an input means standard input.
+#[derive(Clone, Copy)]
+pub(crate) struct RunPaths<'a> {
+    pub(crate) image: &'a str,
+    pub(crate) script: &'a str,
+    /// The files that lines of the script import, in order.
+    pub(crate) files: &'a [&'a str],
+    /// The new image. The exported files are next to it.
+    pub(crate) out: &'a str,
+}
 
 /// Does the command `run`. It reads all input files before it checks the image. It writes the
 /// exported files last.
-pub(crate) fn run_script<R: Files + Print + Eprint + AllocGlobal>(
+///
+/// Then it reports on standard error which lines import a file that was not given, and which
+/// exported files are from an earlier run.
+pub(crate) fn run_script<R: Files + Input + Print + Eprint + AllocGlobal>(
     rt: &R,
-    image: &str,
-    script: &str,
-    path: &str,
-    inputs: &[&str],
-) -> Status
-    ensures { result ≢ Status.BadWords }
+    paths: RunPaths<'_>,
+    shown: Shown,
+) -> Ending
+    ensures good_words { result ≢ Ending.Ended Status.BadWords }
+    ensures only_strict { shown.strict ≡ false → result ≢ Ending.LineRefused }
 {
-    let image = match read_image(rt, image) {
-        Ok(image) => image,
-        Err(status) => return status,
-    };
-    let script = match read_file(rt, script) {
-        Ok(script) => script,
-        Err(status) => return status,
-    };
-    let inputs = match read_files(rt, inputs) {
-        Ok(inputs) => inputs,
-        Err(status) => return status,
-    };
-    match run_to(rt, image, script.as_slice(), inputs.as_slice(), path) {
-        Ok(files) => write_files(rt, path, files.as_slice()),
-        Err(status) => status,
+    match run_paths(rt, paths, shown.numbers) {
+        Ok(any_refused) => {
+            if shown.strict && any_refused {
+                Ending::LineRefused
+            } else {
+                Ending::Ended(Status::Done)
+            }
+        }
+        Err(status) => Ending::Ended(status),
     }
 }
 
-/// Runs a script on an image, writes the new image, and returns the files that the script exports.
-/// If it fails, standard error has the reason.
+/// Does the same as `run_script`, and returns whether a line was refused.
+fn run_paths<R: Files + Input + Print + Eprint + AllocGlobal>(
+    rt: &R,
+    paths: RunPaths<'_>,
+    has_numbers: bool,
+) -> Result<bool, Status>
+    ensures { IfErr result (λ status. status ≢ Status.BadWords) }
+{
+    let image = read_image(rt, paths.image)?;
+    let is_file = looks_like_file(&image);
+    let script = read_file_or_input(rt, paths.script)?;
+    let inputs = read_files(rt, paths.files)?;
+    let numbers = if has_numbers {
+        numbers_of(rt, script.as_slice())?
+    } else {
+        Vec::new(rt.alloc())
+    };
+    let given = Given {
+        script: script.as_slice(),
+        files: inputs.as_slice(),
+        numbers: numbers.as_slice(),
+    };
+    let replied = match run_to(rt, image, given, paths.out) {
+        Ok(replied) => replied,
+        Err(status) => {
+            suggest_list(rt, paths.image, status, is_file);
+            return Err(status);
+        }
+    };
+    let status = write_files(rt, paths.out, replied.files.as_slice());
+    if status != Status::Done {
+        return Err(status);
+    }
+    report_missing_files(rt, script.as_slice(), inputs.len());
+    report_left_files(rt, paths.out, replied.files.len());
+    Ok(replied.any_refused)
+}
+
+/// Returns the numbers of the lines of a script that are run.
+fn numbers_of<R: Eprint + AllocGlobal>(rt: &R, script: &[u8]) -> Result<Vec<usize>, Status>
+    ensures { IfErr result (λ status. status ≡ Status.NoMemory) }
+{
+    match line_numbers(&rt.alloc(), script) {
+        Ok(numbers) => Ok(numbers),
+        Err(_) => Err(fail(rt, Status::NoMemory)),
+    }
+}
+
+/// Reports on standard error each line of a script that imports a file that was not given. `count`
+/// is the number of given files. If an allocation fails, it reports nothing.
+fn report_missing_files<R: Eprint + AllocGlobal>(rt: &R, script: &[u8], count: usize) {
+    let _ = name_missing_files(rt, script, count);
+}
+
+fn name_missing_files<R: Eprint + AllocGlobal>(
+    rt: &R,
+    script: &[u8],
+    count: usize,
+) -> Result<(), AllocError> {
+    let memory = rt.alloc();
+    let Ok(lines) = parse_from(&memory, script) else {
+        return Ok(());
+    };
+    let numbers = line_numbers(&memory, script)?;
+    let missing = missing_files(&memory, count, lines.lines(), numbers.as_slice())?;
+    for file in &missing {
+        let _ = eprintln!(rt; "line {}: there is no FILE {}", file.line, file.file);
+    }
+    Ok(())
+}
+
+/// The bytes of a script and of its files, and the number that each reply gets, if any.
+#[derive(Clone, Copy)]
+struct Given<'a> {
+    script: &'a [u8],
+    files: &'a [Bytes],
+    numbers: &'a [usize],
+}
+
+/// The outcome of a script: the files that it exports, and whether a line was refused.
+#[derive(Drop)]
+struct Replied {
+    files: Vec<Bytes>,
+    any_refused: bool,
+}
+
+/// Runs a script on an image, and writes the new image. If it fails, standard error has the reason.
 fn run_to<R: Files + Print + Eprint + AllocGlobal>(
     rt: &R,
     image: Region,
-    script: &[u8],
-    inputs: &[Bytes],
+    given: Given<'_>,
     path: &str,
-) -> Result<Vec<Bytes>, Status>
+) -> Result<Replied, Status>
     requires { image.lent ≡ None }
     ensures { IfErr result (λ status. (status ≡ Status.Refused)
         ⊎ (status ≡ Status.WriteFault) ⊎ (status ≡ Status.NoMemory)) }
@@ -60,25 +160,31 @@ fn run_to<R: Files + Print + Eprint + AllocGlobal>(
     let Ok(image_out) = OutputFile::new(rt, path) else {
         return Err(fail(rt, Status::NoMemory));
     };
-    let (mut image_out, mut out) = (Counted::new(Noted::new(image_out)), Counted::new(out));
+    let mut image_out = Counted::new(Noted::new(image_out));
+    let mut out = Counted::new(Replies::new(out, given.numbers));
     let mut files = Vec::new(rt.alloc());
     let status = run_region_from(
         &rt.alloc(),
         image,
-        script,
-        inputs,
+        given.script,
+        given.files,
         &mut image_out,
         &mut files,
         &mut out,
     );
     let (image_out, image_fault) = image_out.into_inner().into_parts();
     image_out.close();
-    // After a fault, the bytes left in `out` are thrown away. Dropping `out` would write again.
-    let (out, _) = out.into_inner().into_parts();
+    let Replies {
+        writer,
+        any_refused,
+        ..
+    } = out.into_inner();
+    // After a fault, the bytes left in `writer` are thrown away. Dropping it would write again.
+    let (out, _) = writer.into_parts();
     let (_, fault) = out.into_parts();
     report_outcome(rt, status, &[(path, image_fault), (STANDARD_OUTPUT, fault)]);
     if status == Status::Done {
-        Ok(files)
+        Ok(Replied { files, any_refused })
     } else {
         Err(status)
     }

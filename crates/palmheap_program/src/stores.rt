@@ -5,7 +5,10 @@ ghost use Rattle.std.specs.Prelude.{◌≡◌, ◌≢◌, ◌≤◌, ◌⊎◌, 
 use allowance::copied;
 use file_commands::say_count;
 use heap_model::Bytes;
-use image_commands::{STANDARD_OUTPUT, fail, path_in, read_file_or_input, read_image, write_file};
+use image_commands::{
+    STANDARD_OUTPUT, fail, looks_like_file, path_in, read_file_or_input, read_image, suggest_list,
+    write_file,
+};
 use palm_text::Counted;
 use program_io::{Noted, OutputFile, Status, report_outcome, report_write_fault};
 use std::alloc::AllocError;
@@ -16,39 +19,48 @@ use store_commands::{
     Ended, ExportedFile, ImageChoice, cmd_import_from, databases_region_from, export_files,
 };
 
-/// Runs `databases`.
-pub(crate) fn databases<R: Files + Print + Eprint + AllocGlobal>(rt: &R, image: &str) -> Status
+/// Runs `databases`. The path `-` means standard input.
+pub(crate) fn databases<R: Files + Input + Print + Eprint + AllocGlobal>(
+    rt: &R,
+    path: &str,
+) -> Status
     ensures { result ≢ Status.BadWords }
 {
-    let image = match read_image(rt, image) {
+    let image = match read_image(rt, path) {
         Ok(image) => image,
         Err(status) => return status,
     };
+    let is_file = looks_like_file(&image);
     let mut out = Counted::new(Noted::new(io::writer(rt)));
     let status = databases_region_from(&rt.alloc(), image, &mut out);
-    reported(rt, status, out)
+    let status = reported(rt, status, out);
+    suggest_list(rt, path, status, is_file);
+    status
 }
 
-/// Runs `export`.
-pub(crate) fn export<R: Files + Print + Eprint + AllocGlobal>(
+/// Runs `export`. The path `-` means standard input.
+pub(crate) fn export<R: Files + Input + Print + Eprint + AllocGlobal>(
     rt: &R,
-    image: &str,
+    path: &str,
     folder: &str,
     names: &[&str],
 ) -> Status {
     let Ok(words) = words_of(rt, names) else {
         return fail(rt, Status::NoMemory);
     };
-    let image = match read_image(rt, image) {
+    let image = match read_image(rt, path) {
         Ok(image) => image,
         Err(status) => return status,
     };
+    let is_file = looks_like_file(&image);
     let mut out = Counted::new(Noted::new(io::writer(rt)));
     let files = match export_files(&rt.alloc(), image, words.as_slice(), &mut out) {
         Ok(files) => files,
         Err(ended) => {
             name_refused(rt, ended, names);
-            return reported(rt, ended.status, out);
+            let status = reported(rt, ended.status, out);
+            suggest_list(rt, path, status, is_file);
+            return status;
         }
     };
     match write_folder(rt, folder, files.as_slice()) {

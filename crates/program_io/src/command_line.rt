@@ -3,7 +3,6 @@
 //! Start with `COMMANDS`, which has a row for each command. `parse` returns the request of the
 //! words.
 
-use clap::builder::ValueParser;
 use clap::error::{Error, ErrorKind};
 use clap::{Arg, ArgAction, ArgMatches, Command};
 use std::alloc::{AllocError, Global};
@@ -35,6 +34,7 @@ pub enum Request<'a> {
         out: &'a str,
         /// The files that lines of the script import, in order.
         files: Vec<&'a str>,
+        shown: Shown,
     },
     Migrate {
         image: &'a str,
@@ -75,6 +75,18 @@ pub enum Request<'a> {
         slots: Option<u16>,
         files: Vec<&'a str>,
     },
+    Explain {
+        word: &'a str,
+    },
+}
+
+/// How the replies of a script are printed, and what a refused line means for the exit status.
+#[derive(Clone, Copy, Debug, PartialEq, Eq)]
+pub struct Shown {
+    /// Each reply follows the number of its line.
+    pub numbers: bool,
+    /// The exit status is 5 if a line is refused.
+    pub strict: bool,
 }
 
 /// A command: its word, its help, and its arguments in order.
@@ -91,7 +103,6 @@ struct CommandRow {
 struct Argument {
     name: &'static str,
     count: Count,
-    values: ValueParser<'static>,
     help: &'static str,
 }
 
@@ -110,30 +121,28 @@ enum Count {
 }
 
 /// Every command.
-const COMMANDS: [CommandRow; 12] = [
+const COMMANDS: [CommandRow; 13] = [
     CommandRow {
         name: "new",
         about: "Writes an image with nothing in it, and prints 'ok'",
-        after_help: None,
+        after_help: Some(NEW_IMAGES),
         arguments: &[
             Argument {
                 name: "SIZE",
                 count: Count::One,
-                values: ValueParser::Unsigned(0, u32::MAX as u64),
                 help: "Size of the image in bytes: a multiple of 8, from 64 to 16777208",
             },
             Argument {
                 name: "SLOTS",
                 count: Count::One,
-                values: ValueParser::Unsigned(0, u16::MAX as u64),
-                help: "How many slots its table has, 1 to 65535: the most chunks that can be movable \
-                    at a time. A slot takes 4 bytes",
+                help: "How many slots its table has, 1 to 65535: the most chunks that can\n\
+                    be movable at a time. A slot takes 4 bytes",
             },
             Argument {
                 name: "OUT",
                 count: Count::One,
-                values: ValueParser::String,
-                help: "File for the image. One that is there is replaced, once the image is whole",
+                help: "File for the image. One that is there is replaced, once the image\n\
+                    is whole",
             },
         ],
     },
@@ -152,22 +161,30 @@ const COMMANDS: [CommandRow; 12] = [
             Argument {
                 name: "SCRIPT",
                 count: Count::One,
-                values: ValueParser::String,
-                help: "File with the script",
+                help: "File with the script; '-' is standard input",
             },
             Argument {
                 name: "OUT",
                 count: Count::One,
-                values: ValueParser::String,
-                help: "File for the changed image. One that is there is replaced, once the image is \
-                    whole. The files that the script exports go to OUT.1, OUT.2 and so on",
+                help: "File for the changed image. One that is there is replaced, once the\n\
+                    image is whole. The files that the script exports go to OUT.1,\n\
+                    OUT.2 and so on",
             },
             Argument {
                 name: "FILE",
                 count: Count::Any,
-                values: ValueParser::String,
-                help: "Files of databases, PDB or PRC, that lines of the script import by their number: \
-                    the first is 1",
+                help: "Files of databases, PDB or PRC, that lines of the script import by\n\
+                    their number: the first is 1; '-' is standard input",
+            },
+            Argument {
+                name: "NUMBERS",
+                count: Count::Flag("numbers"),
+                help: "Prints the number of its line before each reply",
+            },
+            Argument {
+                name: "STRICT",
+                count: Count::Flag("strict"),
+                help: "Ends with status 5 if a line is refused. All lines are run",
             },
         ],
     },
@@ -180,68 +197,65 @@ const COMMANDS: [CommandRow; 12] = [
             Argument {
                 name: "OUT",
                 count: Count::One,
-                values: ValueParser::String,
-                help: "File for the new image. One that is there is replaced, once the image is whole",
+                help: "File for the new image. One that is there is replaced, once the\n\
+                    image is whole",
             },
         ],
     },
     CommandRow {
         name: "map",
-        about: "Prints a picture of an image: where chunks, free space, locks and databases lie",
+        about: "Prints a picture of an image: where chunks and free space are",
         after_help: Some(MAPS),
         arguments: &[IMAGE],
     },
     CommandRow {
         name: "list",
-        about: "Lists a PDB or PRC file: its header, its entries and where their data stands",
+        about: "Lists a PDB or PRC file: its header, its entries and their places",
         after_help: Some(LISTINGS),
         arguments: &[DATABASE_FILE, JSON],
     },
     CommandRow {
         name: "canonical",
-        about: "Rewrites a PDB or PRC file as an import and an export would, without an image",
+        about: "Rewrites a PDB or PRC file as an import and an export would",
         after_help: Some(CANONICAL_FORMS),
         arguments: &[
             DATABASE_FILE,
             Argument {
                 name: "OUT",
                 count: Count::One,
-                values: ValueParser::String,
-                help: "File for the rewritten database. One that is there is replaced, once the new one \
-                    is whole; '-' is standard output",
+                help: "File for the rewritten database. One that is there is replaced,\n\
+                    once the new one is whole; '-' is standard output",
             },
         ],
     },
     CommandRow {
         name: "unpack",
-        about: "Takes a PDB or PRC file apart into a text and a file for each block",
+        about: "Takes a PDB or PRC file apart into a text and a file per block",
         after_help: Some(FOLDERS),
         arguments: &[
             DATABASE_FILE,
             Argument {
                 name: "DIR",
                 count: Count::One,
-                values: ValueParser::String,
                 help: "Folder to make. There must be none of that name",
             },
         ],
     },
     CommandRow {
         name: "pack",
-        about: "Puts a PDB or PRC file together from a folder that 'unpack' made",
+        about: "Puts a PDB or PRC file together from a folder of 'unpack'",
         after_help: Some(FOLDERS),
         arguments: &[
             Argument {
                 name: "DIR",
                 count: Count::One,
-                values: ValueParser::String,
                 help: "Folder with the text 'database' and the parts that it names",
             },
             Argument {
                 name: "FILE",
                 count: Count::One,
-                values: ValueParser::String,
-                help: "File for the database. One that is there is replaced, once the new one is whole",
+                help: "File for the database. One that is there is replaced, once the new\n\
+                    one is whole",
             },
         ],
     },
@@ -253,20 +267,19 @@ const COMMANDS: [CommandRow; 12] = [
     },
     CommandRow {
         name: "export",
-        about: "Writes the databases of an image into a folder, as PDB and PRC files",
+        about: "Writes the databases of an image into a folder, as files",
         after_help: Some(STORES),
         arguments: &[
             IMAGE,
             Argument {
                 name: "DIR",
                 count: Count::One,
-                values: ValueParser::String,
-                help: "Folder for the files. It is made if there is none. No file that is there is replaced",
+                help: "Folder for the files. It is made if there is none. No file that is\n\
+                    there is replaced",
             },
             Argument {
                 name: "NAME",
                 count: Count::Any,
-                values: ValueParser::String,
                 help: "Names of databases. Without any, all databases are written",
             },
         ],
@@ -279,95 +292,154 @@ const COMMANDS: [CommandRow; 12] = [
             Argument {
                 name: "OUT",
                 count: Count::One,
-                values: ValueParser::String,
-                help: "File for the image. One that is there is replaced, once the image is whole",
+                help: "File for the image. One that is there is replaced, once the image\n\
+                    is whole",
             },
             Argument {
                 name: "FILE",
                 count: Count::Several,
-                values: ValueParser::String,
-                help: "PDB and PRC files, in the order in which they are imported; '-' is standard input",
+                help: "PDB and PRC files, in the order in which they are imported; '-' is\n\
+                    standard input",
             },
             Argument {
                 name: "SIZE",
                 count: Count::Option("size"),
-                values: ValueParser::Unsigned(0, u32::MAX as u64),
-                help: "Size of the image in bytes. Without it, the least that the files need",
+                help: "Size of the image in bytes. Without it, the least that\n\
+                    the files need",
             },
             Argument {
                 name: "SLOTS",
                 count: Count::Option("slots"),
-                values: ValueParser::Unsigned(0, u16::MAX as u64),
-                help: "How many slots its table has. Without it, the least that the files need",
+                help: "How many slots its table has. Without it, the least\n\
+                    that the files need",
             },
         ],
+    },
+    CommandRow {
+        name: "explain",
+        about: "Prints what a fault or a refusal means",
+        after_help: Some(MEANINGS),
+        arguments: &[Argument {
+            name: "WORD",
+            count: Count::One,
+            help: "Name of a fault or of a refusal, or the number of a refusal",
+        }],
     },
 ];
 
 const DATABASE_FILE: Argument = Argument {
     name: "FILE",
     count: Count::One,
-    values: ValueParser::String,
-    help: "PDB or PRC file, of at most 16777216 bytes; '-' is standard input, and './-' a file of that name",
+    help: "PDB or PRC file, of at most 16777216 bytes; '-' is standard input, and\n\
+        './-' a file of that name",
 };
 
 const IMAGE: Argument = Argument {
     name: "IMAGE",
     count: Count::One,
-    values: ValueParser::String,
-    help: "File with the image",
+    help: "File with the image; '-' is standard input, and './-' a file of\n\
+        that name",
 };
 
 const JSON: Argument = Argument {
     name: "JSON",
     count: Count::Flag("json"),
-    values: ValueParser::String,
     help: "Prints one JSON document with the same facts, on one line",
 };
 
 const ABOUT: &str = "\
-Makes, checks and changes heap images: the memory of a Palm OS device, kept in a file";
+Makes, checks and changes heap images: the memory of a Palm OS device, kept in
+a file";
 
 const IMAGES: &str = "\
-A heap image is a file of 64 to 16777208 bytes, a multiple of 8. A header of 16 bytes is
-followed by a table of slots, one for each chunk of memory that may move, and by the chunks
-themselves, which fill the rest: free ones, movable ones and fixed ones. Databases are made of
-movable chunks, and a directory lists them.
+A heap image is a file of 64 to 16777208 bytes, a multiple of 8. A header of
+16 bytes is followed by a table of slots, one for each chunk of memory that
+may move, and by the chunks themselves, which fill the rest: free ones,
+movable ones and fixed ones. Databases are made of movable chunks, and a
+directory lists them.
 
 Exit status:
   0  done
-  1  the image, the file or the text was refused; standard output says why: 'bad' and the first fault,
-     or 'bad TooLarge' if 'migrate' or 'pack' would make it too large, or 'line', the number of the
-     first faulty line and what is wrong in it
-  2  the words were refused, or there is no image of that SIZE with that many SLOTS
-  3  a file could not be read or written, or is longer than 16777216 bytes; or standard output
-     could not be written
+  1  the image, the file or the text was refused; standard output says why:
+     'bad' and the first fault, or 'bad TooLarge' if 'migrate' or 'pack' would
+     make it too large, or 'line', the number of the first faulty line and
+     what is wrong in it
+  2  the words were refused, or there is no image of that SIZE with that many
+     SLOTS, or 'explain' knows no such WORD
+  3  a file could not be read or written, or is longer than 16777216 bytes;
+     or standard output could not be written
   4  there was not enough memory
-On 3 and 4 the first line on standard error is 'fault read', 'fault write' or 'fault memory'; behind
-the first two a second line names the file and says why.";
+  5  'run --strict' ran all lines, and one of them was refused
+On 3 and 4 the first line on standard error is 'fault read', 'fault write' or
+'fault memory'; after the first two a second line names the file and says why.";
+
+const NEW_IMAGES: &str = "\
+For example, 'palmheap new 65536 512 device.img' writes an image of 64 KB with
+512 slots, and prints 'ok'. If there is no image of this SIZE with that many
+SLOTS, it prints 'bad BadSize' or 'bad BadSlotCount', and the exit status is
+2.";
 
 const CHECKS: &str = "\
-For example, 'palmheap check --json device.img' prints:
+For example, 'palmheap check device.img' prints the size of the image, its
+slots, its movable and fixed chunks, its free bytes, and its databases:
 
-  {\"size\":128,\"slots\":4,\"movable\":2,\"fixed\":0,\"free\":72,\"databases\":1}
+  ok size 65536 slots 512 movable 3 fixed 0 free 63336
+  databases 1
 
-An image that is refused prints the name of its first fault and the numbers behind it, and the exit status is 1:
+If the file is no image, it prints the first fault, and the exit status is 1:
 
-  {\"fault\":\"BadEntry\",\"numbers\":[0,1]}";
+  bad BadChunk 48
+
+'palmheap explain BadChunk' prints what that means. If the file looks like a
+PDB or PRC file, standard error says so.
+
+With --json it prints the same facts, and the fault with its numbers:
+
+  {\"size\":65536,\"slots\":512,\"movable\":3,\"fixed\":0,\"free\":63336,\"databases\":1}
+
+  {\"fault\":\"BadChunk\",\"numbers\":[48]}";
 
 const MIGRATION: &str = "\
-An image that 'new' writes has one table, and when its slots are in use no more chunks can be movable.
-With a chain of tables the script line 'moreslots' adds 15 slots. With an even number of slots the image
-grows by 8 bytes, and the names of fixed chunks are greater by 8. All else is kept. An image that has a
-chain of tables is written as it is.";
+For example, 'palmheap migrate device.img new.img' writes new.img and prints
+'ok'.
+
+An image that 'new' writes has one table, and when its slots are in use no
+more chunks can be movable. With a chain of tables the script line 'moreslots'
+adds 15 slots. With an even number of slots the image grows by 8 bytes, and
+the names of fixed chunks are greater by 8. All else is kept. An image that
+has a chain of tables is written as it is.";
 
 const SCRIPTS: &str = "\
-A script is a text of lines. Each is a call of the memory manager, on databases, on their records, their
-resources or their files, and prints 'ok' with what the call answers, or 'refused' with the number and the
-name of the refusal. A chunk goes by a label, which 'new', 'ptrnew' and 'bind' give it: a letter, then letters,
-digits or '_'; so do the data of a record, by 'recnew', 'recget', 'recquery', 'recdetach' and 'recreplace',
-the data of a resource, by 'resnew', 'resinfo' and 'resdetach', and an info block, by 'info' and 'infotake'.
-A database goes by a label of its own, which 'create', 'find', 'nth' and 'import' give it.
+For example, with the script calls.txt
+
+  import memos 1
+  reccount memos
+  export memos
+
+'palmheap run device.img calls.txt new.img MemoDB.pdb' prints a reply to each
+line, and writes the changed image to new.img and the exported file to
+new.img.1. The replies are:
+
+  ok
+  ok 1
+  ok 97
+
+With --numbers each reply has the number of its line and a space before it.
+Refused lines leave the exit status 0, but with --strict it is 5.
+
+If a line imports a FILE that was not given, it is refused, and standard error
+names it. A run replaces the files that it exports. If an earlier run exported
+more, its other files stay, and standard error names them.
+
+A script is a text of lines. Each is a call of the memory manager, on
+databases, on their records, their resources or their files, and prints 'ok'
+with what the call answers, or 'refused' with the number and the name of the
+refusal. A chunk goes by a label, which 'new', 'ptrnew' and 'bind' give it: a
+letter, then letters, digits or '_'; so do the data of a record, by 'recnew',
+'recget', 'recquery', 'recdetach' and 'recreplace', the data of a resource, by
+'resnew', 'resinfo' and 'resdetach', and an info block, by 'info' and
+'infotake'. A database goes by a label of its own, which 'create', 'find',
+'nth' and 'import' give it.
 
   bind A NAME         new A SIZE OWNER    ptrnew A SIZE OWNER
   free A              resize A SIZE       setowner A OWNER
@@ -401,18 +473,26 @@ A database goes by a label of its own, which 'create', 'find', 'nth' and 'import
 
   import D FILE-NUMBER                    export D
 
-'write', 'set' and 'strcopy' need a locked or a fixed chunk. OWNER is 1 to 14. RESOURCES is 1 where
-the entries are resources, and 0 where they are records. DIRTY is 1 where the record is to be dirty,
-and else 0. BLOCK is 'app' or 'sort'. 'recreplace' gives a record the data A, and its old data to OWNER
-as B. CATEGORY is 0 to 15, and 255 for all of them in 'catcount', 'catnext' and 'catpos'.
-'catmove' gives the records of category FROM the category TO. TYPE and CREATOR have four bytes.
-The ID of a resource is below 65536. 'resfind' finds the first resource of a TYPE and an ID, 'restype'
-the NTH of a TYPE. Records, resources and those of a TYPE are counted from 0. Numbers are decimal, or hex
-behind '0x'. HEX is hex digits, or '-' for no byte. A line that is empty or starts with '#' is passed over.";
+'write', 'set' and 'strcopy' need a locked or a fixed chunk. OWNER is 1 to 14.
+RESOURCES is 1 if the entries are resources, and 0 if they are records. DIRTY
+is 1 if the record is to be dirty, and else 0. BLOCK is 'app' or 'sort'.
+'recreplace' gives a record the data A, and its old data to OWNER as B.
+CATEGORY is 0 to 15, and 255 for all of them in 'catcount', 'catnext' and
+'catpos'. 'catmove' gives the records of category FROM the category TO. TYPE
+and CREATOR have four bytes. The ID of a resource is below 65536. 'resfind'
+finds the first resource of a TYPE and an ID, 'restype' the NTH of a TYPE.
+Records, resources and those of a TYPE are counted from 0. Numbers are
+decimal, or hex after '0x'. HEX is hex digits, or '-' for no byte. A line that
+is empty or starts with '#' is passed over.";
 
 const MAPS: &str = "\
-A row has an offset and 64 marks, one for each cell of equally many bytes. The first line says how many
-bytes a cell has. The mark of a cell is the first of these that fits:
+For example, 'palmheap map device.img' prints rows as this one:
+
+    2816 aaaa*bbb:........Laccaaaaaaaaaaaaaaaaaaaaaaaaaaacbbbbcaaaaaaaaaa
+
+A row has an offset and 64 marks, one for each cell of equally many bytes. The
+first line says how many bytes a cell has. The mark of a cell is the first of
+these that fits:
 
   F    a fixed chunk
   L    a chunk with a lock
@@ -422,7 +502,8 @@ bytes a cell has. The mark of a cell is the first of these that fits:
   a    data of a database, by its letter; the last lines name the databases
   #    another movable chunk
 
-The line 'free' has the free bytes, in how many pieces they are, and how many bytes the largest piece has.";
+The line 'free' has the free bytes, in how many pieces they are, and how many
+bytes the largest piece has.";
 
 const LISTINGS: &str = "\
 For example, 'palmheap list MemoDB.pdb' prints:
@@ -445,58 +526,72 @@ For example, 'palmheap list MemoDB.pdb' prints:
   needs 168 bytes and 3 slots in a heap
   canonical
 
-The first line has the length of the file. Attributes and the seed are in hex. Dates are seconds since
-1904-01-01 00:00:00 UTC, with the date and time after them. 'app' and 'sort' have the offset and the length
-of an info block, or 'none'. An entry has its index, its values, and the offset and length of its data: the
-values of a record are its attributes in hex and its ID, those of a resource its type and its id.
+The first line has the length of the file. Attributes and the seed are in hex.
+Dates are seconds since 1904-01-01 00:00:00 UTC, with the date and time after
+them. 'app' and 'sort' have the offset and the length of an info block, or
+'none'. An entry has its index, its values, and the offset and length of its
+data: the values of a record are its attributes in hex and its ID, those of a
+resource its type and its id.
 
-The line 'needs' has the least SIZE and SLOTS with which an image of 'palmheap new' takes the database.
+The line 'needs' has the least SIZE and SLOTS with which an image of 'palmheap
+new' takes the database.
 
-The last line is 'canonical' if 'palmheap canonical' would write the file as it is, byte for byte. Else it is
-'changes' and words that say what would change:
+The last line is 'canonical' if 'palmheap canonical' would write the file as
+it is, byte for byte. Else it is 'changes' and words that say what would
+change:
 
   busy    a record is busy; in the new file it is not
-  filler  other bytes than two zeros stand between the entries and the first block
-  ids     a record gets another ID, since its own is 0, or that of an earlier record
-  name    other bytes than zeros stand after the name, in its field of 32 bytes
-  order   the blocks do not stand in the order of the list
+  filler  the bytes between the entries and the first block aren't two zeros
+  ids     a record gets another ID, since its own is 0, or that of an earlier
+          record
+  name    in its field, the name is followed by other bytes than zeros
+  order   the blocks are not in the order of the list
 
-A file that cannot be read as a database prints its first fault and the offset of the field that is wrong,
-and the exit status is 1:
+A file that cannot be read as a database prints its first fault and the offset
+of the field that is wrong, and the exit status is 1:
 
   bad BadOffset 1
   at 86
 
-With --json the same facts are one JSON document, on one line. Attributes, the seed and dates are numbers, and a date
-that isn't 0 has its text in UTC beside it. 'app', 'sort', and the offset and the length of data, are null where there is
-none. A byte outside ASCII is the character of its Windows-1252 code, and the hex digits of all bytes stand beside it:
+With --json the same facts are one JSON document, on one line:
 
-  {\"size\":97,\"name\":\"MemoDB\",\"name_hex\":\"4d656d6f4442\",\"attributes\":0,\"version\":0,
-   \"created\":3878595035,\"created_utc\":\"2026-11-27 03:30:35\",\"modified\":0,\"modified_utc\":null,
-   \"backup\":0,\"backup_utc\":null,\"number\":0,\"type\":\"DATA\",\"type_hex\":\"44415441\",
-   \"creator\":\"memo\",\"creator_hex\":\"6d656d6f\",\"seed\":0,\"app\":null,\"sort\":null,\"kind\":\"records\",
+  {\"size\":97,\"name\":\"MemoDB\",\"name_hex\":\"4d656d6f4442\",\"attributes\":0,
+   \"version\":0,\"created\":3878595035,\"created_utc\":\"2026-11-27 03:30:35\",
+   \"modified\":0,\"modified_utc\":null,\"backup\":0,\"backup_utc\":null,\"number\":0,
+   \"type\":\"DATA\",\"type_hex\":\"44415441\",\"creator\":\"memo\",
+   \"creator_hex\":\"6d656d6f\",\"seed\":0,\"app\":null,\"sort\":null,\"kind\":\"records\",
    \"entries\":[{\"index\":0,\"attributes\":1,\"id\":1,\"offset\":88,\"length\":9}],
    \"needs\":{\"size\":168,\"slots\":3},\"changes\":[]}
 
-  {\"fault\":\"BadOffset\",\"numbers\":[1],\"at\":86}";
+  {\"fault\":\"BadOffset\",\"numbers\":[1],\"at\":86}
+
+Attributes, the seed and dates are numbers. A date other than 0 is followed by
+its text in UTC. 'app', 'sort', and the offset and the length of data are null
+if there are none. A byte outside ASCII is the character of its Windows-1252
+code. The hex digits of all bytes follow.";
 
 const CANONICAL_FORMS: &str = "\
-For example, 'palmheap canonical old.pdb new.pdb' writes new.pdb and prints 'ok' with its length, and a line
-that says what changed, as 'palmheap list' does:
+For example, 'palmheap canonical old.pdb new.pdb' writes new.pdb and prints
+'ok' with its length, and a line that says what changed, as 'palmheap list'
+does:
 
   ok 112
   changes busy ids order
 
-In the new file the entries are followed by two zero bytes, and then by the AppInfo block, the SortInfo block
-and the data, in the order of the list and without gaps. No record is busy. Each record has an ID of its own:
-the first with an ID keeps it, and the others get free ones. The name is filled up with zeros.
+In the new file the entries are followed by two zero bytes, and then by the
+AppInfo block, the SortInfo block and the data, in the order of the list and
+without gaps. No record is busy. Each record has an ID of its own: the first
+with an ID keeps it, and the others get free ones. The name is filled up with
+zeros.
 
-A file that cannot be read as a database is refused as by 'palmheap list', and nothing is written. If OUT is
-'-', the new file goes to standard output, and what is printed goes to standard error.";
+A file that cannot be read as a database is refused as by 'palmheap list', and
+nothing is written. If OUT is '-', the new file goes to standard output, and
+what is printed goes to standard error.";
 
 const FOLDERS: &str = "\
-For example, 'palmheap unpack MemoDB.pdb memos' makes the folder memos with the file 00000, which has the
-data of the first record, and with the text 'database':
+For example, 'palmheap unpack MemoDB.pdb memos' makes the folder memos with
+the file 00000, which has the data of the first record, and with the text
+'database':
 
   name \"MemoDB\"
   attributes 0000
@@ -512,42 +607,70 @@ data of the first record, and with the text 'database':
   sort none
   record 01 1 00000
 
-It prints 'ok' with the number of files. The attributes of a database and of a record and the seed are in hex.
-Dates are seconds since 1904-01-01. 'app' and 'sort' have the names of the files with the info blocks, or 'none'. A
-record has its attributes, its ID and the name of its file, a resource its type, its id and the name of its file.
+It prints 'ok' with the number of files. The attributes of a database and of a
+record and the seed are in hex. Dates are seconds since 1904-01-01. 'app' and
+'sort' have the names of the files with the info blocks, or 'none'. A record
+has its attributes, its ID and the name of its file, a resource its type, its
+id and the name of its file.
 
-Change files and lines, and put lines in or take them out: 'palmheap pack memos new.pdb' writes the database and
-prints 'ok' with its length. A record with the ID 0 gets a free one. Only a record with the attribute 80, which is
-deleted, may have 'none' for its file. The name of a file has letters, digits, '_', '-' and '.', and begins with a
-letter, a digit or '_'. A line that is empty or starts with '#' is passed over. For a faulty line 'pack' prints 'line',
-its number and what is wrong in it, and the exit status is 1.";
+Change files and lines, and put lines in or take them out: 'palmheap pack
+memos new.pdb' writes the database and prints 'ok' with its length. A record
+with the ID 0 gets a free one. Only a record with the attribute 80, which is
+deleted, may have 'none' for its file. The name of a file has letters, digits,
+'_', '-' and '.', and begins with a letter, a digit or '_'. A line that is
+empty or starts with '#' is passed over. For a faulty line 'pack' prints
+'line', its number and what is wrong in it, and the exit status is 1.";
 
 const STORES: &str = "\
-For example, 'palmheap import memos.img MemoDB.pdb' makes an image that is just large enough for the database, and
-prints 'ok' with its size and its slot count, and 'ok' for each file:
+For example, 'palmheap import memos.img MemoDB.pdb' makes an image that is
+just large enough for the database, and prints 'ok' with its size and its slot
+count, and 'ok' for each file:
 
   ok 168 3
   ok
 
-The line 'needs' of 'palmheap list' has the same numbers for one file. If a file is refused, the line 'refused' has
-the number and the name of the refusal, standard error has the name of the file, and no image is written. The exit
-status is 1 then.
+The line 'needs' of 'palmheap list' has the same numbers for one file. If a
+file is refused, the line 'refused' has the number and the name of the
+refusal, standard error has the name of the file, and no image is written. The
+exit status is 1 then.
 
-'palmheap databases memos.img' prints 'ok' with the number of databases, and a line for each:
+'palmheap databases memos.img' prints 'ok' with the number of databases, and a
+line for each:
 
   ok 1
   \"MemoDB\" records \"DATA\" \"memo\" 0000 1 97
 
-The line has the name, which entries the database has, the type, the creator, the attributes in hex, the number of
-entries, and how many bytes its file has. With --json it prints one JSON document, on one line:
+The line has the name, which entries the database has, the type, the creator,
+the attributes in hex, the number of entries, and how many bytes its file has.
+With --json it prints one JSON document, on one line:
 
-  {\"databases\":[{\"name\":\"MemoDB\",\"name_hex\":\"4d656d6f4442\",\"kind\":\"records\",\"type\":\"DATA\",
-   \"type_hex\":\"44415441\",\"creator\":\"memo\",\"creator_hex\":\"6d656d6f\",\"attributes\":0,\"count\":1,\"size\":97}]}
+  {\"databases\":[{\"name\":\"MemoDB\",\"name_hex\":\"4d656d6f4442\",
+   \"kind\":\"records\",\"type\":\"DATA\",\"type_hex\":\"44415441\",\"creator\":\"memo\",
+   \"creator_hex\":\"6d656d6f\",\"attributes\":0,\"count\":1,\"size\":97}]}
 
-'palmheap export memos.img out' writes the file out/MemoDB.pdb, and prints 'ok' with the number of files. The name of
-a file is the name of the database, with '.pdb' for records and '.prc' for resources. A byte that is no printable
-ASCII character, '/', '%', and '.' at the start are spelled '%' and two hex digits. If a file is there, nothing is
-written, and the exit status is 3.";
+'palmheap export memos.img out' writes the file out/MemoDB.pdb, and prints
+'ok' with the number of files. The name of a file is the name of the database,
+with '.pdb' for records and '.prc' for resources. A byte that is no printable
+ASCII character, '/', '%', and '.' at the start are spelled '%' and two hex
+digits. If a file is there, nothing is written, and the exit status is 3.";
+
+const MEANINGS: &str = "\
+For example, 'palmheap explain BadOffset' prints, in one line:
+
+  BadOffset e, a fault of a PDB or PRC file: the data offset of the entry
+  e, from 0, is the first that is below the end of the entries or above
+  the length of the file. A record with the delete bit may have 0.
+
+It prints a line for each fault or refusal of that name, or for the refusal of
+that number: 'palmheap explain 25'. If there is none, standard error says so,
+and the exit status is 2.";
+
+/// Why the output can't be `-`.
+const NO_STREAM: &str = "\
+the output can't be '-': standard output has what is printed. A file of that name is './-'";
+
+/// Why `-` may be there once.
+const ONE_INPUT: &str = "only one of IMAGE, SCRIPT and FILE can be '-', standard input";
 
 /// Returns the request of the words of a command line. The first word is the program's own name.
 ///
@@ -565,10 +688,107 @@ fn parse_by<'a>(
     words: &'a [String],
 ) -> Result<Request<'a>, Error> {
     let matches = command.try_get_matches_from_mut(words)?;
-    match requested(alloc, &matches)? {
-        Some(request) => Ok(request),
-        None => Err(command.error(ErrorKind::MissingSubcommand, "no command was given")?),
+    if let Some(text) = number_fault(alloc, &matches)? {
+        return Err(command.error(ErrorKind::ValueValidation, text.as_str())?);
     }
+    let Some(request) = requested(alloc, &matches)? else {
+        return Err(command.error(ErrorKind::MissingSubcommand, "no command was given")?);
+    };
+    match stream_fault(&request) {
+        Some(text) => Err(command.error(ErrorKind::ArgumentConflict, text)?),
+        None => Ok(request),
+    }
+}
+
+/// A number among the words: its argument, the greatest number that is read, and the range of those
+/// that an image can have.
+#[derive(Clone, Copy)]
+struct NumberRow {
+    argument: &'static str,
+    most: u32,
+    range: &'static str,
+}
+
+const NUMBERS: [NumberRow; 2] = [
+    NumberRow {
+        argument: "SIZE",
+        most: u32::MAX,
+        range: "64..=16777208",
+    },
+    NumberRow {
+        argument: "SLOTS",
+        most: u16::MAX as u32,
+        range: "1..=65535",
+    },
+];
+
+/// Returns why SIZE or SLOTS can't be read, if one can't. Whether there is an image of the numbers
+/// that are read, `new` and `import` find out.
+fn number_fault(alloc: Global, matches: &ArgMatches<'_>) -> Result<Option<String>, AllocError> {
+    let Some((_, given)) = matches.subcommand() else {
+        return Ok(None);
+    };
+    for row in &NUMBERS {
+        if let Some(word) = given.get_str(row.argument) {
+            if !is_number(word, row.most) {
+                let text = format!(in alloc;
+                    "invalid value '{word}' for '<{}>': {word} is not in {}",
+                    row.argument, row.range
+                )?;
+                return Ok(Some(text));
+            }
+        }
+    }
+    Ok(None)
+}
+
+/// Returns whether a word is a number, and at most `most`.
+fn is_number(word: &str, most: u32) -> bool {
+    match word.parse::<u32>() {
+        Ok(number) => number <= most,
+        Err(_) => false,
+    }
+}
+
+/// Returns why the words `-` of a request can't be, if they can't. Standard input can be read once,
+/// and standard output has what is printed.
+fn stream_fault(request: &Request<'_>) -> Option<&'static str> {
+    match request {
+        Request::New { out, .. } | Request::Migrate { out, .. } if is_stream(out) => Some(
+            NO_STREAM,
+        ),
+        Request::Pack { out, .. } | Request::Import { out, .. } if is_stream(out) => Some(
+            NO_STREAM,
+        ),
+        Request::Run { out, .. } if is_stream(out) => Some(NO_STREAM),
+        Request::Run {
+            image,
+            script,
+            files,
+            ..
+        } => {
+            let taken = usize::from(is_stream(image)) + usize::from(is_stream(script));
+            input_fault(taken, files.as_slice())
+        }
+        Request::Import { files, .. } => input_fault(0, files.as_slice()),
+        _ => None,
+    }
+}
+
+/// Returns why standard input is asked for more than once, if it is: by `taken` words and by files.
+fn input_fault(taken: usize, files: &[&str]) -> Option<&'static str> {
+    let mut count = taken;
+    for file in files {
+        if is_stream(file) && count < 2 {
+            count += 1;
+        }
+    }
+    if count > 1 { Some(ONE_INPUT) } else { None }
+}
+
+/// Returns whether a word means standard input or standard output.
+fn is_stream(word: &str) -> bool {
+    word == "-"
 }
 
 /// Returns the request of the matches of `palmheap`. Each argument of a command is required, except
@@ -590,6 +810,7 @@ fn requested<'a>(
         Some(("databases", given)) => Ok(databases_requested(given)),
         Some(("export", given)) => export_requested(alloc, given),
         Some(("import", given)) => import_requested(alloc, given),
+        Some(("explain", given)) => Ok(explain_requested(given)),
         _ => Ok(None),
     }
 }
@@ -623,6 +844,10 @@ fn run_on<'a>(given: &ArgMatches<'a>, files: Vec<&'a str>) -> Option<Request<'a>
         script: given.get_str("SCRIPT")?,
         out: given.get_str("OUT")?,
         files,
+        shown: Shown {
+            numbers: given.get_flag("NUMBERS"),
+            strict: given.get_flag("STRICT"),
+        },
     })
 }
 
@@ -716,6 +941,12 @@ fn import_of<'a>(given: &ArgMatches<'a>, files: Vec<&'a str>) -> Option<Request<
     })
 }
 
+fn explain_requested<'a>(given: &ArgMatches<'a>) -> Option<Request<'a>> {
+    Some(Request::Explain {
+        word: given.get_str("WORD")?,
+    })
+}
+
 /// Returns the whole command line.
 fn palmheap<'a>(alloc: Global) -> Result<Command<'a>, AllocError> {
     let mut palmheap = described(alloc);
@@ -755,9 +986,7 @@ fn command<'a>(alloc: Global, row: &CommandRow) -> Result<Command<'a>, AllocErro
 }
 
 fn described_argument<'a>(alloc: Global, argument: &Argument) -> Arg<'a> {
-    let described = Arg::new(alloc, argument.name)
-        .value_parser(argument.values)
-        .help(argument.help);
+    let described = Arg::new(alloc, argument.name).help(argument.help);
     match argument.count {
         Count::One => described.required(true),
         Count::Any => described.num_args(1..).action(ArgAction::Append),

@@ -10,7 +10,7 @@ pub(crate) enum Output {
 }
 
 /// The words of each run behind the program's own name, and what becomes of what it prints.
-pub(crate) static CASES: [(&str, Output); 96] = [
+pub(crate) static CASES: [(&str, Output); 131] = [
     // images that are made, or that there are not
     ("new 64 1 out.img", Taken),
     ("new 127 4 out.img", Taken),
@@ -129,6 +129,52 @@ pub(crate) static CASES: [(&str, Output); 96] = [
     ("databases --json shared.img", Taken),
     ("databases --json none.img", Taken),
     ("databases --json records.img", Refused),
+    // numbers of no image, and words that are no number of 32 or of 16 bits
+    ("new 66 4 out.img", Taken),
+    ("new 64 13 out.img", Taken),
+    ("new 64 0 out.img", Taken),
+    ("import --slots 0 out.img tiny.prc", Taken),
+    ("new 512 70000 out.img", Taken),
+    ("import --size 4294967296 out.img tiny.prc", Taken),
+    // a file that looks like a database in place of an image, and images from standard input
+    ("check order.pdb", Taken),
+    ("check --json order.pdb", Taken),
+    ("databases order.pdb", Taken),
+    ("databases --json -", Taken),
+    ("export order.pdb folder", Taken),
+    ("run order.pdb calls.txt out.img", Taken),
+    ("run order.pdb none.txt out.img", Taken),
+    ("check faulty.txt", Taken),
+    ("check long.img", Taken),
+    ("check -", Taken),
+    ("check ./-", Taken),
+    ("migrate - out.img", Taken),
+    ("map -", Taken),
+    // a FILE that was not given, one from standard input, and a file of an earlier run
+    ("run blank.img missing.txt out.img", Taken),
+    ("run room.img files.txt out.img - tiny.prc", Taken),
+    ("run blank.img calls.txt left.img", Taken),
+    ("run blank.img - out.img", Taken),
+    ("run blank.img calls.txt -", Taken),
+    ("run - calls.txt out.img -", Taken),
+    // replies with the numbers of their lines, and a refused line that the status reports
+    (
+        "run --numbers room.img files.txt out.img order.pdb tiny.prc",
+        Taken,
+    ),
+    (
+        "run --numbers --strict blank.img missing.txt out.img",
+        Taken,
+    ),
+    ("run blank.img calls.txt out.img --strict", Taken),
+    ("run --numbers --strict room.img faulty.txt out.img", Taken),
+    ("run --strict blank.img missing.txt out.img", Refused),
+    // the meanings of faults and refusals, by name and by number; one name of two, and none
+    ("explain BadOffset", Taken),
+    ("explain 25", Taken),
+    ("explain BadSize", Taken),
+    ("explain Frob", Taken),
+    ("explain BadOffset", Refused),
     // words that ask for no command
     ("check", Taken),
     ("--version", Taken),

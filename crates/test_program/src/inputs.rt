@@ -28,7 +28,7 @@ impl Content {
 const ROOM: &str = "50484931 00000200 000C 0000 00000000 00*48 800001C0 00*444";
 
 /// The files, each behind its name.
-pub(crate) static INPUTS: [(&str, Content); 18] = [
+pub(crate) static INPUTS: [(&str, Content); 20] = [
     ("blank.img", Listing(BLANK, "")),
     ("room.img", Listing(ROOM, "")),
     ("records.img", Listing(DATABASE, "")),
@@ -47,6 +47,12 @@ pub(crate) static INPUTS: [(&str, Content); 18] = [
         Text("import d 2\nimport e 1\nexport d\nexport e\nexport e\ndbcount\n"),
     ),
     ("calls.txt", Text("freebytes\n")),
+    (
+        "missing.txt",
+        Text("# without a FILE\nimport d 2\nfreebytes\n"),
+    ),
+    // the place of a file that a run to left.img would export
+    ("left.img.1", Text("from an earlier run")),
     // a database of two records, one of them deleted, and an AppInfo block
     (
         "parts/database",

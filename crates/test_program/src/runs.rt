@@ -4,8 +4,7 @@ use crate::cases::{CASES, Output};
 use crate::exports::show_exports;
 use crate::folder::{enter, fill, leave, show_bytes, show_changes};
 use crate::recorder::{Kept, Recorder};
-use palmheap_program::run;
-use program_io::Status;
+use palmheap_program::{Ending, run};
 use std::alloc::{AllocError, Global};
 use std::rt::{Env, Files};
 use std::test::Fail;
@@ -86,7 +85,7 @@ fn run_recorded<R: Files + AllocGlobal>(
     output: Output,
     printed: &Kept,
     complained: &Kept,
-) -> Result<Status, Fail> {
+) -> Result<Ending, Fail> {
     let input = bytes_of(rt.alloc(), ORDER_FILE)?;
     let recorder = Recorder {
         rt,

@@ -32,7 +32,12 @@ fn shown(alloc: Global, request: &Request) -> Result<String, AllocError> {
             script,
             out,
             files,
-        } => format!(in alloc; "run {image} {script} {out} {files:?}\n"),
+            shown,
+        } => {
+            let numbers = if shown.numbers { " numbers" } else { "" };
+            let strict = if shown.strict { " strict" } else { "" };
+            format!(in alloc; "run {image} {script} {out} {files:?}{numbers}{strict}\n")
+        }
         Request::Migrate { image, out } => format!(in alloc; "migrate {image} {out}\n"),
         Request::Map { image } => format!(in alloc; "map {image}\n"),
         Request::List { file, form } => format!(in alloc; "list {file} {form:?}\n"),
@@ -51,12 +56,13 @@ fn shown(alloc: Global, request: &Request) -> Result<String, AllocError> {
             slots,
             files,
         } => format!(in alloc; "import {out} {size:?} {slots:?} {files:?}\n"),
+        Request::Explain { word } => format!(in alloc; "explain {word}\n"),
     }
 }
 
 /// Words, and how what comes of them begins, and what stands in it: commands, words that are refused,
 /// and help.
-static CASES: [(&str, &str, &str); 44] = [
+static CASES: [(&str, &str, &str); 66] = [
     ("palmheap new 128 4 a.img", "new 128 4 a.img\n", ""),
     (
         "palmheap new 4294967295 65535 --  -a",
@@ -116,6 +122,87 @@ static CASES: [(&str, &str, &str); 44] = [
     ),
     ("palmheap import a.img", "2 error: ", "<FILE>"),
     (
+        "palmheap run --numbers a.img calls.txt b.img memo.pdb",
+        "run a.img calls.txt b.img [\"memo.pdb\"] numbers\n",
+        "",
+    ),
+    (
+        "palmheap run a.img calls.txt b.img memo.pdb --strict --numbers",
+        "run a.img calls.txt b.img [\"memo.pdb\"] numbers strict\n",
+        "",
+    ),
+    (
+        "palmheap check --strict a.img",
+        "2 error: unexpected argument '--strict' found\n",
+        "",
+    ),
+    (
+        "palmheap run - calls.txt b.img",
+        "run - calls.txt b.img []\n",
+        "",
+    ),
+    (
+        "palmheap run a.img calls.txt b.img -",
+        "run a.img calls.txt b.img [\"-\"]\n",
+        "",
+    ),
+    (
+        "palmheap run - - b.img",
+        "2 error: only one of IMAGE, SCRIPT and FILE can be '-', standard input\n",
+        "",
+    ),
+    (
+        "palmheap run a.img calls.txt b.img - memo.pdb -",
+        "2 error: only one of IMAGE, SCRIPT and FILE can be '-', standard input\n",
+        "",
+    ),
+    (
+        "palmheap import a.img - memo.pdb -",
+        "2 error: only one of IMAGE, SCRIPT and FILE can be '-', standard input\n",
+        "",
+    ),
+    (
+        "palmheap run a.img calls.txt -",
+        "2 error: the output can't be '-': standard output has what is printed. A file of that name is './-'\n",
+        "",
+    ),
+    (
+        "palmheap run a.img calls.txt ./-",
+        "run a.img calls.txt ./- []\n",
+        "",
+    ),
+    (
+        "palmheap new 128 4 -",
+        "2 error: the output can't be '-'",
+        "",
+    ),
+    (
+        "palmheap migrate a.img -",
+        "2 error: the output can't be '-'",
+        "",
+    ),
+    (
+        "palmheap pack memos -",
+        "2 error: the output can't be '-'",
+        "",
+    ),
+    (
+        "palmheap import - memo.pdb",
+        "2 error: the output can't be '-'",
+        "",
+    ),
+    ("palmheap explain BadOffset", "explain BadOffset\n", ""),
+    (
+        "palmheap explain",
+        "2 error: the following required arguments were not provided:\n  <WORD>\n",
+        "",
+    ),
+    (
+        "palmheap explain --help",
+        "0 ",
+        "Usage: palmheap explain <WORD>",
+    ),
+    (
         "palmheap migrate a.img",
         "2 error: the following required arguments were not provided:\n  <OUT>\n",
         "",
@@ -147,17 +234,39 @@ static CASES: [(&str, &str, &str); 44] = [
     ),
     (
         "palmheap new 12x 4 a",
-        "2 error: invalid value '12x' for '<SIZE>': invalid digit found in string\n",
+        "2 error: invalid value '12x' for '<SIZE>': 12x is not in 64..=16777208\n",
         "",
     ),
     (
         "palmheap new 4294967296 4 a",
-        "2 error: invalid value '4294967296' for '<SIZE>': 4294967296 is not in 0..=4294967295\n",
+        "2 error: invalid value '4294967296' for '<SIZE>': 4294967296 is not in 64..=16777208\n",
         "",
     ),
     (
         "palmheap new 128 65536 a",
-        "2 error: invalid value '65536' for '<SLOTS>': 65536 is not in 0..=65535\n",
+        "2 error: invalid value '65536' for '<SLOTS>': 65536 is not in 1..=65535\n",
+        "",
+    ),
+    (
+        "palmheap new 512 70000 a",
+        "2 error: invalid value '70000' for '<SLOTS>': 70000 is not in 1..=65535\n",
+        "",
+    ),
+    (
+        "palmheap new 99999999999999999999 4 a",
+        "2 error: invalid value '99999999999999999999' for '<SIZE>': ",
+        "is not in 64..=16777208\n",
+    ),
+    // numbers that are read, of no image
+    ("palmheap new 66 0 a", "new 66 0 a\n", ""),
+    (
+        "palmheap import --slots 65536 a.img memo.pdb",
+        "2 error: invalid value '65536' for '<SLOTS>': 65536 is not in 1..=65535\n",
+        "",
+    ),
+    (
+        "palmheap import --size 63 --slots 0 a.img memo.pdb",
+        "import a.img Some(63) Some(0) [\"memo.pdb\"]\n",
         "",
     ),
     (
@@ -182,11 +291,15 @@ static CASES: [(&str, &str, &str); 44] = [
         "0 ",
         "Usage: palmheap new <SIZE> <SLOTS> <OUT>",
     ),
-    ("palmheap check -h", "0 ", "Usage: palmheap check <IMAGE>"),
+    (
+        "palmheap check -h",
+        "0 ",
+        "Usage: palmheap check [OPTIONS] <IMAGE>",
+    ),
     (
         "palmheap run --help",
         "0 ",
-        "Usage: palmheap run <IMAGE> <SCRIPT> <OUT> [FILE]...",
+        "Usage: palmheap run [OPTIONS] <IMAGE> <SCRIPT> <OUT> [FILE]...",
     ),
     ("palmheap run --help", "0 ", "strcopy A AT \"TEXT\""),
     (
@@ -195,7 +308,11 @@ static CASES: [(&str, &str, &str); 44] = [
         "Usage: palmheap migrate <IMAGE> <OUT>",
     ),
     ("palmheap map --help", "0 ", "Usage: palmheap map <IMAGE>"),
-    ("palmheap list --help", "0 ", "Usage: palmheap list <FILE>"),
+    (
+        "palmheap list --help",
+        "0 ",
+        "Usage: palmheap list [OPTIONS] <FILE>",
+    ),
     (
         "palmheap canonical --help",
         "0 ",
@@ -213,6 +330,42 @@ fn check_words(alloc: Global, line: &str, front: &str, part: &str) -> Result<(),
 fn words_are_read(rt: HostRuntime) -> Result<(), Fail> {
     for (line, front, part) in &CASES {
         check_words(rt.alloc(), line, front, part)?;
+    }
+    Ok(())
+}
+
+/// The commands that have help.
+static COMMANDS: [&str; 13] = [
+    "new",
+    "check",
+    "run",
+    "migrate",
+    "map",
+    "list",
+    "canonical",
+    "unpack",
+    "pack",
+    "databases",
+    "export",
+    "import",
+    "explain",
+];
+
+/// Help of a command: no line is longer than 80 characters, and it has an example.
+fn check_help(alloc: Global, command: &str) -> Result<(), Fail> {
+    let line = format!(in alloc; "palmheap {command} --help")?;
+    let help = asked(alloc, line.as_str())?;
+    for line in help.lines() {
+        holds(format_args!("{command}: {line}"), line.len() <= 80)?;
+    }
+    let example = format!(in alloc; "'palmheap {command}")?;
+    holds(command, help.as_str().contains(example.as_str()))
+}
+
+#[test]
+fn help_is_narrow_and_has_examples(rt: HostRuntime) -> Result<(), Fail> {
+    for command in &COMMANDS {
+        check_help(rt.alloc(), command)?;
     }
     Ok(())
 }

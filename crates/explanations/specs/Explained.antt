@@ -1,0 +1,78 @@
+-- The rows of the table that a word is the name or number of, and their lines.
+use Rattle.std.specs.Prelude.{ℕ, Bool, true, false, ◌&&◌, ◌||◌, ◌==◌, ◌++◌, List, [], ◌∷◌, Option, None, Some, codes, decimal, cond}
+use Rattle.std.specs.List.{list_any}
+use Rattle.std.specs.Str.{bytes_eq}
+use Rattle.explanations.specs.declared.table.TheConstants.{EXPLANATIONS}
+use Rattle.std.specs.Borrow.{Bor}
+use Rattle.explanations.specs.declared.table.Heading.{Heading}
+use Rattle.explanations.specs.declared.table.Topic.{Topic}
+use Rattle.explanations.specs.declared.table.Topic.TheVariants.{Image, Databases, File, Line, Blank, Output, Call}
+
+-- a row of the table: its heading, its name, its values and its text
+abbrev pub Explanation : Type 0
+Explanation = Heading × (Bor (List ℕ) × (Bor (List ℕ) × Bor (List ℕ)))
+
+-- the text of a topic, which follows the name
+abbrev pub topic_text : Topic → List ℕ
+topic_text Image = codes ", a fault of an image: "
+topic_text Databases = codes ", a fault of the databases of an image: "
+topic_text File = codes ", a fault of a PDB or PRC file: "
+topic_text Line = codes ", a fault of a line: "
+topic_text Blank = codes ", a fault of 'new' and 'import': "
+topic_text Output = codes ", a fault of 'migrate', 'pack' and 'import': "
+topic_text Call = codes ", a refusal: "
+
+-- the number of a refusal and a space, or nothing for a fault
+abbrev pub number_text : Option ℕ → List ℕ
+number_text None = []
+number_text (Some number) = decimal number ++ codes " "
+
+-- the line of a row
+abbrev pub row_line : Explanation → List ℕ
+row_line row = number_text row.0.number ++ (row.1.0.now ++ (row.1.1.0.now ++ (topic_text row.0.topic ++ (row.1.1.1.now ++ codes ".\n"))))
+
+-- whether a word is the number of a refusal, in decimal
+abbrev pub is_number : Option ℕ → List ℕ → Bool
+is_number None word = false
+is_number (Some number) word = bytes_eq (decimal number) word
+
+-- whether a word is the name or number of a row
+abbrev pub is_asked : List ℕ → Explanation → Bool
+is_asked word row = bytes_eq row.1.0.now word || is_number row.0.number word
+
+-- the line of a row, or nothing if the word is neither its name nor its number
+abbrev pub answer : List ℕ → Explanation → List ℕ
+answer word row = cond (is_asked word row) (row_line row) []
+
+-- the lines of the rows with this name or number, in the order of the table
+abbrev pub answers : List ℕ → List Explanation → List ℕ
+answers word [] = []
+answers word (row ∷ rows) = answer word row ++ answers word rows
+
+-- whether a word is the name or number of one of some rows
+abbrev pub is_among : List ℕ → List Explanation → Bool
+is_among word rows = list_any (is_asked word) rows
+
+-- whether two topics are the same
+abbrev pub same_topic : Topic → Topic → Bool
+same_topic Image Image = true
+same_topic Databases Databases = true
+same_topic File File = true
+same_topic Line Line = true
+same_topic Blank Blank = true
+same_topic Output Output = true
+same_topic Call Call = true
+same_topic a b = false
+
+-- whether the table has a row with a topic and a name
+abbrev pub has_row : Topic → List ℕ → Bool
+has_row topic name = list_any (λ row. same_topic topic row.0.topic && bytes_eq row.1.0.now name) EXPLANATIONS
+
+-- whether a row has the number of a refusal
+abbrev pub is_numbered : Option ℕ → ℕ → Bool
+is_numbered None number = false
+is_numbered (Some found) number = found == number
+
+-- whether the table has a row with the number and the name of a refusal
+abbrev pub has_refusal : ℕ → List ℕ → Bool
+has_refusal number name = list_any (λ row. is_numbered row.0.number number && bytes_eq row.1.0.now name) EXPLANATIONS

@@ -1,0 +1,149 @@
+//! The rows of a word.
+
+ghost use Rattle.std.specs.Prelude.{◌≡◌, is_ok};
+ghost use Rattle.palm_text.specs.Counted.{Writes};
+ghost use Rattle.palm_text.specs.Output.{Puts};
+ghost use Rattle.explanations.specs.Ends.{EndsExplain};
+ghost use Rattle.explanations.specs.Explained as words;
+
+use crate::table::{Explanation, Topic};
+use itoa::Buffer;
+use palm_text::{Counted, Piece, WriteFault, put_pieces};
+use program_io::Status;
+use std::io::Write;
+
+/// Prints the meaning of a word: a line for each row with this name or number. It returns `BadWords`
+/// if there is no row. The rows are those of `EXPLANATIONS`.
+pub fn cmd_explain<V: Write>(word: &[u8], rows: &[Explanation], out: &mut Counted<V>) -> Status
+    ensures { EndsExplain word.now rows.now V.contents out.old out.new result }
+{
+    if !is_among(word, rows) {
+        return Status::BadWords;
+    }
+    match put_flushed(word, rows, out) {
+        Ok(()) => Status::Done,
+        Err(_) => Status::WriteFault,
+    }
+}
+
+/// Writes the lines of the rows of a word, and flushes.
+#[tactic(auto, using(palm_text::proofs::Parts::then_flush))]
+fn put_flushed<V: Write>(
+    word: &[u8],
+    rows: &[Explanation],
+    out: &mut Counted<V>,
+) -> Result<(), WriteFault>
+    ensures { Puts V.contents out.old out.new (words.answers word.now rows.now) (is_ok result) }
+{
+    put_rows(out, word, rows)?;
+    out.flush().map_err(|_| WriteFault)
+}
+
+/// Writes the lines of those rows that have a word as their name or number.
+fn put_rows<V: Write>(
+    out: &mut Counted<V>,
+    word: &[u8],
+    rows: &[Explanation],
+) -> Result<(), WriteFault>
+    ensures { Writes V.contents out.old out.new (words.answers word.now rows.now) (is_ok result) }
+{
+    for row in rows {
+        match put_asked(out, word, row) {
+            Ok(()) => {}
+            Err(fault) => return Err(fault),
+        }
+    }
+    Ok(())
+}
+
+/// Writes the line of a row, if a word is its name or number.
+#[tactic(auto, using(palm_text::proofs::Parts::nothing))]
+fn put_asked<V: Write>(
+    out: &mut Counted<V>,
+    word: &[u8],
+    row: &Explanation,
+) -> Result<(), WriteFault>
+    ensures { Writes V.contents out.old out.new (words.answer word.now row.now) (is_ok result) }
+{
+    if is_asked(word, row) {
+        put_row(out, row)
+    } else {
+        Ok(())
+    }
+}
+
+/// Writes the line of a row.
+#[tactic(auto, using(palm_text::proofs::Parts::then, palm_text::proofs::Parts::stops))]
+fn put_row<V: Write>(out: &mut Counted<V>, row: &Explanation) -> Result<(), WriteFault>
+    ensures { Writes V.contents out.old out.new (words.row_line row.now) (is_ok result) }
+{
+    put_number(out, row.0.number)?;
+    put_pieces(
+        out,
+        &[
+            Piece::Text(row.1.0.as_bytes()),
+            Piece::Text(row.1.1.0.as_bytes()),
+            Piece::Text(topic_text(row.0.topic)),
+            Piece::Text(row.1.1.1.as_bytes()),
+            Piece::Text(b".\n"),
+        ],
+    )
+}
+
+/// Writes the number of a refusal and a space.
+#[tactic(auto, using(palm_text::proofs::Parts::nothing))]
+fn put_number<V: Write>(out: &mut Counted<V>, number: Option<u8>) -> Result<(), WriteFault>
+    ensures { Writes V.contents out.old out.new (words.number_text number) (is_ok result) }
+{
+    match number {
+        Some(number) => put_pieces(out, &[Piece::Number(number as u32), Piece::Text(b" ")]),
+        None => Ok(()),
+    }
+}
+
+/// Returns the text of a topic, which follows the name.
+fn topic_text(topic: Topic) -> &'static [u8]
+    ensures { result.now ≡ words.topic_text topic }
+{
+    match topic {
+        Topic::Image => b", a fault of an image: ",
+        Topic::Databases => b", a fault of the databases of an image: ",
+        Topic::File => b", a fault of a PDB or PRC file: ",
+        Topic::Line => b", a fault of a line: ",
+        Topic::Blank => b", a fault of 'new' and 'import': ",
+        Topic::Output => b", a fault of 'migrate', 'pack' and 'import': ",
+        Topic::Call => b", a refusal: ",
+    }
+}
+
+/// Returns whether a word is the name or number of one of some rows.
+fn is_among(word: &[u8], rows: &[Explanation]) -> bool
+    ensures { result ≡ words.is_among word.now rows.now }
+{
+    for row in rows {
+        if is_asked(word, row) {
+            return true;
+        }
+    }
+    false
+}
+
+/// Returns whether a word is the name or number of a row.
+fn is_asked(word: &[u8], row: &Explanation) -> bool
+    ensures { result ≡ words.is_asked word.now row.now }
+{
+    row.1.0.as_bytes() == word || is_number(row.0.number, word)
+}
+
+/// Returns whether a word is the number of a refusal, in decimal.
+fn is_number(number: Option<u8>, word: &[u8]) -> bool
+    ensures { result ≡ words.is_number number word.now }
+{
+    match number {
+        Some(number) => {
+            let mut digits = Buffer::new();
+            digits.format(number).as_bytes() == word
+        }
+        None => false,
+    }
+}

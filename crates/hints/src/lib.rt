@@ -1,0 +1,17 @@
+//! Hints for standard error. They name the lines of a script that import a file that was not given,
+//! and files that look like PDB or PRC files.
+//!
+//! | module | does |
+//! |---|---|
+//! | `numbers` | finds the numbers of the lines of a script that are run |
+//! | `imports` | finds the lines that import a file that was not given |
+//! | `lookalikes` | finds whether a file looks like a PDB or PRC file |
+#![tactic(auto)]
+
+mod imports;
+mod lookalikes;
+mod numbers;
+
+pub use imports::{MissingFile, missing_files};
+pub use lookalikes::looks_like_database;
+pub use numbers::line_numbers;

@@ -1,0 +1,43 @@
+//! Files that look like PDB or PRC files.
+
+use hints::looks_like_database;
+use std::alloc::Global;
+use std::test::*;
+use test_support::{BLANK, DATABASE, EMPTY_FILE, ORDER_FILE, TINY_FILE, bytes_of, holds};
+
+/// A file whose name begins with the magic of an image.
+const MAGIC_FILE: &str = "50484931 00*56 44415441 54657374 00*12";
+
+fn check(alloc: Global, listing: &str, at: usize, byte: u8, wanted: bool) -> Result<(), Fail> {
+    let mut file = bytes_of(alloc, listing)?;
+    if at < file.len() {
+        file[at] = byte;
+    }
+    let looks = looks_like_database(&file);
+    holds(format_args!("{listing} {at} {byte}"), looks == wanted)
+}
+
+/// Files, where one byte is another, and whether they look like PDB or PRC files: whole ones, two with a wrong offset or
+/// number of entries, one that goes on elsewhere, one without a name, one with a type that can't be printed, images, and one that begins with the magic.
+static FILES: [(&str, usize, u8, bool); 12] = [
+    (EMPTY_FILE, 40, 1, true),
+    (ORDER_FILE, 40, 1, true),
+    (TINY_FILE, 40, 1, true),
+    (ORDER_FILE, 86, 0xFF, true),
+    (ORDER_FILE, 76, 0xFF, true),
+    (ORDER_FILE, 75, 1, false),
+    (ORDER_FILE, 0, 0, false),
+    (ORDER_FILE, 60, 0x1F, false),
+    (BLANK, 0, 0x51, false),
+    (DATABASE, 0, 0x51, false),
+    (MAGIC_FILE, 3, 0x32, false),
+    (MAGIC_FILE, 3, 0x33, true),
+];
+
+#[test]
+fn databases_are_told_from_others(rt: HostRuntime) -> Result<(), Fail> {
+    for (listing, at, byte, wanted) in &FILES {
+        check(rt.alloc(), listing, *at, *byte, *wanted)?;
+    }
+    holds("no bytes", !looks_like_database(b""))
+}

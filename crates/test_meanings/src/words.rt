@@ -1,0 +1,97 @@
+//! Words, and what `explain` prints of them.
+
+use explanations::{EXPLANATIONS, cmd_explain};
+use palm_text::Counted;
+use program_io::Status;
+use std::alloc::Global;
+use std::str;
+use std::test::*;
+use test_support::{Narrow, WhenFull, equal, holds};
+
+/// Checks what a word means, and the status.
+pub(crate) fn check(alloc: Global, word: &str, status: Status, lines: &str) -> Result<(), Fail> {
+    let mut out = Counted::new(Vec::new(alloc));
+    let found = cmd_explain(word.as_bytes(), &EXPLANATIONS, &mut out);
+    let text = out.into_inner();
+    equal(word, found, status)?;
+    equal(word, str::from_utf8(&text)?, lines)
+}
+
+/// Words, and the lines for them: a fault with a number, the number of a refusal and its name, and a name of two faults.
+static MEANINGS: [(&str, &str); 6] = [
+    (
+        "BadChunk",
+        "BadChunk o, a fault of an image: the first chunk out of shape is at the offset o.\n",
+    ),
+    (
+        "9",
+        "9 OutOfBounds, a refusal: the range ends after the chunk's last byte. For strcopy the zero byte counts.\n",
+    ),
+    (
+        "OutOfBounds",
+        "9 OutOfBounds, a refusal: the range ends after the chunk's last byte. For strcopy the zero byte counts.\n",
+    ),
+    (
+        "BadSize",
+        "BadSize, a fault of an image: the size field isn't the length, or isn't a multiple of 8 from 64 to 16777208.\n\
+        BadSize, a fault of 'new' and 'import': SIZE isn't a multiple of 8 from 64 to 16777208.\n",
+    ),
+    (
+        "BadId",
+        "BadId d e, a fault of the databases of an image: the unique ID of the record e of the database d, both from 0, \
+        is 0, or that of an earlier record of its database.\n",
+    ),
+    (
+        "EmptyName",
+        "EmptyName, a fault of a PDB or PRC file: the first byte is zero.\n",
+    ),
+];
+
+#[test]
+fn words_are_explained(rt: HostRuntime) -> Result<(), Fail> {
+    for (word, lines) in &MEANINGS {
+        check(rt.alloc(), word, Status::Done, lines)?;
+    }
+    Ok(())
+}
+
+#[test]
+fn meanings_are_cut(rt: HostRuntime) -> Result<(), Fail> {
+    let (word, lines) = MEANINGS[3];
+    for room in 0..lines.len() {
+        let narrow = Narrow::new(rt.alloc(), room, 9, WhenFull::TakesNothing);
+        let mut out = Counted::new(narrow);
+        equal(
+            word,
+            cmd_explain(word.as_bytes(), &EXPLANATIONS, &mut out),
+            Status::WriteFault,
+        )?;
+        let narrow = out.into_inner();
+        holds(word, narrow.is_cut_at(room))?;
+        holds(word, lines.as_bytes().starts_with(&narrow.taken))?;
+    }
+    Ok(())
+}
+
+/// Words that are no name and no number: parts of such, other spellings, and numbers that no refusal has.
+static UNKNOWN: [&str; 11] = [
+    "",
+    "Bad",
+    "BadChunks",
+    "badchunk",
+    "BadChunk 48",
+    "0",
+    "28",
+    "09",
+    "+9",
+    "0x9",
+    "-",
+];
+
+#[test]
+fn other_words_are_unknown(rt: HostRuntime) -> Result<(), Fail> {
+    for word in &UNKNOWN {
+        check(rt.alloc(), word, Status::BadWords, "")?;
+    }
+    Ok(())
+}
