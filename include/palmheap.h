@@ -113,6 +113,323 @@ palmheap_answer palmheap_new(uint8_t *image, size_t image_len, uint16_t slots);
  * stays as it was. */
 palmheap_answer palmheap_check(const uint8_t *image, size_t image_len, palmheap_counts *counts);
 
+/* ---- An open store. ----
+ *
+ * A store lives from palmheap_open to palmheap_close. The caller passes the address of a palmheap_store. No other call
+ * may use the store at the same time, and no call may use it after palmheap_close returned 0. A copy of a
+ * palmheap_store is the same store.
+ *
+ * A call returns 0, or the number of a refusal. A refused call changes no chunk and no database, and leaves the
+ * caller's memory as it was. Comments list the refusals of a call in the order in which it looks for them.
+ */
+
+/* An open store, or none. */
+typedef struct palmheap_store {
+    void *at;
+} palmheap_store;
+
+enum {
+    PALMHEAP_REFUSED_INVALID_HANDLE = 1,
+    PALMHEAP_REFUSED_OWNED_BY_DATABASE = 2,
+    PALMHEAP_REFUSED_CHUNK_LOCKED = 3,
+    PALMHEAP_REFUSED_CHUNK_NOT_LOCKED = 4,
+    PALMHEAP_REFUSED_LOCK_OVERFLOW = 5,
+    PALMHEAP_REFUSED_CHUNK_FIXED = 6,
+    PALMHEAP_REFUSED_INVALID_OWNER = 7,
+    PALMHEAP_REFUSED_NOT_ENOUGH_SPACE = 8,
+    PALMHEAP_REFUSED_OUT_OF_BOUNDS = 9,
+    PALMHEAP_REFUSED_NO_SUCH_DATABASE = 10,
+    PALMHEAP_REFUSED_NOT_RECORD_DATABASE = 11,
+    PALMHEAP_REFUSED_NOT_RESOURCE_DATABASE = 12,
+    PALMHEAP_REFUSED_READ_ONLY = 13,
+    PALMHEAP_REFUSED_INDEX_OUT_OF_RANGE = 14,
+    PALMHEAP_REFUSED_RECORD_DELETED = 15,
+    PALMHEAP_REFUSED_RECORD_BUSY = 16,
+    PALMHEAP_REFUSED_TOO_MANY_ENTRIES = 17,
+    PALMHEAP_REFUSED_INVALID_CATEGORY = 18,
+    PALMHEAP_REFUSED_DUPLICATE_ID = 19,
+    PALMHEAP_REFUSED_UNIQUE_ID_NOT_FOUND = 20,
+    PALMHEAP_REFUSED_ALREADY_EXISTS = 21,
+    PALMHEAP_REFUSED_INVALID_NAME = 22,
+    PALMHEAP_REFUSED_RESOURCE_NOT_FOUND = 23,
+    PALMHEAP_REFUSED_NO_INFO_BLOCK = 24,
+    PALMHEAP_REFUSED_BAD_FILE = 25,
+    PALMHEAP_REFUSED_OUT_OF_MEMORY = 26,
+    PALMHEAP_REFUSED_LENT = 27
+};
+
+/* The result of a call whose buffer is too short. Its count is the size that it needs. */
+enum { PALMHEAP_CALL_NO_ROOM = 100 };
+
+/* Opens an image: checks it, and copies it into a store that lives until palmheap_close. Sets store to it. A store
+ * that was in store before is not closed. */
+palmheap_answer palmheap_open(const uint8_t *image, size_t image_len, palmheap_store *store);
+
+/* Closes a store and frees its memory. If a chunk is lent, the store stays open. Refusals: 27. */
+uint32_t palmheap_close(palmheap_store *store);
+
+/* Writes the image of a store into a buffer. Sets count to its size in bytes, also if the buffer is too short for
+ * it. Refusals: 27, 26. */
+uint32_t palmheap_write_image(palmheap_store *store, uint8_t *image, size_t image_len, size_t *count);
+
+/* -- Chunks -- */
+
+/* Makes a movable chunk of size zeros for an owner, 1 to 14. Sets name to its name. Refusals: 7, 8. */
+uint32_t palmheap_MemHandleNew(palmheap_store *store, uint32_t size, uint8_t owner, uint32_t *name);
+
+/* Makes a fixed chunk of size zeros for an owner, 1 to 14. Sets name to its name. Refusals: 7, 8. */
+uint32_t palmheap_MemPtrNew(palmheap_store *store, uint32_t size, uint8_t owner, uint32_t *name);
+
+/* Frees a chunk that has no lock, or is fixed. Refusals: 1, 2, 3. */
+uint32_t palmheap_MemChunkFree(palmheap_store *store, uint32_t name);
+
+/* Adds a lock to a movable chunk. Sets place to the offset of its body in the image, and count to the number of its
+ * locks. Refusals: 1, 6, 5. */
+uint32_t palmheap_MemHandleLock(palmheap_store *store, uint32_t name, uint32_t *place, uint8_t *count);
+
+/* Removes a lock from a movable chunk. Sets count to the number of locks left. Refusals: 1, 6, 4. */
+uint32_t palmheap_MemHandleUnlock(palmheap_store *store, uint32_t name, uint8_t *count);
+
+/* Sets size to the size of a chunk in bytes. Refusals: 1. */
+uint32_t palmheap_MemHandleSize(palmheap_store *store, uint32_t name, uint32_t *size);
+
+/* Sets owner to the owner of a chunk, or to 15 if a database owns it. Refusals: 1. */
+uint32_t palmheap_MemHandleOwner(palmheap_store *store, uint32_t name, uint8_t *owner);
+
+/* Sets count to the number of locks of a chunk, or to 15 if it is fixed. Refusals: 1. */
+uint32_t palmheap_MemHandleLockCount(palmheap_store *store, uint32_t name, uint8_t *count);
+
+/* Overwrites bytes of a locked or fixed chunk, from the offset at in the chunk. Refusals: 1, 4, 9. */
+uint32_t palmheap_DmWrite(palmheap_store *store, uint32_t name, uint32_t at, const uint8_t *bytes, size_t bytes_len);
+
+/* Sets count bytes of a locked or fixed chunk to byte, from the offset at in the chunk. Refusals: 1, 4, 9. */
+uint32_t palmheap_DmSet(palmheap_store *store, uint32_t name, uint32_t at, uint32_t count, uint8_t byte);
+
+/* Overwrites bytes of a locked or fixed chunk, from the offset at in the chunk, with the bytes of text before its
+ * first zero byte, and then a zero byte. Refusals: 1, 4, 9. */
+uint32_t palmheap_DmStrCopy(palmheap_store *store, uint32_t name, uint32_t at, const uint8_t *text, size_t text_len);
+
+/* Resizes a chunk to size bytes. It cuts bytes off at the end, or adds zeros there. Refusals: 1, 2, 6, 3, 8. */
+uint32_t palmheap_MemHandleResize(palmheap_store *store, uint32_t name, uint32_t size);
+
+/* Sets the owner of a chunk, 1 to 14. Refusals: 1, 2, 7. */
+uint32_t palmheap_MemHandleSetOwner(palmheap_store *store, uint32_t name, uint8_t owner);
+
+/* Sets name to the name of the chunk whose body is at the offset place in the image. Refusals: 1. */
+uint32_t palmheap_MemPtrRecoverHandle(palmheap_store *store, uint32_t place, uint32_t *name);
+
+/* Frees all chunks of an owner, 1 to 14, also locked and fixed ones. Sets count to their number. Refusals: 7. */
+uint32_t palmheap_MemHeapFreeByOwnerID(palmheap_store *store, uint8_t owner, uint32_t *count);
+
+/* Sets count to the sum of the sizes of all free chunks, in bytes. */
+uint32_t palmheap_MemHeapFreeBytes(palmheap_store *store, uint32_t *count);
+
+/* Sets count to the greatest room of a stretch, in bytes, or to 0 if there is no stretch. */
+uint32_t palmheap_largest_stretch(palmheap_store *store, uint32_t *count);
+
+/* Joins the free bytes of each stretch into one chunk. Sets count to the number of bytes moved. */
+uint32_t palmheap_MemHeapCompact(palmheap_store *store, uint32_t *count);
+
+/* Adds a master pointer table of 15 empty slots, if the image has a chain of tables. Refusals: 8. */
+uint32_t palmheap_more_slots(palmheap_store *store);
+
+/* -- Databases. A type or a creator is the number that its four bytes make, the first byte highest. -- */
+
+/* The header of a database. The first name_length bytes of name are its name, and the others are 0. */
+typedef struct palmheap_database_info {
+    uint8_t name[32];
+    uint32_t name_length;
+    uint32_t creation_date;
+    uint32_t modification_date;
+    uint32_t backup_date;
+    uint32_t modification_number;
+    uint32_t kind;
+    uint32_t creator;
+    uint32_t seed;
+    uint16_t attributes;
+    uint16_t version;
+    uint16_t entry_count;
+} palmheap_database_info;
+
+/* The entry of a record. If has_data is true, data is the chunk of its data. */
+typedef struct palmheap_record_info {
+    uint32_t id;
+    uint32_t data;
+    uint8_t attributes;
+    bool has_data;
+} palmheap_record_info;
+
+/* The entry of a resource. data is the chunk of its data. */
+typedef struct palmheap_resource_info {
+    uint32_t kind;
+    uint32_t data;
+    uint16_t id;
+} palmheap_resource_info;
+
+/* Makes a database without entries, after all others. kind is its type, and date its creation and modification date.
+ * Sets db to the database. Refusals: 22, 21, 17, 8. */
+uint32_t palmheap_DmCreateDatabase(palmheap_store *store, const uint8_t *name, size_t name_len, uint32_t kind,
+    uint32_t creator, bool resources, uint32_t date, uint32_t *db);
+
+/* Deletes a database, its entries and its info blocks. Refusals: 10, 3. */
+uint32_t palmheap_DmDeleteDatabase(palmheap_store *store, uint32_t db);
+
+/* Sets db to the database with this name. Refusals: 10. */
+uint32_t palmheap_DmFindDatabase(palmheap_store *store, const uint8_t *name, size_t name_len, uint32_t *db);
+
+/* Sets db to the database at an index, counted from 0. Refusals: 10. */
+uint32_t palmheap_DmGetDatabase(palmheap_store *store, uint32_t index, uint32_t *db);
+
+/* Sets count to the number of databases. */
+uint32_t palmheap_DmNumDatabases(palmheap_store *store, uint32_t *count);
+
+/* Reads the header of a database, and the number of its entries. Refusals: 10. */
+uint32_t palmheap_DmDatabaseInfo(palmheap_store *store, uint32_t db, palmheap_database_info *info);
+
+/* Sets the name, attributes, version, dates, type and creator of a database. Ignores the other fields of info, and
+ * the attribute for resources. Refusals: 10, 22, 21. */
+uint32_t palmheap_DmSetDatabaseInfo(palmheap_store *store, uint32_t db, const palmheap_database_info *info);
+
+/* Makes a movable chunk the AppInfo block of a database, or its SortInfo block if sort is true. The database may not
+ * have this block yet. Refusals: 10, 13, 21, 1, 2, 6. */
+uint32_t palmheap_set_info_block(palmheap_store *store, uint32_t db, bool sort, uint32_t name);
+
+/* Gives an info block of a database to an owner, 1 to 14. The database no longer has the block. Sets name to the
+ * block's name. Refusals: 10, 13, 24, 7. */
+uint32_t palmheap_take_info_block(palmheap_store *store, uint32_t db, bool sort, uint8_t owner, uint32_t *name);
+
+/* Sets name to the name of an info block of a database. Refusals: 10, 24. */
+uint32_t palmheap_info_block(palmheap_store *store, uint32_t db, bool sort, uint32_t *name);
+
+/* -- Records -- */
+
+/* Makes a record of size zeros at the index at, or at the end. Sets index to its index, and name to the chunk of its
+ * data. Refusals: 10, 11, 13, 17, 8. */
+uint32_t palmheap_DmNewRecord(palmheap_store *store, uint32_t db, uint32_t at, uint32_t size, uint32_t *index,
+    uint32_t *name);
+
+/* Deletes a record: frees its data, and keeps its entry. Refusals: 10, 11, 13, 14, 15, 3. */
+uint32_t palmheap_DmDeleteRecord(palmheap_store *store, uint32_t db, uint32_t index);
+
+/* Marks a record as deleted, and keeps its data. Refusals: 10, 11, 13, 14, 15. */
+uint32_t palmheap_DmArchiveRecord(palmheap_store *store, uint32_t db, uint32_t index);
+
+/* Removes a record, and frees its data if it has any. Refusals: 10, 11, 13, 14, 3. */
+uint32_t palmheap_DmRemoveRecord(palmheap_store *store, uint32_t db, uint32_t index);
+
+/* Moves a record before the record at the index to, or after the last one. Both indexes are those before the call.
+ * Refusals: 10, 11, 13, 14. */
+uint32_t palmheap_DmMoveRecord(palmheap_store *store, uint32_t db, uint32_t from, uint32_t to);
+
+/* Marks a record as busy, and sets name to the chunk of its data. Refusals: 10, 11, 14, 15, 16. */
+uint32_t palmheap_DmGetRecord(palmheap_store *store, uint32_t db, uint32_t index, uint32_t *name);
+
+/* Sets name to the chunk of a record's data. Refusals: 10, 11, 14, 15. */
+uint32_t palmheap_DmQueryRecord(palmheap_store *store, uint32_t db, uint32_t index, uint32_t *name);
+
+/* Marks a record as no longer busy, and as dirty if dirty is true. Refusals: 10, 11, 14. */
+uint32_t palmheap_DmReleaseRecord(palmheap_store *store, uint32_t db, uint32_t index, bool dirty);
+
+/* Reads the entry of a record. Refusals: 10, 11, 14. */
+uint32_t palmheap_DmRecordInfo(palmheap_store *store, uint32_t db, uint32_t index, palmheap_record_info *info);
+
+/* Resizes the data of a record to size bytes. Refusals: 10, 11, 13, 14, 15, 3, 8. */
+uint32_t palmheap_DmResizeRecord(palmheap_store *store, uint32_t db, uint32_t index, uint32_t size);
+
+/* Sets count to the number of records. Refusals: 10, 11. */
+uint32_t palmheap_DmNumRecords(palmheap_store *store, uint32_t db, uint32_t *count);
+
+/* Makes a movable chunk the data of a new record at the index at, or at the end. Sets index to the index of the
+ * record. Refusals: 10, 11, 13, 1, 2, 6, 17, 8. */
+uint32_t palmheap_DmAttachRecord(palmheap_store *store, uint32_t db, uint32_t at, uint32_t name, uint32_t *index);
+
+/* Makes a movable chunk the data of a record, and gives its old data to an owner. Sets old to the name of the old
+ * data. Refusals: 10, 11, 13, 14, 15, 1, 2, 6, 7. */
+uint32_t palmheap_attach_replacing(palmheap_store *store, uint32_t db, uint32_t index, uint32_t name, uint8_t owner,
+    uint32_t *old);
+
+/* Removes a record, and gives its data to an owner. Sets name to the name of the data. Refusals: 10, 11, 13, 14, 15,
+ * 7. */
+uint32_t palmheap_DmDetachRecord(palmheap_store *store, uint32_t db, uint32_t index, uint8_t owner, uint32_t *name);
+
+/* Sets the attributes of a record, except the bits 0x80 and 0x20. Sets its ID too, if the low 24 bits of id are not
+ * 0. Refusals: 10, 11, 13, 14, 19. */
+uint32_t palmheap_DmSetRecordInfo(palmheap_store *store, uint32_t db, uint32_t index, uint8_t attributes, uint32_t
+    id);
+
+/* Sets index to the index of the record with this unique ID. Refusals: 10, 11, 20. */
+uint32_t palmheap_DmFindRecordByID(palmheap_store *store, uint32_t db, uint32_t id, uint32_t *index);
+
+/* Sets count to the number of records of a category, 0 to 15, or of all categories for 255. Refusals: 10, 11, 18. */
+uint32_t palmheap_DmNumRecordsInCategory(palmheap_store *store, uint32_t db, uint8_t category, uint32_t *count);
+
+/* Sets index to the index of the first record of a category at the index from or after it. Refusals: 10, 11, 18, 14. */
+uint32_t palmheap_DmQueryNextInCategory(palmheap_store *store, uint32_t db, uint32_t from, uint8_t category, uint32_t
+    *index);
+
+/* Sets count to the number of records of a category before an index. Refusals: 10, 11, 18, 14. */
+uint32_t palmheap_DmPositionInCategory(palmheap_store *store, uint32_t db, uint32_t index, uint8_t category, uint32_t
+    *count);
+
+/* Gives all records of the category from the category to. Marks them as dirty if dirty is true. Refusals: 10, 11,
+ * 13, 18. */
+uint32_t palmheap_DmMoveCategory(palmheap_store *store, uint32_t db, uint8_t to, uint8_t from, bool dirty);
+
+/* Deletes all records of a category. Refusals: 10, 11, 13, 18, 3. */
+uint32_t palmheap_DmDeleteCategory(palmheap_store *store, uint32_t db, uint8_t category);
+
+/* -- Resources -- */
+
+/* Makes a resource of size zeros, after all others. Sets index to its index, and name to the chunk of its data.
+ * Refusals: 10, 12, 13, 17, 8. */
+uint32_t palmheap_DmNewResource(palmheap_store *store, uint32_t db, uint32_t kind, uint16_t id, uint32_t size,
+    uint32_t *index, uint32_t *name);
+
+/* Makes a movable chunk the data of a new resource, after all others. Sets index to the index of the resource.
+ * Refusals: 10, 12, 13, 1, 2, 6, 17, 8. */
+uint32_t palmheap_DmAttachResource(palmheap_store *store, uint32_t db, uint32_t kind, uint16_t id, uint32_t name,
+    uint32_t *index);
+
+/* Removes a resource, and gives its data to an owner. Sets name to the name of the data. Refusals: 10, 12, 13, 14,
+ * 7. */
+uint32_t palmheap_DmDetachResource(palmheap_store *store, uint32_t db, uint32_t index, uint8_t owner, uint32_t *name);
+
+/* Removes a resource, and frees its data. Refusals: 10, 12, 13, 14, 3. */
+uint32_t palmheap_DmRemoveResource(palmheap_store *store, uint32_t db, uint32_t index);
+
+/* Resizes the data of a resource to size bytes. Refusals: 10, 12, 13, 14, 3, 8. */
+uint32_t palmheap_DmResizeResource(palmheap_store *store, uint32_t db, uint32_t index, uint32_t size);
+
+/* Reads the entry of a resource: its type, its ID, and the chunk of its data. Refusals: 10, 12, 14. */
+uint32_t palmheap_DmResourceInfo(palmheap_store *store, uint32_t db, uint32_t index, palmheap_resource_info *info);
+
+/* Sets the type and the ID of a resource. Refusals: 10, 12, 13, 14. */
+uint32_t palmheap_DmSetResourceInfo(palmheap_store *store, uint32_t db, uint32_t index, uint32_t kind, uint16_t id);
+
+/* Sets index to the index of the first resource with this type and ID. Refusals: 10, 12, 23. */
+uint32_t palmheap_DmFindResource(palmheap_store *store, uint32_t db, uint32_t kind, uint16_t id, uint32_t *index);
+
+/* Sets index to the index of the resource of a type that has nth others of the type before it. Refusals: 10, 12, 23. */
+uint32_t palmheap_DmFindResourceType(palmheap_store *store, uint32_t db, uint32_t kind, uint32_t nth, uint32_t
+    *index);
+
+/* Sets count to the number of resources. Refusals: 10, 12. */
+uint32_t palmheap_DmNumResources(palmheap_store *store, uint32_t db, uint32_t *count);
+
+/* -- Bytes and files -- */
+
+/* Copies count bytes of a chunk, from the offset at in the chunk, into a buffer. Sets len to their number, also if
+ * the buffer is too short for them. Refusals: 1, 9. */
+uint32_t palmheap_read(palmheap_store *store, uint32_t name, uint32_t at, uint32_t count, uint8_t *bytes, size_t
+    bytes_len, size_t *len);
+
+/* Makes the database of a file, after all others. Sets db to the database. Refusals: 25, 21, 17, 26, 8. */
+uint32_t palmheap_import(palmheap_store *store, const uint8_t *file, size_t file_len, uint32_t *db);
+
+/* Writes the file of a database into a buffer. Sets len to its size in bytes, also if the buffer is too short for
+ * it. Refusals: 10, 26. */
+uint32_t palmheap_export(palmheap_store *store, uint32_t db, uint8_t *file, size_t file_len, size_t *len);
+
 #ifdef __cplusplus
 }
 #endif

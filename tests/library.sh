@@ -4,7 +4,8 @@
 #   tests/library.sh [FILES]
 #
 # Runs the bindings in examples/, the one for C also under valgrind and with the address and undefined-behavior
-# sanitizers, and compares the library with the commands `list` and `canonical` on FILES damaged files (100000).
+# sanitizers, and compares the library with the commands `list` and `canonical` on FILES damaged files (100000), and as
+# many calls on a store with the command `run`.
 # Needs rt, gcc and python3. Without valgrind or cargo, it leaves out what they run, and says so. PALMHEAP names a
 # built program to compare with (./palmheap). The status is 1 if something differs. The gate doesn't run this.
 top=$(cd -- "$(dirname -- "$0")/.." && pwd)
@@ -55,3 +56,4 @@ else
     echo 'not run: cargo'
 fi
 python3 "$top/tests/library.py" damaged "$program" "$files" || fail 'the library and the program differ'
+python3 "$top/tests/library.py" calls "$program" "$files" || fail 'calls on a store and the program differ'

@@ -2,7 +2,7 @@
 
     LD_LIBRARY_PATH=DIR/lib python3 palmheap.py FILE..
 
-prints the listing of each file, or its first fault. docs/C-LIBRARY.md says what the functions do.
+prints the listing of each file, or its first fault. docs/C-LIBRARY.md and palmheap.h say what the functions do.
 """
 
 import ctypes as c
@@ -24,12 +24,111 @@ class Block(c.Structure):
     _fields_ = [("start", c.c_size_t), ("end", c.c_size_t), ("is_there", c.c_bool)]
 
 
+class Place(c.Structure):
+    _fields_ = [("at", c.c_void_p)]
+
+
+class DatabaseInfo(c.Structure):
+    _fields_ = [
+        ("name", c.c_uint8 * 32),
+        *((it, c.c_uint32) for it in ("name_length", "creation_date", "modification_date", "backup_date")),
+        *((it, c.c_uint32) for it in ("modification_number", "kind", "creator", "seed")),
+        *((it, c.c_uint16) for it in ("attributes", "version", "entry_count")),
+    ]
+
+
+class RecordInfo(c.Structure):
+    _fields_ = [("id", c.c_uint32), ("data", c.c_uint32), ("attributes", c.c_uint8), ("has_data", c.c_bool)]
+
+
+class ResourceInfo(c.Structure):
+    _fields_ = [("kind", c.c_uint32), ("data", c.c_uint32), ("id", c.c_uint16)]
+
+
+U8, U16, U32, SIZE, BOOL = c.c_uint8, c.c_uint16, c.c_uint32, c.c_size_t, c.c_bool
+# The calls on an open store: what they take, and what they write. `bytes` stands for a pointer and a length.
+CALLS = {
+    "MemHandleNew": ([U32, U8], [U32]),
+    "MemPtrNew": ([U32, U8], [U32]),
+    "MemChunkFree": ([U32], []),
+    "MemHandleLock": ([U32], [U32, U8]),
+    "MemHandleUnlock": ([U32], [U8]),
+    "MemHandleSize": ([U32], [U32]),
+    "MemHandleOwner": ([U32], [U8]),
+    "MemHandleLockCount": ([U32], [U8]),
+    "DmWrite": ([U32, U32, bytes], []),
+    "DmSet": ([U32, U32, U32, U8], []),
+    "DmStrCopy": ([U32, U32, bytes], []),
+    "MemHandleResize": ([U32, U32], []),
+    "MemHandleSetOwner": ([U32, U8], []),
+    "MemPtrRecoverHandle": ([U32], [U32]),
+    "MemHeapFreeByOwnerID": ([U8], [U32]),
+    "MemHeapFreeBytes": ([], [U32]),
+    "largest_stretch": ([], [U32]),
+    "MemHeapCompact": ([], [U32]),
+    "more_slots": ([], []),
+    "DmCreateDatabase": ([bytes, U32, U32, BOOL, U32], [U32]),
+    "DmDeleteDatabase": ([U32], []),
+    "DmFindDatabase": ([bytes], [U32]),
+    "DmGetDatabase": ([U32], [U32]),
+    "DmNumDatabases": ([], [U32]),
+    "DmDatabaseInfo": ([U32], [DatabaseInfo]),
+    "DmSetDatabaseInfo": ([U32, c.POINTER(DatabaseInfo)], []),
+    "set_info_block": ([U32, BOOL, U32], []),
+    "take_info_block": ([U32, BOOL, U8], [U32]),
+    "info_block": ([U32, BOOL], [U32]),
+    "DmNewRecord": ([U32, U32, U32], [U32, U32]),
+    "DmDeleteRecord": ([U32, U32], []),
+    "DmArchiveRecord": ([U32, U32], []),
+    "DmRemoveRecord": ([U32, U32], []),
+    "DmMoveRecord": ([U32, U32, U32], []),
+    "DmGetRecord": ([U32, U32], [U32]),
+    "DmQueryRecord": ([U32, U32], [U32]),
+    "DmReleaseRecord": ([U32, U32, BOOL], []),
+    "DmRecordInfo": ([U32, U32], [RecordInfo]),
+    "DmResizeRecord": ([U32, U32, U32], []),
+    "DmNumRecords": ([U32], [U32]),
+    "DmAttachRecord": ([U32, U32, U32], [U32]),
+    "attach_replacing": ([U32, U32, U32, U8], [U32]),
+    "DmDetachRecord": ([U32, U32, U8], [U32]),
+    "DmSetRecordInfo": ([U32, U32, U8, U32], []),
+    "DmFindRecordByID": ([U32, U32], [U32]),
+    "DmNumRecordsInCategory": ([U32, U8], [U32]),
+    "DmQueryNextInCategory": ([U32, U32, U8], [U32]),
+    "DmPositionInCategory": ([U32, U32, U8], [U32]),
+    "DmMoveCategory": ([U32, U8, U8, BOOL], []),
+    "DmDeleteCategory": ([U32, U8], []),
+    "DmNewResource": ([U32, U32, U16, U32], [U32, U32]),
+    "DmAttachResource": ([U32, U32, U16, U32], [U32]),
+    "DmDetachResource": ([U32, U32, U8], [U32]),
+    "DmRemoveResource": ([U32, U32], []),
+    "DmResizeResource": ([U32, U32, U32], []),
+    "DmResourceInfo": ([U32, U32], [ResourceInfo]),
+    "DmSetResourceInfo": ([U32, U32, U32, U16], []),
+    "DmFindResource": ([U32, U32, U16], [U32]),
+    "DmFindResourceType": ([U32, U32, U32], [U32]),
+    "DmNumResources": ([U32], [U32]),
+    "import": ([bytes], [U32]),
+}
+# Those that put bytes into a buffer.
+BYTE_CALLS = {"write_image": [], "read": [U32, U32, U32], "export": [U32]}
+CALL_NO_ROOM = 100
+
+
 class Fault(Exception):
     """An answer that is not 0: its kind and the numbers that locate it."""
 
     def __init__(self, answer):
         super().__init__(answer.kind, answer.at, answer.entry)
         self.kind, self.at, self.entry = answer.kind, answer.at, answer.entry
+
+
+class Refused(Exception):
+    """A call was refused, for the reason of this number."""
+
+    def __init__(self, number):
+        super().__init__(number)
+        self.number = number
 
 
 class Library:
@@ -46,9 +145,19 @@ class Library:
             "palmheap_pdb_list": [*one, u8, size, c.POINTER(size)],
             "palmheap_new": [u8, size, c.c_uint16],
             "palmheap_check": [*one, c.POINTER(Counts)],
+            "palmheap_open": [*one, c.POINTER(Place)],
         }.items():
             function = getattr(self.so, name)
             function.argtypes, function.restype = kinds, Answer
+        place = c.POINTER(Place)
+        self.so.palmheap_close.argtypes, self.so.palmheap_close.restype = [place], U32
+        for name, (given, made) in CALLS.items():
+            function = getattr(self.so, f"palmheap_{name}")
+            kinds = [kind for it in given for kind in ([bytes_in, size] if it is bytes else [it])]
+            function.argtypes, function.restype = [place, *kinds, *map(c.POINTER, made)], U32
+        for name, given in BYTE_CALLS.items():
+            function = getattr(self.so, f"palmheap_{name}")
+            function.argtypes, function.restype = [place, *given, u8, size, c.POINTER(size)], U32
 
     @staticmethod
     def _good(answer):
@@ -91,6 +200,56 @@ class Library:
         counts = Counts()
         self._good(self.so.palmheap_check(image, len(image), c.byref(counts)))
         return {name: getattr(counts, name) for name, _ in Counts._fields_}
+
+    def open(self, image):
+        return Store(self, image)
+
+
+class Store:
+    """An open store. Use it in a `with`, or close it."""
+
+    def __init__(self, library, image):
+        self.so, self.place = library.so, Place()
+        library._good(self.so.palmheap_open(image, len(image), c.byref(self.place)))
+        self.is_open = True
+
+    def __enter__(self):
+        return self
+
+    def __exit__(self, *_):
+        self.close()
+
+    def close(self):
+        if self.is_open:
+            self._done(self.so.palmheap_close(c.byref(self.place)))
+            self.is_open = False
+
+    def _done(self, number):
+        if number:
+            raise Refused(number)
+
+    def call(self, name, *given):
+        """Does a call of `CALLS`. Returns what it writes: nothing, a number or a structure, or a list of these."""
+        if not self.is_open:
+            raise ValueError("the store is closed")
+        made = [it() for it in CALLS[name][1]]
+        words = [word for it in given for word in ([it, len(it)] if isinstance(it, bytes) else [it])]
+        self._done(getattr(self.so, f"palmheap_{name}")(c.byref(self.place), *words, *map(c.byref, made)))
+        told = [it if isinstance(it, c.Structure) else it.value for it in made]
+        return told[0] if len(told) == 1 else told or None
+
+    def bytes_by(self, name, *given):
+        """Does a call of `BYTE_CALLS`, and returns the bytes."""
+        if not self.is_open:
+            raise ValueError("the store is closed")
+        count, room = SIZE(0), (U8 * 1)()
+        function = getattr(self.so, f"palmheap_{name}")
+        number = function(c.byref(self.place), *given, room, 0, c.byref(count))
+        if number == CALL_NO_ROOM:
+            room = (U8 * count.value)()
+            number = function(c.byref(self.place), *given, room, count.value, c.byref(count))
+        self._done(number)
+        return bytes(room[: count.value])
 
 
 def main():

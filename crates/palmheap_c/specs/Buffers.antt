@@ -24,3 +24,13 @@ abbrev pub IsBytesAnswer : (List ℕ → Type 0) → List ℕ → (old new : Lis
 IsBytesAnswer IsSuch file old new was count found =
     ((bytes : List ℕ) × IsSuch bytes × PutsBytes bytes old new count found)
     ⊎ (IsFileRefusal file found × (new ≡ old) × (count ≡ was))
+
+-- the result of a call whose buffer is too short
+abbrev pub call_no_room : ℕ
+call_no_room = 100
+
+-- The same as `PutsBytes`, for a result that is a number: 0, or the number for a buffer that is too
+-- short.
+pub record PutsCoded (bytes old new : List ℕ) (count result : ℕ) : Type 0 where
+  pub counted : count ≡ length bytes
+  pub answered : ((result ≡ 0) × Fills bytes old new) ⊎ ((result ≡ call_no_room) × IsTooShort bytes old new)

@@ -1,14 +1,17 @@
 //! Results that go to a buffer of the caller, and writes that fail.
 
-ghost use Rattle.std.specs.Prelude.{◌≡◌, ◌<◌};
+ghost use Rattle.std.specs.Prelude.{◌≡◌, ◌<◌, ◌≤◌, length};
 ghost use Rattle.allowance.specs.Refusals.{GrowthRefused};
 ghost use Rattle.palmheap_c.specs.Answers.{no_memory};
-ghost use Rattle.palmheap_c.specs.Buffers.{PutsBytes};
+ghost use Rattle.palmheap_c.specs.Buffers.{Fills, PutsBytes, PutsCoded};
 
 use crate::answers::{Answer, NO_FAULT, NO_MEMORY, NO_ROOM};
 use allowance::failed;
 use palm_text::Counted;
 use std::alloc::Global;
+
+/// The result of a call whose buffer is too short.
+const CALL_NO_ROOM: u32 = 100;
 
 /// Copies bytes to the start of a buffer, if it has room for them. Sets `count` to their number in
 /// both cases.
@@ -19,7 +22,7 @@ pub(crate) fn put_bytes(bytes: &[u8], buffer: &mut [u8], count: &mut usize) -> A
     if buffer.len() < bytes.len() {
         return NO_ROOM;
     }
-    buffer[..bytes.len()].copy_from_slice(bytes);
+    put_front(bytes, buffer);
     NO_FAULT
 }
 
@@ -32,4 +35,32 @@ pub(crate) fn refused_write(alloc: Global, _out: &Counted<Vec<u8>>) -> Answer
 {
     let _ = unsafe { failed(&alloc) };
     NO_MEMORY
+}
+
+/// The same as `put_bytes`, but returns 0, or `CALL_NO_ROOM` if the buffer is too short.
+pub(crate) fn put_coded(bytes: &[u8], buffer: &mut [u8], count: &mut usize) -> u32
+    ensures { PutsCoded bytes.now buffer.old buffer.new count.new result }
+{
+    if put_bytes(bytes, buffer, count) == NO_FAULT {
+        0
+    } else {
+        CALL_NO_ROOM
+    }
+}
+
+/// Records that a `Box` was not made. Making one fails only if its allocation failed.
+pub(crate) fn refused_block(alloc: Global) -> Answer
+    ensures is { result ≡ no_memory }
+    ensures short { GrowthRefused }
+{
+    let _ = unsafe { failed(&alloc) };
+    NO_MEMORY
+}
+
+/// Copies bytes to the start of a buffer that has room for them.
+pub(crate) fn put_front(bytes: &[u8], buffer: &mut [u8])
+    requires { length bytes.now ≤ length buffer.old }
+    ensures { Fills bytes.now buffer.old buffer.new }
+{
+    buffer[..bytes.len()].copy_from_slice(bytes);
 }

@@ -1,0 +1,5 @@
+pub mod AnswerLaws
+pub mod CallLaws
+pub mod NameLaws
+pub mod RefusalLaws
+pub mod Values

@@ -1,0 +1,48 @@
+-- `closed` has a null pointer, and owns nothing. Assumes `Logic`.
+use Rattle.std.proofs.Common.{◌≡◌, [], ◌∷◌, refl, lit<}
+use Rattle.std.proofs.raw_atomic.Walks.{proved_at, leaves}
+use Rattle.std.specs.Prelude.{Option, None}
+use mir.Syntax.{Fn}
+use mir.Val.{Val}
+use base.Logic.{SProp, emp}
+use base.Fml.{ftrue}
+use contract.Monad.{fact, fact_i}
+use contract.Running.{tables}
+use types.Kit.{‵, raw, ◌⊛◌, ◌$◌, ◌∵◌, !, qed, by, move, drop, use0, split}
+use types.Part.{agg}
+use types.Run.{lit, no_more, and_then, returns, enter}
+use types.ByLocal.{alloc_all, pass_all, free_all, look_at, sets}
+use denote.RattleType.{owns}
+use denote.RawPtr.{null_ptr}
+use denote.Signature.{types_at}
+use denote.Steps.{nothing}
+use denote.Triple.Entry.{alive}
+use denote.Triple.Walked.{Stays, walk_of}
+use Rattle.heap_model.specs.Memory.{Memory}
+use Rattle.palmheap_c.proofs.Values.{word, word_in}
+use Rattle.palmheap_c.specs.contracts.kept.Slot as slot
+use Rattle.palmheap_c.specs.contracts.kept.Slot.closed.{ended, clauses}
+use Rattle.palmheap_c.specs.contracts.kept.Slot.closed.Key.{name as #self}
+use Rattle.palmheap_c.proofs.kept.Slot.closed.Statement.{statement}
+use Rattle.palmheap_c.proofs.kept.Slot.closed.Code as compiled
+
+pub closed_spec : {M : Type 1} → statement M
+closed_spec 𝓤 𝓛 𝓜 𝓡 wired =
+    let H = 𝓛.H in
+    let fn : Fn = compiled.function in
+    let stays : Stays ended.signature.params ended.kept = tt in
+    let c = clauses 𝓛 𝓜.mem 𝓡.returns in
+    let C = (tables 𝓤 H 𝓜 𝓡 𝓡.env).C in
+    let Λ = (tables 𝓤 H 𝓜 𝓡 𝓡.env).Λ in
+    proved_at 𝓛 ended stays c 𝓜 𝓡 tt #self fn (compiled.unfolded 𝓤 H 𝓜 𝓡 wired) (λ z are.
+    let Post : Val → SProp 𝓤 = (walk_of 𝓛 ended stays c).post z in
+    let none : Option Memory = None in
+    let made : slot.the_row.Denot = record { at = null_ptr; store = none } in
+    qed 𝓛 ((raw (alive 𝓛 ended.signature z.0.0 z.0.1) ⊛ ‵ (owns (types_at ended.signature.params z.0.0) z.0.3 z.0.4)) ∷ ‵ ftrue ∷ []) ∵ move ! (1 ∷ []) $ drop ! $ split ! $ move ! (1 ∷ []) $ drop ! $
+    enter ! C Λ fn [] Post $
+    alloc_all ! (λ l. pass_all ! refl tt $
+    sets ! (agg ! (and_then ! (lit ! tt) (no_more !))) refl (tt, (record { fits = lit< tt }, tt)) $
+    returns ! (look_at ! 0 refl) $ free_all ! refl $
+    nothing ! $ word_in ! null_ptr none $
+    use0 𝓛 (raw (fact 𝓤 (none ≡ none))) (fact_i 𝓤 (none ≡ none) (emp 𝓤) refl) $
+    nothing ! $ move ! (3 ∷ 0 ∷ 2 ∷ 1 ∷ []) $ by ! (leaves 𝓛 ended stays c z (word null_ptr) made tt tt)))

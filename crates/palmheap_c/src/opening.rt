@@ -1,0 +1,115 @@
+//! Opening and closing a store that lives between calls, and writing its image.
+
+ghost use Rattle.std.specs.Prelude.{◌≡◌, ◌≢◌, ◌⊎◌, IfOk, IfErr};
+ghost use Rattle.palmheap_c.specs.Answers.{IsImageFault, WantsMemory, no_fault};
+ghost use Rattle.palmheap_c.specs.Holding.{IsOpen};
+ghost use Rattle.palmheap_c.specs.Opening.{Closes, HoldsImage, IsStore, WritesImage};
+
+use crate::answers::{Answer, NO_FAULT, NO_MEMORY, of_store};
+use crate::buffers::{put_coded, refused_block, refused_write};
+use crate::calls::refused;
+use crate::kept::{Held, Kept, Slot};
+use crate::parts::Parts;
+use heap_model::Refusal;
+use palm_store::{ImageFault, Store};
+use palm_text::Counted;
+use raw_region::Region;
+use std::alloc::Global;
+use std::mem::{ManuallyDrop, replace};
+
+/// Opens an image: checks it, and copies it into a store that lives until `palmheap_close`. Sets
+/// `store` to it. A store that was in `store` before is not closed.
+#[unsafe(no_mangle)]
+pub extern "C" fn palmheap_open(alloc: Global, image: &[u8], store: &mut Slot) -> Answer
+    ensures opened { result ≡ no_fault → HoldsImage image.now store.new.store }
+    ensures refused { result ≢ no_fault → WantsMemory result ⊎ IsImageFault image.now result }
+    ensures left { result ≢ no_fault → store.new ≡ store.old }
+{
+    match boxed_store(alloc, image) {
+        Ok(made) => {
+            let old = replace(store, Slot::of(Parts::of(made)));
+            let _not_closed = unsafe { ManuallyDrop::new_unchecked(old) };
+            NO_FAULT
+        }
+        Err(answer) => answer,
+    }
+}
+
+/// Makes a store of a copy of an image, in a box.
+fn boxed_store(alloc: Global, image: &[u8]) -> Result<Box<Held, Global>, Answer>
+    ensures store { IfOk result (λ made. IsStore image.now made.value) }
+    ensures refused { IfErr result (λ answer. WantsMemory answer ⊎ IsImageFault image.now answer) }
+    ensures faulty { IfErr result (λ answer. answer ≢ no_fault) }
+{
+    let store = match checked_store(alloc, image) {
+        Ok(store) => store,
+        Err(answer) => return Err(answer),
+    };
+    match Box::new(alloc, Held::of(store)) {
+        Ok(made) => Ok(made),
+        Err(error) => {
+            let _unused = error.value.into_store();
+            Err(refused_block(alloc))
+        }
+    }
+}
+
+/// Makes a store of a copy of an image.
+pub(crate) fn checked_store(alloc: Global, image: &[u8]) -> Result<Store, Answer>
+    ensures store { IfOk result (IsStore image.now) }
+    ensures refused { IfErr result (λ answer. WantsMemory answer ⊎ IsImageFault image.now answer) }
+    ensures faulty { IfErr result (λ answer. answer ≢ no_fault) }
+{
+    let Ok(region) = Region::from_bytes(alloc, image) else {
+        return Err(NO_MEMORY);
+    };
+    match Store::check(alloc, region) {
+        Ok(store) => Ok(store),
+        Err(error) => Err(of_store(error.fault)),
+    }
+}
+
+/// Closes a store and frees its memory. If a chunk is lent, the store stays open.
+///
+/// # Errors
+/// The refusal 27.
+#[unsafe(no_mangle)]
+pub extern "C" fn palmheap_close(alloc: Global, store: &mut Slot) -> u32
+    requires open { IsOpen store.old.store }
+    ensures { Closes store.old.store store.new.store result }
+{
+    let kept = replace(store, Slot::closed()).into_parts(alloc).into_box();
+    if kept.is_lent() {
+        let closed = replace(store, Slot::of(Parts::of(kept)));
+        let _none = unsafe { ManuallyDrop::new_unchecked(closed) };
+        return refused(Refusal::Lent);
+    }
+    let _closed = Box::into_inner(kept).into_store();
+    0
+}
+
+/// Writes the image of a store into a buffer. Sets `count` to its size in bytes, also if the buffer
+/// is too short for it.
+///
+/// # Errors
+/// The refusals 27, 26, in this order.
+#[unsafe(no_mangle)]
+pub extern "C" fn palmheap_write_image(
+    alloc: Global,
+    store: &mut Kept,
+    image: &mut [u8],
+    count: &mut usize,
+) -> u32
+    ensures writes { WritesImage store.old.store image.old image.new count.old count.new result }
+    ensures same { store.new.store ≡ store.old.store }
+{
+    let mut out = Counted::new(Vec::new(alloc));
+    match store.as_mut().write_image(&mut out) {
+        Ok(()) => put_coded(&out.into_inner(), image, count),
+        Err(ImageFault::Lent) => refused(Refusal::Lent),
+        Err(ImageFault::Write) => {
+            refused_write(alloc, &out);
+            refused(Refusal::OutOfMemory)
+        }
+    }
+}
