@@ -7,6 +7,8 @@ _palmheap() {
         mapfile -t COMPREPLY < <(compgen -W '--json --help' -- "$word")
     elif [[ $word == -* && ${COMP_WORDS[1]} == run ]]; then
         mapfile -t COMPREPLY < <(compgen -W '--numbers --strict --help' -- "$word")
+    elif [[ $word == -* && ${COMP_WORDS[1]} == import ]]; then
+        mapfile -t COMPREPLY < <(compgen -W '--size --slots --help' -- "$word")
     else
         mapfile -t COMPREPLY < <(compgen -f -- "$word")
     fi
