@@ -106,6 +106,19 @@ fn resolve_further(region: &Region, known: &KnownTables, name: Name) -> Option<P
     if known.has_slot(name.0) {
         return place_in(region, name);
     }
+    resolve_further_on(region, known, name)
+}
+
+/// Returns the same for a name that isn't in the entry of its block. It is never inlined, so that
+/// `resolve_further` saves no registers for it.
+#[inline(never)]
+fn resolve_further_on(region: &Region, known: &KnownTables, name: Name) -> Option<Place>
+    requires accepted { HeapAccepted region.now.bytes }
+    requires lent { LendsABody region.now }
+    requires knows { KnowsTables region.now.bytes known.now }
+    ensures { MatchOption result (HoldsNothing region.now.bytes name.0)
+        (λ place. HoldsPlace region.now.bytes name.0 place.0) }
+{
     if follows_no_place(region, name.0) {
         return None;
     }
