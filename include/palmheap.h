@@ -180,14 +180,14 @@ uint32_t palmheap_MemHandleNew(palmheap_store *store, uint32_t size, uint8_t own
 /* Makes a fixed chunk of size zeros for an owner, 1 to 14. Sets name to its name. Refusals: 7, 8. */
 uint32_t palmheap_MemPtrNew(palmheap_store *store, uint32_t size, uint8_t owner, uint32_t *name);
 
-/* Frees a chunk that has no lock, or is fixed. Refusals: 1, 2, 3. */
+/* Frees a chunk that has no lock, or is fixed. Refusals: 1, 2, 3, 27. */
 uint32_t palmheap_MemChunkFree(palmheap_store *store, uint32_t name);
 
 /* Adds a lock to a movable chunk. Sets place to the offset of its body in the image, and count to the number of its
  * locks. Refusals: 1, 6, 5. */
 uint32_t palmheap_MemHandleLock(palmheap_store *store, uint32_t name, uint32_t *place, uint8_t *count);
 
-/* Removes a lock from a movable chunk. Sets count to the number of locks left. Refusals: 1, 6, 4. */
+/* Removes a lock from a movable chunk. Sets count to the number of locks left. Refusals: 1, 6, 4, 27. */
 uint32_t palmheap_MemHandleUnlock(palmheap_store *store, uint32_t name, uint8_t *count);
 
 /* Sets size to the size of a chunk in bytes. Refusals: 1. */
@@ -199,17 +199,17 @@ uint32_t palmheap_MemHandleOwner(palmheap_store *store, uint32_t name, uint8_t *
 /* Sets count to the number of locks of a chunk, or to 15 if it is fixed. Refusals: 1. */
 uint32_t palmheap_MemHandleLockCount(palmheap_store *store, uint32_t name, uint8_t *count);
 
-/* Overwrites bytes of a locked or fixed chunk, from the offset at in the chunk. Refusals: 1, 4, 9. */
+/* Overwrites bytes of a locked or fixed chunk, from the offset at in the chunk. Refusals: 1, 4, 27, 9. */
 uint32_t palmheap_DmWrite(palmheap_store *store, uint32_t name, uint32_t at, const uint8_t *bytes, size_t bytes_len);
 
-/* Sets count bytes of a locked or fixed chunk to byte, from the offset at in the chunk. Refusals: 1, 4, 9. */
+/* Sets count bytes of a locked or fixed chunk to byte, from the offset at in the chunk. Refusals: 1, 4, 27, 9. */
 uint32_t palmheap_DmSet(palmheap_store *store, uint32_t name, uint32_t at, uint32_t count, uint8_t byte);
 
 /* Overwrites bytes of a locked or fixed chunk, from the offset at in the chunk, with the bytes of text before its
- * first zero byte, and then a zero byte. Refusals: 1, 4, 9. */
+ * first zero byte, and then a zero byte. Refusals: 1, 4, 27, 9. */
 uint32_t palmheap_DmStrCopy(palmheap_store *store, uint32_t name, uint32_t at, const uint8_t *text, size_t text_len);
 
-/* Resizes a chunk to size bytes. It cuts bytes off at the end, or adds zeros there. Refusals: 1, 2, 6, 3, 8. */
+/* Resizes a chunk to size bytes. It cuts bytes off at the end, or adds zeros there. Refusals: 1, 2, 6, 27, 3, 8. */
 uint32_t palmheap_MemHandleResize(palmheap_store *store, uint32_t name, uint32_t size);
 
 /* Sets the owner of a chunk, 1 to 14. Refusals: 1, 2, 7. */
@@ -218,7 +218,7 @@ uint32_t palmheap_MemHandleSetOwner(palmheap_store *store, uint32_t name, uint8_
 /* Sets name to the name of the chunk whose body is at the offset place in the image. Refusals: 1. */
 uint32_t palmheap_MemPtrRecoverHandle(palmheap_store *store, uint32_t place, uint32_t *name);
 
-/* Frees all chunks of an owner, 1 to 14, also locked and fixed ones. Sets count to their number. Refusals: 7. */
+/* Frees all chunks of an owner, 1 to 14, also locked and fixed ones. Sets count to their number. Refusals: 7, 27. */
 uint32_t palmheap_MemHeapFreeByOwnerID(palmheap_store *store, uint8_t owner, uint32_t *count);
 
 /* Sets count to the sum of the sizes of all free chunks, in bytes. */
@@ -333,7 +333,7 @@ uint32_t palmheap_DmReleaseRecord(palmheap_store *store, uint32_t db, uint32_t i
 /* Reads the entry of a record. Refusals: 10, 11, 14. */
 uint32_t palmheap_DmRecordInfo(palmheap_store *store, uint32_t db, uint32_t index, palmheap_record_info *info);
 
-/* Resizes the data of a record to size bytes. Refusals: 10, 11, 13, 14, 15, 3, 8. */
+/* Resizes the data of a record to size bytes. Refusals: 10, 11, 13, 14, 15, 27, 3, 8. */
 uint32_t palmheap_DmResizeRecord(palmheap_store *store, uint32_t db, uint32_t index, uint32_t size);
 
 /* Sets count to the number of records. Refusals: 10, 11. */
@@ -397,7 +397,7 @@ uint32_t palmheap_DmDetachResource(palmheap_store *store, uint32_t db, uint32_t 
 /* Removes a resource, and frees its data. Refusals: 10, 12, 13, 14, 3. */
 uint32_t palmheap_DmRemoveResource(palmheap_store *store, uint32_t db, uint32_t index);
 
-/* Resizes the data of a resource to size bytes. Refusals: 10, 12, 13, 14, 3, 8. */
+/* Resizes the data of a resource to size bytes. Refusals: 10, 12, 13, 14, 27, 3, 8. */
 uint32_t palmheap_DmResizeResource(palmheap_store *store, uint32_t db, uint32_t index, uint32_t size);
 
 /* Reads the entry of a resource: its type, its ID, and the chunk of its data. Refusals: 10, 12, 14. */
@@ -419,7 +419,7 @@ uint32_t palmheap_DmNumResources(palmheap_store *store, uint32_t db, uint32_t *c
 /* -- Bytes and files -- */
 
 /* Copies count bytes of a chunk, from the offset at in the chunk, into a buffer. Sets len to their number, also if
- * the buffer is too short for them. Refusals: 1, 9. */
+ * the buffer is too short for them. Refusals: 1, 27, 9. */
 uint32_t palmheap_read(palmheap_store *store, uint32_t name, uint32_t at, uint32_t count, uint8_t *bytes, size_t
     bytes_len, size_t *len);
 
@@ -427,7 +427,7 @@ uint32_t palmheap_read(palmheap_store *store, uint32_t name, uint32_t at, uint32
 uint32_t palmheap_import(palmheap_store *store, const uint8_t *file, size_t file_len, uint32_t *db);
 
 /* Writes the file of a database into a buffer. Sets len to its size in bytes, also if the buffer is too short for
- * it. Refusals: 10, 26. */
+ * it. Refusals: 10, 27, 26. */
 uint32_t palmheap_export(palmheap_store *store, uint32_t db, uint8_t *file, size_t file_len, size_t *len);
 
 #ifdef __cplusplus

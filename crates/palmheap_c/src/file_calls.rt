@@ -23,7 +23,7 @@ use std::alloc::Global;
 /// their number, also if the buffer is too short for them.
 ///
 /// # Errors
-/// The refusals 1, 9, in this order.
+/// The refusals 1, 27, 9, in this order.
 #[unsafe(no_mangle)]
 pub extern "C" fn palmheap_read(
     store: &mut Kept,
@@ -66,7 +66,7 @@ pub extern "C" fn palmheap_import(alloc: Global, store: &mut Kept, file: &[u8], 
 /// is too short for it.
 ///
 /// # Errors
-/// The refusals 10, 26, in this order.
+/// The refusals 10, 27, 26, in this order.
 #[unsafe(no_mangle)]
 pub extern "C" fn palmheap_export(
     alloc: Global,

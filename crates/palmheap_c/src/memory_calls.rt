@@ -58,7 +58,7 @@ pub extern "C" fn palmheap_MemPtrNew(store: &mut Kept, size: u32, owner: u8, nam
 /// Frees a chunk that has no lock, or is fixed.
 ///
 /// # Errors
-/// The refusals 1, 2, 3, in this order.
+/// The refusals 1, 2, 3, 27, in this order.
 #[unsafe(no_mangle)]
 pub extern "C" fn palmheap_MemChunkFree(store: &mut Kept, name: u32) -> u32
     ensures does { Does store.old.store (calls.Call.Memory (MemoryCall.Free (named name)))
@@ -100,7 +100,7 @@ pub extern "C" fn palmheap_MemHandleLock(
 /// Removes a lock from a movable chunk. Sets `count` to the number of locks left.
 ///
 /// # Errors
-/// The refusals 1, 6, 4, in this order.
+/// The refusals 1, 6, 4, 27, in this order.
 #[unsafe(no_mangle)]
 pub extern "C" fn palmheap_MemHandleUnlock(store: &mut Kept, name: u32, count: &mut u8) -> u32
     ensures does { Does store.old.store (calls.Call.Memory (MemoryCall.Unlock (named name)))
@@ -176,7 +176,7 @@ pub extern "C" fn palmheap_MemHandleLockCount(store: &mut Kept, name: u32, count
 /// Overwrites bytes of a locked or fixed chunk, from the offset `at` in the chunk.
 ///
 /// # Errors
-/// The refusals 1, 4, 9, in this order.
+/// The refusals 1, 4, 27, 9, in this order.
 #[unsafe(no_mangle)]
 pub extern "C" fn palmheap_DmWrite(store: &mut Kept, name: u32, at: u32, bytes: &[u8]) -> u32
     ensures does { Does store.old.store
@@ -192,7 +192,7 @@ pub extern "C" fn palmheap_DmWrite(store: &mut Kept, name: u32, at: u32, bytes: 
 /// Sets `count` bytes of a locked or fixed chunk to `byte`, from the offset `at` in the chunk.
 ///
 /// # Errors
-/// The refusals 1, 4, 9, in this order.
+/// The refusals 1, 4, 27, 9, in this order.
 #[unsafe(no_mangle)]
 pub extern "C" fn palmheap_DmSet(store: &mut Kept, name: u32, at: u32, count: u32, byte: u8) -> u32
     ensures does { Does store.old.store
@@ -209,7 +209,7 @@ pub extern "C" fn palmheap_DmSet(store: &mut Kept, name: u32, at: u32, count: u3
 /// of `text` before its first zero byte, and then a zero byte.
 ///
 /// # Errors
-/// The refusals 1, 4, 9, in this order.
+/// The refusals 1, 4, 27, 9, in this order.
 #[unsafe(no_mangle)]
 pub extern "C" fn palmheap_DmStrCopy(store: &mut Kept, name: u32, at: u32, text: &[u8]) -> u32
     ensures does { Does store.old.store
@@ -225,7 +225,7 @@ pub extern "C" fn palmheap_DmStrCopy(store: &mut Kept, name: u32, at: u32, text:
 /// Resizes a chunk to `size` bytes. It cuts bytes off at the end, or adds zeros there.
 ///
 /// # Errors
-/// The refusals 1, 2, 6, 3, 8, in this order.
+/// The refusals 1, 2, 6, 27, 3, 8, in this order.
 #[unsafe(no_mangle)]
 pub extern "C" fn palmheap_MemHandleResize(store: &mut Kept, name: u32, size: u32) -> u32
     ensures does { Does store.old.store (calls.Call.Memory (MemoryCall.Resize (named name) size))
@@ -274,7 +274,7 @@ pub extern "C" fn palmheap_MemPtrRecoverHandle(store: &mut Kept, place: u32, nam
 /// Frees all chunks of an owner, 1 to 14, also locked and fixed ones. Sets `count` to their number.
 ///
 /// # Errors
-/// The refusal 7.
+/// The refusals 7, 27, in this order.
 #[unsafe(no_mangle)]
 pub extern "C" fn palmheap_MemHeapFreeByOwnerID(store: &mut Kept, owner: u8, count: &mut u32) -> u32
     ensures does { Does store.old.store (calls.Call.Memory (MemoryCall.FreeByOwner owner))

@@ -200,7 +200,7 @@ pub extern "C" fn palmheap_DmRecordInfo(
 /// Resizes the data of a record to `size` bytes.
 ///
 /// # Errors
-/// The refusals 10, 11, 13, 14, 15, 3, 8, in this order.
+/// The refusals 10, 11, 13, 14, 15, 27, 3, 8, in this order.
 #[unsafe(no_mangle)]
 pub extern "C" fn palmheap_DmResizeRecord(store: &mut Kept, db: u32, index: u32, size: u32) -> u32
     ensures does { Does store.old.store

@@ -122,7 +122,7 @@ pub extern "C" fn palmheap_DmRemoveResource(store: &mut Kept, db: u32, index: u3
 /// Resizes the data of a resource to `size` bytes.
 ///
 /// # Errors
-/// The refusals 10, 12, 13, 14, 3, 8, in this order.
+/// The refusals 10, 12, 13, 14, 27, 3, 8, in this order.
 #[unsafe(no_mangle)]
 pub extern "C" fn palmheap_DmResizeResource(store: &mut Kept, db: u32, index: u32, size: u32) -> u32
     ensures does { Does store.old.store
