@@ -430,6 +430,30 @@ uint32_t palmheap_import(palmheap_store *store, const uint8_t *file, size_t file
  * it. Refusals: 10, 27, 26. */
 uint32_t palmheap_export(palmheap_store *store, uint32_t db, uint8_t *file, size_t file_len, size_t *len);
 
+/* -- Loans --
+ *
+ * A loan lets the caller read and write the bytes of a chunk in place, also while other calls on the store run. One
+ * chunk of a store can be lent at a time. Until it is put back, calls that read, write, free, resize, unlock or export
+ * it are refused with 27, which their comments leave out. docs/C-LIBRARY.md says what the caller must ensure. */
+
+/* The bytes of a lent chunk and their number, or NULL and 0. The caller sets a new one to {0}, and never changes these
+ * fields. */
+typedef struct palmheap_loan {
+    uint8_t *bytes;
+    size_t count;
+} palmheap_loan;
+
+/* Takes the bytes of a locked or fixed chunk out of a store, without a copy or an allocation. Sets loan to them. The
+ * store has zeros at their place until they are put back. A loan that was in loan before is not put back.
+ * Refusals: 1, 4, 27. */
+uint32_t palmheap_take_out(palmheap_store *store, uint32_t name, palmheap_loan *loan);
+
+/* Puts the bytes of a loan of this store back. loan has no bytes then. */
+void palmheap_put_back(palmheap_store *store, palmheap_loan *loan);
+
+/* Reports whether a chunk is lent. If so, sets name to it. */
+bool palmheap_lent(palmheap_store *store, uint32_t *name);
+
 #ifdef __cplusplus
 }
 #endif

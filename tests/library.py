@@ -127,6 +127,7 @@ def compare(program, count):
 # ---- calls
 
 LINES = 200
+LENT = 27
 TEXTS = [b"Memo", b"Book", b"To do", b"", b"x" * 31, b"y" * 32, bytes((7, 200, 34))]
 KINDS_OF_FOUR = [b"DATA", b"appl", b"code", b"memo"]
 
@@ -146,6 +147,7 @@ class Calls:
     def __init__(self, rng, store, files):
         self.rng, self.store, self.files = rng, store, files
         self.names, self.databases, self.lines, self.replies, self.exported = {}, {}, [], [], []
+        self.lent, self.loans, self.refused_lent = None, 0, 0
 
     # -- words
 
@@ -178,12 +180,22 @@ class Calls:
         try:
             told = self.store.call(name, *given)
         except palmheap.Refused as refused:
-            self.replies.append(("refused", refused.number))
+            self.refuse(refused.number)
             return
         if binds:
             table, label, part = binds
             table[label] = part(told)
         self.replies.append(("ok", shown(told)))
+
+    def refuse(self, number):
+        """Notes a refusal. A script lends nothing, so it gets no line that is refused because a chunk is lent."""
+        if number != LENT:
+            self.replies.append(("refused", number))
+            return
+        if not self.lent:
+            sys.exit(f"line {self.lines[-1]!r}: nothing is lent, and the call is refused")
+        self.lines.pop()
+        self.refused_lent += 1
 
     def name(self, label):
         return self.names.get(label, 0)
@@ -236,7 +248,7 @@ class Calls:
             found = self.store.bytes_by("read", self.name(h), at, count)
             self.replies.append(("ok", f" {found.hex() or '-'}"))
         except palmheap.Refused as refused:
-            self.replies.append(("refused", refused.number))
+            self.refuse(refused.number)
 
     def draw_database(self):
         d, h, text, sort = self.database(), self.chunk(), self.rng.choice(TEXTS), self.rng.random() < 0.5
@@ -288,7 +300,7 @@ class Calls:
             self.exported.append(self.store.bytes_by("export", self.db(d)))
             self.replies.append(("ok", f" {len(self.exported[-1])}"))
         except palmheap.Refused as refused:
-            self.replies.append(("refused", refused.number))
+            self.refuse(refused.number)
 
     def draw_record(self):
         d, h, other, at, to = self.database(), self.chunk(), self.chunk(), self.small(), self.small()
@@ -388,7 +400,48 @@ class Calls:
         ]
         self.rng.choice(rows)()
 
+    # -- loans
+
+    def take_out(self):
+        """Takes a chunk out, and writes half of it. For the script it is a call that writes all of it: until the chunk is
+        put back, each call that could tell the difference is refused."""
+        h = self.chunk()
+        name = self.name(h)
+        try:
+            loan = self.store.take_out(name)
+        except palmheap.Refused as refused:
+            self.lines.append(f"write {h} 0 -")
+            self.refuse(refused.number)
+            return
+        data = bytes(self.rng.randrange(256) for _ in range(len(loan)))
+        half = len(data) // 2
+        loan[:half] = data[:half]
+        self.lines.append(f"write {h} 0 {data.hex() or '-'}")
+        self.replies.append(("ok", ""))
+        self.lent, self.loans = (name, loan, data), self.loans + 1
+
+    def put_back(self):
+        name, loan, data = self.lent
+        half = len(data) // 2
+        if self.store.lent() != name or bytes(loan[:half]) != data[:half]:
+            sys.exit(f"the lent chunk {name} has changed")
+        for call in (lambda: self.store.take_out(name), lambda: self.store.bytes_by("write_image"), self.store.close):
+            try:
+                call()
+            except palmheap.Refused as refused:
+                if refused.number == LENT:
+                    continue
+            sys.exit(f"the chunk {name} is lent, and a call is not refused")
+        loan[half:] = data[half:]
+        self.store.put_back()
+        self.lent = None
+        if self.store.lent() is not None or self.store.bytes_by("read", name, 0, len(data)) != data:
+            sys.exit(f"the chunk {name} has other bytes than were put back")
+
     def draw(self):
+        if self.rng.random() < 0.1:
+            (self.put_back if self.lent else self.take_out)()
+            return
         kinds = (self.draw_memory, self.draw_database, self.draw_record, self.draw_resource)
         self.rng.choices(kinds, (5, 3, 5, 2))[0]()
 
@@ -401,13 +454,16 @@ def shown_info(info):
 
 
 def do_list(library, rng, program, room):
-    """Does a list of calls by an open store and by the program. Returns how many were refused."""
+    """Does a list of calls by an open store and by the program. Returns how many were refused, the number of loans, and
+    how many calls were refused because a chunk was lent."""
     files = list(FILES.values())
     image = library.new(rng.choice((2048, 8192, 65536)), rng.choice((8, 40, 300)))
     with library.open(image) as store:
         calls = Calls(rng, store, files)
         for _ in range(LINES):
             calls.draw()
+        if calls.lent:
+            calls.put_back()
         last = store.bytes_by("write_image")
     script = "".join(f"{it}\n" for it in calls.lines).encode("ascii")
     for path, content in {"image": image, "script": script, **{str(i): it for i, it in enumerate(files)}}.items():
@@ -424,15 +480,16 @@ def do_list(library, rng, program, room):
         wanted = f"ok{told}" if kind == "ok" else f"refused {told} "
         if not (reply == wanted if kind == "ok" else f"{reply} ".startswith(wanted)):
             sys.exit(f"line {line!r}: a call has {wanted!r}, and the script {reply!r}")
-    return sum(kind == "refused" for kind, _ in calls.replies)
+    return sum(kind == "refused" for kind, _ in calls.replies), calls.loans, calls.refused_lent
 
 
 def compare_calls(program, count):
-    library, rng, refused = palmheap.Library(), random.Random(SEED), 0
+    library, rng, met = palmheap.Library(), random.Random(SEED), (0, 0, 0)
     with tempfile.TemporaryDirectory() as room:
         for _ in range(0, count, LINES):
-            refused += do_list(library, rng, program, room)
-    print(f"{count} calls answer as lines of scripts do; {refused} were refused")
+            met = tuple(map(sum, zip(met, do_list(library, rng, program, room))))
+    print(f"{count} calls answer as lines of scripts do; {met[0]} were refused")
+    print(f"{met[1]} loans; {met[2]} calls were refused because a chunk was lent")
 
 
 if sys.argv[1] == "files":

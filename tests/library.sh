@@ -30,6 +30,9 @@ for case in 'plain' 'sanitized -fsanitize=address,undefined -fno-sanitize-recove
     name=${case%% *}
     # shellcheck disable=SC2086
     gcc $flags ${case#"$name"} "$top/examples/c/demo.c" "$static" -o "$room/$name" || fail "the $name demo was not built"
+    # shellcheck disable=SC2086
+    gcc $flags ${case#"$name"} "$top/examples/c/loan.c" "$static" -o "$room/$name-loan" || fail "the $name loan was not built"
+    "$room/$name-loan" >"$room/$name.loan" || fail "the $name loan failed"
     for file in "$room"/*.pdb; do
         "$room/$name" "$file" "$room/out" >"$room/$name.$(basename "$file").txt" || fail "the $name demo failed on $file"
     done
@@ -44,6 +47,8 @@ nm -D --defined-only "$room/lib/lib/libpalmheap.so" | awk '{ print $3 }' | grep 
 if command -v valgrind >/dev/null; then
     valgrind -q --error-exitcode=9 --leak-check=full --errors-for-leak-kinds=all "$room/plain" "$room/memos.pdb" \
         "$room/out" >/dev/null || fail 'valgrind found an error'
+    valgrind -q --error-exitcode=9 --leak-check=full --errors-for-leak-kinds=all "$room/plain-loan" >/dev/null ||
+        fail 'valgrind found an error in a loan'
 else
     echo 'not run: valgrind'
 fi

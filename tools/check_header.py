@@ -16,7 +16,9 @@ TOP = os.path.dirname(os.path.dirname(os.path.realpath(__file__)))
 SOURCES = f"{TOP}/crates/palmheap_c/src"
 NUMBERS = {"u8": "uint8_t", "u16": "uint16_t", "u32": "uint32_t", "u64": "uint64_t", "usize": "size_t", "bool": "bool"}
 # Structures whose name in C is not made of their name here.
-STRUCTS = {"Kept": "palmheap_store", "Slot": "palmheap_store", "*mut u8": "void *"}
+STRUCTS = {"Kept": "palmheap_store", "Slot": "palmheap_store", "LentPart": "palmheap_loan"}
+# Pointers in structures, by the name of the field.
+POINTERS = {"at": "void *", "bytes": "uint8_t *"}
 
 
 def text_of(path):
@@ -60,7 +62,8 @@ def structures(text):
         fields = []
         for field, kind in re.findall(r"^    (?:pub )?(\w+): ([^\n]+),$", body, re.M):
             array = re.fullmatch(r"\[(\w+); (\d+)\]", kind)
-            fields.append(f"{c_name(array[1])} {field}[{array[2]}]" if array else f"{c_name(kind)} {field}")
+            kind = POINTERS[field] if kind == "*mut u8" else c_name(array[1] if array else kind)
+            fields.append(f"{kind} {field}[{array[2]}]" if array else f"{kind} {field}")
         yield c_name(name), [it.replace("* ", "*") for it in fields]
 
 
@@ -122,6 +125,7 @@ def refusals_of(text):
 
 def main():
     text = "\n".join(text_of(f"{SOURCES}/{it}") for it in sorted(os.listdir(SOURCES)) if it.endswith(".rt"))
+    text += text_of(f"{TOP}/crates/raw_region/src/lent_part.rt")
     header = without_comments(text_of(f"{TOP}/include/palmheap.h"))
     numbers = re.findall(r"\bPALMHEAP_(\w+) = (\d+)", header)
     wrong = []

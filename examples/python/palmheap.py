@@ -28,6 +28,10 @@ class Place(c.Structure):
     _fields_ = [("at", c.c_void_p)]
 
 
+class Loan(c.Structure):
+    _fields_ = [("bytes", c.c_void_p), ("count", c.c_size_t)]
+
+
 class DatabaseInfo(c.Structure):
     _fields_ = [
         ("name", c.c_uint8 * 32),
@@ -151,6 +155,13 @@ class Library:
             function.argtypes, function.restype = kinds, Answer
         place = c.POINTER(Place)
         self.so.palmheap_close.argtypes, self.so.palmheap_close.restype = [place], U32
+        for name, kinds, result in (
+            ("take_out", [U32, c.POINTER(Loan)], U32),
+            ("put_back", [c.POINTER(Loan)], None),
+            ("lent", [c.POINTER(U32)], BOOL),
+        ):
+            function = getattr(self.so, f"palmheap_{name}")
+            function.argtypes, function.restype = [place, *kinds], result
         for name, (given, made) in CALLS.items():
             function = getattr(self.so, f"palmheap_{name}")
             kinds = [kind for it in given for kind in ([bytes_in, size] if it is bytes else [it])]
@@ -209,7 +220,7 @@ class Store:
     """An open store. Use it in a `with`, or close it."""
 
     def __init__(self, library, image):
-        self.so, self.place = library.so, Place()
+        self.so, self.place, self.loan = library.so, Place(), Loan()
         library._good(self.so.palmheap_open(image, len(image), c.byref(self.place)))
         self.is_open = True
 
@@ -250,6 +261,25 @@ class Store:
             number = function(c.byref(self.place), *given, room, count.value, c.byref(count))
         self._done(number)
         return bytes(room[: count.value])
+
+    def take_out(self, name):
+        """Takes the bytes of a chunk out. Returns them as an array to be used only until `put_back`."""
+        if not self.is_open:
+            raise ValueError("the store is closed")
+        self._done(self.so.palmheap_take_out(c.byref(self.place), name, c.byref(self.loan)))
+        return (U8 * self.loan.count).from_address(self.loan.bytes)
+
+    def put_back(self):
+        if not self.loan.bytes:
+            raise ValueError("nothing is lent")
+        self.so.palmheap_put_back(c.byref(self.place), c.byref(self.loan))
+
+    def lent(self):
+        """Returns the name of the chunk that is lent, or None."""
+        if not self.is_open:
+            raise ValueError("the store is closed")
+        name = U32()
+        return name.value if self.so.palmheap_lent(c.byref(self.place), c.byref(name)) else None
 
 
 def main():

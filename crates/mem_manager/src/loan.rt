@@ -23,6 +23,21 @@ impl Model for Loan {
 }
 
 impl Loan {
+    /// Makes a loan of a chunk's name and the lent part.
+    pub fn of(name: Name, part: Part) -> Loan
+        ensures { result ≡ record { name = name; part = part } }
+    {
+        Loan { name, part }
+    }
+
+    /// Returns the lent part.
+    pub fn into_part(self) -> Part
+        ensures { result ≡ self.part }
+    {
+        let Loan { name: _, part } = self;
+        part
+    }
+
     /// Returns the name of the chunk.
     pub fn name(&self) -> Name
         ensures { result ≡ self.now.name }

@@ -5,4 +5,5 @@ pub mod Calls
 pub mod Holding
 pub mod Infos
 pub mod Keeping
+pub mod Loans
 pub mod Opening

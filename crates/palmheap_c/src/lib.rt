@@ -14,6 +14,7 @@
 //! | `database_calls` | calls on its databases |
 //! | `record_calls`, `resource_calls` | calls on their entries |
 //! | `file_calls` | reads bytes of a chunk, imports and exports files |
+//! | `loans` | takes the bytes of a chunk out of an open store, and puts them back |
 #![tactic(auto)]
 
 mod answers;
@@ -27,6 +28,7 @@ mod files;
 mod images;
 mod infos;
 mod kept;
+mod loans;
 mod memory_calls;
 mod opening;
 mod parts;
@@ -47,6 +49,7 @@ pub use files::{palmheap_canonical, palmheap_pdb_blocks, palmheap_pdb_check, pal
 pub use images::{palmheap_check, palmheap_new};
 pub use infos::{DatabaseInfo, RecordInfo, ResourceInfo};
 pub use kept::{Kept, Slot};
+pub use loans::{palmheap_lent, palmheap_put_back, palmheap_take_out};
 pub use memory_calls::{
     palmheap_DmSet, palmheap_DmStrCopy, palmheap_DmWrite, palmheap_MemChunkFree,
     palmheap_MemHandleLock, palmheap_MemHandleLockCount, palmheap_MemHandleNew,
