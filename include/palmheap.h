@@ -434,7 +434,7 @@ uint32_t palmheap_export(palmheap_store *store, uint32_t db, uint8_t *file, size
  *
  * A loan lets the caller read and write the bytes of a chunk in place, also while other calls on the store run. One
  * chunk of a store can be lent at a time. Until it is put back, calls that read, write, free, resize, unlock or export
- * it are refused with 27, which their comments leave out. docs/C-LIBRARY.md says what the caller must ensure. */
+ * it are refused with 27. docs/C-LIBRARY.md says what the caller must ensure. */
 
 /* The bytes of a lent chunk and their number, or NULL and 0. The caller sets a new one to {0}, and never changes these
  * fields. */
