@@ -31,7 +31,8 @@ for case in 'plain' 'sanitized -fsanitize=address,undefined -fno-sanitize-recove
     # shellcheck disable=SC2086
     gcc $flags ${case#"$name"} "$top/examples/c/demo.c" "$static" -o "$room/$name" || fail "the $name demo was not built"
     # shellcheck disable=SC2086
-    gcc $flags ${case#"$name"} "$top/examples/c/loan.c" "$static" -o "$room/$name-loan" || fail "the $name loan was not built"
+    gcc $flags ${case#"$name"} "$top/examples/c/loan.c" "$static" -o "$room/$name-loan" ||
+        fail "the $name loan was not built"
     "$room/$name-loan" >"$room/$name.loan" || fail "the $name loan failed"
     for file in "$room"/*.pdb; do
         "$room/$name" "$file" "$room/out" >"$room/$name.$(basename "$file").txt" || fail "the $name demo failed on $file"
