@@ -1,12 +1,13 @@
--- The rows of the table that a word is the name or number of, and their lines.
+-- The rows of the table that a word is the name or number of, and their lines. Upper and lower case
+-- are the same.
 use Rattle.std.specs.Prelude.{ℕ, Bool, true, false, ◌&&◌, ◌||◌, ◌==◌, ◌++◌, List, [], ◌∷◌, Option, None, Some, codes, decimal, cond}
 use Rattle.std.specs.List.{list_any}
-use Rattle.std.specs.Str.{bytes_eq}
+use Rattle.std.specs.Str.{bytes_eq, str_eq_ignore_ascii_case}
 use Rattle.explanations.specs.declared.table.TheConstants.{EXPLANATIONS}
 use Rattle.std.specs.Borrow.{Bor}
 use Rattle.explanations.specs.declared.table.Heading.{Heading}
 use Rattle.explanations.specs.declared.table.Topic.{Topic}
-use Rattle.explanations.specs.declared.table.Topic.TheVariants.{Image, Databases, File, Line, Blank, Output, Call}
+use Rattle.explanations.specs.declared.table.Topic.TheVariants.{Image, Databases, File, Line, Blank, Output, Change, Call}
 
 -- a row of the table: its heading, its name, its values and its text
 abbrev pub Explanation : Type 0
@@ -20,6 +21,7 @@ topic_text File = codes ", a fault of a PDB or PRC file: "
 topic_text Line = codes ", a fault of a line: "
 topic_text Blank = codes ", a fault of 'new' and 'import': "
 topic_text Output = codes ", a fault of 'migrate', 'pack' and 'import': "
+topic_text Change = codes ", a change in a rewritten file: "
 topic_text Call = codes ", a refusal: "
 
 -- the number of a refusal and a space, or nothing for a fault
@@ -38,7 +40,7 @@ is_number (Some number) word = bytes_eq (decimal number) word
 
 -- whether a word is the name or number of a row
 abbrev pub is_asked : List ℕ → Explanation → Bool
-is_asked word row = bytes_eq row.1.0.now word || is_number row.0.number word
+is_asked word row = str_eq_ignore_ascii_case row.1.0.now word || is_number row.0.number word
 
 -- the line of a row, or nothing if the word is neither its name nor its number
 abbrev pub answer : List ℕ → Explanation → List ℕ
@@ -61,6 +63,7 @@ same_topic File File = true
 same_topic Line Line = true
 same_topic Blank Blank = true
 same_topic Output Output = true
+same_topic Change Change = true
 same_topic Call Call = true
 same_topic a b = false
 

@@ -12,8 +12,8 @@ use palm_text::{Counted, Piece, WriteFault, put_pieces};
 use program_io::Status;
 use std::io::Write;
 
-/// Prints the meaning of a word: a line for each row with this name or number. It returns `BadWords`
-/// if there is no row. The rows are those of `EXPLANATIONS`.
+/// Prints the meaning of a word: a line for each row with this name or number. The case of letters
+/// doesn't matter. It returns `BadWords` if there is no row. The rows are those of `EXPLANATIONS`.
 pub fn cmd_explain<V: Write>(word: &[u8], rows: &[Explanation], out: &mut Counted<V>) -> Status
     ensures { EndsExplain word.now rows.now V.contents out.old out.new result }
 {
@@ -112,6 +112,7 @@ fn topic_text(topic: Topic) -> &'static [u8]
         Topic::Line => b", a fault of a line: ",
         Topic::Blank => b", a fault of 'new' and 'import': ",
         Topic::Output => b", a fault of 'migrate', 'pack' and 'import': ",
+        Topic::Change => b", a change in a rewritten file: ",
         Topic::Call => b", a refusal: ",
     }
 }
@@ -128,11 +129,11 @@ fn is_among(word: &[u8], rows: &[Explanation]) -> bool
     false
 }
 
-/// Returns whether a word is the name or number of a row.
+/// Returns whether a word is the name or number of a row. The case of letters doesn't matter.
 fn is_asked(word: &[u8], row: &Explanation) -> bool
     ensures { result ≡ words.is_asked word.now row.now }
 {
-    row.1.0.as_bytes() == word || is_number(row.0.number, word)
+    row.1.0.as_bytes().eq_ignore_ascii_case(word) || is_number(row.0.number, word)
 }
 
 /// Returns whether a word is the number of a refusal, in decimal.

@@ -17,6 +17,8 @@ pub enum Topic {
     /// A file or an image that would be too large. `migrate`, `pack` and `import` print the fault
     /// after `bad`.
     Output,
+    /// A change in a rewritten file. `list` and `canonical` print it after `changes`.
+    Change,
     /// A call. A script line prints the refusal after `refused`.
     Call,
 }
@@ -64,8 +66,14 @@ const OUTPUT: Heading = Heading {
     number: None,
 };
 
-/// Every fault and refusal: the faults in the order of their topics, the refusals by their numbers.
-pub const EXPLANATIONS: [Explanation; 58] = [
+const CHANGE: Heading = Heading {
+    topic: Topic::Change,
+    number: None,
+};
+
+/// Every fault, change and refusal: the faults in the order of their topics, the refusals by their
+/// numbers.
+pub const EXPLANATIONS: [Explanation; 63] = [
     (
         IMAGE,
         (
@@ -365,6 +373,56 @@ pub const EXPLANATIONS: [Explanation; 58] = [
                 "",
                 "the image that migrate or import would write has more than 16777208 bytes, or \
                     the file that pack would write more than 16777216",
+            ),
+        ),
+    ),
+    (
+        CHANGE,
+        (
+            "busy",
+            ("", "a record has the busy bit, 0x20. It is cleared"),
+        ),
+    ),
+    (
+        CHANGE,
+        (
+            "filler",
+            (
+                "",
+                "other bytes than two zeros come after the entries, up to the first block or the \
+                    end of a file without blocks. They become two zeros",
+            ),
+        ),
+    ),
+    (
+        CHANGE,
+        (
+            "ids",
+            (
+                "",
+                "a record has the ID 0, or an earlier record's. It gets a fresh ID, and the seed \
+                    moves with it",
+            ),
+        ),
+    ),
+    (
+        CHANGE,
+        (
+            "name",
+            (
+                "",
+                "a byte other than zero comes after the name, in its field of 32 bytes. It \
+                    becomes zero",
+            ),
+        ),
+    ),
+    (
+        CHANGE,
+        (
+            "order",
+            (
+                "",
+                "two blocks aren't in list order: AppInfo, SortInfo, data. All are put in it",
             ),
         ),
     ),

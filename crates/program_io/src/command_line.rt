@@ -231,7 +231,7 @@ const COMMANDS: [CommandRow; 13] = [
     CommandRow {
         name: "unpack",
         about: "Takes a PDB or PRC file apart into a text and a file per block",
-        after_help: Some(FOLDERS),
+        after_help: Some(UNPACKING),
         arguments: &[
             DATABASE_FILE,
             Argument {
@@ -244,7 +244,7 @@ const COMMANDS: [CommandRow; 13] = [
     CommandRow {
         name: "pack",
         about: "Puts a PDB or PRC file together from a folder of 'unpack'",
-        after_help: Some(FOLDERS),
+        after_help: Some(PACKING),
         arguments: &[
             Argument {
                 name: "DIR",
@@ -321,8 +321,9 @@ const COMMANDS: [CommandRow; 13] = [
         after_help: Some(MEANINGS),
         arguments: &[Argument {
             name: "WORD",
-            count: Count::One,
-            help: "Name of a fault or of a refusal, or the number of a refusal",
+            count: Count::Several,
+            help: "Name of a fault, a refusal or a change, or the number of a refusal.\n\
+                What follows it is ignored",
         }],
     },
 ];
@@ -348,26 +349,30 @@ const JSON: Argument = Argument {
 };
 
 const ABOUT: &str = "\
-Makes, checks and changes heap images: the memory of a Palm OS device, kept in
-a file";
+Lists and rewrites PDB and PRC files, the database files of Palm OS, and makes,
+checks and changes heap images";
 
 const IMAGES: &str = "\
-A heap image is a file of 64 to 16777208 bytes, a multiple of 8. A header of
-16 bytes is followed by a table of slots, one for each chunk of memory that
-may move, and by the chunks themselves, which fill the rest: free ones,
-movable ones and fixed ones. Databases are made of movable chunks, and a
-directory lists them.
+A heap image is a file of 64 to 16777208 bytes, a multiple of 8. Its layout is
+this project's own: a copy of a device's memory is no heap image, and no
+command reads one. A header of 16 bytes is followed by a table of slots, one
+for each chunk of memory that may move, and by the chunks themselves, which
+fill the rest: free ones, movable ones and fixed ones. Databases are made of
+movable chunks, and a directory lists them.
 
 Exit status:
   0  done
   1  the image, the file or the text was refused; standard output says why:
-     'bad' and the first fault, or 'bad TooLarge' if 'migrate' or 'pack' would
-     make it too large, or 'line', the number of the first faulty line and
-     what is wrong in it
+     'bad' and the first fault, or 'bad TooLarge' if 'migrate', 'pack' or
+     'import' would make it too large, or 'line', the number of the first
+     faulty line and what is wrong in it; or 'refused', the number and the
+     name of a refusal, if 'import' refused a file or no database has a NAME
+     of 'export'
   2  the words were refused, or there is no image of that SIZE with that many
      SLOTS, or 'explain' knows no such WORD
   3  a file could not be read or written, or is longer than 16777216 bytes;
-     or standard output could not be written
+     or standard output could not be written; or DIR of 'unpack' or a file of
+     'export' is there
   4  there was not enough memory
   5  'run --strict' ran all lines, and one of them was refused
 On 3 and 4 the first line on standard error is 'fault read', 'fault write' or
@@ -588,7 +593,7 @@ A file that cannot be read as a database is refused as by 'palmheap list', and
 nothing is written. If OUT is '-', the new file goes to standard output, and
 what is printed goes to standard error.";
 
-const FOLDERS: &str = "\
+const UNPACKING: &str = "\
 For example, 'palmheap unpack MemoDB.pdb memos' makes the folder memos with
 the file 00000, which has the data of the first record, and with the text
 'database':
@@ -611,14 +616,23 @@ It prints 'ok' with the number of files. The attributes of a database and of a
 record and the seed are in hex. Dates are seconds since 1904-01-01. 'app' and
 'sort' have the names of the files with the info blocks, or 'none'. A record
 has its attributes, its ID and the name of its file, a resource its type, its
-id and the name of its file.
+id and the name of its file. 'palmheap pack' puts the files together again.";
 
-Change files and lines, and put lines in or take them out: 'palmheap pack
-memos new.pdb' writes the database and prints 'ok' with its length. A record
-with the ID 0 gets a free one. Only a record with the attribute 80, which is
-deleted, may have 'none' for its file. The name of a file has letters, digits,
-'_', '-' and '.', and begins with a letter, a digit or '_'. A line that is
-empty or starts with '#' is passed over. For a faulty line 'pack' prints
+const PACKING: &str = "\
+For example, 'palmheap pack memos new.pdb' writes the database whose text is
+memos/database, and prints 'ok' with its length. 'palmheap unpack' makes such a
+folder, and 'palmheap help unpack' shows the text.
+
+Change files and lines, and put lines in or take them out. Each entry has a
+line, in the order of the entries:
+
+  record 01 0 new           attributes in hex, ID, and the name of a file
+  resource \"tSTR\" 1000 s    type, id, and the name of a file
+
+A record with the ID 0 gets a free one. Only a record with the attribute 80,
+which is deleted, may have 'none' for its file. The name of a file has letters,
+digits, '_', '-' and '.', and begins with a letter, a digit or '_'. A line that
+is empty or starts with '#' is passed over. For a faulty line 'pack' prints
 'line', its number and what is wrong in it, and the exit status is 1.";
 
 const STORES: &str = "\
@@ -662,8 +676,10 @@ For example, 'palmheap explain BadOffset' prints, in one line:
   the length of the file. A record with the delete bit may have 0.
 
 It prints a line for each fault or refusal of that name, or for the refusal of
-that number: 'palmheap explain 25'. If there is none, standard error says so,
-and the exit status is 2.";
+that number: 'palmheap explain 25'. It also knows the words after 'changes' of
+'palmheap list'. Upper and lower case are the same, and what follows the name
+is ignored: 'palmheap explain badoffset 1'. If there is none of that name,
+standard error says so, and the exit status is 2.";
 
 /// Why the output can't be `-`.
 const NO_STREAM: &str = "\
@@ -689,15 +705,34 @@ fn parse_by<'a>(
 ) -> Result<Request<'a>, Error> {
     let matches = command.try_get_matches_from_mut(words)?;
     if let Some(text) = number_fault(alloc, &matches)? {
-        return Err(command.error(ErrorKind::ValueValidation, text.as_str())?);
+        return Err(usage_error(alloc, &matches, ErrorKind::ValueValidation, text.as_str())?);
     }
     let Some(request) = requested(alloc, &matches)? else {
         return Err(command.error(ErrorKind::MissingSubcommand, "no command was given")?);
     };
     match stream_fault(&request) {
-        Some(text) => Err(command.error(ErrorKind::ArgumentConflict, text)?),
+        Some(text) => Err(usage_error(alloc, &matches, ErrorKind::ArgumentConflict, text)?),
         None => Ok(request),
     }
+}
+
+/// Returns an error with the usage of the command that the words name.
+fn usage_error(
+    alloc: Global,
+    matches: &ArgMatches<'_>,
+    kind: ErrorKind,
+    text: &str,
+) -> Result<Error, AllocError> {
+    let mut named = described(alloc);
+    if let Some((name, _)) = matches.subcommand() {
+        for row in &COMMANDS {
+            if row.name == name {
+                let title = format!(in alloc; "palmheap {name}")?;
+                named = command(alloc, row)?.bin_name(title.as_str())?;
+            }
+        }
+    }
+    named.error(kind, text)
 }
 
 /// A number among the words: its argument, the greatest number that is read, and the range of those
@@ -731,15 +766,26 @@ fn number_fault(alloc: Global, matches: &ArgMatches<'_>) -> Result<Option<String
     for row in &NUMBERS {
         if let Some(word) = given.get_str(row.argument) {
             if !is_number(word, row.most) {
-                let text = format!(in alloc;
-                    "invalid value '{word}' for '<{}>': {word} is not in {}",
-                    row.argument, row.range
-                )?;
-                return Ok(Some(text));
+                return Ok(Some(number_text(alloc, row, word)?));
             }
         }
     }
     Ok(None)
+}
+
+/// Returns why a word isn't a number of a row.
+fn number_text(alloc: Global, row: &NumberRow, word: &str) -> Result<String, AllocError> {
+    let argument = row.argument;
+    if word.bytes().all(|byte| byte.is_ascii_digit()) {
+        format!(in alloc;
+            "invalid value '{word}' for '<{argument}>': {word} is not in {}",
+            row.range
+        )
+    } else {
+        format!(in alloc;
+            "invalid value '{word}' for '<{argument}>': {word} is not a decimal number"
+        )
+    }
 }
 
 /// Returns whether a word is a number, and at most `most`.

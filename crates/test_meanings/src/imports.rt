@@ -6,7 +6,7 @@ use std::alloc::Global;
 use std::test::*;
 use test_support::{RefusesOne, equal, holds};
 
-/// The lines of a script that import a FILE of which there are not so many.
+/// Returns the lines of a script that import a FILE with a number above `count`.
 fn found(alloc: Global, script: &str, count: usize) -> Result<Vec<MissingFile>, Fail> {
     let Ok(lines) = parse(alloc, script.as_bytes()) else {
         return Err("a faulty script")?;

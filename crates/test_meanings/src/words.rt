@@ -17,8 +17,9 @@ pub(crate) fn check(alloc: Global, word: &str, status: Status, lines: &str) -> R
     equal(word, str::from_utf8(&text)?, lines)
 }
 
-/// Words, and the lines for them: a fault with a number, the number of a refusal and its name, and a name of two faults.
-static MEANINGS: [(&str, &str); 6] = [
+/// Words, and the lines for them: a fault with a number, the number of a refusal and its name, a name of two faults,
+/// the changes, and a name in capitals.
+static MEANINGS: [(&str, &str); 12] = [
     (
         "BadChunk",
         "BadChunk o, a fault of an image: the first chunk out of shape is at the offset o.\n",
@@ -44,6 +45,33 @@ static MEANINGS: [(&str, &str); 6] = [
     (
         "EmptyName",
         "EmptyName, a fault of a PDB or PRC file: the first byte is zero.\n",
+    ),
+    (
+        "busy",
+        "busy, a change in a rewritten file: a record has the busy bit, 0x20. It is cleared.\n",
+    ),
+    (
+        "filler",
+        "filler, a change in a rewritten file: other bytes than two zeros come after the entries, up to the first block or \
+        the end of a file without blocks. They become two zeros.\n",
+    ),
+    (
+        "ids",
+        "ids, a change in a rewritten file: a record has the ID 0, or an earlier record's. It gets a fresh ID, and the seed \
+        moves with it.\n",
+    ),
+    (
+        "name",
+        "name, a change in a rewritten file: a byte other than zero comes after the name, in its field of 32 bytes. It \
+        becomes zero.\n",
+    ),
+    (
+        "order",
+        "order, a change in a rewritten file: two blocks aren't in list order: AppInfo, SortInfo, data. All are put in it.\n",
+    ),
+    (
+        "BADCHUNK",
+        "BadChunk o, a fault of an image: the first chunk out of shape is at the offset o.\n",
     ),
 ];
 
@@ -73,12 +101,11 @@ fn meanings_are_cut(rt: HostRuntime) -> Result<(), Fail> {
     Ok(())
 }
 
-/// Words that are no name and no number: parts of such, other spellings, and numbers that no refusal has.
-static UNKNOWN: [&str; 11] = [
+/// Words that are no name and no number: parts of names, more than a name, and numbers that no refusal has.
+static UNKNOWN: [&str; 10] = [
     "",
     "Bad",
     "BadChunks",
-    "badchunk",
     "BadChunk 48",
     "0",
     "28",

@@ -45,8 +45,8 @@ fn changed(random: &mut Pcg32, image: &Vec<u8>, parts: &Parts) -> Result<Vec<u8>
     Ok(bytes)
 }
 
-/// Does so many calls on an accepted image, on the store and on the plain model beside it, and answers the image that
-/// they leave.
+/// Does `calls` calls on an accepted image, on the store and on the plain model of it, and returns the image that they
+/// leave.
 fn do_calls(
     alloc: Global,
     random: &mut Pcg32,
@@ -109,7 +109,7 @@ fn check_image(
     Ok(verdict)
 }
 
-/// Checks the images of so many stores, and counts what they are.
+/// Checks the images of `stores` stores, and counts them by their verdicts.
 pub(crate) fn check_stores(alloc: Global, stores: u64) -> Result<Verdicts, Fail> {
     let mut verdicts = Verdicts::default();
     for seed in 0..stores {

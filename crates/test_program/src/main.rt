@@ -8,8 +8,8 @@
 //! meet what holds an image together. The check of stores says of each what the plain model says, and lists of calls
 //! on those that are accepted are answered as by the model.
 //!
-//! `test_program STORES` leaves out the runs, and checks 250 images of each of so many stores. With no word there are
-//! 40 stores. Seeds are fixed, so that more stores are those and further ones.
+//! `test_program STORES` leaves out the runs, and checks 250 images of each of `STORES` stores. Without a word there are
+//! 40 stores. Seeds are fixed. So a greater number adds stores to the same ones.
 #![tactic(auto)]
 
 mod cases;
@@ -50,7 +50,7 @@ fn show<R: Files + Env + Print + AllocGlobal + Clone + Drop>(
     }
 }
 
-/// Shows how many images of so many stores are what.
+/// Shows the counts of the images of `stores` stores.
 fn show_verdicts<R: Print + AllocGlobal>(rt: &R, stores: u64) -> Result<(), Fail> {
     let counts = check_stores(rt.alloc(), stores)?;
     println!(rt;

@@ -39,7 +39,7 @@ pub(crate) fn small_store(alloc: Global) -> Result<Store, Fail>
     listed_store(alloc, BLANK)
 }
 
-/// A store of so many bytes with 4 slots, and nothing in it.
+/// Returns an empty store of `size` bytes with 4 slots.
 pub(crate) fn blank_store(alloc: Global, size: u32) -> Result<Store, Fail>
     ensures { IfOk result (λ made. made.lent ≡ None) }
 {
@@ -68,8 +68,8 @@ fn run_with<W: Write>(
     (ended, out.into_inner())
 }
 
-/// What comes of the script where a growth behind so many is refused: how it ends, how many bytes are free, and
-/// what is printed.
+/// Checks the script, if the growth after the first `before` is refused: how it ends, the free bytes, and the printed
+/// text.
 fn check_without(
     alloc: Global,
     before: u32,
@@ -104,7 +104,7 @@ fn refused_memory_leaves_all_as_it_was(rt: HostRuntime) -> Result<(), Fail> {
     Ok(())
 }
 
-/// Makes a chunk of so many bytes.
+/// Makes a chunk of `length` bytes.
 fn chunk_of(store: &mut Store, length: u32) -> Result<Name, Fail>
     ensures { store.new.lent ≡ store.old.lent }
 {
@@ -166,7 +166,7 @@ fn length_of(reply: &Reply) -> Option<usize> {
     }
 }
 
-/// A read of so many bytes from a chunk is answered by as many.
+/// Checks that a read of `count` bytes from a chunk returns `count` bytes.
 fn check_count(alloc: Global, store: &mut Store, name: Name, count: u32) -> Result<(), Fail>
     ensures { store.new.lent ≡ store.old.lent }
 {

@@ -239,7 +239,7 @@ static CUTS: [(usize, WhenFull); 3] = [
     (2, WhenFull::Fails(ErrorKind::Interrupted)),
 ];
 
-/// `new` ends with a write fault behind so many bytes of its image, and none that it prints.
+/// Checks that `new` ends with a write fault after `room` bytes of its image, and prints nothing.
 fn check_image_cut(alloc: Global, room: usize, way: WhenFull) -> Result<(), Fail> {
     let image = Narrow::new(alloc, room, 50, way);
     let told = new_on(alloc, SMALL, image, Vec::new(alloc));
@@ -258,7 +258,7 @@ fn new_stops_where_the_image_is_not_taken(rt: HostRuntime) -> Result<(), Fail> {
     check_image_cut(rt.alloc(), 127, WhenFull::TakesNothing)
 }
 
-/// `new` ends with a write fault behind so many bytes that it prints, and so many of an image.
+/// Checks that `new` ends with a write fault after `room` printed bytes, and `written` bytes of an image.
 fn check_line_cut(
     alloc: Global,
     size: u32,
@@ -299,7 +299,7 @@ fn new_says_that_its_line_is_not_flushed(rt: HostRuntime) -> Result<(), Fail> {
     equal("the line", told.status, Status::WriteFault)
 }
 
-/// `check` ends with a write fault behind so many bytes that it prints of a listing.
+/// Checks that `check` ends with a write fault after `room` printed bytes.
 fn check_cut(alloc: Global, listing: &str, room: usize, way: WhenFull) -> Result<(), Fail> {
     let image = bytes_of(alloc, listing)?;
     let (status, out) = check_on(alloc, &image, Narrow::new(alloc, room, 3, way));

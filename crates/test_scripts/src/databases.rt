@@ -202,7 +202,7 @@ fn calls_on_databases_are_answered(rt: HostRuntime) -> Result<(), Fail> {
     equal("databases", store.summary().databases, 0)
 }
 
-/// A script that makes so many databases.
+/// Returns a script that makes `count` databases.
 fn creations(alloc: Global, count: u32) -> Result<String, AllocError> {
     let mut script = String::new(alloc);
     for number in 0..count {

@@ -13,7 +13,7 @@ use std::test::*;
 use store_commands::cmd_databases_json;
 use test_support::{BLANK, DATABASE, EMPTY_FILE, ORDER_FILE, TINY_FILE, bytes_of, equal};
 
-/// Every fault of an image, but want of memory.
+/// Every fault of an image, except out of memory.
 static FAULTS: [StoreFault; 20] = [
     StoreFault::Heap(HeapFault::TooShort),
     StoreFault::Heap(HeapFault::BadMagic),

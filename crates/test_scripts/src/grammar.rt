@@ -753,7 +753,7 @@ const REFUSED: LineFault = LineFault {
     fault: ScriptFault::OutOfMemory,
 };
 
-/// How many lines that script has, or its fault, where a growth behind so many is refused.
+/// Checks the number of lines of that script, or its fault, if the growth after the first `before` is refused.
 fn check_without(alloc: Global, before: u32, wanted: Result<usize, LineFault>) -> Result<(), Fail> {
     let lines = match parse_from(&RefusesOne::behind(alloc, before), EACH_GROWTH.as_bytes()) {
         Ok(script) => Ok(script.lines().len()),

@@ -1,5 +1,5 @@
-//! Scripts and images that are large: no want of memory is invented for them, and no limit but those
-//! that are stated.
+//! Scripts and images that are large: none is refused as out of memory, and there are no limits but
+//! those that are stated.
 
 use crate::calls::blank_store;
 use crate::commands::check_image;
@@ -20,7 +20,7 @@ fn passed_over(alloc: Global, count: usize) -> Result<String, AllocError> {
     line.repeat(alloc, count)
 }
 
-/// A line for each of so many labels, `before` and `behind` around the label.
+/// Returns a line for each of `count` labels, with `before` and `behind` around the label.
 fn lines(alloc: Global, count: u32, before: &str, behind: &str) -> Result<String, AllocError> {
     let mut text = String::new(alloc);
     for number in 0..count {

@@ -211,7 +211,7 @@ static CUTS: [(usize, WhenFull); 3] = [
     (2, WhenFull::Fails(ErrorKind::Interrupted)),
 ];
 
-/// The command ends with a write fault behind so many bytes of its image.
+/// Checks that the command ends with a write fault after `room` bytes of its image.
 fn check_image_cut(alloc: Global, room: usize, way: WhenFull) -> Result<(), Fail> {
     let image = bytes_of(alloc, BLANK)?;
     let told = migrate_to(
@@ -227,7 +227,7 @@ fn check_image_cut(alloc: Global, room: usize, way: WhenFull) -> Result<(), Fail
     )
 }
 
-/// The command ends with a write fault behind so many bytes that it prints, and so many of an image.
+/// Checks that the command ends with a write fault after `room` printed bytes, and `written` bytes of an image.
 fn check_line_cut(
     alloc: Global,
     listing: &str,

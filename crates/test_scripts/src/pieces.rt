@@ -45,7 +45,7 @@ fn put_to(alloc: Global, room: usize, step: usize, way: WhenFull) -> (bool, Narr
     (is_put, out.into_inner())
 }
 
-/// Pieces are written one behind another, so many bytes at a time.
+/// Checks that pieces are written one after another, `step` bytes at a time.
 fn check_put(alloc: Global, step: usize) -> Result<(), Fail> {
     let (is_put, out) = put_to(alloc, 1000, step, WhenFull::TakesNothing);
     let is_text = out.taken.as_slice() == TEXT.as_bytes();
@@ -63,7 +63,7 @@ fn pieces_are_written_one_behind_another(rt: HostRuntime) -> Result<(), Fail> {
     Ok(())
 }
 
-/// `put_pieces` fails where there is room for so many bytes, and writes these.
+/// Checks that `put_pieces` fails if there is room for `room` bytes, and writes those.
 fn check_cut(alloc: Global, room: usize, way: WhenFull) -> Result<(), Fail> {
     let (is_put, out) = put_to(alloc, room, 5, way);
     let is_front = TEXT.as_bytes().starts_with(&out.taken);

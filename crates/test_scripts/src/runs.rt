@@ -404,8 +404,8 @@ const SCRIPT: &str = "new a 10 1\nlock a\nwrite a 9 41\nwrite a 9 4142\nread a 0
 
 const REPLIES: &str = "ok\nok 1\nok\nrefused 9 OutOfBounds\nok 00000000000000000041\n";
 
-/// Whether a run ended with a write fault behind this text and so many bytes of the image, and wrote
-/// nothing behind that.
+/// Returns whether a run ended with a write fault after this text and `written` bytes of the image,
+/// and wrote nothing after that.
 fn stops(ran: &Ran<Narrow, Narrow>, (written, text): (usize, &[u8])) -> bool {
     let (image, out) = (&ran.image, &ran.out);
     let is_cut = image.taken.len() == written && out.taken.as_slice() == text;
@@ -413,7 +413,7 @@ fn stops(ran: &Ran<Narrow, Narrow>, (written, text): (usize, &[u8])) -> bool {
     ran.status == Status::WriteFault && is_cut && is_last
 }
 
-/// A run stops so where its outputs have room for so many bytes.
+/// Checks where a run stops if its outputs have room for `image_room` and `room` bytes.
 fn check_stop(
     alloc: Global,
     script: &str,
@@ -461,7 +461,7 @@ fn an_output_that_takes_0_bytes_is_a_write_fault(rt: HostRuntime) -> Result<(), 
     check_stop(alloc, "frob", (1000, 0), way, (0, &[]))
 }
 
-/// Nothing follows replies that go through a buffer to a writer with room for so many bytes.
+/// Checks that nothing follows replies that go through a buffer to a writer with room for `room` bytes.
 fn check_behind_buffer(alloc: Global, capacity: usize, room: usize) -> Result<(), Fail> {
     let image = bytes_of(alloc, BLANK)?;
     let narrow = Narrow::new(alloc, room, 3, WhenFull::TakesNothing);

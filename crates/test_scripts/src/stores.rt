@@ -243,7 +243,7 @@ fn databases_come_out_as_files(rt: HostRuntime) -> Result<(), Fail> {
     Ok(())
 }
 
-/// What `import` wrote of the image and of its lines, if there is room for so many bytes of each.
+/// Checks what `import` wrote of the image and of its lines, if there is room for `image_room` and `room` bytes.
 fn check_room(alloc: Global, image_room: usize, room: usize, wanted: Status) -> Result<(), Fail> {
     let files = files_of(alloc, &[TINY_FILE, ORDER_FILE])?;
     let mut image = Counted::new(Narrow::new(alloc, image_room, 100, WhenFull::TakesNothing));

@@ -62,7 +62,7 @@ fn shown(alloc: Global, request: &Request) -> Result<String, AllocError> {
 
 /// Words, and how what comes of them begins, and what stands in it: commands, words that are refused,
 /// and help.
-static CASES: [(&str, &str, &str); 66] = [
+static CASES: [(&str, &str, &str); 67] = [
     ("palmheap new 128 4 a.img", "new 128 4 a.img\n", ""),
     (
         "palmheap new 4294967295 65535 --  -a",
@@ -149,7 +149,7 @@ static CASES: [(&str, &str, &str); 66] = [
     (
         "palmheap run - - b.img",
         "2 error: only one of IMAGE, SCRIPT and FILE can be '-', standard input\n",
-        "",
+        "\nUsage: palmheap run [OPTIONS] <IMAGE> <SCRIPT> <OUT> [FILE]...\n",
     ),
     (
         "palmheap run a.img calls.txt b.img - memo.pdb -",
@@ -179,7 +179,7 @@ static CASES: [(&str, &str, &str); 66] = [
     (
         "palmheap migrate a.img -",
         "2 error: the output can't be '-'",
-        "",
+        "\nUsage: palmheap migrate <IMAGE> <OUT>\n",
     ),
     (
         "palmheap pack memos -",
@@ -192,15 +192,16 @@ static CASES: [(&str, &str, &str); 66] = [
         "",
     ),
     ("palmheap explain BadOffset", "explain BadOffset\n", ""),
+    ("palmheap explain BadOffset 1", "explain BadOffset\n", ""),
     (
         "palmheap explain",
-        "2 error: the following required arguments were not provided:\n  <WORD>\n",
+        "2 error: the following required arguments were not provided:\n  <WORD>...\n",
         "",
     ),
     (
         "palmheap explain --help",
         "0 ",
-        "Usage: palmheap explain <WORD>",
+        "Usage: palmheap explain <WORD>...",
     ),
     (
         "palmheap migrate a.img",
@@ -234,8 +235,8 @@ static CASES: [(&str, &str, &str); 66] = [
     ),
     (
         "palmheap new 12x 4 a",
-        "2 error: invalid value '12x' for '<SIZE>': 12x is not in 64..=16777208\n",
-        "",
+        "2 error: invalid value '12x' for '<SIZE>': 12x is not a decimal number\n",
+        "\nUsage: palmheap new <SIZE> <SLOTS> <OUT>\n",
     ),
     (
         "palmheap new 4294967296 4 a",
