@@ -6,3 +6,4 @@ pub mod Holding
 pub mod Infos
 pub mod Keeping
 pub mod Opening
+pub mod Refusals
