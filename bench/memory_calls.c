@@ -1,5 +1,6 @@
 /*
- * Calls of the memory manager in plain C, and their times: what the Rattle calls are measured beside.
+ * Calls of the memory manager in C, and their times: what the Rattle calls are measured beside. They are plain C, or,
+ * with -DLIBRARY, calls of the library for C on an open store.
  *
  * usage: memory_calls [SIZE SLOTS PASSES ROUNDS]
  *
@@ -10,46 +11,6 @@
 #include "memory_load.h"
 
 enum { STRETCHES = 64 };
-
-/* The sizes of the free chunks together. */
-static uint32_t free_bytes(const struct heap *heap)
-{
-    uint32_t sum = 0;
-    for (uint32_t at = area_start(heap); at < heap->len; at += size_of_chunk(heap, at))
-        sum += is_free(heap, at) ? size_of_chunk(heap, at) : 0;
-    return sum;
-}
-
-/* The greatest room of a stretch, 0 where there is none. */
-static uint32_t heap_largest_stretch(const struct heap *heap)
-{
-    uint32_t largest = 0, room = 0;
-    for (uint32_t at = area_start(heap); at < heap->len; at += size_of_chunk(heap, at)) {
-        if (is_free(heap, at))
-            room += size_of_chunk(heap, at);
-        else if (stays(heap, at))
-            room = 0;
-        if (room > largest)
-            largest = room;
-    }
-    return largest;
-}
-
-static uint32_t heap_compact(struct heap *heap)
-{
-    uint32_t room;
-    return pack(heap, area_start(heap), heap->len, &room);
-}
-
-static enum refusal heap_resize(struct heap *heap, uint32_t name, uint32_t length)
-{
-    struct found found;
-    if (!find(heap, name, &found))
-        return INVALID_HANDLE;
-    if (found.owner == DATABASE)
-        return OWNED_BY_DATABASE;
-    return resize_chunk(heap, name, &found, length);
-}
 
 /* Frees the chunks of every second handle, the first among them. */
 static void free_every_second(struct load *load)
@@ -164,9 +125,8 @@ static bool time_walks(const struct scattered *scattered, const struct work *wor
         return false;
     for (enum walk walk = LARGEST_STRETCH; walk < WALKS; walk++) {
         for (size_t i = 0; i < work->rounds; i++) {
-            memcpy(heap.image, scattered->heap.image, heap.len);
-            heap.lowest = 0;
-            drop_lists(&heap);
+            if (!copy_heap(&heap, &scattered->heap))
+                return false;
             if (walk == HANDLE_NEW)
                 part(&heap, scattered);
             uint64_t start = nanoseconds();
@@ -255,10 +215,8 @@ static bool time_orders(const struct one_class *one, const struct work *work, st
     const size_t calls[ORDERS] = {one->large, 2 * one->large, 1};
     for (enum order order = FAR_IN_A_LIST; order < ORDERS; order++) {
         for (size_t i = 0; i < work->rounds; i++) {
-            memcpy(heap.image, one->heap.image, heap.len);
-            heap.lowest = 0;
-            drop_lists(&heap);
-            heap.packed = false;
+            if (!copy_heap(&heap, &one->heap))
+                return false;
             for (size_t j = 0; order == OVER_MANY_FREED && j < one->freed; j++)
                 heap_free(&heap, one->kept[j]);
             uint64_t start = nanoseconds();

@@ -5,11 +5,15 @@
 #ifndef TIMES_H
 #define TIMES_H
 
+#ifndef LIBRARY
 #include "heap.h"
+#endif
 
+#include <endian.h>
 #include <stdint.h>
 #include <stdio.h>
 #include <stdlib.h>
+#include <string.h>
 #include <time.h>
 
 /* The sum of the numbers seen so far and one more: it is turned, so that their order counts. */
@@ -18,19 +22,30 @@ static uint32_t sum_with(uint32_t sum, uint32_t number)
     return (sum << 5 | sum >> 27) + number;
 }
 
-/* The sum of the words of a heap. */
-static uint32_t words_of(const struct heap *heap)
-{
-    uint32_t words = 0;
-    for (uint32_t at = 0; at + 4 <= heap->len; at += 4)
-        words = sum_with(words, u32_at(heap->image, at));
-    return words;
-}
-
 /* The sum of all replies, and that of the words of the heaps in the end. */
 struct sums {
     uint32_t replies, words;
 };
+
+/* The sum of the words of an image. */
+static uint32_t words_in(const uint8_t *image, uint32_t len)
+{
+    uint32_t words = 0;
+    for (uint32_t at = 0; at + 4 <= len; at += 4) {
+        uint32_t word;
+        memcpy(&word, image + at, sizeof word);
+        words = sum_with(words, be32toh(word));
+    }
+    return words;
+}
+
+#ifndef LIBRARY
+/* The same of a heap. */
+static uint32_t words_of(const struct heap *heap)
+{
+    return words_in(heap->image, heap->len);
+}
+#endif
 
 /* The processor time used so far. */
 static uint64_t nanoseconds(void)

@@ -8,16 +8,18 @@
 work=$(mktemp -d)
 trap 'rm -rf "$work"' EXIT
 
-# build_both NAME BENCHMARK [FLAG]: builds the C program bench/NAME.c, with a flag of gcc, and the Rattle program
+# build_both NAME BENCHMARK [FLAG..]: builds the C program bench/NAME.c, with flags of gcc, and the Rattle program
 # crates/benchmarks, and notes which of its benchmarks is run.
 build_both() {
-    gcc -O2 ${3:+"$3"} -o "$work/c" "bench/$1.c"
+    source=$1
+    benchmark=$2
+    shift 2
+    gcc -O2 -o "$work/c" "bench/$source.c" "$@"
     if ! (cd crates/benchmarks && rt run) >"$work/log" 2>&1; then
         cat "$work/log"
         exit 1
     fi
     cp crates/benchmarks/out/benchmarks "$work/benchmarks"
-    benchmark=$2
 }
 
 # take_turns WORDS: runs both programs on these words, turn by turn.

@@ -158,8 +158,14 @@ enum {
     PALMHEAP_REFUSED_LENT = 27
 };
 
-/* The result of a call whose buffer is too short. Its count is the size that it needs. */
-enum { PALMHEAP_CALL_NO_ROOM = 100 };
+enum {
+    PALMHEAP_CALL_NO_ROOM = 100,   /* a buffer is too short; the call's count is the size that it needs */
+    PALMHEAP_CALL_NO_REFUSAL = 101 /* no refusal has the number */
+};
+
+/* Writes the name of a refusal into a buffer, without a zero at its end. Sets count to its size in bytes, also if the
+ * buffer is too short for it. Returns PALMHEAP_CALL_NO_REFUSAL, and changes nothing, if no refusal has the number. */
+uint32_t palmheap_refusal_name(uint32_t refusal, uint8_t *name, size_t name_len, size_t *count);
 
 /* Opens an image: checks it, and copies it into a store that lives until palmheap_close. Sets store to it. A store
  * that was in store before is not closed. */

@@ -127,8 +127,12 @@ def compare(program, count):
 # ---- calls
 
 LINES = 200
-LENT = 27
-TEXTS = [b"Memo", b"Book", b"To do", b"", b"x" * 31, b"y" * 32, bytes((7, 200, 34))]
+CHUNKS = [f"h{it}" for it in range(12)]
+DATABASES = [f"d{it}" for it in range(4)]
+SMALL = (0, 0, 1, 1, 2, 3, 5, 8, 20, 70, 1000)
+SIZES = (0, 1, 2, 7, 8, 9, 24, 60, 200, 900, 5000)
+CATEGORIES = (0, 1, 2, 15, 16, 255)
+TEXTS = [b"Memo", b"Book", b"To do", b"x" * 31, bytes((7, 200, 34)), b"", b"y" * 32]
 KINDS_OF_FOUR = [b"DATA", b"appl", b"code", b"memo"]
 
 
@@ -142,35 +146,108 @@ def four(text):
 
 
 class Calls:
-    """Draws lines of a script, and does the call of each on an open store. `replies` are what the lines should print."""
+    """Draws lines of a script, and does the call of each on an open store. `replies` are what the lines should print.
+
+    Most words are drawn from what the store has, so that most calls succeed: it is asked before. The others are drawn
+    from all labels and numbers.
+    """
 
     def __init__(self, rng, store, files):
         self.rng, self.store, self.files = rng, store, files
         self.names, self.databases, self.lines, self.replies, self.exported = {}, {}, [], [], []
-        self.lent, self.loans, self.refused_lent = None, 0, 0
 
-    # -- words
+    # -- what the store has
 
-    def chunk(self):
-        return f"h{self.rng.randrange(12)}"
+    def ask(self, name, *given):
+        try:
+            return self.store.call(name, *given)
+        except palmheap.Refused:
+            return None
 
-    def database(self):
-        return f"d{self.rng.randrange(4)}"
+    def name(self, label):
+        return self.names.get(label, 0)
 
-    def small(self):
-        return self.rng.choice((0, 0, 1, 1, 2, 3, 5, 8, 20, 70, 1000))
+    def db(self, label):
+        return self.databases.get(label, 0)
+
+    def one_of(self, fitting, all_of):
+        """One of those that fit, seven times of eight, if any does."""
+        fitting = list(fitting)
+        return self.rng.choice(fitting if fitting and self.rng.random() < 0.875 else list(all_of))
+
+    def facts(self, label):
+        name = self.name(label)
+        size = self.ask("MemHandleSize", name)
+        return size is not None and (size, self.ask("MemHandleOwner", name), self.ask("MemHandleLockCount", name))
+
+    def chunk(self, fits=lambda size, owner, locks: True):
+        """A label of a chunk that fits. Its owner is 15 if a database owns it, its locks are 15 if it is fixed."""
+        return self.one_of((it for it in CHUNKS if (facts := self.facts(it)) and fits(*facts)), CHUNKS)
+
+    def new_chunk(self):
+        """A label that no chunk has."""
+        return self.one_of((it for it in CHUNKS if not self.facts(it)), CHUNKS)
+
+    def movable(self):
+        return self.chunk(lambda size, owner, locks: locks < 14)
+
+    def loose(self):
+        """A label of a movable chunk that no database owns."""
+        return self.chunk(lambda size, owner, locks: owner < 15 and locks < 15)
+
+    def writable(self):
+        return self.chunk(lambda size, owner, locks: locks > 0)
+
+    def part(self, label):
+        """The start and the length of bytes of a chunk."""
+        size = (self.facts(label) or (0,))[0]
+        at = self.one_of(range(min(size, 40)), SMALL)
+        return at, self.one_of(range(max(0, min(size - at, 40) + 1)), SIZES)
 
     def size(self):
-        return self.rng.choice((0, 1, 2, 7, 8, 9, 24, 60, 200, 900, 5000))
+        """A size for which there may be room."""
+        largest = self.ask("largest_stretch")
+        return self.one_of((it for it in SIZES if 3 * it < largest), SIZES)
 
     def owner(self):
-        return self.rng.choice((1, 1, 2, 3, 14, 0, 15, 16, 255))
+        return self.one_of((1, 1, 2, 3, 14), (0, 15, 16, 255))
 
-    def category(self):
-        return self.rng.choice((0, 1, 2, 15, 16, 255))
+    def info(self, label):
+        return self.ask("DmDatabaseInfo", self.db(label))
 
-    def data(self):
-        return bytes(self.rng.randrange(256) for _ in range(self.rng.choice((0, 1, 3, 8, 30))))
+    def database(self, resources=None):
+        """A label of a database: of any, or of one with resources or with records."""
+        fits = lambda info: info and (resources is None or info.attributes & 1 == resources)
+        return self.one_of((it for it in DATABASES if fits(self.info(it))), DATABASES)
+
+    def new_database(self):
+        return self.one_of((it for it in DATABASES if not self.info(it)), DATABASES)
+
+    def entry(self, resources, fits=lambda info: True):
+        """A label of a database, and the index of one of its entries."""
+        d = self.database(resources)
+        info = self.info(d)
+        asked = "DmResourceInfo" if resources else "DmRecordInfo"
+        indexes = range(min(info.entry_count if info else 0, 12))
+        good = (it for it in indexes if (entry := self.ask(asked, self.db(d), it)) and fits(entry))
+        return d, self.one_of(good, SMALL)
+
+    def record(self, forbidden=0x80):
+        """The same of a record without these attributes: it isn't deleted (0x80), or not busy (0x20)."""
+        return self.entry(False, lambda info: not info.attributes & forbidden)
+
+    def place(self, resources):
+        """The same, or the index after the last entry."""
+        d, at = self.entry(resources)
+        info = self.info(d)
+        return d, self.one_of([at, info.entry_count] if info else [at], SMALL)
+
+    def text(self):
+        """A name that no database has."""
+        return self.one_of((it for it in TEXTS[:-2] if self.ask("DmFindDatabase", it) is None), TEXTS)
+
+    def data(self, count):
+        return bytes(self.rng.randrange(256) for _ in range(min(count, 30)))
 
     # -- what a line needs of a call
 
@@ -180,28 +257,21 @@ class Calls:
         try:
             told = self.store.call(name, *given)
         except palmheap.Refused as refused:
-            self.refuse(refused.number)
+            self.replies.append(("refused", refused.number))
             return
         if binds:
             table, label, part = binds
             table[label] = part(told)
         self.replies.append(("ok", shown(told)))
 
-    def refuse(self, number):
-        """Notes a refusal. A script lends nothing, so it gets no line that is refused because a chunk is lent."""
-        if number != LENT:
-            self.replies.append(("refused", number))
-            return
-        if not self.lent:
-            sys.exit(f"line {self.lines[-1]!r}: nothing is lent, and the call is refused")
-        self.lines.pop()
-        self.refused_lent += 1
-
-    def name(self, label):
-        return self.names.get(label, 0)
-
-    def db(self, label):
-        return self.databases.get(label, 0)
+    def bytes_line(self, text, name, *given, shown):
+        """The same for a call that returns bytes."""
+        self.lines.append(text)
+        try:
+            found = self.store.bytes_by(name, *given)
+            self.replies.append(("ok", shown(found)))
+        except palmheap.Refused as refused:
+            self.replies.append(("refused", refused.number))
 
     def to_chunk(self, label, part=lambda told: told):
         return (self.names, label, part)
@@ -209,241 +279,393 @@ class Calls:
     def to_database(self, label):
         return (self.databases, label, lambda told: told)
 
-    # -- lines of each kind
+    # -- lines on chunks
 
-    def draw_memory(self):
-        h, size, at, owner, data = self.chunk(), self.size(), self.small(), self.owner(), self.data()
-        n = self.name(h)
-        number = lambda told: f" {told}"
-        byte = self.rng.randrange(256)
-        hexed = data.hex() or "-"
-        rows = [
-            lambda: self.line(f"new {h} {size} {owner}", "MemHandleNew", size, owner, binds=self.to_chunk(h)),
-            lambda: self.line(f"new {h} {size} 1", "MemHandleNew", size, 1, binds=self.to_chunk(h)),
-            lambda: self.line(f"ptrnew {h} {size} {owner}", "MemPtrNew", size, owner, binds=self.to_chunk(h)),
-            lambda: self.line(f"free {h}", "MemChunkFree", n),
-            lambda: self.line(f"lock {h}", "MemHandleLock", n, shown=lambda told: f" {told[1]}"),
-            lambda: self.line(f"unlock {h}", "MemHandleUnlock", n, shown=number),
-            lambda: self.line(f"size {h}", "MemHandleSize", n, shown=number),
-            lambda: self.line(f"owner {h}", "MemHandleOwner", n, shown=number),
-            lambda: self.line(f"locks {h}", "MemHandleLockCount", n, shown=number),
-            lambda: self.line(f"write {h} {at} {hexed}", "DmWrite", n, at, data),
-            lambda: self.line(f"set {h} {at} {size} {byte}", "DmSet", n, at, size, byte),
-            lambda: self.line(f"strcopy {h} {at} {spelled(data)}", "DmStrCopy", n, at, data),
-            lambda: self.line(f"resize {h} {size}", "MemHandleResize", n, size),
-            lambda: self.line(f"setowner {h} {owner}", "MemHandleSetOwner", n, owner),
-            lambda: self.line("freebytes", "MemHeapFreeBytes", shown=number),
-            lambda: self.line("largest", "largest_stretch", shown=number),
-            lambda: self.line("compact", "MemHeapCompact"),
-            lambda: self.line("moreslots", "more_slots"),
-            lambda: self.read(h, at, self.rng.choice((0, 1, 4, size))),
-        ]
-        if self.rng.random() < 0.1:
-            rows = [lambda: self.line(f"freeowner {owner}", "MemHeapFreeByOwnerID", owner, shown=number)]
-        self.rng.choice(rows)()
+    def new(self, word, name):
+        h, size, owner = self.new_chunk(), self.size(), self.owner()
+        self.line(f"{word} {h} {size} {owner}", name, size, owner, binds=self.to_chunk(h))
 
-    def read(self, h, at, count):
-        self.lines.append(f"read {h} {at} {count}")
-        try:
-            found = self.store.bytes_by("read", self.name(h), at, count)
-            self.replies.append(("ok", f" {found.hex() or '-'}"))
-        except palmheap.Refused as refused:
-            self.refuse(refused.number)
+    def free(self):
+        h = self.chunk(lambda size, owner, locks: owner < 15 and locks in (0, 15))
+        self.line(f"free {h}", "MemChunkFree", self.name(h))
 
-    def draw_database(self):
-        d, h, text, sort = self.database(), self.chunk(), self.rng.choice(TEXTS), self.rng.random() < 0.5
-        n, db, at, owner = self.name(h), self.db(d), self.small(), self.owner()
+    def lock(self):
+        h = self.movable()
+        self.line(f"lock {h}", "MemHandleLock", self.name(h), shown=lambda told: f" {told[1]}")
+
+    def unlock(self):
+        h = self.chunk(lambda size, owner, locks: 0 < locks < 15)
+        self.line(f"unlock {h}", "MemHandleUnlock", self.name(h), shown=number)
+
+    def ask_chunk(self, word, name):
+        h = self.chunk()
+        self.line(f"{word} {h}", name, self.name(h), shown=number)
+
+    def write(self):
+        h = self.writable()
+        at, count = self.part(h)
+        data = self.data(count)
+        self.line(f"write {h} {at} {data.hex() or '-'}", "DmWrite", self.name(h), at, data)
+
+    def fill(self):
+        h, byte = self.writable(), self.rng.randrange(256)
+        at, count = self.part(h)
+        self.line(f"set {h} {at} {count} {byte}", "DmSet", self.name(h), at, count, byte)
+
+    def copy_text(self):
+        h = self.writable()
+        at, count = self.part(h)
+        data = self.data(max(0, count - 1))
+        self.line(f"strcopy {h} {at} {spelled(data)}", "DmStrCopy", self.name(h), at, data)
+
+    def resize(self):
+        h = self.chunk(lambda size, owner, locks: owner < 15 and locks == 0)
+        size = self.size()
+        self.line(f"resize {h} {size}", "MemHandleResize", self.name(h), size)
+
+    def set_owner(self):
+        h, owner = self.loose(), self.owner()
+        self.line(f"setowner {h} {owner}", "MemHandleSetOwner", self.name(h), owner)
+
+    def read(self):
+        h = self.chunk()
+        at, count = self.part(h)
+        self.bytes_line(
+            f"read {h} {at} {count}",
+            "read", self.name(h), at, count,
+            shown=lambda found: f" {found.hex() or '-'}",
+        )
+
+    def free_owner(self):
+        owner = self.owner()
+        self.line(f"freeowner {owner}", "MemHeapFreeByOwnerID", owner, shown=number)
+
+    # -- lines on databases
+
+    def create(self):
+        d, text, resources = self.new_database(), self.text(), self.rng.random() < 0.4
         kind, creator = self.rng.choice(KINDS_OF_FOUR), self.rng.choice(KINDS_OF_FOUR)
-        which, resources = "sort" if sort else "app", self.rng.random() < 0.3
-        words = f"{spelled(text)} {spelled(kind)} {spelled(creator)}"
-        made = self.to_database(d)
-        rows = [
-            lambda: self.line(
-                f"create {d} {words} {resources:d} 7",
-                "DmCreateDatabase", text, four(kind), four(creator), resources, 7,
-                binds=made,
-            ),
-            lambda: self.line(f"find {d} {spelled(text)}", "DmFindDatabase", text, binds=made),
-            lambda: self.line(f"nth {d} {at}", "DmGetDatabase", at, binds=made),
-            lambda: self.line("dbcount", "DmNumDatabases", shown=lambda told: f" {told}"),
-            lambda: self.line(f"dbinfo {d}", "DmDatabaseInfo", db, shown=shown_info),
-            lambda: self.set_info(d, text, kind, creator),
-            lambda: self.line(f"infoset {d} {which} {h}", "set_info_block", db, sort, n),
-            lambda: self.line(
-                f"infotake {d} {which} {owner} {h}",
-                "take_info_block", db, sort, owner,
-                binds=self.to_chunk(h),
-            ),
-            lambda: self.line(f"info {d} {which} {h}", "info_block", db, sort, binds=self.to_chunk(h)),
-            lambda: self.import_file(d),
-            lambda: self.export(d),
-        ]
-        if self.rng.random() < 0.1:
-            rows = [lambda: self.line(f"dbdelete {d}", "DmDeleteDatabase", db)]
-        self.rng.choice(rows)()
+        self.line(
+            f"create {d} {spelled(text)} {spelled(kind)} {spelled(creator)} {resources:d} 7",
+            "DmCreateDatabase", text, four(kind), four(creator), resources, 7,
+            binds=self.to_database(d),
+        )
 
-    def set_info(self, d, text, kind, creator):
-        attributes, version = self.rng.choice((0, 2, 8, 0x10)), self.rng.randrange(9)
+    def find(self):
+        d = f"{self.rng.choice(DATABASES)}"
+        text = self.one_of((it for it in TEXTS if self.ask("DmFindDatabase", it) is not None), TEXTS)
+        self.line(f"find {d} {spelled(text)}", "DmFindDatabase", text, binds=self.to_database(d))
+
+    def nth(self):
+        d, at = self.rng.choice(DATABASES), self.one_of(range(self.ask("DmNumDatabases")), SMALL)
+        self.line(f"nth {d} {at}", "DmGetDatabase", at, binds=self.to_database(d))
+
+    def show_info(self):
+        d = self.database()
+        self.line(f"dbinfo {d}", "DmDatabaseInfo", self.db(d), shown=shown_info)
+
+    def set_info(self):
+        d, text = self.database(), self.text()
+        attributes, version = self.rng.choice((0, 8, 0x10, 0, 8, 0x10, 2)), self.rng.randrange(9)
+        kind, creator = self.rng.choice(KINDS_OF_FOUR), self.rng.choice(KINDS_OF_FOUR)
         info = palmheap.DatabaseInfo(name_length=len(text), creation_date=1, modification_date=2, backup_date=3)
         info.kind, info.creator, info.attributes, info.version = four(kind), four(creator), attributes, version
         info.name[: len(text)] = text
         line = f"dbset {d} {spelled(text)} {attributes} {version} 1 2 3 {spelled(kind)} {spelled(creator)}"
         self.line(line, "DmSetDatabaseInfo", self.db(d), info)
 
-    def import_file(self, d):
-        number = self.rng.randint(1, len(self.files))
-        self.line(f"import {d} {number}", "import", self.files[number - 1], binds=self.to_database(d))
+    def block(self, wants):
+        """A label of a database that has a block, or hasn't, and whether it is the SortInfo block."""
+        has = lambda d, sort: self.info(d) and (self.ask("info_block", self.db(d), sort) is not None) == wants
+        every = [(d, sort) for d in DATABASES for sort in (False, True)]
+        return self.one_of((it for it in every if has(*it)), every)
 
-    def export(self, d):
-        self.lines.append(f"export {d}")
-        try:
-            self.exported.append(self.store.bytes_by("export", self.db(d)))
-            self.replies.append(("ok", f" {len(self.exported[-1])}"))
-        except palmheap.Refused as refused:
-            self.refuse(refused.number)
+    def set_block(self):
+        (d, sort), h = self.block(False), self.loose()
+        self.line(f"infoset {d} {block_word(sort)} {h}", "set_info_block", self.db(d), sort, self.name(h))
 
-    def draw_record(self):
-        d, h, other, at, to = self.database(), self.chunk(), self.chunk(), self.small(), self.small()
-        db, n, size, owner, category = self.db(d), self.name(h), self.size(), self.owner(), self.category()
-        flag, number = self.rng.random() < 0.5, lambda told: f" {told}"
-        bits, number_of = self.rng.randrange(256), self.rng.choice((0, 1, 5, 0xFFFFFF, 0x1000001))
-        rows = [
-            lambda: self.line(
-                f"recnew {d} {at} {size} {h}",
-                "DmNewRecord", db, at, size,
-                binds=self.to_chunk(h, lambda it: it[1]),
-                shown=lambda it: f" {it[0]}",
-            ),
-            lambda: self.line(f"recdelete {d} {at}", "DmDeleteRecord", db, at),
-            lambda: self.line(f"recarchive {d} {at}", "DmArchiveRecord", db, at),
-            lambda: self.line(f"recremove {d} {at}", "DmRemoveRecord", db, at),
-            lambda: self.line(f"recmove {d} {at} {to}", "DmMoveRecord", db, at, to),
-            lambda: self.line(f"recget {d} {at} {h}", "DmGetRecord", db, at, binds=self.to_chunk(h)),
-            lambda: self.line(f"recquery {d} {at} {h}", "DmQueryRecord", db, at, binds=self.to_chunk(h)),
-            lambda: self.line(f"recrelease {d} {at} {flag:d}", "DmReleaseRecord", db, at, flag),
-            lambda: self.line(
-                f"recinfo {d} {at}",
-                "DmRecordInfo", db, at,
-                shown=lambda it: f" {it.attributes:02x} {it.id} {'data' if it.has_data else 'none'}",
-            ),
-            lambda: self.line(f"recresize {d} {at} {size}", "DmResizeRecord", db, at, size),
-            lambda: self.line(f"reccount {d}", "DmNumRecords", db, shown=number),
-            lambda: self.line(f"recattach {d} {at} {h}", "DmAttachRecord", db, at, n, shown=number),
-            lambda: self.line(
-                f"recreplace {d} {at} {h} {owner} {other}",
-                "attach_replacing", db, at, n, owner,
-                binds=self.to_chunk(other),
-            ),
-            lambda: self.line(
-                f"recdetach {d} {at} {owner} {h}",
-                "DmDetachRecord", db, at, owner,
-                binds=self.to_chunk(h),
-            ),
-            lambda: self.line(f"recset {d} {at} {bits} {number_of}", "DmSetRecordInfo", db, at, bits, number_of),
-            lambda: self.line(f"recfind {d} {number_of}", "DmFindRecordByID", db, number_of, shown=number),
-            lambda: self.line(f"catcount {d} {category}", "DmNumRecordsInCategory", db, category, shown=number),
-            lambda: self.line(
-                f"catnext {d} {at} {category}",
-                "DmQueryNextInCategory", db, at, category,
-                shown=number,
-            ),
-            lambda: self.line(f"catpos {d} {at} {category}", "DmPositionInCategory", db, at, category, shown=number),
-            lambda: self.line(
-                f"catmove {d} {category} {to % 17} {flag:d}",
-                "DmMoveCategory", db, category, to % 17, flag,
-            ),
-        ]
-        if self.rng.random() < 0.05:
-            rows = [lambda: self.line(f"catdelete {d} {category}", "DmDeleteCategory", db, category)]
-        self.rng.choice(rows)()
+    def take_block(self):
+        (d, sort), h, owner = self.block(True), self.new_chunk(), self.owner()
+        self.line(
+            f"infotake {d} {block_word(sort)} {owner} {h}",
+            "take_info_block", self.db(d), sort, owner,
+            binds=self.to_chunk(h),
+        )
 
-    def draw_resource(self):
-        d, h, at, size, owner = self.database(), self.chunk(), self.small(), self.size(), self.owner()
-        db, n, kind, number_of = self.db(d), self.name(h), self.rng.choice(KINDS_OF_FOUR), self.rng.choice((0, 1, 1000))
-        number, word = lambda told: f" {told}", spelled(kind)
-        rows = [
-            lambda: self.line(
-                f"resnew {d} {word} {number_of} {size} {h}",
-                "DmNewResource", db, four(kind), number_of, size,
-                binds=self.to_chunk(h, lambda it: it[1]),
-                shown=lambda it: f" {it[0]}",
-            ),
-            lambda: self.line(
-                f"resattach {d} {word} {number_of} {h}",
-                "DmAttachResource", db, four(kind), number_of, n,
-                shown=number,
-            ),
-            lambda: self.line(
-                f"resdetach {d} {at} {owner} {h}",
-                "DmDetachResource", db, at, owner,
-                binds=self.to_chunk(h),
-            ),
-            lambda: self.line(f"resremove {d} {at}", "DmRemoveResource", db, at),
-            lambda: self.line(f"resresize {d} {at} {size}", "DmResizeResource", db, at, size),
-            lambda: self.line(
-                f"resinfo {d} {at} {h}",
-                "DmResourceInfo", db, at,
-                binds=self.to_chunk(h, lambda it: it.data),
-                shown=lambda it: f" {spelled(it.kind.to_bytes(4, 'big'))} {it.id}",
-            ),
-            lambda: self.line(
-                f"resset {d} {at} {word} {number_of}",
-                "DmSetResourceInfo", db, at, four(kind), number_of,
-            ),
-            lambda: self.line(
-                f"resfind {d} {word} {number_of}",
-                "DmFindResource", db, four(kind), number_of,
-                shown=number,
-            ),
-            lambda: self.line(f"restype {d} {word} {at}", "DmFindResourceType", db, four(kind), at, shown=number),
-            lambda: self.line(f"rescount {d}", "DmNumResources", db, shown=number),
-        ]
-        self.rng.choice(rows)()
+    def show_block(self):
+        (d, sort), h = self.block(True), self.new_chunk()
+        self.line(f"info {d} {block_word(sort)} {h}", "info_block", self.db(d), sort, binds=self.to_chunk(h))
 
-    # -- loans
+    def import_file(self):
+        d, number_of = self.new_database(), self.rng.randint(1, len(self.files))
+        self.line(f"import {d} {number_of}", "import", self.files[number_of - 1], binds=self.to_database(d))
 
-    def take_out(self):
-        """Takes a chunk out, and writes half of it. For the script it is a call that writes all of it: until the chunk is
-        put back, each call that could tell the difference is refused."""
-        h = self.chunk()
-        name = self.name(h)
-        try:
-            loan = self.store.take_out(name)
-        except palmheap.Refused as refused:
-            self.lines.append(f"write {h} 0 -")
-            self.refuse(refused.number)
-            return
-        data = bytes(self.rng.randrange(256) for _ in range(len(loan)))
-        half = len(data) // 2
-        loan[:half] = data[:half]
-        self.lines.append(f"write {h} 0 {data.hex() or '-'}")
-        self.replies.append(("ok", ""))
-        self.lent, self.loans = (name, loan, data), self.loans + 1
+    def export(self):
+        d = self.database()
+        keep = lambda file: self.exported.append(file) or f" {len(file)}"
+        self.bytes_line(f"export {d}", "export", self.db(d), shown=keep)
 
-    def put_back(self):
-        name, loan, data = self.lent
-        half = len(data) // 2
-        if self.store.lent() != name or bytes(loan[:half]) != data[:half]:
-            sys.exit(f"the lent chunk {name} has changed")
-        for call in (lambda: self.store.take_out(name), lambda: self.store.bytes_by("write_image"), self.store.close):
-            try:
-                call()
-            except palmheap.Refused as refused:
-                if refused.number == LENT:
-                    continue
-            sys.exit(f"the chunk {name} is lent, and a call is not refused")
-        loan[half:] = data[half:]
-        self.store.put_back()
-        self.lent = None
-        if self.store.lent() is not None or self.store.bytes_by("read", name, 0, len(data)) != data:
-            sys.exit(f"the chunk {name} has other bytes than were put back")
+    def delete(self):
+        d = self.database()
+        self.line(f"dbdelete {d}", "DmDeleteDatabase", self.db(d))
 
-    def draw(self):
-        if self.rng.random() < 0.1:
-            (self.put_back if self.lent else self.take_out)()
-            return
-        kinds = (self.draw_memory, self.draw_database, self.draw_record, self.draw_resource)
-        self.rng.choices(kinds, (5, 3, 5, 2))[0]()
+    # -- lines on records
+
+    def new_record(self):
+        (d, at), size, h = self.place(False), self.size(), self.new_chunk()
+        self.line(
+            f"recnew {d} {at} {size} {h}",
+            "DmNewRecord", self.db(d), at, size,
+            binds=self.to_chunk(h, lambda it: it[1]),
+            shown=lambda it: f" {it[0]}",
+        )
+
+    def on_record(self, word, name, forbidden=0):
+        d, at = self.record(forbidden)
+        self.line(f"{word} {d} {at}", name, self.db(d), at)
+
+    def move_record(self):
+        (d, at), to = self.record(0), self.rng.choice(SMALL)
+        info = self.info(d)
+        to = self.one_of(range(info.entry_count + 1) if info else SMALL, SMALL)
+        self.line(f"recmove {d} {at} {to}", "DmMoveRecord", self.db(d), at, to)
+
+    def show_record(self, word, name, forbidden):
+        (d, at), h = self.record(forbidden), self.new_chunk()
+        self.line(f"{word} {d} {at} {h}", name, self.db(d), at, binds=self.to_chunk(h))
+
+    def release_record(self):
+        (d, at), dirty = self.record(0), self.rng.random() < 0.5
+        self.line(f"recrelease {d} {at} {dirty:d}", "DmReleaseRecord", self.db(d), at, dirty)
+
+    def record_info(self):
+        d, at = self.record(0)
+        self.line(
+            f"recinfo {d} {at}",
+            "DmRecordInfo", self.db(d), at,
+            shown=lambda it: f" {it.attributes:02x} {it.id} {'data' if it.has_data else 'none'}",
+        )
+
+    def resize_record(self):
+        (d, at), size = self.record(), self.size()
+        self.line(f"recresize {d} {at} {size}", "DmResizeRecord", self.db(d), at, size)
+
+    def count_records(self):
+        d = self.database(False)
+        self.line(f"reccount {d}", "DmNumRecords", self.db(d), shown=number)
+
+    def attach_record(self):
+        (d, at), h = self.place(False), self.loose()
+        self.line(f"recattach {d} {at} {h}", "DmAttachRecord", self.db(d), at, self.name(h), shown=number)
+
+    def replace_record(self):
+        (d, at), h, owner, other = self.record(), self.loose(), self.owner(), self.new_chunk()
+        self.line(
+            f"recreplace {d} {at} {h} {owner} {other}",
+            "attach_replacing", self.db(d), at, self.name(h), owner,
+            binds=self.to_chunk(other),
+        )
+
+    def detach_record(self):
+        (d, at), owner, h = self.record(), self.owner(), self.new_chunk()
+        self.line(
+            f"recdetach {d} {at} {owner} {h}",
+            "DmDetachRecord", self.db(d), at, owner,
+            binds=self.to_chunk(h),
+        )
+
+    def set_record(self):
+        (d, at), bits = self.record(0), self.rng.randrange(256)
+        number_of = self.one_of((0, 1000 + self.rng.randrange(1000)), (1, 5, 0xFFFFFF, 0x1000001))
+        self.line(f"recset {d} {at} {bits} {number_of}", "DmSetRecordInfo", self.db(d), at, bits, number_of)
+
+    def find_record(self):
+        d, at = self.record(0)
+        info = self.ask("DmRecordInfo", self.db(d), at)
+        number_of = self.one_of([info.id] if info else [], (0, 1, 5, 0xFFFFFF, 0x1000001))
+        self.line(f"recfind {d} {number_of}", "DmFindRecordByID", self.db(d), number_of, shown=number)
+
+    def in_category(self):
+        """A label of a database, the index of a record, and its category."""
+        d, at = self.record()
+        info = self.ask("DmRecordInfo", self.db(d), at)
+        return d, at, self.one_of([info.attributes & 15, 255] if info else [0], CATEGORIES)
+
+    def count_category(self):
+        d, _, category = self.in_category()
+        self.line(f"catcount {d} {category}", "DmNumRecordsInCategory", self.db(d), category, shown=number)
+
+    def ask_category(self, word, name):
+        d, at, category = self.in_category()
+        self.line(f"{word} {d} {at} {category}", name, self.db(d), at, category, shown=number)
+
+    def move_category(self):
+        (d, _, category), to, dirty = self.in_category(), self.rng.randrange(17), self.rng.random() < 0.5
+        category = min(category, 16)
+        self.line(f"catmove {d} {to} {category} {dirty:d}", "DmMoveCategory", self.db(d), to, category, dirty)
+
+    def delete_category(self):
+        d, category = self.database(False), self.rng.choice(CATEGORIES)
+        self.line(f"catdelete {d} {category}", "DmDeleteCategory", self.db(d), category)
+
+    # -- lines on resources
+
+    def numbers_of(self, d, at):
+        """The type and the ID of a resource, or of none."""
+        info = self.ask("DmResourceInfo", self.db(d), at)
+        every = [(it, number_of) for it in KINDS_OF_FOUR for number_of in (0, 1, 1000)]
+        return self.one_of([(info.kind.to_bytes(4, "big"), info.id)] if info else [], every)
+
+    def new_resource(self):
+        d, size, h = self.database(True), self.size(), self.new_chunk()
+        kind, number_of = self.rng.choice(KINDS_OF_FOUR), self.rng.randrange(9)
+        self.line(
+            f"resnew {d} {spelled(kind)} {number_of} {size} {h}",
+            "DmNewResource", self.db(d), four(kind), number_of, size,
+            binds=self.to_chunk(h, lambda it: it[1]),
+            shown=lambda it: f" {it[0]}",
+        )
+
+    def attach_resource(self):
+        d, kind, number_of, h = self.database(True), self.rng.choice(KINDS_OF_FOUR), self.rng.randrange(9), self.loose()
+        self.line(
+            f"resattach {d} {spelled(kind)} {number_of} {h}",
+            "DmAttachResource", self.db(d), four(kind), number_of, self.name(h),
+            shown=number,
+        )
+
+    def detach_resource(self):
+        (d, at), owner, h = self.entry(True), self.owner(), self.new_chunk()
+        self.line(
+            f"resdetach {d} {at} {owner} {h}",
+            "DmDetachResource", self.db(d), at, owner,
+            binds=self.to_chunk(h),
+        )
+
+    def remove_resource(self):
+        d, at = self.entry(True)
+        self.line(f"resremove {d} {at}", "DmRemoveResource", self.db(d), at)
+
+    def resize_resource(self):
+        (d, at), size = self.entry(True), self.size()
+        self.line(f"resresize {d} {at} {size}", "DmResizeResource", self.db(d), at, size)
+
+    def resource_info(self):
+        (d, at), h = self.entry(True), self.new_chunk()
+        self.line(
+            f"resinfo {d} {at} {h}",
+            "DmResourceInfo", self.db(d), at,
+            binds=self.to_chunk(h, lambda it: it.data),
+            shown=lambda it: f" {spelled(it.kind.to_bytes(4, 'big'))} {it.id}",
+        )
+
+    def set_resource(self):
+        (d, at), kind, number_of = self.entry(True), self.rng.choice(KINDS_OF_FOUR), self.rng.randrange(9)
+        self.line(
+            f"resset {d} {at} {spelled(kind)} {number_of}",
+            "DmSetResourceInfo", self.db(d), at, four(kind), number_of,
+        )
+
+    def find_resource(self):
+        d, at = self.entry(True)
+        kind, number_of = self.numbers_of(d, at)
+        self.line(
+            f"resfind {d} {spelled(kind)} {number_of}",
+            "DmFindResource", self.db(d), four(kind), number_of,
+            shown=number,
+        )
+
+    def find_type(self):
+        d, at = self.entry(True)
+        kind, nth = self.numbers_of(d, at)[0], self.one_of((0,), SMALL)
+        self.line(f"restype {d} {spelled(kind)} {nth}", "DmFindResourceType", self.db(d), four(kind), nth, shown=number)
+
+    def count_resources(self):
+        d = self.database(True)
+        self.line(f"rescount {d}", "DmNumResources", self.db(d), shown=number)
+
+    # -- lines
+
+    def rows(self):
+        """The lines, with how often each is drawn."""
+        ask = self.line
+        return {
+            lambda: self.new("new", "MemHandleNew"): 20,
+            lambda: self.new("ptrnew", "MemPtrNew"): 4,
+            self.free: 20,
+            self.lock: 15,
+            self.unlock: 15,
+            lambda: self.ask_chunk("size", "MemHandleSize"): 4,
+            lambda: self.ask_chunk("owner", "MemHandleOwner"): 4,
+            lambda: self.ask_chunk("locks", "MemHandleLockCount"): 4,
+            self.write: 10,
+            self.fill: 6,
+            self.copy_text: 6,
+            self.resize: 8,
+            self.set_owner: 5,
+            self.read: 8,
+            lambda: ask("freebytes", "MemHeapFreeBytes", shown=number): 4,
+            lambda: ask("largest", "largest_stretch", shown=number): 4,
+            lambda: ask("compact", "MemHeapCompact"): 4,
+            lambda: ask("moreslots", "more_slots"): 2,
+            self.free_owner: 2,
+            self.create: 12,
+            self.find: 4,
+            self.nth: 6,
+            lambda: ask("dbcount", "DmNumDatabases", shown=number): 4,
+            self.show_info: 4,
+            self.set_info: 4,
+            self.set_block: 5,
+            self.take_block: 4,
+            self.show_block: 4,
+            self.import_file: 5,
+            self.export: 5,
+            self.delete: 4,
+            self.new_record: 20,
+            lambda: self.on_record("recdelete", "DmDeleteRecord", 0x80): 3,
+            lambda: self.on_record("recarchive", "DmArchiveRecord", 0x80): 2,
+            lambda: self.on_record("recremove", "DmRemoveRecord"): 8,
+            self.move_record: 5,
+            lambda: self.show_record("recget", "DmGetRecord", 0xA0): 5,
+            lambda: self.show_record("recquery", "DmQueryRecord", 0x80): 5,
+            self.release_record: 6,
+            self.record_info: 5,
+            self.resize_record: 5,
+            self.count_records: 4,
+            self.attach_record: 6,
+            self.replace_record: 5,
+            self.detach_record: 6,
+            self.set_record: 5,
+            self.find_record: 5,
+            self.count_category: 4,
+            lambda: self.ask_category("catnext", "DmQueryNextInCategory"): 4,
+            lambda: self.ask_category("catpos", "DmPositionInCategory"): 4,
+            self.move_category: 4,
+            self.delete_category: 1,
+            self.new_resource: 10,
+            self.attach_resource: 4,
+            self.detach_resource: 4,
+            self.remove_resource: 4,
+            self.resize_resource: 4,
+            self.resource_info: 4,
+            self.set_resource: 4,
+            self.find_resource: 4,
+            self.find_type: 4,
+            self.count_resources: 4,
+        }
+
+    def draw(self, count):
+        rows = self.rows()
+        for row in self.rng.choices(list(rows), list(rows.values()), k=count):
+            row()
+
+
+def number(told):
+    return f" {told}"
+
+
+def block_word(sort):
+    return "sort" if sort else "app"
 
 
 def shown_info(info):
@@ -454,42 +676,43 @@ def shown_info(info):
 
 
 def do_list(library, rng, program, room):
-    """Does a list of calls by an open store and by the program. Returns how many were refused, the number of loans, and
-    how many calls were refused because a chunk was lent."""
+    """Does a list of calls by an open store and by the program. Returns how many were refused."""
     files = list(FILES.values())
     image = library.new(rng.choice((2048, 8192, 65536)), rng.choice((8, 40, 300)))
     with library.open(image) as store:
         calls = Calls(rng, store, files)
-        for _ in range(LINES):
-            calls.draw()
-        if calls.lent:
-            calls.put_back()
+        calls.draw(LINES)
         last = store.bytes_by("write_image")
     script = "".join(f"{it}\n" for it in calls.lines).encode("ascii")
     for path, content in {"image": image, "script": script, **{str(i): it for i, it in enumerate(files)}}.items():
         with open(f"{room}/{path}", "wb") as it:
             it.write(content)
     names = [f"{room}/{it}" for it in range(len(files))]
-    given, status = run(program, "run", f"{room}/image", f"{room}/script", f"{room}/out", *names)
-    with open(f"{room}/out", "rb") as it:
-        by_program = it.read()
-    text = given.decode("ascii")
-    if status != 0 or by_program != last:
-        sys.exit(f"a list differs: status {status}; the images are the same: {by_program == last}")
-    for line, (kind, told), reply in zip(calls.lines, calls.replies, text.splitlines(), strict=True):
-        wanted = f"ok{told}" if kind == "ok" else f"refused {told} "
+    text, status = run(program, "run", f"{room}/image", f"{room}/script", f"{room}/out", *names)
+    out = []
+    for path in ("out", *(f"out.{it + 1}" for it in range(len(calls.exported)))):
+        with open(f"{room}/{path}", "rb") as it:
+            out.append(it.read())
+    if status != 0 or out != [last, *calls.exported]:
+        sys.exit(f"a list differs: status {status}; the same images: {out[0] == last}")
+    for line, (kind, told), reply in zip(calls.lines, calls.replies, text.decode("ascii").splitlines(), strict=True):
+        wanted = f"ok{told}" if kind == "ok" else f"refused {told} {library.refusal_name(told)} "
         if not (reply == wanted if kind == "ok" else f"{reply} ".startswith(wanted)):
             sys.exit(f"line {line!r}: a call has {wanted!r}, and the script {reply!r}")
-    return sum(kind == "refused" for kind, _ in calls.replies), calls.loans, calls.refused_lent
+    return [told for kind, told in calls.replies if kind == "refused"]
 
 
 def compare_calls(program, count):
-    library, rng, met = palmheap.Library(), random.Random(SEED), (0, 0, 0)
+    library, rng, refused = palmheap.Library(), random.Random(SEED), []
+    if [library.refusal_name(it) for it in (0, 28, 1 << 31)] != [None] * 3:
+        sys.exit("a number of no refusal has a name")
     with tempfile.TemporaryDirectory() as room:
         for _ in range(0, count, LINES):
-            met = tuple(map(sum, zip(met, do_list(library, rng, program, room))))
-    print(f"{count} calls answer as lines of scripts do; {met[0]} were refused")
-    print(f"{met[1]} loans; {met[2]} calls were refused because a chunk was lent")
+            refused += do_list(library, rng, program, room)
+    met = ", ".join(f"{refused.count(it)} {library.refusal_name(it)}" for it in sorted(set(refused)))
+    print(f"{count} calls answer as lines of scripts do; {len(refused)} were refused: {met}")
+    if 2 * len(refused) > count:
+        sys.exit("more than half of the calls were refused")
 
 
 if sys.argv[1] == "files":

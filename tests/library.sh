@@ -3,7 +3,7 @@
 #
 #   tests/library.sh [FILES]
 #
-# Runs the bindings in examples/, the one for C also under valgrind and with the address and undefined-behavior
+# Runs the bindings in examples/, those for C also under valgrind and with the address and undefined-behavior
 # sanitizers, and compares the library with the commands `list` and `canonical` on FILES damaged files (100000), and as
 # many calls on a store with the command `run`.
 # Needs rt, gcc and python3. Without valgrind or cargo, it leaves out what they run, and says so. PALMHEAP names a
@@ -28,28 +28,35 @@ static=$room/lib/lib/libpalmheap.a
 python3 "$top/tests/library.py" files "$room" || fail 'no files were made'
 for case in 'plain' 'sanitized -fsanitize=address,undefined -fno-sanitize-recover'; do
     name=${case%% *}
-    # shellcheck disable=SC2086
-    gcc $flags ${case#"$name"} "$top/examples/c/demo.c" "$static" -o "$room/$name" || fail "the $name demo was not built"
-    # shellcheck disable=SC2086
-    gcc $flags ${case#"$name"} "$top/examples/c/loan.c" "$static" -o "$room/$name-loan" ||
-        fail "the $name loan was not built"
-    "$room/$name-loan" >"$room/$name.loan" || fail "the $name loan failed"
-    for file in "$room"/*.pdb; do
-        "$room/$name" "$file" "$room/out" >"$room/$name.$(basename "$file").txt" || fail "the $name demo failed on $file"
+    for demo in demo store loan; do
+        # shellcheck disable=SC2086
+        gcc $flags ${case#"$name"} "$top/examples/c/$demo.c" "$static" -o "$room/$name.$demo" ||
+            fail "the $name $demo was not built"
     done
+    for file in "$room"/*.pdb; do
+        "$room/$name.demo" "$file" "$room/out" >"$room/$name.$(basename "$file").txt" ||
+            fail "the $name demo failed on $file"
+    done
+    "$room/$name.store" "$room/$name.image" >"$room/$name.store.txt" || fail "the $name store failed"
+    "$room/$name.loan" >"$room/$name.loan.txt" || fail "the $name loan failed"
 done
 for file in "$room"/*.pdb; do
     base=$(basename "$file").txt
     cmp "$room/plain.$base" "$room/sanitized.$base" || fail 'the demos differ'
 done
+cmp "$room/plain.store.txt" "$room/sanitized.store.txt" || fail 'the stores differ'
+cmp "$room/plain.image" "$room/sanitized.image" || fail 'the images of the stores differ'
+grep -q '^record 0: Buy milk$' "$room/plain.store.txt" || fail 'the store has no such record'
+"$program" check "$room/plain.image" | grep -q 'databases 1' || fail 'the image of the store has not one database'
 # Only the functions of the header are visible.
 nm -D --defined-only "$room/lib/lib/libpalmheap.so" | awk '{ print $3 }' | grep -v '^palmheap_' && fail 'a name escapes'
 
 if command -v valgrind >/dev/null; then
-    valgrind -q --error-exitcode=9 --leak-check=full --errors-for-leak-kinds=all "$room/plain" "$room/memos.pdb" \
-        "$room/out" >/dev/null || fail 'valgrind found an error'
-    valgrind -q --error-exitcode=9 --leak-check=full --errors-for-leak-kinds=all "$room/plain-loan" >/dev/null ||
-        fail 'valgrind found an error in a loan'
+    for words in "demo $room/memos.pdb $room/out" "store $room/out" loan; do
+        # shellcheck disable=SC2086
+        valgrind -q --error-exitcode=9 --leak-check=full --errors-for-leak-kinds=all "$room"/plain.$words >/dev/null ||
+            fail 'valgrind found an error'
+    done
 else
     echo 'not run: valgrind'
 fi

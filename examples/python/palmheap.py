@@ -166,6 +166,8 @@ class Library:
             function = getattr(self.so, f"palmheap_{name}")
             kinds = [kind for it in given for kind in ([bytes_in, size] if it is bytes else [it])]
             function.argtypes, function.restype = [place, *kinds, *map(c.POINTER, made)], U32
+        name_of = self.so.palmheap_refusal_name
+        name_of.argtypes, name_of.restype = [U32, u8, size, c.POINTER(size)], U32
         for name, given in BYTE_CALLS.items():
             function = getattr(self.so, f"palmheap_{name}")
             function.argtypes, function.restype = [place, *given, u8, size, c.POINTER(size)], U32
@@ -214,6 +216,13 @@ class Library:
 
     def open(self, image):
         return Store(self, image)
+
+    def refusal_name(self, number):
+        """Returns the name of a refusal, or None if no refusal has the number."""
+        name, count = (U8 * 32)(), SIZE(0)
+        if self.so.palmheap_refusal_name(number, name, len(name), c.byref(count)):
+            return None
+        return bytes(name[: count.value]).decode("ascii")
 
 
 class Store:

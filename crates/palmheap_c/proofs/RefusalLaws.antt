@@ -1,8 +1,38 @@
 -- The numbers of refusals.
-use Rattle.std.proofs.Common.{◌≡◌, refl, arith}
+use Rattle.std.proofs.Common.{◌≡◌, ℕ, ◌≤◌, lit≤, refl, arith}
 use Rattle.heap_model.specs.Numbers.{number_of}
 use Rattle.heap_model.specs.declared.refusal.Refusal.{Refusal}
 use Rattle.heap_model.specs.declared.refusal.Refusal.TheVariants.{InvalidHandle, OwnedByDatabase, ChunkLocked, ChunkNotLocked, LockOverflow, ChunkFixed, InvalidOwner, NotEnoughSpace, OutOfBounds, NoSuchDatabase, NotRecordDatabase, NotResourceDatabase, ReadOnly, IndexOutOfRange, RecordDeleted, RecordBusy, TooManyEntries, InvalidCategory, DuplicateId, UniqueIdNotFound, AlreadyExists, InvalidName, ResourceNotFound, NoInfoBlock, BadFile, OutOfMemory, Lent}
+
+-- they are 1 to 27
+pub is_in_range : (refusal : Refusal) → (1 ≤ number_of refusal) × (number_of refusal ≤ 27)
+is_in_range InvalidHandle = (lit≤ tt, lit≤ tt)
+is_in_range OwnedByDatabase = (lit≤ tt, lit≤ tt)
+is_in_range ChunkLocked = (lit≤ tt, lit≤ tt)
+is_in_range ChunkNotLocked = (lit≤ tt, lit≤ tt)
+is_in_range LockOverflow = (lit≤ tt, lit≤ tt)
+is_in_range ChunkFixed = (lit≤ tt, lit≤ tt)
+is_in_range InvalidOwner = (lit≤ tt, lit≤ tt)
+is_in_range NotEnoughSpace = (lit≤ tt, lit≤ tt)
+is_in_range OutOfBounds = (lit≤ tt, lit≤ tt)
+is_in_range NoSuchDatabase = (lit≤ tt, lit≤ tt)
+is_in_range NotRecordDatabase = (lit≤ tt, lit≤ tt)
+is_in_range NotResourceDatabase = (lit≤ tt, lit≤ tt)
+is_in_range ReadOnly = (lit≤ tt, lit≤ tt)
+is_in_range IndexOutOfRange = (lit≤ tt, lit≤ tt)
+is_in_range RecordDeleted = (lit≤ tt, lit≤ tt)
+is_in_range RecordBusy = (lit≤ tt, lit≤ tt)
+is_in_range TooManyEntries = (lit≤ tt, lit≤ tt)
+is_in_range InvalidCategory = (lit≤ tt, lit≤ tt)
+is_in_range DuplicateId = (lit≤ tt, lit≤ tt)
+is_in_range UniqueIdNotFound = (lit≤ tt, lit≤ tt)
+is_in_range AlreadyExists = (lit≤ tt, lit≤ tt)
+is_in_range InvalidName = (lit≤ tt, lit≤ tt)
+is_in_range ResourceNotFound = (lit≤ tt, lit≤ tt)
+is_in_range NoInfoBlock = (lit≤ tt, lit≤ tt)
+is_in_range (BadFile fault) = (lit≤ tt, lit≤ tt)
+is_in_range OutOfMemory = (lit≤ tt, lit≤ tt)
+is_in_range Lent = (lit≤ tt, lit≤ tt)
 
 -- no other refusal has the number of `OutOfMemory`
 pub is_no_memory : (refusal : Refusal) → number_of refusal ≡ 26 → refusal ≡ OutOfMemory

@@ -7,3 +7,4 @@ pub mod Infos
 pub mod Keeping
 pub mod Loans
 pub mod Opening
+pub mod Refusals

@@ -15,6 +15,7 @@
 //! | `record_calls`, `resource_calls` | calls on their entries |
 //! | `file_calls` | reads bytes of a chunk, imports and exports files |
 //! | `loans` | takes the bytes of a chunk out of an open store, and puts them back |
+//! | `refusals` | names refusals |
 #![tactic(auto)]
 
 mod answers;
@@ -33,6 +34,7 @@ mod memory_calls;
 mod opening;
 mod parts;
 mod record_calls;
+mod refusals;
 mod resource_calls;
 
 pub use answers::Answer;
@@ -68,6 +70,7 @@ pub use record_calls::{
     palmheap_DmReleaseRecord, palmheap_DmRemoveRecord, palmheap_DmResizeRecord,
     palmheap_DmSetRecordInfo, palmheap_attach_replacing,
 };
+pub use refusals::palmheap_refusal_name;
 pub use resource_calls::{
     palmheap_DmAttachResource, palmheap_DmDetachResource, palmheap_DmFindResource,
     palmheap_DmFindResourceType, palmheap_DmNewResource, palmheap_DmNumResources,
