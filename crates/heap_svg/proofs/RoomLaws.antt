@@ -1,6 +1,6 @@
 -- Rooms, as a walk meets them.
-use Rattle.std.proofs.Common.{◌≡◌, ℕ, zero, suc, ◌+◌, ◌≤◌, ◌<◌, cond, List, [], ◌∷◌, ◌++◌, length, get_or, drop, refl, sym, ap, subst, ◌∙◌, append_assoc, arith, inl, inr, add-one, drop-cons}
-use Rattle.std.specs.Prelude.{max, ◌==◌, ◌⊎◌, nat_lt, Bool, true, false, if◌then◌else◌}
+use Rattle.std.proofs.Common.{◌≡◌, ℕ, zero, suc, ◌+◌, ◌≤◌, ◌<◌, List, [], ◌∷◌, ◌++◌, length, get_or, drop, refl, sym, ap, subst, ◌∙◌, append_assoc, arith, inl, inr, add-one, drop-cons}
+use Rattle.std.specs.Prelude.{max, true, false}
 use Rattle.std.proofs.lemmas.Bool.Decides.{nat_tests}
 use Rattle.std.proofs.lemmas.List.{append-nil}
 use Rattle.heap_model.specs.Chunk.{Chunk, free, movable, fixed, size_of, total, need}
@@ -18,9 +18,8 @@ use Rattle.chunk_format.proofs.HeaderLaws.{size_by-header_of}
 use Rattle.heap_check.proofs.WalkLaws.{HasPassed, passed_none, passed_more}
 use Rattle.heap_svg.specs.declared.rooms.Room.{Room}
 use Rattle.heap_svg.specs.declared.rooms.MetRooms.{MetRooms}
-use Rattle.heap_map.specs.Pieces.{free_by}
 use Rattle.heap_map.specs.Text.{free_sizes}
-use Rattle.heap_svg.specs.Rooms.{compact_pieces, kept, rooms_from, rooms_of, sizes, stays_by, EndsStretch, GoesOn, AddsChunk}
+use Rattle.heap_svg.specs.Rooms.{compact_pieces, kept, rooms_from, rooms_of, sizes, AddsChunk}
 
 -- ---- rooms are the pieces that a compact leaves
 

@@ -1,6 +1,6 @@
 -- Strips, as a walk meets them.
 use Rattle.std.proofs.Common.{◌≡◌, ℕ, ◌+◌, ◌<◌, ◌≤◌, cond, List, [], ◌∷◌, ◌++◌, length, refl, sym, ap, subst, ◌∙◌, append_assoc, arith, inl, inr}
-use Rattle.std.specs.Prelude.{◌⊎◌, ◌==◌, ◌&&◌, nat_lt, Bool, true, false, All, Result, Ok, Err, IfOk}
+use Rattle.std.specs.Prelude.{◌⊎◌, nat_lt, Bool, true, false, All, Result, Ok, Err, IfOk}
 use Rattle.std.proofs.lemmas.Bool.{cases_lt}
 use Rattle.std.proofs.lemmas.Bool.Decides.{nat_tests}
 use Rattle.std.proofs.lemmas.List.{append-nil}
@@ -12,7 +12,7 @@ use Rattle.heap_model.specs.Heap.{HeapAccepted}
 use Rattle.laws_heap.proofs.Chunks.{total-append, SpelledAll-end}
 use Rattle.laws_heap.proofs.FoundChunks.{read_heap}
 use Rattle.chunk_format.specs.declared.header.Header.{Header}
-use Rattle.chunk_format.specs.Header.{header_of, size_by, HasHeader}
+use Rattle.chunk_format.specs.Header.{size_by, HasHeader}
 use Rattle.chunk_format.proofs.HeaderLaws.{size_by-header_of}
 use Rattle.heap_check.proofs.WalkLaws.{HasPassed, passed_size, passed_step, passed_all}
 use Rattle.heap_map.proofs.CellLaws.{mark_by-is}

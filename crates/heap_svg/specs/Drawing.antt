@@ -1,5 +1,5 @@
 -- The picture of an image as SVG.
-use Rattle.std.specs.Prelude.{◌≡◌, ◌+◌, ◌-◌, ◌*◌, ◌/◌, ◌++◌, ℕ, Bool, List, length, count_by, Option, codes, decimal}
+use Rattle.std.specs.Prelude.{◌≡◌, ◌+◌, ◌-◌, ◌*◌, ◌++◌, ℕ, Bool, List, length, count_by, Option, codes, decimal}
 use Rattle.heap_model.specs.Chunk.{is_movable}
 use Rattle.heap_model.specs.Reading.{chunks_of}
 use Rattle.heap_model.specs.Slots.{slots_of}

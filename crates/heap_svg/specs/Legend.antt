@@ -1,5 +1,5 @@
 -- The legend: the kinds of chunks, the databases, and the free pieces by size.
-use Rattle.std.specs.Prelude.{◌+◌, ◌-◌, ◌*◌, ◌/◌, ◌%◌, ◌++◌, ◌==◌, ◌&&◌, ◌||◌, nat_le, nat_lt, if◌then◌else◌, ℕ, Bool, true, false, List, [], ◌∷◌, length, slice_index, count_by, codes, decimal}
+use Rattle.std.specs.Prelude.{◌+◌, ◌*◌, ◌/◌, ◌%◌, ◌++◌, ◌==◌, ◌&&◌, ◌||◌, nat_le, nat_lt, if◌then◌else◌, ℕ, Bool, true, false, List, [], ◌∷◌, slice_index, count_by, codes, decimal}
 use Rattle.std.specs.List.{concat, flat_map}
 use Rattle.heap_model.specs.Database.{name_in, resources_in, entry_count_in}
 use Rattle.heap_model.specs.Lists.{numbered}

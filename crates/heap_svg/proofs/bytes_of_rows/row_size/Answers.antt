@@ -1,4 +1,4 @@
-use Rattle.std.proofs.Common.{◌≡◌, ◌*◌, ℕ, suc, refl, ap, ◌∙◌, arith}
+use Rattle.std.proofs.Common.{◌≡◌, ◌*◌, suc, refl, arith}
 use Rattle.heap_svg.specs.Rows.{doubled}
 use Rattle.heap_svg.proofs.bytes_of_rows.row_size.Goals as goal
 

@@ -1,4 +1,4 @@
-use Rattle.std.proofs.Common.{◌≡◌, ◌≤◌, ◌<◌, ℕ, length, subst, arith}
+use Rattle.std.proofs.Common.{ℕ, subst, arith}
 use Rattle.heap_svg.specs.Rows.{IsRow}
 use Rattle.heap_svg.proofs.drawing.draw.Goals as goal
 

@@ -1,7 +1,5 @@
-use Rattle.std.proofs.Common.{◌≡◌, ◌≤◌, ◌∙◌, ℕ, List, length, ap, refl, arith}
-use Rattle.heap_model.specs.Space.{greatest}
-use Rattle.heap_svg.specs.Rooms.{rooms_of, sizes}
-use Rattle.heap_svg.specs.Rooms.{compact_pieces}
+use Rattle.std.proofs.Common.{refl, arith}
+use Rattle.heap_svg.specs.Rooms.{rooms_of}
 use Rattle.heap_map.proofs.PieceLaws.{small_pieces}
 use Rattle.heap_svg.proofs.RoomLaws.{small_rooms, largest_packed}
 use Rattle.heap_svg.proofs.drawing.put_compact_notes.Goals as goal

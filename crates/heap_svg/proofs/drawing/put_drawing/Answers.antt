@@ -1,4 +1,4 @@
-use Rattle.std.proofs.Common.{◌≡◌, ◌≤◌, ◌<◌, ◌+◌, List, ℕ, length, ap, ◌∙◌, subst, sym, refl, arith}
+use Rattle.std.proofs.Common.{◌≡◌, List, ℕ, length, ap, ◌∙◌, subst, arith}
 use Rattle.heap_svg.specs.declared.strips.Strip.{Strip}
 use Rattle.heap_svg.specs.Strips.{ShowImage}
 use Rattle.heap_svg.specs.Rows.{rows_in}

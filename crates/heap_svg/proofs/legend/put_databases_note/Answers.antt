@@ -1,8 +1,8 @@
-use Rattle.std.proofs.Common.{◌≡◌, ◌+◌, ◌<◌, ◌≤◌, List, ℕ, Bool, true, false, length, ap, sym, subst, arith}
+use Rattle.std.proofs.Common.{◌≡◌, ◌+◌, ◌<◌, ◌≤◌, List, ℕ, true, false, length, ap, sym, subst, arith}
 use Rattle.heap_model.specs.Store.{directory_bytes}
 use Rattle.db_format.specs.Headers.{IsWhole}
-use Rattle.store_check.specs.Listing.{header_at, listed_count}
-use Rattle.palm_text.specs.Counted.{Writing, Writes}
+use Rattle.store_check.specs.Listing.{listed_count}
+use Rattle.palm_text.specs.Counted.{Writes}
 use Rattle.palm_text.proofs.Parts.{then, stops, nothing}
 use Rattle.heap_svg.specs.Legend.{database_note, database_at, databases_note}
 use Rattle.heap_map.proofs.LineLaws.{rest_lines, line_here, none_left}

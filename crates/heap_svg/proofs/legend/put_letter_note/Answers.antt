@@ -1,4 +1,4 @@
-use Rattle.std.proofs.Common.{◌≡◌, ◌+◌, ◌++◌, ◌∷◌, [], List, ℕ, Bool, true, false, subst, ap}
+use Rattle.std.proofs.Common.{◌++◌, ◌∷◌, [], ℕ, false, subst}
 use Rattle.std.specs.Prelude.{is_ok}
 use Rattle.palm_text.specs.Counted.{Writes}
 use Rattle.palm_text.proofs.Parts.{then, stops}

@@ -1,5 +1,4 @@
-use Rattle.std.proofs.Common.{ℕ, ◌+◌, length, subst, sym, arith}
-use Rattle.heap_model.specs.Reading.{chunks_of}
+use Rattle.std.proofs.Common.{ℕ, ◌+◌, subst, sym, arith}
 use Rattle.laws_heap.proofs.FoundChunks.{read_heap}
 use Rattle.heap_check.proofs.WalkLaws.{HasPassed, passed_there, passed_size, passed_all}
 use Rattle.heap_map.proofs.PieceLaws.{free_size_by}

@@ -1,7 +1,7 @@
-use Rattle.std.proofs.Common.{◌≡◌, ◌<◌, ◌≤◌, ◌+◌, [], List, ℕ, Bool, true, false, length, drop, get_or, sym, subst, ap, arith}
+use Rattle.std.proofs.Common.{◌<◌, ◌≤◌, ◌+◌, List, ℕ, true, false, length, drop, get_or, sym, subst, ap, arith}
 use Rattle.std.specs.List.{flat_map}
 use Rattle.std.proofs.lemmas.List.{drop_all}
-use Rattle.palm_text.specs.Counted.{Writing, Writes}
+use Rattle.palm_text.specs.Counted.{Writes}
 use Rattle.palm_text.proofs.Parts.{then, stops, nothing}
 use Rattle.heap_svg.specs.Rows.{strip_text, strips_text}
 use Rattle.heap_svg.proofs.RowLaws.{part_here}

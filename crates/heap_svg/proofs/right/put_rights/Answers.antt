@@ -1,5 +1,5 @@
-use Rattle.std.proofs.Common.{◌≡◌, ◌+◌, ◌<◌, ◌≤◌, List, ℕ, Bool, true, false, sym, subst, arith}
-use Rattle.palm_text.specs.Counted.{Writing, Writes}
+use Rattle.std.proofs.Common.{◌+◌, ◌<◌, ◌≤◌, List, ℕ, true, false, sym, subst, arith}
+use Rattle.palm_text.specs.Counted.{Writes}
 use Rattle.palm_text.proofs.Parts.{then, stops, nothing}
 use Rattle.heap_map.proofs.LineLaws.{rest_lines, line_here, none_left}
 use Rattle.heap_svg.specs.Rows.{right_of, rights_text}

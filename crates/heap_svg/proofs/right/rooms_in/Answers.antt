@@ -1,8 +1,7 @@
-use Rattle.std.proofs.Common.{◌≡◌, ◌≤◌, ◌<◌, ◌+◌, ◌/◌, ℕ, length, drop, ap, ◌∙◌, arith}
+use Rattle.std.proofs.Common.{◌≤◌, length, ap, arith}
 use Rattle.std.proofs.lemmas.List.{drop_all}
 use Rattle.heap_model.specs.Space.{greatest}
 use Rattle.heap_svg.specs.Rows.{sizes_in}
-use Rattle.heap_svg.proofs.RowLaws.{room_in, room_out}
 use Rattle.heap_svg.proofs.right.rooms_in.Goals as goal
 
 pub returns-clause-count : goal.returns-clause-count

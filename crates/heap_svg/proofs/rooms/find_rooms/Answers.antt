@@ -1,4 +1,4 @@
-use Rattle.std.proofs.Common.{◌≡◌, ◌≤◌, ◌∙◌, List, ℕ, length, ap, arith}
+use Rattle.std.proofs.Common.{◌≡◌, ◌∙◌, List, length, ap, arith}
 use Rattle.heap_model.specs.Space.{greatest}
 use Rattle.heap_svg.specs.declared.rooms.Room.{Room}
 use Rattle.heap_svg.specs.Rooms.{rooms_of, sizes}

@@ -1,4 +1,4 @@
-use Rattle.std.proofs.Common.{◌≡◌, ◌≤◌, ◌∙◌, ℕ, length, take, ap, arith}
+use Rattle.std.proofs.Common.{◌≤◌, ◌∙◌, length, ap, arith}
 use Rattle.std.specs.Prelude.{count_by}
 use Rattle.std.proofs.lemmas.List.{take_all}
 use Rattle.heap_svg.specs.Legend.{is_of}

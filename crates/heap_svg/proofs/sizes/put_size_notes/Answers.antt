@@ -1,4 +1,4 @@
-use Rattle.std.proofs.Common.{◌≡◌, ◌+◌, ◌<◌, ◌≤◌, List, ℕ, Bool, true, false, Option, sym, subst, ap, ◌∙◌, arith}
+use Rattle.std.proofs.Common.{◌≡◌, ◌+◌, ◌<◌, ◌≤◌, List, ℕ, Bool, true, false, Option, sym, subst, arith}
 use Rattle.std.specs.Prelude.{count_by}
 use Rattle.palm_text.specs.Counted.{Writing, Writes}
 use Rattle.palm_text.proofs.Parts.{then, stops, nothing}

@@ -1,6 +1,6 @@
 use Rattle.std.proofs.Common.{ℕ, ◌+◌, ◌∙◌, length, List, subst, sym, arith}
 use Rattle.laws_heap.proofs.FoundChunks.{read_heap}
-use Rattle.heap_check.proofs.WalkLaws.{HasPassed, passed_none, passed_there, passed_size, passed_all}
+use Rattle.heap_check.proofs.WalkLaws.{HasPassed, passed_none, passed_there, passed_size}
 use Rattle.heap_map.proofs.CellLaws.{header_room}
 use Rattle.heap_svg.proofs.StripLaws.{Shown, shown_none, shown_end, shown_step, shown_image, exact_image, ok_maps}
 use Rattle.heap_svg.specs.declared.strips.Strip.{Strip}
