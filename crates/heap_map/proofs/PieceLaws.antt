@@ -7,6 +7,8 @@ use Rattle.heap_model.specs.Layout.{free_onto, merged}
 use Rattle.heap_model.specs.Space.{greatest}
 use Rattle.heap_model.specs.Slots.{area_start}
 use Rattle.heap_model.specs.Heap.{HeapAccepted}
+use Rattle.heap_model.specs.Reading.{chunks_of}
+use Rattle.laws_heap.proofs.Layouts.{total-merged}
 use Rattle.laws_heap.proofs.Chunks.{total-append, SpelledAll-end}
 use Rattle.laws_heap.proofs.FoundChunks.{read_heap}
 use Rattle.chunk_format.specs.declared.header.Header.{Header}
@@ -14,7 +16,7 @@ use Rattle.chunk_format.specs.declared.header.Header.TheVariants as headers
 use Rattle.chunk_format.specs.Header.{header_of, size_by, HasHeader}
 use Rattle.heap_check.proofs.WalkLaws.{HasPassed, passed_none, passed_more}
 use Rattle.heap_map.specs.declared.pieces.Pieces.{Pieces}
-use Rattle.heap_map.specs.Text.{free_sizes}
+use Rattle.heap_map.specs.Text.{free_sizes, free_pieces}
 use Rattle.heap_map.specs.Pieces.{free_by, run_size, with_header, with_run}
 
 -- the chunk is live
@@ -65,12 +67,12 @@ met_free pieces cs size h = record {
 }
 
 -- a live chunk ends the piece that goes on
-live_sizes : (c : Chunk) (others : List Chunk) → IsLiveChunk c → free_sizes (merged (c ∷ others)) ≡ free_sizes (merged others)
+pub live_sizes : (c : Chunk) (others : List Chunk) → IsLiveChunk c → free_sizes (merged (c ∷ others)) ≡ free_sizes (merged others)
 live_sizes (free size) others l = absurd l
 live_sizes (movable bytes lock owner slot) others l = refl
 live_sizes (fixed bytes owner) others l = refl
 
-onto_live : (run : ℕ) (c : Chunk) (others : List Chunk) → IsLiveChunk c → free_sizes (free_onto run (merged (c ∷ others))) ≡ run ∷ free_sizes (merged others)
+pub onto_live : (run : ℕ) (c : Chunk) (others : List Chunk) → IsLiveChunk c → free_sizes (free_onto run (merged (c ∷ others))) ≡ run ∷ free_sizes (merged others)
 onto_live run (free size) others l = absurd l
 onto_live run (movable bytes lock owner slot) others l = refl
 onto_live run (fixed bytes owner) others l = refl
@@ -150,3 +152,19 @@ all_met_count pieces new cs is h =
 pub all_met_largest : (pieces new : Pieces) (cs : List Chunk) → new ≡ with_run pieces.run pieces → HaveMet pieces cs → new.largest ≡ greatest (free_sizes (merged cs))
 all_met_largest pieces new cs is h =
     ap (λ (p : Pieces). p.largest) is ∙ sym (largest_end pieces.run pieces.count pieces.largest) ∙ sym (h.largest []) ∙ ap (λ (ds : List Chunk). greatest (free_sizes (merged ds))) (append-nil cs)
+
+-- ---- how large a piece may be
+
+greatest_free : (cs : List Chunk) → greatest (free_sizes cs) ≤ total cs
+greatest_free [] = omega arith
+greatest_free (free size ∷ cs) = let ih = greatest_free cs in omega arith
+greatest_free (movable bytes lock owner slot ∷ cs) = let ih = greatest_free cs in omega arith
+greatest_free (fixed bytes owner ∷ cs) = let ih = greatest_free cs in omega arith
+
+pub small_pieces : (image : List ℕ) → HeapAccepted image → greatest (free_pieces image) ≤ length image
+small_pieces image h =
+    let tiles = (read_heap image h).tiles in
+    let most = greatest_free (merged (chunks_of image)) in
+    let same = total-merged (chunks_of image) in
+    let there = SpelledAll-end image (area_start image) (chunks_of image) (length image) tiles.area in
+    omega arith

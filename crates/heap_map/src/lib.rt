@@ -22,4 +22,8 @@ mod pieces;
 mod reading;
 mod text;
 
-pub use picture::{MapFault, put_map};
+pub use marks::{FIXED, FREE, LOCKED, MANAGERS, OTHER, letter_of, mark_of};
+pub use numbers::database_numbers;
+pub use picture::{MapFault, check_image, put_map};
+pub use pieces::{Pieces, free_pieces};
+pub use reading::{directory_in, header_in};

@@ -8,23 +8,20 @@ ghost use Rattle.heap_map.specs.Numbers.{database_number, HasNumbers};
 use chunk_format::{FRAME_SIZE, Header, MANAGERS_OWNER, SLOT_SIZE};
 
 /// The mark of a fixed chunk. A mark is its rank in the list of marks.
-const FIXED: u32 = 0;
+pub const FIXED: u32 = 0;
 
 /// The mark of a chunk with a lock.
-const LOCKED: u32 = 1;
+pub const LOCKED: u32 = 1;
 
 /// The mark of the directory, and of the header of a database. The marks of databases come after
 /// it.
-const MANAGERS: u32 = 2;
+pub const MANAGERS: u32 = 2;
 
 /// The mark of any other movable chunk.
-const OTHER: u32 = 1027;
+pub const OTHER: u32 = 1027;
 
 /// The mark of a free chunk, which is the last one.
-pub(crate) const FREE: u32 = 1028;
-
-/// The mark of the bytes before the first chunk: the head with its slots.
-pub(crate) const HEAD: u32 = 1029;
+pub const FREE: u32 = 1028;
 
 /// The letters of databases, in their order.
 const LETTERS: &[u8; 60] = b"abcdefghijklmnopqrstuvwxyzABCDEGHIJKMNOPQRSTUVWXYZ0123456789";
@@ -53,7 +50,7 @@ fn movable_mark(lock: u8, owner: u8, number: u16) -> u32
 }
 
 /// Returns the mark of the chunk with this header, from a table of the numbers of databases.
-pub(crate) fn mark_of(header: Header, table: &[u16]) -> u32
+pub fn mark_of(header: Header, table: &[u16]) -> u32
     requires { IsRoomFor header (length table.now) }
     ensures { (image : List ℕ) → HasNumbers (database_number image) table.now
         → result ≡ marks.mark_by image header }
@@ -71,7 +68,7 @@ pub(crate) fn mark_of(header: Header, table: &[u16]) -> u32
 }
 
 /// Returns the letter of the database with a number, from 1 on.
-pub(crate) fn letter_of(number: u32) -> u8
+pub fn letter_of(number: u32) -> u8
     requires { 1 ≤ number }
     ensures { result ≡ marks.letter_of number }
 {

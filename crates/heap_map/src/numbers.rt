@@ -72,10 +72,7 @@ fn word_count(region: &Region) -> usize
 
 /// Returns the number of the database that names it, or 0, for each word of an image that can be a
 /// slot.
-pub(crate) fn database_numbers<A: Allowance>(
-    memory: &A,
-    region: &Region,
-) -> Result<Vec<u16>, AllocError>
+pub fn database_numbers<A: Allowance>(memory: &A, region: &Region) -> Result<Vec<u16>, AllocError>
     requires whole { region.now.lent ≡ None }
     requires accepted { Accepted region.now.bytes }
     ensures numbers { IfOk result (λ table. HasNumbers (database_number region.now.bytes) table.items) }

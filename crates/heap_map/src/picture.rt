@@ -4,6 +4,7 @@
 ghost use Rattle.std.specs.Prelude.{◌≡◌, ◌≢◌, Err, IfOk, IfErr, OnOk, OnErr, is_ok, true, false, None};
 ghost use Rattle.heap_model.specs.Store.{Accepted};
 ghost use Rattle.heap_check.specs.Summary as heaps;
+ghost use Rattle.store_check.specs.Checks.{Summarizes};
 ghost use Rattle.palm_text.specs.Counted.{Writes};
 ghost use Rattle.heap_map.specs.Pictures as pictures;
 ghost use Rattle.heap_map.specs.Pictures.{IsPicture, IsFaultOf};
@@ -20,7 +21,7 @@ use palm_text::{Counted, WriteFault};
 use raw_region::Region;
 use std::alloc::AllocError;
 use std::io::Write;
-use store_check::{StoreFault, check_store_from};
+use store_check::{StoreFault, StoreSummary, check_store_from};
 use thiserror::Error;
 
 /// The reason why no picture was written, or not all of it.
@@ -44,6 +45,25 @@ fn map_fault(fault: StoreFault) -> MapFault
     match fault {
         StoreFault::OutOfMemory => MapFault::OutOfMemory,
         _ => MapFault::BadImage(fault),
+    }
+}
+
+/// Checks an image before it is drawn, and returns its counts.
+///
+/// # Errors
+/// - `BadImage`: the image is not accepted.
+/// - `OutOfMemory`: an allocation failed.
+pub fn check_image<A: Allowance>(memory: &A, region: &Region) -> Result<StoreSummary, MapFault>
+    requires whole { region.now.lent ≡ None }
+    ensures accepted { OnOk result (Accepted region.now.bytes) }
+    ensures summary { IfOk result (Summarizes region.now.bytes) }
+    ensures why { IfErr result (IsFaultOf region.now.bytes) }
+    ensures before { result ≢ Err MapFault.Write }
+    ensures short { result ≡ Err MapFault.OutOfMemory → A.is_short memory.now }
+{
+    match check_store_from(memory, region) {
+        Ok(summary) => Ok(summary),
+        Err(fault) => Err(map_fault(fault)),
     }
 }
 
@@ -79,10 +99,7 @@ fn checked<A: Allowance>(memory: &A, region: &Region) -> Result<(Summary, Pictur
     ensures before { result ≢ Err MapFault.Write }
     ensures short { result ≡ Err MapFault.OutOfMemory → A.is_short memory.now }
 {
-    let summary = match check_store_from(memory, region) {
-        Ok(summary) => summary,
-        Err(fault) => return Err(map_fault(fault)),
-    };
+    let summary = check_image(memory, region)?;
     match draw(memory, region) {
         Ok(picture) => Ok((summary.heap, picture)),
         Err(_) => Err(MapFault::OutOfMemory),

@@ -13,10 +13,10 @@ use raw_region::Region;
 /// The free pieces that a walk has met: the size of the piece that goes on, if there is one, and
 /// the number of pieces that have ended. `largest` is the size of the largest piece that has ended.
 #[derive(Clone, Copy)]
-pub(crate) struct Pieces {
+pub struct Pieces {
     run: Option<u32>,
-    pub(crate) count: u32,
-    pub(crate) largest: u32,
+    pub count: u32,
+    pub largest: u32,
 }
 
 impl Pieces {
@@ -58,7 +58,7 @@ impl Pieces {
 }
 
 /// Returns the free pieces of an accepted heap.
-pub(crate) fn free_pieces(region: &Region) -> Pieces
+pub fn free_pieces(region: &Region) -> Pieces
     requires whole { region.now.lent ≡ None }
     requires accepted { HeapAccepted region.now.bytes }
     ensures count { result.count ≡ length (free_pieces region.now.bytes) }

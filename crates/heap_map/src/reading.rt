@@ -25,7 +25,7 @@ fn managers_bytes(region: &Region, slot: u32) -> &[u8]
 }
 
 /// Returns the bytes of the directory. There are none if the directory word is 0.
-pub(crate) fn directory_in(region: &Region) -> &[u8]
+pub fn directory_in(region: &Region) -> &[u8]
     requires whole { region.now.lent ≡ None }
     requires accepted { HeapAccepted region.now.bytes }
     ensures { result.now ≡ directory_bytes region.now.bytes }
@@ -38,7 +38,7 @@ pub(crate) fn directory_in(region: &Region) -> &[u8]
 }
 
 /// Returns the header and the entries of the database with an index.
-pub(crate) fn header_in<'a>(region: &'a Region, directory: &[u8], db: usize) -> &'a [u8]
+pub fn header_in<'a>(region: &'a Region, directory: &[u8], db: usize) -> &'a [u8]
     requires whole { region.now.lent ≡ None }
     requires accepted { Accepted region.now.bytes }
     requires directory { directory.now ≡ directory_bytes region.now.bytes }

@@ -1,0 +1,5 @@
+pub mod StripLaws
+pub mod RowLaws
+pub mod PieceLaws
+pub mod RoomLaws
+pub mod ChoiceLaws

@@ -1,0 +1,13 @@
+use Rattle.std.proofs.Common.{◌≡◌, ◌≤◌, ◌<◌, ◌*◌, ◌-◌, ℕ}
+use Rattle.heap_svg.specs.Rows.{doubled}
+use Rattle.heap_svg.proofs.bytes_of_rows.row_size.Given as goal
+
+abbrev pub invariant-loop-line : goal.invariant-loop-line
+invariant-loop-line l = record {
+  power : (times : ℕ) × (l.line ≡ doubled times);
+  low : 64 ≤ l.line;
+  least : 64 < l.line → 16 * l.line < l.size;
+}
+
+abbrev pub decreases-loop-line : goal.decreases-loop-line
+decreases-loop-line l = l.size - l.line

@@ -1,0 +1,18 @@
+use Rattle.std.proofs.Common.{refl, arith}
+use Rattle.heap_svg.specs.Rooms.{rooms_of}
+use Rattle.heap_map.proofs.PieceLaws.{small_pieces}
+use Rattle.heap_svg.proofs.RoomLaws.{small_rooms, largest_packed}
+use Rattle.heap_svg.proofs.drawing.put_compact_notes.Goals as goal
+
+pub put_bar-requires : goal.put_bar-requires
+put_bar-requires g c =
+    let image = c.args.region.now.bytes in
+    let size = c.requires.drawing.summary.heap.size in
+    let largest = c.requires.drawing.largest in
+    let left = c.requires.drawing.left_largest in
+    let small = small_pieces image c.requires.accepted.heap in
+    let few = small_rooms image c.requires.accepted.heap in
+    let same = largest_packed image (rooms_of image) refl in
+    let most = c.requires.accepted.heap.1.tiles.head.most in
+    let used = c.saturating_sub.ensures in
+    record { used = omega arith; largest = omega arith; most = omega arith }

@@ -1,0 +1,10 @@
+use Rattle.std.proofs.Common.{◌-◌, length}
+use Rattle.heap_check.proofs.WalkLaws.{HasPassed}
+use Rattle.heap_svg.proofs.PieceLaws.{HaveSizes}
+use Rattle.heap_svg.proofs.pieces.piece_sizes.Given as goal
+
+abbrev pub invariant-loop-at : goal.invariant-loop-at
+invariant-loop-at g l = HasPassed l.region.bytes (HaveSizes l.pieces) l.at
+
+abbrev pub decreases-loop-at : goal.decreases-loop-at
+decreases-loop-at g l = length l.region.bytes - l.at

@@ -1,0 +1,23 @@
+use Rattle.std.proofs.Common.{◌≤◌, length, ap, arith}
+use Rattle.std.proofs.lemmas.List.{drop_all}
+use Rattle.heap_model.specs.Space.{greatest}
+use Rattle.heap_svg.specs.Rows.{sizes_in}
+use Rattle.heap_svg.proofs.right.rooms_in.Goals as goal
+
+pub returns-clause-count : goal.returns-clause-count
+returns-clause-count c =
+    let rs = c.args.rooms.now in
+    let i = c.loop-room.room-index in
+    let past : length rs ≤ i = omega arith in
+    let none = ap (λ xs. length (sizes_in c.args.line c.args.row xs)) (drop_all i rs past) in
+    let was = c.loop-room.invariant.count in
+    omega arith
+
+pub returns-clause-largest : goal.returns-clause-largest
+returns-clause-largest c =
+    let rs = c.args.rooms.now in
+    let i = c.loop-room.room-index in
+    let past : length rs ≤ i = omega arith in
+    let none = ap (λ xs. greatest (sizes_in c.args.line c.args.row xs)) (drop_all i rs past) in
+    let was = c.loop-room.invariant.largest in
+    omega arith

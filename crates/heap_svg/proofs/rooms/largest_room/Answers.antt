@@ -1,0 +1,14 @@
+use Rattle.std.proofs.Common.{◌≤◌, length, ap, arith}
+use Rattle.std.proofs.lemmas.List.{drop_all}
+use Rattle.heap_model.specs.Space.{greatest}
+use Rattle.heap_svg.specs.Rooms.{sizes}
+use Rattle.heap_svg.proofs.rooms.largest_room.Goals as goal
+
+pub returns : goal.returns
+returns c =
+    let rs = c.args.rooms.now in
+    let i = c.loop-room.room-index in
+    let past : length rs ≤ i = omega arith in
+    let none = ap (λ xs. greatest (sizes xs)) (drop_all i rs past) in
+    let was = c.loop-room.invariant in
+    omega arith

@@ -1,0 +1,10 @@
+use Rattle.std.proofs.Common.{◌-◌, length}
+use Rattle.heap_check.proofs.WalkLaws.{HasPassed}
+use Rattle.heap_svg.proofs.RoomLaws.{HaveRooms}
+use Rattle.heap_svg.proofs.rooms.room_list.Given as goal
+
+abbrev pub invariant-loop-at : goal.invariant-loop-at
+invariant-loop-at g l = HasPassed l.region.bytes (HaveRooms l.region.bytes l.rooms) l.at
+
+abbrev pub decreases-loop-at : goal.decreases-loop-at
+decreases-loop-at g l = length l.region.bytes - l.at

@@ -1,0 +1,10 @@
+use Rattle.std.proofs.Common.{◌-◌, length}
+use Rattle.heap_check.proofs.WalkLaws.{HasPassed}
+use Rattle.heap_svg.proofs.StripLaws.{Shown}
+use Rattle.heap_svg.proofs.strips.strips_of.Given as goal
+
+abbrev pub invariant-loop-at : goal.invariant-loop-at
+invariant-loop-at g l = HasPassed l.region.bytes (Shown l.region.bytes l.thin l.strips) l.at
+
+abbrev pub decreases-loop-at : goal.decreases-loop-at
+decreases-loop-at g l = length l.region.bytes - l.at

@@ -1,0 +1,7 @@
+pub mod Strips
+pub mod Rows
+pub mod Legend
+pub mod Pieces
+pub mod Rooms
+pub mod Drawing
+pub mod Drawings

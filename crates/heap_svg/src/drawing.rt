@@ -1,0 +1,352 @@
+//! The picture of an image as SVG, on a writer.
+
+ghost use Rattle.std.specs.Prelude.{◌≡◌, ◌≢◌, ◌<◌, ◌^◌, Err, IfOk, IfErr, OnOk, OnErr, is_ok, true, false, None};
+ghost use Rattle.heap_model.specs.Store.{Accepted};
+ghost use Rattle.palm_text.specs.Counted.{Writes};
+ghost use Rattle.store_check.specs.Checks.{Summarizes};
+ghost use Rattle.heap_map.specs.Pictures.{IsFaultOf};
+ghost use Rattle.heap_svg.specs.Legend.{sizes_at};
+ghost use Rattle.heap_svg.specs.Strips.{strips_of as strips_model, ShowImage};
+ghost use Rattle.heap_svg.specs.Rows as rows_of;
+ghost use Rattle.heap_svg.specs.Drawing as texts;
+ghost use Rattle.heap_svg.specs.Drawing.{WritesDrawing, bottom_text, closing_text, compact_notes, drawing_text, inner_text, lists_text, lower_text, middle_text, notes_text, top_text};
+ghost use Rattle.heap_svg.specs.Drawings.{HasDrawing};
+
+use crate::bytes_of_rows::{PITCH, row_count, row_size, thin_below};
+use crate::frame::{
+    Bar, put_bar, put_compact_note, put_framed, put_free_note, put_open, put_slots,
+};
+use crate::legend::{put_databases_note, put_kinds};
+use crate::pieces::piece_sizes;
+use crate::right::put_rights;
+use crate::rooms::{Rooms, find_rooms};
+use crate::sizes::put_pieces_by_size;
+use crate::strips::{Strip, strips_of};
+use allowance::Allowance;
+use heap_map::{MapFault, Pieces, check_image, database_numbers, free_pieces};
+use palm_text::{Counted, WriteFault, put_all};
+use raw_region::Region;
+use std::alloc::AllocError;
+use std::io::Write;
+use store_check::StoreSummary;
+
+/// The parts of a drawing that are found before the first write: the counts of the image, its free
+/// pieces, its rooms, the size of a row, and the strips.
+#[derive(Drop)]
+struct Drawing {
+    summary: StoreSummary,
+    free: Pieces,
+    pieces: Vec<u32>,
+    rooms: Rooms,
+    line: u32,
+    strips: Vec<Strip>,
+}
+
+/// Returns the strips of an accepted image that is drawn in rows of `line` bytes.
+fn strips_in<A: Allowance>(memory: &A, region: &Region, line: u32) -> Result<Vec<Strip>, AllocError>
+    requires whole { region.now.lent ≡ None }
+    requires accepted { Accepted region.now.bytes }
+    ensures exact { IfOk result (λ strips.
+        strips.items ≡ strips_model region.now.bytes (rows_of.thin_below line)) }
+    ensures shown { IfOk result (λ strips.
+        ShowImage region.now.bytes strips.items) }
+    ensures short { OnErr result (A.is_short memory.now) }
+{
+    let table = database_numbers(memory, region)?;
+    strips_of(memory, region, &table, thin_below(line))
+}
+
+/// Finds what is drawn of an accepted image.
+fn draw<A: Allowance>(
+    memory: &A,
+    region: &Region,
+    summary: StoreSummary,
+) -> Result<Drawing, AllocError>
+    requires whole { region.now.lent ≡ None }
+    requires accepted { Accepted region.now.bytes }
+    requires summary { Summarizes region.now.bytes summary }
+    ensures drawing { IfOk result (HasDrawing region.now.bytes) }
+    ensures short { OnErr result (A.is_short memory.now) }
+{
+    let line = row_size(summary.heap.size);
+    let pieces = piece_sizes(memory, region)?;
+    let rooms = find_rooms(memory, region)?;
+    let strips = strips_in(memory, region, line)?;
+    Ok(Drawing {
+        summary,
+        free: free_pieces(region),
+        pieces,
+        rooms,
+        line,
+        strips,
+    })
+}
+
+/// Returns where the free pieces by size begin, in pixels: below the rows and the databases.
+#[tactic(auto, unfolding(crate::specs::Legend::sizes_at))]
+fn sizes_top(rows: u32, databases: u32) -> u32
+    requires rows { rows < 2 ^ 24 }
+    requires databases { databases < 2 ^ 16 }
+    ensures is { result ≡ sizes_at rows databases }
+    ensures small { result < 2 ^ 30 }
+{
+    22 * ((databases + 1) / 2) + (PITCH * rows + 88 + 44)
+}
+
+/// Writes the first lines, the size of the image and its slots. `rows` is the number of rows, also
+/// below.
+#[tactic(auto, using(palm_text::proofs::Parts::then, palm_text::proofs::Parts::stops), unfolding(crate::specs::Drawing::top_text))]
+fn put_top<W: Write>(
+    out: &mut Counted<W>,
+    region: &Region,
+    drawing: &Drawing,
+    rows: u32,
+) -> Result<(), WriteFault>
+    requires accepted { Accepted region.now.bytes }
+    requires drawing { HasDrawing region.now.bytes drawing.now }
+    requires rows { rows < 2 ^ 24 }
+    ensures { Writes W.contents out.old out.new (top_text region.now.bytes rows) (is_ok result) }
+{
+    let heap = drawing.summary.heap;
+    put_open(out, sizes_top(rows, drawing.summary.databases) + 70)?;
+    put_slots(out, heap.size, heap.movable, heap.slots)
+}
+
+/// Writes the free pieces after a compact, and the bar.
+#[tactic(auto, using(palm_text::proofs::Parts::then, palm_text::proofs::Parts::stops), unfolding(crate::specs::Drawing::compact_notes))]
+fn put_compact_notes<W: Write>(
+    out: &mut Counted<W>,
+    region: &Region,
+    drawing: &Drawing,
+) -> Result<(), WriteFault>
+    requires accepted { Accepted region.now.bytes }
+    requires drawing { HasDrawing region.now.bytes drawing.now }
+    ensures { Writes W.contents out.old out.new (compact_notes region.now.bytes) (is_ok result) }
+{
+    let heap = drawing.summary.heap;
+    put_compact_note(out, drawing.rooms.count, drawing.rooms.largest)?;
+    put_bar(
+        out,
+        heap.size,
+        Bar {
+            used: heap.size.saturating_sub(heap.free),
+            free: heap.free,
+            largest: drawing.free.largest,
+            most: drawing.rooms.largest,
+        },
+    )
+}
+
+/// Writes the free pieces, those after a compact, and the bar.
+#[tactic(auto, using(palm_text::proofs::Parts::then, palm_text::proofs::Parts::stops), unfolding(crate::specs::Drawing::notes_text))]
+fn put_notes<W: Write>(
+    out: &mut Counted<W>,
+    region: &Region,
+    drawing: &Drawing,
+) -> Result<(), WriteFault>
+    requires accepted { Accepted region.now.bytes }
+    requires drawing { HasDrawing region.now.bytes drawing.now }
+    ensures { Writes W.contents out.old out.new (notes_text region.now.bytes) (is_ok result) }
+{
+    put_free_note(
+        out,
+        drawing.summary.heap.free,
+        drawing.free.count,
+        drawing.free.largest,
+    )?;
+    put_compact_notes(out, region, drawing)
+}
+
+/// Writes the rows, their offsets, and the rooms at the right.
+#[tactic(auto, using(palm_text::proofs::Parts::then, palm_text::proofs::Parts::stops), unfolding(crate::specs::Drawing::middle_text))]
+fn put_middle<W: Write>(
+    out: &mut Counted<W>,
+    region: &Region,
+    drawing: &Drawing,
+    rows: u32,
+) -> Result<(), WriteFault>
+    requires accepted { Accepted region.now.bytes }
+    requires drawing { HasDrawing region.now.bytes drawing.now }
+    requires rows { rows ≡ rows_of.rows_in drawing.now.summary.heap.size drawing.now.line }
+    ensures { Writes W.contents out.old out.new
+        (middle_text region.now.bytes drawing.now.line rows) (is_ok result) }
+{
+    put_framed(out, drawing.line, rows, drawing.strips.as_slice())?;
+    put_rights(out, drawing.line, drawing.rooms.all.as_slice(), rows)
+}
+
+/// Writes the free pieces by size, and the end of the picture.
+#[tactic(auto, using(palm_text::proofs::Parts::then, palm_text::proofs::Parts::stops), unfolding(crate::specs::Drawing::closing_text))]
+fn put_closing<W: Write>(
+    out: &mut Counted<W>,
+    region: &Region,
+    drawing: &Drawing,
+    rows: u32,
+) -> Result<(), WriteFault>
+    requires accepted { Accepted region.now.bytes }
+    requires drawing { HasDrawing region.now.bytes drawing.now }
+    requires rows { rows < 2 ^ 24 }
+    ensures { Writes W.contents out.old out.new
+        (closing_text region.now.bytes rows) (is_ok result) }
+{
+    put_pieces_by_size(
+        out,
+        sizes_top(rows, drawing.summary.databases),
+        drawing.pieces.as_slice(),
+    )?;
+    put_all(out, b"</svg>\n")
+}
+
+/// Writes the databases, the free pieces by size, and the end of the picture.
+#[tactic(auto, using(palm_text::proofs::Parts::then, palm_text::proofs::Parts::stops), unfolding(crate::specs::Drawing::lists_text))]
+fn put_lists<W: Write>(
+    out: &mut Counted<W>,
+    region: &Region,
+    drawing: &Drawing,
+    rows: u32,
+) -> Result<(), WriteFault>
+    requires whole { region.now.lent ≡ None }
+    requires accepted { Accepted region.now.bytes }
+    requires drawing { HasDrawing region.now.bytes drawing.now }
+    requires rows { rows < 2 ^ 24 }
+    ensures { Writes W.contents out.old out.new (lists_text region.now.bytes rows) (is_ok result) }
+{
+    put_databases_note(out, region, rows)?;
+    put_closing(out, region, drawing, rows)
+}
+
+/// Writes everything below the rows.
+#[tactic(auto, using(palm_text::proofs::Parts::then, palm_text::proofs::Parts::stops), unfolding(crate::specs::Drawing::bottom_text))]
+fn put_bottom<W: Write>(
+    out: &mut Counted<W>,
+    region: &Region,
+    drawing: &Drawing,
+    rows: u32,
+) -> Result<(), WriteFault>
+    requires whole { region.now.lent ≡ None }
+    requires accepted { Accepted region.now.bytes }
+    requires drawing { HasDrawing region.now.bytes drawing.now }
+    requires rows { rows < 2 ^ 24 }
+    ensures { Writes W.contents out.old out.new (bottom_text region.now.bytes rows) (is_ok result) }
+{
+    put_kinds(out, rows)?;
+    put_lists(out, region, drawing, rows)
+}
+
+/// Writes the rows and everything below them.
+#[tactic(auto, using(palm_text::proofs::Parts::then, palm_text::proofs::Parts::stops), unfolding(crate::specs::Drawing::lower_text))]
+fn put_lower<W: Write>(
+    out: &mut Counted<W>,
+    region: &Region,
+    drawing: &Drawing,
+    rows: u32,
+) -> Result<(), WriteFault>
+    requires whole { region.now.lent ≡ None }
+    requires accepted { Accepted region.now.bytes }
+    requires drawing { HasDrawing region.now.bytes drawing.now }
+    requires rows { rows ≡ rows_of.rows_in drawing.now.summary.heap.size drawing.now.line }
+    requires few { rows < 2 ^ 24 }
+    ensures { Writes W.contents out.old out.new
+        (lower_text region.now.bytes drawing.now.line rows) (is_ok result) }
+{
+    put_middle(out, region, drawing, rows)?;
+    put_bottom(out, region, drawing, rows)
+}
+
+/// Writes everything after the first lines.
+#[tactic(auto, using(palm_text::proofs::Parts::then, palm_text::proofs::Parts::stops), unfolding(crate::specs::Drawing::inner_text))]
+fn put_inner<W: Write>(
+    out: &mut Counted<W>,
+    region: &Region,
+    drawing: &Drawing,
+    rows: u32,
+) -> Result<(), WriteFault>
+    requires whole { region.now.lent ≡ None }
+    requires accepted { Accepted region.now.bytes }
+    requires drawing { HasDrawing region.now.bytes drawing.now }
+    requires rows { rows ≡ rows_of.rows_in drawing.now.summary.heap.size drawing.now.line }
+    requires few { rows < 2 ^ 24 }
+    ensures { Writes W.contents out.old out.new
+        (inner_text region.now.bytes drawing.now.line rows) (is_ok result) }
+{
+    put_notes(out, region, drawing)?;
+    put_lower(out, region, drawing, rows)
+}
+
+/// Writes the whole picture with this number of rows.
+#[tactic(auto, using(palm_text::proofs::Parts::then, palm_text::proofs::Parts::stops), unfolding(crate::specs::Drawing::drawing_text))]
+fn put_rows<W: Write>(
+    out: &mut Counted<W>,
+    region: &Region,
+    drawing: &Drawing,
+    rows: u32,
+) -> Result<(), WriteFault>
+    requires whole { region.now.lent ≡ None }
+    requires accepted { Accepted region.now.bytes }
+    requires drawing { HasDrawing region.now.bytes drawing.now }
+    requires rows { rows ≡ rows_of.rows_in drawing.now.summary.heap.size drawing.now.line }
+    requires few { rows < 2 ^ 24 }
+    ensures { Writes W.contents out.old out.new
+        (drawing_text region.now.bytes drawing.now.line rows) (is_ok result) }
+{
+    put_top(out, region, drawing, rows)?;
+    put_inner(out, region, drawing, rows)
+}
+
+/// Writes the whole picture.
+fn put_drawing<W: Write>(
+    out: &mut Counted<W>,
+    region: &Region,
+    drawing: &Drawing,
+) -> Result<(), WriteFault>
+    requires whole { region.now.lent ≡ None }
+    requires accepted { Accepted region.now.bytes }
+    requires drawing { HasDrawing region.now.bytes drawing.now }
+    ensures { WritesDrawing region.now.bytes W.contents out.old out.new (is_ok result) }
+{
+    let rows = row_count(drawing.summary.heap.size, drawing.line);
+    put_rows(out, region, drawing, rows)
+}
+
+/// Checks an image, and finds what is drawn of it if it is accepted.
+fn drawn<A: Allowance>(memory: &A, region: &Region) -> Result<Drawing, MapFault>
+    requires whole { region.now.lent ≡ None }
+    ensures accepted { OnOk result (Accepted region.now.bytes) }
+    ensures drawing { IfOk result (HasDrawing region.now.bytes) }
+    ensures why { IfErr result (IsFaultOf region.now.bytes) }
+    ensures before { result ≢ Err MapFault.Write }
+    ensures short { result ≡ Err MapFault.OutOfMemory → A.is_short memory.now }
+{
+    let summary = check_image(memory, region)?;
+    match draw(memory, region, summary) {
+        Ok(drawing) => Ok(drawing),
+        Err(_) => Err(MapFault::OutOfMemory),
+    }
+}
+
+/// Writes the picture of an image as SVG, and flushes nothing. The image stays unchanged.
+///
+/// # Errors
+/// - `BadImage`: the image is not accepted. Nothing was written.
+/// - `OutOfMemory`: an allocation failed. Nothing was written.
+/// - `Write`: a write failed. A prefix of the picture was written.
+pub fn put_svg<A: Allowance, W: Write>(
+    memory: &A,
+    region: &Region,
+    out: &mut Counted<W>,
+) -> Result<(), MapFault>
+    requires whole { region.now.lent ≡ None }
+    ensures accepted { OnOk result (Accepted region.now.bytes) }
+    ensures done { OnOk result (WritesDrawing region.now.bytes W.contents out.old out.new true) }
+    ensures why { IfErr result (IsFaultOf region.now.bytes) }
+    ensures untouched { IfErr result (λ fault. fault ≢ MapFault.Write → out.new ≡ out.old) }
+    ensures write { result ≡ Err MapFault.Write
+        → WritesDrawing region.now.bytes W.contents out.old out.new false }
+    ensures short { result ≡ Err MapFault.OutOfMemory → A.is_short memory.now }
+{
+    let drawing = drawn(memory, region)?;
+    match put_drawing(out, region, &drawing) {
+        Ok(()) => Ok(()),
+        Err(_) => Err(MapFault::Write),
+    }
+}

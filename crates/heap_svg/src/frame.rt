@@ -1,0 +1,367 @@
+//! The head of the picture, and the frame of its rows.
+
+ghost use Rattle.std.specs.Prelude.{◌≡◌, ◌≤◌, ◌<◌, ◌+◌, ◌-◌, ◌*◌, ◌^◌, All, is_ok};
+ghost use Rattle.palm_text.specs.Counted.{Writes};
+ghost use Rattle.heap_svg.specs.Drawing.{all_parts, bar_open, bar_part, bar_text, closed_strips, compact_note, compact_part, frame_text, framed_text, free_note, free_parts, labelled_strips, largest_part, last_parts, open_text, other_part, slots_text, used_part};
+
+use crate::bytes_of_rows::PITCH;
+use crate::rectangles::put_strips;
+use crate::right::put_labels;
+use crate::strips::Strip;
+use palm_text::{Counted, Piece, WriteFault, put_all, put_pieces};
+use std::io::Write;
+
+/// The end of the first tag, the styles, and a white background.
+const STYLE: &[u8] = b"\" font-family=\"sans-serif\" font-size=\"12\">
+<style>
+svg{overflow:visible}
+path{stroke:#fff;stroke-width:.8;vector-effect:non-scaling-stroke}
+.s{stroke:none}
+.t{font-size:16px;font-weight:bold}
+.n{font-size:10px;fill:#666;text-anchor:end}
+.r{font-size:10px;fill:#060}
+.c0{fill:#d62728;stroke:#a00;stroke-width:1.4}
+.c1{fill:#ffb3a7;stroke:#c00;stroke-width:1.4}
+.c2{fill:#111}
+.c3{fill:#bcbd22}
+.c4{fill:#cfe6cf}
+.c5{fill:#444}
+.c6{fill:#4e79a7}
+.c7{fill:#f28e2b}
+.c8{fill:#59a14f}
+.c9{fill:#b07aa1}
+.c10{fill:#9c755f}
+.c11{fill:#76b7b2}
+.c12{fill:#edc948}
+.c13{fill:#ff9da7}
+</style>
+<rect width=\"100%\" height=\"100%\" fill=\"#fff\"/>
+";
+
+/// Writes the first lines of a picture of this height.
+#[tactic(auto, unfolding(crate::specs::Drawing::open_text))]
+pub(crate) fn put_open<W: Write>(out: &mut Counted<W>, height: u32) -> Result<(), WriteFault>
+    ensures { Writes W.contents out.old out.new (open_text height) (is_ok result) }
+{
+    put_pieces(
+        out,
+        &[
+            Piece::Text(b"<svg xmlns=\"http://www.w3.org/2000/svg\" width=\"1224\" height=\""),
+            Piece::Number(height),
+            Piece::Text(b"\" viewBox=\"0 0 1224 "),
+            Piece::Number(height),
+            Piece::Text(STYLE),
+        ],
+    )
+}
+
+/// Writes the size of the image, and its slots.
+#[tactic(auto, unfolding(crate::specs::Drawing::slots_text))]
+pub(crate) fn put_slots<W: Write>(
+    out: &mut Counted<W>,
+    size: u32,
+    used: u32,
+    slots: u32,
+) -> Result<(), WriteFault>
+    ensures { Writes W.contents out.old out.new (slots_text size used slots) (is_ok result) }
+{
+    put_pieces(
+        out,
+        &[
+            Piece::Text(b"<text x=\"74\" y=\"22\" class=\"t\">"),
+            Piece::Number(size),
+            Piece::Text(b" bytes, "),
+            Piece::Number(used),
+            Piece::Text(b" of "),
+            Piece::Number(slots),
+            Piece::Text(b" slots in use</text>\n"),
+        ],
+    )
+}
+
+/// Writes the number of free bytes, the number of pieces, and the size of the largest one.
+#[tactic(auto, unfolding(crate::specs::Drawing::free_note))]
+pub(crate) fn put_free_note<W: Write>(
+    out: &mut Counted<W>,
+    total: u32,
+    pieces: u32,
+    largest: u32,
+) -> Result<(), WriteFault>
+    ensures { Writes W.contents out.old out.new (free_note total pieces largest) (is_ok result) }
+{
+    put_pieces(
+        out,
+        &[
+            Piece::Text(b"<text x=\"74\" y=\"42\">free "),
+            Piece::Number(total),
+            Piece::Text(b" bytes in "),
+            Piece::Number(pieces),
+            Piece::Text(b" pieces, the largest "),
+            Piece::Number(largest),
+            Piece::Text(b"; a compact leaves "),
+        ],
+    )
+}
+
+/// Writes the number of pieces after a compact, and the size of the largest one.
+#[tactic(auto, unfolding(crate::specs::Drawing::compact_note))]
+pub(crate) fn put_compact_note<W: Write>(
+    out: &mut Counted<W>,
+    pieces: u32,
+    largest: u32,
+) -> Result<(), WriteFault>
+    ensures { Writes W.contents out.old out.new (compact_note pieces largest) (is_ok result) }
+{
+    put_pieces(
+        out,
+        &[
+            Piece::Number(pieces),
+            Piece::Text(b" pieces, the largest "),
+            Piece::Number(largest),
+            Piece::Text(b"</text>\n"),
+        ],
+    )
+}
+
+/// The numbers of the bar, in bytes: used, free, the largest free piece, and the largest free piece
+/// after a compact.
+#[derive(Clone, Copy)]
+pub(crate) struct Bar {
+    pub(crate) used: u32,
+    pub(crate) free: u32,
+    pub(crate) largest: u32,
+    pub(crate) most: u32,
+}
+
+/// Writes the frame of the bar for an image of this size.
+#[tactic(auto, unfolding(crate::specs::Drawing::bar_open))]
+fn put_bar_open<W: Write>(out: &mut Counted<W>, size: u32) -> Result<(), WriteFault>
+    ensures { Writes W.contents out.old out.new (bar_open size) (is_ok result) }
+{
+    put_pieces(
+        out,
+        &[
+            Piece::Text(b"<svg x=\"74\" y=\"52\" width=\"1000\" height=\"9\" viewBox=\"0 0 "),
+            Piece::Number(size),
+            Piece::Text(b" 9\" preserveAspectRatio=\"none\">\n"),
+        ],
+    )
+}
+
+/// Writes a part of the bar: its first byte, its number of bytes, its colour, and its tooltip.
+#[tactic(auto, unfolding(crate::specs::Drawing::bar_part))]
+fn put_bar_part<W: Write>(
+    out: &mut Counted<W>,
+    x: u32,
+    width: u32,
+    colour: &'static [u8],
+    title: &'static [u8],
+) -> Result<(), WriteFault>
+    ensures { Writes W.contents out.old out.new
+        (bar_part x width colour.now title.now) (is_ok result) }
+{
+    put_pieces(
+        out,
+        &[
+            Piece::Text(b"<rect x=\""),
+            Piece::Number(x),
+            Piece::Text(b"\" width=\""),
+            Piece::Number(width),
+            Piece::Text(b"\" height=\"9\" fill=\""),
+            Piece::Text(colour),
+            Piece::Text(b"\"><title>"),
+            Piece::Text(title),
+            Piece::Text(b"</title></rect>\n"),
+        ],
+    )
+}
+
+/// Writes the part for used bytes.
+#[tactic(auto, unfolding(crate::specs::Drawing::used_part))]
+fn put_used_part<W: Write>(out: &mut Counted<W>, used: u32) -> Result<(), WriteFault>
+    ensures { Writes W.contents out.old out.new (used_part used) (is_ok result) }
+{
+    put_bar_part(out, 0, used, b"#888", b"used")
+}
+
+/// Writes the part for the largest free piece.
+#[tactic(auto, unfolding(crate::specs::Drawing::largest_part))]
+fn put_largest_part<W: Write>(
+    out: &mut Counted<W>,
+    used: u32,
+    largest: u32,
+) -> Result<(), WriteFault>
+    ensures { Writes W.contents out.old out.new (largest_part used largest) (is_ok result) }
+{
+    put_bar_part(out, used, largest, b"#2ca02c", b"the largest free piece")
+}
+
+/// Writes the part for the bytes that a compact adds to the largest free piece.
+#[tactic(auto, unfolding(crate::specs::Drawing::compact_part))]
+fn put_compact_part<W: Write>(
+    out: &mut Counted<W>,
+    used: u32,
+    largest: u32,
+    most: u32,
+) -> Result<(), WriteFault>
+    requires { used + largest < 2 ^ 32 }
+    ensures { Writes W.contents out.old out.new (compact_part used largest most) (is_ok result) }
+{
+    put_bar_part(
+        out,
+        used + largest,
+        most.saturating_sub(largest),
+        b"#98df8a",
+        b"what a compact adds to it",
+    )
+}
+
+/// Writes the part for free bytes in other stretches, and the end of the bar.
+fn put_other_part<W: Write>(
+    out: &mut Counted<W>,
+    used: u32,
+    most: u32,
+    free: u32,
+) -> Result<(), WriteFault>
+    requires { used + most < 2 ^ 32 }
+    ensures { Writes W.contents out.old out.new (other_part used most free) (is_ok result) }
+{
+    let width = free.saturating_sub(most);
+    match put_bar_part(
+        out,
+        used + most,
+        width,
+        b"#f7b6b2",
+        b"free in other stretches",
+    ) {
+        Ok(()) => put_all(out, b"</svg>\n"),
+        Err(fault) => Err(fault),
+    }
+}
+
+/// Writes the part for the bytes that a compact adds, and the last part.
+#[tactic(auto, using(palm_text::proofs::Parts::then, palm_text::proofs::Parts::stops), unfolding(crate::specs::Drawing::last_parts))]
+fn put_last_parts<W: Write>(out: &mut Counted<W>, bar: Bar) -> Result<(), WriteFault>
+    requires largest { bar.used + bar.largest < 2 ^ 32 }
+    requires most { bar.used + bar.most < 2 ^ 32 }
+    ensures { Writes W.contents out.old out.new
+        (last_parts bar.used bar.free bar.largest bar.most) (is_ok result) }
+{
+    put_compact_part(out, bar.used, bar.largest, bar.most)?;
+    put_other_part(out, bar.used, bar.most, bar.free)
+}
+
+/// Writes the parts for free bytes.
+#[tactic(auto, using(palm_text::proofs::Parts::then, palm_text::proofs::Parts::stops), unfolding(crate::specs::Drawing::free_parts))]
+fn put_free_parts<W: Write>(out: &mut Counted<W>, bar: Bar) -> Result<(), WriteFault>
+    requires largest { bar.used + bar.largest < 2 ^ 32 }
+    requires most { bar.used + bar.most < 2 ^ 32 }
+    ensures { Writes W.contents out.old out.new
+        (free_parts bar.used bar.free bar.largest bar.most) (is_ok result) }
+{
+    put_largest_part(out, bar.used, bar.largest)?;
+    put_last_parts(out, bar)
+}
+
+/// Writes all parts of the bar.
+#[tactic(auto, using(palm_text::proofs::Parts::then, palm_text::proofs::Parts::stops), unfolding(crate::specs::Drawing::all_parts))]
+fn put_all_parts<W: Write>(out: &mut Counted<W>, bar: Bar) -> Result<(), WriteFault>
+    requires largest { bar.used + bar.largest < 2 ^ 32 }
+    requires most { bar.used + bar.most < 2 ^ 32 }
+    ensures { Writes W.contents out.old out.new
+        (all_parts bar.used bar.free bar.largest bar.most) (is_ok result) }
+{
+    put_used_part(out, bar.used)?;
+    put_free_parts(out, bar)
+}
+
+/// Writes the bar for an image of this size.
+#[tactic(auto, using(palm_text::proofs::Parts::then, palm_text::proofs::Parts::stops), unfolding(crate::specs::Drawing::bar_text))]
+pub(crate) fn put_bar<W: Write>(out: &mut Counted<W>, size: u32, bar: Bar) -> Result<(), WriteFault>
+    requires used { bar.used ≡ size - bar.free }
+    requires largest { bar.used + bar.largest < 2 ^ 32 }
+    requires most { bar.used + bar.most < 2 ^ 32 }
+    ensures { Writes W.contents out.old out.new
+        (bar_text size bar.free bar.largest bar.most) (is_ok result) }
+{
+    put_bar_open(out, size)?;
+    put_all_parts(out, bar)
+}
+
+/// Writes the frame of the rows. In it a byte is one unit wide.
+#[tactic(auto, unfolding(crate::specs::Drawing::frame_text))]
+fn put_frame<W: Write>(out: &mut Counted<W>, line: u32, rows: u32) -> Result<(), WriteFault>
+    requires { rows < 2 ^ 26 }
+    ensures { Writes W.contents out.old out.new (frame_text line rows) (is_ok result) }
+{
+    put_pieces(
+        out,
+        &[
+            Piece::Text(b"<svg x=\"74\" y=\"74\" width=\"1000\" height=\""),
+            Piece::Number(PITCH * rows),
+            Piece::Text(b"\" viewBox=\"0 0 "),
+            Piece::Number(line),
+            Piece::Text(b" "),
+            Piece::Number(PITCH * rows),
+            Piece::Text(b"\" preserveAspectRatio=\"none\">\n"),
+        ],
+    )
+}
+
+/// Writes the strips, the end of their frame, and the line over the rooms.
+#[tactic(auto, using(palm_text::proofs::Parts::then, palm_text::proofs::Parts::stops), unfolding(crate::specs::Drawing::closed_strips))]
+fn put_closed_strips<W: Write>(
+    out: &mut Counted<W>,
+    line: u32,
+    strips: &[Strip],
+) -> Result<(), WriteFault>
+    requires line { 64 ≤ line }
+    requires small { line < 2 ^ 24 }
+    requires inside { All (λ strip. strip.at + strip.size < 2 ^ 24) strips.now }
+    ensures { Writes W.contents out.old out.new (closed_strips line strips.now) (is_ok result) }
+{
+    put_strips(out, line, strips)?;
+    put_all(
+        out,
+        b"</svg>\n<text x=\"1082\" y=\"68\" class=\"r\">room of stretches</text>\n",
+    )
+}
+
+/// Writes the strips and the offsets of the rows.
+#[tactic(auto, using(palm_text::proofs::Parts::then, palm_text::proofs::Parts::stops), unfolding(crate::specs::Drawing::labelled_strips))]
+fn put_labelled_strips<W: Write>(
+    out: &mut Counted<W>,
+    line: u32,
+    rows: u32,
+    strips: &[Strip],
+) -> Result<(), WriteFault>
+    requires line { 64 ≤ line }
+    requires small { line < 2 ^ 24 }
+    requires rows { rows < 2 ^ 26 }
+    requires offsets { line * rows < 2 ^ 32 }
+    requires inside { All (λ strip. strip.at + strip.size < 2 ^ 24) strips.now }
+    ensures { Writes W.contents out.old out.new
+        (labelled_strips line rows strips.now) (is_ok result) }
+{
+    put_closed_strips(out, line, strips)?;
+    put_labels(out, line, rows)
+}
+
+/// Writes the strips in their frame, and the offsets of the rows.
+#[tactic(auto, using(palm_text::proofs::Parts::then, palm_text::proofs::Parts::stops), unfolding(crate::specs::Drawing::framed_text))]
+pub(crate) fn put_framed<W: Write>(
+    out: &mut Counted<W>,
+    line: u32,
+    rows: u32,
+    strips: &[Strip],
+) -> Result<(), WriteFault>
+    requires line { 64 ≤ line }
+    requires small { line < 2 ^ 24 }
+    requires rows { rows < 2 ^ 26 }
+    requires offsets { line * rows < 2 ^ 32 }
+    requires inside { All (λ strip. strip.at + strip.size < 2 ^ 24) strips.now }
+    ensures { Writes W.contents out.old out.new (framed_text line rows strips.now) (is_ok result) }
+{
+    put_frame(out, line, rows)?;
+    put_labelled_strips(out, line, rows, strips)
+}

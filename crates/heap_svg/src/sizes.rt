@@ -1,0 +1,148 @@
+//! Free pieces by size.
+
+ghost use Rattle.std.specs.Prelude.{◌≡◌, ◌<◌, ◌≤◌, ◌+◌, ◌*◌, ◌^◌, count_by, length, slice_index, is_ok};
+ghost use Rattle.palm_text.specs.Counted.{Writes};
+ghost use Rattle.heap_svg.specs.Legend as texts;
+ghost use Rattle.heap_svg.specs.Legend.{pieces_text, size_note, size_notes, size_text, sizes_head};
+
+use palm_text::{Counted, Piece, WriteFault, put_pieces};
+use std::io::Write;
+
+/// The classes of pieces by size. A piece of a class has at least the bytes of the class, and fewer
+/// than twice as many.
+const LEAST_SIZES: [u32; 21] = [
+    8, 16, 32, 64, 128, 256, 512, 1024, 2048, 4096, 8192, 16384, 32768, 65536, 131072, 262144,
+    524288, 1048576, 2097152, 4194304, 8388608,
+];
+
+/// Returns the least size of the class with an index.
+fn least_size(index: u32) -> u32
+    requires { index < 21 }
+    ensures is { result ≡ slice_index LEAST_SIZES index }
+    ensures small { result < 2 ^ 31 }
+{
+    LEAST_SIZES[index as usize]
+}
+
+/// Returns whether a piece of this size belongs to a class.
+fn is_of(least: u32, size: u32) -> bool
+    requires { least < 2 ^ 31 }
+    ensures { result ≡ texts.is_of least size }
+{
+    least <= size && size < 2 * least
+}
+
+/// Returns the number of pieces of a class.
+#[tactic(auto, using(std::proofs::lemmas::List::Sums::count_by_more_yes, std::proofs::lemmas::List::Sums::count_by_more_no))]
+fn count_of(pieces: &[u32], least: u32) -> u32
+    requires least { least < 2 ^ 31 }
+    requires few { length pieces.now < 2 ^ 32 }
+    ensures { result ≡ count_by (texts.is_of least) pieces.now }
+{
+    let mut count = 0;
+    for size in pieces {
+        if is_of(least, *size) {
+            count += 1;
+        }
+    }
+    count
+}
+
+/// Writes the number of pieces of a class, at the place of an index.
+#[tactic(auto, unfolding(crate::specs::Legend::size_text))]
+fn put_size<W: Write>(
+    out: &mut Counted<W>,
+    top: u32,
+    index: u32,
+    least: u32,
+    count: u32,
+) -> Result<(), WriteFault>
+    requires top { top < 2 ^ 31 }
+    requires index { index < 21 }
+    ensures { Writes W.contents out.old out.new (size_text top index least count) (is_ok result) }
+{
+    put_pieces(
+        out,
+        &[
+            Piece::Text(b"<text x=\""),
+            Piece::Number(142 * (index % 7) + 74),
+            Piece::Text(b"\" y=\""),
+            Piece::Number(18 * (index / 7) + (top + 18)),
+            Piece::Text(b"\">"),
+            Piece::Number(least),
+            Piece::Text(b": "),
+            Piece::Number(count),
+            Piece::Text(b"</text>\n"),
+        ],
+    )
+}
+
+/// Writes the number of pieces of a class if there are any.
+#[tactic(auto, using(palm_text::proofs::Parts::nothing, crate::proofs::ChoiceLaws::when_none, crate::proofs::ChoiceLaws::when_some), unfolding(crate::specs::Legend::size_note))]
+fn put_size_note<W: Write>(
+    out: &mut Counted<W>,
+    top: u32,
+    index: u32,
+    least: u32,
+    count: u32,
+) -> Result<(), WriteFault>
+    requires top { top < 2 ^ 31 }
+    requires index { index < 21 }
+    ensures { Writes W.contents out.old out.new (size_note top index least count) (is_ok result) }
+{
+    if count == 0 {
+        Ok(())
+    } else {
+        put_size(out, top, index, least, count)
+    }
+}
+
+/// Writes the number of pieces of each class.
+fn put_size_notes<W: Write>(
+    out: &mut Counted<W>,
+    top: u32,
+    pieces: &[u32],
+) -> Result<(), WriteFault>
+    requires top { top < 2 ^ 31 }
+    requires few { length pieces.now < 2 ^ 32 }
+    ensures { Writes W.contents out.old out.new (size_notes top pieces.now) (is_ok result) }
+{
+    for index in 0..21u32 {
+        let least = least_size(index);
+        match put_size_note(out, top, index, least, count_of(pieces, least)) {
+            Ok(()) => {}
+            Err(fault) => return Err(fault),
+        }
+    }
+    Ok(())
+}
+
+/// Writes the line above the classes.
+#[tactic(auto, unfolding(crate::specs::Legend::sizes_head))]
+fn put_sizes_head<W: Write>(out: &mut Counted<W>, top: u32) -> Result<(), WriteFault>
+    ensures { Writes W.contents out.old out.new (sizes_head top) (is_ok result) }
+{
+    put_pieces(
+        out,
+        &[
+            Piece::Text(b"<text x=\"74\" y=\""),
+            Piece::Number(top),
+            Piece::Text(b"\">free pieces by size, from:</text>\n"),
+        ],
+    )
+}
+
+/// Writes the free pieces by size, from `top` pixels on.
+#[tactic(auto, using(palm_text::proofs::Parts::then, palm_text::proofs::Parts::stops), unfolding(crate::specs::Legend::pieces_text))]
+pub(crate) fn put_pieces_by_size<W: Write>(
+    out: &mut Counted<W>,
+    top: u32,
+    pieces: &[u32],
+) -> Result<(), WriteFault>
+    requires top { top < 2 ^ 31 }
+    requires few { length pieces.now < 2 ^ 32 }
+    ensures { Writes W.contents out.old out.new (pieces_text top pieces.now) (is_ok result) }
+{
+    put_sizes_head(out, top)?;
+    put_size_notes(out, top, pieces)
+}
