@@ -1,5 +1,5 @@
 -- No word is said of a file exactly if it is its canonical form.
-use Rattle.std.proofs.Common.{◌≡◌, ℕ, ◌≤◌, Bool, true, false, Option, List, length, refl, sym, ap, ◌∙◌}
+use Rattle.std.proofs.Common.{◌≡◌, ℕ, ◌≤◌, Bool, true, false, Option, List, length, refl, sym, ap, subst, ◌∙◌}
 use Rattle.std.specs.Prelude.{◌↔◌, ◌||◌, not, IsTrue, IsFalse}
 use Rattle.heap_model.specs.Bytes.{AreBytes}
 use Rattle.heap_model.specs.Database.{Database, HasName}
@@ -7,6 +7,7 @@ use Rattle.heap_model.specs.Store.{unique_ids}
 use Rattle.heap_model.specs.Files.{HasNoFault, file_of}
 use Rattle.pdb_format.specs.ReadFiles.{database_read}
 use Rattle.pdb_format.proofs.FileNames.{file_named}
+use Rattle.pdb_format.proofs.ReadFiles.{reads}
 use Rattle.pdb_format.proofs.ReadOnce.{read_once}
 use Rattle.canonical_file.specs.Canonical.{IsCanonical}
 use Rattle.file_changes.specs.declared.changes.Changes.{Changes}
@@ -102,6 +103,13 @@ are_changes file ids seed changes bytes short good given tested =
           let written = canonical_is file form d known is in
           (λ e. written ∙ both.0 e, λ same. both.1 (sym written ∙ same)));
     }
+
+-- a file of which no word is said is its own canonical form
+pub same_form : (file ids : List ℕ) (seed : ℕ) (changes : Changes) → HasNoFault file → AreGivenIn file ids seed → AreChanges file changes → IsTrue (is_none changes) → IsCanonical file file
+same_form file ids seed changes good given are none =
+    let d : Database (Option (List ℕ)) = database_read file ids seed in
+    let form : IsCanonical file (file_of d) = record { database = d; reads = reads file ids seed good given.have; written = refl } in
+    subst (IsCanonical file) ((are.canonical (file_of d) form).0 none) form
 
 -- ---- the name
 

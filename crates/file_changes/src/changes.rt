@@ -1,9 +1,9 @@
 //! The changes of a file.
 
-ghost use Rattle.std.specs.Prelude.{◌≡◌, ◌≤◌, ℕ, length, IfOk, OnErr, All};
+ghost use Rattle.std.specs.Prelude.{◌≡◌, ◌≤◌, ℕ, IsTrue, length, IfOk, OnErr, All};
 ghost use Rattle.heap_model.specs.Bytes.{AreBytes};
 ghost use Rattle.heap_model.specs.Files.{HasNoFault};
-ghost use Rattle.canonical_file.specs.Canonical.{most_bytes};
+ghost use Rattle.canonical_file.specs.Canonical.{IsCanonical, most_bytes};
 ghost use Rattle.file_changes.specs.Changes as words;
 ghost use Rattle.file_changes.specs.Changes.{AreChanges};
 ghost use Rattle.file_changes.specs.Given.{AreGivenIn};
@@ -63,7 +63,8 @@ fn changes_by(file: &[u8], given: &GivenIds) -> Changes
     }
 }
 
-/// Returns the changes of a file without fault when it is rewritten.
+/// Returns the changes of a file without fault when it is rewritten. If there are none, the file is
+/// its own canonical form.
 ///
 /// It allocates a set of IDs and the IDs of the records (see `file_ids`). It doesn't allocate the
 /// canonical form.
@@ -75,6 +76,8 @@ pub fn find_changes<A: Allowance>(memory: &A, file: &[u8]) -> Result<Changes, Al
     requires good { HasNoFault file.now }
     requires short { length file.now ≤ most_bytes }
     ensures changes { IfOk result (AreChanges file.now) }
+    ensures same { IfOk result (λ changes.
+        IsTrue (words.is_none changes) → IsCanonical file.now file.now) }
     ensures short { OnErr result (A.is_short memory.now) }
 {
     let given = give_ids_from(memory, file)?;

@@ -1,11 +1,11 @@
 -- What is written and then flushed.
-use Rattle.std.proofs.Common.{◌++◌, ℕ, Bool, true, false, Option, List, subst, inl}
+use Rattle.std.proofs.Common.{◌++◌, ℕ, Bool, true, false, Option, List, length, refl, subst, inl}
 use Rattle.heap_model.specs.Files.{IsFirstFault}
 use Rattle.heap_model.specs.declared.file_fault.FileFault.{FileFault}
-use Rattle.palm_text.specs.Counted.{Writing, Flushes}
+use Rattle.palm_text.specs.Counted.{Writing, Writes, Flushes}
 use Rattle.palm_text.specs.Output.{Puts}
 use Rattle.palm_text.proofs.Parts.{then_flush}
-use Rattle.canonical_file.specs.Canonical.{WritesCanonical, WroteCanonical}
+use Rattle.canonical_file.specs.Canonical.{IsCanonical, WritesCanonical, WroteCanonical}
 use Rattle.file_changes.specs.Changes.{AreChanges, changes_line}
 use Rattle.file_listing.specs.FaultLines.{fault_lines}
 use Rattle.file_listing.specs.Listing.{WritesListing}
@@ -23,6 +23,14 @@ module _ {V : Type 0} (contents : V → Option (List ℕ)) where
   -- a write of it failed
   pub listing_stops : (old new : Writing V) (file : List ℕ) → WritesListing file contents old new false → PutsListing file contents old new false
   listing_stops old new file listing = (listing.0, listing.1, inl listing.2)
+
+  -- a file that is its own canonical form
+  pub wrote_same : (old new : Writing V) (file : List ℕ) → IsCanonical file file → Writes contents old new file true → WroteCanonical file contents old new (length file)
+  wrote_same old new file same writes = (file, same, refl, writes)
+
+  -- or a prefix of it
+  pub cut_same : (old new : Writing V) (file : List ℕ) → IsCanonical file file → Writes contents old new file false → WritesCanonical file contents old new false
+  cut_same old new file same writes = (file, same, writes)
 
   -- a canonical form, and the flush after it
   pub puts_whole : (old between new : Writing V) (file : List ℕ) (rewritten : Rewritten) → AreChanges file rewritten.changes → WroteCanonical file contents old between rewritten.count → Flushes contents between new true → WroteWhole file contents old new rewritten

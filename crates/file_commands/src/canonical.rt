@@ -1,16 +1,17 @@
 //! The command `canonical`.
 
-ghost use Rattle.std.specs.Prelude.{◌≡◌, ◌≢◌, ◌≤◌, length, Err, IfErr, IfOk};
+ghost use Rattle.std.specs.Prelude.{◌≡◌, ◌≢◌, ◌≤◌, length, false, Err, IfErr, IfOk, IsTrue, OnOk};
 ghost use Rattle.allowance.specs.Refusals.{GrowthRefused};
-ghost use Rattle.canonical_file.specs.Canonical.{IsFaultOf, most_bytes};
-ghost use Rattle.file_changes.specs.Changes.{AreChanges};
+ghost use Rattle.heap_model.specs.Files.{HasNoFault};
+ghost use Rattle.canonical_file.specs.Canonical.{IsCanonical, IsFaultOf, WritesCanonical, WroteCanonical, most_bytes};
+ghost use Rattle.file_changes.specs.Changes.{AreChanges, is_none};
 ghost use Rattle.file_commands.specs.Ends.{EndsCanonical, PutsPart, WroteWhole};
 
 use crate::faults::{Rewritten, flushed, put_rewritten, say_fault};
 use allowance::Allowance;
 use canonical_file::{CanonicalFault, put_canonical};
 use file_changes::{Changes, find_changes};
-use palm_text::Counted;
+use palm_text::{Counted, put_all};
 use pdb_format::check_file;
 use program_io::Status;
 use std::alloc::Global;
@@ -75,9 +76,38 @@ fn put_flushed<A: Allowance, W: Write>(
     ensures short { result ≡ Err CanonicalFault.OutOfMemory → A.is_short memory.now }
 {
     let changes = changes_of(memory, file)?;
-    let count = put_canonical(memory, file, file_out)?;
+    let count = put_form(memory, file, changes, file_out)?;
     match flushed(file_out) {
         Ok(()) => Ok(Rewritten { count, changes }),
+        Err(_) => Err(CanonicalFault::Write),
+    }
+}
+
+/// Writes the canonical form of a file with these changes, and returns its size in bytes. Without
+/// changes the form is the file, so nothing is allocated.
+#[tactic(auto, using(crate::proofs::Printed::wrote_same, crate::proofs::Printed::cut_same))]
+fn put_form<A: Allowance, W: Write>(
+    memory: &A,
+    file: &[u8],
+    changes: Changes,
+    file_out: &mut Counted<W>,
+) -> Result<usize, CanonicalFault>
+    requires short { length file.now ≤ most_bytes }
+    requires good { HasNoFault file.now }
+    requires same { IsTrue (is_none changes) → IsCanonical file.now file.now }
+    ensures done { IfOk result (WroteCanonical file.now W.contents file_out.old file_out.new) }
+    ensures why { IfErr result (IsFaultOf file.now) }
+    ensures untouched { IfErr result (λ fault.
+        fault ≢ CanonicalFault.Write → file_out.new ≡ file_out.old) }
+    ensures write { result ≡ Err CanonicalFault.Write
+        → WritesCanonical file.now W.contents file_out.old file_out.new false }
+    ensures short { result ≡ Err CanonicalFault.OutOfMemory → A.is_short memory.now }
+{
+    if !changes.is_none() {
+        return put_canonical(memory, file, file_out);
+    }
+    match put_all(file_out, file) {
+        Ok(()) => Ok(file.len()),
         Err(_) => Err(CanonicalFault::Write),
     }
 }
@@ -86,6 +116,9 @@ fn put_flushed<A: Allowance, W: Write>(
 fn changes_of<A: Allowance>(memory: &A, file: &[u8]) -> Result<Changes, CanonicalFault>
     requires { length file.now ≤ most_bytes }
     ensures done { IfOk result (AreChanges file.now) }
+    ensures same { IfOk result (λ changes.
+        IsTrue (is_none changes) → IsCanonical file.now file.now) }
+    ensures good { OnOk result (HasNoFault file.now) }
     ensures why { IfErr result (IsFaultOf file.now) }
     ensures writes_nothing { result ≢ Err CanonicalFault.Write }
     ensures short { result ≡ Err CanonicalFault.OutOfMemory → A.is_short memory.now }
