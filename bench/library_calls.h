@@ -10,9 +10,10 @@
 /* The result of a call: DONE, or the number of a refusal. */
 enum refusal { DONE, LAST_REFUSAL = PALMHEAP_REFUSED_LENT };
 
-/* An open store, and room for its image. */
+/* An open store, the loan of one of its chunks, and room for its image. */
 struct heap {
     palmheap_store store;
+    palmheap_loan loan;
     uint8_t *image;
     uint32_t len;
     bool is_open;
@@ -113,16 +114,17 @@ static enum refusal heap_write(struct heap *heap, uint32_t name, uint32_t at, co
     return palmheap_DmWrite(&heap->store, name, at, bytes, count);
 }
 
-/* The library lends no bytes: these are read. */
 static enum refusal heap_take_out(struct heap *heap, uint32_t name, uint8_t **bytes, uint32_t *length)
 {
-    enum refusal refusal = heap_size(heap, name, length);
-    return refusal != DONE ? refusal : heap_read(heap, name, 0, *length, (const uint8_t **)bytes);
+    enum refusal refusal = palmheap_take_out(&heap->store, name, &heap->loan);
+    *bytes = heap->loan.bytes;
+    *length = (uint32_t)heap->loan.count;
+    return refusal;
 }
 
 static void heap_put_back(struct heap *heap)
 {
-    (void)heap;
+    palmheap_put_back(&heap->store, &heap->loan);
 }
 
 static uint32_t free_bytes(const struct heap *heap)

@@ -81,7 +81,8 @@ typedef struct palmheap_counts {
     uint32_t databases;
 } palmheap_counts;
 
-/* Where a block stands in a file, if it is there: from its start up to its end, in bytes from the file's start. */
+/* Where a block stands in a file, if it is there: from its start up to its end, in bytes from the file's start. Both
+ * are at most the size of the file. */
 typedef struct palmheap_block {
     size_t start;
     size_t end;

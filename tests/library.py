@@ -127,6 +127,7 @@ def compare(program, count):
 # ---- calls
 
 LINES = 200
+LENT = 27
 CHUNKS = [f"h{it}" for it in range(12)]
 DATABASES = [f"d{it}" for it in range(4)]
 SMALL = (0, 0, 1, 1, 2, 3, 5, 8, 20, 70, 1000)
@@ -155,6 +156,7 @@ class Calls:
     def __init__(self, rng, store, files):
         self.rng, self.store, self.files = rng, store, files
         self.names, self.databases, self.lines, self.replies, self.exported = {}, {}, [], [], []
+        self.lent, self.loans, self.refused = None, 0, []
 
     # -- what the store has
 
@@ -257,7 +259,7 @@ class Calls:
         try:
             told = self.store.call(name, *given)
         except palmheap.Refused as refused:
-            self.replies.append(("refused", refused.number))
+            self.refuse(refused.number)
             return
         if binds:
             table, label, part = binds
@@ -271,7 +273,17 @@ class Calls:
             found = self.store.bytes_by(name, *given)
             self.replies.append(("ok", shown(found)))
         except palmheap.Refused as refused:
-            self.replies.append(("refused", refused.number))
+            self.refuse(refused.number)
+
+    def refuse(self, number):
+        """Notes a refusal. A script lends nothing, so it gets no line that is refused because a chunk is lent."""
+        self.refused.append(number)
+        if number != LENT:
+            self.replies.append(("refused", number))
+            return
+        if not self.lent:
+            sys.exit(f"line {self.lines[-1]!r}: nothing is lent, and the call is refused")
+        self.lines.pop()
 
     def to_chunk(self, label, part=lambda told: told):
         return (self.names, label, part)
@@ -584,6 +596,47 @@ class Calls:
         d = self.database(True)
         self.line(f"rescount {d}", "DmNumResources", self.db(d), shown=number)
 
+    # -- loans
+
+    def loan(self):
+        (self.put_back if self.lent else self.take_out)()
+
+    def take_out(self):
+        """Takes a chunk out, and writes half of it. For the script it is a call that writes all of it: until the chunk is
+        put back, each call that could tell the difference is refused."""
+        h = self.writable()
+        name = self.name(h)
+        try:
+            loan = self.store.take_out(name)
+        except palmheap.Refused as refused:
+            self.lines.append(f"write {h} 0 -")
+            self.refuse(refused.number)
+            return
+        data = bytes(self.rng.randrange(256) for _ in range(len(loan)))
+        half = len(data) // 2
+        loan[:half] = data[:half]
+        self.lines.append(f"write {h} 0 {data.hex() or '-'}")
+        self.replies.append(("ok", ""))
+        self.lent, self.loans = (name, loan, data), self.loans + 1
+
+    def put_back(self):
+        name, loan, data = self.lent
+        half = len(data) // 2
+        if self.store.lent() != name or bytes(loan[:half]) != data[:half]:
+            sys.exit(f"the lent chunk {name} has changed")
+        for call in (lambda: self.store.take_out(name), lambda: self.store.bytes_by("write_image"), self.store.close):
+            try:
+                call()
+            except palmheap.Refused as refused:
+                if refused.number == LENT:
+                    continue
+            sys.exit(f"the chunk {name} is lent, and a call is not refused")
+        loan[half:] = data[half:]
+        self.store.put_back()
+        self.lent = None
+        if self.store.lent() is not None or self.store.bytes_by("read", name, 0, len(data)) != data:
+            sys.exit(f"the chunk {name} has other bytes than were put back")
+
     # -- lines
 
     def rows(self):
@@ -609,7 +662,7 @@ class Calls:
             lambda: ask("compact", "MemHeapCompact"): 4,
             lambda: ask("moreslots", "more_slots"): 2,
             self.free_owner: 2,
-            self.create: 12,
+            self.create: 20,
             self.find: 4,
             self.nth: 6,
             lambda: ask("dbcount", "DmNumDatabases", shown=number): 4,
@@ -652,12 +705,15 @@ class Calls:
             self.find_resource: 4,
             self.find_type: 4,
             self.count_resources: 4,
+            self.loan: 20,
         }
 
     def draw(self, count):
         rows = self.rows()
         for row in self.rng.choices(list(rows), list(rows.values()), k=count):
             row()
+        if self.lent:
+            self.put_back()
 
 
 def number(told):
@@ -676,7 +732,7 @@ def shown_info(info):
 
 
 def do_list(library, rng, program, room):
-    """Does a list of calls by an open store and by the program. Returns how many were refused."""
+    """Does a list of calls by an open store and by the program. Returns the refusals, and the number of loans."""
     files = list(FILES.values())
     image = library.new(rng.choice((2048, 8192, 65536)), rng.choice((8, 40, 300)))
     with library.open(image) as store:
@@ -699,18 +755,20 @@ def do_list(library, rng, program, room):
         wanted = f"ok{told}" if kind == "ok" else f"refused {told} {library.refusal_name(told)} "
         if not (reply == wanted if kind == "ok" else f"{reply} ".startswith(wanted)):
             sys.exit(f"line {line!r}: a call has {wanted!r}, and the script {reply!r}")
-    return [told for kind, told in calls.replies if kind == "refused"]
+    return calls.refused, calls.loans
 
 
 def compare_calls(program, count):
-    library, rng, refused = palmheap.Library(), random.Random(SEED), []
+    library, rng, refused, loans = palmheap.Library(), random.Random(SEED), [], 0
     if [library.refusal_name(it) for it in (0, 28, 1 << 31)] != [None] * 3:
         sys.exit("a number of no refusal has a name")
     with tempfile.TemporaryDirectory() as room:
         for _ in range(0, count, LINES):
-            refused += do_list(library, rng, program, room)
+            more_refused, more_loans = do_list(library, rng, program, room)
+            refused, loans = refused + more_refused, loans + more_loans
     met = ", ".join(f"{refused.count(it)} {library.refusal_name(it)}" for it in sorted(set(refused)))
     print(f"{count} calls answer as lines of scripts do; {len(refused)} were refused: {met}")
+    print(f"{loans} loans were put back")
     if 2 * len(refused) > count:
         sys.exit("more than half of the calls were refused")
 

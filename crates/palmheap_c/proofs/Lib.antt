@@ -1,4 +1,5 @@
 pub mod AnswerLaws
+pub mod BlockLaws
 pub mod CallLaws
 pub mod NameLaws
 pub mod RefusalLaws

@@ -1,6 +1,8 @@
 -- The name of a database, from the field of C.
-use Rattle.std.proofs.Common.{◌≡◌, ◌≤◌, ℕ, List, length, take, min, sym, ap, ◌∙◌, inl, inr, arith, length-take, take_all}
+use Rattle.std.proofs.Common.{◌≡◌, ◌≤◌, ℕ, List, ◌++◌, length, take, drop, replicate, min, sym, ap, ◌∙◌, inl, inr, arith, length-take, take_all}
 use Rattle.std.proofs.lemmas.Bool.{cases_lt}
+use Rattle.std.proofs.lemmas.List.{drop-replicate}
+use Rattle.heap_model.specs.Database.{name_field}
 
 pub name_told : (bytes : List ℕ) (count : ℕ) → length bytes ≡ 32 → take 32 (take (min 32 count) bytes) ≡ take count bytes
 name_told bytes count size = elim (cases_lt count 32) [
@@ -14,3 +16,8 @@ name_told bytes count size = elim (cases_lt count 32) [
       ap (λ (n : ℕ). take 32 (take n bytes)) least ∙ take_all 32 (take 32 bytes) long
       ∙ take_all 32 bytes (omega arith) ∙ sym (take_all count bytes (omega arith))
 ]
+
+-- the name and the zeros after it are the field of the name
+pub field_filled : (name : List ℕ) → name ++ drop (length name) (replicate 32 0) ≡ name_field name
+unfolding name_field
+field_filled name = ap (λ (rest : List ℕ). name ++ rest) (drop-replicate (length name) 32 0)

@@ -1,6 +1,7 @@
 -- The places of the blocks of a file, for C.
-use Rattle.std.specs.Prelude.{◌≡◌, ◌<◌, ◌⊎◌, ℕ, List, Option, Some, None, if◌then◌else◌, length, map, take, slice_range}
+use Rattle.std.specs.Prelude.{◌≡◌, ◌<◌, ◌≤◌, ◌⊎◌, ℕ, List, Option, Some, None, false, true, if◌then◌else◌, All, length, map, take, drop, slice_range}
 use Rattle.heap_model.specs.Files.{HasNoFault, blocks_in}
+use Rattle.pdb_format.specs.declared.blocks.Block as files
 use Rattle.palmheap_c.specs.declared.answers.Answer.{Answer}
 use Rattle.palmheap_c.specs.declared.blocks.Block.{Block}
 use Rattle.palmheap_c.specs.Answers.{IsFileFault, WantsMemory, no_fault, no_room}
@@ -9,11 +10,23 @@ use Rattle.palmheap_c.specs.Answers.{IsFileFault, WantsMemory, no_fault, no_room
 abbrev pub found : List ℕ → Block → Option (List ℕ)
 found file block = if block.is_there then Some (slice_range file block.start block.end) else None
 
--- the file has no fault, and the first `count` of these blocks are its blocks
-pub record AreBlocks (file : List ℕ) (blocks : List Block) (count : ℕ) : Type 0 where
+-- the place of a block, if the file has the block
+abbrev pub placed : Option files.Block → Block
+placed None = record { start = 0; end = 0; is_there = false }
+placed (Some block) = record { start = block.start; end = block.end; is_there = true }
+
+-- the place lies within the first `size` bytes
+abbrev pub IsInside : ℕ → Block → Type 0
+IsInside size block = (block.start ≤ block.end) × (block.end ≤ size)
+
+-- The file has no fault. The first `count` of the new places lie within it, and are those of its
+-- blocks. The other places are unchanged.
+pub record AreBlocks (file : List ℕ) (old new : List Block) (count : ℕ) : Type 0 where
   pub good : HasNoFault file
   pub counted : count ≡ length (blocks_in file)
-  pub are : map (found file) (take count blocks) ≡ blocks_in file
+  pub are : map (found file) (take count new) ≡ blocks_in file
+  pub inside : All (IsInside (length file)) (take count new)
+  pub others : drop count new ≡ drop count old
 
 -- the file has no fault, and there are too few places for its blocks
 pub record HasMoreBlocks (file : List ℕ) (old new : List Block) (count : ℕ) : Type 0 where
@@ -28,6 +41,6 @@ pub record HasMoreBlocks (file : List ℕ) (old new : List Block) (count : ℕ) 
 -- - The file has a fault, or an allocation failed. The places and the count are unchanged.
 abbrev pub IsBlocksAnswer : List ℕ → (old new : List Block) → (was count : ℕ) → Answer → Type 0
 IsBlocksAnswer file old new was count found =
-    ((found ≡ no_fault) × AreBlocks file new count)
+    ((found ≡ no_fault) × AreBlocks file old new count)
     ⊎ (((found ≡ no_room) × HasMoreBlocks file old new count)
     ⊎ ((WantsMemory found ⊎ IsFileFault file found) × (new ≡ old) × (count ≡ was)))

@@ -2,6 +2,7 @@
 //! The contract of each function is the step of the abstract store for its call.
 
 ghost use Rattle.std.specs.Prelude.{◌≡◌, ◌≢◌, take};
+ghost use Rattle.heap_model.specs.Database.{name_field};
 ghost use Rattle.heap_model.specs.declared.call.Call as calls;
 ghost use Rattle.heap_model.specs.declared.call.DatabaseCall.{DatabaseCall};
 ghost use Rattle.heap_model.specs.declared.call.Reply.{Reply};
@@ -121,6 +122,7 @@ pub extern "C" fn palmheap_DmNumDatabases(store: &mut Kept, count: &mut u32) -> 
 pub extern "C" fn palmheap_DmDatabaseInfo(store: &mut Kept, db: u32, info: &mut DatabaseInfo) -> u32
     ensures does { Does store.old.store (calls.Call.Database (DatabaseCall.Info (numbered db)))
         (Reply.Info (database_told info.new)) result store.new.store }
+    ensures field { result ≡ 0 → info.new.name ≡ name_field (take info.new.name_length info.new.name) }
     ensures left { result ≢ 0 → info.new ≡ info.old }
 {
     match store.as_mut().database_info(Db(db)) {

@@ -1,9 +1,9 @@
 //! Functions on PDB and PRC files (Palm OS File Format Specification). They keep no state between
 //! calls.
 
-ghost use Rattle.std.specs.Prelude.{◌≡◌, ◌⊎◌, map, IfOk, IfErr};
+ghost use Rattle.std.specs.Prelude.{◌≡◌, ◌⊎◌, All, length, map, IfOk, IfErr};
 ghost use Rattle.heap_model.specs.Files.{HasNoFault, blocks_in};
-ghost use Rattle.pdb_format.specs.Blocks.{bytes_at};
+ghost use Rattle.pdb_format.specs.Blocks.{IsWithin, bytes_at};
 ghost use Rattle.canonical_file.specs.Canonical.{IsCanonical};
 ghost use Rattle.file_listing.specs.Listing.{IsListing};
 ghost use Rattle.palmheap_c.specs.Answers.{IsFileAnswer, IsFileFault, IsFileRefusal, WantsMemory};
@@ -36,6 +36,7 @@ pub extern "C" fn palmheap_pdb_check(file: &[u8]) -> Answer
 
 /// Finds the places of the blocks of a file: the AppInfo block, the SortInfo block, and the data of
 /// the entries in order. Sets `count` to their number, also if `blocks` is too short for them.
+#[tactic(auto, using(crate::proofs::BlockLaws::are_blocks))]
 #[unsafe(no_mangle)]
 pub extern "C" fn palmheap_pdb_blocks(
     alloc: Global,
@@ -61,6 +62,7 @@ pub extern "C" fn palmheap_pdb_blocks(
 fn blocks_of(alloc: Global, file: &[u8]) -> Result<Vec<Option<FileBlock>>, Answer>
     ensures good { IfOk result (λ blocks. HasNoFault file.now) }
     ensures are { IfOk result (λ blocks. map (bytes_at file.now) blocks.items ≡ blocks_in file.now) }
+    ensures inside { IfOk result (λ blocks. All (IsWithin (length file.now)) blocks.items) }
     ensures memory { IfErr result (λ answer. WantsMemory answer ⊎ IsFileFault file.now answer) }
 {
     if let Err(fault) = check_file(file) {

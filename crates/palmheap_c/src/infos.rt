@@ -1,6 +1,7 @@
 //! The fields of headers and entries of databases, as C sees them.
 
 ghost use Rattle.std.specs.Prelude.{◌≡◌, take};
+ghost use Rattle.heap_model.specs.Database.{name_field};
 ghost use Rattle.palmheap_c.specs.Infos.{database_told, record_told, resource_told};
 
 use heap_model::{DbInfo, DbName};
@@ -43,8 +44,10 @@ pub struct ResourceInfo {
     pub id: u16,
 }
 
+#[tactic(auto, using(crate::proofs::NameLaws::field_filled))]
 pub(crate) fn of_database(info: &DbInfo) -> DatabaseInfo
-    ensures { database_told result ≡ info.now }
+    ensures told { database_told result ≡ info.now }
+    ensures field { result.name ≡ name_field info.now.name }
 {
     let bytes = info.name.as_slice();
     let mut name = [0; 32];
