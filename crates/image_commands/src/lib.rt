@@ -17,7 +17,8 @@
 //! | `commands` | the commands `new` and `check`, over bytes |
 //! | `migrate_command` | the command `migrate`, over bytes: an image gets a chain of tables |
 //! | `image_output` | images that are written |
-//! | `map_command` | the command `map`, over bytes: a picture of an image |
+//! | `map_command` | the command `map`, over bytes: a picture of an image as text |
+//! | `draw_command` | the same, with an output file: a picture of an image as SVG |
 //! | `images` | the commands `new`, `check` and `migrate`, over files |
 //! | `maps` | the command `map`, over files |
 //! | `file_listings` | the commands `list` and `canonical`, over files |
@@ -30,6 +31,7 @@
 
 mod commands;
 mod documents;
+mod draw_command;
 mod faults;
 mod file_listings;
 mod files;
@@ -43,6 +45,7 @@ mod suggestions;
 
 pub use commands::{check_region_from, cmd_check, cmd_check_from, cmd_new, cmd_new_from};
 pub use documents::{check_json, list_json, report_document};
+pub use draw_command::{cmd_draw, cmd_draw_from, draw_region_from};
 pub use faults::{STANDARD_OUTPUT, fail};
 pub use file_listings::{canonical, list};
 pub use files::{
@@ -53,6 +56,6 @@ pub use folders::{pack, path_in, unpack};
 pub use image_output::put_store;
 pub use images::{check, migrate, new};
 pub use map_command::{cmd_map, cmd_map_from, map_region_from};
-pub use maps::map;
+pub use maps::{draw, map};
 pub use migrate_command::{cmd_migrate, cmd_migrate_from, migrate_region_from};
 pub use suggestions::{looks_like_file, suggest_list};

@@ -1,18 +1,21 @@
 //! The command `map`, over files.
 
-ghost use Rattle.std.specs.Prelude.{◌≢◌};
+ghost use Rattle.std.specs.Prelude.{◌≡◌, ◌≢◌, None};
 
-use crate::faults::{STANDARD_OUTPUT, fail};
+use crate::draw_command::draw_region_from;
+use crate::faults::{STANDARD_ERROR, STANDARD_OUTPUT, STANDARD_STREAM, fail};
 use crate::files::read_image;
 use crate::map_command::map_region_from;
 use crate::suggestions::{looks_like_file, suggest_list};
 use palm_text::Counted;
-use program_io::{Noted, Status, report_outcome};
+use program_io::{ErrorOutput, Noted, OutputFile, Status, report_outcome};
+use raw_region::Region;
+use std::alloc::Global;
 use std::io;
-use std::io::{BufWriter, Input};
+use std::io::{BufWriter, Input, Write};
 use std::rt::Files;
 
-/// Runs `map` on the image at a path: prints its picture. The path `-` means standard input.
+/// Runs `map`: prints the picture of the image at a path as text. The path `-` means standard input.
 pub fn map<R: Files + Input + Print + Eprint + AllocGlobal>(rt: &R, path: &str) -> Status
     ensures { result ≢ Status.BadWords }
 {
@@ -20,15 +23,109 @@ pub fn map<R: Files + Input + Print + Eprint + AllocGlobal>(rt: &R, path: &str) 
         Ok(image) => image,
         Err(status) => return status,
     };
+    let status = print_map(rt, &image);
+    suggest_list(rt, path, status, looks_like_file(&image));
+    status
+}
+
+/// Runs `map` with an output file: writes the picture of the image at a path as SVG. The path `-`
+/// means standard input. The output path `-` means standard output, and then the reply goes to
+/// standard error.
+pub fn draw<R: Files + Input + Print + Eprint + AllocGlobal>(
+    rt: &R,
+    path: &str,
+    out_path: &str,
+) -> Status
+    ensures { result ≢ Status.BadWords }
+{
+    let image = match read_image(rt, path) {
+        Ok(image) => image,
+        Err(status) => return status,
+    };
+    let status = if out_path == STANDARD_STREAM {
+        draw_to_output(rt, &image)
+    } else {
+        draw_to_file(rt, &image, out_path)
+    };
+    suggest_list(rt, path, status, looks_like_file(&image));
+    status
+}
+
+/// Prints the picture of an image as text.
+fn print_map<R: Print + Eprint + AllocGlobal>(rt: &R, image: &Region) -> Status
+    requires { image.now.lent ≡ None }
+    ensures { result ≢ Status.BadWords }
+{
     let Ok(out) = BufWriter::new(rt.alloc(), Noted::new(io::writer(rt))) else {
         return fail(rt, Status::NoMemory);
     };
     let mut out = Counted::new(out);
-    let status = map_region_from(&rt.alloc(), &image, &mut out);
+    let status = map_region_from(&rt.alloc(), image, &mut out);
     // What is left in `out` after a fault is thrown away. To drop it would write again.
     let (out, _) = out.into_inner().into_parts();
     let (_, fault) = out.into_parts();
     report_outcome(rt, status, &[(STANDARD_OUTPUT, fault)]);
-    suggest_list(rt, path, status, looks_like_file(&image));
+    status
+}
+
+/// Writes the picture of an image through a buffer. Returns the status with the first error of
+/// `file_out`.
+fn draw_buffered<W: Write + Drop, V: Write>(
+    alloc: Global,
+    image: &Region,
+    file_out: W,
+    out: &mut Counted<V>,
+) -> (Status, Option<io::Error>)
+    requires { image.now.lent ≡ None }
+    ensures { result.0 ≢ Status.BadWords }
+{
+    let Ok(file_out) = BufWriter::new(alloc, Noted::new(file_out)) else {
+        return (Status::NoMemory, None);
+    };
+    let mut file_out = Counted::new(file_out);
+    let status = draw_region_from(&alloc, image, &mut file_out, out);
+    // What is left in `file_out` after a fault is thrown away. To drop it would write again.
+    let (file_out, _) = file_out.into_inner().into_parts();
+    let (_, fault) = file_out.into_parts();
+    (status, fault)
+}
+
+/// Writes the picture of an image to standard output.
+fn draw_to_output<R: Print + Eprint + AllocGlobal>(rt: &R, image: &Region) -> Status
+    requires { image.now.lent ≡ None }
+    ensures { result ≢ Status.BadWords }
+{
+    let mut out = Counted::new(Noted::new(ErrorOutput::new(rt)));
+    let (status, file_fault) = draw_buffered(rt.alloc(), image, io::writer(rt), &mut out);
+    let (_, fault) = out.into_inner().into_parts();
+    report_outcome(
+        rt,
+        status,
+        &[(STANDARD_OUTPUT, file_fault), (STANDARD_ERROR, fault)],
+    );
+    status
+}
+
+/// Writes the picture of an image to a file.
+fn draw_to_file<R: Files + Print + Eprint + AllocGlobal>(
+    rt: &R,
+    image: &Region,
+    out_path: &str,
+) -> Status
+    requires { image.now.lent ≡ None }
+    ensures { result ≢ Status.BadWords }
+{
+    let Ok(mut file_out) = OutputFile::new(rt, out_path) else {
+        return fail(rt, Status::NoMemory);
+    };
+    let mut out = Counted::new(Noted::new(io::writer(rt)));
+    let (status, file_fault) = draw_buffered(rt.alloc(), image, &mut file_out, &mut out);
+    file_out.close();
+    let (_, fault) = out.into_inner().into_parts();
+    report_outcome(
+        rt,
+        status,
+        &[(out_path, file_fault), (STANDARD_OUTPUT, fault)],
+    );
     status
 }

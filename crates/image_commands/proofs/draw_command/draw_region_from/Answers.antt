@@ -1,0 +1,36 @@
+use Rattle.std.proofs.Common.{◌≡◌, true, false, subst, inl, inr, rules}
+use Rattle.palm_text.specs.Counted.{Writing}
+use Rattle.program_io.specs.FaultLines.{PutsBad}
+use Rattle.image_commands.proofs.Mapped.{not_accepted}
+use Rattle.image_commands.proofs.draw_command.draw_region_from.Goals as goal
+
+pub returns-in-Ok-clause-ends : goal.returns-in-Ok-clause-ends
+returns-in-Ok-clause-ends g c = record {
+  accepted = λ s. c.in-Ok.ensures.accepted;
+  drawn = λ s. c.in-Ok.ensures.done;
+  ok = λ s. c.say.ensures.said s;
+  refused = search rules;
+  bad = search rules;
+  no_file = search rules;
+  no_memory = search rules;
+  write_fault = λ s. inr (inl (c.in-Ok.ensures.accepted, c.in-Ok.ensures.done, c.say.ensures.fault s));
+  good_words = search rules;
+  reads_nothing = search rules;
+}
+
+pub returns-in-Err-BadImage-clause-ends : goal.returns-in-Err-BadImage-clause-ends
+returns-in-Err-BadImage-clause-ends g c =
+    let same : c.put_flushed.new.file_out ≡ c.args.file_out.now = c.in-Err-BadImage.ensures.untouched (λ e. cc) in
+    let not = not_accepted c.args.region.now.bytes _ _ c.in-Err-BadImage.field-0-is c.in-Err-BadImage.ensures.why in
+    record {
+      accepted = search rules;
+      drawn = search rules;
+      ok = search rules;
+      refused = λ is. not;
+      bad = λ is. c.say_bad.ensures.said is;
+      no_file = λ is. same;
+      no_memory = search rules;
+      write_fault = λ is. inr (inr (not, c.say_bad.ensures.fault is, same));
+      good_words = search rules;
+      reads_nothing = search rules;
+    }

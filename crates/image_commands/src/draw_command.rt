@@ -1,0 +1,93 @@
+//! The command `map` with an output file: the picture of an image, as SVG.
+
+ghost use Rattle.std.specs.Prelude.{◌≡◌, ◌≢◌, Err, IfErr, OnOk, None, true, false};
+ghost use Rattle.heap_model.specs.Store.{Accepted};
+ghost use Rattle.heap_map.specs.Pictures.{IsFaultOf};
+ghost use Rattle.image_commands.specs.Drawing.{EndsDraw, PutsDrawing};
+ghost use Rattle.allowance.specs.Refusals.{GrowthRefused};
+
+use allowance::Allowance;
+use heap_map::MapFault;
+use heap_svg::put_svg;
+use palm_text::Counted;
+use program_io::{Status, say, say_bad};
+use raw_region::Region;
+use std::alloc::Global;
+use std::io::Write;
+
+/// Writes the picture of an image as SVG to `file_out`, and then `ok` to `out`.
+///
+/// If the image is refused, prints `bad` and its first fault, and writes nothing to `file_out`.
+pub fn cmd_draw<W: Write, V: Write>(
+    alloc: Global,
+    image: &[u8],
+    file_out: &mut Counted<W>,
+    out: &mut Counted<V>,
+) -> Status
+    ensures ends { EndsDraw image.now W.contents file_out.old file_out.new
+        V.contents out.old out.new result }
+    ensures short { result ≡ Status.NoMemory → GrowthRefused }
+{
+    cmd_draw_from(&alloc, image, file_out, out)
+}
+
+/// Does the same as `cmd_draw`, with memory from an allowance.
+pub fn cmd_draw_from<A: Allowance, W: Write, V: Write>(
+    memory: &A,
+    image: &[u8],
+    file_out: &mut Counted<W>,
+    out: &mut Counted<V>,
+) -> Status
+    ensures ends { EndsDraw image.now W.contents file_out.old file_out.new
+        V.contents out.old out.new result }
+    ensures short { result ≡ Status.NoMemory → A.is_short memory.now }
+{
+    match Region::copied_from(memory, image) {
+        Ok(region) => draw_region_from(memory, &region, file_out, out),
+        Err(_) => Status::NoMemory,
+    }
+}
+
+/// Does the same as `cmd_draw_from` for an image in a region.
+pub fn draw_region_from<A: Allowance, W: Write, V: Write>(
+    memory: &A,
+    region: &Region,
+    file_out: &mut Counted<W>,
+    out: &mut Counted<V>,
+) -> Status
+    requires whole { region.now.lent ≡ None }
+    ensures ends { EndsDraw region.now.bytes W.contents file_out.old file_out.new
+        V.contents out.old out.new result }
+    ensures short { result ≡ Status.NoMemory → A.is_short memory.now }
+{
+    match put_flushed(memory, region, file_out) {
+        Ok(()) => say(b"ok\n", Status::Done, out),
+        Err(MapFault::BadImage(fault)) => say_bad(memory, fault, Status::Refused, out),
+        Err(MapFault::OutOfMemory) => Status::NoMemory,
+        Err(MapFault::Write) => Status::WriteFault,
+    }
+}
+
+/// Writes the picture of an image as SVG, and flushes.
+#[tactic(auto, using(crate::proofs::Drawn::flushed, crate::proofs::Drawn::flush_fails, crate::proofs::Drawn::stops))]
+fn put_flushed<A: Allowance, W: Write>(
+    memory: &A,
+    region: &Region,
+    file_out: &mut Counted<W>,
+) -> Result<(), MapFault>
+    requires whole { region.now.lent ≡ None }
+    ensures accepted { OnOk result (Accepted region.now.bytes) }
+    ensures done { OnOk result
+        (PutsDrawing region.now.bytes W.contents file_out.old file_out.new true) }
+    ensures why { IfErr result (IsFaultOf region.now.bytes) }
+    ensures untouched { IfErr result (λ fault. fault ≢ MapFault.Write → file_out.new ≡ file_out.old) }
+    ensures write { result ≡ Err MapFault.Write
+        → PutsDrawing region.now.bytes W.contents file_out.old file_out.new false }
+    ensures short { result ≡ Err MapFault.OutOfMemory → A.is_short memory.now }
+{
+    put_svg(memory, region, file_out)?;
+    match file_out.flush() {
+        Ok(()) => Ok(()),
+        Err(_) => Err(MapFault::Write),
+    }
+}
