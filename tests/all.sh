@@ -49,7 +49,7 @@ run 'grep' tests/growths.sh
 run 'rt' tests/dropped_loans.sh
 run 'rt' tests/program.sh
 run 'rt cmp' tests/hostile.sh
-run 'rt awk diff' tests/maps.sh
+run 'rt awk diff python3' tests/maps.sh
 run 'rt gcc python3' tests/library.sh 1000
 run 'rt perl Palm::PDB txt2pdbdoc pgmtoimgv imgvtopnm' tests/peers.sh
 run 'rt cc python3' bench/check_heap.sh 1 1

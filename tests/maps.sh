@@ -1,12 +1,14 @@
 #!/bin/sh
-# Runs 'palmheap map' on five images, and compares each picture with the one in tests/maps.
+# Runs 'palmheap map' on five images, and compares each picture as text with the one in tests/maps, and each as SVG with
+# what tests/maps/picture.py draws.
 #
 #   tests/maps.sh [PROGRAM]
 #
 # PROGRAM is the one that ../palmheap builds, if none is given. The images are a blank one; one with databases, of which
 # half the records were removed, so that it is in pieces; the same after a compaction; one with 65,533 records; and one
 # with fixed chunks alone. Each picture that differs has its difference on standard error; the status is 1 then.
-# tests/maps/picture.py draws an image by other means: the pictures in tests/maps are what it prints.
+# tests/maps/picture.py draws an image by other means: the pictures in tests/maps are what it prints. The SVG of each image
+# has to stay below 300,000 bytes.
 top=$(cd -- "$(dirname -- "$0")/.." && pwd)
 program=${1:-$top/crates/palmheap/out/palmheap}
 if [ $# = 0 ]; then
@@ -28,6 +30,14 @@ made() {
 drawn() {
     "$program" map "$1.img" >"$1.txt" || failed=1
     diff -- "$top/tests/maps/$1.txt" "$1.txt" >&2 || failed=1
+    "$program" map "$1.img" "$1.svg" >/dev/null || failed=1
+    # all lines but the styles and the kinds of the legend
+    sed -e '/^<style>$/,/^<\/style>$/d' -e '/^<path class="c[0-5]" d="M[0-9]* 0h12v12h-12z"\/>/,/^<\/g>$/d' "$1.svg" >"$1.lines"
+    python3 "$top/tests/maps/picture.py" "$1.img" svg | diff - "$1.lines" >&2 || failed=1
+    if [ "$(wc -c <"$1.svg")" -ge 300000 ]; then
+        echo "$1.svg is too large" >&2
+        failed=1
+    fi
 }
 
 : >nothing.txt

@@ -9,7 +9,7 @@ use crate::meanings::explain;
 use crate::scripts::{RunPaths, run_script};
 use crate::stores::{export, import};
 use clap::error::ErrorKind;
-use image_commands::{STANDARD_OUTPUT, canonical, fail, map, migrate, new, pack, unpack};
+use image_commands::{STANDARD_OUTPUT, canonical, draw, fail, map, migrate, new, pack, unpack};
 use program_io::command_line::{self, Request};
 use program_io::{Status, report_write_fault};
 use std::io::Input;
@@ -21,18 +21,24 @@ use store_commands::ImageChoice;
 ///
 /// No contract can relate the status to the files. The stored runs of `test_program` test it.
 pub fn run<R: Files + Input + Print + Eprint + AllocGlobal>(rt: &R, words: &[String]) -> Ending {
-    let status = match command_line::parse(rt.alloc(), words) {
-        Ok(Request::New { size, slots, out }) => new(rt, size, slots, out),
-        Ok(Request::Check { image, form }) => check_as(rt, image, form),
-        Ok(
-            Request::Run {
-                image,
-                script,
-                out,
-                files,
-                shown,
-            },
-        ) => {
+    match command_line::parse(rt.alloc(), words) {
+        Ok(request) => fulfil(rt, request),
+        Err(error) => Ending::Ended(answer(rt, &error)),
+    }
+}
+
+/// Runs the command of a request.
+fn fulfil<R: Files + Input + Print + Eprint + AllocGlobal>(rt: &R, request: Request) -> Ending {
+    let status = match request {
+        Request::New { size, slots, out } => new(rt, size, slots, out),
+        Request::Check { image, form } => check_as(rt, image, form),
+        Request::Run {
+            image,
+            script,
+            out,
+            files,
+            shown,
+        } => {
             let paths = RunPaths {
                 image,
                 script,
@@ -41,30 +47,29 @@ pub fn run<R: Files + Input + Print + Eprint + AllocGlobal>(rt: &R, words: &[Str
             };
             return run_script(rt, paths, shown);
         }
-        Ok(Request::Migrate { image, out }) => migrate(rt, image, out),
-        Ok(Request::Map { image }) => map(rt, image),
-        Ok(Request::List { file, form }) => list_as(rt, file, form),
-        Ok(Request::Canonical { file, out }) => canonical(rt, file, out),
-        Ok(Request::Unpack { file, folder }) => unpack(rt, file, folder),
-        Ok(Request::Pack { folder, out }) => pack(rt, folder, out),
-        Ok(Request::Databases { image, form }) => databases_as(rt, image, form),
-        Ok(
-            Request::Export {
-                image,
-                folder,
-                names,
-            },
-        ) => export(rt, image, folder, names.as_slice()),
-        Ok(
-            Request::Import {
-                out,
-                size,
-                slots,
-                files,
-            },
-        ) => import(rt, out, ImageChoice { size, slots }, files.as_slice()),
-        Ok(Request::Explain { word }) => explain(rt, word),
-        Err(error) => answer(rt, &error),
+        Request::Migrate { image, out } => migrate(rt, image, out),
+        Request::Map { image, out: None } => map(rt, image),
+        Request::Map {
+            image,
+            out: Some(out),
+        } => draw(rt, image, out),
+        Request::List { file, form } => list_as(rt, file, form),
+        Request::Canonical { file, out } => canonical(rt, file, out),
+        Request::Unpack { file, folder } => unpack(rt, file, folder),
+        Request::Pack { folder, out } => pack(rt, folder, out),
+        Request::Databases { image, form } => databases_as(rt, image, form),
+        Request::Export {
+            image,
+            folder,
+            names,
+        } => export(rt, image, folder, names.as_slice()),
+        Request::Import {
+            out,
+            size,
+            slots,
+            files,
+        } => import(rt, out, ImageChoice { size, slots }, files.as_slice()),
+        Request::Explain { word } => explain(rt, word),
     };
     Ending::Ended(status)
 }

@@ -42,6 +42,8 @@ pub enum Request<'a> {
     },
     Map {
         image: &'a str,
+        /// The file for the picture as SVG. Without one it is printed as text.
+        out: Option<&'a str>,
     },
     List {
         file: &'a str,
@@ -110,6 +112,8 @@ struct Argument {
 #[derive(Clone, Copy)]
 enum Count {
     One,
+    /// One word, or none.
+    AtMostOne,
     /// Any number of words, or none.
     Any,
     /// One word or several.
@@ -204,9 +208,18 @@ const COMMANDS: [CommandRow; 13] = [
     },
     CommandRow {
         name: "map",
-        about: "Prints a picture of an image: where chunks and free space are",
+        about: "Draws an image, as text or as SVG: where chunks and free space are",
         after_help: Some(MAPS),
-        arguments: &[IMAGE],
+        arguments: &[
+            IMAGE,
+            Argument {
+                name: "OUT",
+                count: Count::AtMostOne,
+                help: "File for the picture as SVG. One that is there is replaced, once the\n\
+                    new one is whole; '-' is standard output. Without OUT the\n\
+                    picture is printed as text",
+            },
+        ],
     },
     CommandRow {
         name: "list",
@@ -508,7 +521,14 @@ these that fits:
   #    another movable chunk
 
 The line 'free' has the free bytes, in how many pieces they are, and how many
-bytes the largest piece has.";
+bytes the largest piece has.
+
+'palmheap map device.img device.svg' draws the same for a browser, and prints
+'ok', for OUT '-' on standard error. Databases have colours, fixed and locked
+chunks red frames, and a white line lies between free chunks that are not
+joined. The bar over the rows shows what is used, the largest free piece, what
+a compact adds to it, and what is free in other stretches. At the right of a
+row is the largest room of the stretches that begin in it.";
 
 const LISTINGS: &str = "\
 For example, 'palmheap list MemoDB.pdb' prints:
@@ -907,6 +927,7 @@ fn migrate_requested<'a>(given: &ArgMatches<'a>) -> Option<Request<'a>> {
 fn map_requested<'a>(given: &ArgMatches<'a>) -> Option<Request<'a>> {
     Some(Request::Map {
         image: given.get_str("IMAGE")?,
+        out: given.get_str("OUT"),
     })
 }
 
@@ -1035,6 +1056,7 @@ fn described_argument<'a>(alloc: Global, argument: &Argument) -> Arg<'a> {
     let described = Arg::new(alloc, argument.name).help(argument.help);
     match argument.count {
         Count::One => described.required(true),
+        Count::AtMostOne => described,
         Count::Any => described.num_args(1..).action(ArgAction::Append),
         Count::Several => described
             .required(true)

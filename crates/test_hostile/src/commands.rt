@@ -4,7 +4,7 @@
 use crate::stores::{WRITTEN, input_files};
 use chunk_format::BlankFault;
 use heap_model::Bytes;
-use image_commands::{cmd_check_from, cmd_migrate_from, cmd_new_from};
+use image_commands::{cmd_check_from, cmd_draw_from, cmd_migrate_from, cmd_new_from};
 use palm_script::{LineFault, ScriptFault};
 use palm_text::Counted;
 use palmheap_program::cmd_run_from;
@@ -23,6 +23,8 @@ enum Trial {
     Run(&'static str, &'static str),
     /// The migration of a listed image.
     Migrate(&'static str),
+    /// The picture of a listed image as SVG.
+    Draw(&'static str),
     /// The line for a fault.
     Bad,
     /// The line for a refused script.
@@ -76,6 +78,7 @@ fn status_of(
         Trial::Check(listing) => check_with(memory, alloc, listing, outputs),
         Trial::Run(listing, text) => run_with(memory, alloc, listing, text, outputs),
         Trial::Migrate(listing) => migrate_with(memory, alloc, listing, outputs),
+        Trial::Draw(listing) => draw_with(memory, alloc, listing, outputs),
         Trial::Bad => Ok(say_bad(
             memory,
             BlankFault::BadSize,
@@ -130,8 +133,18 @@ fn migrate_with(
     Ok(cmd_migrate_from(memory, &image, &mut outputs.image, &mut outputs.text))
 }
 
+fn draw_with(
+    memory: &RefusesOne,
+    alloc: Global,
+    listing: &str,
+    outputs: &mut Outputs,
+) -> Result<Status, Fail> {
+    let image = bytes_of(alloc, listing)?;
+    Ok(cmd_draw_from(memory, &image, &mut outputs.image, &mut outputs.text))
+}
+
 /// The number of allocations of each, and its status if none fails.
-static TRIALS: [(Trial, u32, Status); 12] = [
+static TRIALS: [(Trial, u32, Status); 14] = [
     (Trial::New(128), 1, Status::Done),
     (Trial::New(100), 2, Status::BadWords),
     (Trial::Check(DATABASE), 5, Status::Done),
@@ -146,6 +159,8 @@ static TRIALS: [(Trial, u32, Status); 12] = [
     (Trial::Migrate(DATABASE), 4, Status::Done),
     (Trial::Migrate(BLANK), 4, Status::Done),
     (Trial::Migrate("00"), 3, Status::Refused),
+    (Trial::Draw(DATABASE), 9, Status::Done),
+    (Trial::Draw("00"), 3, Status::Refused),
     (Trial::Bad, 2, Status::BadWords),
     (Trial::BadLine, 2, Status::Refused),
 ];

@@ -10,7 +10,7 @@ pub(crate) enum Output {
 }
 
 /// The words of each run behind the program's own name, and what becomes of what it prints.
-pub(crate) static CASES: [(&str, Output); 131] = [
+pub(crate) static CASES: [(&str, Output); 137] = [
     // images that are made, or that there are not
     ("new 64 1 out.img", Taken),
     ("new 127 4 out.img", Taken),
@@ -52,6 +52,12 @@ pub(crate) static CASES: [(&str, Output); 131] = [
     ("map shared.img", Taken),
     ("map none.img", Taken),
     ("map records.img", Refused),
+    ("map blank.img out.svg", Taken),
+    ("map shared.img out.svg", Taken),
+    ("map records.img none/out.svg", Taken),
+    ("map records.img -", Taken),
+    ("map shared.img -", Taken),
+    ("map records.img -", Refused),
     // files that are listed and rewritten, and one that is damaged
     ("list order.pdb", Taken),
     ("list damaged.pdb", Taken),

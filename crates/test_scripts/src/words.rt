@@ -39,7 +39,11 @@ fn shown(alloc: Global, request: &Request) -> Result<String, AllocError> {
             format!(in alloc; "run {image} {script} {out} {files:?}{numbers}{strict}\n")
         }
         Request::Migrate { image, out } => format!(in alloc; "migrate {image} {out}\n"),
-        Request::Map { image } => format!(in alloc; "map {image}\n"),
+        Request::Map { image, out: None } => format!(in alloc; "map {image}\n"),
+        Request::Map {
+            image,
+            out: Some(out),
+        } => format!(in alloc; "map {image} {out}\n"),
         Request::List { file, form } => format!(in alloc; "list {file} {form:?}\n"),
         Request::Canonical { file, out } => format!(in alloc; "canonical {file} {out}\n"),
         Request::Unpack { file, folder } => format!(in alloc; "unpack {file} {folder}\n"),
@@ -62,7 +66,7 @@ fn shown(alloc: Global, request: &Request) -> Result<String, AllocError> {
 
 /// Words, and how what comes of them begins, and what stands in it: commands, words that are refused,
 /// and help.
-static CASES: [(&str, &str, &str); 67] = [
+static CASES: [(&str, &str, &str); 68] = [
     ("palmheap new 128 4 a.img", "new 128 4 a.img\n", ""),
     (
         "palmheap new 4294967295 65535 --  -a",
@@ -82,6 +86,7 @@ static CASES: [(&str, &str, &str); 67] = [
     ),
     ("palmheap migrate a.img b.img", "migrate a.img b.img\n", ""),
     ("palmheap map a.img", "map a.img\n", ""),
+    ("palmheap map a.img a.svg", "map a.img a.svg\n", ""),
     ("palmheap list memo.pdb", "list memo.pdb Text\n", ""),
     (
         "palmheap canonical memo.pdb new.pdb",
@@ -308,7 +313,11 @@ static CASES: [(&str, &str, &str); 67] = [
         "0 ",
         "Usage: palmheap migrate <IMAGE> <OUT>",
     ),
-    ("palmheap map --help", "0 ", "Usage: palmheap map <IMAGE>"),
+    (
+        "palmheap map --help",
+        "0 ",
+        "Usage: palmheap map <IMAGE> [OUT]",
+    ),
     (
         "palmheap list --help",
         "0 ",
