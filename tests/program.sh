@@ -47,7 +47,7 @@ says 'check of a refused image' 1 'bad BadMagic' '' check bad.img
 says 'run of a refused image' 1 'bad BadMagic' '' run bad.img calls.txt b.img
 says 'run of a refused script' 1 'line 1 UnknownCommand' '' run a.img faulty.txt b.img
 says 'migration of a refused image' 1 'bad BadMagic' '' migrate bad.img b.img
-says 'a size that no image has' 2 'bad BadSize' '' new 127 4 b.img
+says 'a size that no image has' 2 'bad BadSize' "'palmheap explain BadSize' says what BadSize means" new 127 4 b.img
 is 'nothing is written' 'a.img bad.img calls.txt faulty.txt' "$(echo *)"
 
 # OUT is no input, and a file is replaced as a whole: what else names the old one has the old bytes
@@ -192,6 +192,14 @@ rm -r parts hanging
 # images of files, and files of images: what is there stays, and what can't be written whole leaves nothing
 says 'an image of a file' 0 'ok 128 2
 ok' '' import c.img empty.pdb
+ln -s empty.pdb link.pdb
+for path in empty.pdb link.pdb; do
+    says "an image over $path" 3 '' "fault write
+$path: looks like a PDB or PRC file, and an image doesn't replace it" import "$path" calls.txt
+done
+rm link.pdb
+says 'a file over an image' 3 '' "fault write
+c.img: looks like a heap image, and a PDB or PRC file doesn't replace it" canonical empty.pdb c.img
 says 'an image that is too small' 1 'refused 8 NotEnoughSpace' 'empty.pdb: refused' import --size 120 d.img empty.pdb
 is 'no image is written' '' "$(ls d.img 2>/dev/null)"
 says 'a folder of files' 0 'ok 1' '' export c.img files
@@ -204,7 +212,7 @@ ok' '' import c.img empty.pdb other.pdb
 rm files/Empty.pdb
 echo here >files/Other.pdb
 says 'a file that is there' 3 '' 'fault write
-files/Other.pdb: entity already exists' export c.img files
+files/Other.pdb: there is a file of this name, and '\''export'\'' replaces none' export c.img files
 is 'no other file is there' Other.pdb "$(ls files)"
 is 'the file that was there' here "$(cat files/Other.pdb)"
 rm files/Other.pdb

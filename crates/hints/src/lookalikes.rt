@@ -1,13 +1,14 @@
-//! Files that look like PDB or PRC files.
+//! Files that look like PDB or PRC files, and files that look like heap images.
 
 ghost use Rattle.std.specs.Prelude.{◌≡◌, ◌≤◌, length};
 ghost use Rattle.hints.specs.Lookalikes as words;
 
 use palm_text::are_printable;
 
-// The header of a file, and the offsets of its fields (File Format Specification).
-const HEADER_SIZE: usize = 78;
+/// The size of a database file's header. By these bytes a file looks like a database file.
+pub const HEADER_SIZE: usize = 78;
 
+// The offsets of its fields (File Format Specification).
 const TYPE_AT: usize = 60;
 
 const SEED_AT: usize = 68;
@@ -21,8 +22,16 @@ const MAGIC: [u8; 4] = *b"PHI1";
 
 const CHAINED_MAGIC: [u8; 4] = *b"PHI2";
 
-/// The field of the next list of a file that has one list.
-const NO_LIST: [u8; 4] = [0; 4];
+/// The size of an image's header. By these bytes a file looks like an image.
+pub const IMAGE_HEADER_SIZE: usize = 16;
+
+/// The offset of the size of an image.
+const IMAGE_SIZE_AT: usize = 4;
+
+const IMAGE_SLOT_COUNT_AT: usize = 8;
+
+/// The field of the next list of a file that has one list. An image has another size.
+const ZERO: [u8; 4] = [0; 4];
 
 /// Returns whether a file looks like a PDB or PRC file. It has a name, a type and a creator that
 /// can be printed, and one list of entries. The entries aren't checked. A file that begins as a heap
@@ -34,7 +43,18 @@ pub fn looks_like_database(file: &[u8]) -> bool
         && file[0] != 0
         && !begins_as_image(file)
         && are_printable(&file[TYPE_AT..SEED_AT])
-        && file[NEXT_LIST_AT..ENTRY_COUNT_AT] == NO_LIST[..]
+        && file[NEXT_LIST_AT..ENTRY_COUNT_AT] == ZERO[..]
+}
+
+/// Returns whether a file looks like a heap image: it begins as one does, with a size below 2^24 that
+/// isn't 0. A database file with the name PHI1 has zeros there.
+pub fn looks_like_image(file: &[u8]) -> bool
+    ensures { result ≡ words.looks_like_image file.now }
+{
+    file.len() >= IMAGE_HEADER_SIZE
+        && begins_as_image(file)
+        && file[IMAGE_SIZE_AT] == 0
+        && file[IMAGE_SIZE_AT..IMAGE_SLOT_COUNT_AT] != ZERO[..]
 }
 
 /// Returns whether a file begins as a heap image does.

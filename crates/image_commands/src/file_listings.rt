@@ -4,9 +4,11 @@ ghost use Rattle.std.specs.Prelude.{◌≢◌, ◌≤◌, length};
 
 use crate::faults::{STANDARD_ERROR, STANDARD_OUTPUT, STANDARD_STREAM, fail};
 use crate::files::read_file_or_input;
+use crate::replacing::output_for_database;
+use crate::suggestions::suggest_check;
 use file_commands::{cmd_canonical_from, cmd_list_from};
 use palm_text::Counted;
-use program_io::{ErrorOutput, INPUT_LIMIT, Noted, OutputFile, Status, report_outcome};
+use program_io::{ErrorOutput, INPUT_LIMIT, Noted, Status, report_outcome};
 use std::io;
 use std::io::{BufWriter, Input};
 use std::rt::Files;
@@ -28,6 +30,7 @@ pub fn list<R: Files + Input + Print + Eprint + AllocGlobal>(rt: &R, path: &str)
     let (out, _) = out.into_inner().into_parts();
     let (_, fault) = out.into_parts();
     report_outcome(rt, status, &[(STANDARD_OUTPUT, fault)]);
+    suggest_check(rt, path, status, file.as_slice());
     status
 }
 
@@ -44,11 +47,13 @@ pub fn canonical<R: Files + Input + Print + Eprint + AllocGlobal>(
         Ok(file) => file,
         Err(status) => return status,
     };
-    if out_path == STANDARD_STREAM {
+    let status = if out_path == STANDARD_STREAM {
         canonical_to_output(rt, file.as_slice())
     } else {
         canonical_to_file(rt, file.as_slice(), out_path)
-    }
+    };
+    suggest_check(rt, path, status, file.as_slice());
+    status
 }
 
 /// Writes the canonical form of a file to standard output.
@@ -69,7 +74,7 @@ fn canonical_to_output<R: Print + Eprint + AllocGlobal>(rt: &R, file: &[u8]) -> 
     status
 }
 
-/// Writes the canonical form of a file to another file.
+/// Writes the canonical form of a file to another file. A heap image isn't replaced.
 fn canonical_to_file<R: Files + Print + Eprint + AllocGlobal>(
     rt: &R,
     file: &[u8],
@@ -78,8 +83,9 @@ fn canonical_to_file<R: Files + Print + Eprint + AllocGlobal>(
     requires { length file.now ≤ INPUT_LIMIT }
     ensures { result ≢ Status.BadWords }
 {
-    let Ok(file_out) = OutputFile::new(rt, out_path) else {
-        return fail(rt, Status::NoMemory);
+    let file_out = match output_for_database(rt, out_path) {
+        Ok(file_out) => file_out,
+        Err(status) => return status,
     };
     let mut file_out = Counted::new(Noted::new(file_out));
     let mut out = Counted::new(Noted::new(io::writer(rt)));

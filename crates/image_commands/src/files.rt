@@ -4,11 +4,10 @@
 ghost use Rattle.std.specs.Prelude.{◌≡◌, ◌≤◌, ◌⊎◌, ◌++◌, IfOk, IfErr, None, codes, decimal, length, string_bytes, vec_len};
 
 use crate::faults::{STANDARD_INPUT, STANDARD_STREAM, fail, fail_to_read};
+use crate::replacing::output_for_database;
 use heap_model::Bytes;
 use palm_text::{Counted, put};
-use program_io::{
-    INPUT_LIMIT, InputFault, Noted, OutputFile, Status, read_input_from, report_outcome,
-};
+use program_io::{INPUT_LIMIT, InputFault, Noted, Status, read_input_from, report_outcome};
 use raw_region::Region;
 use std::alloc::{AllocError, Global};
 use std::fs;
@@ -138,12 +137,13 @@ fn export_path(alloc: Global, image: &str, number: usize) -> Result<String, Allo
     format!(in alloc; "{image}.{number}")
 }
 
-/// Writes a file as a whole, or not at all.
+/// Writes a PDB or PRC file as a whole, or not at all. A heap image isn't replaced.
 pub fn write_file<R: Files + Eprint + AllocGlobal>(rt: &R, path: &str, bytes: &[u8]) -> Status
     ensures { (result ≡ Status.Done) ⊎ (result ≡ Status.WriteFault) ⊎ (result ≡ Status.NoMemory) }
 {
-    let Ok(out) = OutputFile::new(rt, path) else {
-        return fail(rt, Status::NoMemory);
+    let out = match output_for_database(rt, path) {
+        Ok(out) => out,
+        Err(status) => return status,
     };
     let mut out = Counted::new(Noted::new(out));
     let status = match put(&mut out, bytes) {

@@ -9,12 +9,14 @@ ghost use Rattle.heap_model.specs.Files.{blocks_in};
 
 use crate::faults::{STANDARD_OUTPUT, fail};
 use crate::files::{read_file, read_file_or_input};
+use crate::replacing::output_for_database;
+use crate::suggestions::suggest_check;
 use file_commands::{cmd_pack_from, list_parts, say_count, unpack_file};
 use file_parts::{Listed, Part, PartName, Unpacked, put_database};
 use heap_model::Bytes;
 use palm_text::Counted;
 use program_io::{
-    INPUT_LIMIT, Noted, OutputFile, Status, report_fault, report_outcome, report_write_fault, say,
+    INPUT_LIMIT, Noted, Status, report_fault, report_outcome, report_write_fault, say,
 };
 use std::alloc::{AllocError, Global};
 use std::fs::File;
@@ -37,12 +39,22 @@ pub fn unpack<R: Files + Input + Print + Eprint + AllocGlobal>(
         Ok(file) => file,
         Err(status) => return status,
     };
+    let status = unpack_to(rt, file.as_slice(), folder);
+    suggest_check(rt, path, status, file.as_slice());
+    status
+}
+
+/// Makes a folder with the parts of a file and the text, and prints `ok` and the number of files.
+fn unpack_to<R: Files + Print + Eprint + AllocGlobal>(rt: &R, file: &[u8], folder: &str) -> Status
+    requires { length file.now ≤ INPUT_LIMIT }
+    ensures { result ≢ Status.BadWords }
+{
     let mut out = Counted::new(Noted::new(io::writer(rt)));
-    let unpacked = match unpack_file(&rt.alloc(), file.as_slice(), &mut out) {
+    let unpacked = match unpack_file(&rt.alloc(), file, &mut out) {
         Ok(unpacked) => unpacked,
         Err(status) => return reported(rt, status, out),
     };
-    match make_folder(rt, folder, file.as_slice(), &unpacked) {
+    match make_folder(rt, folder, file, &unpacked) {
         Ok(count) => {
             let status = say_count(count, &mut out);
             reported(rt, status, out)
@@ -84,7 +96,7 @@ fn reported<R: Eprint, W: Write + Drop>(rt: &R, status: Status, out: Counted<Not
     status
 }
 
-/// Writes the file of the parts, and prints `ok` and its length.
+/// Writes the file of the parts, and prints `ok` and its length. A heap image isn't replaced.
 fn pack_to<R: Files + Eprint + AllocGlobal, W: Write + Drop>(
     rt: &R,
     listed: &Listed<'_>,
@@ -95,8 +107,9 @@ fn pack_to<R: Files + Eprint + AllocGlobal, W: Write + Drop>(
     requires { HasPartsOf listed.now parts.now }
     ensures { result ≢ Status.BadWords }
 {
-    let Ok(file_out) = OutputFile::new(rt, path) else {
-        return fail(rt, Status::NoMemory);
+    let file_out = match output_for_database(rt, path) {
+        Ok(file_out) => file_out,
+        Err(status) => return status,
     };
     let mut file_out = Counted::new(Noted::new(file_out));
     let status = cmd_pack_from(&rt.alloc(), listed, parts, &mut file_out, &mut out);

@@ -3,17 +3,18 @@
 ghost use Rattle.std.specs.Prelude.{◌≢◌};
 
 use crate::commands::{check_region_from, cmd_new_from};
-use crate::faults::{STANDARD_OUTPUT, fail};
+use crate::faults::STANDARD_OUTPUT;
 use crate::files::read_image;
 use crate::migrate_command::migrate_region_from;
-use crate::suggestions::{looks_like_file, suggest_list};
+use crate::replacing::output_for_image;
+use crate::suggestions::{looks_like_file, suggest_explain, suggest_list};
 use palm_text::Counted;
-use program_io::{Noted, OutputFile, Status, report_outcome};
+use program_io::{Noted, Status, report_outcome};
 use std::io;
 use std::io::Input;
 use std::rt::Files;
 
-/// Runs `new`: writes a blank image to a path.
+/// Runs `new`: writes a blank image to a path. A PDB or PRC file isn't replaced.
 pub fn new<R: Files + Print + Eprint + AllocGlobal>(
     rt: &R,
     size: u32,
@@ -23,8 +24,9 @@ pub fn new<R: Files + Print + Eprint + AllocGlobal>(
     ensures not_refused { result ≢ Status.Refused }
     ensures reads_nothing { result ≢ Status.ReadFault }
 {
-    let Ok(image_out) = OutputFile::new(rt, path) else {
-        return fail(rt, Status::NoMemory);
+    let image_out = match output_for_image(rt, path) {
+        Ok(image_out) => image_out,
+        Err(status) => return status,
     };
     let mut image_out = Counted::new(Noted::new(image_out));
     let mut out = Counted::new(Noted::new(io::writer(rt)));
@@ -33,6 +35,7 @@ pub fn new<R: Files + Print + Eprint + AllocGlobal>(
     image_out.close();
     let (_, fault) = out.into_inner().into_parts();
     report_outcome(rt, status, &[(path, image_fault), (STANDARD_OUTPUT, fault)]);
+    suggest_explain(rt, status, Some(size));
     status
 }
 
@@ -52,8 +55,8 @@ pub fn check<R: Files + Input + Print + Eprint + AllocGlobal>(rt: &R, path: &str
     status
 }
 
-/// Runs `migrate` on an image, and writes the new image to a path. The path `-` of the image means
-/// standard input.
+/// Runs `migrate` on an image, and writes the new image to a path. A PDB or PRC file isn't replaced.
+/// The path `-` of the image means standard input.
 pub fn migrate<R: Files + Input + Print + Eprint + AllocGlobal>(
     rt: &R,
     image_path: &str,
@@ -66,8 +69,9 @@ pub fn migrate<R: Files + Input + Print + Eprint + AllocGlobal>(
         Err(status) => return status,
     };
     let is_file = looks_like_file(&image);
-    let Ok(image_out) = OutputFile::new(rt, path) else {
-        return fail(rt, Status::NoMemory);
+    let image_out = match output_for_image(rt, path) {
+        Ok(image_out) => image_out,
+        Err(status) => return status,
     };
     let mut image_out = Counted::new(Noted::new(image_out));
     let mut out = Counted::new(Noted::new(io::writer(rt)));

@@ -26,7 +26,8 @@
 //! | `folders` | the commands `unpack` and `pack`, over files and folders |
 //! | `files` | reads and writes files |
 //! | `faults` | reports why a command did not start |
-//! | `suggestions` | reports that a refused image looks like a PDB or PRC file |
+//! | `replacing` | output files that don't replace a file of the other kind |
+//! | `suggestions` | reports what an input looks like, and which command explains a fault |
 #![tactic(auto)]
 
 mod commands;
@@ -41,6 +42,7 @@ mod images;
 mod map_command;
 mod maps;
 mod migrate_command;
+mod replacing;
 mod suggestions;
 
 pub use commands::{check_region_from, cmd_check, cmd_check_from, cmd_new, cmd_new_from};
@@ -58,4 +60,5 @@ pub use images::{check, migrate, new};
 pub use map_command::{cmd_map, cmd_map_from, map_region_from};
 pub use maps::{draw, map};
 pub use migrate_command::{cmd_migrate, cmd_migrate_from, migrate_region_from};
-pub use suggestions::{looks_like_file, suggest_list};
+pub use replacing::output_for_image;
+pub use suggestions::{looks_like_file, suggest_checks, suggest_explain, suggest_list};

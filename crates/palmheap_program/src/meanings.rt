@@ -8,16 +8,20 @@ use palm_text::Counted;
 use program_io::{Noted, Status, report_outcome};
 use std::io;
 
-/// Runs `explain`. If no fault and no refusal has the word as its name or number, it reports that
-/// on standard error.
+/// Runs `explain`. It ignores what follows the first space. If no fault, refusal or change has the
+/// word as its name or number, it reports that on standard error.
 pub(crate) fn explain<R: Print + Eprint>(rt: &R, word: &str) -> Status
     ensures { (result ≡ Status.Done) ⊎ (result ≡ Status.BadWords) ⊎ (result ≡ Status.WriteFault) }
 {
     let mut out = Counted::new(Noted::new(io::writer(rt)));
-    let status = cmd_explain(word.as_bytes(), &EXPLANATIONS, &mut out);
+    let name = match word.split_once(' ') {
+        Some((name, _)) => name,
+        None => word,
+    };
+    let status = cmd_explain(name.as_bytes(), &EXPLANATIONS, &mut out);
     let (_, fault) = out.into_inner().into_parts();
     if status == Status::BadWords {
-        let _ = eprintln!(rt; "error: no fault and no refusal is called '{word}'");
+        let _ = eprintln!(rt; "error: no fault, no refusal and no change is called '{name}'");
     }
     report_outcome(rt, status, &[(STANDARD_OUTPUT, fault)]);
     status

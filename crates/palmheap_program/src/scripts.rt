@@ -7,12 +7,12 @@ use crate::run_command::run_region_from;
 use heap_model::Bytes;
 use hints::{line_numbers, missing_files};
 use image_commands::{
-    STANDARD_OUTPUT, fail, looks_like_file, read_file_or_input, read_files, read_image,
-    report_left_files, suggest_list, write_files,
+    STANDARD_OUTPUT, fail, looks_like_file, output_for_image, read_file_or_input, read_files,
+    read_image, report_left_files, suggest_checks, suggest_list, write_files,
 };
 use palm_text::Counted;
 use program_io::command_line::Shown;
-use program_io::{Noted, OutputFile, Status, report_outcome};
+use program_io::{Noted, Status, report_outcome};
 use raw_region::Region;
 use reply_lines::Replies;
 use script_lines::parse_from;
@@ -35,8 +35,8 @@ pub(crate) struct RunPaths<'a> {
 /// Does the command `run`. It reads all input files before it checks the image. It writes the
 /// exported files last.
 ///
-/// Then it reports on standard error which lines import a file that was not given, and which
-/// exported files are from an earlier run.
+/// Then it reports on standard error which lines import a file that was not given, which given files
+/// look like images, and which exported files are from an earlier run.
 pub(crate) fn run_script<R: Files + Input + Print + Eprint + AllocGlobal>(
     rt: &R,
     paths: RunPaths<'_>,
@@ -91,6 +91,7 @@ fn run_paths<R: Files + Input + Print + Eprint + AllocGlobal>(
         return Err(status);
     }
     report_missing_files(rt, script.as_slice(), inputs.len());
+    suggest_checks(rt, paths.files, Status::Done, inputs.as_slice());
     report_left_files(rt, paths.out, replied.files.len());
     Ok(replied.any_refused)
 }
@@ -143,7 +144,8 @@ struct Replied {
     any_refused: bool,
 }
 
-/// Runs a script on an image, and writes the new image. If it fails, standard error has the reason.
+/// Runs a script on an image, and writes the new image. A PDB or PRC file isn't replaced. If it fails,
+/// standard error has the reason.
 fn run_to<R: Files + Print + Eprint + AllocGlobal>(
     rt: &R,
     image: Region,
@@ -157,9 +159,7 @@ fn run_to<R: Files + Print + Eprint + AllocGlobal>(
     let Ok(out) = BufWriter::new(rt.alloc(), Noted::new(io::writer(rt))) else {
         return Err(fail(rt, Status::NoMemory));
     };
-    let Ok(image_out) = OutputFile::new(rt, path) else {
-        return Err(fail(rt, Status::NoMemory));
-    };
+    let image_out = output_for_image(rt, path)?;
     let mut image_out = Counted::new(Noted::new(image_out));
     let mut out = Counted::new(Replies::new(out, given.numbers));
     let mut files = Vec::new(rt.alloc());

@@ -6,11 +6,11 @@ use allowance::copied;
 use file_commands::say_count;
 use heap_model::Bytes;
 use image_commands::{
-    STANDARD_OUTPUT, fail, looks_like_file, path_in, read_file_or_input, read_image, suggest_list,
-    write_file,
+    STANDARD_OUTPUT, fail, looks_like_file, output_for_image, path_in, read_file_or_input,
+    read_image, suggest_checks, suggest_explain, suggest_list, write_file,
 };
 use palm_text::Counted;
-use program_io::{Noted, OutputFile, Status, report_outcome, report_write_fault};
+use program_io::{Noted, Status, report_outcome, report_write_fault};
 use std::alloc::AllocError;
 use std::io::{ErrorKind, Input, Write};
 use std::rt::Files;
@@ -72,7 +72,8 @@ pub(crate) fn export<R: Files + Input + Print + Eprint + AllocGlobal>(
     }
 }
 
-/// Runs `import`. The path `-` stands for standard input.
+/// Runs `import`. A PDB or PRC file at the path of the image isn't replaced. The path `-` of a file
+/// means standard input.
 pub(crate) fn import<R: Files + Input + Print + Eprint + AllocGlobal>(
     rt: &R,
     path: &str,
@@ -83,8 +84,9 @@ pub(crate) fn import<R: Files + Input + Print + Eprint + AllocGlobal>(
         Ok(files) => files,
         Err(status) => return status,
     };
-    let Ok(image_out) = OutputFile::new(rt, path) else {
-        return fail(rt, Status::NoMemory);
+    let image_out = match output_for_image(rt, path) {
+        Ok(image_out) => image_out,
+        Err(status) => return status,
     };
     let mut image_out = Counted::new(Noted::new(image_out));
     let mut out = Counted::new(Noted::new(io::writer(rt)));
@@ -104,6 +106,8 @@ pub(crate) fn import<R: Files + Input + Print + Eprint + AllocGlobal>(
         &[(path, image_fault), (STANDARD_OUTPUT, fault)],
     );
     name_refused(rt, ended, paths);
+    suggest_checks(rt, paths, ended.status, files.as_slice());
+    suggest_explain(rt, ended.status, choice.size);
     ended.status
 }
 
@@ -192,7 +196,7 @@ fn write_each<R: Files + Eprint + AllocGlobal>(
     ensures count { result.1 ≤ length files.now }
 {
     for index in 0..files.len() {
-        let status = write_one(rt, folder, &files[index]);
+        let status = write_one(rt, folder, &files[..index], &files[index]);
         if status != Status::Done {
             return (status, index);
         }
@@ -201,18 +205,34 @@ fn write_each<R: Files + Eprint + AllocGlobal>(
 }
 
 /// Writes a file into a folder, as a whole or not at all, unless the folder has something of that name. If that fails,
-/// says why.
-fn write_one<R: Files + Eprint + AllocGlobal>(rt: &R, folder: &str, file: &ExportedFile) -> Status
+/// says why. `written` has the files that were written before.
+fn write_one<R: Files + Eprint + AllocGlobal>(
+    rt: &R,
+    folder: &str,
+    written: &[ExportedFile],
+    file: &ExportedFile,
+) -> Status
     ensures { (result ≡ Status.Done) ⊎ (result ≡ Status.WriteFault) ⊎ (result ≡ Status.NoMemory) }
 {
     let Ok(path) = path_in(rt.alloc(), folder, name_of(file)) else {
         return fail(rt, Status::NoMemory);
     };
     if fs::symlink_metadata(rt, path.as_str()).is_ok() {
-        report_write_fault(rt, path.as_str(), io::Error::from(ErrorKind::AlreadyExists));
-        return Status::WriteFault;
+        let status = fail(rt, Status::WriteFault);
+        let _ = eprintln!(rt; "{path}: {}", why_kept(written, file));
+        return status;
     }
     write_file(rt, path.as_str(), file.bytes.as_slice())
+}
+
+/// Returns why a file isn't written over one that is there: this run wrote it, or it was there before.
+fn why_kept(written: &[ExportedFile], file: &ExportedFile) -> &'static str {
+    for earlier in written {
+        if earlier.name.as_slice() == file.name.as_slice() {
+            return "this NAME was given twice";
+        }
+    }
+    "there is a file of this name, and 'export' replaces none"
 }
 
 /// The name of a file, which is ASCII.

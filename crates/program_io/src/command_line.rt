@@ -385,7 +385,8 @@ Exit status:
      SLOTS, or 'explain' knows no such WORD
   3  a file could not be read or written, or is longer than 16777216 bytes;
      or standard output could not be written; or DIR of 'unpack' or a file of
-     'export' is there
+     'export' is there; or OUT is a PDB or PRC file that an image would
+     replace, or an image that a PDB or PRC file would replace
   4  there was not enough memory
   5  'run --strict' ran all lines, and one of them was refused
 On 3 and 4 the first line on standard error is 'fault read', 'fault write' or

@@ -51,7 +51,7 @@ pub(crate) enum NotImported {
     TooLarge,
     /// No image may have the size.
     BadSize,
-    /// No image of the size may have so many slots.
+    /// No image of the size may have this slot count.
     BadSlotCount,
     /// An allocation failed.
     OutOfMemory,
@@ -180,7 +180,8 @@ fn chosen<A: Allowance>(
     }
 }
 
-/// The size of an image that is full with so many databases, whose chunks take so many bytes, if an image may have it.
+/// Returns the size of an image that is full with `databases` databases, whose chunks take `bytes` bytes, if an image
+/// may have it.
 fn fitting_size(slots: u16, databases: usize, bytes: u64) -> Option<u32>
     requires { bytes ≤ enough }
     ensures fits { (all : ℕ) → bytes ≡ min enough all
@@ -285,7 +286,7 @@ fn say_refused<V: Write>(refusal: Refusal, out: &mut Counted<V>) -> Status
     }
 }
 
-/// Writes an image into which so many files were imported, and then prints its lines.
+/// Writes an image into which `count` files were imported, and then prints its lines.
 fn put_filled<W: Write, V: Write>(
     image: NewImage,
     count: usize,
@@ -325,7 +326,7 @@ fn put_image_line<V: Write>(out: &mut Counted<V>, image: NewImage) -> Result<(),
     )
 }
 
-/// Writes `ok` for each of so many files.
+/// Writes `ok` for each of `count` files.
 fn put_replies<V: Write>(out: &mut Counted<V>, count: usize) -> Result<(), WriteFault>
     ensures { Writes V.contents out.old out.new (concat (replicate count (codes "ok\n")))
         (is_ok result) }
@@ -339,7 +340,7 @@ fn put_replies<V: Write>(out: &mut Counted<V>, count: usize) -> Result<(), Write
     Ok(())
 }
 
-/// Writes the lines of an image into which so many files were imported.
+/// Writes the lines of an image into which `count` files were imported.
 #[tactic(auto, using(palm_text::proofs::Parts::then, palm_text::proofs::Parts::stops))]
 fn put_lines<V: Write>(
     out: &mut Counted<V>,

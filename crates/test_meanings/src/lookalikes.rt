@@ -1,6 +1,6 @@
-//! Files that look like PDB or PRC files.
+//! Files that look like PDB or PRC files, and files that look like heap images.
 
-use hints::looks_like_database;
+use hints::{looks_like_database, looks_like_image};
 use std::alloc::Global;
 use std::test::*;
 use test_support::{BLANK, DATABASE, EMPTY_FILE, ORDER_FILE, TINY_FILE, bytes_of, holds};
@@ -40,4 +40,34 @@ fn databases_are_told_from_others(rt: HostRuntime) -> Result<(), Fail> {
         check(rt.alloc(), listing, *at, *byte, *wanted)?;
     }
     holds("no bytes", !looks_like_database(b""))
+}
+
+/// Files, where one byte is another, and whether they look like heap images: images of each profile, one whose size is
+/// too great by a byte, databases, and one that is named PHI1.
+static IMAGES: [(&str, usize, u8, bool); 8] = [
+    (BLANK, 3, 0x31, true),
+    (BLANK, 3, 0x32, true),
+    (DATABASE, 3, 0x31, true),
+    (BLANK, 3, 0x33, false),
+    (BLANK, 4, 1, false),
+    (BLANK, 7, 0, false),
+    (ORDER_FILE, 3, 0x31, false),
+    (MAGIC_FILE, 3, 0x31, false),
+];
+
+fn check_image(alloc: Global, listing: &str, at: usize, byte: u8, wanted: bool) -> Result<(), Fail> {
+    let mut file = bytes_of(alloc, listing)?;
+    if at < file.len() {
+        file[at] = byte;
+    }
+    let looks = looks_like_image(&file);
+    holds(format_args!("{listing} {at} {byte}"), looks == wanted)
+}
+
+#[test]
+fn images_are_told_from_others(rt: HostRuntime) -> Result<(), Fail> {
+    for (listing, at, byte, wanted) in &IMAGES {
+        check_image(rt.alloc(), listing, *at, *byte, *wanted)?;
+    }
+    holds("15 bytes", !looks_like_image(b"PHI1\0\0\0\x80\0\x04\0\0\0\0\0"))
 }

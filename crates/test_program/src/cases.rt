@@ -10,7 +10,7 @@ pub(crate) enum Output {
 }
 
 /// The words of each run behind the program's own name, and what becomes of what it prints.
-pub(crate) static CASES: [(&str, Output); 137] = [
+pub(crate) static CASES: [(&str, Output); 151] = [
     // images that are made, or that there are not
     ("new 64 1 out.img", Taken),
     ("new 127 4 out.img", Taken),
@@ -180,7 +180,24 @@ pub(crate) static CASES: [(&str, Output); 137] = [
     ("explain 25", Taken),
     ("explain BadSize", Taken),
     ("explain Frob", Taken),
+    ("explain BADOFFSET 1", Taken),
     ("explain BadOffset", Refused),
+    // outputs that are a database file in place of an image, or an image in place of a database file
+    ("new 128 4 order.pdb", Taken),
+    ("migrate blank.img order.pdb", Taken),
+    ("run blank.img calls.txt tiny.prc", Taken),
+    ("import order.pdb tiny.prc", Taken),
+    ("canonical order.pdb tiny.prc", Taken),
+    ("canonical order.pdb blank.img", Taken),
+    ("pack parts blank.img", Taken),
+    // images in place of database files: refused, and read as a database
+    ("list blank.img", Taken),
+    ("unpack blank.img out", Taken),
+    ("canonical blank.img -", Taken),
+    ("list --json wide.img", Taken),
+    ("import out.img blank.img", Taken),
+    // a database that is named twice
+    ("export records.img out R R", Taken),
     // words that ask for no command
     ("check", Taken),
     ("--version", Taken),

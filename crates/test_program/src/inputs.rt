@@ -3,7 +3,7 @@
 use Content::{Listing, Text};
 use std::alloc::Global;
 use std::test::Fail;
-use test_support::{BLANK, DATABASE, ORDER_FILE, TINY_FILE, image};
+use test_support::{BLANK, DATABASE, ORDER_FILE, TINY_FILE, WIDE, image};
 
 /// What a file holds.
 pub(crate) enum Content {
@@ -28,7 +28,7 @@ impl Content {
 const ROOM: &str = "50484931 00000200 000C 0000 00000000 00*48 800001C0 00*444";
 
 /// The files, each behind its name.
-pub(crate) static INPUTS: [(&str, Content); 20] = [
+pub(crate) static INPUTS: [(&str, Content); 21] = [
     ("blank.img", Listing(BLANK, "")),
     ("room.img", Listing(ROOM, "")),
     ("records.img", Listing(DATABASE, "")),
@@ -38,6 +38,8 @@ pub(crate) static INPUTS: [(&str, Content); 20] = [
     ("twins.img", Listing(DATABASE, "165: 01")),
     // the first record has the data of the second
     ("shared.img", Listing(DATABASE, "150: 0000001C")),
+    // an image that is read as a database without entries
+    ("wide.img", Listing(WIDE, "")),
     ("order.pdb", Listing(ORDER_FILE, "")),
     ("tiny.prc", Listing(TINY_FILE, "")),
     // the data of the second record begins before the entries end
