@@ -55,7 +55,13 @@ static IMAGES: [(&str, usize, u8, bool); 8] = [
     (MAGIC_FILE, 3, 0x31, false),
 ];
 
-fn check_image(alloc: Global, listing: &str, at: usize, byte: u8, wanted: bool) -> Result<(), Fail> {
+fn check_image(
+    alloc: Global,
+    listing: &str,
+    at: usize,
+    byte: u8,
+    wanted: bool,
+) -> Result<(), Fail> {
     let mut file = bytes_of(alloc, listing)?;
     if at < file.len() {
         file[at] = byte;
@@ -69,5 +75,8 @@ fn images_are_told_from_others(rt: HostRuntime) -> Result<(), Fail> {
     for (listing, at, byte, wanted) in &IMAGES {
         check_image(rt.alloc(), listing, *at, *byte, *wanted)?;
     }
-    holds("15 bytes", !looks_like_image(b"PHI1\0\0\0\x80\0\x04\0\0\0\0\0"))
+    holds(
+        "15 bytes",
+        !looks_like_image(b"PHI1\0\0\0\x80\0\x04\0\0\0\0\0"),
+    )
 }
