@@ -7,7 +7,7 @@ ghost use Rattle.heap_map.specs.Text.{free_pieces};
 ghost use Rattle.heap_map.specs.Pieces.{free_by, run_size};
 ghost use Rattle.heap_svg.specs.Pieces.{AddsHeader, EndsRun};
 
-use allowance::{Allowance, push};
+use allowance::{Allowance, push, room_for};
 use chunk_format::{Header, area_start};
 use raw_region::Region;
 use std::alloc::AllocError;
@@ -27,7 +27,7 @@ impl PieceSizes {
         ensures short { OnErr result (A.is_short memory.now) }
     {
         Ok(PieceSizes {
-            met: Vec::new(memory.grant()?),
+            met: room_for(memory, 0)?,
             run: None,
         })
     }

@@ -7,7 +7,7 @@ ghost use Rattle.heap_model.specs.Space.{greatest};
 ghost use Rattle.heap_map.specs.Pieces.{free_by};
 ghost use Rattle.heap_svg.specs.Rooms.{AddsChunk, compact_pieces, kept, rooms_of, sizes, stays_by};
 
-use allowance::{Allowance, push};
+use allowance::{Allowance, push, room_for};
 use chunk_format::{Header, area_start};
 use raw_region::Region;
 use std::alloc::AllocError;
@@ -55,7 +55,7 @@ impl MetRooms {
         ensures short { OnErr result (A.is_short memory.now) }
     {
         Ok(MetRooms {
-            met: Vec::new(memory.grant()?),
+            met: room_for(memory, 0)?,
             last: Room { start, size: 0 },
         })
     }

@@ -8,7 +8,7 @@ ghost use Rattle.heap_map.specs.Numbers.{database_number, HasNumbers};
 ghost use Rattle.heap_svg.specs.Strips as models;
 ghost use Rattle.heap_svg.specs.Strips.{AddsBytes, ShowImage, all_strips, end_of, head_mark};
 
-use allowance::{Allowance, push};
+use allowance::{Allowance, push, room_for};
 use chunk_format::{Header, area_start};
 use heap_map::mark_of;
 use raw_region::Region;
@@ -51,7 +51,7 @@ impl Strips {
         ensures short { OnErr result (A.is_short memory.now) }
     {
         Ok(Strips {
-            whole: Vec::new(memory.grant()?),
+            whole: room_for(memory, 0)?,
             last: Strip {
                 mark: HEAD,
                 at: 0,
