@@ -14,10 +14,7 @@ pub(crate) fn explain<R: Print + Eprint>(rt: &R, word: &str) -> Status
     ensures { (result ≡ Status.Done) ⊎ (result ≡ Status.BadWords) ⊎ (result ≡ Status.WriteFault) }
 {
     let mut out = Counted::new(Noted::new(io::writer(rt)));
-    let name = match word.split_once(' ') {
-        Some((name, _)) => name,
-        None => word,
-    };
+    let name = first_word(word);
     let status = cmd_explain(name.as_bytes(), &EXPLANATIONS, &mut out);
     let (_, fault) = out.into_inner().into_parts();
     if status == Status::BadWords {
@@ -25,4 +22,12 @@ pub(crate) fn explain<R: Print + Eprint>(rt: &R, word: &str) -> Status
     }
     report_outcome(rt, status, &[(STANDARD_OUTPUT, fault)]);
     status
+}
+
+/// Returns the text before the first space.
+fn first_word(words: &str) -> &str {
+    match words.split_once(' ') {
+        Some((word, _)) => word,
+        None => words,
+    }
 }

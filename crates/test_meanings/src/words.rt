@@ -83,20 +83,25 @@ fn words_are_explained(rt: HostRuntime) -> Result<(), Fail> {
     Ok(())
 }
 
+/// The lines of a word are written up to the room of the writer.
+fn check_cut(alloc: Global, word: &str, lines: &str, room: usize) -> Result<(), Fail> {
+    let narrow = Narrow::new(alloc, room, 9, WhenFull::TakesNothing);
+    let mut out = Counted::new(narrow);
+    equal(
+        word,
+        cmd_explain(word.as_bytes(), &EXPLANATIONS, &mut out),
+        Status::WriteFault,
+    )?;
+    let narrow = out.into_inner();
+    holds(word, narrow.is_cut_at(room))?;
+    holds(word, lines.as_bytes().starts_with(&narrow.taken))
+}
+
 #[test]
 fn meanings_are_cut(rt: HostRuntime) -> Result<(), Fail> {
     let (word, lines) = MEANINGS[3];
     for room in 0..lines.len() {
-        let narrow = Narrow::new(rt.alloc(), room, 9, WhenFull::TakesNothing);
-        let mut out = Counted::new(narrow);
-        equal(
-            word,
-            cmd_explain(word.as_bytes(), &EXPLANATIONS, &mut out),
-            Status::WriteFault,
-        )?;
-        let narrow = out.into_inner();
-        holds(word, narrow.is_cut_at(room))?;
-        holds(word, lines.as_bytes().starts_with(&narrow.taken))?;
+        check_cut(rt.alloc(), word, lines, room)?;
     }
     Ok(())
 }
