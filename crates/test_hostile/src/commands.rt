@@ -159,7 +159,7 @@ static TRIALS: [(Trial, u32, Status); 14] = [
     (Trial::Migrate(DATABASE), 4, Status::Done),
     (Trial::Migrate(BLANK), 4, Status::Done),
     (Trial::Migrate("00"), 3, Status::Refused),
-    (Trial::Draw(DATABASE), 9, Status::Done),
+    (Trial::Draw(DATABASE), 15, Status::Done),
     (Trial::Draw("00"), 3, Status::Refused),
     (Trial::Bad, 2, Status::BadWords),
     (Trial::BadLine, 2, Status::Refused),
