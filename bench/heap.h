@@ -87,7 +87,7 @@ struct heap {
     uint32_t len;
     uint32_t lowest, freed, lent;
     struct row row;
-    uint32_t known[KNOWN];
+    uint32_t known[KNOWN + 1];
     uint32_t heads[CLASSES];
     bool built, packed;
 };
@@ -200,12 +200,17 @@ static bool is_word_of(uint32_t place, uint32_t name)
 }
 
 /* Whether one of the first slots of a table that is remembered in the entry of its block is at an offset. Its body
- * begins in the same block or in the one before. */
+ * begins in the same block or in the one before. In the same one it isn't looked for if that has entry 0. A rotation
+ * tells the words between the first slot and the offset. */
 static bool is_known_slot(const struct heap *heap, uint32_t name)
 {
-    uint32_t here = heap->known[name / BLOCK % KNOWN];
-    uint32_t before = heap->known[(name / BLOCK - 1) % KNOWN];
-    return is_word_of(here != 0 && here < name ? here : before, name);
+    if (name < BLOCK)
+        return false;
+    uint32_t before = (name / BLOCK - 1) % KNOWN;
+    uint32_t here = name - 4 - heap->known[before + 1];
+    uint32_t least = name - 4 - heap->known[before];
+    least = here < least ? here : least;
+    return (least >> 2 | least << 30) < TABLE_SLOTS;
 }
 
 /* The same for a table in any of its entries. */

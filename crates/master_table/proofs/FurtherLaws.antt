@@ -1,6 +1,7 @@
 -- The further tables: a walk along them, and the slots of one.
 use Rattle.std.proofs.Common.{◌≡◌, ◌≢◌, ℕ, zero, suc, ◌+◌, ◌-◌, ◌*◌, ◌/◌, ◌<◌, ◌≤◌, List, [], ◌∷◌, ◌++◌, length, replicate, refl, sym, ap, subst, ◌∙◌, arith, inl, inr}
-use Rattle.std.specs.Prelude.{slice_index}
+use Rattle.std.specs.Prelude.{◌%◌, ◌^◌, slice_index}
+use Rattle.std.proofs.lemmas.Bool.{cases_lt}
 use Rattle.heap_model.specs.Bytes.{u32_at}
 use Rattle.heap_model.specs.Chunk.{Chunk}
 use Rattle.heap_model.specs.Slots.{Table, table_at, first_next, further_tables, slot_count, slots_in_row, slots_further, slots_of, IsSlot, StandsIn}
@@ -102,6 +103,30 @@ word_is_slot image places place slot knows entry w =
       listed = subst (λ (s : ℕ). StandsIn (slots_in_row 16 (slot_count image) ++ slots_further (further_tables image)) s) there
           (stands_right (slots_in_row 16 (slot_count image)) (slots_further (further_tables image)) (place + 4 + 4 * k) (long_slots (further_tables image) place k long (omega arith)));
     }
+
+-- a word is a slot of the table in an entry, if its distance from the table's first slot is less than 15 words
+word_after : (place slot bytes words : ℕ) → 64 ≤ slot → (place ≤ slot - 4 → place + bytes ≡ slot - 4) → (slot - 4 < place → slot - 4 < bytes) → (bytes % 4 ≡ 0 → 4 * words ≡ bytes) → (bytes % 4 ≢ 0 → 2 ^ 30 ≤ words) → words < 15 → IsWordOf place slot
+word_after place slot bytes words far after before whole broken few = elim (cases_lt 0 (bytes % 4)) [
+  | inl part ↦ let many = broken (λ none. absurd (omega (arith, none, part))) in absurd (omega (arith, many, few))
+  | inr none ↦
+      let is = whole (omega (arith, none)) in
+      elim (cases_lt (slot - 4) place) [
+        | inl apart ↦ let more = before apart in absurd (omega (arith, more, is, few, far))
+        | inr behind ↦
+            let there = after behind in
+            record {
+              some = omega (arith, there, is, few, far);
+              behind = omega (arith, there, far);
+              near = omega (arith, there, is, few, far);
+              whole = omega (arith, there, is, far);
+            }
+      ]
+]
+
+pub slot_after : (image inside places : List ℕ) (entry slot bytes words : ℕ) → inside ≡ places → 64 ≤ slot → (slice_index inside entry ≤ slot - 4 → slice_index inside entry + bytes ≡ slot - 4) → (slot - 4 < slice_index inside entry → slot - 4 < bytes) → (bytes % 4 ≡ 0 → 4 * words ≡ bytes) → (bytes % 4 ≢ 0 → 2 ^ 30 ≤ words) → words < 15 → KnowsTables image places → IsSlot image slot
+slot_after image inside places entry slot bytes words view far after before whole broken few knows =
+    word_is_slot image places (slice_index inside entry) slot knows (entry, ap (λ (ps : List ℕ). slice_index ps entry) view)
+    (word_after (slice_index inside entry) slot bytes words far after before whole broken few)
 
 -- ---- what is remembered
 

@@ -2,13 +2,13 @@
 //! chain.
 #![tactic(auto, using(crate::proofs::LentLaws::frame_of, crate::proofs::LentLaws::head_of))]
 
-ghost use Rattle.std.specs.Prelude.{◌≡◌, ◌<◌, ◌^◌, ℕ, List, IfSome};
+ghost use Rattle.std.specs.Prelude.{◌≡◌, ◌≢◌, ◌<◌, ◌≤◌, ◌+◌, ◌*◌, ◌%◌, ◌^◌, ℕ, List, IfSome};
 ghost use Rattle.std.specs.Bool.{OnTrue};
 ghost use Rattle.heap_model.specs.Lending.{LendsABody};
 ghost use Rattle.heap_model.specs.Slots.{IsSlot, further_tables};
 ghost use Rattle.heap_model.specs.Heap.{IsTablePlace};
 ghost use Rattle.master_table.specs.Table.{IsTiled};
-ghost use Rattle.master_table.specs.Known.{KnowsTables, KnowsNone, Remembers, IsEntry, IsWordOf, entry_of};
+ghost use Rattle.master_table.specs.Known.{KnowsTables, KnowsNone, Remembers, IsWordOf, entry_of};
 
 use chunk_format::{HEADER_SIZE, SLOT_SIZE, TABLE_LENGTH, first_next, live_fields};
 use heap_model::Place;
@@ -26,12 +26,16 @@ const BLOCK_SIZE: u32 = TABLE_LENGTH;
 /// taken.
 const REACH: u32 = 7;
 
+/// As many slots of each remembered table are found.
+const SLOTS: u32 = TABLE_LENGTH / SLOT_SIZE - 1;
+
 /// The places of further tables that have 15 slots or more. Each is in the entry of the block in
 /// which its body begins, or in one of the next seven entries. An entry without a place is 0.
 /// Contracts see the entries as a list.
 #[derive(Drop)]
 pub struct KnownTables {
-    places: [u32; ENTRIES],
+    /// The last entry is of no block, and stays 0.
+    places: [u32; ENTRIES + 1],
 }
 
 impl Model for KnownTables {
@@ -106,13 +110,22 @@ impl KnownTables {
     }
 
     /// Returns whether one of the first 15 slots of a table is at an offset, for a table in the
-    /// entry of its block.
+    /// entry of its block. The table's body begins in the same block as the slot, or in the block
+    /// before. It doesn't find a table that begins in the same block if the entry of this is the
+    /// first.
     #[inline]
     pub(crate) fn has_slot(&self, slot: u32) -> bool
         ensures { OnTrue result
             ((image : List ℕ) → KnowsTables image self.now → IsSlot image slot) }
     {
-        is_word_of(self.table_before(slot), slot)
+        if slot < BLOCK_SIZE {
+            return false;
+        }
+        let before = entry_of(slot / BLOCK_SIZE - 1);
+        let word = slot - SLOT_SIZE;
+        let here = distance(self.places[before + 1], word);
+        let least = here.min(distance(self.places[before], word));
+        words(least) < SLOTS
     }
 
     /// Returns whether one of the first 15 slots of a remembered table is at an offset, in
@@ -129,31 +142,15 @@ impl KnownTables {
         }
         false
     }
-
-    /// Returns the place of the table whose first slots may be at an offset: its body begins in the
-    /// same block, or in the one before. 0 if none is remembered there.
-    #[inline]
-    fn table_before(&self, slot: u32) -> u32
-        ensures { IsEntry self.now result }
-    {
-        let block = slot / BLOCK_SIZE;
-        let here = self.places[entry_of(block)];
-        let before = self.places[entry_of(block + (ENTRIES as u32 - 1))];
-        if here == 0 || here >= slot {
-            before
-        } else {
-            here
-        }
-    }
 }
 
 /// Entries without a place.
 #[inline]
 #[tactic(none)]
-fn no_places() -> [u32; ENTRIES]
+fn no_places() -> [u32; ENTRIES + 1]
     ensures { KnowsNone result }
 {
-    [0; ENTRIES]
+    [0; ENTRIES + 1]
 }
 
 /// The entry of a block.
@@ -163,6 +160,26 @@ fn entry_of(block: u32) -> usize
     ensures below { result < ENTRIES }
 {
     block as usize % ENTRIES
+}
+
+/// Returns how far an offset is after a place. If it's before the place, the result is greater than
+/// the offset.
+#[inline(always)]
+fn distance(place: u32, at: u32) -> u32
+    ensures after { place ≤ at → place + result ≡ at }
+    ensures before { at < place → at < result }
+{
+    at.wrapping_sub(place)
+}
+
+/// Returns how many words a number of bytes is, or at least 2^30 if it isn't a whole number of
+/// words. It's a rotation, so that one comparison tests a range of whole words.
+#[inline(always)]
+fn words(bytes: u32) -> u32
+    ensures whole { bytes % 4 ≡ 0 → 4 * result ≡ bytes }
+    ensures broken { bytes % 4 ≢ 0 → 2 ^ 30 ≤ result }
+{
+    bytes / SLOT_SIZE + bytes % SLOT_SIZE * (1 << 30)
 }
 
 /// Returns whether the word at an offset is one of the 15 after the first word of a body. The place

@@ -10,6 +10,7 @@ use Rattle.heap_model.specs.Space.{place_of}
 use Rattle.heap_model.specs.Placing.{Finds}
 use Rattle.heap_model.specs.MemorySteps.{IsNowhere, Of}
 use Rattle.laws_heap.proofs.Tests.{cond-true}
+use Rattle.laws_heap.proofs.Meanings.{held-zero}
 use Rattle.laws_heap.proofs.FoundChunks.{held_finds, finds_one, callers_managers}
 use Rattle.laws_heap.proofs.AlteredChunks.{finds_place}
 use Rattle.heap_place.proofs.FoundLaws.{name_held}
@@ -33,6 +34,13 @@ managers_unknown image name found h f e = callers_managers image name f.live (na
 pub refused_unknown : {A E : Type 0} (image : List ℕ) (name : ℕ) (found : Found) (result : Result A E) → HeapAccepted image → IsFound image name found → OnErr result (found.owner ≡ 0) → OnErr result (callers_map image name ≡ None)
 refused_unknown image name found (Ok own) h f managers = tt
 refused_unknown image name found (Err refusal) h f managers = managers_unknown image name found h f managers
+
+-- what was found has a name
+pub name_named : (image : List ℕ) (name : ℕ) (found : Found) → HeapAccepted image → IsFound image name found → name ≢ 0
+name_named image name found h f none = let nothing = sym (name_held image name found h f) ∙ ap (held image) none ∙ held-zero image h in absurd cc
+
+pub found_named : (image : List ℕ) (name : ℕ) (found : Found) → HeapAccepted image → IsFound image name found → found.name.0 ≢ 0
+found_named image name found h f none = name_named image name found h f (sym f.name_is ∙ none)
 
 -- what callers may name is held
 pub callers_held : (x : Option LiveChunk) (live : LiveChunk) → not_owned 0 x ≡ Some live → x ≡ Some live

@@ -3,3 +3,4 @@ pub mod Known
 pub mod Loans
 pub mod Counting
 pub mod Replies
+pub mod LentNames

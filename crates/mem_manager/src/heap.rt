@@ -17,6 +17,7 @@ mod managing;
 mod moving;
 
 use crate::known::KnownNames;
+use crate::lent_name::LentName;
 use heap_check::{HeapFault, check_heap};
 use heap_model::{Name, Place};
 use heap_place::Space;
@@ -45,7 +46,7 @@ pub struct Heap {
     /// Names of fixed chunks that were found. They need no second search.
     known: KnownNames,
     /// The name of the chunk whose bytes are taken out.
-    lent: Option<Name>,
+    lent: LentName,
 }
 
 impl Model for Heap {
@@ -106,7 +107,7 @@ impl Heap {
                 start: TableStart::first(),
                 freed: Name(0),
                 known: KnownNames::none(),
-                lent: None,
+                lent: LentName::none(),
             }),
             Err(fault) => Err(NotAHeap { fault, region }),
         }

@@ -11,6 +11,7 @@ mod bounds;
 mod counting;
 mod heap;
 mod known;
+mod lent_name;
 mod loan;
 mod lookup;
 

@@ -13,6 +13,7 @@ ghost use Rattle.mem_manager.specs.Lookup.{IsThere};
 ghost use Rattle.mem_manager.specs.Known.{KnowsHeld};
 
 use crate::known::KnownNames;
+use crate::lent_name::LentName;
 use chunk_format::{DATA_OWNER, FIXED_LOCK, MANAGERS_OWNER};
 use heap_model::{Name, Place, Refusal};
 use heap_place::{Found, Space};
@@ -191,12 +192,13 @@ pub(crate) fn check_locked(found: Found) -> Result<(), Refusal>
 
 /// Refuses a chunk whose bytes are lent.
 #[inline]
-pub(crate) fn check_here(lent: Option<Name>, found: Found) -> Result<(), Refusal>
-    ensures ok { OnOk result (lent ≡ Some found.name → ⊥) }
-    ensures err { OnErr result (lent ≡ Some found.name) }
+pub(crate) fn check_here(lent: &LentName, found: Found) -> Result<(), Refusal>
+    requires { found.name.0 ≢ 0 }
+    ensures ok { OnOk result (lent.now ≡ Some found.name → ⊥) }
+    ensures err { OnErr result (lent.now ≡ Some found.name) }
     ensures refusal { IfErr result (λ refusal. refusal ≡ Refusal.Lent) }
 {
-    if lent == Some(found.name) {
+    if lent.is(found.name) {
         return Err(Refusal::Lent);
     }
     Ok(())

@@ -136,7 +136,7 @@ impl Heap {
         ensures loan { KeepsLoan self.old self.new }
         ensures rest { self.new ≡ record self.old { bytes = self.new.bytes; slid = self.new.slid } }
     {
-        check_here(self.lent, found)?;
+        check_here(&self.lent, found)?;
         resize_found(&mut self.space, found, size)
     }
 

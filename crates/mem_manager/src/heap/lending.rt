@@ -15,6 +15,7 @@ ghost use Rattle.mem_manager.specs.Lookup.{IsMovable, StandsAs, IsHere};
 use crate::counting::count_chunks;
 use crate::heap::Heap;
 use crate::known::KnownNames;
+use crate::lent_name::LentName;
 use crate::lookup::named;
 use heap_check::Summary;
 use heap_model::Name;
@@ -36,7 +37,7 @@ impl Heap {
             start: TableStart::first(),
             freed: Name(0),
             known: KnownNames::none(),
-            lent: None,
+            lent: LentName::none(),
         }
     }
 

@@ -1,5 +1,5 @@
 //! Calls that take bytes of a chunk out of the heap, and put them back.
-#![tactic(auto, using(crate::proofs::KnownLoans::knows_lends, crate::proofs::KnownLoans::known_other, laws_heap::proofs::LentBodies::table_within))]
+#![tactic(auto, using(crate::proofs::KnownLoans::knows_lends, crate::proofs::KnownLoans::known_other, crate::proofs::Places::name_named, laws_heap::proofs::LentBodies::table_within))]
 
 ghost use Rattle.std.specs.Prelude.{◌≡◌, ◌≢◌, ℕ, IfSome, OnSome, IfNone, IfOk, OnErr, IfErr, None};
 ghost use Rattle.heap_model.specs.Chunk.{managers_owner};
@@ -10,6 +10,7 @@ ghost use Rattle.raw_region.specs.Parts.{IsOut};
 ghost use Rattle.mem_manager.specs.Loans.{out_checks, TakesOut, PutsBack};
 
 use crate::heap::Heap;
+use crate::lent_name::LentName;
 use crate::loan::Loan;
 use crate::lookup::{check_locked, find};
 use heap_model::{Name, Refusal};
@@ -34,7 +35,7 @@ impl Heap {
         if self.lent.is_some() {
             return Err(Refusal::Lent);
         }
-        self.lent = Some(name);
+        self.lent = LentName::of(name);
         let part = self.space.lend(found);
         Ok(Loan { name, part })
     }
@@ -48,7 +49,7 @@ impl Heap {
     {
         let Loan { name, part } = loan;
         let found = self.space.chunk(name);
-        self.lent = None;
+        self.lent = LentName::none();
         self.space.take_back(found, part);
     }
 
@@ -59,6 +60,6 @@ impl Heap {
         ensures some { OnSome result (self.now.lent ≢ None) }
         ensures none { IfNone result (self.now.lent ≡ None) }
     {
-        self.lent
+        self.lent.get()
     }
 }

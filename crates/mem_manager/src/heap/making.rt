@@ -140,7 +140,7 @@ impl Heap {
         if found.lock > 0 && found.lock < FIXED_LOCK {
             return Err(Refusal::ChunkLocked);
         }
-        check_here(self.lent, found)?;
+        check_here(&self.lent, found)?;
         self.used = used_without(self.space.region(), self.used, name);
         self.freed = freed_slot(self.space.region(), self.freed, found);
         self.known.forget(name);
@@ -160,7 +160,7 @@ impl Heap {
         // The heap is looked at, so that its invariant is known.
         let _ = &self.space;
         check_owner(owner)?;
-        if let Some(name) = self.lent {
+        if let Some(name) = self.lent.get() {
             if self.space.chunk(name).owner == owner {
                 return Err(Refusal::Lent);
             }

@@ -1,5 +1,5 @@
 //! Calls that move chunks.
-#![tactic(auto, using(crate::proofs::KnownLoans::knows_lends, crate::proofs::KnownLoans::known_other, laws_heap::proofs::LentBodies::table_within))]
+#![tactic(auto, using(crate::proofs::KnownLoans::knows_lends, crate::proofs::KnownLoans::known_other, crate::proofs::Places::found_named, laws_heap::proofs::LentBodies::table_within))]
 
 ghost use Rattle.std.specs.Prelude.{◌≡◌, ◌≢◌, ◌+◌, OnOk, OnErr, IfErr};
 ghost use Rattle.heap_model.specs.Chunk.{fixed_lock};
@@ -59,7 +59,7 @@ impl Heap {
         let found = find(&self.space, &self.known, name)?;
         check_callers(found)?;
         check_movable(found)?;
-        check_here(self.lent, found)?;
+        check_here(&self.lent, found)?;
         resize_found(&mut self.space, found, size)
     }
 }

@@ -1,10 +1,24 @@
-use Rattle.std.proofs.Common.{ℕ, List}
-use Rattle.std.proofs.lemmas.Bool.{OnTrue_at, OnTrue_from}
+use Rattle.std.proofs.Common.{◌≡◌, ◌+◌, ℕ, List, arith, inl, inr}
+use Rattle.std.proofs.lemmas.Bool.{OnTrue_from, ltb-true, cases_lt}
 use Rattle.heap_model.specs.Slots.{IsSlot}
 use Rattle.master_table.specs.Known.{KnowsTables}
-use Rattle.master_table.proofs.FurtherLaws.{word_is_slot}
+use Rattle.master_table.proofs.FurtherLaws.{slot_after}
 use Rattle.master_table.proofs.known.KnownTables.has_slot.Goals as goal
 
 pub returns : goal.returns
 returns c = OnTrue_from _ ((image : List ℕ) → KnowsTables image c.args.self.now → IsSlot image c.args.slot)
-    (λ is. λ image knows. word_is_slot image c.args.self.now c.table_before.result c.args.slot knows c.table_before.ensures (OnTrue_at is c.is_word_of.ensures))
+    (λ is. λ image knows.
+    let few = ltb-true c.words.result 15 is in
+    let far = c.if-slot-lt-BLOCK_SIZE.false in
+    let least = c.min-least.ensures in
+    let w = c.words.ensures in
+    elim (cases_lt c.distance.result c.distance-here.result) [
+      | inl before ↦
+          let same : c.min-least.result ≡ c.distance.result = omega (arith, least, before) in
+          slot_after image c.self.inside.places c.args.self.now c.entry_of-before.result c.args.slot c.min-least.result c.words.result c.self.view_is (omega (arith, far))
+          (λ low. let d = c.distance.ensures.after low in omega (arith, d, same)) (λ low. let d = c.distance.ensures.before low in omega (arith, d, same)) w.whole w.broken few knows
+      | inr here ↦
+          let same : c.min-least.result ≡ c.distance-here.result = omega (arith, least, here) in
+          slot_after image c.self.inside.places c.args.self.now (c.entry_of-before.result + 1) c.args.slot c.min-least.result c.words.result c.self.view_is (omega (arith, far))
+          (λ low. let d = c.distance-here.ensures.after low in omega (arith, d, same)) (λ low. let d = c.distance-here.ensures.before low in omega (arith, d, same)) w.whole w.broken few knows
+    ])

@@ -1,4 +1,4 @@
-use Rattle.std.proofs.Common.{ap, refl, subst, inl, inr}
+use Rattle.std.proofs.Common.{ap, refl, sym, subst, ◌∙◌, inl, inr}
 use Rattle.heap_model.specs.Memory.{Memory}
 use Rattle.heap_model.specs.MemorySteps.{Does}
 use Rattle.heap_model.specs.declared.call.MemoryCall.TheVariants.{FreeByOwner}
@@ -20,12 +20,12 @@ pub returns-then-chunk-owner : goal.returns-then-chunk-owner
 returns-then-chunk-owner c =
     subst (λ (m : Memory). Does m (FreeByOwner c.args.owner) (Reply.Refused Refusal.Lent) m) c.self.view_is
     (refused c.self.inside.space (FreeByOwner c.args.owner) Refusal.Lent c.self.invariant.0.accepted
-    (inr (c.in_ok-check_owner.ensures.ok, inl (lends_of c.self.inside.space c.self.inside.lent c.in-Some.name c.chunk.result c.args.owner c.self.invariant.0.accepted c.self.invariant.1 c.in-Some.is c.chunk.ensures c.in_ok-check_owner.ensures.ok c.if-chunk-owner.true, refl))))
+    (inr (c.in_ok-check_owner.ensures.ok, inl (lends_of c.self.inside.space c.self.inside.lent c.in-Some.name c.chunk.result c.args.owner c.self.invariant.0.accepted c.self.invariant.1 (sym c.get.ensures ∙ c.in-Some.is) c.chunk.ensures c.in_ok-check_owner.ensures.ok c.if-chunk-owner.true, refl))))
 
 pub give_back_owned-count-requires-clause-none_lent : goal.give_back_owned-count-requires-clause-none_lent
-give_back_owned-count-requires-clause-none_lent c = elim c.match-self.branch [
-  | in-Some+else-chunk-owner w ↦ other_owner c.self.inside.space c.self.inside.lent w.in-Some.name w.chunk.result c.args.owner c.self.invariant.0.accepted c.self.invariant.1 w.in-Some.is w.chunk.ensures w.if-chunk-owner.false
-  | in_default w ↦ no_owner c.self.inside.space c.self.inside.lent c.args.owner c.self.invariant.1 w.in_default.is
+give_back_owned-count-requires-clause-none_lent c = elim c.match-get.branch [
+  | in-Some+else-chunk-owner w ↦ other_owner c.self.inside.space c.self.inside.lent w.in-Some.name w.chunk.result c.args.owner c.self.invariant.0.accepted c.self.invariant.1 (sym c.get.ensures ∙ w.in-Some.is) w.chunk.ensures w.if-chunk-owner.false
+  | in_default w ↦ no_owner c.self.inside.space c.self.inside.lent c.args.owner c.self.invariant.1 (sym c.get.ensures ∙ w.in_default.is)
 ]
 
 pub invariant_of-self : goal.invariant_of-self
@@ -33,9 +33,9 @@ invariant_of-self c =
     let gone = c.give_back_owned-count.ensures.gone in (
       managed_anew c.give_back_owned-count.new.self.bytes c.none-self-inside.result c.first-self-inside.result gone.frame.accepted (c.first-self-inside.ensures c.give_back_owned-count.new.self.bytes) c.none-self-inside.ensures,
       knows_where c.self.inside.space c.give_back_owned-count.new.self c.self.inside.lent c.self.invariant.1 (ap (λ (m : Memory). m.lent) c.give_back_owned-count.ensures.rest)
-          (elim c.match-self.branch [
-            | in-Some+else-chunk-owner w ↦ lent_kept c.self.inside.space c.give_back_owned-count.new.self c.self.inside.lent w.in-Some.name w.chunk.result c.args.owner c.self.invariant.0.accepted w.in-Some.is w.chunk.ensures w.if-chunk-owner.false gone
-            | in_default w ↦ (λ n e. absurd (none_named w.in_default.is e))
+          (elim c.match-get.branch [
+            | in-Some+else-chunk-owner w ↦ lent_kept c.self.inside.space c.give_back_owned-count.new.self c.self.inside.lent w.in-Some.name w.chunk.result c.args.owner c.self.invariant.0.accepted (sym c.get.ensures ∙ w.in-Some.is) w.chunk.ensures w.if-chunk-owner.false gone
+            | in_default w ↦ (λ n e. absurd (none_named (sym c.get.ensures ∙ w.in_default.is) e))
           ]),
     )
 
@@ -43,8 +43,8 @@ pub returns : goal.returns
 returns c =
     subst (λ (m : Memory). Does m (FreeByOwner c.args.owner) (Reply.Number c.give_back_owned-count.result) c.give_back_owned-count.new.self) c.self.view_is
     (owner_freed c.self.inside.space c.give_back_owned-count.new.self c.args.owner c.give_back_owned-count.result c.self.invariant.0.accepted (knows_lends c.self.inside.space c.self.inside.lent c.self.invariant.0.accepted c.self.invariant.1) c.in_ok-check_owner.ensures.ok
-    (elim c.match-self.branch [
-      | in-Some+else-chunk-owner w ↦ lends_none_of c.self.inside.space c.self.inside.lent w.in-Some.name w.chunk.result c.args.owner c.self.invariant.0.accepted c.self.invariant.1 w.in-Some.is w.chunk.ensures w.if-chunk-owner.false
-      | in_default w ↦ lends_nothing c.self.inside.space c.self.inside.lent c.args.owner c.self.invariant.1 w.in_default.is
+    (elim c.match-get.branch [
+      | in-Some+else-chunk-owner w ↦ lends_none_of c.self.inside.space c.self.inside.lent w.in-Some.name w.chunk.result c.args.owner c.self.invariant.0.accepted c.self.invariant.1 (sym c.get.ensures ∙ w.in-Some.is) w.chunk.ensures w.if-chunk-owner.false
+      | in_default w ↦ lends_nothing c.self.inside.space c.self.inside.lent c.args.owner c.self.invariant.1 (sym c.get.ensures ∙ w.in_default.is)
     ])
     c.give_back_owned-count.ensures.gone c.give_back_owned-count.ensures.count c.give_back_owned-count.ensures.rest)

@@ -13,6 +13,7 @@ use Rattle.mem_manager.proofs.NewChunks.{free_lent, free_database, free_locked, 
 use Rattle.mem_manager.proofs.ChunkCalls.{not_the_directory}
 use Rattle.laws_heap.proofs.ExchangedNames.{freed_changes}
 use Rattle.mem_manager.proofs.KnownLoans.{here_of, lent_of_name, knows_beside, lent_apart}
+use Rattle.mem_manager.proofs.Places.{found_named}
 use Rattle.mem_manager.proofs.heap.Heap.free_found.Goals as goal
 use Rattle.mem_manager.proofs.heap.Heap.free_found.Goals.{else-found-gt0-via-then-found-gt0+else-found-lt-FIXED_LOCK, else-found-gt0-via-else-found-gt0}
 
@@ -31,6 +32,9 @@ returns-then-found-lt-FIXED_LOCK c =
     let f = inside_too c.args.name.0 c.args.found c.self.view_is c.requires.found in
     subst (λ (m : Memory). Does m (Free c.args.name) (Reply.Refused Refusal.ChunkLocked) m) c.self.view_is
     (free_locked c.self.inside.space c.args.name c.args.found c.self.invariant.0.accepted f c.requires.callers c.in_ok-check_callers.ensures.ok c.if-found-gt0.true c.if-found-lt-FIXED_LOCK.true)
+
+pub check_here-requires : goal.check_here-requires
+check_here-requires c = found_named c.self.inside.space.bytes c.args.name.0 c.args.found c.self.invariant.0.accepted (inside_too c.args.name.0 c.args.found c.self.view_is c.requires.found)
 
 pub give_back-requires-clause-found : goal.give_back-requires-clause-found
 give_back-requires-clause-found c = one_of (inside_too c.args.name.0 c.args.found c.self.view_is c.requires.found)

@@ -1,8 +1,10 @@
 use Rattle.std.proofs.Common.{subst, ap, sym}
+use Rattle.std.specs.Prelude.{Option}
 use Rattle.heap_model.specs.Memory.{Memory}
 use Rattle.heap_model.specs.Lending.{IsLent}
+use Rattle.heap_model.specs.declared.names.Name.{Name}
 use Rattle.raw_region.specs.Parts.{IsOut}
-use Rattle.mem_manager.specs.Loans.{OnLoan, PutsBack}
+use Rattle.mem_manager.specs.Loans.{OnLoan, KnowsLent, PutsBack}
 use Rattle.mem_manager.proofs.StepWords.{used_altered, stays_in_place}
 use Rattle.mem_manager.proofs.LoanCalls.{managers_here, out_changes, out_leaves, lent_held, fills_body, knows_none}
 use Rattle.mem_manager.proofs.heap.Heap.put_back.Goals as goal
@@ -31,7 +33,7 @@ invariant_of-self c =
     let many = (fills_body c.self.inside.space c.self.inside.lent c.loan.inside.name.0 c.chunk-found.result c.loan.inside.part c.self.invariant.0.accepted c.self.invariant.1 is out c.chunk-found.ensures).1 in (
       used_altered c.self.inside.space.bytes c.take_back.new.self.bytes c.self.inside.used c.loan.inside.name.0 _ _ c.self.invariant.0
           (out_changes c.self.inside.space.bytes c.take_back.new.self.bytes c.loan.inside.name.0 c.chunk-found.result c.loan.inside.part.bytes c.self.invariant.0.accepted c.chunk-found.ensures many c.take_back.ensures.made),
-      knows_none c.take_back.new.self (ap (λ (m : Memory). m.lent) c.take_back.ensures.rest),
+      subst (λ (lent : Option Name). KnowsLent c.take_back.new.self c.take_back.new.self.lent lent) (sym c.none-self-inside.ensures) (knows_none c.take_back.new.self (ap (λ (m : Memory). m.lent) c.take_back.ensures.rest)),
     )
 
 pub returns-clause-back : goal.returns-clause-back

@@ -11,7 +11,11 @@ use Rattle.mem_manager.proofs.Growth.{knows_replied, keeps_replied}
 use Rattle.mem_manager.proofs.LoanCalls.{managers_here}
 use Rattle.heap_model.specs.Lending.{IsLent, KeepsLoan}
 use Rattle.laws_heap.proofs.Unmoved.{itself_alone}
+use Rattle.mem_manager.proofs.Places.{found_named}
 use Rattle.mem_manager.proofs.heap.Heap.sys_resize.Goals as goal
+
+pub check_here-requires : goal.check_here-requires
+check_here-requires c = found_named c.self.inside.space.bytes c.args.name.0 c.args.found c.self.invariant.0.accepted (found_viewed c.args.name.0 c.args.found c.self.view_is c.requires.stands)
 
 pub resize_found-requires-clause-found : goal.resize_found-requires-clause-found
 resize_found-requires-clause-found c = one_of (found_viewed c.args.name.0 c.args.found c.self.view_is c.requires.stands)

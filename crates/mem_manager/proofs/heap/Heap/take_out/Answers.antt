@@ -1,8 +1,10 @@
 use Rattle.std.proofs.Common.{ℕ, replicate, subst, ◌∙◌, sym, refl}
+use Rattle.std.specs.Prelude.{Option}
 use Rattle.heap_model.specs.Memory.{Memory}
 use Rattle.heap_model.specs.Refusals.{FirstBrings}
 use Rattle.heap_model.specs.declared.refusal.Refusal.{Refusal}
-use Rattle.mem_manager.specs.Loans.{out_checks, TakesOut}
+use Rattle.heap_model.specs.declared.names.Name.{Name}
+use Rattle.mem_manager.specs.Loans.{KnowsLent, out_checks, TakesOut}
 use Rattle.mem_manager.proofs.StepWords.{used_altered}
 use Rattle.mem_manager.proofs.LoanCalls.{handed_why, known_some, out_unlocked, out_already, out_changes, made_out, knows_out}
 use Rattle.std.proofs.lemmas.List.{length-replicate}
@@ -23,7 +25,8 @@ invariant_of-self c =
     let f = c.in_ok-found.ensures.found in (
       used_altered c.self.inside.space.bytes c.lend-part.new.self.bytes c.self.inside.used c.args.name.0 _ _ c.self.invariant.0
           (out_changes c.self.inside.space.bytes c.lend-part.new.self.bytes c.args.name.0 c.in_ok-found.found (replicate c.in_ok-found.found.length 0) c.self.invariant.0.accepted f (length-replicate {A = ℕ} c.in_ok-found.found.length 0) c.lend-part.ensures.made),
-      knows_out c.self.inside.space c.lend-part.new.self c.args.name c.in_ok-found.found _ c.self.invariant.0.accepted f c.in_ok-found.ensures.callers c.in_ok-check_locked.ensures.ok c.lend-part.ensures.made refl refl c.lend-part.ensures.out,
+      subst (λ (lent : Option Name). KnowsLent c.lend-part.new.self c.lend-part.new.self.lent lent) (sym c.of-self-inside.ensures)
+          (knows_out c.self.inside.space c.lend-part.new.self c.args.name c.in_ok-found.found _ c.self.invariant.0.accepted f c.in_ok-found.ensures.callers c.in_ok-check_locked.ensures.ok c.lend-part.ensures.made refl refl c.lend-part.ensures.out),
     )
 
 pub returns-clause-taken : goal.returns-clause-taken
