@@ -1,5 +1,5 @@
 -- The entries of a canonical form, one after the other.
-use Rattle.std.proofs.Common.{◌≡◌, ℕ, suc, ◌+◌, ◌<◌, ◌≤◌, Option, None, List, ◌∷◌, ◌++◌, length, get_or, drop, refl, sym, ap, ◌∙◌, arith, add-one, drop-cons}
+use Rattle.std.proofs.Common.{◌≡◌, ℕ, ◌+◌, ◌<◌, Option, None, List, ◌∷◌, ◌++◌, length, get_or, drop, refl, sym, ap, ◌∙◌, arith, add-one, drop-cons}
 use Rattle.heap_model.specs.Database.{Entry, a_record, a_resource, entry_data, entry_bytes, entry_count_in, entry_in}
 use Rattle.heap_model.specs.Files.{idle_attributes, blocks_in, block_size, block_offset}
 use Rattle.pdb_format.specs.FileTexts.{entries_text}

@@ -1,10 +1,8 @@
 -- The header of a canonical form.
-use Rattle.std.proofs.Common.{◌≡◌, ℕ, ◌+◌, ◌*◌, ◌/◌, ◌<◌, ◌≤◌, Option, None, List, length, map, get_or, refl, sym, ap, ◌∙◌, arith}
+use Rattle.std.proofs.Common.{◌≡◌, ℕ, ◌+◌, ◌*◌, ◌/◌, Option, None, List, map, get_or, refl, sym, ap, ◌∙◌, arith}
 use Rattle.std.proofs.lemmas.List.{length-map}
-use Rattle.heap_model.specs.Bytes.{u16_at}
-use Rattle.heap_model.specs.DatabaseFields.{attributes_at}
-use Rattle.heap_model.specs.Database.{Database, has_resources, header_in, resources_in, entry_count_in, entry_offset, database_in}
-use Rattle.heap_model.specs.Files.{blocks_in, entries_end, idle_entry, idle, block_size, block_offset, with_offsets, first_block}
+use Rattle.heap_model.specs.Database.{Database, has_resources, header_in, resources_in, entry_offset, database_in}
+use Rattle.heap_model.specs.Files.{idle_entry, idle, block_size, block_offset, with_offsets, first_block}
 use Rattle.db_format.specs.declared.header.DbHeader.{DbHeader}
 use Rattle.db_format.specs.Headers.{HasHeader}
 use Rattle.pdb_format.specs.Blocks.{bytes_at, length_within}

@@ -1,13 +1,13 @@
 -- How long a canonical form is, and its parts.
-use Rattle.std.proofs.Common.{◌≡◌, ℕ, ◌+◌, ◌*◌, ◌<◌, ◌≤◌, Bool, true, false, Option, None, List, [], ◌∷◌, ◌++◌, length, get_or, refl, sym, ap, subst, ◌∙◌, arith, length-append}
+use Rattle.std.proofs.Common.{◌≡◌, ℕ, ◌+◌, ◌*◌, Bool, true, false, Option, None, List, [], ◌∷◌, ◌++◌, length, get_or, refl, sym, ap, subst, ◌∙◌, arith, length-append}
 use Rattle.std.specs.Prelude.{All}
 use Rattle.std.proofs.lemmas.List.Elements.{All-head, All-tail}
 use Rattle.heap_model.specs.DatabaseFields.{entry_size}
-use Rattle.heap_model.specs.Database.{Database, Entry, a_record, a_resource, IsDatabaseName, name_in, header_in, resources_in, entry_count_in, entry_at, entry_in, entry_offset, entry_bytes}
+use Rattle.heap_model.specs.Database.{Database, Entry, a_record, a_resource, IsDatabaseName, name_in, header_in, resources_in, entry_at, entry_offset, entry_bytes}
 use Rattle.heap_model.specs.Files.{HasNoFault, blocks_in, entries_end, idle_attributes, idle, block_size, block_offset, with_offsets, first_block, file_of}
 use Rattle.laws_store.proofs.Spellings.{length-header_bytes}
-use Rattle.pdb_format.specs.FileTexts.{header_text, entries_text, blocks_text}
-use Rattle.pdb_format.specs.ReadFiles.{entry_read, entry_read_at, entries_read, database_read}
+use Rattle.pdb_format.specs.FileTexts.{header_text, entries_text}
+use Rattle.pdb_format.specs.ReadFiles.{entry_read, entries_read, database_read}
 use Rattle.pdb_format.proofs.FileNames.{file_named}
 use Rattle.pdb_format.proofs.FileParts.{data_at, file_parts, record_long, resource_long}
 use Rattle.pdb_format.proofs.ReadFiles.{length-entries_read, entry_read_is, blocks_read_are}

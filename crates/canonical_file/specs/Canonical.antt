@@ -7,7 +7,7 @@ use Rattle.heap_model.specs.Database.{Database, Entry, entry_with, header_in, da
 use Rattle.heap_model.specs.Store.{unique_ids}
 use Rattle.heap_model.specs.Files.{HasNoFault, HaveIds, IsFirstFault, Reads, blocks_in, entries_end, idle_entry, block_offset, file_of}
 use Rattle.pdb_format.specs.Blocks.{bytes_at, IsWithin, length_within}
-use Rattle.pdb_format.specs.ReadFiles.{HasIdsFor, database_read}
+use Rattle.pdb_format.specs.ReadFiles.{HasIdsFor}
 use Rattle.pdb_format.specs.declared.blocks.Block.{Block}
 use Rattle.file_ids.specs.declared.give.GivenIds.{GivenIds}
 use Rattle.canonical_file.specs.declared.canonical.CanonicalFault.{CanonicalFault}

@@ -1,13 +1,16 @@
 //! The blocks of a file, as they are in its canonical form.
 
-ghost use Rattle.std.specs.Prelude.{◌≡◌, ◌≤◌, ◌<◌, ◌+◌, ◌++◌, ◌^◌, ℕ, List, length, vec_len, vec_capacity, All};
+ghost use Rattle.std.specs.Prelude.{◌≡◌, ◌≤◌, ◌<◌, ◌+◌, ◌++◌, ◌^◌, ℕ, List, length, is_ok, vec_len, vec_capacity, All};
 ghost use Rattle.std.specs.List.{flat_map, sum_by};
 ghost use Rattle.heap_model.specs.Files as files;
 ghost use Rattle.heap_model.specs.Files.{blocks_in};
 ghost use Rattle.pdb_format.specs.Blocks.{bytes_at, IsWithin, length_within};
+ghost use Rattle.palm_text.specs.Counted.{Writes};
 ghost use Rattle.canonical_file.specs.Canonical.{HasBlocks};
 
+use palm_text::{Counted, WriteFault, put_all};
 use pdb_format::Block;
+use std::io::Write;
 
 /// Returns the size of a block in bytes, and 0 if there is none.
 pub(crate) fn block_length(block: Option<Block>) -> usize
@@ -77,4 +80,23 @@ pub(crate) fn append_blocks(file: &[u8], blocks: &[Option<Block>], bytes: &mut V
     for index in 0..blocks.len() {
         append(bytes, block_bytes(file, blocks[index]));
     }
+}
+
+/// Writes the blocks, one after the other.
+pub(crate) fn put_blocks<W: Write>(
+    file: &[u8],
+    blocks: &[Option<Block>],
+    out: &mut Counted<W>,
+) -> Result<(), WriteFault>
+    requires { HasBlocks file.now blocks.now }
+    ensures { Writes W.contents out.old out.new
+        (flat_map files.block_bytes (blocks_in file.now)) (is_ok result) }
+{
+    for index in 0..blocks.len() {
+        match put_all(out, block_bytes(file, blocks[index])) {
+            Ok(()) => {}
+            Err(fault) => return Err(fault),
+        }
+    }
+    Ok(())
 }

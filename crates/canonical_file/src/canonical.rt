@@ -1,18 +1,21 @@
 //! The canonical form of a file, as bytes and on a writer.
 
-ghost use Rattle.std.specs.Prelude.{◌≡◌, ◌≢◌, ◌≤◌, ℕ, List, [], length, false, Err, IfOk, IfErr, OnErr, vec_len, vec_capacity};
-ghost use Rattle.heap_model.specs.Files.{HasNoFault, file_of};
+ghost use Rattle.std.specs.Prelude.{◌≡◌, ◌≢◌, ◌≤◌, ◌+◌, ◌++◌, ℕ, List, [], length, false, Err, IfOk, IfErr, OnErr, is_ok, vec_len, vec_capacity};
+ghost use Rattle.std.specs.List.{flat_map};
+ghost use Rattle.heap_model.specs.Files as files;
+ghost use Rattle.heap_model.specs.Files.{HasNoFault, block_bytes, blocks_in, file_of};
+ghost use Rattle.palm_text.specs.Counted.{Writes};
 ghost use Rattle.pdb_format.specs.ReadFiles.{database_read};
 ghost use Rattle.canonical_file.specs.Canonical.{HasBlocks, HasIds, IsCanonical, IsFaultOf, WritesCanonical, WroteCanonical, most_bytes};
 
-use crate::blocks::{append, append_blocks, total_length};
+use crate::blocks::{append, append_blocks, put_blocks, total_length};
 use crate::entries::append_entries;
 use crate::header::{data_start, header_bytes};
 use allowance::{Allowance, room_for};
 use db_format::entries_end;
 use file_ids::{GivenIds, give_ids_from};
 use heap_model::FileFault;
-use palm_text::{Counted, put_all};
+use palm_text::{Counted, WriteFault, put_all};
 use pdb_format::{Block, check_file, find_blocks_from};
 use std::alloc::AllocError;
 use std::io::Write;
@@ -41,21 +44,22 @@ fn file_size(file: &[u8], blocks: &[Option<Block>]) -> usize
     entries_end(file) + 2 + total_length(blocks)
 }
 
-/// Writes the canonical form of a file into an empty vector that has room for it.
-fn append_file(file: &[u8], blocks: &[Option<Block>], given: &GivenIds, bytes: &mut Vec<u8>)
+/// Writes what comes before the blocks of a canonical form into an empty vector that has room for
+/// it.
+fn append_head(file: &[u8], blocks: &[Option<Block>], given: &GivenIds, bytes: &mut Vec<u8>)
     requires blocks { HasBlocks file.now blocks.now }
     requires ids { HasIds file.now given.now }
     requires empty { bytes.old.items ≡ [] }
     requires none { vec_len bytes.old ≡ 0 }
-    requires room { length (file_of (database_read file.now given.now.ids.items given.now.seed))
-        ≤ vec_capacity bytes.old }
-    ensures { bytes.new.items
+    requires room { files.entries_end file.now + 2 ≤ vec_capacity bytes.old }
+    ensures items { bytes.new.items ++ flat_map block_bytes (blocks_in file.now)
         ≡ file_of (database_read file.now given.now.ids.items given.now.seed) }
+    ensures len { vec_len bytes.new ≡ files.entries_end file.now + 2 }
+    ensures capacity { vec_capacity bytes.old ≤ vec_capacity bytes.new }
 {
     append(bytes, &header_bytes(file, blocks, given.seed));
     append_entries(file, blocks, &given.ids, data_start(file, blocks), bytes);
     append(bytes, &[0, 0]);
-    append_blocks(file, blocks, bytes);
 }
 
 /// Returns the canonical form of a file without fault.
@@ -74,13 +78,63 @@ pub fn canonical_bytes<A: Allowance>(memory: &A, file: &[u8]) -> Result<Vec<u8>,
     let blocks = find_blocks_from(memory, file)?;
     let given = give_ids_from(memory, file)?;
     let mut bytes = room_for(memory, file_size(file, &blocks))?;
-    append_file(file, &blocks, &given, &mut bytes);
+    append_head(file, &blocks, &given, &mut bytes);
+    append_blocks(file, &blocks, &mut bytes);
     Ok(bytes)
+}
+
+/// A canonical form in two parts: the bytes before the blocks, and the places of the blocks in the
+/// original file.
+#[derive(Drop)]
+struct Form {
+    head: Vec<u8>,
+    blocks: Vec<Option<Block>>,
+}
+
+/// Returns the canonical form of a file without fault, in two parts.
+///
+/// # Errors
+///
+/// - `AllocError`: if an allocation failed.
+fn form_of<A: Allowance>(memory: &A, file: &[u8]) -> Result<Form, AllocError>
+    requires good { HasNoFault file.now }
+    requires short { length file.now ≤ most_bytes }
+    ensures blocks { IfOk result (λ form. HasBlocks file.now form.blocks.items) }
+    ensures canonical { IfOk result (λ form. IsCanonical file.now
+        (form.head.items ++ flat_map block_bytes (blocks_in file.now))) }
+    ensures short { OnErr result (A.is_short memory.now) }
+{
+    let blocks = find_blocks_from(memory, file)?;
+    let given = give_ids_from(memory, file)?;
+    let mut head = room_for(memory, entries_end(file) + 2)?;
+    append_head(file, &blocks, &given, &mut head);
+    Ok(Form { head, blocks })
+}
+
+/// Returns the size of a form in bytes.
+fn form_size(file: &[u8], form: &Form) -> usize
+    requires { HasBlocks file.now form.now.blocks.items }
+    ensures { result ≡ length (form.now.head.items ++ flat_map block_bytes (blocks_in file.now)) }
+{
+    let _file = file;
+    form.head.len() + total_length(&form.blocks)
+}
+
+/// Writes a form.
+#[tactic(auto, using(palm_text::proofs::Parts::then, palm_text::proofs::Parts::stops))]
+fn put_form<W: Write>(file: &[u8], form: &Form, out: &mut Counted<W>) -> Result<(), WriteFault>
+    requires { HasBlocks file.now form.now.blocks.items }
+    ensures { Writes W.contents out.old out.new
+        (form.now.head.items ++ flat_map block_bytes (blocks_in file.now)) (is_ok result) }
+{
+    put_all(out, &form.head)?;
+    put_blocks(file, &form.blocks, out)
 }
 
 /// Writes the canonical form of a file, and returns its size in bytes.
 ///
-/// It doesn't flush `out`. After a write fails, it writes nothing more.
+/// Each block is one write, of its bytes in the original file. It doesn't flush `out`. After a write
+/// fails, it writes nothing more.
 ///
 /// # Errors
 ///
@@ -103,11 +157,11 @@ pub fn put_canonical<A: Allowance, W: Write>(
     if let Err(fault) = check_file(file) {
         return Err(CanonicalFault::BadFile(fault));
     }
-    let Ok(bytes) = canonical_bytes(memory, file) else {
+    let Ok(form) = form_of(memory, file) else {
         return Err(CanonicalFault::OutOfMemory);
     };
-    match put_all(out, &bytes) {
-        Ok(()) => Ok(bytes.len()),
+    match put_form(file, &form, out) {
+        Ok(()) => Ok(form_size(file, &form)),
         Err(_) => Err(CanonicalFault::Write),
     }
 }

@@ -1,5 +1,4 @@
-use Rattle.std.proofs.Common.{◌≤◌, ℕ, length, arith}
-use Rattle.heap_model.specs.Files.{entries_end}
+use Rattle.std.proofs.Common.{arith}
 use Rattle.pdb_format.proofs.GoodFiles.{not_truncated}
 use Rattle.canonical_file.proofs.BlockTexts.{blocks_long}
 use Rattle.canonical_file.proofs.Lengths.{file_long}

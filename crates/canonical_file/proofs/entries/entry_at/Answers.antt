@@ -1,4 +1,3 @@
-use Rattle.std.proofs.Common.{None}
 use Rattle.pdb_format.specs.Blocks.{bytes_at}
 use Rattle.canonical_file.proofs.EntryTexts.{record_placed, resource_placed}
 use Rattle.canonical_file.proofs.entries.entry_at.Goals as goal

@@ -1,23 +1,21 @@
-use Rattle.std.proofs.Common.{◌≡◌, ℕ, ◌+◌, ◌<◌, ◌≤◌, None, List, [], ◌∷◌, ◌++◌, length, get_or, vec_len, vec_capacity, sym, ap, ◌∙◌, arith, append_assoc}
+use Rattle.std.proofs.Common.{◌≡◌, ℕ, None, List, [], ◌∷◌, ◌++◌, length, sym, ap, ◌∙◌, arith, append_assoc}
 use Rattle.std.proofs.lemmas.List.Sums.{get_or-le-sum_by}
 use Rattle.heap_model.specs.Files.{blocks_in}
 use Rattle.pdb_format.specs.Blocks.{length_within}
 use Rattle.pdb_format.specs.FileTexts.{header_text, entries_text}
 use Rattle.pdb_format.specs.ReadFiles.{entries_read, database_read}
 use Rattle.pdb_format.proofs.FileBlocks.{length-blocks}
-use Rattle.pdb_format.proofs.FileParts.{data_at}
 use Rattle.pdb_format.proofs.GoodFiles.{not_truncated}
 use Rattle.pdb_format.proofs.WrittenOffsets.{all_bytes}
 use Rattle.canonical_file.proofs.Headers.{data_place_is}
-use Rattle.canonical_file.proofs.Lengths.{header_long, entries_read_long, parts_read, file_long}
-use Rattle.canonical_file.proofs.canonical.append_file.Goals as goal
+use Rattle.canonical_file.proofs.Lengths.{header_long, entries_read_long, parts_read}
+use Rattle.canonical_file.proofs.canonical.append_head.Goals as goal
 
 pub append-requires : goal.append-requires
 append-requires c =
     let file = c.args.file.now in
     let ids = c.args.given.now.ids.items in
     let seed = c.args.given.now.seed in
-    let long = file_long file ids seed c.requires.blocks.good in
     let head = ap length (c.header_bytes.ensures ids) ∙ header_long file ids seed c.requires.blocks.good in
     let entries = entries_read_long file ids 0 in
     let none = c.requires.none in
@@ -41,7 +39,6 @@ append_entries-requires-clause-room c =
     let file = c.args.file.now in
     let ids = c.args.given.now.ids.items in
     let seed = c.args.given.now.seed in
-    let long = file_long file ids seed c.requires.blocks.good in
     let head = ap length (c.header_bytes.ensures ids) ∙ header_long file ids seed c.requires.blocks.good in
     let entries = entries_read_long file c.deref.result.now c.data_start.result in
     let none = c.requires.none in
@@ -55,7 +52,6 @@ append-requires-2 c =
     let file = c.args.file.now in
     let ids = c.args.given.now.ids.items in
     let seed = c.args.given.now.seed in
-    let long = file_long file ids seed c.requires.blocks.good in
     let head = ap length (c.header_bytes.ensures ids) ∙ header_long file ids seed c.requires.blocks.good in
     let entries = entries_read_long file c.deref.result.now c.data_start.result in
     let none = c.requires.none in
@@ -66,42 +62,35 @@ append-requires-2 c =
     let kept_more = c.append_entries.ensures.capacity in
     omega arith
 
-pub append_blocks-requires-clause-room : goal.append_blocks-requires-clause-room
-append_blocks-requires-clause-room c =
+pub returns-clause-len : goal.returns-clause-len
+returns-clause-len c =
     let file = c.args.file.now in
     let ids = c.args.given.now.ids.items in
     let seed = c.args.given.now.seed in
-    let long = file_long file ids seed c.requires.blocks.good in
     let head = ap length (c.header_bytes.ensures ids) ∙ header_long file ids seed c.requires.blocks.good in
     let entries = entries_read_long file c.deref.result.now c.data_start.result in
     let none = c.requires.none in
-    let room = c.requires.room in
     let len = c.append.ensures.len in
-    let kept = c.append.ensures.capacity in
     let more = c.append_entries.ensures.len in
-    let kept_more = c.append_entries.ensures.capacity in
     let two = c.append-2.ensures.len in
-    let kept_two = c.append-2.ensures.capacity in
-    let fits : vec_len c.append-2.new.bytes + length (all_bytes (blocks_in file)) ≤ vec_capacity c.append-2.new.bytes = omega arith in
-    fits
+    omega arith
 
--- parts that are put one after the other
-joined : (b0 b1 b2 b3 b4 h e z k : List ℕ) → b0 ≡ [] → b1 ≡ b0 ++ h → b2 ≡ b1 ++ e → b3 ≡ b2 ++ z → b4 ≡ b3 ++ k → b4 ≡ h ++ (e ++ (z ++ k))
-joined b0 b1 b2 b3 b4 h e z k none first second third fourth =
-    fourth
-    ∙ ap (λ (xs : List ℕ). xs ++ k) (third ∙ ap (λ (xs : List ℕ). xs ++ z) (second ∙ ap (λ (xs : List ℕ). xs ++ e) (first ∙ ap (λ (xs : List ℕ). xs ++ h) none)))
+-- parts that are put one after the other, and what follows them
+joined : (b0 b1 b2 b3 h e z k : List ℕ) → b0 ≡ [] → b1 ≡ b0 ++ h → b2 ≡ b1 ++ e → b3 ≡ b2 ++ z → b3 ++ k ≡ h ++ (e ++ (z ++ k))
+joined b0 b1 b2 b3 h e z k none first second third =
+    ap (λ (xs : List ℕ). xs ++ k) (third ∙ ap (λ (xs : List ℕ). xs ++ z) (second ∙ ap (λ (xs : List ℕ). xs ++ e) (first ∙ ap (λ (xs : List ℕ). xs ++ h) none)))
     ∙ append_assoc (h ++ e) z k ∙ append_assoc h e (z ++ k)
 
-pub returns : goal.returns
-returns c =
+pub returns-clause-items : goal.returns-clause-items
+returns-clause-items c =
     let file = c.args.file.now in
     let ids = c.args.given.now.ids.items in
     let seed = c.args.given.now.seed in
     let place = c.data_start.ensures ∙ sym (data_place_is file ids seed c.args.blocks.now c.requires.blocks) in
     let entries = ap (λ (given : List ℕ). entries_text c.data_start.result (entries_read file given)) c.deref.ensures.value
     ∙ ap (λ (at : ℕ). entries_text at (entries_read file ids)) place in
-    joined c.args.bytes.now.items c.append.new.bytes.items c.append_entries.new.bytes.items c.append-2.new.bytes.items c.append_blocks.new.bytes.items c.header_bytes.result
-    (entries_text c.data_start.result (entries_read file c.deref.result.now)) (0 ∷ 0 ∷ []) (all_bytes (blocks_in file)) c.requires.empty c.append.ensures.items c.append_entries.ensures.items c.append-2.ensures.items c.append_blocks.ensures
+    joined c.args.bytes.now.items c.append.new.bytes.items c.append_entries.new.bytes.items c.append-2.new.bytes.items c.header_bytes.result
+    (entries_text c.data_start.result (entries_read file c.deref.result.now)) (0 ∷ 0 ∷ []) (all_bytes (blocks_in file)) c.requires.empty c.append.ensures.items c.append_entries.ensures.items c.append-2.ensures.items
     ∙ ap (λ (xs : List ℕ). xs ++ (entries_text c.data_start.result (entries_read file c.deref.result.now) ++ (0 ∷ 0 ∷ [] ++ all_bytes (blocks_in file)))) (c.header_bytes.ensures ids)
     ∙ ap (λ (xs : List ℕ). header_text (database_read file ids seed) ++ (xs ++ (0 ∷ 0 ∷ [] ++ all_bytes (blocks_in file)))) entries
     ∙ sym (parts_read file ids seed)
