@@ -1,6 +1,6 @@
 -- What is written and then flushed.
 use Rattle.std.proofs.Common.{◌++◌, ℕ, Bool, true, false, Option, List, length, refl, subst, inl}
-use Rattle.heap_model.specs.Files.{IsFirstFault}
+use Rattle.heap_model.specs.Files.{HasNoFault, IsFirstFault}
 use Rattle.heap_model.specs.declared.file_fault.FileFault.{FileFault}
 use Rattle.palm_text.specs.Counted.{Writing, Writes, Flushes}
 use Rattle.palm_text.specs.Output.{Puts}
@@ -17,12 +17,12 @@ module _ {V : Type 0} (contents : V → Option (List ℕ)) where
   puts_fault old new file fault ok first puts = (fault, first, puts)
 
   -- a listing, and the flush after it
-  pub puts_listing : (old between new : Writing V) (file : List ℕ) (ok : Bool) → WritesListing file contents old between true → Flushes contents between new ok → PutsListing file contents old new ok
-  puts_listing old between new file ok listing flush = (listing.0, listing.1, then_flush contents old between new listing.0 ok listing.2 flush)
+  pub puts_listing : (old between new : Writing V) (file : List ℕ) (ok : Bool) → HasNoFault file → WritesListing file contents old between true → Flushes contents between new ok → PutsListing file contents old new ok
+  puts_listing old between new file ok good listing flush = (good, (listing.0, listing.1, then_flush contents old between new listing.0 ok listing.2 flush))
 
   -- a write of it failed
-  pub listing_stops : (old new : Writing V) (file : List ℕ) → WritesListing file contents old new false → PutsListing file contents old new false
-  listing_stops old new file listing = (listing.0, listing.1, inl listing.2)
+  pub listing_stops : (old new : Writing V) (file : List ℕ) → HasNoFault file → WritesListing file contents old new false → PutsListing file contents old new false
+  listing_stops old new file good listing = (good, (listing.0, listing.1, inl listing.2))
 
   -- a file that is its own canonical form
   pub wrote_same : (old new : Writing V) (file : List ℕ) → IsCanonical file file → Writes contents old new file true → WroteCanonical file contents old new (length file)

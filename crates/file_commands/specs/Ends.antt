@@ -14,9 +14,9 @@ use Rattle.file_commands.specs.declared.faults.Rewritten.{Rewritten}
 use Rattle.program_io.specs.declared.status.Status.{Status}
 use Rattle.program_io.specs.declared.status.Status.TheVariants.{Done, Refused, BadWords, ReadFault, WriteFault, NoMemory}
 
--- the listing of a file
+-- the listing of a file without fault
 abbrev pub PutsListing : {V : Type 0} → List ℕ → (V → Option (List ℕ)) → Writing V → Writing V → Bool → Type 0
-PutsListing file contents old new ok = (text : List ℕ) × IsListing file text × Puts contents old new text ok
+PutsListing file contents old new ok = HasNoFault file × ((text : List ℕ) × IsListing file text × Puts contents old new text ok)
 
 -- the lines for the first fault of a file
 abbrev pub PutsFault : {V : Type 0} → List ℕ → (V → Option (List ℕ)) → Writing V → Writing V → Bool → Type 0

@@ -8,6 +8,7 @@ use Rattle.heap_model.specs.Database.{DatabaseHeader, Entry, a_record, a_resourc
 use Rattle.heap_model.specs.Files.{offsets_in, blocks_in}
 use Rattle.palm_text.specs.Pieces.{spelled}
 use Rattle.palm_text.specs.Counted.{Writing, Writes}
+use Rattle.code_page.specs.Texts.{text_between}
 use Rattle.file_changes.specs.declared.changes.Changes.{Changes}
 use Rattle.file_changes.specs.Changes.{AreChanges, changes_line}
 use Rattle.file_needs.specs.Needs.{least_slots, least_size}
@@ -101,6 +102,14 @@ end_lines file changes = list_lines file ++ last_lines file changes
 unfoldable pub body_lines : List ℕ → Changes → List ℕ
 body_lines file changes = info_lines file ++ end_lines file changes
 
+-- the line with the characters of a name, or nothing if scripts spell the name in quotes
+abbrev pub text_line : List ℕ → List ℕ
+text_line name = text_between (codes "text \"") name (codes "\"\n")
+
+-- that line, and those after it
+abbrev pub rest_lines : List ℕ → DatabaseHeader → Changes → List ℕ
+rest_lines file header changes = text_line header.name ++ body_lines file changes
+
 -- this is the listing of the file
 pub record IsListing (file text : List ℕ) : Type 0 where
   pub created : List ℕ
@@ -111,7 +120,7 @@ pub record IsListing (file text : List ℕ) : Type 0 where
   pub backup_is : IsMomentText (header_in file).backup_date backup
   pub changes : Changes
   pub changes_are : AreChanges file changes
-  pub lines : text ≡ head_lines (length file) (header_in file) created modified backup ++ body_lines file changes
+  pub lines : text ≡ head_lines (length file) (header_in file) created modified backup ++ rest_lines file (header_in file) changes
 
 -- the listing of the file goes to a writer: all of it if `ok`, or else a prefix of it
 abbrev pub WritesListing : {W : Type 0} → List ℕ → (W → Option (List ℕ)) → Writing W → Writing W → Bool → Type 0

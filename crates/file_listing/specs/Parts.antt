@@ -6,7 +6,7 @@ use Rattle.file_changes.specs.Changes.{AreChanges}
 use Rattle.file_listing.specs.declared.moments.Moments.{Moments}
 use Rattle.file_listing.specs.declared.parts.Parts.{Parts}
 use Rattle.file_listing.specs.Moments.{IsMomentText}
-use Rattle.file_listing.specs.Listing.{head_lines, body_lines}
+use Rattle.file_listing.specs.Listing.{head_lines, rest_lines}
 
 -- these are the texts of the moments of a header
 pub record AreMoments (header : DatabaseHeader) (moments : Moments) : Type 0 where
@@ -24,4 +24,4 @@ pub record HasParts (file : List ℕ) (parts : Parts) : Type 0 where
 abbrev pub lines_by : List ℕ → DatabaseHeader → Parts → List ℕ
 lines_by file header parts =
     head_lines (length file) header (string_bytes parts.moments.created) (string_bytes parts.moments.modified) (string_bytes parts.moments.backup)
-    ++ body_lines file parts.changes
+    ++ rest_lines file header parts.changes

@@ -21,10 +21,13 @@
 //! canonical
 //! ```
 //!
+//! If the name isn't spelled in quotes, the line `text` before `app` has its characters.
+//!
 //! Start with `specs/Listing.antt`, which defines the lines.
 #![tactic(auto)]
 
 mod blocks;
+mod damage;
 mod entries;
 mod fault_lines;
 mod head;
@@ -33,6 +36,7 @@ mod moments;
 mod needs;
 mod parts;
 
+pub use damage::{Damage, damage_of};
 pub use fault_lines::{fault_place, put_fault};
 pub use listing::{ListFault, put_listing};
 pub use moments::utc_text;

@@ -6,7 +6,7 @@ ghost use Rattle.heap_model.specs.Files.{HasNoFault};
 ghost use Rattle.db_format.specs.Headers.{header_of};
 ghost use Rattle.palm_text.specs.Counted.{Writes};
 ghost use Rattle.file_listing.specs.FaultLines.{IsFaultOf};
-ghost use Rattle.file_listing.specs.Listing.{WritesListing, body_lines, end_lines, last_lines};
+ghost use Rattle.file_listing.specs.Listing.{WritesListing, body_lines, end_lines, last_lines, rest_lines};
 ghost use Rattle.file_listing.specs.Parts.{lines_by};
 
 use crate::blocks::put_infos;
@@ -15,6 +15,7 @@ use crate::head::put_head;
 use crate::needs::put_needs;
 use crate::parts::{Parts, parts_of};
 use allowance::Allowance;
+use code_page::put_text;
 use db_format::DbHeader;
 use file_changes::put_changes;
 use heap_model::FileFault;
@@ -68,6 +69,22 @@ fn put_body<W: Write>(out: &mut Counted<W>, file: &[u8], parts: &Parts) -> Resul
     put_end(out, file, parts)
 }
 
+/// Writes the line of the name's characters, and the lines after it.
+#[tactic(auto, using(palm_text::proofs::Parts::then, palm_text::proofs::Parts::stops))]
+fn put_rest<W: Write>(
+    out: &mut Counted<W>,
+    file: &[u8],
+    header: &DbHeader,
+    parts: &Parts,
+) -> Result<(), WriteFault>
+    requires { HasBlocks file.now parts.now.blocks.items }
+    ensures { Writes W.contents out.old out.new (rest_lines file.now (header_of header.now)
+        parts.now.changes) (is_ok result) }
+{
+    put_text(out, b"text \"", header.name.name(), b"\"\n")?;
+    put_body(out, file, parts)
+}
+
 /// Writes the listing of a file without fault.
 #[tactic(auto, using(palm_text::proofs::Parts::then, palm_text::proofs::Parts::stops))]
 fn put_lines<W: Write>(
@@ -81,7 +98,7 @@ fn put_lines<W: Write>(
         parts.now) (is_ok result) }
 {
     put_head(out, file.len() as u32, header, &parts.moments)?;
-    put_body(out, file, parts)
+    put_rest(out, file, header, parts)
 }
 
 /// Writes the listing of a file.

@@ -89,7 +89,7 @@ framed_text line rows strips = frame_text line rows ++ labelled_strips line rows
 
 -- ---- the whole
 
--- how high the picture is, with so many rows and databases
+-- how high a picture with these numbers of rows and of databases is
 abbrev pub height_of : ℕ → ℕ → ℕ
 height_of rows count = sizes_at rows count + 70
 

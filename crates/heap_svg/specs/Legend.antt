@@ -78,7 +78,7 @@ databases_note image rows = concat (numbered (database_at image rows) (listed_co
 unfoldable pub sizes_at : ℕ → ℕ → ℕ
 sizes_at rows count = 22 * ((count + 1) / 2) + (legend_at rows + 44)
 
--- the piece has so many bytes at least, and fewer than twice as many
+-- the piece has at least `least` bytes, and fewer than twice as many
 abbrev pub is_of : ℕ → ℕ → Bool
 is_of least size = nat_le least size && nat_lt size (2 * least)
 

@@ -15,7 +15,7 @@ pub record EndsRun (old new : PieceSizes) : Type 0 where
   pub met : new.met.items ≡ old.met.items ++ run_list old.run
   pub run : new.run ≡ None
 
--- the piece goes on with so many bytes more
+-- the piece is `size` bytes longer
 pub record GoesOn (old new : PieceSizes) (size : ℕ) : Type 0 where
   pub met : new.met.items ≡ old.met.items
   pub run : new.run ≡ Some (run_size old.run + size)

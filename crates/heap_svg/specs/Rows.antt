@@ -11,7 +11,7 @@ use Rattle.heap_svg.specs.Strips.{head_mark}
 
 -- ---- the size of a row
 
--- 64, doubled so many times
+-- 64, doubled a number of times
 abbrev pub doubled : ℕ → ℕ
 doubled zero = 64
 doubled (suc times) = 2 * doubled times
@@ -31,7 +31,8 @@ rows_in size line = (size + (line - 1)) / line
 abbrev pub pitch : ℕ
 pitch = 17
 
--- A row has 1,000 pixels. Chunks of fewer than so many bytes are thin: they are at most a pixel wide.
+-- A row of `line` bytes has 1,000 pixels. Chunks of fewer bytes than this are thin: they are at most
+-- a pixel wide.
 abbrev pub thin_below : ℕ → ℕ
 thin_below line = line / 1000 + 1
 

@@ -22,7 +22,7 @@ head_strip image = record { mark = head_mark; at = 0; size = area_start image; i
 abbrev pub joins : ℕ → Strip → ℕ → ℕ → Bool
 joins thin last mark size = nat_lt size thin && last.is_thin && (mark == last.mark)
 
--- the strip with so many bytes more
+-- the strip is `size` bytes longer
 abbrev pub longer : Strip → ℕ → Strip
 longer last size = record last { size = last.size + size }
 
@@ -30,7 +30,7 @@ longer last size = record last { size = last.size + size }
 abbrev pub next_strip : ℕ → Strip → ℕ → ℕ → Strip
 next_strip thin last mark size = record { mark = mark; at = last.at + last.size; size = size; is_thin = nat_lt size thin }
 
--- a strip, and those of the chunks behind it; chunks of fewer than so many bytes are thin
+-- a strip, and those of the chunks after it; chunks of fewer than `thin` bytes are thin
 abbrev pub strips_from : List ℕ → ℕ → Strip → List Chunk → List Strip
 strips_from image thin last [] = last ∷ []
 strips_from image thin last (chunk ∷ chunks) =

@@ -3,11 +3,11 @@
 use Rattle.std.specs.Prelude.{◌≡◌, ◌≢◌, ◌⊎◌, ℕ, Bool, true, false, List, ◌++◌, codes, decimal, Option}
 use Rattle.palm_text.specs.Counted.{Writing}
 use Rattle.heap_model.specs.Store.{Accepted}
-use Rattle.chunk_format.specs.Blank.{IsBlank, IsRegionSize, LeavesRoom}
+use Rattle.chunk_format.specs.Blank.{IsBlank}
 use Rattle.heap_check.specs.declared.summary.Summary.{Summary}
 use Rattle.store_check.specs.declared.summary.StoreSummary.{StoreSummary}
 use Rattle.store_check.specs.Checks.{Summarizes}
-use Rattle.program_io.specs.FaultLines.{PutsBad}
+use Rattle.image_faults.specs.Lines.{PutsBadImage, PutsNoImage}
 use Rattle.palm_text.specs.Output.{Puts}
 use Rattle.program_io.specs.declared.status.Status.{Status}
 use Rattle.program_io.specs.declared.status.Status.TheVariants.{Done, Refused, BadWords, ReadFault, WriteFault, NoMemory}
@@ -39,14 +39,13 @@ abbrev pub NewBreaksOff : {W V : Type 0} → (size slots : ℕ) → (W → Optio
 NewBreaksOff size slots image_contents image_old image_new contents old new =
     (PutsBlank size slots image_contents image_old image_new false × (new ≡ old))
     ⊎ (PutsBlank size slots image_contents image_old image_new true × Puts contents old new (codes "ok\n") false)
-    ⊎ ((IsRegionSize size × LeavesRoom size slots → ⊥) × PutsBad contents old new false × (image_new ≡ image_old))
+    ⊎ (PutsNoImage size slots contents old new false × (image_new ≡ image_old))
 
 -- the output of `new`, by the status with which it ends
 pub record EndsNew {W V : Type 0} (size slots : ℕ) (image_contents : W → Option (List ℕ)) (image_old image_new : Writing W) (contents : V → Option (List ℕ)) (old new : Writing V) (status : Status) : Type 0 where
   pub image : status ≡ Done → PutsBlank size slots image_contents image_old image_new true
   pub ok : status ≡ Done → Puts contents old new (codes "ok\n") true
-  pub bad_words : status ≡ BadWords → PutsBad contents old new true
-  pub no_such_image : status ≡ BadWords → IsRegionSize size × LeavesRoom size slots → ⊥
+  pub bad_words : status ≡ BadWords → PutsNoImage size slots contents old new true
   pub no_image : status ≡ BadWords → image_new ≡ image_old
   pub no_memory : status ≡ NoMemory → (image_new ≡ image_old) × (new ≡ old)
   pub write_fault : status ≡ WriteFault → NewBreaksOff size slots image_contents image_old image_new contents old new
@@ -58,9 +57,9 @@ pub record EndsCheck {V : Type 0} (image : List ℕ) (contents : V → Option (L
   pub done : status ≡ Done → PutsSummary image contents old new true
   pub accepted : status ≡ Done → Accepted image
   pub refused : status ≡ Refused → Accepted image → ⊥
-  pub fault : status ≡ Refused → PutsBad contents old new true
+  pub fault : status ≡ Refused → PutsBadImage image contents old new true
   pub no_memory : status ≡ NoMemory → new ≡ old
   pub summary_fault : status ≡ WriteFault → Accepted image → PutsSummary image contents old new false
-  pub bad_fault : status ≡ WriteFault → (Accepted image → ⊥) → PutsBad contents old new false
+  pub bad_fault : status ≡ WriteFault → (Accepted image → ⊥) → PutsBadImage image contents old new false
   pub good_words : status ≢ BadWords
   pub reads_nothing : status ≢ ReadFault

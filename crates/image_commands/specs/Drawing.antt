@@ -5,7 +5,7 @@ use Rattle.heap_model.specs.Store.{Accepted}
 use Rattle.heap_svg.specs.Drawing.{IsDrawing}
 use Rattle.palm_text.specs.Counted.{Writing}
 use Rattle.palm_text.specs.Output.{Puts}
-use Rattle.program_io.specs.FaultLines.{PutsBad}
+use Rattle.image_faults.specs.Lines.{PutsBadImage}
 use Rattle.program_io.specs.declared.status.Status.{Status}
 use Rattle.program_io.specs.declared.status.Status.TheVariants.{Done, Refused, BadWords, ReadFault, WriteFault, NoMemory}
 
@@ -20,7 +20,7 @@ abbrev pub DrawBreaksOff : {W V : Type 0} → List ℕ → (W → Option (List �
 DrawBreaksOff image file_contents file_old file_new contents old new =
     (Accepted image × PutsDrawing image file_contents file_old file_new false × (new ≡ old))
     ⊎ (Accepted image × PutsDrawing image file_contents file_old file_new true × Puts contents old new (codes "ok\n") false)
-    ⊎ ((Accepted image → ⊥) × PutsBad contents old new false × (file_new ≡ file_old))
+    ⊎ ((Accepted image → ⊥) × PutsBadImage image contents old new false × (file_new ≡ file_old))
 
 -- the outputs of `map` for an image and a file, by the status with which it ends
 pub record EndsDraw {W V : Type 0} (image : List ℕ) (file_contents : W → Option (List ℕ)) (file_old file_new : Writing W) (contents : V → Option (List ℕ)) (old new : Writing V) (status : Status) : Type 0 where
@@ -28,7 +28,7 @@ pub record EndsDraw {W V : Type 0} (image : List ℕ) (file_contents : W → Opt
   pub drawn : status ≡ Done → PutsDrawing image file_contents file_old file_new true
   pub ok : status ≡ Done → Puts contents old new (codes "ok\n") true
   pub refused : status ≡ Refused → Accepted image → ⊥
-  pub bad : status ≡ Refused → PutsBad contents old new true
+  pub bad : status ≡ Refused → PutsBadImage image contents old new true
   pub no_file : status ≡ Refused → file_new ≡ file_old
   pub no_memory : status ≡ NoMemory → (file_new ≡ file_old) × (new ≡ old)
   pub write_fault : status ≡ WriteFault → DrawBreaksOff image file_contents file_old file_new contents old new

@@ -5,7 +5,7 @@ use Rattle.heap_model.specs.Store.{Accepted}
 use Rattle.heap_map.specs.Text.{map_text}
 use Rattle.palm_text.specs.Counted.{Writing}
 use Rattle.palm_text.specs.Output.{Puts}
-use Rattle.program_io.specs.FaultLines.{PutsBad}
+use Rattle.image_faults.specs.Lines.{PutsBadImage}
 use Rattle.program_io.specs.declared.status.Status.{Status}
 use Rattle.program_io.specs.declared.status.Status.TheVariants.{Done, Refused, BadWords, ReadFault, WriteFault, NoMemory}
 
@@ -16,14 +16,14 @@ PutsMap image contents old new ok = Puts contents old new (map_text image) ok
 -- A write or a flush failed in `map`, and nothing was written after it. It failed for the picture.
 -- Or the image is refused, and it failed for the line with the fault.
 abbrev pub MapBreaksOff : {V : Type 0} → List ℕ → (V → Option (List ℕ)) → Writing V → Writing V → Type 0
-MapBreaksOff image contents old new = (Accepted image × PutsMap image contents old new false) ⊎ ((Accepted image → ⊥) × PutsBad contents old new false)
+MapBreaksOff image contents old new = (Accepted image × PutsMap image contents old new false) ⊎ ((Accepted image → ⊥) × PutsBadImage image contents old new false)
 
 -- the output of `map` for an image, by the status with which it ends
 pub record EndsMap {V : Type 0} (image : List ℕ) (contents : V → Option (List ℕ)) (old new : Writing V) (status : Status) : Type 0 where
   pub done : status ≡ Done → PutsMap image contents old new true
   pub accepted : status ≡ Done → Accepted image
   pub refused : status ≡ Refused → Accepted image → ⊥
-  pub fault : status ≡ Refused → PutsBad contents old new true
+  pub fault : status ≡ Refused → PutsBadImage image contents old new true
   pub no_memory : status ≡ NoMemory → new ≡ old
   pub write_fault : status ≡ WriteFault → MapBreaksOff image contents old new
   pub good_words : status ≢ BadWords

@@ -8,8 +8,9 @@ use crate::image_output::put_image;
 use allowance::{Allowance, text_of};
 use chunk_format::{BlankFault, blank_from};
 use heap_check::Summary;
+use image_faults::say_bad_image;
 use palm_text::Counted;
-use program_io::{Status, say, say_bad, say_text};
+use program_io::{Status, say, say_text};
 use raw_region::Region;
 use std::alloc::{AllocError, Global};
 use std::io::Write;
@@ -47,7 +48,8 @@ pub fn cmd_new_from<A: Allowance, W: Write, V: Write>(
     let region = match blank_from(memory, size, slots) {
         Ok(region) => region,
         Err(BlankFault::OutOfMemory) => return Status::NoMemory,
-        Err(fault) => return say_bad(memory, fault, Status::BadWords, out),
+        Err(BlankFault::BadSize) => return say(b"bad BadSize\n", Status::BadWords, out),
+        Err(BlankFault::BadSlotCount) => return say(b"bad BadSlotCount\n", Status::BadWords, out),
     };
     match put_image(image_out, &region) {
         Ok(()) => say(b"ok\n", Status::Done, out),
@@ -91,7 +93,7 @@ pub fn check_region_from<A: Allowance, V: Write>(
     match check_store_from(memory, region) {
         Ok(summary) => say_text(summary_text(memory, &summary), Status::Done, out),
         Err(fault) if fault == StoreFault::OutOfMemory => Status::NoMemory,
-        Err(fault) => say_bad(memory, fault, Status::Refused, out),
+        Err(fault) => say_bad_image(out, fault),
     }
 }
 

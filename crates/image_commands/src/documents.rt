@@ -4,7 +4,7 @@ ghost use Rattle.std.specs.Prelude.{◌≡◌, ◌≢◌};
 
 use crate::faults::{STANDARD_OUTPUT, fail};
 use crate::files::{read_file_or_input, read_image};
-use crate::suggestions::{looks_like_file, suggest_check, suggest_list};
+use crate::suggestions::{comment_on_file, looks_like_file, suggest_list};
 use json_documents::{check_json_region_from, cmd_list_json_from};
 use palm_text::Counted;
 use program_io::{Noted, Status, report_outcome};
@@ -26,7 +26,7 @@ pub fn list_json<R: Files + Input + Print + Eprint + AllocGlobal>(rt: &R, path: 
     let mut out = Counted::new(out);
     let status = cmd_list_json_from(&rt.alloc(), file.as_slice(), &mut out);
     let status = report_document(rt, status, out);
-    suggest_check(rt, path, status, file.as_slice());
+    comment_on_file(rt, path, status, file.as_slice());
     status
 }
 

@@ -9,8 +9,9 @@ ghost use Rattle.allowance.specs.Refusals.{GrowthRefused};
 use allowance::Allowance;
 use heap_map::MapFault;
 use heap_svg::put_svg;
+use image_faults::say_bad_image;
 use palm_text::Counted;
-use program_io::{Status, say, say_bad};
+use program_io::{Status, say};
 use raw_region::Region;
 use std::alloc::Global;
 use std::io::Write;
@@ -62,7 +63,7 @@ pub fn draw_region_from<A: Allowance, W: Write, V: Write>(
 {
     match put_flushed(memory, region, file_out) {
         Ok(()) => say(b"ok\n", Status::Done, out),
-        Err(MapFault::BadImage(fault)) => say_bad(memory, fault, Status::Refused, out),
+        Err(MapFault::BadImage(fault)) => say_bad_image(out, fault),
         Err(MapFault::OutOfMemory) => Status::NoMemory,
         Err(MapFault::Write) => Status::WriteFault,
     }

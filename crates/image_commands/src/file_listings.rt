@@ -5,13 +5,17 @@ ghost use Rattle.std.specs.Prelude.{◌≢◌, ◌≤◌, length};
 use crate::faults::{STANDARD_ERROR, STANDARD_OUTPUT, STANDARD_STREAM, fail};
 use crate::files::read_file_or_input;
 use crate::replacing::output_for_database;
-use crate::suggestions::suggest_check;
+use crate::suggestions::comment_on_file;
 use file_commands::{cmd_canonical_from, cmd_list_from};
 use palm_text::Counted;
-use program_io::{ErrorOutput, INPUT_LIMIT, Noted, Status, report_outcome};
+use program_io::{ErrorOutput, INPUT_LIMIT, Noted, OutputFile, Status, report_outcome};
+use std::alloc::Global;
 use std::io;
-use std::io::{BufWriter, Input};
+use std::io::{BufWriter, Input, Write};
 use std::rt::Files;
+
+/// The size of the buffer for a canonical form in bytes.
+const BUFFER_SIZE: usize = 65_536;
 
 /// Runs `list`. The path `-` means standard input.
 pub fn list<R: Files + Input + Print + Eprint + AllocGlobal>(rt: &R, path: &str) -> Status
@@ -30,7 +34,7 @@ pub fn list<R: Files + Input + Print + Eprint + AllocGlobal>(rt: &R, path: &str)
     let (out, _) = out.into_inner().into_parts();
     let (_, fault) = out.into_parts();
     report_outcome(rt, status, &[(STANDARD_OUTPUT, fault)]);
-    suggest_check(rt, path, status, file.as_slice());
+    comment_on_file(rt, path, status, file.as_slice());
     status
 }
 
@@ -52,7 +56,7 @@ pub fn canonical<R: Files + Input + Print + Eprint + AllocGlobal>(
     } else {
         canonical_to_file(rt, file.as_slice(), out_path)
     };
-    suggest_check(rt, path, status, file.as_slice());
+    comment_on_file(rt, path, status, file.as_slice());
     status
 }
 
@@ -61,10 +65,8 @@ fn canonical_to_output<R: Print + Eprint + AllocGlobal>(rt: &R, file: &[u8]) -> 
     requires { length file.now ≤ INPUT_LIMIT }
     ensures { result ≢ Status.BadWords }
 {
-    let mut file_out = Counted::new(Noted::new(io::writer(rt)));
     let mut out = Counted::new(Noted::new(ErrorOutput::new(rt)));
-    let status = cmd_canonical_from(&rt.alloc(), file, &mut file_out, &mut out);
-    let (_, file_fault) = file_out.into_inner().into_parts();
+    let (status, file_fault) = rewrite(rt.alloc(), file, io::writer(rt), &mut out);
     let (_, fault) = out.into_inner().into_parts();
     report_outcome(
         rt,
@@ -83,14 +85,12 @@ fn canonical_to_file<R: Files + Print + Eprint + AllocGlobal>(
     requires { length file.now ≤ INPUT_LIMIT }
     ensures { result ≢ Status.BadWords }
 {
-    let file_out = match output_for_database(rt, out_path) {
+    let mut file_out = match output_for_database(rt, out_path) {
         Ok(file_out) => file_out,
         Err(status) => return status,
     };
-    let mut file_out = Counted::new(Noted::new(file_out));
     let mut out = Counted::new(Noted::new(io::writer(rt)));
-    let status = cmd_canonical_from(&rt.alloc(), file, &mut file_out, &mut out);
-    let (file_out, file_fault) = file_out.into_inner().into_parts();
+    let (status, file_fault) = rewrite(rt.alloc(), file, &mut file_out, &mut out);
     file_out.close();
     let (_, fault) = out.into_inner().into_parts();
     report_outcome(
@@ -99,4 +99,26 @@ fn canonical_to_file<R: Files + Print + Eprint + AllocGlobal>(
         &[(out_path, file_fault), (STANDARD_OUTPUT, fault)],
     );
     status
+}
+
+/// Writes the canonical form of a file to `file_out`, and its lines to `out`. A buffer collects the
+/// blocks, which may be small. Returns the status, and the first error of `file_out`.
+fn rewrite<W: Write + Drop, V: Write>(
+    alloc: Global,
+    file: &[u8],
+    file_out: W,
+    out: &mut Counted<V>,
+) -> (Status, Option<io::Error>)
+    requires { length file.now ≤ INPUT_LIMIT }
+    ensures { result.0 ≢ Status.BadWords }
+{
+    let Ok(file_out) = BufWriter::with_capacity(alloc, BUFFER_SIZE, Noted::new(file_out)) else {
+        return (Status::NoMemory, None);
+    };
+    let mut file_out = Counted::new(file_out);
+    let status = cmd_canonical_from(&alloc, file, &mut file_out, out);
+    // What is left in the buffer after a fault is thrown away. To drop it would write again.
+    let (file_out, _) = file_out.into_inner().into_parts();
+    let (_, file_fault) = file_out.into_parts();
+    (status, file_fault)
 }

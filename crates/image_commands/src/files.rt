@@ -4,6 +4,7 @@
 ghost use Rattle.std.specs.Prelude.{◌≡◌, ◌≤◌, ◌⊎◌, ◌++◌, IfOk, IfErr, None, codes, decimal, length, string_bytes, vec_len};
 
 use crate::faults::{STANDARD_INPUT, STANDARD_STREAM, fail, fail_to_read};
+use crate::region_input::{SizedFault, read_sized};
 use crate::replacing::output_for_database;
 use heap_model::Bytes;
 use palm_text::{Counted, put};
@@ -51,7 +52,8 @@ pub fn read_file_or_input<R: Files + Input + Eprint + AllocGlobal>(
     }
 }
 
-/// Reads a whole file into a region. The path `-` means standard input.
+/// Reads a whole file into a region. The path `-` means standard input. Of a file it makes no other
+/// copy, unless the size of the file changes meanwhile.
 ///
 /// # Errors
 /// - `ReadFault`: the file can't be read, or is longer than `INPUT_LIMIT`.
@@ -64,6 +66,13 @@ pub fn read_image<R: Files + Input + Eprint + AllocGlobal>(
     ensures whole { IfOk result (λ region. region.lent ≡ None) }
     ensures faults { IfErr result (λ status. (status ≡ Status.ReadFault) ⊎ (status ≡ Status.NoMemory)) }
 {
+    if path != STANDARD_STREAM {
+        match read_sized(rt, path) {
+            Ok(region) => return Ok(region),
+            Err(SizedFault::Input(fault)) => return Err(fail_to_read(rt, path, fault)),
+            Err(SizedFault::OtherSize) => {}
+        }
+    }
     let bytes = read_file_or_input(rt, path)?;
     match Region::copied_from(&rt.alloc(), bytes.as_slice()) {
         Ok(region) => Ok(region),

@@ -10,7 +10,7 @@ ghost use Rattle.heap_model.specs.Files.{blocks_in};
 use crate::faults::{STANDARD_OUTPUT, fail};
 use crate::files::{read_file, read_file_or_input};
 use crate::replacing::output_for_database;
-use crate::suggestions::suggest_check;
+use crate::suggestions::comment_on_file;
 use file_commands::{cmd_pack_from, list_parts, say_count, unpack_file};
 use file_parts::{Listed, Part, PartName, Unpacked, put_database};
 use heap_model::Bytes;
@@ -40,7 +40,7 @@ pub fn unpack<R: Files + Input + Print + Eprint + AllocGlobal>(
         Err(status) => return status,
     };
     let status = unpack_to(rt, file.as_slice(), folder);
-    suggest_check(rt, path, status, file.as_slice());
+    comment_on_file(rt, path, status, file.as_slice());
     status
 }
 

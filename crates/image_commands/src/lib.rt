@@ -25,9 +25,10 @@
 //! | `documents` | the commands `list --json` and `check --json`, over files |
 //! | `folders` | the commands `unpack` and `pack`, over files and folders |
 //! | `files` | reads and writes files |
+//! | `region_input` | reads an image into a region |
 //! | `faults` | reports why a command did not start |
 //! | `replacing` | output files that don't replace a file of the other kind |
-//! | `suggestions` | reports what an input looks like, and which command explains a fault |
+//! | `suggestions` | reports what an input looks like, what is allowed at a file's fault, which command explains a fault |
 #![tactic(auto)]
 
 mod commands;
@@ -42,6 +43,7 @@ mod images;
 mod map_command;
 mod maps;
 mod migrate_command;
+mod region_input;
 mod replacing;
 mod suggestions;
 
@@ -60,5 +62,6 @@ pub use images::{check, migrate, new};
 pub use map_command::{cmd_map, cmd_map_from, map_region_from};
 pub use maps::{draw, map};
 pub use migrate_command::{cmd_migrate, cmd_migrate_from, migrate_region_from};
+pub use region_input::{SizedFault, read_region_from};
 pub use replacing::output_for_image;
 pub use suggestions::{looks_like_file, suggest_checks, suggest_explain, suggest_list};

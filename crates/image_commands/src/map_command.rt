@@ -8,8 +8,9 @@ ghost use Rattle.allowance.specs.Refusals.{GrowthRefused};
 
 use allowance::Allowance;
 use heap_map::{MapFault, put_map};
+use image_faults::say_bad_image;
 use palm_text::Counted;
-use program_io::{Status, say_bad};
+use program_io::Status;
 use raw_region::Region;
 use std::alloc::Global;
 use std::io::Write;
@@ -49,7 +50,7 @@ pub fn map_region_from<A: Allowance, V: Write>(
 {
     match put_flushed(memory, region, out) {
         Ok(()) => Status::Done,
-        Err(MapFault::BadImage(fault)) => say_bad(memory, fault, Status::Refused, out),
+        Err(MapFault::BadImage(fault)) => say_bad_image(out, fault),
         Err(MapFault::OutOfMemory) => Status::NoMemory,
         Err(MapFault::Write) => Status::WriteFault,
     }

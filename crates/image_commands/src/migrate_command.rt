@@ -3,15 +3,15 @@
 ghost use Rattle.std.specs.Prelude.{◌≡◌, ◌⊎◌, Err, IfOk, IfErr, OnOk, None, true, false};
 ghost use Rattle.heap_model.specs.Store.{Accepted};
 ghost use Rattle.heap_migration.specs.Stores.{IsMigrated};
-ghost use Rattle.program_io.specs.FaultLines.{PutsBad};
-ghost use Rattle.image_commands.specs.Migrating.{EndsMigrate, IsNotMigrated};
+ghost use Rattle.image_commands.specs.Migrating.{EndsMigrate, PutsNotMigrated};
 ghost use Rattle.allowance.specs.Refusals.{GrowthRefused};
 
 use crate::image_output::put_store;
 use allowance::Allowance;
+use image_faults::say_bad_image;
 use palm_store::{MigrateFault, NotAStore, Store, StoreFault};
 use palm_text::Counted;
-use program_io::{Status, say, say_bad};
+use program_io::{Status, say};
 use raw_region::Region;
 use std::alloc::Global;
 use std::io::Write;
@@ -86,10 +86,10 @@ fn migrated<A: Allowance, V: Write>(
     ensures silent { OnOk result (out.new ≡ out.old) }
     ensures faults { IfErr result (λ status. (status ≡ Status.Refused)
         ⊎ (status ≡ Status.WriteFault) ⊎ (status ≡ Status.NoMemory)) }
-    ensures refused { (result ≡ Err Status.Refused) ⊎ (result ≡ Err Status.WriteFault)
-        → IsNotMigrated region.bytes }
-    ensures said { result ≡ Err Status.Refused → PutsBad V.contents out.old out.new true }
-    ensures write { result ≡ Err Status.WriteFault → PutsBad V.contents out.old out.new false }
+    ensures said { result ≡ Err Status.Refused
+        → PutsNotMigrated region.bytes V.contents out.old out.new true }
+    ensures write { result ≡ Err Status.WriteFault
+        → PutsNotMigrated region.bytes V.contents out.old out.new false }
     ensures no_memory { result ≡ Err Status.NoMemory → out.new ≡ out.old }
     ensures short { result ≡ Err Status.NoMemory → A.is_short memory.now }
 {
@@ -101,11 +101,12 @@ fn migrated<A: Allowance, V: Write>(
                 ..
             },
         ) => return Err(Status::NoMemory),
-        Err(error) => return Err(say_bad(memory, error.fault, Status::Refused, out)),
+        Err(error) => return Err(say_bad_image(out, error.fault)),
     };
     match store.migrate_from(memory) {
         Ok(store) => Ok(store),
         Err((MigrateFault::OutOfMemory, _)) => Err(Status::NoMemory),
-        Err((fault, _)) => Err(say_bad(memory, fault, Status::Refused, out)),
+        Err((MigrateFault::TooLarge, _)) => Err(say(b"bad TooLarge\n", Status::Refused, out)),
+        Err((MigrateFault::Lent, _)) => unreachable!(),
     }
 }

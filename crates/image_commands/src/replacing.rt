@@ -1,7 +1,9 @@
 //! Output files that don't replace a file of the other kind: an image replaces no PDB or PRC file, and
 //! such a file replaces no image.
 
-ghost use Rattle.std.specs.Prelude.{◌≡◌, ◌⊎◌, IfErr};
+ghost use Rattle.std.specs.Prelude.{◌≡◌, ◌⊎◌, Err, IfErr, IsTrue, true, false};
+ghost use Rattle.std.specs.Io.KnownBytes.{Consumes};
+ghost use Rattle.hints.specs.Lookalikes as words;
 
 use crate::faults::fail;
 use hints::{HEADER_SIZE, IMAGE_HEADER_SIZE, looks_like_database, looks_like_image};
@@ -24,7 +26,24 @@ pub fn output_for_image<'a, R: Files + Eprint + AllocGlobal>(
     ensures { IfErr result (λ status. (status ≡ Status.WriteFault) ⊎ (status ≡ Status.NoMemory)) }
 {
     let mut head = [0; HEADER_SIZE];
-    if has_head(rt, path, &mut head) && looks_like_database(&head) {
+    if has_head(rt, path, &mut head) {
+        return image_over(rt, path, &head);
+    }
+    unopened(rt, path)
+}
+
+/// Returns a writer for an image in place of a file that begins with these bytes. If they look like
+/// those of a PDB or PRC file, reports that.
+fn image_over<'a, R: Files + Eprint + AllocGlobal>(
+    rt: &'a R,
+    path: &str,
+    head: &[u8],
+) -> Result<OutputFile<'a, R>, Status>
+    ensures kept { IsTrue (words.looks_like_database head.now) → result ≡ Err Status.WriteFault }
+    ensures replaced { words.looks_like_database head.now ≡ false
+        → IfErr result (λ status. status ≡ Status.NoMemory) }
+{
+    if looks_like_database(head) {
         let kept = "looks like a PDB or PRC file, and an image doesn't replace it";
         return Err(fail_to_replace(rt, path, kept));
     }
@@ -44,7 +63,24 @@ pub(crate) fn output_for_database<'a, R: Files + Eprint + AllocGlobal>(
     ensures { IfErr result (λ status. (status ≡ Status.WriteFault) ⊎ (status ≡ Status.NoMemory)) }
 {
     let mut head = [0; IMAGE_HEADER_SIZE];
-    if has_head(rt, path, &mut head) && looks_like_image(&head) {
+    if has_head(rt, path, &mut head) {
+        return database_over(rt, path, &head);
+    }
+    unopened(rt, path)
+}
+
+/// Returns a writer for a PDB or PRC file in place of a file that begins with these bytes. If they
+/// look like those of a heap image, reports that.
+fn database_over<'a, R: Files + Eprint + AllocGlobal>(
+    rt: &'a R,
+    path: &str,
+    head: &[u8],
+) -> Result<OutputFile<'a, R>, Status>
+    ensures kept { IsTrue (words.looks_like_image head.now) → result ≡ Err Status.WriteFault }
+    ensures replaced { words.looks_like_image head.now ≡ false
+        → IfErr result (λ status. status ≡ Status.NoMemory) }
+{
+    if looks_like_image(head) {
         let kept = "looks like a heap image, and a PDB or PRC file doesn't replace it";
         return Err(fail_to_replace(rt, path, kept));
     }
@@ -72,9 +108,16 @@ fn has_head<R: Files>(rt: &R, path: &str, head: &mut [u8]) -> bool {
         _ => return false,
     }
     match File::open(rt, path) {
-        Ok(mut file) => file.read_exact(head).is_ok(),
+        Ok(mut file) => read_head(&mut file, head),
         Err(_) => false,
     }
+}
+
+/// Reads the first bytes of a file, as many as `head` has. Returns whether it succeeded.
+fn read_head<F: Read>(file: &mut F, head: &mut [u8]) -> bool
+    ensures { IsTrue result → Consumes (F.remaining file.old) (F.remaining file.new) head.new }
+{
+    file.read_exact(head).is_ok()
 }
 
 /// Reports on standard error why a file isn't replaced, and returns `WriteFault`.

@@ -2,7 +2,7 @@
 use Rattle.std.proofs.Common.{◌≡◌, ℕ, Bool, true, false, Option, List, ap, inl}
 use Rattle.std.specs.Prelude.{string_bytes}
 use Rattle.heap_model.specs.Database.{DatabaseHeader, header_in, database_in}
-use Rattle.heap_model.specs.Files.{IsFirstFault}
+use Rattle.heap_model.specs.Files.{HasNoFault, IsFirstFault}
 use Rattle.heap_model.specs.declared.file_fault.FileFault.{FileFault}
 use Rattle.db_format.specs.declared.header.DbHeader.{DbHeader}
 use Rattle.db_format.specs.Headers.{HasHeader, header_of}
@@ -38,12 +38,12 @@ module _ {W : Type 0} (contents : W → Option (List ℕ)) where
   written old new file header parts ok is has writes = (document_by file (header_of header) parts, documented file (header_of header) parts (header_is file header is) has, writes)
 
   -- a document, and the flush after it
-  pub puts_document : (old between new : Writing W) (file : List ℕ) (ok : Bool) → WritesDocument file contents old between true → Flushes contents between new ok → PutsDocument file contents old new ok
-  puts_document old between new file ok document flush = (document.0, document.1, then_flush contents old between new document.0 ok document.2 flush)
+  pub puts_document : (old between new : Writing W) (file : List ℕ) (ok : Bool) → HasNoFault file → WritesDocument file contents old between true → Flushes contents between new ok → PutsDocument file contents old new ok
+  puts_document old between new file ok good document flush = (good, (document.0, document.1, then_flush contents old between new document.0 ok document.2 flush))
 
   -- a write of it failed
-  pub document_stops : (old new : Writing W) (file : List ℕ) → WritesDocument file contents old new false → PutsDocument file contents old new false
-  document_stops old new file document = (document.0, document.1, inl document.2)
+  pub document_stops : (old new : Writing W) (file : List ℕ) → HasNoFault file → WritesDocument file contents old new false → PutsDocument file contents old new false
+  document_stops old new file good document = (good, (document.0, document.1, inl document.2))
 
   pub puts_file_fault : (old new : Writing W) (file : List ℕ) (fault : FileFault) (ok : Bool) → IsFirstFault file fault → Puts contents old new (file_fault_json file fault) ok → PutsFileFault file contents old new ok
   puts_file_fault old new file fault ok first puts = (fault, first, puts)

@@ -5,7 +5,7 @@ use Rattle.store_check.specs.declared.fault.StoreFault.{StoreFault}
 use Rattle.store_check.specs.declared.fault.StoreFault.TheVariants.{OutOfMemory}
 use Rattle.store_check.specs.declared.summary.StoreSummary.{StoreSummary}
 use Rattle.store_check.specs.Checks.{Summarizes, IsAnswered, IsRefusal}
-use Rattle.store_check.specs.Faults.{IsFirstFault}
+use Rattle.image_faults.proofs.Answered.{first_fault}
 use Rattle.palm_text.specs.Counted.{Writing}
 use Rattle.palm_text.specs.Output.{Puts}
 use Rattle.json_documents.specs.Faults.{image_fault_json}
@@ -13,12 +13,7 @@ use Rattle.json_documents.specs.Ends.{PutsImageFault, EndsCheckJson, summary_jso
 use Rattle.program_io.specs.declared.status.Status.{Status}
 use Rattle.program_io.specs.declared.status.Status.TheVariants.{Done, Refused, BadWords, ReadFault, WriteFault, NoMemory}
 
--- a fault that isn't want of memory is the first one
-first_fault : (image : List ℕ) (fault : StoreFault) → fault ≢ OutOfMemory → IsAnswered image fault → IsFirstFault image fault
-first_fault image fault other (inl short) = absurd (other short.0)
-first_fault image fault other (inr first) = first
-
--- and then the image is not accepted
+-- with a fault other than out of memory, the image is not accepted
 pub not_accepted : (image : List ℕ) (fault : StoreFault) → fault ≢ OutOfMemory → IsRefusal image fault → Accepted image → ⊥
 not_accepted image fault other (inl short) = absurd (other short)
 not_accepted image fault other (inr refused) = refused

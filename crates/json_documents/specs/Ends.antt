@@ -16,9 +16,9 @@ use Rattle.json_documents.specs.Faults.{file_fault_json, image_fault_json}
 use Rattle.program_io.specs.declared.status.Status.{Status}
 use Rattle.program_io.specs.declared.status.Status.TheVariants.{Done, Refused, BadWords, ReadFault, WriteFault, NoMemory}
 
--- the document of a file
+-- the document of a file without fault
 abbrev pub PutsDocument : {V : Type 0} → List ℕ → (V → Option (List ℕ)) → Writing V → Writing V → Bool → Type 0
-PutsDocument file contents old new ok = (text : List ℕ) × IsFileDocument file text × Puts contents old new text ok
+PutsDocument file contents old new ok = HasNoFault file × ((text : List ℕ) × IsFileDocument file text × Puts contents old new text ok)
 
 -- the document for the first fault of a file
 abbrev pub PutsFileFault : {V : Type 0} → List ℕ → (V → Option (List ℕ)) → Writing V → Writing V → Bool → Type 0

@@ -1,13 +1,14 @@
 -- Strings of a document.
-use Rattle.std.specs.Prelude.{ℕ, Bool, ◌-◌, ◌==◌, ◌&&◌, ◌++◌, nat_le, nat_lt, not, if◌then◌else◌, List, [], ◌∷◌, slice_index_or, codes}
+use Rattle.std.specs.Prelude.{ℕ, Bool, ◌==◌, ◌&&◌, ◌++◌, nat_le, not, if◌then◌else◌, List, [], ◌∷◌, codes}
 use Rattle.std.specs.List.{flat_map}
+use Rattle.std.specs.Option.{unwrap_or}
 use Rattle.hex.specs.Hex.{encode_lower}
 use Rattle.heap_model.specs.Bytes.{u16_bytes}
-use Rattle.json_documents.specs.declared.strings.TheConstants.{CODES}
+use Rattle.code_page.specs.Windows1252.{character_of}
 
--- the code of the character of a byte
+-- the code of the character of a byte in Windows-1252; a byte without a character has its own code
 abbrev pub code_of : ℕ → ℕ
-code_of b = if nat_le 128 b && nat_lt b 160 then slice_index_or CODES (b - 128) 0 else b
+code_of b = unwrap_or (character_of b) b
 
 -- a byte that stands in a string as it is: a character from space to `~`, except `"` and `\`
 abbrev pub is_plain : ℕ → Bool

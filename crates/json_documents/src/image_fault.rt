@@ -3,24 +3,15 @@
 ghost use Rattle.std.specs.Prelude.{◌≡◌, ◌⊎◌, is_ok, true, false};
 ghost use Rattle.palm_text.specs.Counted.{Writes};
 ghost use Rattle.palm_text.specs.Output.{Puts};
-ghost use Rattle.json_documents.specs.Faults as words;
 ghost use Rattle.json_documents.specs.Faults.{image_fault_json, named_fault_json};
 
 use crate::output::flushed;
 use crate::pieces::{JsonPiece, put_json};
-use heap_check::HeapFault;
+use image_faults::{Numbers, image_fault_name, image_fault_numbers};
 use palm_text::{Counted, WriteFault};
 use program_io::Status;
 use std::io::Write;
 use store_check::StoreFault;
-
-/// The numbers of a fault.
-#[derive(Clone, Copy)]
-pub(crate) enum Numbers {
-    Zero,
-    One(u32),
-    Two(u32, u32),
-}
 
 /// Prints the document for the fault of an image.
 pub fn say_image_fault<V: Write>(out: &mut Counted<V>, fault: StoreFault) -> Status
@@ -91,82 +82,5 @@ fn put_named<W: Write>(
                 JsonPiece::Text(b"]}\n"),
             ],
         ),
-    }
-}
-
-/// Returns the name of the fault of an image.
-fn image_fault_name(fault: StoreFault) -> &'static [u8]
-    ensures { result.now ≡ words.image_fault_name fault }
-{
-    match fault {
-        StoreFault::Heap(fault) => heap_fault_name(fault),
-        StoreFault::BadDirectorySlot(_) => b"BadDirectorySlot",
-        StoreFault::BadHeader(_) => b"BadHeader",
-        StoreFault::BadEntry(_, _) => b"BadEntry",
-        StoreFault::SharedChunk(_) => b"SharedChunk",
-        StoreFault::StrayChunk(_) => b"StrayChunk",
-        StoreFault::BadId(_, _) => b"BadId",
-        StoreFault::BadName(_) => b"BadName",
-        StoreFault::SameName(_) => b"SameName",
-        StoreFault::OutOfMemory => b"OutOfMemory",
-    }
-}
-
-/// Returns the name of the fault of a heap.
-fn heap_fault_name(fault: HeapFault) -> &'static [u8]
-    ensures { result.now ≡ words.heap_fault_name fault }
-{
-    match fault {
-        HeapFault::TooShort => b"TooShort",
-        HeapFault::BadMagic => b"BadMagic",
-        HeapFault::BadSize => b"BadSize",
-        HeapFault::BadSlotCount => b"BadSlotCount",
-        HeapFault::BadReserved => b"BadReserved",
-        HeapFault::BadPadding => b"BadPadding",
-        HeapFault::BadChunk(_) => b"BadChunk",
-        HeapFault::BadTable(_) => b"BadTable",
-        HeapFault::SlotMismatch(_) => b"SlotMismatch",
-        HeapFault::ChunkWithoutSlot(_) => b"ChunkWithoutSlot",
-        HeapFault::BadFixedOwner(_) => b"BadFixedOwner",
-        HeapFault::BadDirectory => b"BadDirectory",
-    }
-}
-
-/// Returns the numbers of the fault of an image.
-fn image_fault_numbers(fault: StoreFault) -> Numbers
-    ensures { result ≡ words.image_fault_numbers fault }
-{
-    match fault {
-        StoreFault::Heap(fault) => heap_fault_numbers(fault),
-        StoreFault::BadEntry(database, index) | StoreFault::BadId(database, index) => {
-            Numbers::Two(database, index)
-        }
-        StoreFault::BadDirectorySlot(number)
-        | StoreFault::BadHeader(number)
-        | StoreFault::SharedChunk(number)
-        | StoreFault::StrayChunk(number)
-        | StoreFault::BadName(number)
-        | StoreFault::SameName(number) => Numbers::One(number),
-        StoreFault::OutOfMemory => Numbers::Zero,
-    }
-}
-
-/// Returns the numbers of the fault of a heap.
-fn heap_fault_numbers(fault: HeapFault) -> Numbers
-    ensures { result ≡ words.heap_fault_numbers fault }
-{
-    match fault {
-        HeapFault::BadChunk(number)
-        | HeapFault::BadTable(number)
-        | HeapFault::SlotMismatch(number)
-        | HeapFault::ChunkWithoutSlot(number)
-        | HeapFault::BadFixedOwner(number) => Numbers::One(number),
-        HeapFault::TooShort
-        | HeapFault::BadMagic
-        | HeapFault::BadSize
-        | HeapFault::BadSlotCount
-        | HeapFault::BadReserved
-        | HeapFault::BadPadding
-        | HeapFault::BadDirectory => Numbers::Zero,
     }
 }

@@ -5,16 +5,9 @@ ghost use Rattle.palm_text.specs.Counted.{Writes};
 ghost use Rattle.json_documents.specs.Strings as words;
 ghost use Rattle.json_documents.specs.Strings.{character, characters, closed, escaped, hex_string, string};
 
+use code_page::character_of;
 use palm_text::{Counted, Piece, WriteFault, put_all, put_pieces};
 use std::io::Write;
-
-/// The codes of the bytes 0x80 to 0x9F in Windows-1252. A byte without a character there has its
-/// own code.
-pub(crate) const CODES: [u16; 32] = [
-    0x20AC, 0x0081, 0x201A, 0x0192, 0x201E, 0x2026, 0x2020, 0x2021, 0x02C6, 0x2030, 0x0160, 0x2039,
-    0x0152, 0x008D, 0x017D, 0x008F, 0x0090, 0x2018, 0x2019, 0x201C, 0x201D, 0x2022, 0x2013, 0x2014,
-    0x02DC, 0x2122, 0x0161, 0x203A, 0x0153, 0x009D, 0x017E, 0x0178,
-];
 
 /// Writes the string of some bytes.
 pub(crate) fn put_string<W: Write>(out: &mut Counted<W>, bytes: &[u8]) -> Result<(), WriteFault>
@@ -75,14 +68,13 @@ fn is_plain(byte: u8) -> bool
     byte >= b' ' && byte <= b'~' && byte != b'"' && byte != b'\\'
 }
 
-/// Returns the code of the character of a byte.
+/// Returns the code of the character of a byte. A byte without a character has its own code.
 fn code_of(byte: u8) -> u16
     ensures { result ≡ words.code_of byte }
 {
-    if byte >= 128 && byte < 160 {
-        CODES[byte as usize - 128]
-    } else {
-        u16::from(byte)
+    match character_of(byte) {
+        Some(character) => character as u16,
+        None => u16::from(byte),
     }
 }
 

@@ -1,7 +1,7 @@
 -- What `run` prints and writes. A definition that ends in a `Bool` has it true if all was written
 -- and flushed, and false if a write or a flush failed. If a definition has `short`, a line was
 -- refused as out of memory only if `short` holds.
-use Rattle.std.specs.Prelude.{◌≡◌, ◌≢◌, ◌⊎◌, ℕ, Bool, true, false, List, Option, Ok, Err}
+use Rattle.std.specs.Prelude.{◌≡◌, ◌≢◌, ◌⊎◌, ℕ, Bool, true, false, List, Option, None, Ok, Err}
 use Rattle.heap_model.specs.Memory.{Memory}
 use Rattle.palm_text.specs.Counted.{Flushes, Writing}
 use Rattle.heap_model.specs.Store.{Accepted}
@@ -9,16 +9,17 @@ use Rattle.script_lines.specs.Reading.{read_script}
 use Rattle.script_lines.specs.declared.fault.LineFault.{LineFault}
 use Rattle.script_lines.specs.declared.line.Line.{Line}
 use Rattle.script_calls.specs.Lines.{BreaksOffShort, RunsThroughShort}
-use Rattle.program_io.specs.FaultLines.{PutsBad, PutsFault}
+use Rattle.image_faults.specs.Lines.{PutsBadImage}
+use Rattle.program_io.specs.FaultLines.{PutsFault}
 use Rattle.palm_text.specs.Output.{Puts}
 use Rattle.program_io.specs.declared.status.Status.{Status}
 use Rattle.program_io.specs.declared.status.Status.TheVariants.{Done, Refused, BadWords, ReadFault, WriteFault, NoMemory}
 
--- The image is not accepted, and a line that starts with `bad` has the reason. Or it is accepted,
+-- The image is not accepted, and the line for its first fault was written. Or it is accepted,
 -- but the script is refused, and a line has the reason.
 abbrev pub PutsRefusal : {V : Type 0} → (image script : List ℕ) → (V → Option (List ℕ)) → Writing V → Writing V → Bool → Type 0
 PutsRefusal image script contents old new ok =
-    ((Accepted image → ⊥) × PutsBad contents old new ok)
+    ((Accepted image → ⊥) × PutsBadImage image contents old new ok)
     ⊎ (Accepted image × ((fault : LineFault) × (read_script script ≡ Err fault) × PutsFault fault contents old new ok))
 
 -- The lines of a script were run, all of their text was written, and no write failed. Then the
@@ -52,9 +53,11 @@ pub record EndsEarly {W V : Type 0} (short : Type 0) (inputs : List (List ℕ)) 
   pub failed : ((region_after : Memory) × PrintingFails short contents inputs lines region old region_after new × (image_new ≡ image_old))
       ⊎ ((files : List (List ℕ)) × RunsAndWrites short inputs lines region contents old new image_contents image_old image_new files false)
 
--- These are the lines of the script, and a region with the bytes of an accepted image.
+-- These are the lines of the script, and a region with the bytes of an accepted image, of which
+-- nothing is lent.
 pub record ReadsAs (image script : List ℕ) (lines : List Line) (region : Memory) : Type 0 where
   pub image_is : region.bytes ≡ image
+  pub whole : region.lent ≡ None
   pub before : Accepted image
   pub read : read_script script ≡ Ok lines
 

@@ -1,6 +1,7 @@
 //! The command `explain`.
 
-ghost use Rattle.std.specs.Prelude.{◌≡◌, ◌⊎◌};
+ghost use Rattle.std.specs.Prelude.{◌≡◌, ◌⊎◌, ◌==◌};
+ghost use Rattle.std.specs.List.{before_first};
 
 use explanations::{EXPLANATIONS, cmd_explain};
 use image_commands::STANDARD_OUTPUT;
@@ -25,7 +26,9 @@ pub(crate) fn explain<R: Print + Eprint>(rt: &R, word: &str) -> Status
 }
 
 /// Returns the text before the first space.
-fn first_word(words: &str) -> &str {
+fn first_word(words: &str) -> &str
+    ensures { result.now ≡ before_first (λ b. b == 32) words.now }
+{
     match words.split_once(' ') {
         Some((word, _)) => word,
         None => words,

@@ -10,10 +10,11 @@ ghost use Rattle.allowance.specs.Refusals.{GrowthRefused};
 use allowance::Allowance;
 use heap_model::Bytes;
 use image_commands::put_store;
+use image_faults::say_bad_image;
 use palm_script::{RunFault, Script, ScriptFault, run_from};
 use palm_store::{NotAStore, Store, StoreFault};
 use palm_text::Counted;
-use program_io::{Status, say_bad, say_line_fault};
+use program_io::{Status, say_line_fault};
 use raw_region::Region;
 use script_lines::parse_from;
 use std::alloc::Global;
@@ -132,7 +133,7 @@ fn read<'a, A: Allowance, V: Write>(
                 ..
             },
         ) => return Err(Status::NoMemory),
-        Err(error) => return Err(say_bad(memory, error.fault, Status::Refused, out)),
+        Err(error) => return Err(say_bad_image(out, error.fault)),
     };
     match parse_from(memory, script) {
         Ok(script) => Ok((store, script)),

@@ -1,17 +1,9 @@
--- The lines for refused inputs. A definition that ends in a `Bool` has it true if all was written
+-- The line for a refused script. A definition that ends in a `Bool` has it true if all was written
 -- and flushed, and false if a write or a flush failed.
 use Rattle.std.specs.Prelude.{◌≡◌, ◌++◌, ℕ, Bool, List, Option, codes, decimal}
 use Rattle.palm_text.specs.Counted.{Writing}
 use Rattle.script_lines.specs.declared.fault.LineFault.{LineFault}
 use Rattle.palm_text.specs.Output.{Puts}
-
--- `bad`, a fault and a newline
-abbrev pub IsBadLine : List ℕ → Type 0
-IsBadLine line = (fault : List ℕ) × (line ≡ codes "bad " ++ (fault ++ codes "\n"))
-
--- a line with `bad` goes to a writer
-abbrev pub PutsBad : {W : Type 0} → (W → Option (List ℕ)) → Writing W → Writing W → Bool → Type 0
-PutsBad contents old new ok = (line : List ℕ) × IsBadLine line × Puts contents old new line ok
 
 -- the line for a refused script: `line`, the number of its first faulty line, the fault, and a
 -- newline

@@ -1,7 +1,7 @@
-//! The lines for refused inputs.
+//! The line for a refused script.
 
 ghost use Rattle.std.specs.Prelude.{◌≡◌, ◌⊎◌, IfOk, OnErr, string_bytes, true, false};
-ghost use Rattle.program_io.specs.FaultLines.{IsBadLine, IsFaultLine, PutsBad, PutsFault};
+ghost use Rattle.program_io.specs.FaultLines.{IsFaultLine, PutsFault};
 
 use crate::output::say_text;
 use crate::status::Status;
@@ -9,35 +9,7 @@ use allowance::{Allowance, text_of};
 use palm_text::Counted;
 use script_lines::LineFault;
 use std::alloc::AllocError;
-use std::fmt::Display;
 use std::io::Write;
-
-/// Prints `bad` and a fault. Returns `status`, or the fault if an allocation, a write or the flush
-/// failed.
-pub fn say_bad<A: Allowance, V: Write, F: Display + Drop>(
-    memory: &A,
-    fault: F,
-    status: Status,
-    out: &mut Counted<V>,
-) -> Status
-    requires { (status ≡ Status.BadWords) ⊎ (status ≡ Status.Refused) }
-    ensures status { (result ≡ status) ⊎ (result ≡ Status.WriteFault) ⊎ (result ≡ Status.NoMemory) }
-    ensures said { result ≡ status → PutsBad V.contents out.old out.new true }
-    ensures fault { result ≡ Status.WriteFault → PutsBad V.contents out.old out.new false }
-    ensures no_memory { result ≡ Status.NoMemory → out.new ≡ out.old }
-    ensures short { result ≡ Status.NoMemory → A.is_short memory.now }
-{
-    say_text(bad_text(memory, fault), status, out)
-}
-
-/// Returns the line for a fault.
-fn bad_text<A: Allowance, F: Display + Drop>(memory: &A, fault: F) -> Result<String, AllocError>
-    ensures line { IfOk result (λ line. IsBadLine (string_bytes line)) }
-    ensures short { OnErr result (A.is_short memory.now) }
-{
-    let text = text_of(memory, format_args!("{fault}"))?;
-    text_of(memory, format_args!("bad {text}\n"))
-}
 
 /// Prints the line for a refused script. Returns `Refused`, or the fault if an allocation, a write
 /// or the flush failed.

@@ -9,7 +9,7 @@
 //! | `command_line` | reads the words of the command line, and has the texts of the help |
 //! | `input` | reads a file to its end, within the limit |
 //! | `output` | prints a line, and returns the status of the run |
-//! | `fault_lines` | the lines for refused inputs |
+//! | `fault_lines` | the line for a refused script |
 //! | `output_file` | a file that replaces another as a whole |
 //! | `error_output` | standard error, as a writer |
 //! | `noted` | a writer that keeps its first error |
@@ -28,7 +28,7 @@ mod output_file;
 mod status;
 
 pub use error_output::ErrorOutput;
-pub use fault_lines::{say_bad, say_line_fault};
+pub use fault_lines::say_line_fault;
 pub use fault_report::{report_fault, report_input_fault, report_outcome, report_write_fault};
 pub use input::{INPUT_LIMIT, InputFault, read_input, read_input_from};
 pub use noted::Noted;

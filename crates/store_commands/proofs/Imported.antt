@@ -18,7 +18,7 @@ use Rattle.store_commands.specs.declared.imports.ImageChoice.{ImageChoice}
 use Rattle.store_commands.specs.declared.imports.NewImage.{NewImage}
 use Rattle.store_commands.specs.declared.imports.NotImported.{NotImported}
 use Rattle.store_commands.specs.declared.imports.NotImported.TheVariants as why
-use Rattle.store_commands.specs.Imports.{size_for, Imports, ImportsAll, IsChosen, IsNew, IsFilled, IsNoImage, IsNotImported, IsStopped, IsWhy, PutsFilled, EndsImportBy, EndsRefusedBy}
+use Rattle.store_commands.specs.Imports.{size_for, Imports, ImportsAll, IsChosen, IsNew, IsNoImage, IsNotImported, IsStopped, IsWhy, StayWithinLimits, EndsImportBy, EndsRefusedBy}
 
 -- one file more
 imports_one : (old mid new : Memory) (files : List (List ℕ)) (file : List ℕ) (db : Db) → ImportsAll old files mid → Imports mid file (Database db) new → ImportsAll old (files ++ file ∷ []) new
@@ -70,13 +70,13 @@ imports_whole old new files index past all = subst (λ (some : List (List ℕ)).
 
 -- ---- why there is no store
 
-pub no_image : (choice : ImageChoice) (files : List (List ℕ)) (image : NewImage) (reason : NotImported) → All HasNoFault files → IsChosen choice files image → IsNoImage image reason → IsWhy choice files reason
-no_image choice files image (why.RefusedFile index refusal) good chosen none = absurd none
-no_image choice files image why.TooLarge good chosen none = absurd none
-no_image choice files image why.BadSize good chosen none = (good, subst (λ (size : ℕ). IsRegionSize size → ⊥) chosen.size none)
-no_image choice files image why.BadSlotCount good chosen none =
-    (good, subst (λ (slots : ℕ). LeavesRoom (size_for choice files) slots → ⊥) chosen.slots (subst (λ (size : ℕ). LeavesRoom size image.slots → ⊥) chosen.size none))
-no_image choice files image why.OutOfMemory good chosen none = tt
+pub no_image : (choice : ImageChoice) (files : List (List ℕ)) (image : NewImage) (reason : NotImported) → StayWithinLimits choice files → IsChosen choice files image → IsNoImage image reason → IsWhy choice files reason
+no_image choice files image (why.RefusedFile index refusal) within chosen none = absurd none
+no_image choice files image why.TooLarge within chosen none = absurd none
+no_image choice files image why.BadSize within chosen none = (within, subst (λ (size : ℕ). IsRegionSize size → ⊥) chosen.size none)
+no_image choice files image why.BadSlotCount within chosen none =
+    (within, subst IsRegionSize chosen.size none.0, subst (λ (slots : ℕ). LeavesRoom (size_for choice files) slots → ⊥) chosen.slots (subst (λ (size : ℕ). LeavesRoom size image.slots → ⊥) chosen.size none.1))
+no_image choice files image why.OutOfMemory within chosen none = tt
 
 pub stopped : (choice : ImageChoice) (files : List (List ℕ)) (image : NewImage) (blank : Memory) (reason : NotImported) → All HasNoFault files → IsChosen choice files image → IsNew image blank → IsStopped blank files reason → IsWhy choice files reason
 stopped choice files image blank (why.RefusedFile index refusal) good chosen new (inside, real, (mid, after, all, does)) = record {
@@ -92,21 +92,11 @@ stopped choice files image blank why.OutOfMemory good chosen new none = tt
 -- ---- how the command ends
 
 module _ {W V : Type 0} (choice : ImageChoice) (files : List (List ℕ)) (image_contents : W → Option (List ℕ)) (image_old image_new : Writing W) (contents : V → Option (List ℕ)) (old new : Writing V) (word : Option ℕ) where
-  pub filled_ends : (status : Status) (image : NewImage) (filled : Memory) → IsFilled choice files image filled → PutsFilled image (length files) filled.bytes image_contents image_old image_new contents old new status
-      → EndsImportBy choice files image_contents image_old image_new contents old new word status
-  filled_ends Done image filled is puts = record { image = image; filled = filled; is_filled = is; written = puts.0; told = puts.1 }
-  filled_ends WriteFault image filled is (inl part) = inl ((image, filled, is, part.0), part.1)
-  filled_ends WriteFault image filled is (inr all) = inr (inl (record { image = image; filled = filled; is_filled = is; written = all.0; told = all.1 }))
-  filled_ends Refused image filled is puts = absurd puts
-  filled_ends BadWords image filled is puts = absurd puts
-  filled_ends ReadFault image filled is puts = absurd puts
-  filled_ends NoMemory image filled is puts = absurd puts
-
   pub refused_ends : (status : Status) → image_new ≡ image_old → EndsRefusedBy choice files contents old new word status → EndsImportBy choice files image_contents image_old image_new contents old new word status
   refused_ends Done same ends = absurd ends
   refused_ends Refused same ends = (ends, same)
-  refused_ends BadWords same ends = (ends.0, ends.1, same)
-  refused_ends NoMemory same ends = (same, ends)
+  refused_ends BadWords same ends = (ends, same)
+  refused_ends NoMemory same ends = (ends.0, same, ends.1)
   refused_ends WriteFault same (inl refused) = inr (inr (inl (refused, same)))
-  refused_ends WriteFault same (inr bad) = inr (inr (inr (bad.0, bad.1, same)))
+  refused_ends WriteFault same (inr bad) = inr (inr (inr (bad, same)))
   refused_ends ReadFault same ends = absurd ends

@@ -86,7 +86,7 @@ file_is m db file has does = in_here m.bytes db (λ database. file ≡ file_of (
 none_of : (m : Memory) (names : List ℕ) → m.lent ≡ None → Any (IsLent m) names → ⊥
 none_of m names whole lent = none_lent m lent.1 whole lent.4
 
--- nothing but want of memory refuses it
+-- only out of memory refuses it
 pub no_file : (m : Memory) (db : Db) (refusal : Refusal) → m.lent ≡ None → HasNumber m.bytes db.0 → DoesInStore m (calls.File (Export db)) (replies.Refused refusal) m → refusal ≡ OutOfMemory
 no_file m db refusal whole has does = elim does.step.0 [
   | inl none ↦ absurd (not_none m.bytes db.0 has none.0)

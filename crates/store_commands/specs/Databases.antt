@@ -9,9 +9,10 @@ use Rattle.heap_model.specs.Files.{file_of}
 use Rattle.heap_model.specs.Store.{StoredDatabase, Store, Accepted, content, store_of}
 use Rattle.heap_model.specs.declared.database.DbInfo.{DbInfo}
 use Rattle.palm_text.specs.Pieces.{spelled}
+use Rattle.code_page.specs.Texts.{text_between}
 use Rattle.palm_text.specs.Counted.{Writing}
 use Rattle.palm_text.specs.Output.{Puts}
-use Rattle.program_io.specs.FaultLines.{PutsBad}
+use Rattle.image_faults.specs.Lines.{PutsBadImage}
 use Rattle.program_io.specs.declared.status.Status.{Status}
 use Rattle.program_io.specs.declared.status.Status.TheVariants.{Done, Refused, BadWords, ReadFault, WriteFault, NoMemory}
 use Rattle.store_commands.specs.declared.databases.Row.{Row}
@@ -21,7 +22,7 @@ abbrev pub kind_word : Bool → List ℕ
 kind_word true = codes "resources"
 kind_word false = codes "records"
 
--- the words of a line but the last
+-- the first words of a line
 unfoldable pub info_words : DbInfo → List ℕ
 info_words info =
     spelled info.name ++ (codes " " ++ (kind_word (has_resources info.attributes)
@@ -30,14 +31,17 @@ info_words info =
     ++ (codes " " ++ (encode_lower (u16_bytes info.attributes)
     ++ (codes " " ++ (decimal info.entry_count ++ codes " "))))))))))
 
--- the last word
-unfoldable pub size_end : ℕ → List ℕ
-size_end size = decimal size ++ codes "\n"
+-- the end of a line: a name that scripts don't spell in quotes comes again, in characters
+abbrev pub row_end : List ℕ → List ℕ
+row_end name = text_between (codes " \"") name (codes "\"") ++ codes "\n"
+
+abbrev pub last_words : Row → List ℕ
+last_words row = decimal row.size ++ row_end row.info.name
 
 -- The line of a database: its name, which entries it has, its type and its creator as scripts spell them, its attributes
--- in hex, how many entries there are, and how many bytes its file has.
+-- in hex, how many entries there are, how many bytes its file has, and maybe the name in characters.
 abbrev pub row_line : Row → List ℕ
-row_line row = info_words row.info ++ size_end row.size
+row_line row = info_words row.info ++ last_words row
 
 -- how many databases there are
 unfoldable pub count_line : ℕ → List ℕ
@@ -66,8 +70,8 @@ pub record EndsDatabases {V : Type 0} (image : List ℕ) (contents : V → Optio
   pub done : status ≡ Done → Puts contents old new (databases_text (store_of image)) true
   pub accepted : status ≡ Done → Accepted image
   pub refused : status ≡ Refused → Accepted image → ⊥
-  pub fault : status ≡ Refused → PutsBad contents old new true
+  pub fault : status ≡ Refused → PutsBadImage image contents old new true
   pub no_memory : status ≡ NoMemory → new ≡ old
-  pub write_fault : status ≡ WriteFault → (Accepted image × Puts contents old new (databases_text (store_of image)) false) ⊎ ((Accepted image → ⊥) × PutsBad contents old new false)
+  pub write_fault : status ≡ WriteFault → (Accepted image × Puts contents old new (databases_text (store_of image)) false) ⊎ ((Accepted image → ⊥) × PutsBadImage image contents old new false)
   pub good_words : status ≢ BadWords
   pub reads_nothing : status ≢ ReadFault

@@ -9,7 +9,7 @@ use Rattle.heap_model.specs.StoreWords.{with_number}
 use Rattle.heap_model.specs.declared.refusal.Refusal.TheVariants.{NoSuchDatabase}
 use Rattle.palm_text.specs.Counted.{Writing}
 use Rattle.palm_text.specs.Output.{Puts}
-use Rattle.program_io.specs.FaultLines.{PutsBad}
+use Rattle.image_faults.specs.Lines.{PutsBadImage}
 use Rattle.program_io.specs.declared.status.Status.{Status}
 use Rattle.program_io.specs.declared.status.Status.TheVariants.{Done, Refused, BadWords, ReadFault, WriteFault, NoMemory}
 use Rattle.script_calls.specs.Lines.{refusal_line}
@@ -63,14 +63,14 @@ pub record PutsMissing {V : Type 0} (image : List ℕ) (words : List (List ℕ))
 
 abbrev pub PutsNotExported : {V : Type 0} → List ℕ → List (List ℕ) → (V → Option (List ℕ)) → Writing V → Writing V → Option ℕ → Bool → Type 0
 PutsNotExported image words contents old new word ok =
-    ((Accepted image → ⊥) × (word ≡ None) × PutsBad contents old new ok)
+    ((Accepted image → ⊥) × (word ≡ None) × PutsBadImage image contents old new ok)
     ⊎ PutsMissing image words contents old new word ok
 
 -- why no files were made, by the status, and what was written then
 abbrev pub NotExportedBy : {V : Type 0} → List ℕ → List (List ℕ) → (V → Option (List ℕ)) → Writing V → Writing V → Option ℕ → Status → Type 0
 NotExportedBy image words contents old new word Refused = PutsNotExported image words contents old new word true
 NotExportedBy image words contents old new word WriteFault = PutsNotExported image words contents old new word false
-NotExportedBy image words contents old new word NoMemory = new ≡ old
+NotExportedBy image words contents old new word NoMemory = (word ≡ None) × (new ≡ old)
 NotExportedBy image words contents old new word Done = ⊥
 NotExportedBy image words contents old new word BadWords = ⊥
 NotExportedBy image words contents old new word ReadFault = ⊥

@@ -1,5 +1,5 @@
 -- What `import` makes of files. Where a definition ends in a `Bool`, it says whether all was written and flushed.
-use Rattle.std.specs.Prelude.{◌≡◌, ◌≢◌, ◌<◌, ◌⊎◌, ◌++◌, ℕ, Bool, true, false, List, [], ◌∷◌, length, replicate, take, slice_index_or, Option, Some, None, All, codes, decimal}
+use Rattle.std.specs.Prelude.{◌≡◌, ◌≢◌, ◌<◌, ◌≤◌, ◌⊎◌, ◌++◌, ℕ, Bool, true, false, List, [], ◌∷◌, length, replicate, take, slice_index_or, Option, Some, None, All, codes, decimal}
 use Rattle.std.specs.List.{concat}
 use Rattle.heap_model.specs.Memory.{Memory}
 use Rattle.heap_model.specs.Files.{HasNoFault, IsFirstFault}
@@ -17,7 +17,7 @@ use Rattle.chunk_format.specs.Blank.{IsBlank, IsRegionSize, LeavesRoom}
 use Rattle.file_needs.specs.Needs.{least_slots, least_size}
 use Rattle.palm_text.specs.Counted.{Writing}
 use Rattle.palm_text.specs.Output.{Puts}
-use Rattle.program_io.specs.FaultLines.{PutsBad}
+use Rattle.image_faults.specs.Lines.{PutsNoImage}
 use Rattle.program_io.specs.declared.status.Status.{Status}
 use Rattle.program_io.specs.declared.status.Status.TheVariants.{Done, Refused, BadWords, ReadFault, WriteFault, NoMemory}
 use Rattle.script_calls.specs.Lines.{refusal_line}
@@ -50,6 +50,13 @@ pub record IsChosen (choice : ImageChoice) (files : List (List ℕ)) (image : Ne
 abbrev pub NeedTooMuch : ImageChoice → List (List ℕ) → Type 0
 NeedTooMuch choice files =
     All HasNoFault files × ((65535 < slots_for choice files) ⊎ ((choice.size ≡ None) × (IsRegionSize (size_for choice files) → ⊥)))
+
+-- No file has a fault. They need no more slots than a table may have, and if no size is chosen, no more bytes than an
+-- image may have.
+pub record StayWithinLimits (choice : ImageChoice) (files : List (List ℕ)) : Type 0 where
+  pub good : All HasNoFault files
+  pub few : slots_for choice files ≤ 65535
+  pub small : choice.size ≡ None → IsRegionSize (size_for choice files)
 
 -- ---- imports, one after the other
 
@@ -108,15 +115,15 @@ abbrev pub IsNoImage : NewImage → NotImported → Type 0
 IsNoImage image (why.RefusedFile index refusal) = ⊥
 IsNoImage image why.TooLarge = ⊥
 IsNoImage image why.BadSize = IsRegionSize image.size → ⊥
-IsNoImage image why.BadSlotCount = LeavesRoom image.size image.slots → ⊥
+IsNoImage image why.BadSlotCount = IsRegionSize image.size × (LeavesRoom image.size image.slots → ⊥)
 IsNoImage image why.OutOfMemory = Unit {0}
 
 -- why there is no such store
 abbrev pub IsWhy : ImageChoice → List (List ℕ) → NotImported → Type 0
 IsWhy choice files (why.RefusedFile index refusal) = IsRefused choice files index refusal
 IsWhy choice files why.TooLarge = NeedTooMuch choice files
-IsWhy choice files why.BadSize = All HasNoFault files × (IsRegionSize (size_for choice files) → ⊥)
-IsWhy choice files why.BadSlotCount = All HasNoFault files × (LeavesRoom (size_for choice files) (slots_for choice files) → ⊥)
+IsWhy choice files why.BadSize = StayWithinLimits choice files × (IsRegionSize (size_for choice files) → ⊥)
+IsWhy choice files why.BadSlotCount = StayWithinLimits choice files × IsRegionSize (size_for choice files) × (LeavesRoom (size_for choice files) (slots_for choice files) → ⊥)
 IsWhy choice files why.OutOfMemory = Unit {0}
 
 -- ---- what is printed
@@ -129,7 +136,7 @@ image_line image = codes "ok " ++ (decimal image.size ++ (codes " " ++ (decimal 
 abbrev pub import_text : NewImage → ℕ → List ℕ
 import_text image count = image_line image ++ concat (replicate count (codes "ok\n"))
 
--- by the status, what was written of an image into which so many files were imported, and then of the lines
+-- by the status, what was written of an image into which `count` files were imported, and then of the lines
 abbrev pub PutsFilled : {W V : Type 0} → NewImage → ℕ → List ℕ → (W → Option (List ℕ)) → Writing W → Writing W → (V → Option (List ℕ)) → Writing V → Writing V → Status → Type 0
 PutsFilled image count bytes image_contents image_old image_new contents old new Done = Puts image_contents image_old image_new bytes true × Puts contents old new (import_text image count) true
 PutsFilled image count bytes image_contents image_old image_new contents old new WriteFault =
@@ -158,37 +165,38 @@ PutsRefused choice files contents old new word ok =
     ((index : ℕ) × (refusal : Refusal) × (word ≡ Some index) × IsRefused choice files index refusal × Puts contents old new (refusal_line refusal) ok)
     ⊎ (NeedTooMuch choice files × (word ≡ None) × Puts contents old new (codes "bad TooLarge\n") ok)
 
--- No file has a fault, and no image may have the size or the slots that were chosen.
-abbrev pub HasNoImage : ImageChoice → List (List ℕ) → Type 0
-HasNoImage choice files = All HasNoFault files × (IsRegionSize (size_for choice files) × LeavesRoom (size_for choice files) (slots_for choice files) → ⊥)
+-- the line for the size and the slots, if no image may have those that were chosen
+abbrev pub PutsBadChoice : {V : Type 0} → ImageChoice → List (List ℕ) → (V → Option (List ℕ)) → Writing V → Writing V → Option ℕ → Bool → Type 0
+PutsBadChoice choice files contents old new word ok =
+    StayWithinLimits choice files × (word ≡ None) × PutsNoImage (size_for choice files) (slots_for choice files) contents old new ok
 
 -- A write or a flush failed in `import`, and nothing was written after it: it was one of the image's, and nothing was
 -- printed; or one of the lines, after the whole image; or one of the line that says why there is no image.
 abbrev pub ImportBreaksOff : {W V : Type 0} → ImageChoice → List (List ℕ) → (W → Option (List ℕ)) → Writing W → Writing W → (V → Option (List ℕ)) → Writing V → Writing V → Option ℕ → Type 0
 ImportBreaksOff choice files image_contents image_old image_new contents old new word =
-    (PutsPart choice files image_contents image_old image_new × (new ≡ old))
-    ⊎ PutsImport choice files image_contents image_old image_new contents old new false
+    ((word ≡ None) × PutsPart choice files image_contents image_old image_new × (new ≡ old))
+    ⊎ ((word ≡ None) × PutsImport choice files image_contents image_old image_new contents old new false)
     ⊎ (PutsRefused choice files contents old new word false × (image_new ≡ image_old))
-    ⊎ (HasNoImage choice files × PutsBad contents old new false × (image_new ≡ image_old))
+    ⊎ (PutsBadChoice choice files contents old new word false × (image_new ≡ image_old))
 
--- what `import` printed that made no image
+-- what `import` printed that made no image, and the index of the file that is refused
 abbrev pub EndsRefusedBy : {V : Type 0} → ImageChoice → List (List ℕ) → (V → Option (List ℕ)) → Writing V → Writing V → Option ℕ → Status → Type 0
 EndsRefusedBy choice files contents old new word Done = ⊥
 EndsRefusedBy choice files contents old new word Refused = PutsRefused choice files contents old new word true
-EndsRefusedBy choice files contents old new word BadWords = HasNoImage choice files × PutsBad contents old new true
-EndsRefusedBy choice files contents old new word NoMemory = new ≡ old
-EndsRefusedBy choice files contents old new word WriteFault = PutsRefused choice files contents old new word false ⊎ (HasNoImage choice files × PutsBad contents old new false)
+EndsRefusedBy choice files contents old new word BadWords = PutsBadChoice choice files contents old new word true
+EndsRefusedBy choice files contents old new word NoMemory = (word ≡ None) × (new ≡ old)
+EndsRefusedBy choice files contents old new word WriteFault = PutsRefused choice files contents old new word false ⊎ PutsBadChoice choice files contents old new word false
 EndsRefusedBy choice files contents old new word ReadFault = ⊥
 
 abbrev pub EndsRefused : {V : Type 0} → ImageChoice → List (List ℕ) → (V → Option (List ℕ)) → Writing V → Writing V → Ended → Type 0
 EndsRefused choice files contents old new ended = EndsRefusedBy choice files contents old new ended.word ended.status
 
--- what `import` wrote, by the status with which it ends
+-- what `import` wrote, and the index of the file that is refused, by the status with which it ends
 abbrev pub EndsImportBy : {W V : Type 0} → ImageChoice → List (List ℕ) → (W → Option (List ℕ)) → Writing W → Writing W → (V → Option (List ℕ)) → Writing V → Writing V → Option ℕ → Status → Type 0
-EndsImportBy choice files image_contents image_old image_new contents old new word Done = PutsImport choice files image_contents image_old image_new contents old new true
+EndsImportBy choice files image_contents image_old image_new contents old new word Done = (word ≡ None) × PutsImport choice files image_contents image_old image_new contents old new true
 EndsImportBy choice files image_contents image_old image_new contents old new word Refused = PutsRefused choice files contents old new word true × (image_new ≡ image_old)
-EndsImportBy choice files image_contents image_old image_new contents old new word BadWords = HasNoImage choice files × PutsBad contents old new true × (image_new ≡ image_old)
-EndsImportBy choice files image_contents image_old image_new contents old new word NoMemory = (image_new ≡ image_old) × (new ≡ old)
+EndsImportBy choice files image_contents image_old image_new contents old new word BadWords = PutsBadChoice choice files contents old new word true × (image_new ≡ image_old)
+EndsImportBy choice files image_contents image_old image_new contents old new word NoMemory = (word ≡ None) × (image_new ≡ image_old) × (new ≡ old)
 EndsImportBy choice files image_contents image_old image_new contents old new word WriteFault = ImportBreaksOff choice files image_contents image_old image_new contents old new word
 EndsImportBy choice files image_contents image_old image_new contents old new word ReadFault = ⊥
 

@@ -1,22 +1,23 @@
 //! The command `databases`: a line for each database of an image.
 
-ghost use Rattle.std.specs.Prelude.{◌≡◌, IfOk, OnErr, None, is_ok};
+ghost use Rattle.std.specs.Prelude.{◌≡◌, IfOk, OnErr, None, decimal, is_ok};
 ghost use Rattle.std.specs.List.{flat_map};
 ghost use Rattle.heap_model.specs.Store.{database_under, store_of};
 ghost use Rattle.palm_store.specs.Databases.{HasNumber};
 ghost use Rattle.palm_text.specs.Counted.{Writes};
 ghost use Rattle.palm_text.specs.Output.{Puts};
-ghost use Rattle.store_commands.specs.Databases.{EndsDatabases, count_line, info_words, kind_word, row_line, row_of, rows_in, rows_text, size_end};
+ghost use Rattle.store_commands.specs.Databases.{EndsDatabases, count_line, info_words, kind_word, last_words, row_end, row_line, row_of, rows_in, rows_text};
 ghost use Rattle.heap_model.specs.Database as databases;
 ghost use Rattle.allowance.specs.Refusals.{GrowthRefused};
 
 use crate::images::{count_of, file_of_database, flushed, info_of, nth_of, opened};
 use allowance::{Allowance, push};
+use code_page::put_text;
 use db_format::DbAttrs;
 use heap_model::{Db, DbInfo};
 use itoa::Buffer;
 use palm_store::Store;
-use palm_text::{Counted, Piece, WriteFault, put_pieces};
+use palm_text::{Counted, Piece, WriteFault, put_all, put_pieces};
 use program_io::Status;
 use raw_region::Region;
 use std::alloc::{AllocError, Global};
@@ -116,7 +117,7 @@ fn kind_of(attributes: u16) -> &'static [u8]
     }
 }
 
-/// Writes the words of a database's line, but the last.
+/// Writes the first words of a database's line.
 #[tactic(auto, unfolding(crate::specs::Databases::info_words))]
 fn put_info<W: Write>(out: &mut Counted<W>, info: &DbInfo) -> Result<(), WriteFault>
     ensures { Writes W.contents out.old out.new (info_words info.now) (is_ok result) }
@@ -140,19 +141,29 @@ fn put_info<W: Write>(out: &mut Counted<W>, info: &DbInfo) -> Result<(), WriteFa
     )
 }
 
-/// Writes the last word of a database's line.
-#[tactic(auto, unfolding(crate::specs::Databases::size_end))]
+/// Writes the number of bytes that a database's file has.
 fn put_size<W: Write>(out: &mut Counted<W>, size: usize) -> Result<(), WriteFault>
-    ensures { Writes W.contents out.old out.new (size_end size) (is_ok result) }
+    ensures { Writes W.contents out.old out.new (decimal size) (is_ok result) }
 {
-    let mut digits = Buffer::new();
-    put_pieces(
-        out,
-        &[
-            Piece::Text(digits.format(size).as_bytes()),
-            Piece::Text(b"\n"),
-        ],
-    )
+    put_all(out, Buffer::new().format(size).as_bytes())
+}
+
+/// Writes the end of the line of the database with a name.
+#[tactic(auto, using(palm_text::proofs::Parts::then, palm_text::proofs::Parts::stops))]
+fn put_end<W: Write>(out: &mut Counted<W>, name: &[u8]) -> Result<(), WriteFault>
+    ensures { Writes W.contents out.old out.new (row_end name.now) (is_ok result) }
+{
+    put_text(out, b" \"", name, b"\"")?;
+    put_all(out, b"\n")
+}
+
+/// Writes the last words of a database's line.
+#[tactic(auto, using(palm_text::proofs::Parts::then, palm_text::proofs::Parts::stops))]
+fn put_last<W: Write>(out: &mut Counted<W>, row: &Row) -> Result<(), WriteFault>
+    ensures { Writes W.contents out.old out.new (last_words row.now) (is_ok result) }
+{
+    put_size(out, row.size)?;
+    put_end(out, row.info.name.as_slice())
 }
 
 /// Writes the line of a database.
@@ -161,7 +172,7 @@ fn put_row<W: Write>(out: &mut Counted<W>, row: &Row) -> Result<(), WriteFault>
     ensures { Writes W.contents out.old out.new (row_line row.now) (is_ok result) }
 {
     put_info(out, &row.info)?;
-    put_size(out, row.size)
+    put_last(out, row)
 }
 
 /// Writes the lines of databases.

@@ -8,21 +8,23 @@ ghost use Rattle.heap_model.specs.DatabaseSteps as rows;
 ghost use Rattle.palm_store.specs.Databases.{HasNumber};
 ghost use Rattle.palm_text.specs.Counted.{Flushes};
 ghost use Rattle.palm_text.specs.Output.{Puts};
-ghost use Rattle.program_io.specs.FaultLines.{PutsBad};
+ghost use Rattle.image_faults.specs.Lines.{PutsBadImage};
 ghost use Rattle.script_calls.specs.Lines.{refusal_line};
 
 use allowance::Allowance;
 use heap_model::{Bytes, Db, DbInfo, Refusal};
+use image_faults::say_bad_image;
 use palm_store::{NotAStore, Store, StoreFault};
 use palm_text::{Counted, WriteFault};
 use pdb_files::exported;
-use program_io::{Status, say_bad};
+use program_io::Status;
 use raw_region::Region;
 use script_calls::put_refusal;
 use std::alloc::AllocError;
 use std::io::Write;
 
-/// The store of an image of which nothing is lent. If the image is refused, prints why.
+/// The store of an image of which nothing is lent. If the image is refused, prints `bad` and its first
+/// fault.
 ///
 /// # Errors
 ///
@@ -40,8 +42,10 @@ pub(crate) fn opened<A: Allowance, V: Write>(
         ⊎ (status ≡ Status.WriteFault) ⊎ (status ≡ Status.NoMemory)) }
     ensures refused { (result ≡ Err Status.Refused) ⊎ (result ≡ Err Status.WriteFault)
         → Accepted region.bytes → ⊥ }
-    ensures said { result ≡ Err Status.Refused → PutsBad V.contents out.old out.new true }
-    ensures write { result ≡ Err Status.WriteFault → PutsBad V.contents out.old out.new false }
+    ensures said { result ≡ Err Status.Refused
+        → PutsBadImage region.bytes V.contents out.old out.new true }
+    ensures write { result ≡ Err Status.WriteFault
+        → PutsBadImage region.bytes V.contents out.old out.new false }
     ensures no_memory { result ≡ Err Status.NoMemory → out.new ≡ out.old }
     ensures short { result ≡ Err Status.NoMemory → A.is_short memory.now }
 {
@@ -53,7 +57,7 @@ pub(crate) fn opened<A: Allowance, V: Write>(
                 ..
             },
         ) => Err(Status::NoMemory),
-        Err(error) => Err(say_bad(memory, error.fault, Status::Refused, out)),
+        Err(error) => Err(say_bad_image(out, error.fault)),
     }
 }
 

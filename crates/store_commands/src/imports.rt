@@ -10,7 +10,7 @@ ghost use Rattle.file_needs.specs.Needs.{enough, full_size};
 ghost use Rattle.palm_text.specs.Counted.{Writes};
 ghost use Rattle.palm_text.specs.Output.{Puts};
 ghost use Rattle.script_calls.specs.Lines.{refusal_line};
-ghost use Rattle.store_commands.specs.Imports.{EndsImport, EndsRefused, ImportsAll, IsChosen, IsFilled, IsNew, IsNoImage, IsNotImported, IsStopped, IsWhy, PutsFilled, image_line, import_text};
+ghost use Rattle.store_commands.specs.Imports.{EndsImport, EndsRefused, ImportsAll, IsChosen, IsFilled, IsNew, IsNoImage, IsNotImported, IsStopped, IsWhy, PutsFilled, StayWithinLimits, image_line, import_text};
 
 use crate::exports::Ended;
 use crate::images::{flushed, put_store, say_refusal};
@@ -23,7 +23,7 @@ use palm_store::Store;
 use palm_text::{Counted, Piece, WriteFault, put_all, put_pieces};
 use pdb_files::import_from;
 use pdb_format::check_file;
-use program_io::{Status, say, say_bad};
+use program_io::{Status, say};
 use std::alloc::Global;
 use std::io::Write;
 
@@ -62,7 +62,7 @@ pub(crate) enum NotImported {
 ///
 /// If a file is refused, prints its reply line, and writes no image. A file with a fault is refused before the others are
 /// imported. If the files need more than an image may have, prints `bad TooLarge`. If no image has the size or the slots
-/// that are chosen, prints `bad` and the fault.
+/// that are chosen, prints `bad BadSize` or `bad BadSlotCount`.
 pub fn cmd_import<W: Write, V: Write>(
     alloc: Global,
     choice: ImageChoice,
@@ -91,7 +91,7 @@ pub fn cmd_import_from<A: Allowance, W: Write, V: Write>(
 {
     match filled_store(memory, choice, files) {
         Ok((image, store)) => put_filled(image, files.len(), &store, image_out, out),
-        Err(why) => say_why(memory, why, out),
+        Err(why) => say_why(why, out),
     }
 }
 
@@ -154,6 +154,7 @@ fn chosen<A: Allowance>(
 ) -> Result<NewImage, NotImported>
     requires { All HasNoFault files.now }
     ensures image { IfOk result (IsChosen choice files.now) }
+    ensures within { OnOk result (StayWithinLimits choice files.now) }
     ensures why { IfErr result (IsWhy choice files.now) }
     ensures short { result ≡ Err NotImported.OutOfMemory → A.is_short memory.now }
 {
@@ -184,6 +185,7 @@ fn chosen<A: Allowance>(
 /// may have it.
 fn fitting_size(slots: u16, databases: usize, bytes: u64) -> Option<u32>
     requires { bytes ≤ enough }
+    ensures right { IfSome result IsRegionSize }
     ensures fits { (all : ℕ) → bytes ≡ min enough all
         → IfSome result (λ size. size ≡ full_size slots databases all) }
     ensures none { (all : ℕ) → bytes ≡ min enough all
@@ -250,23 +252,16 @@ fn not_imported(index: usize, refusal: Refusal) -> NotImported
 }
 
 /// Prints why there is no image.
-fn say_why<A: Allowance, V: Write>(memory: &A, why: NotImported, out: &mut Counted<V>) -> Ended
+fn say_why<V: Write>(why: NotImported, out: &mut Counted<V>) -> Ended
     ensures ends { (choice : ImageChoice) (files : List (List ℕ)) → IsWhy choice files why
         → EndsRefused choice files V.contents out.old out.new result }
-    ensures short { result.status ≡ Status.NoMemory
-        → (why ≡ NotImported.OutOfMemory) ⊎ A.is_short memory.now }
+    ensures short { result.status ≡ Status.NoMemory → why ≡ NotImported.OutOfMemory }
 {
     let (status, word) = match why {
         NotImported::RefusedFile(index, refusal) => (say_refused(refusal, out), Some(index)),
         NotImported::TooLarge => (say(b"bad TooLarge\n", Status::Refused, out), None),
-        NotImported::BadSize => (
-            say_bad(memory, BlankFault::BadSize, Status::BadWords, out),
-            None,
-        ),
-        NotImported::BadSlotCount => (
-            say_bad(memory, BlankFault::BadSlotCount, Status::BadWords, out),
-            None,
-        ),
+        NotImported::BadSize => (say(b"bad BadSize\n", Status::BadWords, out), None),
+        NotImported::BadSlotCount => (say(b"bad BadSlotCount\n", Status::BadWords, out), None),
         NotImported::OutOfMemory => (Status::NoMemory, None),
     };
     Ended { status, word }

@@ -1,7 +1,7 @@
 //! Commands that break off: each allocation fails in turn, and each write fails after
 //! each byte.
 
-use crate::samples::{MIXED_FILE, changed, documented, listed};
+use crate::samples::{MIXED_FILE, changed, documented, listed, rewritten};
 use file_commands::{cmd_canonical_from, cmd_list_from};
 use json_documents::cmd_list_json_from;
 use palm_text::Counted;
@@ -95,6 +95,48 @@ fn a_full_writer_gets_a_prefix(rt: HostRuntime) -> Result<(), Fail> {
         holds(room, text.starts_with(&narrow.taken))?;
     }
     Ok(())
+}
+
+/// Canonical forms are cut in the same way at a few bytes, as each takes sets of all IDs. Nothing is
+/// printed. The first file stays the same, and is written at once. The second one is written in
+/// parts, and its last cut is in a block.
+#[test]
+fn a_full_writer_gets_a_prefix_of_a_form(rt: HostRuntime) -> Result<(), Fail> {
+    check_form_cuts(rt.alloc(), &bytes_of(rt.alloc(), TINY_FILE)?)?;
+    check_form_cuts(rt.alloc(), &bytes_of(rt.alloc(), ORDER_FILE)?)
+}
+
+fn check_form_cuts(alloc: Global, file: &[u8]) -> Result<(), Fail> {
+    let (_, form, _) = rewritten(alloc, file)?;
+    if file.len() > MOST {
+        return Ok(());
+    }
+    for room in (0..form.len()).step_by(35) {
+        let mut file_out = Counted::new(Narrow::new(alloc, room, 5, WhenFull::TakesNothing));
+        let mut out = Counted::new(Vec::new(alloc));
+        let status = cmd_canonical_from(&alloc, file, &mut file_out, &mut out);
+        equal(room, status, Status::WriteFault)?;
+        let narrow = file_out.into_inner();
+        holds(room, narrow.is_cut_at(room))?;
+        holds(room, form.starts_with(&narrow.taken))?;
+        equal(room, out.into_inner().len(), 0)?;
+    }
+    Ok(())
+}
+
+/// A file that stays the same is not copied: the allocations are a set of IDs, and the IDs.
+#[test]
+fn a_canonical_file_takes_little_memory(rt: HostRuntime) -> Result<(), Fail> {
+    let file = bytes_of(rt.alloc(), TINY_FILE)?;
+    if file.len() > MOST {
+        return Ok(());
+    }
+    let memory = RefusesOne::behind(rt.alloc(), 2);
+    let mut file_out = Counted::new(Vec::new(rt.alloc()));
+    let mut out = Counted::new(Vec::new(rt.alloc()));
+    let status = cmd_canonical_from(&memory, &file, &mut file_out, &mut out);
+    equal("status", status, Status::Done)?;
+    holds("grants", !memory.has_refused())
 }
 
 /// The lines for a fault are cut in the same way.

@@ -1,6 +1,7 @@
 //! Documents of files, and of damaged ones.
 
 use crate::samples::{MEMO_FILE, MIXED_FILE, changed, documented};
+use code_page::put_text;
 use json_documents::{JsonPiece, put_json};
 use palm_text::Counted;
 use program_io::Status;
@@ -165,6 +166,45 @@ fn bytes_outside_ascii_are_escaped(rt: HostRuntime) -> Result<(), Fail> {
         str::from_utf8(&text)?,
         "\"A \\u0022\\u005c/~\\u007f\\u0000\\u001f\\u00a0\\u00e9\\u00ff\"",
     )
+}
+
+/// The same, as `list` and `databases` print them. Where python3 has none, it is U+FFFD.
+const SHOWN: &str = "€\u{FFFD}‚ƒ„…†‡ˆ‰Š‹Œ\u{FFFD}Ž\u{FFFD}\u{FFFD}‘’“”•–—˜™š›œ\u{FFFD}žŸ";
+
+/// The characters of a name, or nothing if it is spelled in quotes.
+fn text_of(alloc: Global, name: &[u8]) -> Result<Vec<u8>, Fail> {
+    let mut out = Counted::new(Vec::new(alloc));
+    put_text(&mut out, b"<", name, b">")?;
+    Ok(out.into_inner())
+}
+
+/// Names, and what `put_text` writes of them.
+static TEXTS: [(&[u8], &str); 6] = [
+    (b"", ""),
+    (b" A\\~", ""),
+    (b"\"", "<\">"),
+    (
+        b"\x1B[2J\x7F\x00\n",
+        "<\u{FFFD}[2J\u{FFFD}\u{FFFD}\u{FFFD}>",
+    ),
+    (b"\xA0\xA1\xBF\xC0", "<\u{A0}¡¿À>"),
+    (b"\xDF\xE9\xFF", "<ßéÿ>"),
+];
+
+#[test]
+fn names_are_written_in_utf_8(rt: HostRuntime) -> Result<(), Fail> {
+    let mut bytes = Vec::new(rt.alloc());
+    for byte in 0x80..0xA0 {
+        bytes.push(byte)?;
+    }
+    let text = text_of(rt.alloc(), &bytes)?;
+    let wanted = format!(in rt.alloc(); "<{SHOWN}>")?;
+    equal("0x80 to 0x9F", str::from_utf8(&text)?, wanted.as_str())?;
+    for (name, wanted) in &TEXTS {
+        let text = text_of(rt.alloc(), name)?;
+        equal(format_args!("{name:?}"), str::from_utf8(&text)?, *wanted)?;
+    }
+    Ok(())
 }
 
 #[test]

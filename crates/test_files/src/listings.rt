@@ -1,6 +1,6 @@
 //! The listings of files, and the lines for damaged ones.
 
-use crate::samples::{MEMO_FILE, MIXED_FILE, changed, listed};
+use crate::samples::{CAFE_FILE, MEMO_FILE, MIXED_FILE, changed, damaged, listed};
 use program_io::Status;
 use std::alloc::Global;
 use std::str;
@@ -99,6 +99,7 @@ number 7
 type x:61001f62
 creator \"~~~~\"
 seed 01020304
+text \"\"Q\"\u{FFFD}\"
 app 101 0
 sort 99 2
 records 2
@@ -108,14 +109,35 @@ needs 200 bytes and 5 slots in a heap
 changes busy ids order
 ";
 
+const CAFE_LINES: &str = "\
+ok 80
+name x:436166e9
+attributes 0000
+version 0
+created 0 never
+modified 0 never
+backup 0 never
+number 0
+type \"DATA\"
+creator \"Test\"
+seed 00000000
+text \"Café\"
+app none
+sort none
+records 0
+needs 128 bytes and 2 slots in a heap
+canonical
+";
+
 /// Files, and their listings: the first line and the last, and those between them.
-static LISTINGS: [(&str, &str, &str, &str); 6] = [
+static LISTINGS: [(&str, &str, &str, &str); 7] = [
     (EMPTY_FILE, "ok 78\n", EMPTY_LINES, "changes filler\n"),
     (EMPTY_WRITTEN, "ok 80\n", EMPTY_LINES, "canonical\n"),
     (ORDER_FILE, "", ORDER_LINES, ""),
     (TINY_FILE, "", TINY_LINES, ""),
     (MEMO_FILE, "", MEMO_LINES, ""),
     (MIXED_FILE, "", MIXED_LINES, ""),
+    (CAFE_FILE, "", CAFE_LINES, ""),
 ];
 
 /// Whether a file is listed as these lines, with this status.
@@ -197,33 +219,104 @@ fn moments_are_printed_in_utc(rt: HostRuntime) -> Result<(), Fail> {
     Ok(())
 }
 
-/// Files, where some bytes stand from an offset on instead, and what is printed of them then.
-static DAMAGED: [(&str, usize, &[u8], &str); 12] = [
-    (EMPTY_FILE, 76, &[0, 1], "bad Truncated\nat 78\n"),
-    (EMPTY_FILE, 72, &[0, 0, 0, 1], "bad ChainedList\nat 72\n"),
-    (EMPTY_FILE, 0, &[0], "bad EmptyName\nat 0\n"),
-    (EMPTY_FILE, 52, &[0, 0, 0, 77], "bad BadInfo app\nat 52\n"),
-    (EMPTY_FILE, 56, &[0, 0, 0, 79], "bad BadInfo sort\nat 56\n"),
-    (ORDER_FILE, 78, &[0, 0, 0, 0], "bad BadOffset 0\nat 78\n"),
-    (ORDER_FILE, 86, &[0, 0, 0, 0x65], "bad BadOffset 1\nat 86\n"),
-    (ORDER_FILE, 94, &[0, 0, 0, 0x71], "bad BadOffset 2\nat 94\n"),
-    (ORDER_FILE, 76, &[0xFF, 0xFF], "bad Truncated\nat 112\n"),
-    (TINY_FILE, 84, &[0, 0, 0, 0], "bad BadOffset 0\nat 84\n"),
-    (TINY_FILE, 94, &[0, 0, 0, 0x6B], "bad BadOffset 1\nat 94\n"),
+/// Files, with other bytes from an offset on. Then what is printed of each, and what standard error has
+/// of its first fault.
+static DAMAGED: [(&str, usize, &[u8], &str, &str); 12] = [
+    (
+        EMPTY_FILE,
+        76,
+        &[0, 1],
+        "bad Truncated\nat 78\n",
+        "78 bytes, and at least 86 are needed",
+    ),
+    (
+        EMPTY_FILE,
+        72,
+        &[0, 0, 1, 0],
+        "bad ChainedList\nat 72\n",
+        "found 256, and only 0 is allowed",
+    ),
+    (
+        EMPTY_FILE,
+        0,
+        &[0],
+        "bad EmptyName\nat 0\n",
+        "found 0, and 1 to 255 is allowed",
+    ),
+    (
+        EMPTY_FILE,
+        52,
+        &[0, 0, 0, 77],
+        "bad BadInfo app\nat 52\n",
+        "found 77, and 0 or 78 to 78 is allowed",
+    ),
+    (
+        EMPTY_WRITTEN,
+        56,
+        &[0, 0, 0, 81],
+        "bad BadInfo sort\nat 56\n",
+        "found 81, and 0 or 78 to 80 is allowed",
+    ),
+    (
+        ORDER_FILE,
+        78,
+        &[0, 0, 0, 0],
+        "bad BadOffset 0\nat 78\n",
+        "found 0, and 102 to 112 is allowed, or 0 if the record is deleted",
+    ),
+    (
+        ORDER_FILE,
+        86,
+        &[0, 0, 0, 0x65],
+        "bad BadOffset 1\nat 86\n",
+        "found 101, and 102 to 112 is allowed, or 0 if the record is deleted",
+    ),
+    (
+        ORDER_FILE,
+        94,
+        &[0, 0, 0, 0x71],
+        "bad BadOffset 2\nat 94\n",
+        "found 113, and 102 to 112 is allowed, or 0 if the record is deleted",
+    ),
+    (
+        ORDER_FILE,
+        76,
+        &[0xFF, 0xFF],
+        "bad Truncated\nat 112\n",
+        "112 bytes, and at least 524358 are needed",
+    ),
+    (
+        TINY_FILE,
+        84,
+        &[0, 0, 0, 0],
+        "bad BadOffset 0\nat 84\n",
+        "found 0, and 98 to 106 is allowed",
+    ),
+    (
+        TINY_FILE,
+        94,
+        &[0, 0, 0, 0x6B],
+        "bad BadOffset 1\nat 94\n",
+        "found 107, and 98 to 106 is allowed",
+    ),
     (
         TINY_FILE,
         94,
         &[0xFF, 0xFF, 0xFF, 0xFF],
         "bad BadOffset 1\nat 94\n",
+        "found 4294967295, and 98 to 106 is allowed",
     ),
 ];
 
 #[test]
 fn damaged_files_are_told_with_the_place(rt: HostRuntime) -> Result<(), Fail> {
-    for (file, at, bytes, lines) in &DAMAGED {
+    for (file, at, bytes, lines, allowed) in &DAMAGED {
         let file = changed(rt.alloc(), file, *at, bytes)?;
         check_text(rt.alloc(), &file, Status::Refused, lines)?;
+        equal(lines, damaged(rt.alloc(), &file)?.as_str(), *allowed)?;
     }
     check_text(rt.alloc(), b"", Status::Refused, "bad Truncated\nat 0\n")?;
-    check_text(rt.alloc(), b"abc", Status::Refused, "bad Truncated\nat 3\n")
+    check_text(rt.alloc(), b"abc", Status::Refused, "bad Truncated\nat 3\n")?;
+    let text = damaged(rt.alloc(), b"abc")?;
+    equal("abc", text.as_str(), "3 bytes, and at least 78 are needed")
 }

@@ -1,8 +1,10 @@
 //! Files, and what is printed of them.
 
 use file_commands::{cmd_canonical_from, cmd_list_from};
+use file_listing::damage_of;
 use json_documents::cmd_list_json;
 use palm_text::Counted;
+use pdb_format::check_file;
 use program_io::Status;
 use std::alloc::Global;
 use std::test::*;
@@ -18,6 +20,10 @@ pub(crate) const MIXED_FILE: &str = "2251220a 00*28 8042 0102 ffffffff 00015180 
     00000065 00000063 61001f62 7e7e7e7e 01020304 00000000 0002 \
     00000000 8f ffffff 00000060 20 000000 0000 4142 43 4449";
 
+/// A file without entries, as it is written. Its name is `Café` in Windows-1252.
+pub(crate) const CAFE_FILE: &str =
+    "436166e9 00*28 0000 0000 00*24 44415441 54657374 00000000 00000000 0000 0000";
+
 /// The most bytes that a file may have.
 const MOST: usize = 16_777_216;
 
@@ -29,6 +35,17 @@ pub(crate) fn listed(alloc: Global, file: &[u8]) -> Result<(Status, Vec<u8>), Fa
     let mut out = Counted::new(Vec::new(alloc));
     let status = cmd_list_from(&alloc, file, &mut out);
     Ok((status, out.into_inner()))
+}
+
+/// The damage of a file with a fault, as a text.
+pub(crate) fn damaged(alloc: Global, file: &[u8]) -> Result<String, Fail> {
+    if file.len() > MOST {
+        return Err("a file that is too long")?;
+    }
+    match check_file(file) {
+        Ok(()) => Err("a file without fault")?,
+        Err(fault) => Ok(format!(in alloc; "{}", damage_of(file, fault))?),
+    }
 }
 
 /// What `list --json` prints of a file, and its status.

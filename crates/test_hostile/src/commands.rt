@@ -2,13 +2,12 @@
 //! says, and nothing was written.
 
 use crate::stores::{WRITTEN, input_files};
-use chunk_format::BlankFault;
 use heap_model::Bytes;
 use image_commands::{cmd_check_from, cmd_draw_from, cmd_migrate_from, cmd_new_from};
 use palm_script::{LineFault, ScriptFault};
 use palm_text::Counted;
 use palmheap_program::cmd_run_from;
-use program_io::{Status, say_bad, say_line_fault};
+use program_io::{Status, say_line_fault};
 use std::alloc::Global;
 use std::test::*;
 use test_support::{BLANK, DATABASE, RefusesOne, bytes_of, holds};
@@ -25,8 +24,6 @@ enum Trial {
     Migrate(&'static str),
     /// The picture of a listed image as SVG.
     Draw(&'static str),
-    /// The line for a fault.
-    Bad,
     /// The line for a refused script.
     BadLine,
 }
@@ -79,12 +76,6 @@ fn status_of(
         Trial::Run(listing, text) => run_with(memory, alloc, listing, text, outputs),
         Trial::Migrate(listing) => migrate_with(memory, alloc, listing, outputs),
         Trial::Draw(listing) => draw_with(memory, alloc, listing, outputs),
-        Trial::Bad => Ok(say_bad(
-            memory,
-            BlankFault::BadSize,
-            Status::BadWords,
-            &mut outputs.text,
-        )),
         Trial::BadLine => Ok(say_line_fault(memory, FAULT, &mut outputs.text)),
     }
 }
@@ -144,24 +135,23 @@ fn draw_with(
 }
 
 /// The number of allocations of each, and its status if none fails.
-static TRIALS: [(Trial, u32, Status); 14] = [
+static TRIALS: [(Trial, u32, Status); 13] = [
     (Trial::New(128), 1, Status::Done),
-    (Trial::New(100), 2, Status::BadWords),
+    (Trial::New(100), 0, Status::BadWords),
     (Trial::Check(DATABASE), 5, Status::Done),
-    (Trial::Check(""), 2, Status::Refused),
+    (Trial::Check(""), 0, Status::Refused),
     (Trial::Run(BLANK, WRITTEN), 34, Status::Done),
     (
         Trial::Run(BLANK, "bind a 16\nbound a\n"),
         9,
         Status::Refused,
     ),
-    (Trial::Run("00", WRITTEN), 3, Status::Refused),
+    (Trial::Run("00", WRITTEN), 1, Status::Refused),
     (Trial::Migrate(DATABASE), 4, Status::Done),
     (Trial::Migrate(BLANK), 4, Status::Done),
-    (Trial::Migrate("00"), 3, Status::Refused),
+    (Trial::Migrate("00"), 1, Status::Refused),
     (Trial::Draw(DATABASE), 15, Status::Done),
-    (Trial::Draw("00"), 3, Status::Refused),
-    (Trial::Bad, 2, Status::BadWords),
+    (Trial::Draw("00"), 1, Status::Refused),
     (Trial::BadLine, 2, Status::Refused),
 ];
 

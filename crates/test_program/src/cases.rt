@@ -10,7 +10,7 @@ pub(crate) enum Output {
 }
 
 /// The words of each run behind the program's own name, and what becomes of what it prints.
-pub(crate) static CASES: [(&str, Output); 151] = [
+pub(crate) static CASES: [(&str, Output); 155] = [
     // images that are made, or that there are not
     ("new 64 1 out.img", Taken),
     ("new 127 4 out.img", Taken),
@@ -196,6 +196,11 @@ pub(crate) static CASES: [(&str, Output); 151] = [
     ("canonical blank.img -", Taken),
     ("list --json wide.img", Taken),
     ("import out.img blank.img", Taken),
+    // names with a byte outside ASCII
+    ("list cafe.pdb", Taken),
+    ("list --json cafe.pdb", Taken),
+    ("databases cafe.img", Taken),
+    ("databases --json cafe.img", Taken),
     // a database that is named twice
     ("export records.img out R R", Taken),
     // words that ask for no command

@@ -3,7 +3,7 @@
 use Content::{Listing, Text};
 use std::alloc::Global;
 use std::test::Fail;
-use test_support::{BLANK, DATABASE, ORDER_FILE, TINY_FILE, WIDE, image};
+use test_support::{BLANK, DATABASE, EMPTY_WRITTEN, ORDER_FILE, TINY_FILE, WIDE, image};
 
 /// What a file holds.
 pub(crate) enum Content {
@@ -28,7 +28,7 @@ impl Content {
 const ROOM: &str = "50484931 00000200 000C 0000 00000000 00*48 800001C0 00*444";
 
 /// The files, each behind its name.
-pub(crate) static INPUTS: [(&str, Content); 21] = [
+pub(crate) static INPUTS: [(&str, Content); 23] = [
     ("blank.img", Listing(BLANK, "")),
     ("room.img", Listing(ROOM, "")),
     ("records.img", Listing(DATABASE, "")),
@@ -44,6 +44,9 @@ pub(crate) static INPUTS: [(&str, Content); 21] = [
     ("tiny.prc", Listing(TINY_FILE, "")),
     // the data of the second record begins before the entries end
     ("damaged.pdb", Listing(ORDER_FILE, "86: 00000065")),
+    // names with a byte outside ASCII
+    ("cafe.pdb", Listing(EMPTY_WRITTEN, "0: 436166E900")),
+    ("cafe.img", Listing(DATABASE, "72: 436166E9")),
     (
         "files.txt",
         Text("import d 2\nimport e 1\nexport d\nexport e\nexport e\ndbcount\n"),

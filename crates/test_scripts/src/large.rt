@@ -13,7 +13,7 @@ use std::alloc::{AllocError, Global};
 use std::test::Fail;
 use test_support::{equal, holds};
 
-/// So many lines of 4,096 bytes that are passed over.
+/// Returns `count` lines of 4,096 bytes, each a comment.
 fn passed_over(alloc: Global, count: usize) -> Result<String, AllocError> {
     let filling = "x".repeat(alloc, 4_094)?;
     let line = format!(in alloc; "#{filling}\n")?;

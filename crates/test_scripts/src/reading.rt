@@ -1,5 +1,6 @@
 //! Reading input: how far, and what a read that fails gives.
 
+use image_commands::{SizedFault, read_region_from};
 use program_io::{INPUT_LIMIT, InputFault, read_input, read_input_from};
 use std::alloc::Global;
 use std::io::ErrorKind;
@@ -63,6 +64,38 @@ fn reads_to_the_end(rt: HostRuntime) -> Result<(), Fail> {
         check_to_the_end(rt.alloc(), *left, *step, *reads)?;
     }
     Ok(())
+}
+
+/// How many bytes a source has, how many a read gives, and the size of the region that is read.
+static SIZES: [(usize, usize, u32, bool); 7] = [
+    (0, 1, 0, true),
+    (0, 1, 1, false),
+    (1, 1, 0, false),
+    (5, 2, 5, true),
+    (5, 2, 4, false),
+    (5, 2, 6, false),
+    (65_537, 99_999, 65_537, true),
+];
+
+fn check_size(alloc: Global, left: usize, step: usize, size: u32, whole: bool) -> Result<(), Fail> {
+    let is_read = match read_region_from(&alloc, &mut Source::new(left, step), size) {
+        Ok(_) => true,
+        Err(SizedFault::OtherSize) => false,
+        Err(SizedFault::Input(_)) => Err("a fault")?,
+    };
+    equal(format_args!("{left} for {size}"), is_read, whole)
+}
+
+#[test]
+fn reads_a_region_of_just_the_size(rt: HostRuntime) -> Result<(), Fail> {
+    for (left, step, size, whole) in &SIZES {
+        check_size(rt.alloc(), *left, *step, *size, *whole)?;
+    }
+    let text = "the bytes of a file".as_bytes();
+    match read_region_from(&rt.alloc(), &mut "the bytes of a file".as_bytes(), 19) {
+        Ok(region) => equal("bytes", region.as_slice(), text),
+        Err(_) => Err("a fault")?,
+    }
 }
 
 /// A source of 4 bytes, one at a time, of which a read fails so.

@@ -21,6 +21,10 @@ use test_support::{
 const BLOCKS_FILE: &str = "2f426c2e 00*28 0000 0000 00*16 00000058 0000005d 44415441 54657374 \
     00000000 00000000 0001 0000005d 00 000001 0000 0102030405 111213141516171819";
 
+/// A file without entries, whose name is `Café` in Windows-1252.
+const CAFE_FILE: &str =
+    "436166e9 00*28 0000 0000 00*24 44415441 54657374 00000000 00000000 0000 0000";
+
 /// How `import` ended, and what its writers hold.
 #[derive(Drop)]
 struct Told {
@@ -66,7 +70,7 @@ static NEEDS: [(&[&str], u32, u16); 7] = [
     (&[TINY_FILE, ORDER_FILE, EMPTY_FILE, BLOCKS_FILE], 624, 13),
 ];
 
-/// Whether an import is refused for want of room, and writes nothing.
+/// Checks that an import is refused as `NotEnoughSpace`, and writes nothing.
 fn check_too_small(alloc: Global, choice: ImageChoice, files: &[Bytes]) -> Result<(), Fail> {
     let told = import_on(alloc, choice, files);
     equal("status", told.ended.status, Status::Refused)?;
@@ -177,15 +181,16 @@ pub(crate) fn image_of(alloc: Global, listings: &[&str]) -> Result<Vec<u8>, Fail
 
 #[test]
 fn databases_are_listed(rt: HostRuntime) -> Result<(), Fail> {
-    let image = image_of(rt.alloc(), &[TINY_FILE, ORDER_FILE, EMPTY_FILE])?;
+    let image = image_of(rt.alloc(), &[TINY_FILE, ORDER_FILE, CAFE_FILE, EMPTY_FILE])?;
     let mut out = Counted::new(Vec::new(rt.alloc()));
     let status = cmd_databases(rt.alloc(), &image, &mut out);
     equal("status", status, Status::Done)?;
     equal(
         "lines",
         str::from_utf8(&out.into_inner())?,
-        "ok 3\n\"Tiny\" resources \"appl\" \"Test\" 0001 2 106\n\
+        "ok 4\n\"Tiny\" resources \"appl\" \"Test\" 0001 2 106\n\
             \"Order\" records \"DATA\" \"Test\" 0000 3 112\n\
+            x:436166e9 records \"DATA\" \"Test\" 0000 0 80 \"Café\"\n\
             \"Empty\" records \"DATA\" \"Test\" 0000 0 80\n",
     )
 }

@@ -1,7 +1,6 @@
 use Rattle.std.proofs.Common.{◌≡◌, true, false, subst, inl, inr, rules}
 use Rattle.palm_text.specs.Counted.{Writing}
-use Rattle.program_io.specs.FaultLines.{PutsBad}
-use Rattle.image_commands.proofs.Mapped.{not_accepted}
+use Rattle.image_commands.proofs.Mapped.{not_accepted, puts_first}
 use Rattle.image_commands.proofs.draw_command.draw_region_from.Goals as goal
 
 pub returns-in-Ok-clause-ends : goal.returns-in-Ok-clause-ends
@@ -27,10 +26,10 @@ returns-in-Err-BadImage-clause-ends g c =
       drawn = search rules;
       ok = search rules;
       refused = λ is. not;
-      bad = λ is. c.say_bad.ensures.said is;
+      bad = λ is. puts_first g.V.Write.contents c.args.out.now c.say_bad_image.new.out c.args.region.now.bytes _ _ true c.in-Err-BadImage.field-0-is c.in-Err-BadImage.ensures.why (c.say_bad_image.ensures.refused is);
       no_file = λ is. same;
       no_memory = search rules;
-      write_fault = λ is. inr (inr (not, c.say_bad.ensures.fault is, same));
+      write_fault = λ is. inr (inr (not, puts_first g.V.Write.contents c.args.out.now c.say_bad_image.new.out c.args.region.now.bytes _ _ false c.in-Err-BadImage.field-0-is c.in-Err-BadImage.ensures.why (c.say_bad_image.ensures.write is), same));
       good_words = search rules;
       reads_nothing = search rules;
     }

@@ -1,8 +1,9 @@
 use Rattle.std.proofs.Common.{List, ℕ, subst}
 use Rattle.std.specs.Prelude.{is_ok}
 use Rattle.palm_text.specs.Counted.{Writes}
-use Rattle.json_documents.specs.declared.image_fault.Numbers.{Numbers}
-use Rattle.json_documents.specs.Faults.{image_fault_name, named_fault_json}
+use Rattle.image_faults.specs.Names.{image_fault_name}
+use Rattle.image_faults.specs.declared.names.Numbers.{Numbers}
+use Rattle.json_documents.specs.Faults.{named_fault_json}
 use Rattle.json_documents.proofs.image_fault.put_image_fault.Goals as goal
 
 pub returns : goal.returns

@@ -1,7 +1,7 @@
 use Rattle.std.proofs.Common.{sym, subst}
 use Rattle.std.specs.Prelude.{is_ok}
 use Rattle.palm_text.specs.Counted.{Writes}
-use Rattle.json_documents.specs.declared.image_fault.Numbers.{Numbers}
+use Rattle.image_faults.specs.declared.names.Numbers.{Numbers}
 use Rattle.json_documents.specs.Faults.{named_fault_json}
 use Rattle.json_documents.proofs.image_fault.put_named.Goals as goal
 

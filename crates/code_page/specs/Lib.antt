@@ -1,0 +1,2 @@
+pub mod Windows1252
+pub mod Texts

@@ -1,0 +1,113 @@
+//! The number at the place of a fault, and the numbers that are allowed there.
+
+ghost use Rattle.std.specs.Prelude.{◌≡◌, ◌≤◌, ◌+◌, length};
+ghost use Rattle.heap_model.specs.Bytes.{u32_at};
+ghost use Rattle.heap_model.specs.DatabaseFields.{header_size};
+ghost use Rattle.heap_model.specs.Files.{IsFirstFault};
+ghost use Rattle.canonical_file.specs.Canonical.{most_bytes};
+ghost use Rattle.file_listing.specs.Damage as words;
+
+use crate::fault_lines::fault_place;
+use byteorder::{BigEndian, ByteOrder};
+use db_format::{HEADER_SIZE, entries_end, has_resources};
+use heap_model::FileFault;
+use thiserror::Error;
+
+/// The number that a file with a fault has, and the numbers that are allowed there.
+#[derive(Clone, Copy, Debug, PartialEq, Eq, Error)]
+pub enum Damage {
+    /// The number of bytes, and the least number that the header, or the list of entries, needs.
+    #[error("{found} bytes, and at least {least} are needed")]
+    Short {
+        found: usize,
+        least: usize,
+    },
+    /// A number in place of 0.
+    #[error("found {found}, and only 0 is allowed")]
+    NotZero {
+        found: u32,
+    },
+    /// The first byte of the name is 0.
+    #[error("found 0, and 1 to 255 is allowed")]
+    Zero,
+    /// The offset of an info block.
+    #[error("found {found}, and 0 or {least} to {most} is allowed")]
+    InfoOutside {
+        found: u32,
+        least: usize,
+        most: usize,
+    },
+    /// The offset of a record's data.
+    #[error("found {found}, and {least} to {most} is allowed, or 0 if the record is deleted")]
+    RecordOutside {
+        found: u32,
+        least: usize,
+        most: usize,
+    },
+    /// The offset of a resource's data.
+    #[error("found {found}, and {least} to {most} is allowed")]
+    ResourceOutside {
+        found: u32,
+        least: usize,
+        most: usize,
+    },
+}
+
+/// Returns the number that a file has at the place of its first fault, and the numbers that are
+/// allowed there.
+pub fn damage_of(file: &[u8], fault: FileFault) -> Damage
+    requires short { length file.now ≤ most_bytes }
+    requires first { IsFirstFault file.now fault }
+    ensures { result ≡ words.damage_of file.now fault }
+{
+    match fault {
+        FileFault::Truncated => short_of(file),
+        FileFault::ChainedList => Damage::NotZero {
+            found: number_at(file, fault_place(file, fault)),
+        },
+        FileFault::EmptyName => Damage::Zero,
+        FileFault::BadInfo(_) => Damage::InfoOutside {
+            found: number_at(file, fault_place(file, fault)),
+            least: entries_end(file),
+            most: file.len(),
+        },
+        FileFault::BadOffset(_) => outside(file, number_at(file, fault_place(file, fault))),
+    }
+}
+
+/// Returns the damage of a truncated file.
+fn short_of(file: &[u8]) -> Damage
+    ensures { result ≡ words.short_of file.now }
+{
+    let least = if file.len() < HEADER_SIZE {
+        HEADER_SIZE
+    } else {
+        entries_end(file)
+    };
+    Damage::Short {
+        found: file.len(),
+        least,
+    }
+}
+
+/// Returns the damage of a file in which an entry has this offset.
+fn outside(file: &[u8], found: u32) -> Damage
+    requires { header_size ≤ length file.now }
+    ensures { result ≡ words.outside file.now found }
+{
+    let (least, most) = (entries_end(file), file.len());
+    if has_resources(file) {
+        Damage::ResourceOutside { found, least, most }
+    } else {
+        Damage::RecordOutside { found, least, most }
+    }
+}
+
+/// Returns the number in the four bytes at an offset.
+#[tactic(auto, using(db_format::proofs::WordLaws::u32_at_part))]
+fn number_at(file: &[u8], at: usize) -> u32
+    requires { at + 4 ≤ length file.now }
+    ensures { result ≡ u32_at file.now at }
+{
+    BigEndian::read_u32(&file[at..at + 4])
+}

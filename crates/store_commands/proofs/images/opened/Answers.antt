@@ -1,0 +1,24 @@
+use Rattle.std.proofs.Common.{◌≡◌, ◌≢◌, true, false, rules}
+use Rattle.store_check.specs.declared.fault.StoreFault.TheVariants.{OutOfMemory}
+use Rattle.program_io.specs.declared.status.Status.TheVariants.{Refused, WriteFault}
+use Rattle.image_faults.proofs.Answered.{puts_answer}
+use Rattle.store_commands.proofs.images.opened.Goals as goal
+
+pub returns-in-Err : goal.returns-in-Err
+returns-in-Err g c =
+    let other : c.in-Err.error.fault ≢ OutOfMemory = search rules in
+    record {
+      store = search rules;
+      accepted = search rules;
+      silent = search rules;
+      faults = search rules;
+      refused = search rules;
+      said = λ is.
+          let refused : c.say_bad_image.result ≡ Refused = cc in
+          puts_answer g.V.Write.contents c.args.out.now c.say_bad_image.new.out c.args.region.bytes c.in-Err.error.fault true other c.in-Err.ensures.fault (c.say_bad_image.ensures.refused refused);
+      write = λ is.
+          let failed : c.say_bad_image.result ≡ WriteFault = cc in
+          puts_answer g.V.Write.contents c.args.out.now c.say_bad_image.new.out c.args.region.bytes c.in-Err.error.fault false other c.in-Err.ensures.fault (c.say_bad_image.ensures.write failed);
+      no_memory = search rules;
+      short = search rules;
+    }
