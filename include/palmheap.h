@@ -30,7 +30,7 @@ typedef struct palmheap_answer {
 enum {
     PALMHEAP_OK = 0,
     PALMHEAP_NO_MEMORY = 1,      /* an allocation failed */
-    PALMHEAP_NO_ROOM = 2,        /* a buffer is too short; the function's count says how long it must be */
+    PALMHEAP_NO_ROOM = 2,        /* a buffer is too short; the function's count or sizes say how long it must be */
     PALMHEAP_TOO_LARGE = 3,      /* a file is longer than 16 MiB */
     PALMHEAP_BAD_SIZE = 4,       /* no image has this size */
     PALMHEAP_BAD_SLOT_COUNT = 5, /* no image of the size has this number of slots */
@@ -65,7 +65,13 @@ enum {
     PALMHEAP_EMPTY_NAME = 62,
     PALMHEAP_BAD_APP_INFO = 63,
     PALMHEAP_BAD_SORT_INFO = 64,
-    PALMHEAP_BAD_OFFSET = 65
+    PALMHEAP_BAD_OFFSET = 65,
+
+    /* A text that is no script. at: its first faulty line; entry: of PALMHEAP_BAD_WORD the word. Both are counted from 1,
+     * and UINT32_MAX stands for greater numbers too. */
+    PALMHEAP_UNKNOWN_COMMAND = 70,
+    PALMHEAP_WRONG_COUNT = 71,
+    PALMHEAP_BAD_WORD = 72
 };
 
 /* ---- Files and images. These functions keep nothing between calls, and accept any bytes. ---- */
@@ -102,8 +108,8 @@ palmheap_answer palmheap_pdb_blocks(const uint8_t *file, size_t file_len, palmhe
 palmheap_answer palmheap_canonical(const uint8_t *file, size_t file_len, uint8_t *canonical, size_t canonical_len,
     size_t *count);
 
-/* Puts the listing of a file without fault into a buffer: the text that `palmheap list` prints, without a zero at its
- * end. count gets its length, also with PALMHEAP_NO_ROOM. */
+/* Puts the listing of a file without fault into a buffer: the UTF-8 text that `palmheap list` prints, without a zero
+ * at its end. count gets its length, also with PALMHEAP_NO_ROOM. */
 palmheap_answer palmheap_pdb_list(const uint8_t *file, size_t file_len, uint8_t *text, size_t text_len, size_t *count);
 
 /* Makes an image of a whole buffer, with this number of slots and no chunk in it. With any answer but PALMHEAP_OK the
@@ -113,6 +119,30 @@ palmheap_answer palmheap_new(uint8_t *image, size_t image_len, uint16_t slots);
 /* Checks whether some bytes are an accepted image. With PALMHEAP_OK counts gets what it has; with any other answer it
  * stays as it was. */
 palmheap_answer palmheap_check(const uint8_t *image, size_t image_len, palmheap_counts *counts);
+
+/* ---- Scripts. ---- */
+
+/* Some bytes. */
+typedef struct palmheap_bytes {
+    const uint8_t *at;
+    size_t len;
+} palmheap_bytes;
+
+/* The sizes of the results of a run: the bytes of the reply lines, the bytes of the exported files together, and the
+ * number of these files. */
+typedef struct palmheap_sizes {
+    size_t printed;
+    size_t exported;
+    size_t files;
+} palmheap_sizes;
+
+/* Runs a script (docs/USING.md) on an image, in place. files are the files that its lines import. Writes the reply
+ * lines to printed, and the files that lines export to exported, one after the other. Writes to exported_ends where
+ * each of them ends. Sets sizes to the sizes of these results. If a buffer is too short for them, only sizes is
+ * written. */
+palmheap_answer palmheap_run(uint8_t *image, size_t image_len, const uint8_t *script, size_t script_len,
+    const palmheap_bytes *files, size_t files_len, uint8_t *printed, size_t printed_len, uint8_t *exported,
+    size_t exported_len, size_t *exported_ends, size_t exported_ends_len, palmheap_sizes *sizes);
 
 /* ---- An open store. ----
  *

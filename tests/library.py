@@ -2,7 +2,7 @@
 
     library.py files DIR               writes PDB and PRC files
     library.py damaged PROGRAM COUNT   compares the library with the program on damaged files
-    library.py calls PROGRAM COUNT     compares COUNT calls on an open store with the lines of scripts
+    library.py calls PROGRAM COUNT     compares COUNT calls on an open store with scripts, run by both
 """
 
 import os
@@ -109,7 +109,7 @@ def compare(program, count):
             file = damaged(rng)
             wanted, status = listed(library, file)
             text, given = run(program, "list", "-", file=file)
-            text = text.decode("ascii")
+            text = text.decode()
             said = "\n".join(text.split("\n")[:1]) + "\n" if status else text
             met[wanted.split()[1] if status else "ok"] = met.get(wanted.split()[1] if status else "ok", 0) + 1
             if (said, given) != (wanted, status):
@@ -130,6 +130,8 @@ LINES = 200
 LENT = 27
 CHUNKS = [f"h{it}" for it in range(12)]
 DATABASES = [f"d{it}" for it in range(4)]
+# What is in the caller's memory before a run: bytes, numbers and sizes.
+UNUSED = (165, 165, 165)
 SMALL = (0, 0, 1, 1, 2, 3, 5, 8, 20, 70, 1000)
 SIZES = (0, 1, 2, 7, 8, 9, 24, 60, 200, 900, 5000)
 CATEGORIES = (0, 1, 2, 15, 16, 255)
@@ -731,8 +733,64 @@ def shown_info(info):
     return f" {spelled(name)} {info.attributes:04x} {info.version} {dates} {kinds} {info.seed:08x} {info.entry_count}"
 
 
+def run_within(library, image, script, files, room):
+    """`palmheap_run` with buffers of `room` items, each before one more. Returns the answer, and what it may write."""
+    image = (palmheap.U8 * len(image)).from_buffer_copy(image)
+    given = (palmheap.Bytes * len(files))(*[palmheap.Bytes(it, len(it)) for it in files])
+    kinds, sizes = (palmheap.U8, palmheap.U8, palmheap.SIZE), palmheap.Sizes(*UNUSED)
+    buffers = [(kind * (count + 1))(*[UNUSED[0]] * (count + 1)) for kind, count in zip(kinds, room)]
+    words = [(it, len(it)) for it in (image, script, given)] + list(zip(buffers, room))
+    answer = library.so.palmheap_run(*[it for pair in words for it in pair], palmheap.c.byref(sizes))
+    written = [bytes(image), *map(list, buffers), (sizes.printed, sizes.exported, sizes.files)]
+    return (answer.kind, answer.at, answer.entry), written
+
+
+def unused(image, room, sizes=UNUSED):
+    """What `run_within` returns if nothing but perhaps the sizes was written."""
+    return [image, *([UNUSED[0]] * (count + 1) for count in room), sizes]
+
+
+def check_rooms(library, image, script, files, after, text, exported):
+    """Runs a script with buffers that are just long enough, and with each of them one item shorter."""
+    results = [list(text), list(b"".join(exported)), [sum(map(len, exported[: it + 1])) for it in range(len(exported))]]
+    sizes = tuple(map(len, results))
+    wanted = [after, *(it + [UNUSED[0]] for it in results), sizes]
+    if run_within(library, image, script, files, sizes) != ((0, 0, 0), wanted):
+        sys.exit("a run with buffers of its sizes differs")
+    for short in (it for it in range(3) if sizes[it] > 0):
+        room = [count - (it == short) for it, count in enumerate(sizes)]
+        answer, written = run_within(library, image, script, files, room)
+        if (answer, written) != ((palmheap.NO_ROOM, 0, 0), unused(image, room, sizes)):
+            sys.exit(f"a run with a buffer too short gives {answer}, and writes {written}")
+
+
+def check_refused(library, rng, program, room, image, lines, files):
+    """Runs a script with a bad line, and a script on a bad image. Both are refused, and nothing is written."""
+    at = rng.randrange(len(lines))
+    bad = rng.choice(("nothing", f"{lines[at]} 1", lines[at].rsplit(" ", 1)[0] + " h", 'new h0 "8 1', "lock 7"))
+    script = "".join(f"{it}\n" for it in [*lines[:at], bad, *lines[at + 1 :]]).encode("ascii")
+    with open(f"{room}/script", "wb") as it:
+        it.write(script)
+    names = [f"{room}/{it}" for it in range(len(files))]
+    given, status = run(program, "run", f"{room}/image", f"{room}/script", f"{room}/none", *names)
+    answer, written = run_within(library, image, script, files, (9, 9, 9))
+    kind = {70: "UnknownCommand", 71: "WrongCount", 72: f"BadWord {answer[2]}"}.get(answer[0])
+    if status == 0 and answer[0] == palmheap.NO_ROOM:
+        return
+    if given.decode("ascii") != f"line {answer[1]} {kind}\n" or written != unused(image, (9, 9, 9)):
+        sys.exit(f"the line {bad!r} gives {answer}, and the program says {given}")
+    broken = bytearray(image)
+    broken[rng.randrange(16)] ^= 1 << rng.randrange(8)
+    try:
+        library.check(bytes(broken))
+    except palmheap.Fault as fault:
+        answer, written = run_within(library, broken, script, files, (9, 9, 9))
+        if answer != (fault.kind, fault.at, fault.entry) or written != unused(bytes(broken), (9, 9, 9)):
+            sys.exit(f"an image with the fault {fault} gives {answer}")
+
+
 def do_list(library, rng, program, room):
-    """Does a list of calls by an open store and by the program. Returns the refusals, and the number of loans."""
+    """Does calls by an open store, by `palmheap_run` and by the program. Returns the refusals, and the number of loans."""
     files = list(FILES.values())
     image = library.new(rng.choice((2048, 8192, 65536)), rng.choice((8, 40, 300)))
     with library.open(image) as store:
@@ -751,6 +809,11 @@ def do_list(library, rng, program, room):
             out.append(it.read())
     if status != 0 or out != [last, *calls.exported]:
         sys.exit(f"a list differs: status {status}; the same images: {out[0] == last}")
+    by_library = library.run(image, script, files)
+    if by_library != (last, text.decode("ascii"), calls.exported):
+        sys.exit("palmheap_run and the program differ")
+    check_rooms(library, image, script, files, last, text, calls.exported)
+    check_refused(library, rng, program, room, image, calls.lines, files)
     for line, (kind, told), reply in zip(calls.lines, calls.replies, text.decode("ascii").splitlines(), strict=True):
         wanted = f"ok{told}" if kind == "ok" else f"refused {told} {library.refusal_name(told)} "
         if not (reply == wanted if kind == "ok" else f"{reply} ".startswith(wanted)):

@@ -4,8 +4,9 @@
 #   tests/library.sh [FILES]
 #
 # Runs the bindings in examples/, those for C also under valgrind and with the address and undefined-behavior
-# sanitizers, and compares the library with the commands `list` and `canonical` on FILES damaged files (100000), and as
-# many calls on a store with the command `run`.
+# sanitizers, and compares the library with the commands `list` and `canonical` on FILES damaged files (100000). It
+# compares as many calls on a store, and palmheap_run on scripts of the same calls, with the command `run`: by text,
+# files and image, with buffers that are long enough or too short, and on scripts and images with faults.
 # Needs rt, gcc and python3. Without valgrind or cargo, it leaves out what they run, and says so. PALMHEAP names a
 # built program to compare with (./palmheap). The status is 1 if something differs. The gate doesn't run this.
 top=$(cd -- "$(dirname -- "$0")/.." && pwd)
@@ -48,6 +49,9 @@ cmp "$room/plain.store.txt" "$room/sanitized.store.txt" || fail 'the stores diff
 cmp "$room/plain.image" "$room/sanitized.image" || fail 'the images of the stores differ'
 grep -q '^record 0: Buy milk$' "$room/plain.store.txt" || fail 'the store has no such record'
 "$program" check "$room/plain.image" | grep -q 'databases 1' || fail 'the image of the store has not one database'
+# docs/C-LIBRARY.md says what stack is enough.
+(ulimit -s 512 && "$room/plain.demo" "$room/memos.pdb" "$room/out" >/dev/null && "$room/plain.store" "$room/out") \
+    >/dev/null || fail 'the stack is too small'
 # Only the functions of the header are visible.
 nm -D --defined-only "$room/lib/lib/libpalmheap.so" | awk '{ print $3 }' | grep -v '^palmheap_' && fail 'a name escapes'
 

@@ -1,4 +1,4 @@
-/* Checks and lists a PDB or PRC file, writes its canonical form, and makes and checks an image:
+/* Checks and lists a PDB or PRC file, writes its canonical form, and makes an image, runs a script on it and checks it:
  *
  *   gcc demo.c $(pkg-config --cflags --libs palmheap) -o demo && ./demo IN.pdb OUT.pdb
  *
@@ -42,12 +42,31 @@ static void show_blocks(const uint8_t *file, size_t len) {
         if (blocks[i].is_there) printf("block %zu: %zu to %zu\n", i, blocks[i].start, blocks[i].end);
 }
 
-static void show_image(void) {
+/* Runs a script that imports a file and exports it again. The first call is for the sizes of its results. */
+static void show_run(uint8_t *image, size_t image_len, palmheap_bytes file) {
+    static const uint8_t script[] = "import it 1\nexport it\n";
+    uint8_t none[1];
+    size_t len = sizeof script - 1, ends[1];
+    palmheap_sizes sizes;
+    palmheap_answer answer = palmheap_run(image, image_len, script, len, &file, 1, none, 0, none, 0, ends, 0, &sizes);
+    if (answer.kind != PALMHEAP_NO_ROOM) { fprintf(stderr, "kind %u\n", answer.kind); exit(3); }
+    uint8_t *printed = malloc(sizes.printed), *exported = malloc(sizes.exported + 1);
+    if (!printed || !exported) exit(3);
+    answer = palmheap_run(image, image_len, script, len, &file, 1, printed, sizes.printed, exported, sizes.exported,
+        ends, 1, &sizes);
+    if (answer.kind != PALMHEAP_OK) exit(3);
+    printf("%.*s%zu file of %zu bytes\n", (int)sizes.printed, (char *)printed, sizes.files, sizes.exported);
+    free(printed);
+    free(exported);
+}
+
+static void show_image(palmheap_bytes file) {
     static uint8_t image[65536];
     palmheap_counts counts;
     if (palmheap_new(image, sizeof image, 100).kind != PALMHEAP_OK) exit(3);
+    show_run(image, sizeof image, file);
     if (palmheap_check(image, sizeof image, &counts).kind != PALMHEAP_OK) exit(3);
-    printf("image of %u bytes, %u slots, %u free\n", counts.size, counts.slots, counts.free);
+    printf("image of %u bytes, %u databases, %u free\n", counts.size, counts.databases, counts.free);
     image[48] ^= 1;
     palmheap_answer answer = palmheap_check(image, 128, &counts);
     printf("its first 128 bytes: kind %u at %u\n", answer.kind, answer.at);
@@ -71,7 +90,7 @@ int main(int argc, char **argv) {
     FILE *out = fopen(argv[2], "wb");
     if (!out || fwrite(bytes, 1, count, out) != count || fclose(out) != 0) { perror(argv[2]); return 3; }
     free(bytes);
+    show_image((palmheap_bytes){file, len});
     free(file);
-    show_image();
     return 0;
 }

@@ -24,6 +24,14 @@ class Block(c.Structure):
     _fields_ = [("start", c.c_size_t), ("end", c.c_size_t), ("is_there", c.c_bool)]
 
 
+class Bytes(c.Structure):
+    _fields_ = [("at", c.c_char_p), ("len", c.c_size_t)]
+
+
+class Sizes(c.Structure):
+    _fields_ = [(it, c.c_size_t) for it in ("printed", "exported", "files")]
+
+
 class Place(c.Structure):
     _fields_ = [("at", c.c_void_p)]
 
@@ -141,7 +149,7 @@ class Library:
     def __init__(self, path="libpalmheap.so.0"):
         self.so = c.CDLL(path)
         size, u8, bytes_in = c.c_size_t, c.POINTER(c.c_uint8), c.c_char_p
-        one = [bytes_in, size]
+        one, sizes = [bytes_in, size], [c.POINTER(size), size]
         for name, kinds in {
             "palmheap_pdb_check": one,
             "palmheap_pdb_blocks": [*one, c.POINTER(Block), size, c.POINTER(size)],
@@ -149,6 +157,7 @@ class Library:
             "palmheap_pdb_list": [*one, u8, size, c.POINTER(size)],
             "palmheap_new": [u8, size, c.c_uint16],
             "palmheap_check": [*one, c.POINTER(Counts)],
+            "palmheap_run": [u8, size, *one, c.POINTER(Bytes), size, u8, size, u8, size, *sizes, c.POINTER(Sizes)],
             "palmheap_open": [*one, c.POINTER(Place)],
         }.items():
             function = getattr(self.so, name)
@@ -200,7 +209,7 @@ class Library:
         return bytes(self._made(self.so.palmheap_canonical, file))
 
     def pdb_list(self, file):
-        return bytes(self._made(self.so.palmheap_pdb_list, file)).decode("ascii")
+        return bytes(self._made(self.so.palmheap_pdb_list, file)).decode()
 
     def new(self, size, slots):
         if size not in IMAGE_SIZES:
@@ -213,6 +222,23 @@ class Library:
         counts = Counts()
         self._good(self.so.palmheap_check(image, len(image), c.byref(counts)))
         return {name: getattr(counts, name) for name, _ in Counts._fields_}
+
+    def run(self, image, script, files=()):
+        """Runs a script on an image. Returns the image afterwards, the reply lines, and the files that it exports."""
+        image = (U8 * len(image)).from_buffer_copy(image)
+        given = (Bytes * len(files))(*[Bytes(it, len(it)) for it in files])
+        sizes, room = Sizes(), (0, 0, 0)
+        while True:
+            text, exported, ends = ((kind * max(1, count))() for kind, count in zip((U8, U8, SIZE), room))
+            buffers = (text, room[0], exported, room[1], ends, room[2], c.byref(sizes))
+            answer = self.so.palmheap_run(image, len(image), script, len(script), given, len(files), *buffers)
+            if answer.kind != NO_ROOM:
+                break
+            room = (sizes.printed, sizes.exported, sizes.files)
+        self._good(answer)
+        starts = [0, *ends[: sizes.files]]
+        parts = [bytes(exported[at:end]) for at, end in zip(starts, starts[1:])]
+        return bytes(image), bytes(text[: sizes.printed]).decode("ascii"), parts
 
     def open(self, image):
         return Store(self, image)

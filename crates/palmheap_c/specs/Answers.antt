@@ -95,9 +95,12 @@ IsFileFault file found = (fault : FileFault) × files.IsFirstFault file fault ×
 abbrev pub IsFileAnswer : List ℕ → Answer → Type 0
 IsFileAnswer file found = ((found ≡ no_fault) × files.HasNoFault file) ⊎ IsFileFault file found
 
--- The file is longer than `most_bytes`, or this is its first fault, or an allocation failed.
+-- The file is longer than `most_bytes`. Otherwise this is its first fault, or it has none and an
+-- allocation failed.
 abbrev pub IsFileRefusal : List ℕ → Answer → Type 0
-IsFileRefusal file found = WantsMemory found ⊎ (((found ≡ too_large) × (most_bytes < length file)) ⊎ IsFileFault file found)
+IsFileRefusal file found =
+    ((found ≡ too_large) × (most_bytes < length file))
+    ⊎ ((length file ≤ most_bytes) × (IsFileFault file found ⊎ (files.HasNoFault file × WantsMemory found)))
 
 -- this is the first fault of an image
 abbrev pub IsImageFault : List ℕ → Answer → Type 0

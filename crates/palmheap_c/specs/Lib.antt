@@ -8,3 +8,4 @@ pub mod Keeping
 pub mod Loans
 pub mod Opening
 pub mod Refusals
+pub mod Runs

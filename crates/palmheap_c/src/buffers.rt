@@ -64,3 +64,11 @@ pub(crate) fn put_front(bytes: &[u8], buffer: &mut [u8])
 {
     buffer[..bytes.len()].copy_from_slice(bytes);
 }
+
+/// The same as `put_front`, for numbers.
+pub(crate) fn put_numbers(numbers: &[usize], buffer: &mut [usize])
+    requires { length numbers.now ≤ length buffer.old }
+    ensures { Fills numbers.now buffer.old buffer.new }
+{
+    buffer[..numbers.len()].copy_from_slice(numbers);
+}

@@ -134,6 +134,9 @@ fn listing_of(alloc: Global, file: &[u8]) -> Result<Vec<u8>, Answer>
     if file.len() > MOST_BYTES {
         return Err(TOO_LARGE);
     }
+    if let Err(fault) = check_file(file) {
+        return Err(of_file(fault));
+    }
     let mut out = Counted::new(Vec::new(alloc));
     match put_listing(&alloc, file, &mut out) {
         Ok(()) => Ok(out.into_inner()),

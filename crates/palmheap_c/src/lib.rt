@@ -9,6 +9,7 @@
 //! |---|---|
 //! | `files` | checks, lists and rewrites PDB and PRC files |
 //! | `images` | makes and checks images |
+//! | `runs` | runs a script on an image |
 //! | `opening` | opens a store that lives between calls, closes it, and writes its image |
 //! | `memory_calls` | calls on the chunks of an open store |
 //! | `database_calls` | calls on its databases |
@@ -28,6 +29,7 @@ mod file_calls;
 mod files;
 mod images;
 mod infos;
+mod inputs;
 mod kept;
 mod loans;
 mod memory_calls;
@@ -36,6 +38,8 @@ mod parts;
 mod record_calls;
 mod refusals;
 mod resource_calls;
+mod results;
+mod runs;
 
 pub use answers::Answer;
 pub use blocks::Block;
@@ -77,3 +81,5 @@ pub use resource_calls::{
     palmheap_DmRemoveResource, palmheap_DmResizeResource, palmheap_DmResourceInfo,
     palmheap_DmSetResourceInfo,
 };
+pub use results::Sizes;
+pub use runs::palmheap_run;

@@ -50,7 +50,7 @@ pub fn pdb_list(file: &[u8]) -> Result<String, Answer> {
         match answer.kind {
             OK => {
                 text.truncate(count);
-                return Ok(String::from_utf8(text).expect("a listing is ASCII"));
+                return Ok(String::from_utf8(text).expect("a listing is UTF-8"));
             }
             NO_ROOM => text.resize(count, 0),
             _ => return Err(answer),
