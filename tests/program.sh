@@ -200,6 +200,10 @@ done
 rm link.pdb
 says 'a file over an image' 3 '' "fault write
 c.img: looks like a heap image, and a PDB or PRC file doesn't replace it" canonical empty.pdb c.img
+for path in c.img empty.pdb; do
+    says "a picture over $path" 3 '' "fault write
+$path: looks like a heap image, or a PDB or PRC file, and a picture doesn't replace it" map c.img "$path"
+done
 says 'an image that is too small' 1 'refused 8 NotEnoughSpace' 'empty.pdb: refused' import --size 120 d.img empty.pdb
 is 'no image is written' '' "$(ls d.img 2>/dev/null)"
 says 'a folder of files' 0 'ok 1' '' export c.img files

@@ -374,7 +374,7 @@ def version_of_rt():
 
 
 def stop_at_signal(number, _frame):
-    say("interrupted: keeping what is proved, and removing the lanes")
+    say("interrupted: what is proved is kept")
     raise Stopped(f"ended by signal {number}; the next call goes on from here")
 
 

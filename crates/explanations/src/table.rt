@@ -343,7 +343,8 @@ pub const EXPLANATIONS: [Explanation; 63] = [
             (
                 " K",
                 "word K, from 1, is a quoted word that isn't closed, or something follows its \
-                    closing quote. Or it is the first word that isn't of its kind",
+                    closing quote. Or it is the first word that isn't of its kind: a text or a \
+                    type needs quotes",
             ),
         ),
     ),
@@ -503,8 +504,10 @@ pub const EXPLANATIONS: [Explanation; 63] = [
             (
                 "",
                 "a slot or room is missing. A chunk takes 8 bytes and its size rounded up to a \
-                    multiple of 8, in one stretch: a run of chunks none of which is locked or \
-                    fixed. See the lines largest, compact and moreslots, and 'palmheap map'",
+                    multiple of 8, in one stretch: all chunks from one locked or fixed chunk to \
+                    the next. The line largest has the most room, 'palmheap map' shows what is \
+                    locked, and unlock joins stretches; compact makes no room. 'palmheap check' \
+                    counts slots; after 'palmheap migrate', moreslots adds some",
             ),
         ),
     ),

@@ -6,9 +6,10 @@ use crate::draw_command::draw_region_from;
 use crate::faults::{STANDARD_ERROR, STANDARD_OUTPUT, STANDARD_STREAM, fail};
 use crate::files::read_image;
 use crate::map_command::map_region_from;
+use crate::replacing::output_for_picture;
 use crate::suggestions::{looks_like_file, suggest_list};
 use palm_text::Counted;
-use program_io::{ErrorOutput, Noted, OutputFile, Status, report_outcome};
+use program_io::{ErrorOutput, Noted, Status, report_outcome};
 use raw_region::Region;
 use std::alloc::Global;
 use std::io;
@@ -106,7 +107,7 @@ fn draw_to_output<R: Print + Eprint + AllocGlobal>(rt: &R, image: &Region) -> St
     status
 }
 
-/// Writes the picture of an image to a file.
+/// Writes the picture of an image to a file. An image and a PDB or PRC file aren't replaced.
 fn draw_to_file<R: Files + Print + Eprint + AllocGlobal>(
     rt: &R,
     image: &Region,
@@ -115,8 +116,9 @@ fn draw_to_file<R: Files + Print + Eprint + AllocGlobal>(
     requires { image.now.lent ≡ None }
     ensures { result ≢ Status.BadWords }
 {
-    let Ok(mut file_out) = OutputFile::new(rt, out_path) else {
-        return fail(rt, Status::NoMemory);
+    let mut file_out = match output_for_picture(rt, out_path) {
+        Ok(file_out) => file_out,
+        Err(status) => return status,
     };
     let mut out = Counted::new(Noted::new(io::writer(rt)));
     let (status, file_fault) = draw_buffered(rt.alloc(), image, &mut file_out, &mut out);

@@ -1,5 +1,5 @@
-//! Output files that don't replace a file of the other kind: an image replaces no PDB or PRC file, and
-//! such a file replaces no image.
+//! Output files that don't replace a file of the other kind: an image replaces no PDB or PRC file,
+//! such a file replaces no image, and a picture replaces neither.
 
 ghost use Rattle.std.specs.Prelude.{◌≡◌, ◌⊎◌, Err, IfErr, IsTrue, true, false};
 ghost use Rattle.std.specs.Io.KnownBytes.{Consumes};
@@ -85,6 +85,39 @@ fn database_over<'a, R: Files + Eprint + AllocGlobal>(
         return Err(fail_to_replace(rt, path, kept));
     }
     unopened(rt, path)
+}
+
+/// Returns a writer for a picture at a path. Nothing is opened for it yet. If there is a file that
+/// looks like a heap image, or like a PDB or PRC file, reports that and returns an error, so that the
+/// file stays.
+///
+/// # Errors
+/// - `WriteFault`: there is such a file.
+/// - `NoMemory`: an allocation failed.
+pub(crate) fn output_for_picture<'a, R: Files + Eprint + AllocGlobal>(
+    rt: &'a R,
+    path: &str,
+) -> Result<OutputFile<'a, R>, Status>
+    ensures { IfErr result (λ status. (status ≡ Status.WriteFault) ⊎ (status ≡ Status.NoMemory)) }
+{
+    if is_image(rt, path) || is_database(rt, path) {
+        let kept =
+            "looks like a heap image, or a PDB or PRC file, and a picture doesn't replace it";
+        return Err(fail_to_replace(rt, path, kept));
+    }
+    unopened(rt, path)
+}
+
+/// Returns whether there is a file at a path that looks like a heap image.
+fn is_image<R: Files>(rt: &R, path: &str) -> bool {
+    let mut head = [0; IMAGE_HEADER_SIZE];
+    has_head(rt, path, &mut head) && looks_like_image(&head)
+}
+
+/// Returns whether there is a file at a path that looks like a PDB or PRC file.
+fn is_database<R: Files>(rt: &R, path: &str) -> bool {
+    let mut head = [0; HEADER_SIZE];
+    has_head(rt, path, &mut head) && looks_like_database(&head)
 }
 
 /// Returns a writer for a path, with nothing opened yet.

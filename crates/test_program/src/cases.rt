@@ -10,7 +10,7 @@ pub(crate) enum Output {
 }
 
 /// The words of each run behind the program's own name, and what becomes of what it prints.
-pub(crate) static CASES: [(&str, Output); 155] = [
+pub(crate) static CASES: [(&str, Output); 157] = [
     // images that are made, or that there are not
     ("new 64 1 out.img", Taken),
     ("new 127 4 out.img", Taken),
@@ -190,6 +190,9 @@ pub(crate) static CASES: [(&str, Output); 155] = [
     ("canonical order.pdb tiny.prc", Taken),
     ("canonical order.pdb blank.img", Taken),
     ("pack parts blank.img", Taken),
+    // a picture in place of either
+    ("map blank.img blank.img", Taken),
+    ("map blank.img order.pdb", Taken),
     // images in place of database files: refused, and read as a database
     ("list blank.img", Taken),
     ("unpack blank.img out", Taken),
