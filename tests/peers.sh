@@ -5,8 +5,8 @@
 #
 #   tests/peers.sh [PROGRAM]
 #
-# PROGRAM is the one that ../palmheap builds, if none is given. It needs Debian's packages libpalm-perl and libpalm-pdb-perl (the
-# modules Palm::PDB, Palm::Memo and Palm::Address), txt2pdbdoc, and imgvtopgm. For each file it prints how many
+# PROGRAM is the one that ../palmheap builds, if none is given. It needs Debian's packages libpalm-perl and libpalm-pdb-perl (Palm::PDB,
+# and modules of it for memos, addresses, dates, tasks and mails), txt2pdbdoc, and imgvtopgm. For each file it prints how many
 # bytes there were and are, how many of them differ where both have one, and what `palmheap list` says of that. Each
 # case that fails has a line on standard error; the status is 1 then. The gate runs none of this.
 top=$(cd -- "$(dirname -- "$0")/.." && pwd)
@@ -19,7 +19,7 @@ case $program in /*) ;; *) program=$PWD/$program ;; esac
 for needed in perl txt2pdbdoc pgmtoimgv imgvtopnm; do
     command -v "$needed" >/dev/null || { printf '%s is missing\n' "$needed" >&2; exit 2; }
 done
-perl -MPalm::PDB -MPalm::Memo -MPalm::Address -e 1 || exit 2
+perl -MPalm::PDB -MPalm::Memo -MPalm::Address -MPalm::Datebook -MPalm::ToDo -MPalm::Mail -e 1 || exit 2
 folder=$(mktemp -d) || exit 1
 trap 'rm -rf -- "$folder"' EXIT
 cd -- "$folder" || exit 1
@@ -80,9 +80,10 @@ for my $record (@{$pdb->{records} // []}) {
 print "resource $_->{type} $_->{id} ", unpack('H*', $_->{data}), "\n" for @{$pdb->{resources} // []};
 END
 
-# Databases of Palm::PDB's own modules: memos in categories, addresses, and resources.
+# Databases of Palm::PDB's own modules: memos in categories, addresses, dates, tasks, mails, and resources.
 cat >make.pl <<'END'
-use strict; use warnings; use Palm::PDB; use Palm::Memo; use Palm::Address; use Palm::Raw;
+use strict; use warnings; use Palm::PDB; use Palm::Raw;
+use Palm::Memo; use Palm::Address; use Palm::Datebook; use Palm::ToDo; use Palm::Mail;
 my $memos = Palm::Memo->new; $memos->{name} = 'MemoDB';
 for my $number (1 .. 50) {
     my $record = $memos->append_Record;
@@ -97,6 +98,25 @@ for my $number (1 .. 20) {
     $record->{fields}{phone1} = sprintf '+1 555 %04d', $number;
 }
 $addresses->Write('people.pdb');
+my $dates = Palm::Datebook->new; $dates->{name} = 'DatebookDB';
+for my $number (1 .. 30) {
+    my $record = $dates->append_Record;
+    @$record{qw(year month day description)} = (2026, 1 + $number % 12, 1 + $number % 28, "Date $number");
+    @$record{qw(start_hour start_minute end_hour end_minute)} = (9, $number, 10, $number) if $number % 2;
+}
+$dates->Write('dates.pdb');
+my $tasks = Palm::ToDo->new; $tasks->{name} = 'ToDoDB';
+for my $number (1 .. 30) {
+    my $record = $tasks->append_Record;
+    @$record{qw(description priority completed category)} = ("Task $number", 1 + $number % 5, $number % 2, $number % 4);
+}
+$tasks->Write('tasks.pdb');
+my $mails = Palm::Mail->new; $mails->{name} = 'MailDB';
+for my $number (1 .. 30) {
+    my $record = $mails->append_Record;
+    @$record{qw(from to subject body)} = ('anna@example.org', 'ben@example.org', "Mail $number", 'text ' x $number);
+}
+$mails->Write('mails.pdb');
 my $tool = Palm::PDB->new;
 $tool->{attributes}{resource} = 1; $tool->{name} = 'Tool'; $tool->{type} = 'appl'; $tool->{creator} = 'Test';
 bless $tool, 'Palm::Raw';
@@ -109,7 +129,7 @@ END
 
 "$program" new 1048576 1000 blank.img >printed || exit 1
 perl make.pl || exit 1
-for file in memos.pdb people.pdb tool.prc; do
+for file in memos.pdb people.pdb dates.pdb tasks.pdb mails.pdb tool.prc; do
     through "$file"
     perl show.pl "$file" >before.txt && perl show.pl "$file.out" >after.txt || failed=1
     grep -Eq '^re(cord|source) ' before.txt || { printf '%s: nothing was read\n' "$file" >&2; failed=1; }
