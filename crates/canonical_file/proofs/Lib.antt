@@ -3,3 +3,4 @@ pub mod BlockTexts
 pub mod EntryTexts
 pub mod Headers
 pub mod Lengths
+pub mod Runs

@@ -1,11 +1,11 @@
 -- The canonical form of a file.
-use Rattle.std.specs.Prelude.{◌≡◌, ◌≤◌, ◌+◌, ◌^◌, ℕ, Bool, true, List, length, map, slice_index_or, Option, None, All}
+use Rattle.std.specs.Prelude.{◌≡◌, ◌≤◌, ◌+◌, ◌++◌, ◌^◌, ℕ, Bool, true, List, length, map, slice_index_or, slice_range, Option, None, All}
 use Rattle.std.specs.List.{sum_by}
 use Rattle.palm_text.specs.Counted.{Writing, Writes}
 use Rattle.heap_model.specs.UniqueIds.{greatest_id, seed_in}
 use Rattle.heap_model.specs.Database.{Database, Entry, entry_with, header_in, database_in}
 use Rattle.heap_model.specs.Store.{unique_ids}
-use Rattle.heap_model.specs.Files.{HasNoFault, HaveIds, IsFirstFault, Reads, blocks_in, entries_end, idle_entry, block_offset, file_of}
+use Rattle.heap_model.specs.Files.{HasNoFault, HaveIds, IsFirstFault, Reads, blocks_in, entries_end, idle_entry, block_bytes, block_offset, file_of}
 use Rattle.pdb_format.specs.Blocks.{bytes_at, IsWithin, length_within}
 use Rattle.pdb_format.specs.ReadFiles.{HasIdsFor}
 use Rattle.pdb_format.specs.declared.blocks.Block.{Block}
@@ -66,3 +66,14 @@ data_place file blocks = first_place file + length_within (slice_index_or blocks
 -- an entry as it is written to a file: not busy, with its data at an offset
 abbrev pub placed_entry : ℕ → Entry (Option (List ℕ)) → Entry ℕ
 placed_entry at entry = entry_with (block_offset at) (idle_entry entry)
+
+-- the bytes of a run of neighbouring blocks
+abbrev pub run_bytes : List ℕ → Block → List ℕ
+run_bytes file run = slice_range file run.start run.end
+
+-- The bytes of a run, and those of the block after it: a part of them was written, and the rest is
+-- the next run.
+pub record Continues {W : Type 0} (file : List ℕ) (contents : W → Option (List ℕ)) (old new : Writing W) (run : Block) (block : Option Block) (next : Block) : Type 0 where
+  pub text : List ℕ
+  pub writes : Writes contents old new text true
+  pub parts : run_bytes file run ++ block_bytes (bytes_at file block) ≡ text ++ run_bytes file next

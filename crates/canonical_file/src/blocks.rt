@@ -1,12 +1,12 @@
 //! The blocks of a file, as they are in its canonical form.
 
-ghost use Rattle.std.specs.Prelude.{◌≡◌, ◌≤◌, ◌<◌, ◌+◌, ◌++◌, ◌^◌, ℕ, List, length, is_ok, vec_len, vec_capacity, All};
+ghost use Rattle.std.specs.Prelude.{◌≡◌, ◌≤◌, ◌<◌, ◌+◌, ◌++◌, ◌^◌, ℕ, List, length, is_ok, vec_len, vec_capacity, All, Some, IfOk, OnErr, false};
 ghost use Rattle.std.specs.List.{flat_map, sum_by};
 ghost use Rattle.heap_model.specs.Files as files;
 ghost use Rattle.heap_model.specs.Files.{blocks_in};
 ghost use Rattle.pdb_format.specs.Blocks.{bytes_at, IsWithin, length_within};
 ghost use Rattle.palm_text.specs.Counted.{Writes};
-ghost use Rattle.canonical_file.specs.Canonical.{HasBlocks};
+ghost use Rattle.canonical_file.specs.Canonical.{Continues, HasBlocks, run_bytes};
 
 use palm_text::{Counted, WriteFault, put_all};
 use pdb_format::Block;
@@ -82,7 +82,34 @@ pub(crate) fn append_blocks(file: &[u8], blocks: &[Option<Block>], bytes: &mut V
     }
 }
 
-/// Writes the blocks, one after the other.
+/// Adds a block to a run: neighbouring blocks of the file, which are not written yet. If the block
+/// doesn't begin where the run ends, writes the run, and returns a run of this block alone.
+fn put_unless_next<W: Write>(
+    file: &[u8],
+    run: Block,
+    block: Option<Block>,
+    out: &mut Counted<W>,
+) -> Result<Block, WriteFault>
+    requires run { IsWithin (length file.now) (Some run) }
+    requires block { IsWithin (length file.now) block }
+    ensures next { IfOk result (Continues file.now W.contents out.old out.new run block) }
+    ensures within { IfOk result (λ next. IsWithin (length file.now) (Some next)) }
+    ensures stops { OnErr result (Writes W.contents out.old out.new (run_bytes file.now run) false) }
+{
+    let Some(block) = block else {
+        return Ok(run);
+    };
+    if block.start == run.end {
+        return Ok(Block {
+            start: run.start,
+            end: block.end,
+        });
+    }
+    put_all(out, &file[run.start..run.end])?;
+    Ok(block)
+}
+
+/// Writes the blocks, one after the other. Neighbouring blocks of the file are one write.
 pub(crate) fn put_blocks<W: Write>(
     file: &[u8],
     blocks: &[Option<Block>],
@@ -92,11 +119,12 @@ pub(crate) fn put_blocks<W: Write>(
     ensures { Writes W.contents out.old out.new
         (flat_map files.block_bytes (blocks_in file.now)) (is_ok result) }
 {
+    let mut run = Block { start: 0, end: 0 };
     for index in 0..blocks.len() {
-        match put_all(out, block_bytes(file, blocks[index])) {
-            Ok(()) => {}
+        match put_unless_next(file, run, blocks[index], out) {
+            Ok(next) => run = next,
             Err(fault) => return Err(fault),
         }
     }
-    Ok(())
+    put_all(out, &file[run.start..run.end])
 }

@@ -91,23 +91,23 @@ struct Form {
     blocks: Vec<Option<Block>>,
 }
 
-/// Returns the canonical form of a file without fault, in two parts.
+/// Returns the canonical form of a file without fault, in two parts. Its records have these IDs.
 ///
 /// # Errors
 ///
 /// - `AllocError`: if an allocation failed.
-fn form_of<A: Allowance>(memory: &A, file: &[u8]) -> Result<Form, AllocError>
+fn form_of<A: Allowance>(memory: &A, file: &[u8], given: &GivenIds) -> Result<Form, AllocError>
     requires good { HasNoFault file.now }
     requires short { length file.now ≤ most_bytes }
+    requires ids { HasIds file.now given.now }
     ensures blocks { IfOk result (λ form. HasBlocks file.now form.blocks.items) }
     ensures canonical { IfOk result (λ form. IsCanonical file.now
         (form.head.items ++ flat_map block_bytes (blocks_in file.now))) }
     ensures short { OnErr result (A.is_short memory.now) }
 {
     let blocks = find_blocks_from(memory, file)?;
-    let given = give_ids_from(memory, file)?;
     let mut head = room_for(memory, entries_end(file) + 2)?;
-    append_head(file, &blocks, &given, &mut head);
+    append_head(file, &blocks, given, &mut head);
     Ok(Form { head, blocks })
 }
 
@@ -133,8 +133,8 @@ fn put_form<W: Write>(file: &[u8], form: &Form, out: &mut Counted<W>) -> Result<
 
 /// Writes the canonical form of a file, and returns its size in bytes.
 ///
-/// Each block is one write, of its bytes in the original file. It doesn't flush `out`. After a write
-/// fails, it writes nothing more.
+/// Blocks that follow each other in the original file are one write. It doesn't flush `out`. After a
+/// write fails, it writes nothing more.
 ///
 /// # Errors
 ///
@@ -157,7 +157,30 @@ pub fn put_canonical<A: Allowance, W: Write>(
     if let Err(fault) = check_file(file) {
         return Err(CanonicalFault::BadFile(fault));
     }
-    let Ok(form) = form_of(memory, file) else {
+    match give_ids_from(memory, file) {
+        Ok(given) => put_canonical_by(memory, file, &given, out),
+        Err(_) => Err(CanonicalFault::OutOfMemory),
+    }
+}
+
+/// The same as `put_canonical`, for a file without fault and the IDs that its records get.
+pub fn put_canonical_by<A: Allowance, W: Write>(
+    memory: &A,
+    file: &[u8],
+    given: &GivenIds,
+    out: &mut Counted<W>,
+) -> Result<usize, CanonicalFault>
+    requires good { HasNoFault file.now }
+    requires short { length file.now ≤ most_bytes }
+    requires ids { HasIds file.now given.now }
+    ensures done { IfOk result (WroteCanonical file.now W.contents out.old out.new) }
+    ensures why { IfErr result (IsFaultOf file.now) }
+    ensures untouched { IfErr result (λ fault. fault ≢ CanonicalFault.Write → out.new ≡ out.old) }
+    ensures write { result ≡ Err CanonicalFault.Write
+        → WritesCanonical file.now W.contents out.old out.new false }
+    ensures short { result ≡ Err CanonicalFault.OutOfMemory → A.is_short memory.now }
+{
+    let Ok(form) = form_of(memory, file, given) else {
         return Err(CanonicalFault::OutOfMemory);
     };
     match put_form(file, &form, out) {

@@ -16,4 +16,4 @@ mod canonical;
 mod entries;
 mod header;
 
-pub use canonical::{CanonicalFault, canonical_bytes, put_canonical};
+pub use canonical::{CanonicalFault, canonical_bytes, put_canonical, put_canonical_by};
