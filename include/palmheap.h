@@ -3,10 +3,20 @@
  * docs/C-LIBRARY.md says how to build the library, what is proved of it and what the caller must ensure.
  * tools/check_header.py compares this file with the functions that the library exports.
  *
- * - A pointer may not be NULL, also if its length is 0.
- * - Memory that a function writes may not overlap other memory that it is given.
- * - The caller owns all memory that it passes.
- * - With any answer but PALMHEAP_OK and PALMHEAP_NO_ROOM a function leaves the caller's memory as it was.
+ * The caller must ensure the following. Otherwise the behavior is undefined.
+ *
+ * - A pointer is not NULL, also if its length is 0. It is valid: to read what it points to, and to write it if it is no
+ *   pointer to const. An output may have any value before the call.
+ * - Memory that a function writes does not overlap other memory that it is given.
+ * - While a call runs, no other thread writes memory that the call is given, or reads memory that the call writes, and
+ *   none uses the store of the call.
+ * - 512 KiB of stack are left. No function is called from a signal handler.
+ *
+ * - A parameter x_len is the number of items of the array x. Sizes, counts of bytes and offsets are in bytes.
+ * - The caller owns all memory that it passes, and the library keeps no pointer to it after the call. The library
+ *   itself keeps memory only for an open store, until palmheap_close.
+ * - A function that fails leaves the caller's memory as it was. Only if a buffer is too short, it sets the count or the
+ *   sizes that the caller needs.
  */
 #ifndef PALMHEAP_H
 #define PALMHEAP_H
@@ -19,14 +29,15 @@
 extern "C" {
 #endif
 
-/* What was found: PALMHEAP_OK, or the kind of a fault and the numbers that locate it (docs/FORMAT.md). A number that the
- * kind does not have is 0. */
+/* What was found: PALMHEAP_OK, or the kind of a fault and the numbers that locate it (docs/FORMAT.md). A number that
+ * the kind does not have is 0. The comment on a function lists the kinds that it can return. */
 typedef struct palmheap_answer {
     uint32_t kind;
     uint32_t at;
     uint32_t entry;
 } palmheap_answer;
 
+/* The kinds of answers. docs/FORMAT.md says what each fault means. */
 enum {
     PALMHEAP_OK = 0,
     PALMHEAP_NO_MEMORY = 1,      /* an allocation failed */
@@ -74,9 +85,13 @@ enum {
     PALMHEAP_BAD_WORD = 72
 };
 
-/* ---- Files and images. These functions keep nothing between calls, and accept any bytes. ---- */
+/* ---- Files and images. These functions keep nothing between calls, and accept any bytes. ----
+ *
+ * Those with a count work like snprintf: call one with the length 0 for the count, and then with room for that many.
+ * With PALMHEAP_OK the items after the first *count of a buffer are unchanged.
+ */
 
-/* The counts of an accepted image: its size in bytes, its slots, its movable and its fixed chunks, the sizes of its
+/* The counts of an accepted image: its size in bytes, its slots, its movable and its fixed chunks, the bytes of its
  * free chunks together, and its databases. */
 typedef struct palmheap_counts {
     uint32_t size;
@@ -95,34 +110,39 @@ typedef struct palmheap_block {
     bool is_there;
 } palmheap_block;
 
-/* Checks whether a database can be read from a file, PDB or PRC. */
+/* Checks whether a database can be read from a file, PDB or PRC.
+ * Answers: PALMHEAP_OK, 60 to 65. */
 palmheap_answer palmheap_pdb_check(const uint8_t *file, size_t file_len);
 
 /* Finds where the blocks of a file stand: the AppInfo block, the SortInfo block, and the data of the entries in order.
- * count gets their number, also with PALMHEAP_NO_ROOM. */
+ * So there are two blocks more than entries. Sets count to their number, also with PALMHEAP_NO_ROOM.
+ * Answers: PALMHEAP_OK, PALMHEAP_NO_MEMORY, PALMHEAP_NO_ROOM, 60 to 65. */
 palmheap_answer palmheap_pdb_blocks(const uint8_t *file, size_t file_len, palmheap_block *blocks, size_t blocks_len,
     size_t *count);
 
-/* Puts the canonical form of a file into a buffer: the file that is written of the database that it is read as.
- * count gets its length, also with PALMHEAP_NO_ROOM. */
+/* Writes the canonical form of a file into a buffer: the file that is written for the database that is read from it.
+ * Sets count to its size in bytes, also with PALMHEAP_NO_ROOM.
+ * Answers: PALMHEAP_OK, PALMHEAP_NO_MEMORY, PALMHEAP_NO_ROOM, PALMHEAP_TOO_LARGE, 60 to 65. */
 palmheap_answer palmheap_canonical(const uint8_t *file, size_t file_len, uint8_t *canonical, size_t canonical_len,
     size_t *count);
 
-/* Puts the listing of a file without fault into a buffer: the UTF-8 text that `palmheap list` prints, without a zero
- * at its end. count gets its length, also with PALMHEAP_NO_ROOM. */
+/* Writes the listing of a file into a buffer: the UTF-8 text that `palmheap list` prints, without a zero at its end.
+ * Sets count to its size in bytes, also with PALMHEAP_NO_ROOM.
+ * Answers: PALMHEAP_OK, PALMHEAP_NO_MEMORY, PALMHEAP_NO_ROOM, PALMHEAP_TOO_LARGE, 60 to 65. */
 palmheap_answer palmheap_pdb_list(const uint8_t *file, size_t file_len, uint8_t *text, size_t text_len, size_t *count);
 
-/* Makes an image of a whole buffer, with this number of slots and no chunk in it. With any answer but PALMHEAP_OK the
- * buffer stays as it was. */
+/* Makes an image without chunks that fills a buffer. slots is the number of its movable chunks at most, 1 to 65,535.
+ * image_len must be a multiple of 8, 64 to 16,777,208, and have room for the slots (docs/FORMAT.md).
+ * Answers: PALMHEAP_OK, PALMHEAP_NO_MEMORY, PALMHEAP_BAD_SIZE, PALMHEAP_BAD_SLOT_COUNT. */
 palmheap_answer palmheap_new(uint8_t *image, size_t image_len, uint16_t slots);
 
-/* Checks whether some bytes are an accepted image. With PALMHEAP_OK counts gets what it has; with any other answer it
- * stays as it was. */
+/* Checks whether some bytes are an accepted image. If so, sets counts to what it has.
+ * Answers: PALMHEAP_OK, PALMHEAP_NO_MEMORY, 20 to 47. */
 palmheap_answer palmheap_check(const uint8_t *image, size_t image_len, palmheap_counts *counts);
 
 /* ---- Scripts. ---- */
 
-/* Some bytes. */
+/* Some bytes. at is not NULL, also if len is 0. */
 typedef struct palmheap_bytes {
     const uint8_t *at;
     size_t len;
@@ -138,8 +158,10 @@ typedef struct palmheap_sizes {
 
 /* Runs a script (docs/USING.md) on an image, in place. files are the files that its lines import. Writes the reply
  * lines to printed, and the files that lines export to exported, one after the other. Writes to exported_ends where
- * each of them ends. Sets sizes to the sizes of these results. If a buffer is too short for them, only sizes is
- * written. */
+ * each of them ends: an offset in exported, at which the next one starts. Sets sizes to the sizes of these results. If
+ * a buffer is too short for them, only sizes is written: make the buffers long enough, and call again. A refused line
+ * is no failure: its reply line says so.
+ * Answers: PALMHEAP_OK, PALMHEAP_NO_MEMORY, PALMHEAP_NO_ROOM, 20 to 47, 70 to 72. */
 palmheap_answer palmheap_run(uint8_t *image, size_t image_len, const uint8_t *script, size_t script_len,
     const palmheap_bytes *files, size_t files_len, uint8_t *printed, size_t printed_len, uint8_t *exported,
     size_t exported_len, size_t *exported_ends, size_t exported_ends_len, palmheap_sizes *sizes);
@@ -148,10 +170,11 @@ palmheap_answer palmheap_run(uint8_t *image, size_t image_len, const uint8_t *sc
  *
  * A store lives from palmheap_open to palmheap_close. The caller passes the address of a palmheap_store. No other call
  * may use the store at the same time, and no call may use it after palmheap_close returned 0. A copy of a
- * palmheap_store is the same store.
+ * palmheap_store is the same store. The caller never changes its field.
  *
  * A call returns 0, or the number of a refusal. A refused call changes no chunk and no database, and leaves the
- * caller's memory as it was. Comments list the refusals of a call in the order in which it looks for them.
+ * caller's memory as it was. Comments list the refusals of a call in the order in which it looks for them. A call with
+ * a buffer can also return PALMHEAP_CALL_NO_ROOM: then only its count is written.
  */
 
 /* An open store, or none. */
@@ -159,6 +182,7 @@ typedef struct palmheap_store {
     void *at;
 } palmheap_store;
 
+/* The refusals. docs/USING.md says what each of them means. */
 enum {
     PALMHEAP_REFUSED_INVALID_HANDLE = 1,
     PALMHEAP_REFUSED_OWNED_BY_DATABASE = 2,
@@ -189,27 +213,35 @@ enum {
     PALMHEAP_REFUSED_LENT = 27
 };
 
+/* Results of a call that are no refusals. */
 enum {
     PALMHEAP_CALL_NO_ROOM = 100,   /* a buffer is too short; the call's count is the size that it needs */
     PALMHEAP_CALL_NO_REFUSAL = 101 /* no refusal has the number */
 };
 
-/* Writes the name of a refusal into a buffer, without a zero at its end. Sets count to its size in bytes, also if the
- * buffer is too short for it. Returns PALMHEAP_CALL_NO_REFUSAL, and changes nothing, if no refusal has the number. */
+/* Writes the name of a refusal into a buffer, ASCII without a zero at its end, as InvalidHandle. No name has more than
+ * 19 bytes. Sets count to its size in bytes, also if the buffer is too short for it. Returns
+ * PALMHEAP_CALL_NO_REFUSAL, and changes nothing, if no refusal has the number. */
 uint32_t palmheap_refusal_name(uint32_t refusal, uint8_t *name, size_t name_len, size_t *count);
 
 /* Opens an image: checks it, and copies it into a store that lives until palmheap_close. Sets store to it. A store
- * that was in store before is not closed. */
+ * that was in store before is not closed. The caller's image stays as it is: palmheap_write_image writes the new one.
+ * Answers: PALMHEAP_OK, PALMHEAP_NO_MEMORY, 20 to 47. */
 palmheap_answer palmheap_open(const uint8_t *image, size_t image_len, palmheap_store *store);
 
-/* Closes a store and frees its memory. If a chunk is lent, the store stays open. Refusals: 27. */
+/* Closes a store and frees its memory. Only palmheap_open may get store then. If a chunk is lent, the store stays open.
+ * Refusals: 27. */
 uint32_t palmheap_close(palmheap_store *store);
 
 /* Writes the image of a store into a buffer. Sets count to its size in bytes, also if the buffer is too short for
  * it. Refusals: 27, 26. */
 uint32_t palmheap_write_image(palmheap_store *store, uint8_t *image, size_t image_len, size_t *count);
 
-/* -- Chunks -- */
+/* -- Chunks --
+ *
+ * A name is the number of a chunk. It stays the same until the chunk is freed; after that a new chunk can get it. The
+ * store moves a movable chunk only while it has no lock, and a fixed chunk never. A stretch is a longest run of
+ * neighbouring chunks, none locked or fixed, and its room is that of its free chunks together. */
 
 /* Makes a movable chunk of size zeros for an owner, 1 to 14. Sets name to its name. Refusals: 7, 8. */
 uint32_t palmheap_MemHandleNew(palmheap_store *store, uint32_t size, uint8_t owner, uint32_t *name);
@@ -220,8 +252,8 @@ uint32_t palmheap_MemPtrNew(palmheap_store *store, uint32_t size, uint8_t owner,
 /* Frees a chunk that has no lock, or is fixed. Refusals: 1, 2, 3, 27. */
 uint32_t palmheap_MemChunkFree(palmheap_store *store, uint32_t name);
 
-/* Adds a lock to a movable chunk. Sets place to the offset of its body in the image, and count to the number of its
- * locks. Refusals: 1, 6, 5. */
+/* Adds a lock to a movable chunk, which can have 14. Sets place to the offset of its body in the image, and count to
+ * the number of its locks. Refusals: 1, 6, 5. */
 uint32_t palmheap_MemHandleLock(palmheap_store *store, uint32_t name, uint32_t *place, uint8_t *count);
 
 /* Removes a lock from a movable chunk. Sets count to the number of locks left. Refusals: 1, 6, 4, 27. */
@@ -243,7 +275,7 @@ uint32_t palmheap_DmWrite(palmheap_store *store, uint32_t name, uint32_t at, con
 uint32_t palmheap_DmSet(palmheap_store *store, uint32_t name, uint32_t at, uint32_t count, uint8_t byte);
 
 /* Overwrites bytes of a locked or fixed chunk, from the offset at in the chunk, with the bytes of text before its
- * first zero byte, and then a zero byte. Refusals: 1, 4, 27, 9. */
+ * first zero byte, or all text_len if none is zero, and then a zero byte. Refusals: 1, 4, 27, 9. */
 uint32_t palmheap_DmStrCopy(palmheap_store *store, uint32_t name, uint32_t at, const uint8_t *text, size_t text_len);
 
 /* Resizes a chunk to size bytes. It cuts bytes off at the end, or adds zeros there. Refusals: 1, 2, 6, 27, 3, 8. */
@@ -270,7 +302,12 @@ uint32_t palmheap_MemHeapCompact(palmheap_store *store, uint32_t *count);
 /* Adds a master pointer table of 15 empty slots, if the image has a chain of tables. Refusals: 8. */
 uint32_t palmheap_more_slots(palmheap_store *store);
 
-/* -- Databases. A type or a creator is the number that its four bytes make, the first byte highest. -- */
+/* -- Databases --
+ *
+ * db is the number of a database. It stays the same until the database is deleted. A name has 1 to 31 bytes, none of
+ * them zero, and its length counts no zero after it. A type or a creator is the number that its four bytes make, the
+ * first byte highest. A date counts the seconds since 1904-01-01 00:00:00. An attribute 0x0001 marks a database with
+ * resources, 0x0002 one that is read-only. */
 
 /* The header of a database. The first name_length bytes of name are its name, and the others are 0. */
 typedef struct palmheap_database_info {
@@ -324,7 +361,8 @@ uint32_t palmheap_DmNumDatabases(palmheap_store *store, uint32_t *count);
 uint32_t palmheap_DmDatabaseInfo(palmheap_store *store, uint32_t db, palmheap_database_info *info);
 
 /* Sets the name, attributes, version, dates, type and creator of a database. Ignores the other fields of info, and
- * the attribute for resources. Refusals: 10, 22, 21. */
+ * the attribute for resources. To change some of them, read info by palmheap_DmDatabaseInfo first. Refusals: 10, 22,
+ * 21. */
 uint32_t palmheap_DmSetDatabaseInfo(palmheap_store *store, uint32_t db, const palmheap_database_info *info);
 
 /* Makes a movable chunk the AppInfo block of a database, or its SortInfo block if sort is true. The database may not
@@ -338,10 +376,13 @@ uint32_t palmheap_take_info_block(palmheap_store *store, uint32_t db, bool sort,
 /* Sets name to the name of an info block of a database. Refusals: 10, 24. */
 uint32_t palmheap_info_block(palmheap_store *store, uint32_t db, bool sort, uint32_t *name);
 
-/* -- Records -- */
+/* -- Records --
+ *
+ * Records are counted from 0, deleted ones included. Of the attributes 0x80 marks a deleted record, 0x40 a dirty one,
+ * 0x20 a busy one and 0x10 a secret one. The low four bits are the category, 0 to 15. */
 
-/* Makes a record of size zeros at the index at, or at the end. Sets index to its index, and name to the chunk of its
- * data. Refusals: 10, 11, 13, 17, 8. */
+/* Makes a record of size zeros at the index at, or at the end if there are fewer. It is busy and dirty, and has an ID
+ * that no other record has. Sets index to its index, and name to the chunk of its data. Refusals: 10, 11, 13, 17, 8. */
 uint32_t palmheap_DmNewRecord(palmheap_store *store, uint32_t db, uint32_t at, uint32_t size, uint32_t *index,
     uint32_t *name);
 
@@ -376,8 +417,8 @@ uint32_t palmheap_DmResizeRecord(palmheap_store *store, uint32_t db, uint32_t in
 /* Sets count to the number of records. Refusals: 10, 11. */
 uint32_t palmheap_DmNumRecords(palmheap_store *store, uint32_t db, uint32_t *count);
 
-/* Makes a movable chunk the data of a new record at the index at, or at the end. Sets index to the index of the
- * record. Refusals: 10, 11, 13, 1, 2, 6, 17, 8. */
+/* Makes a movable chunk the data of a new record at the index at, or at the end if there are fewer. Sets index to the
+ * index of the record. Refusals: 10, 11, 13, 1, 2, 6, 17, 8. */
 uint32_t palmheap_DmAttachRecord(palmheap_store *store, uint32_t db, uint32_t at, uint32_t name, uint32_t *index);
 
 /* Makes a movable chunk the data of a record, and gives its old data to an owner. Sets old to the name of the old
@@ -394,10 +435,11 @@ uint32_t palmheap_DmDetachRecord(palmheap_store *store, uint32_t db, uint32_t in
 uint32_t palmheap_DmSetRecordInfo(palmheap_store *store, uint32_t db, uint32_t index, uint8_t attributes, uint32_t
     id);
 
-/* Sets index to the index of the record with this unique ID. Refusals: 10, 11, 20. */
+/* Sets index to the index of the record with this unique ID, deleted or not. Refusals: 10, 11, 20. */
 uint32_t palmheap_DmFindRecordByID(palmheap_store *store, uint32_t db, uint32_t id, uint32_t *index);
 
-/* Sets count to the number of records of a category, 0 to 15, or of all categories for 255. Refusals: 10, 11, 18. */
+/* Sets count to the number of records of a category, 0 to 15. In this call and the next two 255 stands for all records
+ * that are not deleted. Refusals: 10, 11, 18. */
 uint32_t palmheap_DmNumRecordsInCategory(palmheap_store *store, uint32_t db, uint8_t category, uint32_t *count);
 
 /* Sets index to the index of the first record of a category at the index from or after it. Refusals: 10, 11, 18, 14. */
@@ -415,7 +457,7 @@ uint32_t palmheap_DmMoveCategory(palmheap_store *store, uint32_t db, uint8_t to,
 /* Deletes all records of a category. Refusals: 10, 11, 13, 18, 3. */
 uint32_t palmheap_DmDeleteCategory(palmheap_store *store, uint32_t db, uint8_t category);
 
-/* -- Resources -- */
+/* -- Resources. They are counted from 0, and two may have the same type and ID. -- */
 
 /* Makes a resource of size zeros, after all others. Sets index to its index, and name to the chunk of its data.
  * Refusals: 10, 12, 13, 17, 8. */
@@ -453,10 +495,10 @@ uint32_t palmheap_DmFindResourceType(palmheap_store *store, uint32_t db, uint32_
 /* Sets count to the number of resources. Refusals: 10, 12. */
 uint32_t palmheap_DmNumResources(palmheap_store *store, uint32_t db, uint32_t *count);
 
-/* -- Bytes and files -- */
+/* -- Bytes and files. Those with a len work like snprintf, as the functions on files do. -- */
 
-/* Copies count bytes of a chunk, from the offset at in the chunk, into a buffer. Sets len to their number, also if
- * the buffer is too short for them. Refusals: 1, 27, 9. */
+/* Copies count bytes of a chunk, locked or not, from the offset at in the chunk, into a buffer. Sets len to their
+ * number, also if the buffer is too short for them. Refusals: 1, 27, 9. */
 uint32_t palmheap_read(palmheap_store *store, uint32_t name, uint32_t at, uint32_t count, uint8_t *bytes, size_t
     bytes_len, size_t *len);
 
@@ -469,9 +511,10 @@ uint32_t palmheap_export(palmheap_store *store, uint32_t db, uint8_t *file, size
 
 /* -- Loans --
  *
- * A loan lets the caller read and write the bytes of a chunk in place, also while other calls on the store run. One
+ * A loan lets the caller read and write the bytes of a chunk in place, also between other calls on the store. One
  * chunk of a store can be lent at a time. Until it is put back, calls that read, write, free, resize, unlock or export
- * it are refused with 27. docs/C-LIBRARY.md says what the caller must ensure. */
+ * it are refused with 27 (one that is locked with 3, where a call looks for that first), and so are
+ * palmheap_write_image and palmheap_close. */
 
 /* The bytes of a lent chunk and their number, or NULL and 0. The caller sets a new one to {0}, and never changes these
  * fields. */
@@ -480,12 +523,13 @@ typedef struct palmheap_loan {
     size_t count;
 } palmheap_loan;
 
-/* Takes the bytes of a locked or fixed chunk out of a store, without a copy or an allocation. Sets loan to them. The
- * store has zeros at their place until they are put back. A loan that was in loan before is not put back.
- * Refusals: 1, 4, 27. */
+/* Takes the bytes of a locked or fixed chunk out of a store, without a copy or an allocation. Sets loan to them: the
+ * caller may use loan->count bytes from loan->bytes on, until palmheap_put_back. A loan that was in loan before is not
+ * put back. Refusals: 1, 4, 27. */
 uint32_t palmheap_take_out(palmheap_store *store, uint32_t name, palmheap_loan *loan);
 
-/* Puts the bytes of a loan of this store back. loan has no bytes then. */
+/* Puts the bytes of a loan back. loan must be that which palmheap_take_out set for this store last, and not be put back
+ * yet. It is NULL and 0 then. */
 void palmheap_put_back(palmheap_store *store, palmheap_loan *loan);
 
 /* Reports whether a chunk is lent. If so, sets name to it. */

@@ -5,6 +5,7 @@
     library.py calls PROGRAM COUNT     compares COUNT calls on an open store with scripts, run by both
 """
 
+import concurrent.futures
 import os
 import random
 import struct
@@ -18,7 +19,8 @@ sys.dont_write_bytecode = True
 import palmheap
 
 KINDS = {60: "Truncated", 61: "ChainedList", 62: "EmptyName", 63: "BadInfo app", 64: "BadInfo sort", 65: "BadOffset"}
-SEED = 56
+# Draws are made in parts, each from its own seed, side by side on all processors.
+PARTS = range(56, 64)
 
 
 def header(name, attributes, count, app=0, sort=0, kind=b"DATA", creator=b"memo"):
@@ -102,8 +104,17 @@ def run(program, *words, file=b""):
     return ran.stdout, ran.returncode
 
 
-def compare(program, count):
-    library, rng, met = palmheap.Library(), random.Random(SEED), {}
+def each_part(compare_part, program, count):
+    """Compares `count` draws in parts, and returns the result of each part. An exit with a message ends it all."""
+    starts = [count * it // len(PARTS) for it in range(len(PARTS) + 1)]
+    counts = [end - start for start, end in zip(starts, starts[1:])]
+    with concurrent.futures.ProcessPoolExecutor(len(os.sched_getaffinity(0))) as pool:
+        return list(pool.map(compare_part, [program] * len(PARTS), PARTS, counts))
+
+
+def compare_damaged(program, seed, count):
+    """Returns the first word that each file should be listed with."""
+    library, rng, met = palmheap.Library(), random.Random(seed), []
     with tempfile.TemporaryDirectory() as room:
         for index in range(count):
             file = damaged(rng)
@@ -111,7 +122,7 @@ def compare(program, count):
             text, given = run(program, "list", "-", file=file)
             text = text.decode()
             said = "\n".join(text.split("\n")[:1]) + "\n" if status else text
-            met[wanted.split()[1] if status else "ok"] = met.get(wanted.split()[1] if status else "ok", 0) + 1
+            met.append(wanted.split()[1] if status else "ok")
             if (said, given) != (wanted, status):
                 sys.exit(f"file {index}, {file.hex()}: the library has {wanted!r}, and the program {text!r}")
             if index % 10 == 0:
@@ -121,7 +132,12 @@ def compare(program, count):
                     there = it.read() if given == 0 else None
                 if there != bytes_of:
                     sys.exit(f"file {index}, {file.hex()}: the canonical forms differ")
-    print(f"{count} damaged files are listed alike:", ", ".join(f"{n} {it}" for it, n in sorted(met.items())))
+    return met
+
+
+def compare_files(program, count):
+    met = [word for part in each_part(compare_damaged, program, count) for word in part]
+    print(f"{count} damaged files are listed alike:", ", ".join(f"{met.count(it)} {it}" for it in sorted(set(met))))
 
 
 # ---- calls
@@ -821,24 +837,32 @@ def do_list(library, rng, program, room):
     return calls.refused, calls.loans
 
 
+def compare_drawn(program, seed, count):
+    """Compares lists of calls, `count` calls or some more. Returns them, their refusals and the number of loans."""
+    library, rng, calls, refused, loans = palmheap.Library(), random.Random(seed), 0, [], 0
+    with tempfile.TemporaryDirectory() as room:
+        while calls < count:
+            more_refused, more_loans = do_list(library, rng, program, room)
+            calls, refused, loans = calls + LINES, refused + more_refused, loans + more_loans
+    return calls, refused, loans
+
+
 def compare_calls(program, count):
-    library, rng, refused, loans = palmheap.Library(), random.Random(SEED), [], 0
+    library = palmheap.Library()
     if [library.refusal_name(it) for it in (0, 28, 1 << 31)] != [None] * 3:
         sys.exit("a number of no refusal has a name")
-    with tempfile.TemporaryDirectory() as room:
-        for _ in range(0, count, LINES):
-            more_refused, more_loans = do_list(library, rng, program, room)
-            refused, loans = refused + more_refused, loans + more_loans
+    parts = each_part(compare_drawn, program, count)
+    calls, refused = sum(it[0] for it in parts), [number for it in parts for number in it[1]]
     met = ", ".join(f"{refused.count(it)} {library.refusal_name(it)}" for it in sorted(set(refused)))
-    print(f"{count} calls answer as lines of scripts do; {len(refused)} were refused: {met}")
-    print(f"{loans} loans were put back")
-    if 2 * len(refused) > count:
+    print(f"{calls} calls answer as lines of scripts do; {len(refused)} were refused: {met}")
+    print(f"{sum(it[2] for it in parts)} loans were put back")
+    if 2 * len(refused) > calls:
         sys.exit("more than half of the calls were refused")
 
 
 if sys.argv[1] == "files":
     write_files(sys.argv[2])
 elif sys.argv[1] == "damaged":
-    compare(sys.argv[2], int(sys.argv[3]))
+    compare_files(sys.argv[2], int(sys.argv[3]))
 else:
     compare_calls(sys.argv[2], int(sys.argv[3]))

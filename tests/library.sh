@@ -7,8 +7,10 @@
 # sanitizers, and compares the library with the commands `list` and `canonical` on FILES damaged files (100000). It
 # compares as many calls on a store, and palmheap_run on scripts of the same calls, with the command `run`: by text,
 # files and image, with buffers that are long enough or too short, and on scripts and images with faults.
-# Needs rt, gcc and python3. Without valgrind or cargo, it leaves out what they run, and says so. PALMHEAP names a
-# built program to compare with (./palmheap). The status is 1 if something differs. The gate doesn't run this.
+# Links by pkg-config, shared and static, sees that wrong headers are refused, and lets each allocation fail in turn.
+# Needs rt, gcc and python3. Without g++, pkg-config, valgrind or cargo, it leaves out what they run, and says so.
+# PALMHEAP names a built program to compare with (./palmheap). The status is 1 if something differs. The gate doesn't
+# run this.
 top=$(cd -- "$(dirname -- "$0")/.." && pwd)
 files=${1:-100000}
 program=${PALMHEAP:-$top/palmheap}
@@ -24,6 +26,32 @@ fail() {
 export PKG_CONFIG_PATH=$room/lib/lib/pkgconfig LD_LIBRARY_PATH=$room/lib/lib
 flags="-O1 -g -Wall -Wextra -Werror -I $room/lib/include"
 static=$room/lib/lib/libpalmheap.a
+
+# The header is C99 and C++11.
+gcc -std=c99 -pedantic -Wall -Wextra -Werror -fsyntax-only -x c "$top/include/palmheap.h" ||
+    fail 'the header is not C99'
+if command -v g++ >/dev/null; then
+    g++ -std=c++11 -pedantic -Wall -Wextra -Werror -fsyntax-only -x c++ "$top/include/palmheap.h" ||
+        fail 'the header is not C++11'
+else
+    echo 'not run: g++'
+fi
+# A header with one change is refused: of a type, a result, an order, a field, a number or a list of refusals.
+while read -r change; do
+    sed "$change" "$top/include/palmheap.h" >"$room/wrong.h"
+    cmp -s "$top/include/palmheap.h" "$room/wrong.h" && fail "no change of the header: $change"
+    python3 "$top/tools/check_header.py" "$room/wrong.h" >"$room/log" && fail "a wrong header is accepted: $change"
+done <<'END'
+/palmheap_MemHandleLock(/s/uint8_t \*count/uint32_t *count/
+/palmheap_MemHandleLock(/s/uint32_t \*place, uint8_t \*count/uint8_t *count, uint32_t *place/
+/palmheap_DmSet(/s/uint32_t at, uint32_t count/uint32_t count, uint32_t at/
+/palmheap_pdb_check(/s/const uint8_t/uint8_t/
+s/^bool palmheap_lent/uint32_t palmheap_lent/
+s/^void palmheap_put_back/uint8_t *palmheap_more(void);\n&/
+s/uint16_t attributes;/uint8_t attributes;/
+/PALMHEAP_REFUSED_CHUNK_LOCKED =/s/3/4/
+s/Refusals: 7, 27\./Refusals: 7./
+END
 
 # A file with one record and one with none.
 python3 "$top/tests/library.py" files "$room" || fail 'no files were made'
@@ -49,6 +77,26 @@ cmp "$room/plain.store.txt" "$room/sanitized.store.txt" || fail 'the stores diff
 cmp "$room/plain.image" "$room/sanitized.image" || fail 'the images of the stores differ'
 grep -q '^record 0: Buy milk$' "$room/plain.store.txt" || fail 'the store has no such record'
 "$program" check "$room/plain.image" | grep -q 'databases 1' || fail 'the image of the store has not one database'
+# Linked by pkg-config: shared, and static, which needs no file of the library to run.
+if command -v pkg-config >/dev/null; then
+    for kind in shared static; do
+        # shellcheck disable=SC2046
+        gcc -Wall -Wextra -Werror $([ $kind = shared ] || echo -static) "$top/examples/c/store.c" \
+            $(pkg-config --cflags --libs palmheap) -o "$room/$kind" || fail "pkg-config does not link the $kind library"
+        [ $kind = shared ] || unset LD_LIBRARY_PATH
+        "$room/$kind" "$room/out" >"$room/$kind.txt" || fail "the $kind library fails"
+        cmp "$room/plain.store.txt" "$room/$kind.txt" || fail "the $kind library differs"
+    done
+    export LD_LIBRARY_PATH=$room/lib/lib
+else
+    echo 'not run: pkg-config'
+fi
+# Each allocation fails in turn.
+wraps=-Wl,--wrap=malloc,--wrap=realloc,--wrap=free
+# shellcheck disable=SC2086
+gcc $flags $wraps "$top/tests/library_memory.c" "$static" -o "$room/plain.memory" ||
+    fail 'the test of memory was not built'
+"$room/plain.memory" >"$room/memory.txt" || { cat "$room/memory.txt"; fail 'a failed allocation does harm'; }
 # docs/C-LIBRARY.md says what stack is enough.
 (ulimit -s 512 && "$room/plain.demo" "$room/memos.pdb" "$room/out" >/dev/null && "$room/plain.store" "$room/out") \
     >/dev/null || fail 'the stack is too small'
@@ -56,7 +104,7 @@ grep -q '^record 0: Buy milk$' "$room/plain.store.txt" || fail 'the store has no
 nm -D --defined-only "$room/lib/lib/libpalmheap.so" | awk '{ print $3 }' | grep -v '^palmheap_' && fail 'a name escapes'
 
 if command -v valgrind >/dev/null; then
-    for words in "demo $room/memos.pdb $room/out" "store $room/out" loan; do
+    for words in "demo $room/memos.pdb $room/out" "store $room/out" loan memory; do
         # shellcheck disable=SC2086
         valgrind -q --error-exitcode=9 --leak-check=full --errors-for-leak-kinds=all "$room"/plain.$words >/dev/null ||
             fail 'valgrind found an error'

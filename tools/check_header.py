@@ -1,11 +1,12 @@
 #!/usr/bin/env python3
 """Compares include/palmheap.h with the functions that crates/palmheap_c exports.
 
-    tools/check_header.py
+    tools/check_header.py [HEADER]
 
-Each exported function must be declared once, with the same parameters in order, and each structure with the same
-fields. Each kind of answer and each refusal must have the number that the Rattle code gives it. Prints each difference;
-the status is 1 if there is one.
+Each exported function must be declared once, with the same result and the same parameters in order, by type and name.
+Each structure must have the same fields in order. Each kind of answer and each refusal must have the number that the
+Rattle code gives it. The comment on a function must list the same refusals as that in the Rattle code. HEADER is
+another file to compare. Prints each difference; the status is 1 if there is one.
 """
 
 import os
@@ -35,25 +36,25 @@ def c_name(kind):
     return NUMBERS.get(kind) or STRUCTS.get(kind) or f"palmheap_{snake(kind)}"
 
 
-def c_parameters(kind):
-    """Returns the types in C of the parameters that one parameter becomes."""
+def c_parameters(name, kind):
+    """Returns the parameters in C that one parameter becomes."""
     found = re.fullmatch(r"&(mut )?\[(.+)\]", kind)
     if found:
         const = "" if found[1] else "const "
         item = "palmheap_bytes" if found[2] == "&[u8]" else c_name(found[2])
-        return [f"{const}{item} *", "size_t"]
+        return [f"{const}{item} *{name}", f"size_t {name}_len"]
     found = re.fullmatch(r"&(mut )?(.+)", kind)
     if found:
-        return [f"{'' if found[1] else 'const '}{c_name(found[2])} *"]
-    return [] if kind == "Global" else [c_name(kind)]
+        return [f"{'' if found[1] else 'const '}{c_name(found[2])} *{name}"]
+    return [] if kind == "Global" else [f"{c_name(kind)} {name}"]
 
 
 def exported(text):
-    """Yields each exported function: its name, the types in C of its parameters, and that of its result."""
+    """Yields each exported function: its name, its parameters in C, and the type in C of its result."""
     pattern = r'#\[unsafe\(no_mangle\)\]\npub extern "C" fn (\w+)\((.*?)\)(?: -> (\w+))?\s*(?:ensures|requires|\{)'
     for name, given, result in re.findall(pattern, text, re.S):
-        kinds = [it.split(":", 1)[1].strip() for it in re.split(r",\s*(?=\w+:)", given.strip().rstrip(",")) if it]
-        yield name, [c for kind in kinds for c in c_parameters(kind)], c_name(result) if result else "void"
+        pairs = [it.split(":", 1) for it in re.split(r",\s*(?=\w+:)", given.strip().rstrip(",")) if it]
+        yield name, [c for it in pairs for c in c_parameters(*map(str.strip, it))], c_name(result) if result else "void"
 
 
 def structures(text):
@@ -74,16 +75,29 @@ def without_comments(text):
 def declared(header):
     """Yields each function of the header as `exported` does."""
     body = re.sub(r"\b(struct|enum)\b[^{;]*\{.*?\}", "", header, flags=re.S)
-    for result, name, given in re.findall(r"^(\w+) (palmheap_\w+)\(([^;]*?)\);", body, re.M | re.S):
-        kinds = []
-        for it in [] if given == "void" else given.split(","):
-            kinds.append(re.sub(r"\w+$", "", " ".join(it.split())).strip())
-        yield name, kinds, result
+    for result, name, given in re.findall(r"^([^\n;]*?)\b(\w+)\(([^;]*?)\);", body, re.M | re.S):
+        given = [] if given == "void" else given.split(",")
+        yield name, [" ".join(it.split()) for it in given], result.strip()
 
 
 def declared_structures(header):
     for name, body in re.findall(r"typedef struct (\w+) \{(.*?)\}", header, re.S):
         yield name, [" ".join(it.split()) for it in body.split(";") if it.strip()]
+
+
+def refused_in_crate(text):
+    """Yields each exported function with the numbers of refusals that its comment lists."""
+    pattern = r'((?:///[^\n]*\n)+)(?:#\[[^\n]*\]\n)*#\[unsafe\(no_mangle\)\]\npub extern "C" fn (\w+)'
+    for comment, name in re.findall(pattern, text):
+        listed = re.search(r"The refusals? ([\d, ]+)[.,]", comment)
+        yield name, re.findall(r"\d+", listed[1]) if listed else []
+
+
+def refused_in_header(header):
+    """Yields each function of the header as `refused_in_crate` does."""
+    for comment, name in re.findall(r"/\*((?:(?!\*/).)*)\*/\s*\w[^/;{]*?\b(\w+)\([^;]*;", header, re.S):
+        listed = re.search(r"Refusals: ([\d,\s*]+)\.", comment)
+        yield name, re.findall(r"\d+", listed[1]) if listed else []
 
 
 def compare(what, here, there, wrong):
@@ -126,10 +140,12 @@ def refusals_of(text):
 def main():
     text = "\n".join(text_of(f"{SOURCES}/{it}") for it in sorted(os.listdir(SOURCES)) if it.endswith(".rt"))
     text += text_of(f"{TOP}/crates/raw_region/src/lent_part.rt")
-    header = without_comments(text_of(f"{TOP}/include/palmheap.h"))
+    whole = text_of(sys.argv[1] if len(sys.argv) > 1 else f"{TOP}/include/palmheap.h")
+    header = without_comments(whole)
     numbers = re.findall(r"\bPALMHEAP_(\w+) = (\d+)", header)
     wrong = []
     compare("the function", list(exported(text)), list(declared(header)), wrong)
+    compare("the comment on", list(refused_in_crate(text)), list(refused_in_header(whole)), wrong)
     # C alone needs a structure for the items of a list of files. A store is two structures here, one in C.
     here = {name: fields for name, fields in structures(text)}
     there = [it for it in declared_structures(header) if it[0] != "palmheap_bytes"]
@@ -137,8 +153,7 @@ def main():
     refusals = refusals_of(text_of(f"{TOP}/crates/heap_model/src/refusal.rt"))
     named = [(name, int(number)) for name, number in numbers]
     compare("the kind", list(kinds_of(text)), [it for it in named if not it[0].startswith("REFUSED_")], wrong)
-    if "palmheap_open" in header:
-        compare("the refusal", list(refusals), [it for it in named if it[0].startswith("REFUSED_")], wrong)
+    compare("the refusal", list(refusals), [it for it in named if it[0].startswith("REFUSED_")], wrong)
     print("\n".join(wrong) if wrong else f"{len(list(exported(text)))} functions are declared as they are exported")
     return 1 if wrong else 0
 

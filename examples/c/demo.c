@@ -12,7 +12,9 @@
 static uint8_t *read_all(const char *path, size_t *len) {
     FILE *file = fopen(path, "rb");
     if (!file || fseek(file, 0, SEEK_END) != 0) { perror(path); exit(3); }
-    *len = (size_t)ftell(file);
+    long end = ftell(file);
+    if (end < 0) { perror(path); exit(3); }
+    *len = (size_t)end;
     rewind(file);
     uint8_t *bytes = malloc(*len + 1);
     if (!bytes || fread(bytes, 1, *len, file) != *len) { perror(path); exit(3); }
@@ -33,13 +35,18 @@ static uint8_t *made_by(makes_bytes *function, const uint8_t *file, size_t len, 
     return bytes;
 }
 
+/* Shows where the blocks of a file stand. A file has two blocks at least, so the first call has too little room. */
 static void show_blocks(const uint8_t *file, size_t len) {
-    palmheap_block blocks[4];
+    palmheap_block none[1];
     size_t count;
-    palmheap_answer answer = palmheap_pdb_blocks(file, len, blocks, 4, &count);
+    palmheap_answer answer = palmheap_pdb_blocks(file, len, none, 0, &count);
+    if (answer.kind != PALMHEAP_NO_ROOM) { fprintf(stderr, "kind %u\n", answer.kind); exit(3); }
+    palmheap_block *blocks = malloc(count * sizeof *blocks);
+    if (!blocks || palmheap_pdb_blocks(file, len, blocks, count, &count).kind != PALMHEAP_OK) exit(3);
     printf("%zu blocks\n", count);
-    for (size_t i = 0; answer.kind == PALMHEAP_OK && i < count; i++)
+    for (size_t i = 0; i < count; i++)
         if (blocks[i].is_there) printf("block %zu: %zu to %zu\n", i, blocks[i].start, blocks[i].end);
+    free(blocks);
 }
 
 /* Runs a script that imports a file and exports it again. The first call is for the sizes of its results. */
@@ -55,7 +62,8 @@ static void show_run(uint8_t *image, size_t image_len, palmheap_bytes file) {
     answer = palmheap_run(image, image_len, script, len, &file, 1, printed, sizes.printed, exported, sizes.exported,
         ends, 1, &sizes);
     if (answer.kind != PALMHEAP_OK) exit(3);
-    printf("%.*s%zu file of %zu bytes\n", (int)sizes.printed, (char *)printed, sizes.files, sizes.exported);
+    fwrite(printed, 1, sizes.printed, stdout);
+    printf("%zu file of %zu bytes\n", sizes.files, sizes.exported);
     free(printed);
     free(exported);
 }
@@ -67,7 +75,6 @@ static void show_image(palmheap_bytes file) {
     show_run(image, sizeof image, file);
     if (palmheap_check(image, sizeof image, &counts).kind != PALMHEAP_OK) exit(3);
     printf("image of %u bytes, %u databases, %u free\n", counts.size, counts.databases, counts.free);
-    image[48] ^= 1;
     palmheap_answer answer = palmheap_check(image, 128, &counts);
     printf("its first 128 bytes: kind %u at %u\n", answer.kind, answer.at);
 }
@@ -83,7 +90,7 @@ int main(int argc, char **argv) {
         return 1;
     }
     uint8_t *text = made_by(palmheap_pdb_list, file, len, &count);
-    printf("%.*s", (int)count, (char *)text);
+    fwrite(text, 1, count, stdout);
     free(text);
     show_blocks(file, len);
     uint8_t *bytes = made_by(palmheap_canonical, file, len, &count);

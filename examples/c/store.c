@@ -71,8 +71,9 @@ int main(int argc, char **argv) {
     if (argc != 2) { fprintf(stderr, "usage: store OUT\n"); return 2; }
     static uint8_t image[SIZE];
     palmheap_store store;
-    if (palmheap_new(image, sizeof image, SLOTS).kind != PALMHEAP_OK) return 1;
-    if (palmheap_open(image, sizeof image, &store).kind != PALMHEAP_OK) return 1;
+    palmheap_answer answer = palmheap_new(image, sizeof image, SLOTS);
+    if (answer.kind == PALMHEAP_OK) answer = palmheap_open(image, sizeof image, &store);
+    if (answer.kind != PALMHEAP_OK) { fprintf(stderr, "kind %u at %u\n", answer.kind, answer.at); return 1; }
     make_memo(&store, "Buy milk");
     show_memo(&store);
     int status = write_image(&store, argv[1]);
