@@ -46,12 +46,13 @@ fn know_bytes(file: &[u8])
     let _file = file;
 }
 
-/// Returns the changes of a file without fault. `given` has the IDs that the file's records get.
-fn changes_by(file: &[u8], given: &GivenIds) -> Changes
+/// The same as `find_changes`, for the IDs that the file's records get. It allocates nothing.
+pub fn changes_by(file: &[u8], given: &GivenIds) -> Changes
     requires good { HasNoFault file.now }
     requires short { length file.now ≤ most_bytes }
     requires given { AreGivenIn file.now given.now.ids.items given.now.seed }
-    ensures { AreChanges file.now result }
+    ensures changes { AreChanges file.now result }
+    ensures same { IsTrue (words.is_none result) → IsCanonical file.now file.now }
 {
     know_bytes(file);
     Changes {

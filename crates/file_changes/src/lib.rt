@@ -18,5 +18,5 @@ mod entries;
 mod line;
 mod offsets;
 
-pub use changes::{Changes, find_changes};
+pub use changes::{Changes, changes_by, find_changes};
 pub use line::put_changes;

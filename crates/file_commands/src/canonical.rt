@@ -3,14 +3,16 @@
 ghost use Rattle.std.specs.Prelude.{◌≡◌, ◌≢◌, ◌≤◌, length, false, Err, IfErr, IfOk, IsTrue, OnOk};
 ghost use Rattle.allowance.specs.Refusals.{GrowthRefused};
 ghost use Rattle.heap_model.specs.Files.{HasNoFault};
-ghost use Rattle.canonical_file.specs.Canonical.{IsCanonical, IsFaultOf, WritesCanonical, WroteCanonical, most_bytes};
-ghost use Rattle.file_changes.specs.Changes.{AreChanges, is_none};
+ghost use Rattle.canonical_file.specs.Canonical.{HasIds, IsCanonical, IsFaultOf, WritesCanonical, WroteCanonical, most_bytes};
+ghost use Rattle.file_changes.specs.Changes.{is_none};
+ghost use Rattle.file_changes.specs.Given.{AreGivenIn};
 ghost use Rattle.file_commands.specs.Ends.{EndsCanonical, PutsPart, WroteWhole};
 
 use crate::faults::{Rewritten, flushed, put_rewritten, say_fault};
 use allowance::Allowance;
-use canonical_file::{CanonicalFault, put_canonical};
-use file_changes::{Changes, find_changes};
+use canonical_file::{CanonicalFault, put_canonical_by};
+use file_changes::{Changes, changes_by};
+use file_ids::{GivenIds, give_ids_from};
 use palm_text::{Counted, put_all};
 use pdb_format::check_file;
 use program_io::Status;
@@ -60,7 +62,6 @@ pub fn cmd_canonical_from<A: Allowance, W: Write, V: Write>(
 
 /// Writes the canonical form of a file, flushes `file_out`, and returns its size in bytes and the
 /// changes.
-#[tactic(auto, using(crate::proofs::Printed::puts_whole, crate::proofs::Printed::flush_fails, crate::proofs::Printed::canonical_stops))]
 fn put_flushed<A: Allowance, W: Write>(
     memory: &A,
     file: &[u8],
@@ -75,25 +76,53 @@ fn put_flushed<A: Allowance, W: Write>(
         → PutsPart file.now W.contents file_out.old file_out.new }
     ensures short { result ≡ Err CanonicalFault.OutOfMemory → A.is_short memory.now }
 {
-    let changes = changes_of(memory, file)?;
-    let count = put_form(memory, file, changes, file_out)?;
+    match ids_of(memory, file) {
+        Ok(given) => put_by_ids(memory, file, &given, file_out),
+        Err(fault) => Err(fault),
+    }
+}
+
+/// The same as `put_flushed`, for a file without fault and the IDs that its records get.
+#[tactic(auto, using(crate::proofs::Printed::puts_whole, crate::proofs::Printed::flush_fails, crate::proofs::Printed::canonical_stops))]
+fn put_by_ids<A: Allowance, W: Write>(
+    memory: &A,
+    file: &[u8],
+    given: &GivenIds,
+    file_out: &mut Counted<W>,
+) -> Result<Rewritten, CanonicalFault>
+    requires short { length file.now ≤ most_bytes }
+    requires good { HasNoFault file.now }
+    requires ids { HasIds file.now given.now }
+    requires given { AreGivenIn file.now given.now.ids.items given.now.seed }
+    ensures done { IfOk result (WroteWhole file.now W.contents file_out.old file_out.new) }
+    ensures why { IfErr result (IsFaultOf file.now) }
+    ensures untouched { IfErr result (λ fault.
+        fault ≢ CanonicalFault.Write → file_out.new ≡ file_out.old) }
+    ensures write { result ≡ Err CanonicalFault.Write
+        → PutsPart file.now W.contents file_out.old file_out.new }
+    ensures short { result ≡ Err CanonicalFault.OutOfMemory → A.is_short memory.now }
+{
+    let changes = changes_by(file, given);
+    let count = put_form(memory, file, given, changes, file_out)?;
     match flushed(file_out) {
         Ok(()) => Ok(Rewritten { count, changes }),
         Err(_) => Err(CanonicalFault::Write),
     }
 }
 
-/// Writes the canonical form of a file with these changes, and returns its size in bytes. Without
-/// changes the form is the file, so nothing is allocated.
+/// Writes the canonical form of a file with these changes, and returns its size in bytes. Its records
+/// get these IDs. Without changes the form is the file, so nothing is allocated.
 #[tactic(auto, using(crate::proofs::Printed::wrote_same, crate::proofs::Printed::cut_same))]
 fn put_form<A: Allowance, W: Write>(
     memory: &A,
     file: &[u8],
+    given: &GivenIds,
     changes: Changes,
     file_out: &mut Counted<W>,
 ) -> Result<usize, CanonicalFault>
     requires short { length file.now ≤ most_bytes }
     requires good { HasNoFault file.now }
+    requires ids { HasIds file.now given.now }
     requires same { IsTrue (is_none changes) → IsCanonical file.now file.now }
     ensures done { IfOk result (WroteCanonical file.now W.contents file_out.old file_out.new) }
     ensures why { IfErr result (IsFaultOf file.now) }
@@ -104,7 +133,7 @@ fn put_form<A: Allowance, W: Write>(
     ensures short { result ≡ Err CanonicalFault.OutOfMemory → A.is_short memory.now }
 {
     if !changes.is_none() {
-        return put_canonical(memory, file, file_out);
+        return put_canonical_by(memory, file, given, file_out);
     }
     match put_all(file_out, file) {
         Ok(()) => Ok(file.len()),
@@ -112,12 +141,11 @@ fn put_form<A: Allowance, W: Write>(
     }
 }
 
-/// Returns the changes of a file when it is rewritten.
-fn changes_of<A: Allowance>(memory: &A, file: &[u8]) -> Result<Changes, CanonicalFault>
+/// Returns the IDs that the records of a file get when it is rewritten.
+fn ids_of<A: Allowance>(memory: &A, file: &[u8]) -> Result<GivenIds, CanonicalFault>
     requires { length file.now ≤ most_bytes }
-    ensures done { IfOk result (AreChanges file.now) }
-    ensures same { IfOk result (λ changes.
-        IsTrue (is_none changes) → IsCanonical file.now file.now) }
+    ensures ids { IfOk result (HasIds file.now) }
+    ensures given { IfOk result (λ given. AreGivenIn file.now given.ids.items given.seed) }
     ensures good { OnOk result (HasNoFault file.now) }
     ensures why { IfErr result (IsFaultOf file.now) }
     ensures writes_nothing { result ≢ Err CanonicalFault.Write }
@@ -126,8 +154,8 @@ fn changes_of<A: Allowance>(memory: &A, file: &[u8]) -> Result<Changes, Canonica
     if let Err(fault) = check_file(file) {
         return Err(CanonicalFault::BadFile(fault));
     }
-    match find_changes(memory, file) {
-        Ok(changes) => Ok(changes),
+    match give_ids_from(memory, file) {
+        Ok(given) => Ok(given),
         Err(_) => Err(CanonicalFault::OutOfMemory),
     }
 }

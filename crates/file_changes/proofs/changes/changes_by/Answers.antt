@@ -5,7 +5,7 @@ use Rattle.heap_model.specs.Store.{unique_ids}
 use Rattle.pdb_format.proofs.GoodFiles.{not_truncated}
 use Rattle.file_changes.specs.Changes.{HasFiller, IsInOrder}
 use Rattle.file_changes.proofs.Given.{ids_long, says_not, says_ids}
-use Rattle.file_changes.proofs.Canonicals.{are_changes, says_name}
+use Rattle.file_changes.proofs.Canonicals.{are_changes, same_form, says_name}
 use Rattle.file_changes.proofs.changes.changes_by.Goals as goal
 
 pub keeps_ids-requires-clause-count : goal.keeps_ids-requires-clause-count
@@ -17,8 +17,8 @@ has_name-requires c =
     let header = (not_truncated c.args.file.now c.requires.good).0 in
     omega arith
 
-pub returns : goal.returns
-returns c =
+pub returns-clause-changes : goal.returns-clause-changes
+returns-clause-changes c =
     let file = c.args.file.now in
     let ids = c.args.given.now.ids.items in
     let seed = c.args.given.now.seed in
@@ -30,3 +30,6 @@ returns c =
       name = says_name file c.has_name.result c.requires.good c.has_name.ensures;
       order = says_not c.is_in_order.result (IsInOrder file) c.is_in_order.ensures;
     })
+
+pub returns-clause-same : goal.returns-clause-same
+returns-clause-same c = same_form c.args.file.now c.args.given.now.ids.items c.args.given.now.seed _ c.requires.good c.requires.given (returns-clause-changes c)

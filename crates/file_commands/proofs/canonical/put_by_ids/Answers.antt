@@ -1,5 +1,5 @@
 use Rattle.file_commands.proofs.Printed.{flush_fails}
-use Rattle.file_commands.proofs.canonical.put_flushed.Goals as goal
+use Rattle.file_commands.proofs.canonical.put_by_ids.Goals as goal
 
 pub returns-in-Err-clause-write : goal.returns-in-Err-clause-write
 returns-in-Err-clause-write g c = λ _.
