@@ -1,10 +1,10 @@
 -- The number that a file with a fault has at the place of the fault, and the numbers that are allowed
 -- there.
-use Rattle.std.specs.Prelude.{ℕ, List, length, nat_lt, if◌then◌else◌}
-use Rattle.heap_model.specs.Bytes.{u32_at}
+use Rattle.std.specs.Prelude.{◌≡◌, ◌↔◌, ◌<◌, ◌≤◌, ◌⊎◌, ⊤, ℕ, Bool, true, false, List, length, slice_index, nat_lt, if◌then◌else◌}
+use Rattle.heap_model.specs.Bytes.{AreBytes, u32_at}
 use Rattle.heap_model.specs.DatabaseFields.{header_size}
-use Rattle.heap_model.specs.Database.{resources_in}
-use Rattle.heap_model.specs.Files.{entries_end}
+use Rattle.heap_model.specs.Database.{Entry, a_record, a_resource, resources_in, entry_count_in, entry_in, is_deleted}
+use Rattle.heap_model.specs.Files.{HasFault, entries_end}
 use Rattle.heap_model.specs.declared.file_fault.FileFault.{FileFault}
 use Rattle.heap_model.specs.declared.file_fault.FileFault.TheVariants.{Truncated, ChainedList, EmptyName, BadInfo, BadOffset}
 use Rattle.file_listing.specs.FaultLines.{fault_place}
@@ -28,3 +28,65 @@ damage_of file ChainedList = NotZero (found_at file ChainedList)
 damage_of file EmptyName = Zero
 damage_of file (BadInfo which) = InfoOutside (found_at file (BadInfo which)) (entries_end file) (length file)
 damage_of file (BadOffset index) = outside file (found_at file (BadOffset index))
+
+-- ---- the law of the allowed numbers
+
+-- the number at the place of a fault: the size of the file if it is truncated, the first byte of the
+-- name if that is empty, and the number of the field otherwise
+abbrev pub number_at : List ℕ → FileFault → ℕ
+number_at file Truncated = length file
+number_at file ChainedList = found_at file ChainedList
+number_at file EmptyName = slice_index file 0
+number_at file (BadInfo which) = found_at file (BadInfo which)
+number_at file (BadOffset index) = found_at file (BadOffset index)
+
+-- whether the fault is that of a deleted record
+abbrev pub is_deleted_record : Entry ℕ → Bool
+is_deleted_record (a_record attributes id at) = is_deleted attributes
+is_deleted_record (a_resource kind id at) = false
+
+abbrev pub is_of_deleted : List ℕ → FileFault → Bool
+is_of_deleted file Truncated = false
+is_of_deleted file ChainedList = false
+is_of_deleted file EmptyName = false
+is_of_deleted file (BadInfo which) = false
+is_of_deleted file (BadOffset index) = is_deleted_record (entry_in file index)
+
+-- a block may begin here
+abbrev pub IsBetween : (least most number : ℕ) → Type 0
+IsBetween least most number = (least ≤ number) × (number ≤ most)
+
+-- a number is allowed at the place of the fault, by what is printed of it
+abbrev pub Allows : Damage → (of_deleted : Bool) → ℕ → Type 0
+Allows (Short found least) of_deleted number = least ≤ number
+Allows (NotZero found) of_deleted number = number ≡ 0
+Allows Zero of_deleted number = IsBetween 1 255 number
+Allows (InfoOutside found least most) of_deleted number = (number ≡ 0) ⊎ IsBetween least most number
+Allows (RecordOutside found least most) of_deleted number = IsBetween least most number ⊎ ((number ≡ 0) × (of_deleted ≡ true))
+Allows (ResourceOutside found least most) of_deleted number = IsBetween least most number
+
+-- the number that is printed as the one found
+abbrev pub found_in : Damage → ℕ
+found_in (Short found least) = found
+found_in (NotZero found) = found
+found_in Zero = 0
+found_in (InfoOutside found least most) = found
+found_in (RecordOutside found least most) = found
+found_in (ResourceOutside found least most) = found
+
+-- the entry of the fault, if it is that of an entry, is one of the file
+abbrev pub IsOf : List ℕ → FileFault → Type 0
+IsOf file Truncated = ⊤
+IsOf file ChainedList = ⊤
+IsOf file EmptyName = ⊤
+IsOf file (BadInfo which) = ⊤
+IsOf file (BadOffset index) = index < entry_count_in file
+
+-- A file has the fault exactly if the number at its place isn't allowed there. That number is
+-- printed then.
+pub record IsExact (file : List ℕ) (fault : FileFault) : Type 0 where
+  pub exact : HasFault file fault ↔ (Allows (damage_of file fault) (is_of_deleted file fault) (number_at file fault) → ⊥)
+  pub found : HasFault file fault → found_in (damage_of file fault) ≡ number_at file fault
+
+abbrev pub DamagesAreExact : Type 0
+DamagesAreExact = (file : List ℕ) (fault : FileFault) → AreBytes file → IsOf file fault → IsExact file fault

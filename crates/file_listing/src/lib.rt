@@ -31,6 +31,7 @@ mod damage;
 mod entries;
 mod fault_lines;
 mod head;
+mod laws;
 mod listing;
 mod moments;
 mod needs;
@@ -38,6 +39,7 @@ mod parts;
 
 pub use damage::{Damage, damage_of};
 pub use fault_lines::{fault_place, put_fault};
+pub use laws::damages_are_exact;
 pub use listing::{ListFault, put_listing};
 pub use moments::utc_text;
 pub use needs::size_and_slots;
