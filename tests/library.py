@@ -323,6 +323,13 @@ class Calls:
         h = self.movable()
         self.line(f"lock {h}", "MemHandleLock", self.name(h), shown=lambda told: f" {told[1]}")
 
+    def lock_often(self):
+        """Locks a chunk as often as it can be, and once more."""
+        h = self.movable()
+        while (facts := self.facts(h)) and facts[2] < 14:
+            self.line(f"lock {h}", "MemHandleLock", self.name(h), shown=lambda told: f" {told[1]}")
+        self.line(f"lock {h}", "MemHandleLock", self.name(h), shown=lambda told: f" {told[1]}")
+
     def unlock(self):
         h = self.chunk(lambda size, owner, locks: 0 < locks < 15)
         self.line(f"unlock {h}", "MemHandleUnlock", self.name(h), shown=number)
@@ -427,8 +434,11 @@ class Calls:
         self.line(f"info {d} {block_word(sort)} {h}", "info_block", self.db(d), sort, binds=self.to_chunk(h))
 
     def import_file(self):
-        d, number_of = self.new_database(), self.rng.randint(1, len(self.files))
-        self.line(f"import {d} {number_of}", "import", self.files[number_of - 1], binds=self.to_database(d))
+        d, count = self.new_database(), len(self.files)
+        number_of = self.one_of(range(1, count + 1), (0, count + 1))
+        # (a number without a file stands for an empty one)
+        file = self.files[number_of - 1] if 1 <= number_of <= count else b""
+        self.line(f"import {d} {number_of}", "import", file, binds=self.to_database(d))
 
     def export(self):
         d = self.database()
@@ -665,6 +675,7 @@ class Calls:
             lambda: self.new("ptrnew", "MemPtrNew"): 4,
             self.free: 20,
             self.lock: 15,
+            self.lock_often: 1,
             self.unlock: 15,
             lambda: self.ask_chunk("size", "MemHandleSize"): 4,
             lambda: self.ask_chunk("owner", "MemHandleOwner"): 4,
