@@ -76,6 +76,16 @@ row_none row slot out h =
     let there = r.2 in
     elim out [ inl low ↦ absurd (omega arith) | inr more ↦ elim more [ inl high ↦ absurd (omega arith) | inr apart ↦ absurd (omega arith) ] ]
 
+-- no word of a row, by the words that its offset is after the first, where that is no less than how many there are
+pub row_no_index : (row : Row) (slot bytes index : ℕ) → (row.first ≤ slot → row.first + bytes ≡ slot) → (bytes % 4 ≡ 0 → 4 * index ≡ bytes) → row.count ≤ index → StandsIn (slots_in_row row.first row.count) slot → ⊥
+row_no_index row slot bytes index after whole high h =
+    let r = row_slot row.first row.count slot h in
+    let below = r.1 in
+    let there = r.2 in
+    let far = after (omega (arith, there)) in
+    let is = whole (omega (arith, there, far)) in
+    absurd (omega (arith, there, far, is, below, high))
+
 -- they are small
 pub record RowBounds (image : List ℕ) (row : Row) : Type 0 where
   pub ends : row.first + 4 * row.count ≤ length image
@@ -97,6 +107,25 @@ row_bounds image row t r =
     let few = slots_few image t.0 t.1 in
     let most = t.1.head.most in
     record { ends = omega (arith, inside, some); numbers = omega (arith, all, one, two, many, in_front, few); total = omega (arith, all, one, two, many, in_front); small = omega (arith, most) }
+
+-- a word of a row, by the words that its offset is after the first
+pub row_index : (image : List ℕ) (row : Row) (slot bytes index : ℕ) → IsTiled image → IsRow image row → (row.first ≤ slot → row.first + bytes ≡ slot) → (slot < row.first → row.first + bytes ≡ slot + 2 ^ 32) → (bytes % 4 ≡ 0 → 4 * index ≡ bytes) → (bytes % 4 ≢ 0 → 2 ^ 30 ≤ index) → index < row.count → StandsBehind image slot (row.before + index)
+row_index image row slot bytes index t r after wraps whole broken below =
+    let b = row_bounds image row t r in
+    let ends = b.ends in
+    let small = b.small in
+    elim (cases_lt 0 (bytes % 4)) [
+      | inl part ↦ let many = broken (λ none. absurd (omega (arith, none, part))) in absurd (omega (arith, many, below, ends, small))
+      | inr none ↦
+          let is = whole (omega (arith, none)) in
+          elim (cases_lt slot row.first) [
+            | inl low ↦ let far = wraps low in absurd (omega (arith, far, is, below, ends, small))
+            | inr high ↦
+                let far = after high in
+                let there : row.first + 4 * index ≡ slot = omega (arith, far, is) in
+                subst (λ (s : ℕ). StandsBehind image s (row.before + index)) there (row_slots image row index r below)
+          ]
+    ]
 
 pub row_small : (image : List ℕ) (row : Row) → IsTiled image → IsRow image row → row_end row < 2 ^ 32
 row_small image row t r = let b = row_bounds image row t r in let numbers = b.numbers in let small = b.small in omega (arith, numbers, small)

@@ -5,7 +5,7 @@ use Rattle.heap_model.specs.MoreTables.{gained_count}
 
 -- the entry of a block of an image
 abbrev pub entry_of : ℕ → ℕ
-entry_of block = block % 8192
+entry_of block = block % 16384
 
 -- no entry has a place
 abbrev pub KnowsNone : List ℕ → Type 0

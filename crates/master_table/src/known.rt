@@ -10,13 +10,14 @@ ghost use Rattle.heap_model.specs.Heap.{IsTablePlace};
 ghost use Rattle.master_table.specs.Table.{IsTiled};
 ghost use Rattle.master_table.specs.Known.{KnowsTables, KnowsNone, Remembers, IsWordOf, entry_of};
 
+use crate::distances::{distance, words};
 use chunk_format::{HEADER_SIZE, SLOT_SIZE, TABLE_LENGTH, first_next, live_fields};
 use heap_model::Place;
 use raw_region::Region;
 use std::marker::Model;
 
 /// The greatest number of tables that are remembered.
-const ENTRIES: usize = 8_192;
+const ENTRIES: usize = 16_384;
 
 /// An image is divided into blocks of this many bytes. The slots of a table of 15 lie in the block
 /// in which its body begins, and in the next one.
@@ -98,7 +99,7 @@ impl KnownTables {
     /// The first empty entry in which a table of a block may be.
     fn free_entry(&self, block: u32) -> Option<usize>
         requires { block < 2 ^ 31 }
-        ensures { IfSome result (λ entry. entry < 8192) }
+        ensures { IfSome result (λ entry. entry < 16384) }
     {
         for step in 0..=REACH {
             let entry = entry_of(block + step);
@@ -160,26 +161,6 @@ fn entry_of(block: u32) -> usize
     ensures below { result < ENTRIES }
 {
     block as usize % ENTRIES
-}
-
-/// Returns how far an offset is after a place. If it's before the place, the result is greater than
-/// the offset.
-#[inline(always)]
-fn distance(place: u32, at: u32) -> u32
-    ensures after { place ≤ at → place + result ≡ at }
-    ensures before { at < place → at < result }
-{
-    at.wrapping_sub(place)
-}
-
-/// Returns how many words a number of bytes is, or at least 2^30 if it isn't a whole number of
-/// words. It's a rotation, so that one comparison tests a range of whole words.
-#[inline(always)]
-fn words(bytes: u32) -> u32
-    ensures whole { bytes % 4 ≡ 0 → 4 * result ≡ bytes }
-    ensures broken { bytes % 4 ≢ 0 → 2 ^ 30 ≤ result }
-{
-    bytes / SLOT_SIZE + bytes % SLOT_SIZE * (1 << 30)
 }
 
 /// Returns whether the word at an offset is one of the 15 after the first word of a body. The place

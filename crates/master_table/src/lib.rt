@@ -8,6 +8,7 @@
 #![tactic(auto)]
 
 mod chain;
+mod distances;
 mod known;
 mod slots;
 mod table;

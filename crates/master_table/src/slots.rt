@@ -8,6 +8,7 @@ ghost use Rattle.heap_model.specs.Lending.{LendsABody};
 ghost use Rattle.heap_model.specs.Slots.{IsSlot, StandsBehind, StandsIn, slots_in_row, slots_total, is_chained};
 ghost use Rattle.master_table.specs.Table.{IsTiled, IsStart};
 
+use crate::distances::{distance, words};
 use chunk_format::{
     FRAME_SIZE, HEADER_SIZE, NEXT_SIZE, SLOT_SIZE, first_next, live_fields, slot_count,
 };
@@ -179,6 +180,7 @@ impl Row {
     }
 
     /// Returns how many slots come before the one at an offset in the list, if it is one of these.
+    /// One comparison tests all.
     #[inline]
     pub fn number(self, region: &Region, slot: u32) -> Option<u32>
         requires tiled { IsTiled region.now.bytes }
@@ -186,13 +188,11 @@ impl Row {
         ensures some { IfSome result (StandsBehind region.now.bytes slot) }
         ensures none { IfNone result (StandsIn (slots_in_row self.first self.count) slot → ⊥) }
     {
-        if slot < self.first || slot >= self.first + SLOT_SIZE * self.count {
+        let index = words(distance(self.first, slot));
+        if index >= self.count {
             return None;
         }
-        if (slot - self.first) % SLOT_SIZE != 0 {
-            return None;
-        }
-        Some(self.before + (slot - self.first) / SLOT_SIZE)
+        Some(self.before + index)
     }
 }
 

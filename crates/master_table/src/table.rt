@@ -93,9 +93,8 @@ pub fn resolve_known(region: &Region, known: &KnownTables, name: Name) -> Option
     resolve_further(region, known, name)
 }
 
-/// Returns the same for a name that is no slot of the first table. It is never inlined, so that its
-/// callers have only the code for the first table.
-#[inline(never)]
+/// Returns the same for a name that is no slot of the first table.
+#[inline(always)]
 fn resolve_further(region: &Region, known: &KnownTables, name: Name) -> Option<Place>
     requires accepted { HeapAccepted region.now.bytes }
     requires lent { LendsABody region.now }
@@ -111,6 +110,7 @@ fn resolve_further(region: &Region, known: &KnownTables, name: Name) -> Option<P
 
 /// Returns the same for a name that isn't in the entry of its block. It is never inlined, so that
 /// `resolve_further` saves no registers for it.
+#[cold]
 #[inline(never)]
 fn resolve_further_on(region: &Region, known: &KnownTables, name: Name) -> Option<Place>
     requires accepted { HeapAccepted region.now.bytes }
