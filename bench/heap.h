@@ -39,7 +39,7 @@ enum { CLASSES = 21 };
 enum { NEXT = 4, TABLE_SLOTS = 15 };
 
 /* How many tables are remembered at most, each by the block of so many bytes in which its body begins. */
-enum { KNOWN = 8192, BLOCK = 64, REACH = 7 };
+enum { KNOWN = 16384, BLOCK = 64, REACH = 7 };
 
 /* How many chunks of a list are looked at, at most, for one that a chunk grows over; and more than any list has. */
 enum { FEW_PROBES = 64, ALL_PROBES = 0x200000 };

@@ -76,6 +76,25 @@ pub fn resolve(region: &Region, name: Name) -> Option<Place>
     }
 }
 
+/// Returns the place that a slot holds, if the slot is in the first table, or in one that is in the
+/// entry of its block. None also if the slot is elsewhere. It calls no function, so a caller that
+/// ends with a call for all else saves no registers.
+#[inline(always)]
+pub fn resolve_near(region: &Region, known: &KnownTables, name: Name) -> Option<Place>
+    requires accepted { HeapAccepted region.now.bytes }
+    requires lent { LendsABody region.now }
+    requires knows { KnowsTables region.now.bytes known.now }
+    ensures { IfSome result (λ place. HoldsPlace region.now.bytes name.0 place.0) }
+{
+    if let Some(_) = Row::of(region).number(region, name.0) {
+        return place_in(region, name);
+    }
+    if known.has_slot(name.0) {
+        return place_in(region, name);
+    }
+    None
+}
+
 /// Returns the same as `resolve` for a heap whose further tables are remembered. It walks along the
 /// chain only if it finds the slot neither in the first table nor in a remembered one. It doesn't
 /// walk either if the word before the name is greater than any place.
@@ -87,32 +106,17 @@ pub fn resolve_known(region: &Region, known: &KnownTables, name: Name) -> Option
     ensures { MatchOption result (HoldsNothing region.now.bytes name.0)
         (λ place. HoldsPlace region.now.bytes name.0 place.0) }
 {
-    if let Some(_) = Row::of(region).number(region, name.0) {
-        return place_in(region, name);
+    match resolve_near(region, known, name) {
+        Some(place) => Some(place),
+        None => resolve_further(region, known, name),
     }
-    resolve_further(region, known, name)
 }
 
-/// Returns the same for a name that is no slot of the first table.
-#[inline(always)]
-fn resolve_further(region: &Region, known: &KnownTables, name: Name) -> Option<Place>
-    requires accepted { HeapAccepted region.now.bytes }
-    requires lent { LendsABody region.now }
-    requires knows { KnowsTables region.now.bytes known.now }
-    ensures { MatchOption result (HoldsNothing region.now.bytes name.0)
-        (λ place. HoldsPlace region.now.bytes name.0 place.0) }
-{
-    if known.has_slot(name.0) {
-        return place_in(region, name);
-    }
-    resolve_further_on(region, known, name)
-}
-
-/// Returns the same for a name that isn't in the entry of its block. It is never inlined, so that
-/// `resolve_further` saves no registers for it.
+/// Returns the same for a name whose place isn't found near. It is never inlined, so that its callers
+/// have only the code for what is near.
 #[cold]
 #[inline(never)]
-fn resolve_further_on(region: &Region, known: &KnownTables, name: Name) -> Option<Place>
+fn resolve_further(region: &Region, known: &KnownTables, name: Name) -> Option<Place>
     requires accepted { HeapAccepted region.now.bytes }
     requires lent { LendsABody region.now }
     requires knows { KnowsTables region.now.bytes known.now }

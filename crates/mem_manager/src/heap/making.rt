@@ -111,7 +111,7 @@ impl Heap {
     pub fn free(&mut self, name: Name) -> Result<(), Refusal>
         ensures { Does self.old (MemoryCall.Free name) (done_or_refused result) self.new }
     {
-        match self.space.in_slot(name) {
+        match self.space.in_near_slot(name) {
             Some(found) if found.owner != MANAGERS_OWNER => self.free_found(name, found),
             _ => self.free_other(name),
         }
