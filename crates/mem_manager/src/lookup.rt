@@ -56,29 +56,9 @@ fn is_fixed(space: &Space, known: &KnownNames, name: Name) -> bool
     }
 }
 
-/// Finds the chunk of a name. Refuses a chunk of the manager. Only the look-up of a slot that is near
-/// is in line.
+/// Finds the chunk of a name. Refuses a chunk of the manager.
 #[inline(always)]
 pub(crate) fn find(space: &Space, known: &KnownNames, name: Name) -> Result<Found, Refusal>
-    requires accepted { HeapAccepted space.now.bytes }
-    requires lent { LendsABody space.now }
-    requires known { KnowsHeld space.now.bytes known.now }
-    ensures found { IfOk result (IsFound space.now.bytes name.0) }
-    ensures callers { IfOk result (λ found. 1 ≤ found.owner) }
-    ensures none { OnErr result (callers_map space.now.bytes name.0 ≡ None) }
-    ensures refusal { IfErr result (λ refusal. refusal ≡ Refusal.InvalidHandle) }
-{
-    if let Some(found) = space.in_near_slot(name) {
-        return callers(found);
-    }
-    find_elsewhere(space, known, name)
-}
-
-/// The same for a chunk that no slot near has. It is never inlined, so that the code for those that
-/// are near saves few registers.
-#[cold]
-#[inline(never)]
-fn find_elsewhere(space: &Space, known: &KnownNames, name: Name) -> Result<Found, Refusal>
     requires accepted { HeapAccepted space.now.bytes }
     requires lent { LendsABody space.now }
     requires known { KnowsHeld space.now.bytes known.now }
@@ -104,25 +84,6 @@ pub(crate) fn find_again(
     known: &mut KnownNames,
     name: Name,
 ) -> Result<Found, Refusal>
-    requires accepted { HeapAccepted space.now.bytes }
-    requires lent { LendsABody space.now }
-    requires known { KnowsHeld space.now.bytes known.old }
-    ensures found { IfOk result (IsFound space.now.bytes name.0) }
-    ensures callers { IfOk result (λ found. 1 ≤ found.owner) }
-    ensures none { OnErr result (callers_map space.now.bytes name.0 ≡ None) }
-    ensures refusal { IfErr result (λ refusal. refusal ≡ Refusal.InvalidHandle) }
-    ensures remembered { KnowsHeld space.now.bytes known.new }
-{
-    if let Some(found) = space.in_near_slot(name) {
-        return callers(found);
-    }
-    find_elsewhere_again(space, known, name)
-}
-
-/// The same for a chunk that no slot near has.
-#[cold]
-#[inline(never)]
-fn find_elsewhere_again(space: &Space, known: &mut KnownNames, name: Name) -> Result<Found, Refusal>
     requires accepted { HeapAccepted space.now.bytes }
     requires lent { LendsABody space.now }
     requires known { KnowsHeld space.now.bytes known.old }

@@ -10,6 +10,7 @@ ghost use Rattle.mem_manager.specs.Replies.{number_or_refused, name_or_refused};
 use crate::bounds::check_range;
 use crate::heap::Heap;
 use crate::lookup::{check_here, find, name_at};
+use chunk_format::MANAGERS_OWNER;
 use heap_model::{Name, Place, Refusal};
 
 impl Heap {
@@ -19,6 +20,18 @@ impl Heap {
     ///
     /// - `InvalidHandle`: no chunk has the name, or the manager owns the chunk.
     pub fn size(&self, name: Name) -> Result<u32, Refusal>
+        ensures { Does self.now (MemoryCall.Size name) (number_or_refused result) self.now }
+    {
+        match self.space.in_near_slot(name) {
+            Some(found) if found.owner != MANAGERS_OWNER => Ok(found.length),
+            _ => self.size_other(name),
+        }
+    }
+
+    /// Returns the size of the chunk of any name, or refuses. It is a function of its own, so that
+    /// only what the chunk of a slot near needs is in line.
+    #[inline(never)]
+    fn size_other(&self, name: Name) -> Result<u32, Refusal>
         ensures { Does self.now (MemoryCall.Size name) (number_or_refused result) self.now }
     {
         let found = find(&self.space, &self.known, name)?;
