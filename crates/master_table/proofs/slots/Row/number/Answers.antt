@@ -1,4 +1,4 @@
-use Rattle.std.proofs.Common.{◌≡◌, ◌≢◌, ◌%◌, ◌≤◌, arith, inl, inr}
+use Rattle.std.proofs.Common.{arith}
 use Rattle.master_table.proofs.RowLaws.{row_bounds, row_index, row_no_index}
 use Rattle.master_table.proofs.slots.Row.number.Goals as goal
 
