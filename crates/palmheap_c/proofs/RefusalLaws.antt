@@ -1,5 +1,5 @@
 -- The numbers of refusals.
-use Rattle.std.proofs.Common.{◌≡◌, ℕ, ◌≤◌, lit≤, refl, arith}
+use Rattle.std.proofs.Common.{◌≡◌, ◌≤◌, lit≤, refl, arith}
 use Rattle.heap_model.specs.Numbers.{number_of}
 use Rattle.heap_model.specs.declared.refusal.Refusal.{Refusal}
 use Rattle.heap_model.specs.declared.refusal.Refusal.TheVariants.{InvalidHandle, OwnedByDatabase, ChunkLocked, ChunkNotLocked, LockOverflow, ChunkFixed, InvalidOwner, NotEnoughSpace, OutOfBounds, NoSuchDatabase, NotRecordDatabase, NotResourceDatabase, ReadOnly, IndexOutOfRange, RecordDeleted, RecordBusy, TooManyEntries, InvalidCategory, DuplicateId, UniqueIdNotFound, AlreadyExists, InvalidName, ResourceNotFound, NoInfoBlock, BadFile, OutOfMemory, Lent}

@@ -1,6 +1,6 @@
 -- The machine values of a `Kept`, a `Slot` and `Parts`. Assumes `Logic`.
 use Rattle.std.proofs.Common.{◌≡◌, ℕ, List, [], ◌∷◌, ◌++◌, refl, ap, ◌∙◌, subst}
-use mathlib.Core.Bool.{Bool, true, ◌&&◌}
+use mathlib.Core.Bool.{true, ◌&&◌}
 use lib.Dec.{T}
 use seplogic.Ra.Ura.{Ura}
 use mir.Syntax.{impl, tnil, dnil}

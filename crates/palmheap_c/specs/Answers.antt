@@ -1,5 +1,5 @@
 -- Faults as numbers, and the results for a file and for an image.
-use Rattle.std.specs.Prelude.{◌≡◌, ◌≢◌, ◌<◌, ◌≤◌, ◌⊎◌, ℕ, List, length}
+use Rattle.std.specs.Prelude.{◌≡◌, ◌<◌, ◌≤◌, ◌⊎◌, ℕ, List, length}
 use Rattle.allowance.specs.Refusals.{GrowthRefused}
 use Rattle.heap_model.specs.Store.{Accepted}
 use Rattle.heap_model.specs.Files as files

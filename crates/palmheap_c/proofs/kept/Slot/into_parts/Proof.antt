@@ -5,7 +5,6 @@ use mir.Syntax.{Fn}
 use mir.Raw.{raw as bare}
 use mir.Val.{Val, vptr}
 use base.Logic.{SProp, ent, emp, id⊢, never, fst∗}
-use base.Fml.{ftrue}
 use prog.Wp.{WpFn}
 use types.Logic.{sem}
 use contract.Monad.{fact, fact_i}
@@ -15,7 +14,7 @@ use types.Part.{whole, sub, agg}
 use types.Run.{stop, fld, of_opd, no_more, and_then, returns, enter}
 use types.ByLocal.{alloc_all, pass_all, free_all, look_at, get, get_in, sets}
 use denote.RattleType.{RattleType, owns}
-use denote.RawPtr.{Ptr, block_ptr, null_ptr, ptr_val, in_a_block}
+use denote.RawPtr.{Ptr, block_ptr, null_ptr, in_a_block}
 use denote.Memory.{lone}
 use denote.Signature.{types_at, plain}
 use denote.Steps.{nothing, heard}
