@@ -228,6 +228,37 @@ says 'a name that no database has' 1 'refused 10 NoSuchDatabase' 'Full: refused'
 is 'an exported file over a limit leaves nothing' '' "$(ls full files 2>/dev/null | grep -v :)"
 rm -r c.img files wanted.pdb other.pdb
 
+# another program drives a script: it sends a line, waits for its reply, and sends the next line
+mkfifo lines replies
+timeout 60 "$program" run a.img - c.img <lines >replies 2>complained &
+exec 3>lines 4<replies
+printf 'freebytes\n' >&3
+read -r reply <&4
+is 'the reply to the first line, before the second is sent' 'ok 96' "$reply"
+printf '# no call\nnew a 8 1\nsize a\n' >&3
+read -r reply <&4
+is 'the reply to a line that binds a label' ok "$reply"
+read -r reply <&4
+is 'the reply to a line with that label' 'ok 8' "$reply"
+is 'no image is written before the end' '' "$(ls c.img 2>/dev/null)"
+exec 3>&-
+wait $!
+is 'the status of a run that was driven' 0 $?
+exec 4<&-
+is 'the image of a run that was driven' 'ok size 128 slots 4 movable 1 fixed 0 free 80
+databases 0' "$("$program" check c.img)"
+rm lines replies complained c.img
+
+# the lines before a faulty line were run, and no image is written
+printf 'freebytes\nfrob\nfreebytes\n' >late.txt
+is 'a faulty line after another' 'ok 96
+line 2 UnknownCommand' "$("$program" run a.img - c.img <late.txt)"
+is 'no image after a faulty line' '' "$(ls c.img 2>/dev/null)"
+printf '# no call\nfreebytes\n\nsize a' >late.txt
+is 'the numbers of lines that run as they come' '2 ok 96
+4 refused 1 InvalidHandle' "$("$program" run --numbers a.img - c.img <late.txt)"
+rm late.txt c.img
+
 # memory that is refused is told, and nothing else: the more there is, the further a run gets
 "$program" new 16777208 4 large.img >printed
 told=0

@@ -5,8 +5,8 @@ ghost use Rattle.program_io.specs.Status.{status_of};
 
 use program_io::{InputFault, Status, report_fault, report_input_fault};
 
-/// The names of the standard streams, for reports of failures.
-pub(crate) const STANDARD_INPUT: &str = "standard input";
+/// The name of standard input, for reports of failures.
+pub const STANDARD_INPUT: &str = "standard input";
 
 /// The name of standard output, for reports of failures.
 pub const STANDARD_OUTPUT: &str = "standard output";
@@ -14,7 +14,7 @@ pub const STANDARD_OUTPUT: &str = "standard output";
 pub(crate) const STANDARD_ERROR: &str = "standard error";
 
 /// The word for standard input, or standard output, in place of a path.
-pub(crate) const STANDARD_STREAM: &str = "-";
+pub const STANDARD_STREAM: &str = "-";
 
 /// Reports on standard error why a command did not start, and returns the status.
 pub fn fail<R: Eprint>(rt: &R, status: Status) -> Status
@@ -25,7 +25,7 @@ pub fn fail<R: Eprint>(rt: &R, status: Status) -> Status
 }
 
 /// Reports on standard error why a file can't be read, and returns the status of the fault.
-pub(crate) fn fail_to_read<R: Eprint>(rt: &R, path: &str, fault: InputFault) -> Status
+pub fn fail_to_read<R: Eprint>(rt: &R, path: &str, fault: InputFault) -> Status
     ensures { result ≡ status_of fault }
 {
     report_input_fault(rt, path, fault);

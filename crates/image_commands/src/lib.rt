@@ -50,7 +50,7 @@ mod suggestions;
 pub use commands::{check_region_from, cmd_check, cmd_check_from, cmd_new, cmd_new_from};
 pub use documents::{check_json, list_json, report_document};
 pub use draw_command::{cmd_draw, cmd_draw_from, draw_region_from};
-pub use faults::{STANDARD_OUTPUT, fail};
+pub use faults::{STANDARD_INPUT, STANDARD_OUTPUT, STANDARD_STREAM, fail, fail_to_read};
 pub use file_listings::{canonical, list};
 pub use files::{
     read_file, read_file_or_input, read_files, read_image, report_left_files, write_file,

@@ -22,7 +22,7 @@ use std::io::Write;
 /// Does the call of a line, binds its label, prints its reply line and returns the file that it
 /// exports. Only an import or an export takes memory. It runs out of memory only if an allocation
 /// failed.
-pub(crate) fn do_line<A: Allowance, W: Write>(
+pub fn do_line<A: Allowance, W: Write>(
     memory: &A,
     store: &mut Store,
     names: &mut [Name],

@@ -1,1 +1,2 @@
+pub mod LiveEnds
 mod Printing

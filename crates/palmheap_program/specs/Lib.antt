@@ -1,2 +1,3 @@
+pub mod LiveRuns
 pub mod Runs
 pub use Rattle.heap_model.specs.Store

@@ -15,12 +15,16 @@ use Rattle.palm_text.specs.Output.{Puts}
 use Rattle.program_io.specs.declared.status.Status.{Status}
 use Rattle.program_io.specs.declared.status.Status.TheVariants.{Done, Refused, BadWords, ReadFault, WriteFault, NoMemory}
 
+-- the script is refused, and a line has the reason
+abbrev pub PutsScriptFault : {V : Type 0} → List ℕ → (V → Option (List ℕ)) → Writing V → Writing V → Bool → Type 0
+PutsScriptFault script contents old new ok = (fault : LineFault) × (read_script script ≡ Err fault) × PutsFault fault contents old new ok
+
 -- The image is not accepted, and the line for its first fault was written. Or it is accepted,
 -- but the script is refused, and a line has the reason.
 abbrev pub PutsRefusal : {V : Type 0} → (image script : List ℕ) → (V → Option (List ℕ)) → Writing V → Writing V → Bool → Type 0
 PutsRefusal image script contents old new ok =
     ((Accepted image → ⊥) × PutsBadImage image contents old new ok)
-    ⊎ (Accepted image × ((fault : LineFault) × (read_script script ≡ Err fault) × PutsFault fault contents old new ok))
+    ⊎ (Accepted image × PutsScriptFault script contents old new ok)
 
 -- The lines of a script were run, all of their text was written, and no write failed. Then the
 -- writer was flushed once, and `ok` is whether the flush succeeded. These are the files that the

@@ -12,6 +12,7 @@
 //! | module | does |
 //! |---|---|
 //! | `run_command` | the command `run`, over bytes: a script, run on an image |
+//! | `live_command` | the same for a script that is run while it is read |
 //! | `scripts` | the command `run`, over files |
 //! | `ending` | how a run of the program ends |
 //! | `meanings` | the command `explain` |
@@ -23,6 +24,7 @@
 
 mod documents;
 mod ending;
+mod live_command;
 mod meanings;
 mod requests;
 mod run_command;
@@ -31,6 +33,7 @@ mod stores;
 mod words;
 
 pub use ending::Ending;
+pub use live_command::{LiveEnd, run_live_region_from};
 pub use requests::run;
 pub use run_command::{cmd_run, cmd_run_from, run_region_from};
 pub use words::read_words;

@@ -3,22 +3,22 @@
 ghost use Rattle.std.specs.Prelude.{◌≡◌, ◌≢◌, ◌⊎◌, Ok, Err, IfOk, IfErr, OnOk, None, true, false};
 ghost use Rattle.heap_model.specs.Store.{Accepted};
 ghost use Rattle.script_lines.specs.Reading.{read_script};
-ghost use Rattle.palmheap_program.specs.Runs.{EndsEarly, EndsRun, PrintingFails, PutsRefusal, RunBreaksOffShort};
+ghost use Rattle.palmheap_program.specs.Runs.{EndsEarly, EndsRun, PrintingFails, PutsRefusal, PutsScriptFault, RunBreaksOffShort};
 ghost use Rattle.palmheap_program.specs.Runs.{RunsAndFlushes, RunsAndWrites, RunsScriptShort};
 ghost use Rattle.allowance.specs.Refusals.{GrowthRefused};
 
 use allowance::Allowance;
 use heap_model::Bytes;
 use image_commands::put_store;
-use image_faults::say_bad_image;
 use palm_script::{RunFault, Script, ScriptFault, run_from};
-use palm_store::{NotAStore, Store, StoreFault};
+use palm_store::Store;
 use palm_text::Counted;
 use program_io::{Status, say_line_fault};
 use raw_region::Region;
 use script_lines::parse_from;
 use std::alloc::Global;
 use std::io::Write;
+use store_commands::opened;
 
 /// Runs a script on an image. It prints the reply lines to `out`, and then writes the image to
 /// `image_out`. Last it puts the files that the script exports into `files`.
@@ -125,18 +125,34 @@ fn read<'a, A: Allowance, V: Write>(
     ensures memory { result ≡ Err Status.NoMemory → out.new ≡ out.old }
     ensures short { result ≡ Err Status.NoMemory → A.is_short memory.now }
 {
-    let store = match Store::check_from(memory, region) {
-        Ok(store) => store,
-        Err(
-            NotAStore {
-                fault: StoreFault::OutOfMemory,
-                ..
-            },
-        ) => return Err(Status::NoMemory),
-        Err(error) => return Err(say_bad_image(out, error.fault)),
-    };
+    match opened(memory, region, out) {
+        Ok(store) => match parsed(memory, script, out) {
+            Ok(script) => Ok((store, script)),
+            Err(status) => Err(status),
+        },
+        Err(status) => Err(status),
+    }
+}
+
+/// Returns the script of a text. If it is refused, prints why.
+fn parsed<'a, A: Allowance, V: Write>(
+    memory: &A,
+    script: &'a [u8],
+    out: &mut Counted<V>,
+) -> Result<Script<'a>, Status>
+    ensures script { IfOk result (λ lines. read_script script.now ≡ Ok lines) }
+    ensures silent { OnOk result (out.new ≡ out.old) }
+    ensures faults { IfErr result (λ status. (status ≡ Status.Refused)
+        ⊎ (status ≡ Status.WriteFault) ⊎ (status ≡ Status.NoMemory)) }
+    ensures refused { result ≡ Err Status.Refused
+        → PutsScriptFault script.now V.contents out.old out.new true }
+    ensures write { result ≡ Err Status.WriteFault
+        → PutsScriptFault script.now V.contents out.old out.new false }
+    ensures memory { result ≡ Err Status.NoMemory → out.new ≡ out.old }
+    ensures short { result ≡ Err Status.NoMemory → A.is_short memory.now }
+{
     match parse_from(memory, script) {
-        Ok(script) => Ok((store, script)),
+        Ok(script) => Ok(script),
         Err(fault) if fault.fault == ScriptFault::OutOfMemory => Err(Status::NoMemory),
         Err(fault) => Err(say_line_fault(memory, fault, out)),
     }

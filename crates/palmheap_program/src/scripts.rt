@@ -1,22 +1,26 @@
 //! The command `run`.
 
-ghost use Rattle.std.specs.Prelude.{◌≡◌, ◌≢◌, ◌⊎◌, IfErr, None, false};
+ghost use Rattle.std.specs.Prelude.{◌≡◌, ◌≢◌, ◌⊎◌, [], IfErr, None, false};
 
 use crate::ending::Ending;
+use crate::live_command::{LiveEnd, run_live_region_from};
 use crate::run_command::run_region_from;
 use heap_model::Bytes;
 use hints::{line_numbers, missing_files};
 use image_commands::{
-    STANDARD_OUTPUT, fail, looks_like_file, output_for_image, read_file_or_input, read_files,
-    read_image, report_left_files, suggest_checks, suggest_list, write_files,
+    STANDARD_INPUT, STANDARD_OUTPUT, STANDARD_STREAM, fail, fail_to_read, looks_like_file,
+    output_for_image, read_file, read_files, read_image, report_left_files, suggest_checks,
+    suggest_list, write_files,
 };
+use live_scripts::LiveInputs;
 use palm_text::Counted;
 use program_io::command_line::Shown;
 use program_io::{Noted, Status, report_outcome};
 use raw_region::Region;
-use reply_lines::Replies;
+use reply_lines::{LiveReplies, Replies};
 use script_lines::parse_from;
 use std::alloc::AllocError;
+use std::cell::Cell;
 use std::io;
 use std::io::{BufWriter, Input};
 use std::rt::Files;
@@ -32,8 +36,8 @@ pub(crate) struct RunPaths<'a> {
     pub(crate) out: &'a str,
 }
 
-/// Does the command `run`. It reads all input files before it checks the image. It writes the
-/// exported files last.
+/// Does the command `run`. It reads all input files before it checks the image, except a script on
+/// standard input, which it runs while it reads. It writes the exported files last.
 ///
 /// Then it reports on standard error which lines import a file that was not given, which given files
 /// look like images, and which exported files are from an earlier run.
@@ -65,9 +69,12 @@ fn run_paths<R: Files + Input + Print + Eprint + AllocGlobal>(
 ) -> Result<bool, Status>
     ensures { IfErr result (λ status. status ≢ Status.BadWords) }
 {
+    if paths.script == STANDARD_STREAM {
+        return run_live(rt, paths, has_numbers);
+    }
     let image = read_image(rt, paths.image)?;
     let is_file = looks_like_file(&image);
-    let script = read_file_or_input(rt, paths.script)?;
+    let script = read_file(rt, paths.script)?;
     let inputs = read_files(rt, paths.files)?;
     let numbers = if has_numbers {
         numbers_of(rt, script.as_slice())?
@@ -86,14 +93,56 @@ fn run_paths<R: Files + Input + Print + Eprint + AllocGlobal>(
             return Err(status);
         }
     };
+    end_run(rt, paths, script.as_slice(), inputs.as_slice(), &replied)?;
+    Ok(replied.any_refused)
+}
+
+/// Does the same for the script on standard input, which is run while it is read.
+fn run_live<R: Files + Input + Print + Eprint + AllocGlobal>(
+    rt: &R,
+    paths: RunPaths<'_>,
+    has_numbers: bool,
+) -> Result<bool, Status>
+    ensures { IfErr result (λ status. status ≢ Status.BadWords) }
+{
+    let image = read_image(rt, paths.image)?;
+    let is_file = looks_like_file(&image);
+    let inputs = read_files(rt, paths.files)?;
+    let mut script = Vec::new(rt.alloc());
+    let given = LiveGiven {
+        files: inputs.as_slice(),
+        has_numbers,
+    };
+    let replied = match run_live_to(rt, image, given, &mut script, paths.out) {
+        Ok(replied) => replied,
+        Err(status) => {
+            suggest_list(rt, paths.image, status, is_file);
+            return Err(status);
+        }
+    };
+    end_run(rt, paths, script.as_slice(), inputs.as_slice(), &replied)?;
+    Ok(replied.any_refused)
+}
+
+/// Writes the exported files of a run. Then it reports which lines import a file that was not given,
+/// which given files look like images, and which exported files are from an earlier run.
+fn end_run<R: Files + Eprint + AllocGlobal>(
+    rt: &R,
+    paths: RunPaths<'_>,
+    script: &[u8],
+    inputs: &[Bytes],
+    replied: &Replied,
+) -> Result<(), Status>
+    ensures { IfErr result (λ status. status ≢ Status.BadWords) }
+{
     let status = write_files(rt, paths.out, replied.files.as_slice());
     if status != Status::Done {
         return Err(status);
     }
-    report_missing_files(rt, script.as_slice(), inputs.len());
-    suggest_checks(rt, paths.files, Status::Done, inputs.as_slice());
+    report_missing_files(rt, script, inputs.len());
+    suggest_checks(rt, paths.files, Status::Done, inputs);
     report_left_files(rt, paths.out, replied.files.len());
-    Ok(replied.any_refused)
+    Ok(())
 }
 
 /// Returns the numbers of the lines of a script that are run.
@@ -187,5 +236,65 @@ fn run_to<R: Files + Print + Eprint + AllocGlobal>(
         Ok(Replied { files, any_refused })
     } else {
         Err(status)
+    }
+}
+
+/// The files of a script that is run while it is read, and whether its replies get numbers.
+#[derive(Clone, Copy)]
+struct LiveGiven<'a> {
+    files: &'a [Bytes],
+    has_numbers: bool,
+}
+
+/// Runs the script on standard input on an image, and writes the new image. `script` gets the text
+/// of the script. A PDB or PRC file isn't replaced. If it fails, standard error has the reason.
+fn run_live_to<R: Files + Input + Print + Eprint + AllocGlobal>(
+    rt: &R,
+    image: Region,
+    given: LiveGiven<'_>,
+    script: &mut Vec<u8>,
+    path: &str,
+) -> Result<Replied, Status>
+    requires whole { image.lent ≡ None }
+    requires none { script.old.items ≡ [] }
+    ensures { IfErr result (λ status. status ≢ Status.BadWords) }
+{
+    let Ok(out) = BufWriter::new(rt.alloc(), Noted::new(io::writer(rt))) else {
+        return Err(fail(rt, Status::NoMemory));
+    };
+    let image_out = output_for_image(rt, path)?;
+    let number = Cell::new(0usize);
+    let mut image_out = Counted::new(Noted::new(image_out));
+    let mut out = Counted::new(LiveReplies::new(out, given.has_numbers, &number));
+    let inputs = LiveInputs {
+        files: given.files,
+        number: &number,
+    };
+    let result = run_live_region_from(
+        &rt.alloc(),
+        image,
+        &mut rt.reader(),
+        inputs,
+        script,
+        &mut image_out,
+        &mut out,
+    );
+    let (image_out, image_fault) = image_out.into_inner().into_parts();
+    image_out.close();
+    let LiveReplies {
+        writer,
+        any_refused,
+        ..
+    } = out.into_inner();
+    // After a fault, the bytes left in `writer` are thrown away. Dropping it would write again.
+    let (out, _) = writer.into_parts();
+    let (_, fault) = out.into_parts();
+    match result {
+        Ok(files) => Ok(Replied { files, any_refused }),
+        Err(LiveEnd::Unread(reason)) => Err(fail_to_read(rt, STANDARD_INPUT, reason)),
+        Err(LiveEnd::Ended(status)) => {
+            report_outcome(rt, status, &[(path, image_fault), (STANDARD_OUTPUT, fault)]);
+            Err(status)
+        }
     }
 }

@@ -450,6 +450,10 @@ If a line imports a FILE that was not given, it is refused, and standard error
 names it. A run replaces the files that it exports. If an earlier run exported
 more, its other files stay, and standard error names them.
 
+With '-' as SCRIPT the lines of standard input run as they come, so another
+program can wait for the reply of a line before it sends the next. A faulty
+line ends the run there: the replies stay, and no image is written.
+
 A script is a text of lines. Each is a call of the memory manager, on
 databases, on their records, their resources or their files, and prints 'ok'
 with what the call answers, or 'refused' with the number and the name of the

@@ -1,6 +1,7 @@
 //! Reading an input file.
 
 ghost use Rattle.std.specs.Prelude.{◌≡◌, ◌+◌, ◌++◌, ◌≤◌, ◌<◌, IfOk, OnOk, OnErr, IfSome, vec_len, length};
+ghost use Rattle.std.specs.Io.{StartsWith};
 ghost use Rattle.std.specs.Io.KnownBytes.{IsAtEnd, Keeps, prepend_known};
 ghost use Rattle.allowance.specs.Refusals.{GrowthRefused};
 
@@ -94,8 +95,15 @@ fn buffer<A: Allowance>(memory: &A, n: usize) -> Result<Vec<u8>, AllocError>
     zeros(memory, n)
 }
 
-/// Reads once, and appends the new bytes to `bytes`. Returns their number.
-fn read_turn<A: Allowance, R: Read>(
+/// Reads once, and appends the new bytes to `bytes`. Returns their number, which is 0 at the end.
+/// One read asks for at most the length of `turn`.
+///
+/// # Errors
+///
+/// - `Read`: if the read failed.
+/// - `TooLong`: if the bytes are more than `INPUT_LIMIT`.
+/// - `Memory`: if an allocation failed.
+pub fn read_turn<A: Allowance, R: Read>(
     memory: &A,
     reader: &mut R,
     turn: &mut [u8],
@@ -105,6 +113,7 @@ fn read_turn<A: Allowance, R: Read>(
     requires limit { vec_len bytes.old ≤ INPUT_LIMIT }
     ensures limit { OnOk result (vec_len bytes.new ≤ INPUT_LIMIT) }
     ensures count { IfOk result (λ n. vec_len bytes.new ≡ vec_len bytes.old + n) }
+    ensures front { OnOk result (StartsWith bytes.new.items bytes.old.items) }
     ensures kept { OnOk result (Keeps
         (prepend_known bytes.old.items (R.remaining reader.old))
         (prepend_known bytes.new.items (R.remaining reader.new))) }

@@ -4,6 +4,8 @@
 //! `specs/Replies.antt` defines what is written before a reply: start there.
 #![tactic(auto)]
 
+mod live;
 mod replies;
 
+pub use live::LiveReplies;
 pub use replies::Replies;

@@ -60,30 +60,10 @@ impl<'a, W: Write> Replies<'a, W> {
             self.put_number()?;
         }
         self.at_start = false;
-        self.put_line(bytes)
-    }
-
-    /// Writes bytes, up to the end of the first line at most. It returns the number of bytes
-    /// written.
-    #[tactic(auto, using(crate::proofs::Fronts::part_of))]
-    fn put_line(&mut self, bytes: &[u8]) -> io::Result<usize>
-        ensures bound { WritesAtMost result bytes.now }
-        ensures bytes { IfOk result (λ n. Appends (W.contents self.old.writer)
-            (W.contents self.new.writer) (take n bytes.now)) }
-        ensures numbers { self.new.numbers.now ≡ self.old.numbers.now }
-        ensures refused { self.new.any_refused ≡ self.old.any_refused }
-        ensures start { IfOk result (λ n. 0 < n → self.new.at_start ≡ ends_line (take n bytes.now)) }
-    {
-        let line = first_line(bytes);
-        let n = self.writer.write(line)?;
-        if n > 0 {
-            self.at_start = line[n - 1] == b'\n';
-        }
-        Ok(n)
+        put_line(&mut self.writer, &mut self.at_start, bytes)
     }
 
     /// Writes the number of the next reply, if there is one, and a space.
-    #[tactic(auto, using(crate::proofs::Fronts::both))]
     fn put_number(&mut self) -> io::Result<()>
         ensures text { OnOk result (Appends (W.contents self.old.writer) (W.contents self.new.writer)
             (number_text self.old.numbers.now)) }
@@ -91,19 +71,51 @@ impl<'a, W: Write> Replies<'a, W> {
         ensures start { self.new.at_start ≡ self.old.at_start }
         ensures refused { self.new.any_refused ≡ self.old.any_refused }
     {
-        let Some((number, left)) = self.numbers.split_first() else {
-            return Ok(());
-        };
-        let mut digits = Buffer::new();
-        self.writer.write_all(digits.format(*number).as_bytes())?;
-        self.writer.write_all(b" ")?;
-        self.numbers = left;
+        put_first(&mut self.writer, self.numbers)?;
+        if let Some((_, left)) = self.numbers.split_first() {
+            self.numbers = left;
+        }
         Ok(())
     }
 }
 
+/// Writes bytes, up to the end of the first line at most. It returns the number of bytes written. If
+/// there are any, `at_start` gets whether they end a line.
+#[tactic(auto, using(crate::proofs::Fronts::part_of))]
+pub(crate) fn put_line<W: Write>(
+    writer: &mut W,
+    at_start: &mut bool,
+    bytes: &[u8],
+) -> io::Result<usize>
+    ensures bound { WritesAtMost result bytes.now }
+    ensures bytes { IfOk result (λ n. Appends (W.contents writer.old) (W.contents writer.new)
+        (take n bytes.now)) }
+    ensures start { IfOk result (λ n. 0 < n → at_start.new ≡ ends_line (take n bytes.now)) }
+{
+    let line = first_line(bytes);
+    let n = writer.write(line)?;
+    if n > 0 {
+        *at_start = line[n - 1] == b'\n';
+    }
+    Ok(n)
+}
+
+/// Writes the first of these numbers, if there is one, and a space.
+#[tactic(auto, using(crate::proofs::Fronts::both))]
+pub(crate) fn put_first<W: Write>(writer: &mut W, numbers: &[usize]) -> io::Result<()>
+    ensures { OnOk result (Appends (W.contents writer.old) (W.contents writer.new)
+        (number_text numbers.now)) }
+{
+    let Some(number) = numbers.first() else {
+        return Ok(());
+    };
+    let mut digits = Buffer::new();
+    writer.write_all(digits.format(*number).as_bytes())?;
+    writer.write_all(b" ")
+}
+
 /// Returns whether a line with this first byte is a reply. Other lines report a fault.
-fn is_reply(first: u8) -> bool
+pub(crate) fn is_reply(first: u8) -> bool
     ensures { result ≡ words.is_reply first }
 {
     first == b'o' || first == b'r'

@@ -19,7 +19,7 @@ mod words;
 pub use command::{Command, CommandRow, find_command, make_line, row_of};
 pub use database_command::DatabaseCommand;
 pub use lent_bytes::LentBytes;
-pub use line::{ChunkLabel, DatabaseLabel, Line, LineCall, Script};
+pub use line::{ChunkLabel, DatabaseLabel, Line, LineCall, Script, label_ends};
 pub use memory_command::MemoryCommand;
 pub use record_command::RecordCommand;
 pub use resource_command::ResourceCommand;

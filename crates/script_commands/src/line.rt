@@ -73,7 +73,7 @@ impl<'a> Line<'a> {
     }
 
     /// Returns the number of bytes that the line's call gives.
-    fn byte_count(&self) -> usize
+    pub fn byte_count(&self) -> usize
         ensures { result ≡ counts.byte_count self.now }
     {
         match self {
@@ -190,8 +190,12 @@ impl<'a> Script<'a> {
 }
 
 /// Returns the number of the chunk label that a line binds, plus 1, and the same for a database
-/// label.
-fn label_ends<A: Allowance>(memory: &A, line: &Line<'_>) -> Result<(usize, usize), AllocError>
+/// label. Each is 0 if the line binds no label of that kind.
+///
+/// # Errors
+/// - `AllocError`: if the line binds the label `usize::MAX`. A table of that many labels can't be
+///   allocated.
+pub fn label_ends<A: Allowance>(memory: &A, line: &Line<'_>) -> Result<(usize, usize), AllocError>
     ensures chunk { IfOk result (λ ends. ends.0 ≡ counts.chunk_label_end line.now) }
     ensures database { IfOk result (λ ends. ends.1 ≡ counts.database_label_end line.now) }
     ensures short { OnErr result (A.is_short memory.now) }

@@ -12,7 +12,7 @@ use Rattle.script_lines.specs.Kinds.{WordsRead}
 -- the numbers that a table of labels has
 abbrev pub numbering : Labels → Numbering
 numbering labels = record {
-  number = λ word. get_by (λ key. slice_cmp nat_cmp word key.now) labels.numbers;
+  number = λ word. get_by (λ key. slice_cmp nat_cmp word key.items) labels.numbers;
   count = btree_map_len labels.numbers;
 }
 

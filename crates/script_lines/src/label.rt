@@ -1,4 +1,5 @@
-//! The labels of a script, numbered in the order in which they first appear.
+//! The labels of a script, numbered in the order in which they first appear. A table keeps the
+//! spelling of each label, so it outlives the text of the lines.
 
 ghost use Rattle.std.specs.Prelude.{◌≡◌, if◌then◌else◌, IfOk, OnErr, OnOk};
 ghost use Rattle.script_lines.specs.Numbering.{no_labels, label_number, with_label};
@@ -7,19 +8,19 @@ ghost use Rattle.script_lines.specs.Spellings as spellings;
 ghost use Rattle.script_lines.specs.Views.{numbering, numberings};
 
 use crate::spelling::is_label;
-use allowance::{Allowance, insert};
+use allowance::{Allowance, copied, insert};
 use std::alloc::{AllocError, Global};
 use std::collections::BTreeMap;
 
 /// The labels of one table that have appeared, each with its number.
 #[derive(Drop)]
-pub(crate) struct Labels<'a> {
-    numbers: BTreeMap<&'a [u8], usize>,
+pub struct Labels {
+    numbers: BTreeMap<Vec<u8>, usize>,
 }
 
-impl<'a> Labels<'a> {
+impl Labels {
     /// Returns a table of no labels.
-    pub fn new(alloc: Global) -> Labels<'a>
+    fn new(alloc: Global) -> Labels
         ensures { numbering result ≡ no_labels }
     {
         Labels {
@@ -28,28 +29,29 @@ impl<'a> Labels<'a> {
     }
 
     /// Returns the number of the label that a word spells. A new label takes the next number.
-    fn number<A: Allowance>(&mut self, memory: &A, word: &'a [u8]) -> Result<usize, AllocError>
+    fn number<A: Allowance>(&mut self, memory: &A, word: &[u8]) -> Result<usize, AllocError>
         ensures number { IfOk result (λ number.
             number ≡ label_number (numbering self.old) word.now) }
         ensures labels { OnOk result
             (numbering self.new ≡ with_label (numbering self.old) word.now) }
         ensures short { OnErr result (A.is_short memory.now) }
     {
-        if let Some(number) = self.numbers.get(&word) {
+        if let Some(number) = self.numbers.get(word) {
             return Ok(*number);
         }
         let number = self.numbers.len();
-        match insert(memory, &mut self.numbers, word, number) {
+        let label = copied(memory, word)?;
+        match insert(memory, &mut self.numbers, label, number) {
             Ok(_) => Ok(number),
             Err(error) => Err(error),
         }
     }
 
     /// The same as `number` if the word is a label, and otherwise `None`.
-    pub fn number_if_label<A: Allowance>(
+    pub(crate) fn number_if_label<A: Allowance>(
         &mut self,
         memory: &A,
-        word: &'a [u8],
+        word: &[u8],
     ) -> Result<Option<usize>, AllocError>
         ensures number { IfOk result (λ number. number ≡ if spellings.is_label word.now
             then Some (label_number (numbering self.old) word.now) else None) }
@@ -67,14 +69,14 @@ impl<'a> Labels<'a> {
 /// The two tables of labels: of chunks and of databases. If both have a label of the same spelling,
 /// it is two labels.
 #[derive(Drop)]
-pub(crate) struct LabelTables<'a> {
-    pub chunks: Labels<'a>,
-    pub databases: Labels<'a>,
+pub struct LabelTables {
+    pub chunks: Labels,
+    pub databases: Labels,
 }
 
-impl<'a> LabelTables<'a> {
-    /// Returns a table of no labels.
-    pub fn new(alloc: Global) -> LabelTables<'a>
+impl LabelTables {
+    /// Returns two tables of no labels.
+    pub fn new(alloc: Global) -> LabelTables
         ensures { numberings result ≡ none_numbered }
     {
         LabelTables {

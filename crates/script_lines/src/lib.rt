@@ -27,14 +27,17 @@ mod value;
 
 /// The lines, from `script_commands`.
 pub mod line {
-    pub use script_commands::{ChunkLabel, DatabaseLabel, LentBytes, Line, LineCall, Script};
+    pub use script_commands::{
+        ChunkLabel, DatabaseLabel, LentBytes, Line, LineCall, Script, label_ends,
+    };
 }
 
 pub use fault::{LineFault, ScriptFault};
+pub use label::LabelTables;
 pub use laws::{four_bytes_are_read_back, texts_are_read_back};
-pub use line::{ChunkLabel, DatabaseLabel, LentBytes, Line, LineCall, Script};
-pub use reading::{parse, parse_from};
+pub use line::{ChunkLabel, DatabaseLabel, LentBytes, Line, LineCall, Script, label_ends};
+pub use reading::{parse, parse_from, read_line};
 pub use spelling::{
     four_bytes_of, hex_byte_of, hex_of, hex_short_of, number_of, short_of, text_of,
 };
-pub use text::{LineCut, WordCut, count_words, cut_line, cut_word, is_passed_over};
+pub use text::{LineCut, WordCut, count_words, cut_ended_line, cut_line, cut_word, is_passed_over};

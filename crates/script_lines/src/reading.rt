@@ -22,7 +22,7 @@ fn read_values<'a, A: Allowance>(
     memory: &A,
     kinds: &[Kind],
     words: &'a [u8],
-    labels: &mut LabelTables<'a>,
+    labels: &mut LabelTables,
 ) -> Result<Values<'a>, ScriptFault>
     requires few { length kinds.now < 16 }
     requires whole { words_of words.now ≡ Ok (words_in words.now) }
@@ -59,7 +59,7 @@ fn read_command<'a, A: Allowance>(
     word: &[u8],
     words: &'a [u8],
     count: usize,
-    labels: &mut LabelTables<'a>,
+    labels: &mut LabelTables,
 ) -> Result<Line<'a>, ScriptFault>
     requires whole { words_of words.now ≡ Ok (words_in words.now) }
     requires count { count ≡ length (words_in words.now) }
@@ -83,11 +83,16 @@ fn read_command<'a, A: Allowance>(
     Ok(make_line(command, &values, bytes))
 }
 
-/// Reads a line from its text. Returns `None` if the line is passed over.
-fn read_line<'a, A: Allowance>(
+/// Reads a line from its text, and numbers its labels among those of the lines before it. Returns
+/// `None` if the line is passed over.
+///
+/// # Errors
+/// - `OutOfMemory`: if an allocation failed.
+/// - any other fault: if the line has it.
+pub fn read_line<'a, A: Allowance>(
     memory: &A,
     text: &'a [u8],
-    labels: &mut LabelTables<'a>,
+    labels: &mut LabelTables,
 ) -> Result<Option<Line<'a>>, ScriptFault>
     ensures ok { IfOk result (λ line. reading.read_line (numberings labels.old) text.now
         ≡ Ok (line_read line (numberings labels.new))) }

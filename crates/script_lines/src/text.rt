@@ -1,12 +1,12 @@
 //! The lines of a text, and the words of a line.
 
-ghost use Rattle.std.specs.Prelude.{◌≡◌, ◌<◌, ◌≤◌, ◌==◌, length, not};
+ghost use Rattle.std.specs.Prelude.{◌≡◌, ◌<◌, ◌≤◌, ◌==◌, IfSome, None, length, not};
 ghost use Rattle.std.specs.List.{position_or_len};
 ghost use Rattle.std.specs.Str.Lines.{strip_carriage_return};
 ghost use Rattle.script_lines.specs.Words as words;
 ghost use Rattle.script_lines.specs.Words.{words_of, word_count};
 ghost use Rattle.script_lines.specs.Cuts as cuts;
-ghost use Rattle.script_lines.specs.Cuts.{CutsLine, CutsWord};
+ghost use Rattle.script_lines.specs.Cuts.{CutsEndedLine, CutsLine, CutsWord, IsUnended};
 
 /// Reports whether a byte is a space or a tab.
 fn is_blank(byte: u8) -> bool
@@ -59,6 +59,22 @@ pub fn cut_line(text: &[u8]) -> LineCut<'_>
             rest,
         },
         None => LineCut { line, rest },
+    }
+}
+
+/// Cuts the first line off a text, if a line feed ends it, as `cut_line` does. More text may follow
+/// later: it comes after the rest.
+pub fn cut_ended_line(text: &[u8]) -> Option<LineCut<'_>>
+    ensures line { IfSome result (λ cut. CutsEndedLine text.now cut) }
+    ensures none { result ≡ None → IsUnended text.now }
+{
+    let (line, rest) = text.split_at(line_end(text));
+    match rest.split_first() {
+        Some((_, rest)) => Some(LineCut {
+            line: without_return(line),
+            rest,
+        }),
+        None => None,
     }
 }
 

@@ -84,7 +84,7 @@ impl<'a> Values<'a> {
         memory: &A,
         kind: Kind,
         word: &'a [u8],
-        labels: &mut LabelTables<'a>,
+        labels: &mut LabelTables,
     ) -> Result<bool, AllocError>
         ensures adds { IfOk result (λ is_of_kind.
             Adds (read_word (words_read self.old labels.old) kind word.now)

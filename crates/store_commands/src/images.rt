@@ -29,7 +29,7 @@ use std::io::Write;
 /// # Errors
 ///
 /// `Refused` if the image has a fault; `WriteFault`; `NoMemory`.
-pub(crate) fn opened<A: Allowance, V: Write>(
+pub fn opened<A: Allowance, V: Write>(
     memory: &A,
     region: Region,
     out: &mut Counted<V>,

@@ -26,4 +26,5 @@ pub use databases::{cmd_databases, cmd_databases_from, databases_region_from};
 pub use databases_json::{cmd_databases_json, cmd_databases_json_from, databases_json_region_from};
 pub use exports::{Ended, ExportedFile, export_files};
 pub use file_names::file_name;
+pub use images::opened;
 pub use imports::{ImageChoice, cmd_import, cmd_import_from};

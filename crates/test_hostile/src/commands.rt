@@ -140,10 +140,10 @@ static TRIALS: [(Trial, u32, Status); 13] = [
     (Trial::New(100), 0, Status::BadWords),
     (Trial::Check(DATABASE), 5, Status::Done),
     (Trial::Check(""), 0, Status::Refused),
-    (Trial::Run(BLANK, WRITTEN), 34, Status::Done),
+    (Trial::Run(BLANK, WRITTEN), 35, Status::Done),
     (
         Trial::Run(BLANK, "bind a 16\nbound a\n"),
-        9,
+        10,
         Status::Refused,
     ),
     (Trial::Run("00", WRITTEN), 1, Status::Refused),

@@ -740,13 +740,13 @@ fn labels_bytes_and_exports_are_counted(rt: HostRuntime) -> Result<(), Fail> {
     Ok(())
 }
 
-/// A script that takes each kind of memory, with how many growths: 6 lines, 3 labels and 14 values. Bytes, text and
-/// a type take none.
+/// A script that takes each kind of memory, with how many growths: 6 lines, 3 labels, which take two each, and 14
+/// values. Bytes, text and a type take none.
 const EACH_GROWTH: &str =
     "new a 8 1\nwrite a 0 4142\nstrcopy a 0 \"x\"\nstrcopy b 0 x:79\nfreebytes\n\
     create a \"N\" \"DATA\" x:54657374 0 0";
 
-const GROWTHS: u32 = 23;
+const GROWTHS: u32 = 26;
 
 const REFUSED: LineFault = LineFault {
     line: 0,

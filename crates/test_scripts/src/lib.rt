@@ -27,6 +27,8 @@ mod grammar;
 #[cfg(test)]
 mod large;
 #[cfg(test)]
+mod live;
+#[cfg(test)]
 mod migration;
 #[cfg(test)]
 mod moving;

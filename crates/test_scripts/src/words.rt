@@ -66,7 +66,7 @@ fn shown(alloc: Global, request: &Request) -> Result<String, AllocError> {
 
 /// Words, and how what comes of them begins, and what stands in it: commands, words that are refused,
 /// and help.
-static CASES: [(&str, &str, &str); 68] = [
+static CASES: [(&str, &str, &str); 70] = [
     ("palmheap new 128 4 a.img", "new 128 4 a.img\n", ""),
     (
         "palmheap new 4294967295 65535 --  -a",
@@ -144,6 +144,11 @@ static CASES: [(&str, &str, &str); 68] = [
     (
         "palmheap run - calls.txt b.img",
         "run - calls.txt b.img []\n",
+        "",
+    ),
+    (
+        "palmheap run a.img - b.img memo.pdb",
+        "run a.img - b.img [\"memo.pdb\"]\n",
         "",
     ),
     (
@@ -308,6 +313,11 @@ static CASES: [(&str, &str, &str); 68] = [
         "Usage: palmheap run [OPTIONS] <IMAGE> <SCRIPT> <OUT> [FILE]...",
     ),
     ("palmheap run --help", "0 ", "strcopy A AT \"TEXT\""),
+    (
+        "palmheap run --help",
+        "0 ",
+        "With '-' as SCRIPT the lines of standard input run as they come",
+    ),
     (
         "palmheap migrate --help",
         "0 ",

@@ -1,0 +1,2 @@
+pub mod SessionLaws
+pub mod TableLaws

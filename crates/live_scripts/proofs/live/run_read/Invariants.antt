@@ -1,0 +1,21 @@
+use Rattle.std.proofs.Common.{◌≡◌, ◌<◌, ◌≤◌, ◌-◌, cond, drop, length, take, true, vec_len}
+use Rattle.std.specs.Io.KnownBytes.{IsAtEnd, Keeps, prepend_known}
+use Rattle.script_lines.specs.Cuts.{IsUnended}
+use Rattle.live_scripts.specs.Sessions.{HasRun}
+use Rattle.live_scripts.proofs.live.run_read.Given as goal
+
+-- the lines before `at` were run
+abbrev pub invariant-loop-is_end : goal.invariant-loop-is_end
+invariant-loop-is_end g l = record {
+  has : HasRun (g.A.Allowance.is_short l.memory) g.W.Write.contents l.inputs.files.now (take l.at l.text.items) l.fn.store l.fn.out l.session l.store l.out;
+  within : l.at ≤ vec_len l.text;
+  limit : vec_len l.text ≤ 16777216;
+  count : l.session.count ≤ l.at;
+  kept : Keeps (g.R.Read.remaining l.fn.reader) (prepend_known l.text.items (g.R.Read.remaining l.reader));
+  room : 0 < length l.turn.items;
+  lent : l.store.lent ≡ l.fn.store.lent;
+  ended : l.is_end ≡ true → IsAtEnd (g.R.Read.remaining l.reader) × IsUnended (drop l.at l.text.items);
+}
+
+abbrev pub decreases-loop-is_end : goal.decreases-loop-is_end
+decreases-loop-is_end g l = cond l.is_end 0 (16777217 - vec_len l.text)

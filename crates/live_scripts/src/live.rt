@@ -1,0 +1,99 @@
+//! Reads a script, and runs its lines.
+
+ghost use Rattle.std.specs.Prelude.{◌≡◌, ◌<◌, [], Err, IfOk, IfErr, IfSome, OnOk, Some, length, true, false};
+ghost use Rattle.std.specs.Io.KnownBytes.{IsAtEnd};
+ghost use Rattle.palm_text.specs.Counted.{Flushes};
+ghost use Rattle.live_scripts.specs.Live.{ReadStops, RunsText};
+ghost use Rattle.live_scripts.specs.Sessions.{IsReadFault};
+
+use crate::ahead::read_ahead;
+use crate::fault::LiveFault;
+use crate::session::Session;
+use allowance::{Allowance, zeros};
+use heap_model::Bytes;
+use palm_store::Store;
+use palm_text::Counted;
+use program_io::{INPUT_LIMIT, InputFault};
+use std::cell::Cell;
+use std::io::{Read, Write};
+
+/// The greatest number of bytes that one read asks for.
+const TURN: usize = 65_536;
+
+/// What the lines of a script are run with.
+#[derive(Clone, Copy)]
+pub struct LiveInputs<'a> {
+    /// The files that lines import.
+    pub files: &'a [Bytes],
+    /// Gets the number of each line before its reply line is written. Contracts say nothing of it.
+    pub number: &'a Cell<usize>,
+}
+
+/// Reads a script from a reader, runs its lines on a store, and prints their reply lines. It runs a
+/// line as soon as it has read it, and flushes `out` before it reads on and at the end. `text` gets
+/// the script. The result has the files that the lines export, in order.
+///
+/// # Errors
+/// - `Line`: if a line is faulty. It is the first faulty line of the script.
+/// - `Input`: if the script can't be read to its end, or is longer than `INPUT_LIMIT`.
+/// - `Memory`: if an allocation failed.
+/// - `Write`: if a write or a flush failed.
+///
+/// After an error, the lines before it were run.
+pub fn run_read<A: Allowance, R: Read, W: Write>(
+    memory: &A,
+    store: &mut Store,
+    reader: &mut R,
+    inputs: LiveInputs<'_>,
+    text: &mut Vec<u8>,
+    out: &mut Counted<W>,
+) -> Result<Vec<Bytes>, LiveFault>
+    requires none { text.old.items ≡ [] }
+    ensures ok { IfOk result (λ files. RunsText (A.is_short memory.now) W.contents
+        inputs.entry.files.now text.new.items store.old out.old store.new out.new files.items) }
+    ensures flushed { OnOk result (out.new.flushed ≡ Some true) }
+    ensures text { OnOk result (IfSome (R.remaining reader.old) (λ all. text.new.items ≡ all)) }
+    ensures end { OnOk result (IsAtEnd (R.remaining reader.new)) }
+    ensures lent { store.new.lent ≡ store.old.lent }
+    ensures fault { IfErr result (λ fault. ReadStops (A.is_short memory.now) W.contents
+        inputs.entry.files.now (R.remaining reader.old) store.old out.old fault store.new out.new) }
+    ensures too_long { result ≡ Err (LiveFault.Input InputFault.TooLong)
+        → IfSome (R.remaining reader.old) (λ all. INPUT_LIMIT < length all) }
+{
+    let Ok(mut turn) = zeros(memory, TURN) else {
+        return Err(LiveFault::Memory);
+    };
+    let mut session = Session::new(memory.allocator());
+    let mut at = 0;
+    let mut is_end = false;
+    while !is_end {
+        is_end = match read_ahead(memory, reader, turn.as_mut_slice(), text) {
+            Ok(is_end) => is_end,
+            Err(fault) => return Err(read_fault(fault)),
+        };
+        at += session.run_ended_lines(memory, store, &text[at..], inputs, out)?;
+        flush(out)?;
+    }
+    session.run_last_line(memory, store, &text[at..], inputs, out)?;
+    flush(out)?;
+    Ok(session.into_files())
+}
+
+/// Returns why a run ends, if its script can't be read.
+fn read_fault(fault: InputFault) -> LiveFault
+    ensures { IsReadFault fault result }
+{
+    match fault {
+        InputFault::Memory => LiveFault::Memory,
+        InputFault::Read(_) | InputFault::TooLong => LiveFault::Input(fault),
+    }
+}
+
+/// Flushes a writer.
+fn flush<W: Write>(out: &mut Counted<W>) -> Result<(), LiveFault>
+    ensures ok { OnOk result (Flushes W.contents out.old out.new true) }
+    ensures fault { IfErr result (λ fault. (fault ≡ LiveFault.Write)
+        × Flushes W.contents out.old out.new false) }
+{
+    out.flush().map_err(|_| LiveFault::Write)
+}

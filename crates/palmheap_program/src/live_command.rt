@@ -1,0 +1,123 @@
+//! The command `run`, if its script is run while it is read.
+
+ghost use Rattle.std.specs.Prelude.{◌≡◌, ◌≢◌, ◌<◌, [], Err, IfOk, IfErr, IfSome, None, length};
+ghost use Rattle.heap_model.specs.Store.{Accepted};
+ghost use Rattle.palmheap_program.specs.LiveRuns.{EndsAtLine, EndsEarlyLive, EndsLive, RunsLive};
+
+use allowance::Allowance;
+use heap_model::Bytes;
+use image_commands::put_store;
+use live_scripts::{LiveFault, LiveInputs, run_read};
+use palm_store::Store;
+use palm_text::Counted;
+use program_io::{INPUT_LIMIT, InputFault, Status, say_line_fault};
+use raw_region::Region;
+use script_lines::LineFault;
+use std::io::{Read, Write};
+use store_commands::opened;
+
+/// Why a run that reads its script was not done.
+#[derive(Clone, Copy, Debug)]
+pub enum LiveEnd {
+    /// The run ended with this status.
+    Ended(Status),
+    /// The script could not be read to its end. No allocation failed.
+    Unread(InputFault),
+}
+
+/// Reads a script from a reader, and runs its lines on an image in a region, each as soon as it is
+/// read. It prints the reply lines to `out`, and then writes the image to `image_out`. `script` gets
+/// the text of the script. The result has the files that the script exports.
+///
+/// If the image is refused, it prints its first fault, and reads nothing. At a faulty line it prints its
+/// number and its fault. The replies of the lines before it stay, and no image is written.
+pub fn run_live_region_from<A: Allowance, R: Read, W: Write, V: Write>(
+    memory: &A,
+    region: Region,
+    reader: &mut R,
+    inputs: LiveInputs<'_>,
+    script: &mut Vec<u8>,
+    image_out: &mut Counted<W>,
+    out: &mut Counted<V>,
+) -> Result<Vec<Bytes>, LiveEnd>
+    requires whole { region.lent ≡ None }
+    requires none { script.old.items ≡ [] }
+    ensures done { IfOk result (λ files. RunsLive (A.is_short memory.now)
+        region (R.remaining reader.old) script.new.items inputs.entry.files.now V.contents out.old out.new
+        W.contents image_out.old image_out.new files.items true) }
+    ensures ends { IfErr result (λ end. EndsLive (A.is_short memory.now)
+        region (R.remaining reader.old) script.new.items inputs.entry.files.now V.contents out.old out.new
+        W.contents image_out.old image_out.new end) }
+    ensures too_long { result ≡ Err (LiveEnd.Unread InputFault.TooLong)
+        → IfSome (R.remaining reader.old) (λ all. INPUT_LIMIT < length all) }
+    ensures good_words { result ≢ Err (LiveEnd.Ended Status.BadWords) }
+{
+    match opened(memory, region, out) {
+        Ok(store) => run_store(memory, store, reader, inputs, script, image_out, out),
+        Err(status) => Err(LiveEnd::Ended(status)),
+    }
+}
+
+/// Reads a script and runs its lines on a store. Then it writes the image.
+fn run_store<A: Allowance, R: Read, W: Write, V: Write>(
+    memory: &A,
+    mut store: Store,
+    reader: &mut R,
+    inputs: LiveInputs<'_>,
+    script: &mut Vec<u8>,
+    image_out: &mut Counted<W>,
+    out: &mut Counted<V>,
+) -> Result<Vec<Bytes>, LiveEnd>
+    requires whole { store.lent ≡ None }
+    requires accepted { Accepted store.bytes }
+    requires none { script.old.items ≡ [] }
+    ensures done { IfOk result (λ files. RunsLive (A.is_short memory.now)
+        store (R.remaining reader.old) script.new.items inputs.entry.files.now V.contents out.old out.new
+        W.contents image_out.old image_out.new files.items true) }
+    ensures ends { IfErr result (λ end. EndsLive (A.is_short memory.now)
+        store (R.remaining reader.old) script.new.items inputs.entry.files.now V.contents out.old out.new
+        W.contents image_out.old image_out.new end) }
+    ensures too_long { result ≡ Err (LiveEnd.Unread InputFault.TooLong)
+        → IfSome (R.remaining reader.old) (λ all. INPUT_LIMIT < length all) }
+    ensures good_words { result ≢ Err (LiveEnd.Ended Status.BadWords) }
+{
+    let files = match run_read(memory, &mut store, reader, inputs, script, out) {
+        Ok(files) => files,
+        Err(fault) => return Err(end_early(memory, fault, out)),
+    };
+    match put_store(image_out, &store) {
+        Ok(()) => Ok(files),
+        Err(_) => Err(LiveEnd::Ended(Status::WriteFault)),
+    }
+}
+
+/// Prints the line for a faulty line, if one ended a run, and returns how the run ended. If an
+/// allocation failed, it flushes the replies.
+fn end_early<A: Allowance, V: Write>(memory: &A, fault: LiveFault, out: &mut Counted<V>) -> LiveEnd
+    ensures ends { EndsEarlyLive (A.is_short memory.now) V.contents out.old out.new fault result }
+    ensures good_words { result ≢ LiveEnd.Ended Status.BadWords }
+{
+    match fault {
+        LiveFault::Line(fault) => LiveEnd::Ended(end_at_line(memory, fault, out)),
+        LiveFault::Input(fault) => LiveEnd::Unread(fault),
+        LiveFault::Memory => {
+            let _ = out.flush();
+            LiveEnd::Ended(Status::NoMemory)
+        }
+        LiveFault::Write => LiveEnd::Ended(Status::WriteFault),
+    }
+}
+
+/// Prints the line for a faulty line of a script. If an allocation failed, it flushes the replies.
+fn end_at_line<A: Allowance, V: Write>(memory: &A, fault: LineFault, out: &mut Counted<V>) -> Status
+    ensures ends { EndsAtLine (A.is_short memory.now) V.contents out.old out.new fault result }
+    ensures good_words { result ≢ Status.BadWords }
+{
+    match say_line_fault(memory, fault, out) {
+        Status::NoMemory => {
+            let _ = out.flush();
+            Status::NoMemory
+        }
+        status => status,
+    }
+}
