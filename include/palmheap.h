@@ -10,7 +10,7 @@
  * - Memory that a function writes does not overlap other memory that it is given.
  * - While a call runs, no other thread writes memory that the call is given, or reads memory that the call writes, and
  *   none uses the store of the call.
- * - 1 MiB of stack is left. No function is called from a signal handler.
+ * - 2 MiB of stack are left. No function is called from a signal handler.
  *
  * - A parameter x_len is the number of items of the array x. Sizes, counts of bytes and offsets are in bytes.
  * - The caller owns all memory that it passes, and the library keeps no pointer to it after the call. The library

@@ -98,8 +98,13 @@ gcc $flags $wraps "$top/tests/library_memory.c" "$static" -o "$room/plain.memory
     fail 'the test of memory was not built'
 "$room/plain.memory" >"$room/memory.txt" || { cat "$room/memory.txt"; fail 'a failed allocation does harm'; }
 # docs/C-LIBRARY.md says what stack is enough.
-(ulimit -s 1024 && "$room/plain.demo" "$room/memos.pdb" "$room/out" >/dev/null && "$room/plain.store" "$room/out") \
-    >/dev/null || fail 'the stack is too small'
+# shellcheck disable=SC2086
+gcc $flags "$top/tests/library_stack.c" "$static" -o "$room/plain.stack" || fail 'the test of the stack was not built'
+"$program" new 512 8 "$room/one.image" >/dev/null && "$program" migrate "$room/one.image" "$room/chain.image" >/dev/null ||
+    fail 'no images were made'
+(ulimit -s 2048 && "$room/plain.demo" "$room/memos.pdb" "$room/out" && "$room/plain.store" "$room/out" &&
+    "$room/plain.stack" "$room/one.image" && "$room/plain.stack" "$room/chain.image") >/dev/null ||
+    fail 'the stack is too small'
 # Only the functions of the header are visible.
 nm -D --defined-only "$room/lib/lib/libpalmheap.so" | awk '{ print $3 }' | grep -v '^palmheap_' && fail 'a name escapes'
 
