@@ -17,7 +17,7 @@ use Rattle.palmheap_program.specs.declared.live_command.LiveEnd.{LiveEnd}
 use Rattle.palmheap_program.specs.declared.live_command.LiveEnd.TheVariants as ends
 use Rattle.palmheap_program.specs.LiveRuns.{EndsAtLine, EndsEarlyLive, EndsLive, EndsLiveBy, LiveBreaksOff, PutsLiveRefusal, RunsLive, StopsLive, WantsMemory}
 
-module _ {W V short : Type 0} (region : Memory) (known : Option (List ℕ)) (script : List ℕ) (inputs : List (List ℕ)) (contents : V → Option (List ℕ)) (old new : Writing V) (image_contents : W → Option (List ℕ)) (image_old image_new : Writing W) where
+module _ {W V : Type 0} (short : Type 0) (region : Memory) (known : Option (List ℕ)) (script : List ℕ) (inputs : List (List ℕ)) (contents : V → Option (List ℕ)) (old new : Writing V) (image_contents : W → Option (List ℕ)) (image_old image_new : Writing W) where
   abbrev By : Status → Type 0
   By status = EndsLiveBy short region known script inputs contents old new image_contents image_old image_new status
 
@@ -86,15 +86,15 @@ at_line_said contents old new fault status other (inr (inl is)) said failed = in
 at_line_said contents old new fault status other (inr (inr is)) said failed = absurd (other is)
 
 -- a script that could not be read ends a run only by that fault
-pub unread_input : {W short : Type 0} (contents : W → Option (List ℕ)) (old new : Writing W) (fault : LiveFault) (end : LiveEnd) (reason : InputFault) → EndsEarlyLive short contents old new fault end → end ≡ ends.Unread reason → fault ≡ faults.Input reason
-unread_input contents old new (faults.Line fault) (ends.Ended status) reason early is = absurd cc
-unread_input contents old new (faults.Line fault) (ends.Unread other) reason early is = absurd early
-unread_input contents old new (faults.Input fault) (ends.Ended status) reason early is = absurd early
-unread_input contents old new (faults.Input fault) (ends.Unread other) reason (same, unchanged) is = cc
-unread_input contents old new faults.Memory (ends.Ended status) reason early is = absurd cc
-unread_input contents old new faults.Memory (ends.Unread other) reason early is = absurd early
-unread_input contents old new faults.Write (ends.Ended status) reason early is = absurd cc
-unread_input contents old new faults.Write (ends.Unread other) reason early is = absurd early
+pub unread_input : {W : Type 0} (short : Type 0) (contents : W → Option (List ℕ)) (old new : Writing W) (fault : LiveFault) (end : LiveEnd) (reason : InputFault) → EndsEarlyLive short contents old new fault end → end ≡ ends.Unread reason → fault ≡ faults.Input reason
+unread_input short contents old new (faults.Line fault) (ends.Ended status) reason early is = absurd cc
+unread_input short contents old new (faults.Line fault) (ends.Unread other) reason early is = absurd early
+unread_input short contents old new (faults.Input fault) (ends.Ended status) reason early is = absurd early
+unread_input short contents old new (faults.Input fault) (ends.Unread other) reason (same, unchanged) is = cc
+unread_input short contents old new faults.Memory (ends.Ended status) reason early is = absurd cc
+unread_input short contents old new faults.Memory (ends.Unread other) reason early is = absurd early
+unread_input short contents old new faults.Write (ends.Ended status) reason early is = absurd cc
+unread_input short contents old new faults.Write (ends.Unread other) reason early is = absurd early
 
 -- memory was short if a run ended for it
 pub stops_short : {W short : Type 0} (contents : W → Option (List ℕ)) (inputs : List (List ℕ)) (known : Option (List ℕ)) (old : Memory) (out : Writing W) (fault : LiveFault) (new : Memory) (out_after : Writing W) → ReadStops short contents inputs known old out fault new out_after → fault ≡ faults.Memory → short

@@ -1,6 +1,6 @@
 //! The command `run`, if its script is run while it is read.
 
-ghost use Rattle.std.specs.Prelude.{◌≡◌, ◌≢◌, ◌<◌, [], Err, IfOk, IfErr, IfSome, None, length};
+ghost use Rattle.std.specs.Prelude.{◌≡◌, ◌≢◌, ◌<◌, [], Err, IfOk, IfErr, IfSome, None, length, true};
 ghost use Rattle.heap_model.specs.Store.{Accepted};
 ghost use Rattle.palmheap_program.specs.LiveRuns.{EndsAtLine, EndsEarlyLive, EndsLive, RunsLive};
 

@@ -10,12 +10,13 @@ returns-in-Err-clause-ends g c =
     let contents = g.V.Write.contents in
     let known = g.R.Read.remaining c.args.reader.now in
     let inputs = c.args.inputs.files.now in
-    stopped c.args.store known c.run_read.new.text.items inputs contents c.args.out.now c.end_early.new.out g.W.Write.contents c.args.image_out.now c.args.image_out.now
+    let short = g.A.Allowance.is_short c.args.memory.now in
+    stopped short c.args.store known c.run_read.new.text.items inputs contents c.args.out.now c.end_early.new.out g.W.Write.contents c.args.image_out.now c.args.image_out.now
     c.run_read.new.store c.run_read.new.out c.in-Err.fault c.end_early.result c.requires.accepted c.in-Err.ensures.fault
     (stops_short contents inputs known c.args.store c.args.out.now c.in-Err.fault c.run_read.new.store c.run_read.new.out c.in-Err.ensures.fault) c.end_early.ensures.ends refl
 
 pub returns-in-Err-clause-too_long : goal.returns-in-Err-clause-too_long
-returns-in-Err-clause-too_long g c = λ is. c.run_read.ensures.too_long (c.in-Err.is ∙ ap Err (unread_input g.V.Write.contents c.run_read.new.out c.end_early.new.out c.in-Err.fault c.end_early.result TooLong c.end_early.ensures.ends (cc)))
+returns-in-Err-clause-too_long g c = λ is. c.run_read.ensures.too_long (c.in-Err.is ∙ ap Err (unread_input (g.A.Allowance.is_short c.args.memory.now) g.V.Write.contents c.run_read.new.out c.end_early.new.out c.in-Err.fault c.end_early.result TooLong c.end_early.ensures.ends (cc)))
 
 -- the image after all of the replies
 pub returns-in-Ok-put_store-clause-done : goal.returns-in-Ok-put_store-clause-done
@@ -28,19 +29,3 @@ returns-in-Ok-put_store-clause-done g c = record {
   accepted = search rules;
   written = c.in-Ok-put_store.ensures;
 }
-
-pub returns-in-Err-put_store-clause-ends : goal.returns-in-Err-put_store-clause-ends
-returns-in-Err-put_store-clause-ends g c =
-    by_write c.args.store (g.R.Read.remaining c.args.reader.now) c.run_read.new.text.items c.args.inputs.files.now g.V.Write.contents c.args.out.now c.run_read.new.out g.W.Write.contents c.args.image_out.now c.put_store.new.image_out WriteFault refl
-    (inr (inr (
-      c.in-Ok.files.items,
-      record {
-        before = c.requires.accepted;
-        whole = c.in-Ok.ensures.text;
-        region_after = c.run_read.new.store;
-        ran = c.in-Ok.ensures.ok;
-        flushed = c.in-Ok.ensures.flushed;
-        accepted = search rules;
-        written = c.in-Err-put_store.ensures;
-      },
-    )))
