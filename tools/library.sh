@@ -7,10 +7,12 @@
 # lib/pkgconfig/palmheap.pc. Needs rt, gcc, ld, objcopy and ar. The first call proves all crates below the library, one
 # after the other; a later call only what changed. The status is 1 if a step fails.
 set -e
-if [ $# != 1 ]; then
-    echo 'usage: tools/library.sh DIR' >&2
-    exit 2
-fi
+case $#$1 in
+    1 | 1-* | [!1]*)
+        echo 'usage: palmheap --library DIR' >&2
+        exit 2
+        ;;
+esac
 top=$(dirname -- "$(dirname -- "$(readlink -f -- "$0")")")
 mkdir -p -- "$1/include" "$1/lib/pkgconfig"
 to=$(readlink -f -- "$1")
