@@ -36,7 +36,7 @@ while IFS= read -r file; do
 done < <(find . -name out -prune -o -path ./allowance -prune -o '(' -name '*.rt' -o -name '*.antt' ')' -print)
 
 absent 'memory grows outside of allowance' \
-    'vec!\[in|format!\(in|with_capacity|Vec::from|String::from|Box::new|\.(extend_from_slice|reserve|collect|to_vec)\(' \
+    'vec!\[in|format!\(in|(Vec|String|Map|Set|Deque|Heap)::with_capacity|Vec::from|String::from|Box::new|\.(extend_from_slice|reserve|collect|to_vec)\(' \
     "${sources[@]}"
 absent 'allowance alone may cite its lemma' 'told_of_failure' "${proofs[@]}" "${sources[@]}"
 
