@@ -1,5 +1,5 @@
-//! Scripts that are run while they are read: each reply comes before the next read, and the replies
-//! before a fault stay.
+//! Scripts that are run while they are read: they may come in any parts, and the replies before a
+//! fault stay. `tests/program.sh` tests that each reply comes before the next read.
 
 use live_scripts::LiveInputs;
 use palm_text::Counted;
@@ -13,46 +13,24 @@ use std::test::Fail;
 use std::{io, str};
 use test_support::{BLANK, Narrow, RefusesOne, WhenFull, bytes_of, equal, holds};
 
-/// A part of a script that one read gives, after the replies that are flushed since the last read.
-type Part = (&'static str, &'static str);
-
-/// A reader of a script in parts. The end, or a failed read, comes after them.
+/// A reader of a script in parts: each read gives one. The end, or a failed read, comes after them.
 #[derive(Drop)]
-struct Parts<'a> {
-    parts: &'static [Part],
+struct Parts {
+    parts: &'static [&'static str],
+    /// The index of the part that the next read gives.
+    next: usize,
     fails: bool,
-    flushed: &'a Cell<usize>,
-    /// The number of bytes that are to be flushed before the next read.
-    wanted: usize,
-    /// Whether each read came after the replies that it waits for, and no others.
-    are_in_order: bool,
 }
 
-impl<'a> Parts<'a> {
-    fn new(parts: &'static [Part], fails: bool, flushed: &'a Cell<usize>) -> Parts<'a> {
-        Parts {
-            parts,
-            fails,
-            flushed,
-            wanted: 0,
-            are_in_order: true,
-        }
-    }
-}
-
-impl Read for Parts<'_> {
+impl Read for Parts {
     fn read(&mut self, buf: &mut [u8]) -> io::Result<usize> {
-        let Some(((replies, text), rest)) = self.parts.split_first() else {
+        let Some(text) = self.parts.get(self.next) else {
             if self.fails {
                 return Err(io::Error::from(ErrorKind::Interrupted));
             }
             return Ok(0);
         };
-        self.parts = rest;
-        self.wanted = self.wanted.saturating_add(replies.len());
-        if self.flushed.get() != self.wanted {
-            self.are_in_order = false;
-        }
+        self.next = self.next.saturating_add(1);
         let n = text.len().min(buf.len());
         buf[..n].copy_from_slice(&text.as_bytes()[..n]);
         Ok(n)
@@ -61,13 +39,13 @@ impl Read for Parts<'_> {
 
 /// A writer that counts the bytes that were flushed.
 #[derive(Drop)]
-struct Flushed<'a, W: Write> {
+struct Flushed<W: Write> {
     writer: W,
     taken: usize,
-    flushed: &'a Cell<usize>,
+    flushed: usize,
 }
 
-impl<W: Write> Write for Flushed<'_, W> {
+impl<W: Write> Write for Flushed<W> {
     fn write(&mut self, bytes: &[u8]) -> io::Result<usize> {
         let n = self.writer.write(bytes)?;
         self.taken = self.taken.saturating_add(n);
@@ -76,12 +54,12 @@ impl<W: Write> Write for Flushed<'_, W> {
 
     fn flush(&mut self) -> io::Result<()> {
         self.writer.flush()?;
-        self.flushed.set(self.taken);
+        self.flushed = self.taken;
         Ok(())
     }
 }
 
-/// What a run came to, what its writers have, and whether the reads came in order.
+/// What a run came to, and what its writers have.
 #[derive(Drop)]
 struct Ran {
     status: Status,
@@ -89,7 +67,6 @@ struct Ran {
     out: Narrow,
     /// The number of bytes of `out` that were flushed.
     flushed: usize,
-    are_in_order: bool,
 }
 
 /// The room of the writers of a run.
@@ -104,32 +81,39 @@ const ENOUGH: Room = Room {
     out: 4096,
 };
 
+/// A script in parts, whether a read fails after them, and what its lines are run with.
+#[derive(Clone, Copy)]
+struct Given<'a> {
+    parts: &'static [&'static str],
+    fails: bool,
+    inputs: LiveInputs<'a>,
+}
+
 fn run_parts(
     memory: &RefusesOne,
     alloc: Global,
     image: &[u8],
-    (parts, fails): (&'static [Part], bool),
+    given: Given<'_>,
     room: Room,
 ) -> Result<Ran, Fail> {
-    let (flushed, number) = (Cell::new(0usize), Cell::new(0usize));
-    let mut reader = Parts::new(parts, fails, &flushed);
+    let mut reader = Parts {
+        parts: given.parts,
+        next: 0,
+        fails: given.fails,
+    };
     let mut image_out = Counted::new(Narrow::new(alloc, room.image, 4096, WhenFull::TakesNothing));
     let mut out = Counted::new(Flushed {
         writer: Narrow::new(alloc, room.out, 4096, WhenFull::TakesNothing),
         taken: 0,
-        flushed: &flushed,
+        flushed: 0,
     });
     let mut script = Vec::new(alloc);
-    let inputs = LiveInputs {
-        files: &[],
-        number: &number,
-    };
     let region = Region::copied_from(&alloc, image)?;
     let result = run_live_region_from(
         memory,
         region,
         &mut reader,
-        inputs,
+        given.inputs,
         &mut script,
         &mut image_out,
         &mut out,
@@ -139,18 +123,22 @@ fn run_parts(
         Err(LiveEnd::Ended(status)) => status,
         Err(LiveEnd::Unread(fault)) => Status::from(fault),
     };
+    let Flushed {
+        writer,
+        flushed,
+        ..
+    } = out.into_inner();
     Ok(Ran {
         status,
         image: image_out.into_inner(),
-        out: out.into_inner().writer,
-        flushed: flushed.get(),
-        are_in_order: reader.are_in_order,
+        out: writer,
+        flushed,
     })
 }
 
 /// A script in parts, whether a read fails after them, and what its run comes to and prints.
 struct Case {
-    parts: &'static [Part],
+    parts: &'static [&'static str],
     fails: bool,
     status: Status,
     out: &'static str,
@@ -159,43 +147,33 @@ struct Case {
 /// Runs on a blank image of 128 bytes and four slots.
 static CASES: [Case; 12] = [
     Case {
-        parts: &[
-            ("", "freebytes\n"),
-            ("ok 96\n", "# no call\nnew a 8 1\nsize a\n"),
-            ("ok\nok 8\n", ""),
-        ],
+        parts: &["freebytes\n", "# no call\nnew a 8 1\nsize a\n", ""],
         fails: false,
         status: Status::Done,
         out: "ok 96\nok\nok 8\n",
     },
     // a line that comes in several reads, and a part with an end and a beginning
     Case {
-        parts: &[
-            ("", "free"),
-            ("", "byt"),
-            ("", "es\nnew a"),
-            ("ok 96\n", " 8 1\n"),
-            ("ok\n", ""),
-        ],
+        parts: &["free", "byt", "es\nnew a", " 8 1\n", ""],
         fails: false,
         status: Status::Done,
         out: "ok 96\nok\n",
     },
     // the last line has no line feed
     Case {
-        parts: &[("", "new a 8 1\nsize a"), ("ok\n", "")],
+        parts: &["new a 8 1\nsize a", ""],
         fails: false,
         status: Status::Done,
         out: "ok\nok 8\n",
     },
     Case {
-        parts: &[("", "new a 8 1\r\nsize a\r\n"), ("ok\nok 8\n", "")],
+        parts: &["new a 8 1\r\nsize a\r\n", ""],
         fails: false,
         status: Status::Done,
         out: "ok\nok 8\n",
     },
     Case {
-        parts: &[("", "freebytes\n"), ("ok 96\n", "freebytes\r")],
+        parts: &["freebytes\n", "freebytes\r"],
         fails: false,
         status: Status::Refused,
         out: "ok 96\nline 2 UnknownCommand\n",
@@ -207,41 +185,33 @@ static CASES: [Case; 12] = [
         out: "",
     },
     Case {
-        parts: &[("", "\n\n# no call\n")],
+        parts: &["\n\n# no call\n"],
         fails: false,
         status: Status::Done,
         out: "",
     },
     // a faulty line among others
     Case {
-        parts: &[
-            ("", "freebytes\n\nfreebytes\nfrob\nfreebytes\n"),
-            ("", "freebytes\n"),
-        ],
+        parts: &["freebytes\n\nfreebytes\nfrob\nfreebytes\n", "freebytes\n"],
         fails: false,
         status: Status::Refused,
         out: "ok 96\nok 96\nline 4 UnknownCommand\n",
     },
     Case {
-        parts: &[("", "freebytes\n"), ("ok 96\n", "size a\nsize\n")],
+        parts: &["freebytes\n", "size a\nsize\n"],
         fails: false,
         status: Status::Refused,
         out: "ok 96\nrefused 1 InvalidHandle\nline 3 WrongCount\n",
     },
     // labels are bound over reads, and a refused line binds none
     Case {
-        parts: &[
-            ("", "bind a 32\n"),
-            ("refused 1 InvalidHandle\n", "new a 8 1\n"),
-            ("ok\n", "new a 88 1\nsize a\n"),
-            ("refused 8 NotEnoughSpace\nok 8\n", ""),
-        ],
+        parts: &["bind a 32\n", "new a 8 1\n", "new a 88 1\nsize a\n", ""],
         fails: false,
         status: Status::Done,
         out: "refused 1 InvalidHandle\nok\nrefused 8 NotEnoughSpace\nok 8\n",
     },
     Case {
-        parts: &[("", "freebytes\n"), ("ok 96\n", "freebytes")],
+        parts: &["freebytes\n", "freebytes"],
         fails: true,
         status: Status::ReadFault,
         out: "ok 96\n",
@@ -254,11 +224,20 @@ static CASES: [Case; 12] = [
     },
 ];
 
-/// The run of a case: its status, its replies, the order of its reads, and whether it wrote an image.
+/// The run of a case: its status, its replies, and whether it wrote an image.
 fn check_case(alloc: Global, number: usize, case: &Case) -> Result<(), Fail> {
     let image = bytes_of(alloc, BLANK)?;
     let memory = RefusesOne::behind(alloc, 4096);
-    let ran = run_parts(&memory, alloc, &image, (case.parts, case.fails), ENOUGH)?;
+    let line = Cell::new(0usize);
+    let given = Given {
+        parts: case.parts,
+        fails: case.fails,
+        inputs: LiveInputs {
+            files: &[],
+            number: &line,
+        },
+    };
+    let ran = run_parts(&memory, alloc, &image, given, ENOUGH)?;
     equal(
         number,
         (ran.status, str::from_utf8(&ran.out.taken)?),
@@ -266,12 +245,12 @@ fn check_case(alloc: Global, number: usize, case: &Case) -> Result<(), Fail> {
     )?;
     holds(
         format_args!("case {number}"),
-        ran.are_in_order && ran.image.taken.is_empty() == (case.status != Status::Done),
+        ran.image.taken.is_empty() == (case.status != Status::Done),
     )
 }
 
 #[test]
-fn each_reply_comes_before_the_next_read(rt: HostRuntime) -> Result<(), Fail> {
+fn parts_are_run_as_they_come(rt: HostRuntime) -> Result<(), Fail> {
     for (number, case) in CASES.iter().enumerate() {
         check_case(rt.alloc(), number, case)?;
     }
@@ -279,11 +258,7 @@ fn each_reply_comes_before_the_next_read(rt: HostRuntime) -> Result<(), Fail> {
 }
 
 /// A script of three lines in two parts, and its replies.
-const DRIVEN: &[Part] = &[
-    ("", "freebytes\n"),
-    ("ok 96\n", "new a 8 1\nsize a\n"),
-    ("ok\nok 8\n", ""),
-];
+const DRIVEN: &[&str] = &["freebytes\n", "new a 8 1\nsize a\n", ""];
 
 const REPLIES: &str = "ok 96\nok\nok 8\n";
 
@@ -294,7 +269,16 @@ const IMAGE: usize = 128;
 fn check_room(alloc: Global, room: Room) -> Result<(), Fail> {
     let image = bytes_of(alloc, BLANK)?;
     let memory = RefusesOne::behind(alloc, 4096);
-    let ran = run_parts(&memory, alloc, &image, (DRIVEN, false), room)?;
+    let line = Cell::new(0usize);
+    let given = Given {
+        parts: DRIVEN,
+        fails: false,
+        inputs: LiveInputs {
+            files: &[],
+            number: &line,
+        },
+    };
+    let ran = run_parts(&memory, alloc, &image, given, room)?;
     equal(room.out, ran.status, Status::WriteFault)?;
     let is_cut = if room.out < REPLIES.len() {
         ran.out.is_cut_at(room.out) && ran.image.taken.is_empty()
@@ -324,7 +308,16 @@ fn nothing_is_written_after_a_failed_write(rt: HostRuntime) -> Result<(), Fail> 
 fn is_refused(alloc: Global, before: u32) -> Result<bool, Fail> {
     let image = bytes_of(alloc, BLANK)?;
     let memory = RefusesOne::behind(alloc, before);
-    let ran = run_parts(&memory, alloc, &image, (DRIVEN, false), ENOUGH)?;
+    let line = Cell::new(0usize);
+    let given = Given {
+        parts: DRIVEN,
+        fails: false,
+        inputs: LiveInputs {
+            files: &[],
+            number: &line,
+        },
+    };
+    let ran = run_parts(&memory, alloc, &image, given, ENOUGH)?;
     let is_refused = memory.has_refused();
     let wanted = if is_refused {
         Status::NoMemory
