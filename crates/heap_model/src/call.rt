@@ -9,7 +9,7 @@ use crate::refusal::Refusal;
 /// A call of the memory manager (Palm OS Programmer's API Reference, "Memory Manager"). `C` is how
 /// the call gives its chunk: by its name, unless another type is given. `B` is how it gives its
 /// bytes: as bytes of its own, likewise. Sizes and offsets within a chunk count bytes.
-#[derive(Drop, Debug, PartialEq, Eq)]
+#[derive(Drop, Debug)]
 pub enum MemoryCall<C = Name, B = Bytes> {
     HandleNew {
         size: u32,
@@ -66,7 +66,7 @@ pub enum MemoryCall<C = Name, B = Bytes> {
 /// A call on the databases of a store (Palm OS Programmer's API Reference, "Data Manager"). `C` is
 /// how the call gives its chunk: by its name, unless another type is given. `D` is how it gives its
 /// database: by its number, likewise.
-#[derive(Drop, Debug, PartialEq, Eq)]
+#[derive(Drop, Debug)]
 pub enum DatabaseCall<C = Name, D = Db> {
     Create {
         name: DbName,
@@ -104,7 +104,7 @@ pub enum DatabaseCall<C = Name, D = Db> {
 
 /// A call on the records of a database (Palm OS Programmer's API Reference, "Data Manager"). `C`
 /// and `D` are those of `DatabaseCall`. Records are counted from 0.
-#[derive(Drop, Debug, PartialEq, Eq)]
+#[derive(Drop, Debug)]
 pub enum RecordCall<C = Name, D = Db> {
     /// Makes a record of `size` bytes at an index. If the index is beyond the end, the record comes
     /// last.
@@ -193,7 +193,7 @@ pub enum RecordCall<C = Name, D = Db> {
 /// A call on the resources of a database (Palm OS Programmer's API Reference, "Data Manager"). `C`
 /// and `D` are those of `DatabaseCall`. Resources are counted from 0; a new one comes after all
 /// others. Two resources may have the same type and id.
-#[derive(Drop, Debug, PartialEq, Eq)]
+#[derive(Drop, Debug)]
 pub enum ResourceCall<C = Name, D = Db> {
     /// Makes a resource of `size` bytes.
     New {
@@ -246,7 +246,7 @@ pub enum ResourceCall<C = Name, D = Db> {
 
 /// A call on files of databases, PDB and PRC (Palm OS File Format Specification). `D` is how the
 /// call gives its database, and `B` how it gives its bytes.
-#[derive(Drop, Debug, PartialEq, Eq)]
+#[derive(Drop, Debug)]
 pub enum FileCall<D = Db, B = Bytes> {
     /// Adds the database of a file after the other databases. The bytes are those of the file.
     Import(B),
@@ -255,7 +255,7 @@ pub enum FileCall<D = Db, B = Bytes> {
 }
 
 /// A call of any manager. `C`, `D` and `B` are how it gives its chunk, its database and its bytes.
-#[derive(Drop, Debug, PartialEq, Eq)]
+#[derive(Drop, Debug)]
 pub enum Call<C = Name, D = Db, B = Bytes> {
     Memory(MemoryCall<C, B>),
     Database(DatabaseCall<C, D>),
