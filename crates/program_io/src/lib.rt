@@ -6,7 +6,8 @@
 //!
 //! | module | does |
 //! |---|---|
-//! | `command_line` | reads the words of the command line, and has the texts of the help |
+//! | `command_line` | reads the words of the command line |
+//! | `help_texts` | the texts of the help |
 //! | `input` | reads a file to its end, within the limit |
 //! | `output` | prints a line, and returns the status of the run |
 //! | `fault_lines` | the line for a refused script |
@@ -21,6 +22,7 @@ pub mod command_line;
 mod error_output;
 mod fault_lines;
 mod fault_report;
+mod help_texts;
 mod input;
 mod noted;
 mod output;

@@ -66,7 +66,7 @@ fn shown(alloc: Global, request: &Request) -> Result<String, AllocError> {
 
 /// Words, and how what comes of them begins, and what stands in it: commands, words that are refused,
 /// and help.
-static CASES: [(&str, &str, &str); 70] = [
+static CASES: [(&str, &str, &str); 75] = [
     ("palmheap new 128 4 a.img", "new 128 4 a.img\n", ""),
     (
         "palmheap new 4294967295 65535 --  -a",
@@ -203,6 +203,19 @@ static CASES: [(&str, &str, &str); 70] = [
     ),
     ("palmheap explain BadOffset", "explain BadOffset\n", ""),
     ("palmheap explain BadOffset 1", "explain BadOffset\n", ""),
+    (
+        "palmheap explain bad BadOffset 1",
+        "explain BadOffset\n",
+        "",
+    ),
+    (
+        "palmheap explain refused 25 BadFile Truncated",
+        "explain 25\n",
+        "",
+    ),
+    ("palmheap explain changes busy ids", "explain busy\n", ""),
+    ("palmheap explain line 3 BadWord 2", "explain BadWord\n", ""),
+    ("palmheap explain line 3", "explain line\n", ""),
     (
         "palmheap explain",
         "2 error: the following required arguments were not provided:\n  <WORD>...\n",
