@@ -1,8 +1,6 @@
 pub mod Commands
-pub mod Migrating
 pub mod Mapping
 pub mod Drawing
 pub use Rattle.heap_model.specs.Store
 pub use Rattle.chunk_format.specs.Blank
-pub use Rattle.heap_migration.specs.Stores
 pub use Rattle.store_check.specs.Checks

@@ -1,15 +1,15 @@
 //! The commands `new` and `check`, over bytes and writers.
 
-ghost use Rattle.std.specs.Prelude.{◌≡◌, IfOk, OnErr, None, string_bytes};
+ghost use Rattle.std.specs.Prelude.{◌≡◌, IfOk, OnErr, None, is_ok, string_bytes};
 ghost use Rattle.image_commands.specs.Commands.{EndsCheck, EndsNew, heap_line, summary_lines};
 ghost use Rattle.allowance.specs.Refusals.{GrowthRefused};
+ghost use Rattle.palm_text.specs.Output.{Puts};
 
-use crate::image_output::put_image;
 use allowance::{Allowance, text_of};
 use chunk_format::{BlankFault, blank_from};
 use heap_check::Summary;
 use image_faults::say_bad_image;
-use palm_text::Counted;
+use palm_text::{Counted, WriteFault, put};
 use program_io::{Status, say, say_text};
 use raw_region::Region;
 use std::alloc::{AllocError, Global};
@@ -123,4 +123,12 @@ fn heap_text<A: Allowance>(memory: &A, summary: &Summary) -> Result<String, Allo
         memory,
         format_args!("ok size {size} slots {slots} movable {movable} fixed {fixed} free {free}\n"),
     )
+}
+
+/// Writes the whole image, and flushes.
+fn put_image<W: Write>(image_out: &mut Counted<W>, region: &Region) -> Result<(), WriteFault>
+    requires { region.now.lent ≡ None }
+    ensures { Puts W.contents image_out.old image_out.new region.now.bytes (is_ok result) }
+{
+    put(image_out, region.as_slice())
 }

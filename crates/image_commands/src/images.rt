@@ -1,11 +1,10 @@
-//! The commands `new`, `check` and `migrate`.
+//! The commands `new` and `check`.
 
 ghost use Rattle.std.specs.Prelude.{◌≢◌};
 
 use crate::commands::{check_region_from, cmd_new_from};
 use crate::faults::STANDARD_OUTPUT;
 use crate::files::read_image;
-use crate::migrate_command::migrate_region_from;
 use crate::replacing::output_for_image;
 use crate::suggestions::{looks_like_file, suggest_explain, suggest_list};
 use palm_text::Counted;
@@ -52,34 +51,5 @@ pub fn check<R: Files + Input + Print + Eprint + AllocGlobal>(rt: &R, path: &str
     let (_, fault) = out.into_inner().into_parts();
     report_outcome(rt, status, &[(STANDARD_OUTPUT, fault)]);
     suggest_list(rt, path, status, looks_like_file(&image));
-    status
-}
-
-/// Runs `migrate` on an image, and writes the new image to a path. A PDB or PRC file isn't replaced.
-/// The path `-` of the image means standard input.
-pub fn migrate<R: Files + Input + Print + Eprint + AllocGlobal>(
-    rt: &R,
-    image_path: &str,
-    path: &str,
-) -> Status
-    ensures { result ≢ Status.BadWords }
-{
-    let image = match read_image(rt, image_path) {
-        Ok(image) => image,
-        Err(status) => return status,
-    };
-    let is_file = looks_like_file(&image);
-    let image_out = match output_for_image(rt, path) {
-        Ok(image_out) => image_out,
-        Err(status) => return status,
-    };
-    let mut image_out = Counted::new(Noted::new(image_out));
-    let mut out = Counted::new(Noted::new(io::writer(rt)));
-    let status = migrate_region_from(&rt.alloc(), image, &mut image_out, &mut out);
-    let (image_out, image_fault) = image_out.into_inner().into_parts();
-    image_out.close();
-    let (_, fault) = out.into_inner().into_parts();
-    report_outcome(rt, status, &[(path, image_fault), (STANDARD_OUTPUT, fault)]);
-    suggest_list(rt, image_path, status, is_file);
     status
 }

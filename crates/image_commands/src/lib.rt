@@ -1,8 +1,8 @@
 //! The commands of the program `palmheap` that run no script, and the files that all commands read
-//! and write. `new`, `check`, `migrate` and `map` work on an image, and `list`, `canonical`,
-//! `unpack` and `pack` on a file.
+//! and write. `new`, `check` and `map` work on an image, and `list`, `canonical`, `unpack` and `pack`
+//! on a file.
 //!
-//! The first four are functions over bytes and counted writers. Their contracts state when each
+//! The first three are functions over bytes and counted writers. Their contracts state when each
 //! status is returned, what was written by then, and after which bytes a write failed.
 //! `file_commands` has the other commands. Each also has a form over any `Allowance`, which reports
 //! out of memory only if an allocation failed. Start at `cmd_new`.
@@ -15,11 +15,9 @@
 //! | module | does |
 //! |---|---|
 //! | `commands` | the commands `new` and `check`, over bytes |
-//! | `migrate_command` | the command `migrate`, over bytes: an image gets a chain of tables |
-//! | `image_output` | images that are written |
 //! | `map_command` | the command `map`, over bytes: a picture of an image as text |
 //! | `draw_command` | the same, with an output file: a picture of an image as SVG |
-//! | `images` | the commands `new`, `check` and `migrate`, over files |
+//! | `images` | the commands `new` and `check`, over files |
 //! | `maps` | the command `map`, over files |
 //! | `file_listings` | the commands `list` and `canonical`, over files |
 //! | `documents` | the commands `list --json` and `check --json`, over files |
@@ -38,11 +36,9 @@ mod faults;
 mod file_listings;
 mod files;
 mod folders;
-mod image_output;
 mod images;
 mod map_command;
 mod maps;
-mod migrate_command;
 mod region_input;
 mod replacing;
 mod suggestions;
@@ -57,11 +53,9 @@ pub use files::{
     write_files,
 };
 pub use folders::{pack, path_in, unpack};
-pub use image_output::put_store;
-pub use images::{check, migrate, new};
+pub use images::{check, new};
 pub use map_command::{cmd_map, cmd_map_from, map_region_from};
 pub use maps::{draw, map};
-pub use migrate_command::{cmd_migrate, cmd_migrate_from, migrate_region_from};
 pub use region_input::{SizedFault, read_region_from};
 pub use replacing::output_for_image;
 pub use suggestions::{looks_like_file, suggest_checks, suggest_explain, suggest_list};

@@ -16,7 +16,7 @@
 //! | `scripts` | the command `run`, over files |
 //! | `ending` | how a run of the program ends |
 //! | `meanings` | the command `explain` |
-//! | `stores` | the commands `databases`, `export` and `import`, over files and folders |
+//! | `stores` | the commands `databases`, `export`, `import` and `migrate`, over files and folders |
 //! | `documents` | `list`, `check` and `databases` in the form that is asked for; `databases --json` |
 //! | `words` | reads the words of the command line |
 //! | `requests` | fulfils their request, and prints the text for words without a command |

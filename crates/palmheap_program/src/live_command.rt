@@ -6,7 +6,6 @@ ghost use Rattle.palmheap_program.specs.LiveRuns.{EndsAtLine, EndsEarlyLive, End
 
 use allowance::Allowance;
 use heap_model::Bytes;
-use image_commands::put_store;
 use live_scripts::{LiveFault, LiveInputs, run_read};
 use palm_store::Store;
 use palm_text::Counted;
@@ -14,7 +13,7 @@ use program_io::{INPUT_LIMIT, InputFault, Status, say_line_fault};
 use raw_region::Region;
 use script_lines::LineFault;
 use std::io::{Read, Write};
-use store_commands::opened;
+use store_commands::{opened, put_store};
 
 /// Why a run that reads its script was not done.
 #[derive(Clone, Copy, Debug)]

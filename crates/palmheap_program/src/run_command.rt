@@ -9,7 +9,6 @@ ghost use Rattle.allowance.specs.Refusals.{GrowthRefused};
 
 use allowance::Allowance;
 use heap_model::Bytes;
-use image_commands::put_store;
 use palm_script::{RunFault, Script, ScriptFault, run_from};
 use palm_store::Store;
 use palm_text::Counted;
@@ -18,7 +17,7 @@ use raw_region::Region;
 use script_lines::parse_from;
 use std::alloc::Global;
 use std::io::Write;
-use store_commands::opened;
+use store_commands::{opened, put_store};
 
 /// Runs a script on an image. It prints the reply lines to `out`, and then writes the image to
 /// `image_out`. Last it puts the files that the script exports into `files`.

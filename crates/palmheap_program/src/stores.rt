@@ -1,4 +1,4 @@
-//! The commands `databases`, `export` and `import`, over files and folders.
+//! The commands `databases`, `export`, `import` and `migrate`, over files and folders.
 
 ghost use Rattle.std.specs.Prelude.{◌≡◌, ◌≢◌, ◌≤◌, ◌⊎◌, IfErr, length};
 
@@ -17,6 +17,7 @@ use std::rt::Files;
 use std::{fs, io, str};
 use store_commands::{
     Ended, ExportedFile, ImageChoice, cmd_import_from, databases_region_from, export_files,
+    migrate_region_from,
 };
 
 /// Runs `databases`. The path `-` means standard input.
@@ -109,6 +110,35 @@ pub(crate) fn import<R: Files + Input + Print + Eprint + AllocGlobal>(
     suggest_checks(rt, paths, ended.status, files.as_slice());
     suggest_explain(rt, ended.status, choice.size);
     ended.status
+}
+
+/// Runs `migrate` on an image, and writes the new image to a path. A PDB or PRC file isn't replaced.
+/// The path `-` of the image means standard input.
+pub(crate) fn migrate<R: Files + Input + Print + Eprint + AllocGlobal>(
+    rt: &R,
+    image_path: &str,
+    path: &str,
+) -> Status
+    ensures { result ≢ Status.BadWords }
+{
+    let image = match read_image(rt, image_path) {
+        Ok(image) => image,
+        Err(status) => return status,
+    };
+    let is_file = looks_like_file(&image);
+    let image_out = match output_for_image(rt, path) {
+        Ok(image_out) => image_out,
+        Err(status) => return status,
+    };
+    let mut image_out = Counted::new(Noted::new(image_out));
+    let mut out = Counted::new(Noted::new(io::writer(rt)));
+    let status = migrate_region_from(&rt.alloc(), image, &mut image_out, &mut out);
+    let (image_out, image_fault) = image_out.into_inner().into_parts();
+    image_out.close();
+    let (_, fault) = out.into_inner().into_parts();
+    report_outcome(rt, status, &[(path, image_fault), (STANDARD_OUTPUT, fault)]);
+    suggest_list(rt, image_path, status, is_file);
+    status
 }
 
 /// Says what broke a command off that writes to standard output alone, and returns it.

@@ -135,10 +135,7 @@ pub(crate) fn say_refusal<V: Write>(
 
 /// Writes the whole image of a store of which nothing is lent, and flushes.
 #[tactic(auto, using(palm_text::proofs::Parts::then_flush))]
-pub(crate) fn put_store<W: Write>(
-    image_out: &mut Counted<W>,
-    store: &Store,
-) -> Result<(), WriteFault>
+pub fn put_store<W: Write>(image_out: &mut Counted<W>, store: &Store) -> Result<(), WriteFault>
     requires { store.now.lent ≡ None }
     ensures { Puts W.contents image_out.old image_out.new store.now.bytes (is_ok result) }
 {

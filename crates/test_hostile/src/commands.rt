@@ -3,13 +3,14 @@
 
 use crate::stores::{WRITTEN, input_files};
 use heap_model::Bytes;
-use image_commands::{cmd_check_from, cmd_draw_from, cmd_migrate_from, cmd_new_from};
+use image_commands::{cmd_check_from, cmd_draw_from, cmd_new_from};
 use palm_script::{LineFault, ScriptFault};
 use palm_text::Counted;
 use palmheap_program::cmd_run_from;
 use program_io::{Status, say_line_fault};
 use std::alloc::Global;
 use std::test::*;
+use store_commands::cmd_migrate_from;
 use test_support::{BLANK, DATABASE, RefusesOne, bytes_of, holds};
 
 /// What takes memory and prints.

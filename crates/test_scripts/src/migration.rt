@@ -2,13 +2,13 @@
 
 use crate::runs::{CHAINED, TWO_TABLES, check_lines};
 use chunk_format::blank;
-use image_commands::cmd_migrate;
 use palm_text::Counted;
 use program_io::Status;
 use std::alloc::Global;
 use std::io::{ErrorKind, Write};
 use std::str;
 use std::test::Fail;
+use store_commands::cmd_migrate;
 use test_support::{
     BLANK, DATABASE, Narrow, ONE_CHUNK, Unflushed, WhenFull, bytes_of, equal, holds, image,
 };

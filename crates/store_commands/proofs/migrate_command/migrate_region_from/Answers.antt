@@ -2,7 +2,7 @@ use Rattle.std.proofs.Common.{rules, refl, true, false, subst, inl, inr}
 use Rattle.std.specs.Prelude.{codes}
 use Rattle.palm_text.specs.Counted.{Writing}
 use Rattle.palm_text.specs.Output.{Puts}
-use Rattle.image_commands.proofs.migrate_command.migrate_region_from.Goals as goal
+use Rattle.store_commands.proofs.migrate_command.migrate_region_from.Goals as goal
 
 pub returns-in-Ok-put_store-clause-ends : goal.returns-in-Ok-put_store-clause-ends
 returns-in-Ok-put_store-clause-ends g c = record {

@@ -3,13 +3,12 @@
 ghost use Rattle.std.specs.Prelude.{◌≡◌, ◌⊎◌, Err, IfOk, IfErr, OnOk, None, true, false};
 ghost use Rattle.heap_model.specs.Store.{Accepted};
 ghost use Rattle.heap_migration.specs.Stores.{IsMigrated};
-ghost use Rattle.image_commands.specs.Migrating.{EndsMigrate, PutsNotMigrated};
+ghost use Rattle.store_commands.specs.Migrating.{EndsMigrate, PutsNotMigrated};
 ghost use Rattle.allowance.specs.Refusals.{GrowthRefused};
 
-use crate::image_output::put_store;
+use crate::images::{opened, put_store};
 use allowance::Allowance;
-use image_faults::say_bad_image;
-use palm_store::{MigrateFault, NotAStore, Store, StoreFault};
+use palm_store::{MigrateFault, Store};
 use palm_text::Counted;
 use program_io::{Status, say};
 use raw_region::Region;
@@ -93,16 +92,7 @@ fn migrated<A: Allowance, V: Write>(
     ensures no_memory { result ≡ Err Status.NoMemory → out.new ≡ out.old }
     ensures short { result ≡ Err Status.NoMemory → A.is_short memory.now }
 {
-    let store = match Store::check_from(memory, region) {
-        Ok(store) => store,
-        Err(
-            NotAStore {
-                fault: StoreFault::OutOfMemory,
-                ..
-            },
-        ) => return Err(Status::NoMemory),
-        Err(error) => return Err(say_bad_image(out, error.fault)),
-    };
+    let store = opened(memory, region, out)?;
     match store.migrate_from(memory) {
         Ok(store) => Ok(store),
         Err((MigrateFault::OutOfMemory, _)) => Err(Status::NoMemory),
