@@ -1,5 +1,5 @@
 -- Laws on lines that are run one after another.
-use Rattle.std.proofs.Common.{◌≡◌, ◌<◌, ◌≤◌, ◌+◌, ◌-◌, ℕ, List, [], ◌∷◌, ◌++◌, length, length-append, length-drop, replicate, take, drop, Option, Some, None, IfSome, refl, sym, ap, subst, ◌∙◌, inl, inr, append_assoc, append-nil, arith, true, false}
+use Rattle.std.proofs.Common.{◌≡◌, ◌<◌, ◌≤◌, ◌+◌, ◌-◌, ℕ, List, [], ◌∷◌, ◌++◌, length, length-append, length-drop, replicate, take, drop, Option, Some, None, refl, sym, ap, subst, ◌∙◌, inl, inr, append_assoc, append-nil, arith, true, false}
 use Rattle.std.proofs.Math.Seq.{take-add}
 use Rattle.std.proofs.lemmas.List.{drop-drop, take-append-drop, take-take, take_all, take_at, length-replicate}
 use Rattle.std.specs.Io.{StartsWith}
@@ -11,23 +11,21 @@ use Rattle.std.proofs.KnownBytes.{Appends-kept, Appends-nil, Appends-trans}
 use Rattle.std.proofs.Transfers.{starts_with_length}
 use Rattle.heap_model.specs.Memory.{Memory}
 use Rattle.palm_text.specs.Counted.{Flushes, Writing}
-use Rattle.palm_text.specs.declared.output.WriteFault.{WriteFault}
 use Rattle.script_lines.specs.Cuts.{IsUnended}
 use Rattle.script_lines.specs.Numbering.{Numberings, none_numbered}
 use Rattle.script_lines.specs.Reading.{line_read, read_line, read_lines, read_script}
 use Rattle.script_lines.specs.Views.{numberings}
 use Rattle.script_lines.specs.declared.fault.LineFault.{LineFault}
-use Rattle.script_lines.specs.declared.fault.ScriptFault.{ScriptFault}
 use Rattle.script_lines.specs.declared.line.Line.{Line}
-use Rattle.script_calls.specs.Lines.{Bindings, DoesLine, LineStep, Lines, bound_after, exported, reply_line, unbound}
+use Rattle.script_calls.specs.Lines.{Bindings, DoesLine, LineStep, bound_after, exported, reply_line, unbound}
 use Rattle.palm_script.proofs.LineLaws.{one_more}
 use Rattle.live_scripts.specs.declared.fault.LiveFault.{LiveFault}
 use Rattle.live_scripts.specs.declared.fault.LiveFault.TheVariants as faults
 use Rattle.live_scripts.specs.declared.session.Session.{Session}
 use Rattle.live_scripts.specs.Live.{CutBetweenLines, Prints, ReadStops, RunStops, RunsText}
-use Rattle.live_scripts.specs.Sessions.{EndsOn, FailsLine, HasRun, IsReadFault, LineStops, ReadsLine, Replies, RunsLine, RunsOn, StopsAt, StopsOn, bound_in}
+use Rattle.live_scripts.specs.Sessions.{EndsOn, HasRun, IsReadFault, LineStops, ReadsLine, RunsLine, RunsOn, StopsAt, StopsOn, bound_in}
 use Rattle.program_io.specs.declared.input.InputFault.{InputFault}
-use Rattle.program_io.specs.declared.input.InputFault.TheVariants.{Memory as InputMemory, TooLong}
+use Rattle.program_io.specs.declared.input.InputFault.TheVariants.{Memory as InputMemory}
 
 -- ---- what is read
 
@@ -96,13 +94,6 @@ module _ {W : Type 0} (short : Type 0) (contents : W → Option (List ℕ)) (inp
 
   -- ---- one line
 
-  pub replies_line : (line : Line) (bound between bound_new : Bindings) (old new : Memory) (out out_after : Writing W) (file : Option (List ℕ)) → between ≡ bound → DoesLine short contents inputs line old between out new bound_new out_after (Ok file) → Replies short contents inputs line bound old out new out_after
-  replies_line line bound between bound_new old new out out_after file same does = record {
-    reply = does.reply;
-    step = subst (λ b. LineStep short inputs old b line does.reply new) same does.step;
-    written = does.written;
-  }
-
   -- what a line does on a session that was given room for it
   pub runs_line : (line : Line) (bound between after : Bindings) (session_new : Session) (files : List (List ℕ)) (old new : Memory) (out out_after : Writing W) (file : Option (List ℕ)) → between ≡ bound → bound_in session_new ≡ after → DoesLine short contents inputs line old between out new after out_after (Ok file)
       → session_new.files.items ≡ files ++ option_to_list file → RunsLine short contents inputs line bound files old out session_new new out_after
@@ -115,9 +106,6 @@ module _ {W : Type 0} (short : Type 0) (contents : W → Option (List ℕ)) (inp
     binds = is ∙ does.binds ∙ ap (λ b. bound_after b line does.reply) same;
     exports = are ∙ ap (λ f. files ++ f) (sym does.file);
   }
-
-  pub fails_line : (line : Line) (bound between bound_new : Bindings) (old new : Memory) (out out_after : Writing W) (fault : WriteFault) → between ≡ bound → DoesLine short contents inputs line old between out new bound_new out_after (Err fault) → FailsLine short contents inputs line bound old out new out_after
-  fails_line line bound between bound_new old new out out_after fault same does = (does.reply, subst (λ b. LineStep short inputs old b line does.reply new) same does.step, does.written)
 
   -- ---- one line more
 
@@ -243,10 +231,7 @@ module _ {W : Type 0} (short : Type 0) (contents : W → Option (List ℕ)) (inp
     });
   }
 
-  -- ---- the last line, or none
-
-  pub nothing_ends_on : (session : Session) (old : Memory) (out : Writing W) → EndsOn short contents inputs [] session old out session old out
-  nothing_ends_on session old out front first out_first has = rw append-nil (whole front first out_first session old out has)
+  -- ---- the last line
 
   pub last_stops_on : (fault : LiveFault) (text : List ℕ) (session session_new : Session) (old new : Memory) (out out_after : Writing W) → lines text ≡ text ∷ [] → LineStops short contents inputs fault text session old out session_new new out_after
       → StopsAt short contents inputs fault text session old out new out_after
@@ -419,12 +404,6 @@ module _ {W : Type 0} (short : Type 0) (contents : W → Option (List ℕ)) (inp
       (append_assoc before front (next ++ (rest ++ more)) ∙ ap (λ l. before ++ l) (ap (λ l. front ++ l) (sym (append_assoc next rest more)) ∙ sym (append_assoc front (next ++ rest) more) ∙ ap (λ l. l ++ more) (sym parts)))
       (line_stops_on fault next text (rest ++ more) b c mid new out_mid out_after (alone next text ended) (ended (rest ++ more)) stops (before ++ front) first out_first (runs before first out_first has))
 
--- a reader at its end gave the whole text
-pub whole_read : (known left : Option (List ℕ)) (text : List ℕ) → Keeps known (prepend_known text left) → IsAtEnd left → IfSome known (λ all. text ≡ all)
-whole_read None left text kept end = tt
-whole_read (Some all) None text kept end = absurd kept
-whole_read (Some all) (Some rest) text kept end = sym (append-nil text) ∙ ap (λ l. text ++ l) (sym end) ∙ kept
-
 -- a buffer of some zeros is not empty
 pub room_of : (n : ℕ) (items : List ℕ) → items ≡ replicate n 0 → 0 < n → 0 < length items
 room_of n items same some = omega (arith, some, ap length same, length-replicate {A = ℕ} n 0)
@@ -447,20 +426,6 @@ pub kept_first : (known : Option (List ℕ)) → Keeps known (prepend_known [] k
 kept_first None = tt
 kept_first (Some all) = refl
 
--- ---- a script that is too long
-
--- if more than the limit is left of what a reader had, it had more
-pub long_before : (limit : ℕ) (known left : Option (List ℕ)) → Keeps known left → IfSome left (λ all. limit < length all) → IfSome known (λ all. limit < length all)
-long_before limit None left kept long = tt
-long_before limit (Some all) None kept long = absurd kept
-long_before limit (Some all) (Some rest) kept long = subst (λ (l : List ℕ). limit < length l) kept long
-
-pub is_too_long : (fault : InputFault) (end : LiveFault) → IsReadFault fault end → end ≡ faults.Input TooLong → fault ≡ TooLong
-is_too_long fault (faults.Line other) is e = absurd is
-is_too_long fault (faults.Input other) (same, readable) e = cc
-is_too_long fault faults.Memory is e = absurd cc
-is_too_long fault faults.Write is e = absurd is
-
 -- ---- a fault that is returned as it came
 
 pub on_handed : {T : Type 0} (P : LiveFault → Type 0) (result : Result T LiveFault) {fault : LiveFault} → IsErrAnd result (λ brought. brought ≡ fault) → P fault → IfErr result P
@@ -469,8 +434,3 @@ on_handed P (Err brought) is p = subst P (sym is) p
 
 pub on_written : {T : Type 0} (P : LiveFault → Type 0) (result : Result T LiveFault) {fault : LiveFault} → IsErrAnd result (λ brought. brought ≡ fault) → fault ≡ faults.Write → P faults.Write → IfErr result P
 on_written P result is write p = on_handed P result is (subst P (sym write) p)
-
--- a fault that is not this one
-pub not_handed : {T : Type 0} (result : Result T LiveFault) (other : LiveFault) {fault : LiveFault} → IsErrAnd result (λ brought. brought ≡ fault) → (fault ≡ other → ⊥) → result ≡ Err other → ⊥
-not_handed (Ok value) other is none e = absurd cc
-not_handed (Err brought) other is none e = none (sym is ∙ (cc))

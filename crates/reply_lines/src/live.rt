@@ -51,6 +51,7 @@ impl<'a, W: Write> LiveReplies<'a, W> {
         ensures refused { self.new.any_refused
             ≡ (self.old.any_refused || says_refused self.old.at_start bytes.now) }
         ensures start { IfOk result (λ n. 0 < n → self.new.at_start ≡ ends_line (take n bytes.now)) }
+        ensures numbered { self.new.has_numbers ≡ self.old.has_numbers }
     {
         let Some(first) = bytes.first() else {
             return Ok(0);

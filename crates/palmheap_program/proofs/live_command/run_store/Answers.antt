@@ -1,7 +1,6 @@
-use Rattle.std.proofs.Common.{◌∙◌, ap, Err, inr, refl, rules}
+use Rattle.std.proofs.Common.{◌∙◌, ap, Err, refl, rules}
 use Rattle.program_io.specs.declared.input.InputFault.TheVariants.{TooLong}
-use Rattle.program_io.specs.declared.status.Status.TheVariants.{WriteFault}
-use Rattle.palmheap_program.proofs.LiveEnds.{by_write, stopped, stops_short, unread_input}
+use Rattle.palmheap_program.proofs.LiveEnds.{stopped, stops_short, unread_input}
 use Rattle.palmheap_program.proofs.live_command.run_store.Goals as goal
 
 -- a run that a fault ended

@@ -1,4 +1,4 @@
-use Rattle.std.proofs.Common.{◌≡◌, ◌≤◌, ◌+◌, ◌++◌, [], refl, sym, ap, ◌∙◌, append_assoc, length, length-append, arith}
+use Rattle.std.proofs.Common.{◌≡◌, ◌+◌, ◌++◌, [], refl, sym, ap, ◌∙◌, append_assoc, length, length-append, arith}
 use Rattle.live_scripts.proofs.SessionLaws.{on_handed, runs_further, runs_nothing, runs_taken, stops_further}
 use Rattle.live_scripts.proofs.session.Session.run_ended_lines.Goals as goal
 

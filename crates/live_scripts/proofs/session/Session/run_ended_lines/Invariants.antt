@@ -1,4 +1,4 @@
-use Rattle.std.proofs.Common.{◌≡◌, ◌≤◌, ◌+◌, ◌-◌, ◌++◌, List, ℕ, length, take}
+use Rattle.std.proofs.Common.{◌≡◌, ◌≤◌, ◌+◌, ◌-◌, ◌++◌, List, ℕ, length}
 use Rattle.live_scripts.specs.Sessions.{RunsOn}
 use Rattle.live_scripts.proofs.session.Session.run_ended_lines.Given as goal
 
