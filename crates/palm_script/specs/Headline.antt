@@ -10,8 +10,8 @@ use Rattle.palm_script.specs.declared.lists.NotRun.{NotRun}
 use Rattle.palm_script.specs.declared.lists.NotRun.TheVariants.{NotAStore, OutOfMemory}
 
 -- A list of calls, run from an accepted image, is answered as a run of the abstract store answers.
--- The abstract store is a map from names to byte strings, together with databases as lists of
--- entries. The run begins with the store that the image means.
+-- The abstract store is a map from names to chunks (bytes, lock count, owner), together with
+-- databases as lists of entries. The run begins with the store that the image means.
 --
 -- `region count` is the region after the first `count` calls. It is an accepted image, and means
 -- the store of the run at that point. Each reply is that of its call's step from one of these
