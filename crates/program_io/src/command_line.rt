@@ -710,17 +710,40 @@ fn explain_requested<'a>(given: &ArgMatches<'a>) -> Option<Request<'a>> {
 }
 
 /// Returns the word that is to be explained. That is the first one, but in a printed line the one
-/// after `bad`, `refused` or `changes`, or the one after `line` and its number.
+/// after `bad`, `refused` or `changes`, or the one after `line` and its number, or after the number
+/// of a line and `refused`. A line may be one word, with spaces in it.
 fn asked_for<'a>(words: &[&'a str]) -> Option<&'a str> {
     let first = *words.first()?;
+    if let Some((start, rest)) = first.split_once(' ') {
+        return Some(asked_in(first, start, rest));
+    }
     let index = match first {
         "bad" | "refused" | "changes" => 1,
         "line" => 2,
+        _ if is_refused(words) => 2,
         _ => 0,
     };
     match words.get(index) {
         Some(word) => Some(*word),
         None => Some(first),
+    }
+}
+
+/// Returns the end of a line that begins with the word that is to be explained: all of the line, or
+/// what follows the words before that one. The line begins with the word `start`.
+fn asked_in<'a>(line: &'a str, start: &str, rest: &'a str) -> &'a str {
+    match (start, rest.split_once(' ')) {
+        ("bad" | "refused" | "changes", _) => rest,
+        ("line", Some((_, name))) | (_, Some(("refused", name))) => name,
+        _ => line,
+    }
+}
+
+/// Returns whether the second word is `refused`.
+fn is_refused(words: &[&str]) -> bool {
+    match words.get(1) {
+        Some(word) => *word == "refused",
+        None => false,
     }
 }
 

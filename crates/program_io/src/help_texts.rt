@@ -342,6 +342,6 @@ For example, 'palmheap explain BadOffset' prints, in one line:
 It prints a line for each fault or refusal of that name, or for the refusal of
 that number: 'palmheap explain 25'. It also knows the words after 'changes' of
 'palmheap list'. Upper and lower case are the same, and what follows the name
-is ignored. A line that was printed can be given as it is: 'palmheap explain
-bad BadOffset 1'. If there is none of that name, standard error says so, and
-the exit status is 2.";
+is ignored. Of a printed line that begins with 'bad', 'refused', 'changes' or
+'line', the first name is explained: 'palmheap explain bad BadOffset 1'. If
+there is none of that name, standard error says so, and the exit status is 2.";

@@ -66,7 +66,7 @@ fn shown(alloc: Global, request: &Request) -> Result<String, AllocError> {
 
 /// Words, and how what comes of them begins, and what stands in it: commands, words that are refused,
 /// and help.
-static CASES: [(&str, &str, &str); 75] = [
+static CASES: [(&str, &str, &str); 77] = [
     ("palmheap new 128 4 a.img", "new 128 4 a.img\n", ""),
     (
         "palmheap new 4294967295 65535 --  -a",
@@ -216,6 +216,12 @@ static CASES: [(&str, &str, &str); 75] = [
     ("palmheap explain changes busy ids", "explain busy\n", ""),
     ("palmheap explain line 3 BadWord 2", "explain BadWord\n", ""),
     ("palmheap explain line 3", "explain line\n", ""),
+    (
+        "palmheap explain 5 refused 8 NotEnoughSpace",
+        "explain 8\n",
+        "",
+    ),
+    ("palmheap explain 25", "explain 25\n", ""),
     (
         "palmheap explain",
         "2 error: the following required arguments were not provided:\n  <WORD>...\n",
