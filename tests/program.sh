@@ -50,6 +50,13 @@ says 'migration of a refused image' 1 'bad BadMagic' '' migrate bad.img b.img
 says 'a size that no image has' 2 'bad BadSize' "'palmheap explain BadSize' says what BadSize means" new 127 4 b.img
 is 'nothing is written' 'a.img bad.img calls.txt faulty.txt' "$(echo *)"
 
+# a line that was printed, as it is and in quotes, is explained by its first name
+for line in 'bad BadMagic' '3 refused 1 InvalidHandle' 'line 1 UnknownCommand' 'changes busy ids'; do
+    is "the words of $line" "$("$program" explain "$line")" "$("$program" explain $line)"
+done
+is 'a refused image' "$("$program" explain BadMagic)" "$("$program" explain 'bad BadMagic')"
+is 'a numbered refusal' "$("$program" explain 1)" "$("$program" explain '3 refused 1 InvalidHandle')"
+
 # OUT is no input, and a file is replaced as a whole: what else names the old one has the old bytes
 cp faulty.txt b.img
 chmod 640 b.img
