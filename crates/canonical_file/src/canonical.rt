@@ -133,8 +133,8 @@ fn put_form<W: Write>(file: &[u8], form: &Form, out: &mut Counted<W>) -> Result<
 
 /// Writes the canonical form of a file, and returns its size in bytes.
 ///
-/// Blocks that follow each other in the original file are one write. It doesn't flush `out`. After a
-/// write fails, it writes nothing more.
+/// Blocks that follow each other in the original file are one write. It doesn't flush `out`. After
+/// a write fails, it writes nothing more.
 ///
 /// # Errors
 ///

@@ -32,8 +32,8 @@ pub struct Heading {
 
 /// A row of the table: its heading, its name, its values and its text. The values are a space and a
 /// letter for each number that is printed after the name. The text is the condition of the fault or
-/// refusal, by these letters and without the period. Definitions name the table, and they can't name
-/// one whose rows are structs of texts.
+/// refusal, by these letters and without the period. Definitions name the table, and they can't
+/// name one whose rows are structs of texts.
 pub type Explanation = (Heading, (&'static str, (&'static str, &'static str)));
 
 const IMAGE: Heading = Heading {

@@ -110,8 +110,8 @@ fn put_by_ids<A: Allowance, W: Write>(
     }
 }
 
-/// Writes the canonical form of a file with these changes, and returns its size in bytes. Its records
-/// get these IDs. Without changes the form is the file, so nothing is allocated.
+/// Writes the canonical form of a file with these changes, and returns its size in bytes. Its
+/// records get these IDs. Without changes the form is the file, so nothing is allocated.
 #[tactic(auto, using(crate::proofs::Printed::wrote_same, crate::proofs::Printed::cut_same))]
 fn put_form<A: Allowance, W: Write>(
     memory: &A,

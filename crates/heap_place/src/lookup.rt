@@ -50,8 +50,8 @@ pub(crate) fn in_slot(region: &Region, tables: &KnownTables, name: Name) -> Opti
     }
 }
 
-/// Returns the chunk of a name that is a slot's, if the slot is in the first table, or in one that is
-/// in the entry of its block. None also if the slot is elsewhere. It calls no function.
+/// Returns the chunk of a name that is a slot's, if the slot is in the first table, or in one that
+/// is in the entry of its block. None also if the slot is elsewhere. It calls no function.
 #[inline(always)]
 pub(crate) fn in_near_slot(region: &Region, tables: &KnownTables, name: Name) -> Option<Found>
     requires accepted { HeapAccepted region.now.bytes }

@@ -1,8 +1,8 @@
 //! A picture of a heap as SVG.
 //!
 //! The picture has rows of equally many bytes, from the first byte of the image on. A rectangle
-//! shows the bytes of a chunk in a row. Neighbouring chunks of one kind share a rectangle if each is
-//! at most a pixel wide:
+//! shows the bytes of a chunk in a row. Neighbouring chunks of one kind share a rectangle if each
+//! is at most a pixel wide:
 //!
 //! ```text
 //! 65528 bytes, 163 of 700 slots in use

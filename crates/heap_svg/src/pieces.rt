@@ -12,7 +12,8 @@ use chunk_format::{Header, area_start};
 use raw_region::Region;
 use std::alloc::AllocError;
 
-/// The sizes of the pieces that have ended, and the size of the piece that goes on, if there is one.
+/// The sizes of the pieces that have ended, and the size of the piece that goes on, if there is
+/// one.
 #[derive(Drop)]
 struct PieceSizes {
     met: Vec<u32>,
@@ -44,7 +45,8 @@ impl PieceSizes {
         Ok(())
     }
 
-    /// Adds the chunk with this header. A free chunk extends the piece, and any other chunk ends it.
+    /// Adds the chunk with this header. A free chunk extends the piece, and any other chunk ends
+    /// it.
     fn add<A: Allowance>(&mut self, memory: &A, header: Header) -> Result<(), AllocError>
         requires { run_size self.old.run + free_by header < 2 ^ 32 }
         ensures added { OnOk result (AddsHeader self.old self.new header) }

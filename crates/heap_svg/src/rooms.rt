@@ -72,7 +72,8 @@ impl MetRooms {
         push(memory, &mut self.met, self.last)
     }
 
-    /// Adds the chunk with this header, which ends at `end`. A fixed or locked chunk ends the stretch.
+    /// Adds the chunk with this header, which ends at `end`. A fixed or locked chunk ends the
+    /// stretch.
     fn add<A: Allowance>(&mut self, memory: &A, header: Header, end: u32) -> Result<(), AllocError>
         requires { self.old.last.size + free_by header < 2 ^ 32 }
         ensures added { OnOk result (AddsChunk self.old self.new header end) }

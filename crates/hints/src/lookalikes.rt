@@ -34,8 +34,8 @@ const IMAGE_SLOT_COUNT_AT: usize = 8;
 const ZERO: [u8; 4] = [0; 4];
 
 /// Returns whether a file looks like a PDB or PRC file. It has a name, a type and a creator that
-/// can be printed, and one list of entries. The entries aren't checked. A file that begins as a heap
-/// image doesn't look like one.
+/// can be printed, and one list of entries. The entries aren't checked. A file that begins as a
+/// heap image doesn't look like one.
 pub fn looks_like_database(file: &[u8]) -> bool
     ensures { result ≡ words.looks_like_database file.now }
 {
@@ -46,8 +46,8 @@ pub fn looks_like_database(file: &[u8]) -> bool
         && file[NEXT_LIST_AT..ENTRY_COUNT_AT] == ZERO[..]
 }
 
-/// Returns whether a file looks like a heap image: it begins as one does, with a size below 2^24 that
-/// isn't 0. A database file with the name PHI1 has zeros there.
+/// Returns whether a file looks like a heap image: it begins as one does, with a size below 2^24
+/// that isn't 0. A database file with the name PHI1 has zeros there.
 pub fn looks_like_image(file: &[u8]) -> bool
     ensures { result ≡ words.looks_like_image file.now }
 {

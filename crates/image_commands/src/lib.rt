@@ -1,6 +1,6 @@
 //! The commands of the program `palmheap` that run no script, and the files that all commands read
-//! and write. `new`, `check` and `map` work on an image, and `list`, `canonical`, `unpack` and `pack`
-//! on a file.
+//! and write. `new`, `check` and `map` work on an image, and `list`, `canonical`, `unpack` and
+//! `pack` on a file.
 //!
 //! The first three are functions over bytes and counted writers. Their contracts state when each
 //! status is returned, what was written by then, and after which bytes a write failed.

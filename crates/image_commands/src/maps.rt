@@ -16,7 +16,8 @@ use std::io;
 use std::io::{BufWriter, Input, Write};
 use std::rt::Files;
 
-/// Runs `map`: prints the picture of the image at a path as text. The path `-` means standard input.
+/// Runs `map`: prints the picture of the image at a path as text. The path `-` means standard
+/// input.
 pub fn map<R: Files + Input + Print + Eprint + AllocGlobal>(rt: &R, path: &str) -> Status
     ensures { result ≢ Status.BadWords }
 {

@@ -29,8 +29,8 @@ pub enum SizedFault {
 /// # Errors
 ///
 /// - `Input`: if the file can't be read, or an allocation failed.
-/// - `OtherSize`: if there is no file at the path, if it is longer than `INPUT_LIMIT`, or if its size
-///   changed while it was read.
+/// - `OtherSize`: if there is no file at the path, if it is longer than `INPUT_LIMIT`, or if its
+///   size changed while it was read.
 pub(crate) fn read_sized<R: Files + AllocGlobal>(rt: &R, path: &str) -> Result<Region, SizedFault>
     ensures limit { IfOk result (λ region. length region.bytes ≤ INPUT_LIMIT) }
     ensures whole { IfOk result (λ region. region.lent ≡ None) }
@@ -57,8 +57,8 @@ fn size_of(rt: &impl Files, path: &str) -> Option<u32>
     }
 }
 
-/// Reads a region of `size` bytes, which are all that the reader has. It reads until a read gives no
-/// byte, or more than the region has room for.
+/// Reads a region of `size` bytes, which are all that the reader has. It reads until a read gives
+/// no byte, or more than the region has room for.
 ///
 /// # Errors
 ///

@@ -50,8 +50,8 @@ fn image_over<'a, R: Files + Eprint + AllocGlobal>(
     unopened(rt, path)
 }
 
-/// Returns a writer for a PDB or PRC file at a path. Nothing is opened for it yet. If there is a file
-/// that looks like a heap image, reports that and returns an error, so that the file stays.
+/// Returns a writer for a PDB or PRC file at a path. Nothing is opened for it yet. If there is a
+/// file that looks like a heap image, reports that and returns an error, so that the file stays.
 ///
 /// # Errors
 /// - `WriteFault`: there is such a file.
@@ -88,8 +88,8 @@ fn database_over<'a, R: Files + Eprint + AllocGlobal>(
 }
 
 /// Returns a writer for a picture at a path. Nothing is opened for it yet. If there is a file that
-/// looks like a heap image, or like a PDB or PRC file, reports that and returns an error, so that the
-/// file stays.
+/// looks like a heap image, or like a PDB or PRC file, reports that and returns an error, so that
+/// the file stays.
 ///
 /// # Errors
 /// - `WriteFault`: there is such a file.
@@ -133,8 +133,8 @@ fn unopened<'a, R: Files + Eprint + AllocGlobal>(
     }
 }
 
-/// Reads the first bytes of the file at a path, as many as `head` has. Returns whether there is a file
-/// with that many bytes. It opens no pipe and no device.
+/// Reads the first bytes of the file at a path, as many as `head` has. Returns whether there is a
+/// file with that many bytes. It opens no pipe and no device.
 fn has_head<R: Files>(rt: &R, path: &str, head: &mut [u8]) -> bool {
     match fs::metadata(rt, path) {
         Ok(found) if found.is_file() => {}

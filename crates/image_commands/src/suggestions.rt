@@ -1,5 +1,5 @@
-//! What else an input looks like, which numbers are allowed at a file's fault, and which command explains
-//! a fault.
+//! What else an input looks like, which numbers are allowed at a file's fault, and which command
+//! explains a fault.
 
 ghost use Rattle.std.specs.Prelude.{◌≡◌, ◌≤◌, None, length};
 ghost use Rattle.hints.specs.Lookalikes as words;

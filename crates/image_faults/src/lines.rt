@@ -11,8 +11,8 @@ use program_io::Status;
 use std::io::Write;
 use store_check::StoreFault;
 
-/// Prints `bad`, the name and the numbers of the fault of an image. Returns `Refused`, or `WriteFault`
-/// if a write or the flush failed.
+/// Prints `bad`, the name and the numbers of the fault of an image. Returns `Refused`, or
+/// `WriteFault` if a write or the flush failed.
 pub fn say_bad_image<V: Write>(out: &mut Counted<V>, fault: StoreFault) -> Status
     ensures statuses { (result ≡ Status.Refused) ⊎ (result ≡ Status.WriteFault) }
     ensures refused { result ≡ Status.Refused

@@ -1,9 +1,9 @@
 //! JSON documents with the facts that `list` and `check` print as text.
 //!
 //! A document is one object on one line, in ASCII. It is written piece by piece, without memory of
-//! its own. A string has a character for each byte: that of the byte in Windows-1252 or, if there is
-//! none, that of its own code. Beside each string from a file stands the same in hex, so a reader can
-//! get the exact bytes.
+//! its own. A string has a character for each byte: that of the byte in Windows-1252 or, if there
+//! is none, that of its own code. Beside each string from a file stands the same in hex, so a
+//! reader can get the exact bytes.
 //!
 //! ```text
 //! {"size":97,"name":"MemoDB","name_hex":"4d656d6f4442","attributes":0,"version":0,

@@ -40,7 +40,8 @@ fn quoted<A: Allowance>(memory: &A, text: String) -> Result<String, AllocError>
     text_of(memory, format_args!("\"{text}\""))
 }
 
-/// Returns the text of the date and the time in UTC, `seconds` after 1904-01-01 00:00:00, in quotes.
+/// Returns the text of the date and the time in UTC, `seconds` after 1904-01-01 00:00:00, in
+/// quotes.
 fn quoted_utc<A: Allowance>(memory: &A, seconds: u32) -> Result<String, AllocError>
     ensures text { IfOk result (λ text. IsQuotedUtc seconds (string_bytes text)) }
     ensures short { OnErr result (A.is_short memory.now) }

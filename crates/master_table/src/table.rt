@@ -112,8 +112,8 @@ pub fn resolve_known(region: &Region, known: &KnownTables, name: Name) -> Option
     }
 }
 
-/// Returns the same for a name whose place isn't found near. It is never inlined, so that its callers
-/// have only the code for what is near.
+/// Returns the same for a name whose place isn't found near. It is never inlined, so that its
+/// callers have only the code for what is near.
 #[cold]
 #[inline(never)]
 fn resolve_further(region: &Region, known: &KnownTables, name: Name) -> Option<Place>

@@ -6,8 +6,8 @@ ghost use Rattle.std.specs.Bool.{IsTrue};
 use heap_model::Name;
 use std::marker::Model;
 
-/// The name of a chunk, or none, in one word. 0 stands for none, since no chunk has the name 0. So a
-/// name is compared with it in one step. Contracts see an `Option`.
+/// The name of a chunk, or none, in one word. 0 stands for none, since no chunk has the name 0. So
+/// a name is compared with it in one step. Contracts see an `Option`.
 #[derive(Drop)]
 pub(crate) struct LentName {
     name: Name,

@@ -11,8 +11,8 @@ use heap_model::{FileFault, Refusal};
 /// The result of `palmheap_refusal_name` if no refusal has the number.
 const CALL_NO_REFUSAL: u32 = 101;
 
-/// Writes the name of a refusal into a buffer. Sets `count` to its size in bytes, also if the buffer
-/// is too short for it.
+/// Writes the name of a refusal into a buffer. Sets `count` to its size in bytes, also if the
+/// buffer is too short for it.
 #[unsafe(no_mangle)]
 pub extern "C" fn palmheap_refusal_name(refusal: u32, name: &mut [u8], count: &mut usize) -> u32
     ensures { NamesRefusal refusal name.old name.new count.old count.new result }

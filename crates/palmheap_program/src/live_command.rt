@@ -25,11 +25,12 @@ pub enum LiveEnd {
 }
 
 /// Reads a script from a reader, and runs its lines on an image in a region, each as soon as it is
-/// read. It prints the reply lines to `out`, and then writes the image to `image_out`. `script` gets
-/// the text of the script. The result has the files that the script exports.
+/// read. It prints the reply lines to `out`, and then writes the image to `image_out`. `script`
+/// gets the text of the script. The result has the files that the script exports.
 ///
-/// If the image is refused, it prints its first fault, and reads nothing. At a faulty line it prints its
-/// number and its fault. The replies of the lines before it stay, and no image is written.
+/// If the image is refused, it prints its first fault, and reads nothing. At a faulty line it
+/// prints its number and its fault. The replies of the lines before it stay, and no image is
+/// written.
 pub fn run_live_region_from<A: Allowance, R: Read, W: Write, V: Write>(
     memory: &A,
     region: Region,

@@ -39,8 +39,8 @@ pub(crate) struct RunPaths<'a> {
 /// Does the command `run`. It reads all input files before it checks the image, except a script on
 /// standard input, which it runs while it reads. It writes the exported files last.
 ///
-/// Then it reports on standard error which lines import a file that was not given, which given files
-/// look like images, and which exported files are from an earlier run.
+/// Then it reports on standard error which lines import a file that was not given, which given
+/// files look like images, and which exported files are from an earlier run.
 pub(crate) fn run_script<R: Files + Input + Print + Eprint + AllocGlobal>(
     rt: &R,
     paths: RunPaths<'_>,
@@ -124,8 +124,8 @@ fn run_live<R: Files + Input + Print + Eprint + AllocGlobal>(
     Ok(replied.any_refused)
 }
 
-/// Writes the exported files of a run. Then it reports which lines import a file that was not given,
-/// which given files look like images, and which exported files are from an earlier run.
+/// Writes the exported files of a run. Then it reports which lines import a file that was not
+/// given, which given files look like images, and which exported files are from an earlier run.
 fn end_run<R: Files + Eprint + AllocGlobal>(
     rt: &R,
     paths: RunPaths<'_>,
@@ -193,8 +193,8 @@ struct Replied {
     any_refused: bool,
 }
 
-/// Runs a script on an image, and writes the new image. A PDB or PRC file isn't replaced. If it fails,
-/// standard error has the reason.
+/// Runs a script on an image, and writes the new image. A PDB or PRC file isn't replaced. If it
+/// fails, standard error has the reason.
 fn run_to<R: Files + Print + Eprint + AllocGlobal>(
     rt: &R,
     image: Region,

@@ -112,8 +112,8 @@ pub(crate) fn import<R: Files + Input + Print + Eprint + AllocGlobal>(
     ended.status
 }
 
-/// Runs `migrate` on an image, and writes the new image to a path. A PDB or PRC file isn't replaced.
-/// The path `-` of the image means standard input.
+/// Runs `migrate` on an image, and writes the new image to a path. A PDB or PRC file isn't
+/// replaced. The path `-` of the image means standard input.
 pub(crate) fn migrate<R: Files + Input + Print + Eprint + AllocGlobal>(
     rt: &R,
     image_path: &str,
@@ -188,8 +188,8 @@ fn words_of<R: AllocGlobal>(rt: &R, words: &[&str]) -> Result<Vec<Bytes>, AllocE
     Ok(bytes)
 }
 
-/// Writes files into a folder, which is made if there is none. If one can't be written, or is there, those that were
-/// written are removed again.
+/// Writes files into a folder, which is made if there is none. If one can't be written, or is
+/// there, those that were written are removed again.
 fn write_folder<R: Files + Eprint + AllocGlobal>(
     rt: &R,
     folder: &str,
@@ -234,8 +234,8 @@ fn write_each<R: Files + Eprint + AllocGlobal>(
     (Status::Done, files.len())
 }
 
-/// Writes a file into a folder, as a whole or not at all, unless the folder has something of that name. If that fails,
-/// says why. `written` has the files that were written before.
+/// Writes a file into a folder, as a whole or not at all, unless the folder has something of that
+/// name. If that fails, says why. `written` has the files that were written before.
 fn write_one<R: Files + Eprint + AllocGlobal>(
     rt: &R,
     folder: &str,
@@ -255,7 +255,8 @@ fn write_one<R: Files + Eprint + AllocGlobal>(
     write_file(rt, path.as_str(), file.bytes.as_slice())
 }
 
-/// Returns why a file isn't written over one that is there: this run wrote it, or it was there before.
+/// Returns why a file isn't written over one that is there: this run wrote it, or it was there
+/// before.
 fn why_kept(written: &[ExportedFile], file: &ExportedFile) -> &'static str {
     for earlier in written {
         if earlier.name.as_slice() == file.name.as_slice() {

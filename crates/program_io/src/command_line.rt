@@ -378,7 +378,8 @@ const ONE_INPUT: &str = "only one of IMAGE, SCRIPT and FILE can be '-', standard
 ///
 /// - the error of `clap`: if the words are no valid request, or ask for the help or the version.
 pub fn parse<'a>(alloc: Global, words: &'a [String]) -> Result<Request<'a>, Error> {
-    // No other function names the rows: they are long, and it would take as long to prove as this one.
+    // No other function names the rows: they are long, and it would take as long to prove as this
+    // one.
     let rows: &[CommandRow] = &COMMANDS;
     let mut command = palmheap(alloc, rows)?;
     parse_by(alloc, rows, &mut command, words)

@@ -79,8 +79,8 @@ impl<'a, W: Write> Replies<'a, W> {
     }
 }
 
-/// Writes bytes, up to the end of the first line at most. It returns the number of bytes written. If
-/// there are any, `at_start` gets whether they end a line.
+/// Writes bytes, up to the end of the first line at most. It returns the number of bytes written.
+/// If there are any, `at_start` gets whether they end a line.
 #[tactic(auto, using(crate::proofs::Fronts::part_of))]
 pub(crate) fn put_line<W: Write>(
     writer: &mut W,

@@ -35,8 +35,9 @@ pub struct Ended {
     pub word: Option<usize>,
 }
 
-/// Returns the files of the databases of an image that words name by their bytes, in that order, or of all databases if
-/// there is no word. If the image is refused, prints why. If a word names no database, prints the reply line for that.
+/// Returns the files of the databases of an image that words name by their bytes, in that order, or
+/// of all databases if there is no word. If the image is refused, prints why. If a word names no
+/// database, prints the reply line for that.
 ///
 /// # Errors
 ///

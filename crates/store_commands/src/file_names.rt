@@ -56,8 +56,9 @@ fn extension(resources: bool) -> &'static [u8]
     if resources { b".prc" } else { b".pdb" }
 }
 
-/// Returns the name of the file of a database: its own name, with `.prc` for resources and `.pdb` for records. Bytes
-/// that file systems don't take are spelled `%` and two hex digits. The only error is that an allocation failed.
+/// Returns the name of the file of a database: its own name, with `.prc` for resources and `.pdb`
+/// for records. Bytes that file systems don't take are spelled `%` and two hex digits. The only
+/// error is that an allocation failed.
 pub fn file_name<A: Allowance>(
     memory: &A,
     name: &[u8],

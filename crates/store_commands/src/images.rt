@@ -23,8 +23,8 @@ use script_calls::put_refusal;
 use std::alloc::AllocError;
 use std::io::Write;
 
-/// The store of an image of which nothing is lent. If the image is refused, prints `bad` and its first
-/// fault.
+/// The store of an image of which nothing is lent. If the image is refused, prints `bad` and its
+/// first fault.
 ///
 /// # Errors
 ///
@@ -95,7 +95,8 @@ pub(crate) fn info_of(store: &Store, db: Db) -> DbInfo
     }
 }
 
-/// The file of a database, of a store of which nothing is lent. The only error is that an allocation failed.
+/// The file of a database, of a store of which nothing is lent. The only error is that an
+/// allocation failed.
 #[tactic(auto, using(crate::proofs::Lookups::file_is, crate::proofs::Lookups::no_file))]
 pub(crate) fn file_of_database<A: Allowance>(
     memory: &A,

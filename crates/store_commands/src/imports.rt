@@ -1,4 +1,5 @@
-//! The command `import`: an image that is just large enough for some files, with their databases in it.
+//! The command `import`: an image that is just large enough for some files, with their databases in
+//! it.
 
 ghost use Rattle.std.specs.Prelude.{◌≡◌, ◌≢◌, ◌≤◌, ◌⊎◌, ℕ, List, Err, IfOk, IfErr, OnOk, None, IfSome, IfNone, All, is_ok, min, replicate, codes, true, false};
 ghost use Rattle.std.specs.List.{concat};
@@ -27,8 +28,8 @@ use program_io::{Status, say};
 use std::alloc::Global;
 use std::io::Write;
 
-/// The size in bytes and the slot count that are chosen for a new image. What isn't chosen is the least that the files
-/// need.
+/// The size in bytes and the slot count that are chosen for a new image. What isn't chosen is the
+/// least that the files need.
 #[derive(Clone, Copy, Debug, PartialEq, Eq)]
 pub struct ImageChoice {
     pub size: Option<u32>,
@@ -57,12 +58,13 @@ pub(crate) enum NotImported {
     OutOfMemory,
 }
 
-/// Makes an image, imports files into it in their order, and writes it. Then prints `ok` with its size and its slot count,
-/// and `ok` for each file.
+/// Makes an image, imports files into it in their order, and writes it. Then prints `ok` with its
+/// size and its slot count, and `ok` for each file.
 ///
-/// If a file is refused, prints its reply line, and writes no image. A file with a fault is refused before the others are
-/// imported. If the files need more than an image may have, prints `bad TooLarge`. If no image has the size or the slots
-/// that are chosen, prints `bad BadSize` or `bad BadSlotCount`.
+/// If a file is refused, prints its reply line, and writes no image. A file with a fault is refused
+/// before the others are imported. If the files need more than an image may have, prints `bad
+/// TooLarge`. If no image has the size or the slots that are chosen, prints `bad BadSize` or `bad
+/// BadSlotCount`.
 pub fn cmd_import<W: Write, V: Write>(
     alloc: Global,
     choice: ImageChoice,
@@ -181,8 +183,8 @@ fn chosen<A: Allowance>(
     }
 }
 
-/// Returns the size of an image that is full with `databases` databases, whose chunks take `bytes` bytes, if an image
-/// may have it.
+/// Returns the size of an image that is full with `databases` databases, whose chunks take `bytes`
+/// bytes, if an image may have it.
 fn fitting_size(slots: u16, databases: usize, bytes: u64) -> Option<u32>
     requires { bytes ≤ enough }
     ensures right { IfSome result IsRegionSize }

@@ -1,8 +1,10 @@
-//! The commands on an image with databases, over bytes and counted writers: `databases`, `export`, `import` and `migrate`.
+//! The commands on an image with databases, over bytes and counted writers: `databases`, `export`,
+//! `import` and `migrate`.
 //!
-//! The contract of each says which status comes when, and what was written by then. `databases` prints a line for each
-//! database of an image. `export` returns the files of the databases, with the names that they get in a folder. `import`
-//! makes an image that is just large enough for some files. `migrate` gives an image a chain of tables.
+//! The contract of each says which status comes when, and what was written by then. `databases`
+//! prints a line for each database of an image. `export` returns the files of the databases, with
+//! the names that they get in a folder. `import` makes an image that is just large enough for some
+//! files. `migrate` gives an image a chain of tables.
 //!
 //! | module | does |
 //! |---|---|

@@ -97,8 +97,8 @@ fn a_full_writer_gets_a_prefix(rt: HostRuntime) -> Result<(), Fail> {
     Ok(())
 }
 
-/// Canonical forms are cut in the same way at a few bytes, as each takes sets of all IDs. Nothing is
-/// printed. The first file stays the same, and is written at once. The second one is written in
+/// Canonical forms are cut in the same way at a few bytes, as each takes sets of all IDs. Nothing
+/// is printed. The first file stays the same, and is written at once. The second one is written in
 /// parts, and its last cut is in a block.
 #[test]
 fn a_full_writer_gets_a_prefix_of_a_form(rt: HostRuntime) -> Result<(), Fail> {

@@ -219,8 +219,8 @@ fn moments_are_printed_in_utc(rt: HostRuntime) -> Result<(), Fail> {
     Ok(())
 }
 
-/// Files, with other bytes from an offset on. Then what is printed of each, and what standard error has
-/// of its first fault.
+/// Files, with other bytes from an offset on. Then what is printed of each, and what standard error
+/// has of its first fault.
 static DAMAGED: [(&str, usize, &[u8], &str, &str); 12] = [
     (
         EMPTY_FILE,

@@ -17,8 +17,9 @@ fn check(alloc: Global, listing: &str, at: usize, byte: u8, wanted: bool) -> Res
     holds(format_args!("{listing} {at} {byte}"), looks == wanted)
 }
 
-/// Files, where one byte is another, and whether they look like PDB or PRC files: whole ones, two with a wrong offset or
-/// number of entries, one that goes on elsewhere, one without a name, one with a type that can't be printed, images, and one that begins with the magic.
+/// Files, where one byte is another, and whether they look like PDB or PRC files: whole ones, two
+/// with a wrong offset or number of entries, one that goes on elsewhere, one without a name, one
+/// with a type that can't be printed, images, and one that begins with the magic.
 static FILES: [(&str, usize, u8, bool); 12] = [
     (EMPTY_FILE, 40, 1, true),
     (ORDER_FILE, 40, 1, true),
@@ -42,8 +43,8 @@ fn databases_are_told_from_others(rt: HostRuntime) -> Result<(), Fail> {
     holds("no bytes", !looks_like_database(b""))
 }
 
-/// Files, where one byte is another, and whether they look like heap images: images of each profile, one whose size is
-/// too great by a byte, databases, and one that is named PHI1.
+/// Files, where one byte is another, and whether they look like heap images: images of each
+/// profile, one whose size is too great by a byte, databases, and one that is named PHI1.
 static IMAGES: [(&str, usize, u8, bool); 8] = [
     (BLANK, 3, 0x31, true),
     (BLANK, 3, 0x32, true),

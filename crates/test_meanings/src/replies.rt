@@ -1,4 +1,5 @@
-//! Replies with the numbers of their lines, on writers that take a few bytes at a time, and then none.
+//! Replies with the numbers of their lines, on writers that take a few bytes at a time, and then
+//! none.
 
 use reply_lines::Replies;
 use std::alloc::Global;
@@ -33,8 +34,8 @@ static REPLIES: [(&str, &[usize], &str, bool); 7] = [
     ),
 ];
 
-/// Writes lines in pieces of `step` bytes to a writer with room for `room` bytes, which takes `step`
-/// at a time.
+/// Writes lines in pieces of `step` bytes to a writer with room for `room` bytes, which takes
+/// `step` at a time.
 fn put<'a>(
     alloc: Global,
     lines: &str,

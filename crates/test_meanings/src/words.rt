@@ -17,8 +17,8 @@ pub(crate) fn check(alloc: Global, word: &str, status: Status, lines: &str) -> R
     equal(word, str::from_utf8(&text)?, lines)
 }
 
-/// Words, and the lines for them: a fault with a number, the number of a refusal and its name, a name of two faults,
-/// the changes, and a name in capitals.
+/// Words, and the lines for them: a fault with a number, the number of a refusal and its name, a
+/// name of two faults, the changes, and a name in capitals.
 static MEANINGS: [(&str, &str); 12] = [
     (
         "BadChunk",
@@ -106,7 +106,8 @@ fn meanings_are_cut(rt: HostRuntime) -> Result<(), Fail> {
     Ok(())
 }
 
-/// Words that are no name and no number: parts of names, more than a name, and numbers that no refusal has.
+/// Words that are no name and no number: parts of names, more than a name, and numbers that no
+/// refusal has.
 static UNKNOWN: [&str; 10] = [
     "",
     "Bad",

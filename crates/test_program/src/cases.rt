@@ -73,7 +73,8 @@ pub(crate) static CASES: [(&str, Output); 157] = [
     ("canonical - -", Taken),
     ("canonical - -", Refused),
     ("canonical damaged.pdb -", Taken),
-    // files that are taken apart, or not: a damaged one, and folders that are there or can't be made
+    // files that are taken apart, or not: a damaged one, and folders that are there or can't be
+    // made
     ("unpack order.pdb out", Taken),
     ("unpack tiny.prc out", Taken),
     ("unpack - out", Taken),
@@ -81,7 +82,8 @@ pub(crate) static CASES: [(&str, Output); 157] = [
     ("unpack order.pdb parts", Taken),
     ("unpack order.pdb none/out", Taken),
     ("unpack order.pdb out", Refused),
-    // files that are put together, or not: a name that climbs, a part that is no file, and no folder
+    // files that are put together, or not: a name that climbs, a part that is no file, and no
+    // folder
     ("pack parts out.pdb", Taken),
     ("pack climbs out.pdb", Taken),
     ("pack nested out.pdb", Taken),
@@ -111,12 +113,14 @@ pub(crate) static CASES: [(&str, Output); 157] = [
     ("import out.img order.pdb tiny.prc order.pdb", Taken),
     // standard input in place of a file
     ("import out.img tiny.prc -", Taken),
-    // a damaged file, one that isn't there, a size that no image has, and standard output that takes nothing
+    // a damaged file, one that isn't there, a size that no image has, and standard output that
+    // takes nothing
     ("import out.img order.pdb damaged.pdb", Taken),
     ("import out.img none.pdb", Taken),
     ("import --size 127 out.img tiny.prc", Taken),
     ("import out.img tiny.prc", Refused),
-    // the same facts as JSON: files, one that is damaged, standard input, and standard output that takes nothing
+    // the same facts as JSON: files, one that is damaged, standard input, and standard output that
+    // takes nothing
     ("list --json order.pdb", Taken),
     ("list --json tiny.prc", Taken),
     ("list --json damaged.pdb", Taken),
@@ -182,7 +186,8 @@ pub(crate) static CASES: [(&str, Output); 157] = [
     ("explain Frob", Taken),
     ("explain BADOFFSET 1", Taken),
     ("explain BadOffset", Refused),
-    // outputs that are a database file in place of an image, or an image in place of a database file
+    // outputs that are a database file in place of an image, or an image in place of a database
+    // file
     ("new 128 4 order.pdb", Taken),
     ("migrate blank.img order.pdb", Taken),
     ("run blank.img calls.txt tiny.prc", Taken),

@@ -1,5 +1,5 @@
-//! Changes of an image, drawn so that they meet what holds it together: headers of chunks, slots, the chain of tables,
-//! the directory, the headers of databases and their entries.
+//! Changes of an image, drawn so that they meet what holds it together: headers of chunks, slots,
+//! the chain of tables, the directory, the headers of databases and their entries.
 
 use rand::RngExt;
 use rand_pcg::Pcg32;
@@ -14,8 +14,8 @@ pub(crate) struct Parts {
     slots: Vec<usize>,
     /// The places of the chunks.
     places: Vec<usize>,
-    /// The place and the length of each chunk of the manager's: of the directory, of the headers of databases
-    /// with their entries, and of tables. The first word `next` is one of them too.
+    /// The place and the length of each chunk of the manager's: of the directory, of the headers of
+    /// databases with their entries, and of tables. The first word `next` is one of them too.
     lists: Vec<(usize, usize)>,
 }
 

@@ -17,7 +17,8 @@ const DATA: usize = 88;
 /// The script of the run.
 const SCRIPT: &str = "exports.txt";
 
-/// Does a run that exports `COUNT` files, each with other data, and shows how many of them have the data of their number.
+/// Does a run that exports `COUNT` files, each with other data, and shows how many of them have the
+/// data of their number.
 pub(crate) fn show_exports<R: Files + Print + AllocGlobal + Clone + Drop>(
     rt: &R,
 ) -> Result<(), Fail> {

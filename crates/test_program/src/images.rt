@@ -1,5 +1,5 @@
-//! Images that come of stores, checked by the check of stores and by the plain model, and calls done on those that are
-//! accepted.
+//! Images that come of stores, checked by the check of stores and by the plain model, and calls
+//! done on those that are accepted.
 
 use crate::changes::{Parts, change, drawn};
 use rand_pcg::Pcg32;
@@ -19,7 +19,8 @@ const CALLS: u32 = 8;
 /// How many calls make a store that is drawn.
 const DRAWN_CALLS: u32 = 60;
 
-/// A store to start from: an image with databases, or what a list of calls leaves of a blank one, of either layout.
+/// A store to start from: an image with databases, or what a list of calls leaves of a blank one,
+/// of either layout.
 fn any_store(alloc: Global, seed: u64) -> Result<Vec<u8>, Fail> {
     match seed % 6 {
         0 => bytes_of(alloc, DATABASE),
@@ -45,8 +46,8 @@ fn changed(random: &mut Pcg32, image: &Vec<u8>, parts: &Parts) -> Result<Vec<u8>
     Ok(bytes)
 }
 
-/// Does `calls` calls on an accepted image, on the store and on the plain model of it, and returns the image that they
-/// leave.
+/// Does `calls` calls on an accepted image, on the store and on the plain model of it, and returns
+/// the image that they leave.
 fn do_calls(
     alloc: Global,
     random: &mut Pcg32,

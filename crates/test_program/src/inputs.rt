@@ -90,8 +90,8 @@ pub(crate) static INPUTS: [(&str, Content); 23] = [
     ("faulty.txt", Text("dbcount\nfrob\n")),
 ];
 
-/// The folders that each run finds. The first is in the place of the second file that a script exports, and the last in the
-/// place of a part.
+/// The folders that each run finds. The first is in the place of the second file that a script
+/// exports, and the last in the place of a part.
 pub(crate) static FOLDERS: [&str; 6] = [
     "full.img.2",
     "parts",

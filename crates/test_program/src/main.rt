@@ -1,15 +1,17 @@
-//! Runs of the program `palmheap`, and images that came of stores by changes. The file `stdout` has what must come of
-//! all of them.
+//! Runs of the program `palmheap`, and images that came of stores by changes. The file `stdout` has
+//! what must come of all of them.
 //!
-//! Of a run it has what the run prints, its status and its standard error, and the files that are no more what they
-//! were. The runs stand in `CASES`, and the files that each of them finds in `INPUTS`: start there.
+//! Of a run it has what the run prints, its status and its standard error, and the files that are
+//! no more what they were. The runs stand in `CASES`, and the files that each of them finds in
+//! `INPUTS`: start there.
 //!
-//! Of the images, with one to three changes each, it has how many of them are what. The changes are drawn so that they
-//! meet what holds an image together. The check of stores says of each what the plain model says, and lists of calls
-//! on those that are accepted are answered as by the model.
+//! Of the images, with one to three changes each, it has how many of them are what. The changes are
+//! drawn so that they meet what holds an image together. The check of stores says of each what the
+//! plain model says, and lists of calls on those that are accepted are answered as by the model.
 //!
-//! `test_program STORES` leaves out the runs, and checks 250 images of each of `STORES` stores. Without a word there are
-//! 40 stores. Seeds are fixed. So a greater number adds stores to the same ones.
+//! `test_program STORES` leaves out the runs, and checks 250 images of each of `STORES` stores.
+//! Without a word there are 40 stores. Seeds are fixed. So a greater number adds stores to the same
+//! ones.
 #![tactic(auto)]
 
 mod cases;

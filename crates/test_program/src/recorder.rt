@@ -10,8 +10,8 @@ use std::io::{BufRead, ErrorKind, Input, Lines};
 use std::path::PathBuf;
 use std::rt::Files;
 
-/// A runtime with the files of another. Its standard input has these bytes. What is printed on it, and what on standard
-/// error, is kept.
+/// A runtime with the files of another. Its standard input has these bytes. What is printed on it,
+/// and what on standard error, is kept.
 #[derive(Drop)]
 pub(crate) struct Recorder<'a, R> {
     pub rt: &'a R,

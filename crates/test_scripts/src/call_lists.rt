@@ -73,7 +73,8 @@ fn a_list_goes_on_behind_a_refusal(rt: HostRuntime) -> Result<(), Fail> {
     check_list(rt.alloc(), &WITH_REFUSALS, said)
 }
 
-/// Checks the list with a read, if the growth after the first `before` is refused: the replies, and the free bytes then.
+/// Checks the list with a read, if the growth after the first `before` is refused: the replies, and
+/// the free bytes then.
 fn check_without(alloc: Global, before: u32, wanted: (&str, u32)) -> Result<(), Fail> {
     let mut store = small_store(alloc)?;
     let memory = RefusesOne::behind(alloc, before);

@@ -68,8 +68,8 @@ fn run_with<W: Write>(
     (ended, out.into_inner())
 }
 
-/// Checks the script, if the growth after the first `before` is refused: how it ends, the free bytes, and the printed
-/// text.
+/// Checks the script, if the growth after the first `before` is refused: how it ends, the free
+/// bytes, and the printed text.
 fn check_without(
     alloc: Global,
     before: u32,
@@ -86,8 +86,8 @@ fn check_without(
     )
 }
 
-/// How many growths are granted, and what comes of the script: nothing but the tables of labels, the buffer for
-/// bytes and the list of files grows.
+/// How many growths are granted, and what comes of the script: nothing but the tables of labels,
+/// the buffer for bytes and the list of files grows.
 static RUNS: [(u32, (Ended, u32, &str)); 5] = [
     (0, (Err(RunFault::OutOfMemory), 96, "")),
     (1, (Err(RunFault::OutOfMemory), 96, "")),
@@ -119,8 +119,8 @@ fn refused(reply: &Reply) -> u8 {
     }
 }
 
-/// How many growths are granted, whether a read from a chunk of 2 bytes names the chunk, how many bytes it asks
-/// for, and the number of its refusal.
+/// How many growths are granted, whether a read from a chunk of 2 bytes names the chunk, how many
+/// bytes it asks for, and the number of its refusal.
 static READS: [(u32, bool, u32, u8); 6] = [
     (0, true, 2, 26),
     (0, true, 0, 26),

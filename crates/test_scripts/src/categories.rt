@@ -1,5 +1,5 @@
-//! Records of categories, with their IDs and attributes: the lines that ask for them and change them, and
-//! those that take data out of a database.
+//! Records of categories, with their IDs and attributes: the lines that ask for them and change
+//! them, and those that take data out of a database.
 
 use crate::runs::check_runs;
 use std::test::Fail;
@@ -56,7 +56,8 @@ static RUNS: [(&str, &str); 9] = [
         recinfo d 1 = ok d5 9 none
         dbinfo d = ok \"Notes\" 0000 0 5 5 0 5 \"DATA\" \"Test\" 00000002 2",
     ),
-    // a category is moved: records are made dirty only where that is asked, and others are left alone
+    // a category is moved: records are made dirty only where that is asked, and others are left
+    // alone
     (
         WIDE,
         "create d \"Notes\" \"DATA\" \"Test\" 0 5 = ok

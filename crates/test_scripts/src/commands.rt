@@ -258,7 +258,8 @@ fn new_stops_where_the_image_is_not_taken(rt: HostRuntime) -> Result<(), Fail> {
     check_image_cut(rt.alloc(), 127, WhenFull::TakesNothing)
 }
 
-/// Checks that `new` ends with a write fault after `room` printed bytes, and `written` bytes of an image.
+/// Checks that `new` ends with a write fault after `room` printed bytes, and `written` bytes of an
+/// image.
 fn check_line_cut(
     alloc: Global,
     size: u32,

@@ -1,5 +1,5 @@
-//! Databases: images with them that are checked, and the lines that make, ask for, change and delete
-//! them.
+//! Databases: images with them that are checked, and the lines that make, ask for, change and
+//! delete them.
 
 use crate::calls::{check_calls, creation, listed_store};
 use crate::commands::{check_faults, check_on};

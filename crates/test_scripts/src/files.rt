@@ -64,7 +64,8 @@ fn leave_beside<R: Files + AllocGlobal>(rt: &R, path: &str) -> Result<(), Fail> 
     Ok(fs::write(rt, beside.as_str(), "what another run left behind")?)
 }
 
-/// A file gets one text and then another in its place, also where another run left a file beside it.
+/// A file gets one text and then another in its place, also where another run left a file beside
+/// it.
 fn check_replaced<R: Files + AllocGlobal>(rt: &R, path: &str) -> Result<(), Fail> {
     check_taken(rt, path, "the first")?;
     leave_beside(rt, path)?;
@@ -176,8 +177,8 @@ fn permissions_are_kept(rt: HostRuntime) -> Result<(), Fail> {
     check_kept(&rt, path.as_str(), false)
 }
 
-/// A path takes no bytes for this reason, and nothing is made beside it. They aren't flushed, so that they take
-/// no place.
+/// A path takes no bytes for this reason, and nothing is made beside it. They aren't flushed, so
+/// that they take no place.
 fn check_refused<R: Files + AllocGlobal>(
     rt: &R,
     path: &str,
@@ -226,8 +227,8 @@ fn a_rename_that_fails_is_a_write_fault(rt: HostRuntime) -> Result<(), Fail> {
     check_folder(&rt, path.as_str())
 }
 
-/// Writes a text and flushes, which puts a file in its place: how many bytes it takes behind that, and what is
-/// there then; and it is flushed again.
+/// Writes a text and flushes, which puts a file in its place: how many bytes it takes behind that,
+/// and what is there then; and it is flushed again.
 fn write_behind<R: Files + AllocGlobal>(
     rt: &R,
     path: &str,

@@ -19,8 +19,8 @@ const TINY_WRITTEN: &str =
     "54696e79 00*28 0001 0001 00*12 00000001 00*8 6170706c 54657374 00000000 \
     00000000 0001 74535452 03e9 0000005a 0000 596f00";
 
-/// A file with both info blocks and three records, one deleted with data and one without, whose blocks stand
-/// in another order, with bytes between that are no block's.
+/// A file with both info blocks and three records, one deleted with data and one without, whose
+/// blocks stand in another order, with bytes between that are no block's.
 const TURNED: &str = "5475726e 00*28 0000 0000 00*16 0000006f 0000006d 44415441 54657374 00000000 \
     00000000 0003 0000006a 01 000007 00000000 80 000009 00000067 82 000008 \
     aa 313233 343536 3738 39";
@@ -148,7 +148,8 @@ static CASES: [Case; 9] = [
             dbinfo d = ok \"Empty\" 0000 0 0 0 0 0 \"DATA\" \"Test\" 00000000 0",
         files: &[],
     },
-    // what is wrong with a file is said; and an info block of no bytes has an offset in what is written
+    // what is wrong with a file is said; and an info block of no bytes has an offset in what is
+    // written
     Case {
         image: WIDE,
         inputs: &[

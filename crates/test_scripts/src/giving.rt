@@ -1,4 +1,5 @@
-//! Chunks of callers that become the data of records or info blocks, and those that databases hand back.
+//! Chunks of callers that become the data of records or info blocks, and those that databases hand
+//! back.
 
 use crate::records::NARROW;
 use crate::runs::check_runs;

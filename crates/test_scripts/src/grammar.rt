@@ -1,6 +1,6 @@
 //! Scripts by their text: the spellings of each kind at their limits, each command's line, line and
-//! word numbers, and the order of faults; and memory that is refused. What a line reads as is its `Debug`
-//! text, in which a call has the names and the order of its fields.
+//! word numbers, and the order of faults; and memory that is refused. What a line reads as is its
+//! `Debug` text, in which a call has the names and the order of its fields.
 
 use heap_model::{Call, MemoryCall};
 use script_lines::{LentBytes, Line, LineCall, LineFault, Script, ScriptFault, parse, parse_from};
@@ -13,7 +13,8 @@ fn put<T: Debug>(text: &mut String, word: &str, line: &T) -> Result<(), AllocErr
     write!(text, "{word}{line:?};")
 }
 
-/// A call that gives bytes, behind its command: its chunk, where they go to, and the bytes, 16 at most.
+/// A call that gives bytes, behind its command: its chunk, where they go to, and the bytes, 16 at
+/// most.
 fn put_given<C: Debug>(
     text: &mut String,
     word: &str,
@@ -44,8 +45,8 @@ fn put_call(text: &mut String, call: &LineCall<'_>) -> Result<(), AllocError> {
     }
 }
 
-/// A line as its call, in a pair behind the label that it binds. A call whose answer isn't printed stands
-/// behind `silent`.
+/// A line as its call, in a pair behind the label that it binds. A call whose answer isn't printed
+/// stands behind `silent`.
 fn put_line(text: &mut String, line: &Line<'_>) -> Result<(), AllocError> {
     match line {
         Line::Bind { label, name } => put(text, "", &(label, name)),
@@ -120,7 +121,8 @@ fn scripts_that_are_no_text_are_read(rt: HostRuntime) -> Result<(), Fail> {
     Ok(())
 }
 
-/// Lines, and behind ` => ` what each reads as, as a script of its own. A line without that reads as nothing.
+/// Lines, and behind ` => ` what each reads as, as a script of its own. A line without that reads
+/// as nothing.
 const LINES: &str = "# commands
     bind a 16 => (ChunkLabel(0), 16);
     new a 8 1 => (ChunkLabel(0), Memory(HandleNew { size: 8, owner: 1 }));
@@ -531,7 +533,8 @@ const LINES: &str = "# commands
     free a\x00 => line 1 BadWord 2
     strcopy a 0 \"a\"\t => strcopy (ChunkLabel(0), 0, [97]);";
 
-/// Scripts of several lines or none, or with blanks and other characters at their ends, and what they read as.
+/// Scripts of several lines or none, or with blanks and other characters at their ends, and what
+/// they read as.
 static SCRIPTS: [(&str, &str); 33] = [
     // labels are numbered in the order in which they first appear, each case apart
     (
@@ -740,8 +743,8 @@ fn labels_bytes_and_exports_are_counted(rt: HostRuntime) -> Result<(), Fail> {
     Ok(())
 }
 
-/// A script that takes each kind of memory, with how many growths: 6 lines, 3 labels, which take two each, and 14
-/// values. Bytes, text and a type take none.
+/// A script that takes each kind of memory, with how many growths: 6 lines, 3 labels, which take
+/// two each, and 14 values. Bytes, text and a type take none.
 const EACH_GROWTH: &str =
     "new a 8 1\nwrite a 0 4142\nstrcopy a 0 \"x\"\nstrcopy b 0 x:79\nfreebytes\n\
     create a \"N\" \"DATA\" x:54657374 0 0";
@@ -753,7 +756,8 @@ const REFUSED: LineFault = LineFault {
     fault: ScriptFault::OutOfMemory,
 };
 
-/// Checks the number of lines of that script, or its fault, if the growth after the first `before` is refused.
+/// Checks the number of lines of that script, or its fault, if the growth after the first `before`
+/// is refused.
 fn check_without(alloc: Global, before: u32, wanted: Result<usize, LineFault>) -> Result<(), Fail> {
     let lines = match parse_from(&RefusesOne::behind(alloc, before), EACH_GROWTH.as_bytes()) {
         Ok(script) => Ok(script.lines().len()),

@@ -47,7 +47,8 @@ fn a_script_as_long_as_the_limit_is_read(rt: HostRuntime) -> Result<(), Fail> {
     )
 }
 
-/// What `run` itself prints on a blank image of this size: the commands call the forms with an allowance.
+/// What `run` itself prints on a blank image of this size: the commands call the forms with an
+/// allowance.
 fn run_plain(alloc: Global, size: u32, script: &str) -> Result<Vec<u8>, Fail> {
     let script = parse(alloc, script.as_bytes())?;
     let mut store = blank_store(alloc, size)?;
@@ -61,7 +62,8 @@ fn says(ran: &Ran<Vec<u8>, Vec<u8>>, said: &str) -> bool {
     ran.status == Status::Done && ran.out.as_slice() == said.as_bytes()
 }
 
-/// A run on the blank image of 128 bytes prints this, by the command and by `run`, and leaves the image as it is.
+/// A run on the blank image of 128 bytes prints this, by the command and by `run`, and leaves the
+/// image as it is.
 fn check_kept(alloc: Global, script: &str, said: &str) -> Result<(), Fail> {
     let plain = run_plain(alloc, 128, script)?;
     holds("what `run` prints", plain.as_slice() == said.as_bytes())?;
@@ -108,8 +110,8 @@ fn a_line_has_as_many_bytes_as_it_likes(rt: HostRuntime) -> Result<(), Fail> {
     holds("the replies", says(&ran, said.as_str()))
 }
 
-/// An image of the greatest size, a script of 8 MB with one line of nearly all of that, and a reply line of as many
-/// bytes.
+/// An image of the greatest size, a script of 8 MB with one line of nearly all of that, and a reply
+/// line of as many bytes.
 #[test]
 fn a_run_is_as_large_as_it_likes(rt: HostRuntime) -> Result<(), Fail> {
     let alloc = rt.alloc();

@@ -303,8 +303,8 @@ fn nothing_is_written_after_a_failed_write(rt: HostRuntime) -> Result<(), Fail> 
     Ok(())
 }
 
-/// Runs `DRIVEN` with a refused allocation, after `before` others. The replies so far are whole lines
-/// and were flushed, and no image was written. Returns whether an allocation was refused.
+/// Runs `DRIVEN` with a refused allocation, after `before` others. The replies so far are whole
+/// lines and were flushed, and no image was written. Returns whether an allocation was refused.
 fn is_refused(alloc: Global, before: u32) -> Result<bool, Fail> {
     let image = bytes_of(alloc, BLANK)?;
     let memory = RefusesOne::behind(alloc, before);

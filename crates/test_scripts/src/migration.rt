@@ -36,7 +36,8 @@ fn migrate_on(alloc: Global, image: &[u8]) -> Told<Vec<u8>, Vec<u8>> {
     migrate_to(alloc, image, Vec::new(alloc), Vec::new(alloc))
 }
 
-/// A locked chunk, a fixed one, a free one and a movable one, behind 4 slots. Slack and the free chunk aren't zeros.
+/// A locked chunk, a fixed one, a free one and a movable one, behind 4 slots. Slack and the free
+/// chunk aren't zeros.
 const EVERY_KIND: &str = "50484931 00000080 0004 0000 00000000 00000060 00000028 00*8 \
     06000018 32FFFFFA 0102030405060708090A F1F2F3F4F5F6 \
     03000010 F5000000 1112131415 E1E2E3 \
@@ -227,7 +228,8 @@ fn check_image_cut(alloc: Global, room: usize, way: WhenFull) -> Result<(), Fail
     )
 }
 
-/// Checks that the command ends with a write fault after `room` printed bytes, and `written` bytes of an image.
+/// Checks that the command ends with a write fault after `room` printed bytes, and `written` bytes
+/// of an image.
 fn check_line_cut(
     alloc: Global,
     listing: &str,

@@ -1,5 +1,5 @@
-//! The size and the slot count of images that files need: the imports are done in such an image, and in a smaller one the
-//! last is refused.
+//! The size and the slot count of images that files need: the imports are done in such an image,
+//! and in a smaller one the last is refused.
 
 use crate::runs::check_lines;
 use chunk_format::blank;
@@ -8,13 +8,15 @@ use std::alloc::Global;
 use std::test::Fail;
 use test_support::{EMPTY_FILE, ORDER_FILE, TINY_FILE, bytes_of};
 
-/// A file of a record, whose database has an AppInfo block of 5 bytes and an empty SortInfo block. The data has 9 bytes.
+/// A file of a record, whose database has an AppInfo block of 5 bytes and an empty SortInfo block.
+/// The data has 9 bytes.
 const BLOCKS_FILE: &str = "2f426c2e 00*28 0000 0000 00*16 00000058 0000005d 44415441 54657374 \
     00000000 00000000 0001 0000005d 00 000001 0000 0102030405 111213141516171819";
 
-/// Files with the size and the slot count that they need: 16 bytes and 4 for each slot, rounded up to a multiple of 8; 16
-/// for a directory of one or two databases, and 24 for three or four; and for each chunk 8 bytes and its own, rounded up.
-/// Then the script lines with their replies: all imports are done, or all but the last.
+/// Files with the size and the slot count that they need: 16 bytes and 4 for each slot, rounded up
+/// to a multiple of 8; 16 for a directory of one or two databases, and 24 for three or four; and
+/// for each chunk 8 bytes and its own, rounded up. Then the script lines with their replies: all
+/// imports are done, or all but the last.
 static NEEDS: [(&[&str], u32, u16, &str, &str); 6] = [
     (
         &[EMPTY_FILE],

@@ -128,7 +128,8 @@ fn answers_a_read_that_fails(rt: HostRuntime) -> Result<(), Fail> {
     check_failing(rt.alloc(), ErrorKind::OutOfMemory)
 }
 
-/// Checks the outcome of reading 4 bytes, one at a time, if the growth after the first `before` is refused.
+/// Checks the outcome of reading 4 bytes, one at a time, if the growth after the first `before` is
+/// refused.
 fn check_with(alloc: Global, before: u32, wanted: Outcome) -> Result<(), Fail> {
     let memory = RefusesOne::behind(alloc, before);
     let came = outcome_of(read_input_from(&memory, &mut Source::new(4, 1)));

@@ -347,8 +347,8 @@ fn a_chunk_is_no_database(rt: HostRuntime) -> Result<(), Fail> {
     check_no_database(rt.alloc(), &mut store, chunk)
 }
 
-/// The front of an image of 524,544 bytes with 4 slots, whose one database has 65,535 records: up to its
-/// entries.
+/// The front of an image of 524,544 bytes with 4 slots, whose one database has 65,535 records: up
+/// to its entries.
 const CROWDED: &str = "50484931 00080100 0004 0000 00000010 00000028 00000038 00*8 \
     04000010 00FFFFF8 00000014 00*4 02080050 00FFFFF2 \
     52 00*31 0000 0000 00*24 44415441 54657374 0000FFFF 00000000 FFFF";
@@ -371,8 +371,8 @@ fn crowded(alloc: Global) -> Result<Vec<u8>, Fail> {
     Ok(bytes)
 }
 
-/// Lines on it, each with its reply. Deleted records are of no category, have no data to hand over, and stay deleted
-/// whatever attributes are given; and the last two slots are for info blocks.
+/// Lines on it, each with its reply. Deleted records are of no category, have no data to hand over,
+/// and stay deleted whatever attributes are given; and the last two slots are for info blocks.
 const ON_CROWDED: &str = "find d \"R\" = ok
     recnew d 0 0 r = refused 17 TooManyEntries
     new a 8 1 = ok

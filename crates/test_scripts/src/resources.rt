@@ -1,4 +1,5 @@
-//! Resources: the lines that make, ask for, change and remove them, and those that give and take their data.
+//! Resources: the lines that make, ask for, change and remove them, and those that give and take
+//! their data.
 
 use crate::calls::{check_calls, creation, listed_store};
 use crate::records::NARROW;
@@ -79,7 +80,8 @@ static RUNS: [(&str, &str); 11] = [
         dbinfo e = refused 10 NoSuchDatabase
         find e \"None\" = refused 10 NoSuchDatabase",
     ),
-    // the first of equals is found; of a type they are counted from 0, and others in between are passed over
+    // the first of equals is found; of a type they are counted from 0, and others in between are
+    // passed over
     (
         WIDE,
         "create p \"Prog\" \"appl\" \"Test\" 1 0 = ok
@@ -175,7 +177,8 @@ static RUNS: [(&str, &str); 11] = [
         rescount p = ok 1
         dbinfo p = ok \"Prog\" 0001 0 0 0 0 1 \"appl\" \"Test\" 00000000 1",
     ),
-    // bytes at the end of the data go, or zeros come; a locked one takes less where it stands, and no more
+    // bytes at the end of the data go, or zeros come; a locked one takes less where it stands, and
+    // no more
     (
         WIDE,
         "create p \"Prog\" \"appl\" \"Test\" 1 0 = ok

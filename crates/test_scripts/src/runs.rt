@@ -110,7 +110,8 @@ fn part(script: &mut String, said: &mut String, text: &str) -> Result<(), AllocE
     Ok(())
 }
 
-/// Runs the lines of such a text on an image, and checks their replies and the files that they export.
+/// Runs the lines of such a text on an image, and checks their replies and the files that they
+/// export.
 pub(crate) fn check_lines(
     alloc: Global,
     image: &[u8],
@@ -311,8 +312,8 @@ static RUNS: [(&str, &str); 11] = [
     ),
 ];
 
-/// Images and scripts, what the run answers and prints, and the image that it writes, none where one
-/// of them is refused.
+/// Images and scripts, what the run answers and prints, and the image that it writes, none where
+/// one of them is refused.
 static OUTCOMES: [(&str, &str, (Status, &str), &str); 13] = [
     (BLANK, "new a 10 1\n", (Status::Done, "ok\n"), ONE_CHUNK),
     (ONE_CHUNK, "", (Status::Done, ""), ONE_CHUNK),
@@ -461,7 +462,8 @@ fn an_output_that_takes_0_bytes_is_a_write_fault(rt: HostRuntime) -> Result<(), 
     check_stop(alloc, "frob", (1000, 0), way, (0, &[]))
 }
 
-/// Checks that nothing follows replies that go through a buffer to a writer with room for `room` bytes.
+/// Checks that nothing follows replies that go through a buffer to a writer with room for `room`
+/// bytes.
 fn check_behind_buffer(alloc: Global, capacity: usize, room: usize) -> Result<(), Fail> {
     let image = bytes_of(alloc, BLANK)?;
     let narrow = Narrow::new(alloc, room, 3, WhenFull::TakesNothing);

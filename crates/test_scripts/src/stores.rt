@@ -1,5 +1,5 @@
-//! The commands `import`, `databases` and `export`: images that are just large enough, what is printed of them, and the
-//! files that come out of them.
+//! The commands `import`, `databases` and `export`: images that are just large enough, what is
+//! printed of them, and the files that come out of them.
 
 use heap_model::Bytes;
 use palm_text::Counted;
@@ -17,7 +17,8 @@ use test_support::{
     bytes_of, equal, holds,
 };
 
-/// A file of a record, whose database has an AppInfo block of 5 bytes and an empty SortInfo block. The data has 9 bytes.
+/// A file of a record, whose database has an AppInfo block of 5 bytes and an empty SortInfo block.
+/// The data has 9 bytes.
 const BLOCKS_FILE: &str = "2f426c2e 00*28 0000 0000 00*16 00000058 0000005d 44415441 54657374 \
     00000000 00000000 0001 0000005d 00 000001 0000 0102030405 111213141516171819";
 
@@ -57,9 +58,9 @@ const NOTHING_CHOSEN: ImageChoice = ImageChoice {
     slots: None,
 };
 
-/// Files, and the size and the slot count of the smallest image for them: 16 bytes and 4 for each slot, rounded up to a
-/// multiple of 8; 16 for a directory of one or two databases, and 24 for three or four; and for each chunk 8 bytes and its own,
-/// rounded up.
+/// Files, and the size and the slot count of the smallest image for them: 16 bytes and 4 for each
+/// slot, rounded up to a multiple of 8; 16 for a directory of one or two databases, and 24 for
+/// three or four; and for each chunk 8 bytes and its own, rounded up.
 static NEEDS: [(&[&str], u32, u16); 7] = [
     (&[EMPTY_FILE], 128, 2),
     (&[ORDER_FILE], 208, 5),
@@ -248,7 +249,8 @@ fn databases_come_out_as_files(rt: HostRuntime) -> Result<(), Fail> {
     Ok(())
 }
 
-/// Checks what `import` wrote of the image and of its lines, if there is room for `image_room` and `room` bytes.
+/// Checks what `import` wrote of the image and of its lines, if there is room for `image_room` and
+/// `room` bytes.
 fn check_room(alloc: Global, image_room: usize, room: usize, wanted: Status) -> Result<(), Fail> {
     let files = files_of(alloc, &[TINY_FILE, ORDER_FILE])?;
     let mut image = Counted::new(Narrow::new(alloc, image_room, 100, WhenFull::TakesNothing));
@@ -275,7 +277,8 @@ fn nothing_is_written_after_a_failed_write(rt: HostRuntime) -> Result<(), Fail> 
     check_room(rt.alloc(), 360, 15, Status::Done)
 }
 
-/// Whether a command ended as it has to if an allocation was refused, or none was. Returns the first.
+/// Whether a command ended as it has to if an allocation was refused, or none was. Returns the
+/// first.
 fn check_memory(
     memory: &RefusesOne,
     name: &str,

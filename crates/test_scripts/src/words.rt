@@ -64,8 +64,8 @@ fn shown(alloc: Global, request: &Request) -> Result<String, AllocError> {
     }
 }
 
-/// Words, and how what comes of them begins, and what stands in it: commands, words that are refused,
-/// and help.
+/// Words, and how what comes of them begins, and what stands in it: commands, words that are
+/// refused, and help.
 static CASES: [(&str, &str, &str); 77] = [
     ("palmheap new 128 4 a.img", "new 128 4 a.img\n", ""),
     (
