@@ -1,6 +1,6 @@
 #!/bin/bash
-# Times the first call of palmheap in a fresh clone, with nothing kept, and prints its progress with the seconds since
-# the start.
+# Times the first call of palmheap in a fresh clone, with nothing kept, and then of `palmheap --build`, which proves the
+# other commands. Prints their progress with the seconds since the start.
 #
 # usage: bench/first_call.sh [REVISION]
 #
@@ -23,8 +23,17 @@ cd "$work/clone"
 
 echo "$(git log -1 --format='%h %s'), $(rt version), $(nproc) processors"
 begin=$SECONDS
-./palmheap new 128 4 a.img 2>&1 | while IFS= read -r line; do
-    printf '%5d s  %s\n' $((SECONDS - begin)) "$line"
-done
+
+# shown WORDS..: runs palmheap, and prints the seconds before each line of it.
+shown() {
+    ./palmheap "$@" 2>&1 | while IFS= read -r line; do
+        printf '%5d s  %s\n' $((SECONDS - begin)) "$line"
+    done
+}
+
+shown new 128 4 a.img
 [ -s a.img ]
 echo "the first call took $((SECONDS - begin)) s"
+shown --build
+[ -x crates/palmheap/out/palmheap ]
+echo "the whole program took $((SECONDS - begin)) s"

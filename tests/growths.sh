@@ -24,9 +24,9 @@ while IFS= read -r file; do
     case $file in
         *.antt) proofs+=("$file") ;;
         ./test_* | ./benchmarks/* | ./example_memos/*) ;;
-        ./program_io/src/command_line.rt | ./program_io/src/output_file.rt) ;;
+        ./program_io/src/command_line.rt | ./program_io/src/requested.rt | ./program_io/src/output_file.rt) ;;
         ./image_commands/src/files.rt | ./image_commands/src/folders.rt) ;;
-        ./palmheap_program/src/words.rt | ./palmheap_program/src/stores.rt) ;;
+        ./base_program/src/words.rt | ./palmheap_program/src/stores.rt) ;;
         # it fills room that allowance took
         ./canonical_file/src/blocks.rt) ;;
         # it makes a box, as docs/C-LIBRARY.md says

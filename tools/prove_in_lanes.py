@@ -1,5 +1,5 @@
 #!/usr/bin/env python3
-"""Proves the crates of the program palmheap, several at a time, and builds the program.
+"""Proves the crates of a program, palmheap if none is named, several at a time, and builds the program.
 
 `palmheap` calls this script. One `rt` locks the folders of all crates that it reads, so each lane is a copy of
 the crates, in crates/palmheap/out/lanes. A crate starts when the crates that it uses are proved, the one with the
@@ -22,8 +22,9 @@ import sys
 import time
 
 TOP = os.path.dirname(os.path.dirname(os.path.realpath(__file__)))
-PROGRAM = "palmheap"
-LANES = f"{TOP}/crates/{PROGRAM}/out/lanes"
+PROGRAM = sys.argv[1] if len(sys.argv) > 1 else "palmheap"
+# One folder for all programs, as they share crates.
+LANES = f"{TOP}/crates/palmheap/out/lanes"
 # The folders of a crate that its proof reads.
 PARTS = ("src", "specs", "proofs")
 GB = 1 << 30

@@ -15,7 +15,7 @@ use crate::found::{Found, as_fixed, as_movable};
 use crate::walks::find_fixed;
 use chunk_format::{HEADER_SIZE, Header, live_fields};
 use heap_model::{Name, Place};
-use master_table::{KnownTables, resolve_known, resolve_near, word_of};
+use master_table::{KnownTables, resolve_by_call, resolve_known, resolve_near, word_of};
 use raw_region::Region;
 
 /// Returns the chunk that has a name. If a slot has the name, it calls `in_slot`; for any other
@@ -50,6 +50,21 @@ pub(crate) fn in_slot(region: &Region, tables: &KnownTables, name: Name) -> Opti
     }
 }
 
+/// Returns the same as `in_slot`. Only the look-up in the first table is in line.
+#[inline(always)]
+pub(crate) fn in_slot_by_call(region: &Region, tables: &KnownTables, name: Name) -> Option<Found>
+    requires accepted { HeapAccepted region.now.bytes }
+    requires lent { LendsABody region.now }
+    requires knows { KnowsTables region.now.bytes tables.now }
+    ensures found { IfSome result (IsFound region.now.bytes name.0) }
+    ensures none { IfNone result (HoldsNothing region.now.bytes name.0) }
+{
+    match resolve_by_call(region, tables, name) {
+        Some(place) => Some(held_by(region, name, place)),
+        None => None,
+    }
+}
+
 /// Returns the chunk of a name that is a slot's, if the slot is in the first table, or in one that
 /// is in the entry of its block. None also if the slot is elsewhere. It calls no function.
 #[inline(always)]
@@ -75,7 +90,7 @@ pub(crate) fn chunk_named(region: &Region, tables: &KnownTables, name: Name) -> 
     requires there { IsSome (held region.now.bytes name.0) }
     ensures { IsFound region.now.bytes name.0 result }
 {
-    match in_slot(region, tables, name) {
+    match in_slot_by_call(region, tables, name) {
         Some(found) => found,
         None => fixed_at(region, name),
     }

@@ -31,7 +31,9 @@ use crate::directory::{directory_name, name_directory};
 use crate::found::Found;
 use crate::gather::{build, gather};
 use crate::lists::{CLASSES, take};
-use crate::lookup::{chunk_named, find_named, find_placed, in_near_slot, in_slot, movable_named};
+use crate::lookup::{
+    chunk_named, find_named, find_placed, in_near_slot, in_slot, in_slot_by_call, movable_named,
+};
 use crate::open::open_in;
 use crate::owned::release_owned;
 use crate::pack::{compact, pack_stretch};
@@ -147,6 +149,17 @@ impl Space {
         ensures none { IfNone result (HoldsNothing self.now.bytes name.0) }
     {
         in_slot(&self.region, &self.tables, name)
+    }
+
+    /// Returns the same as `in_slot`. Only the look-up in the first table is in line.
+    #[inline(always)]
+    pub fn in_slot_by_call(&self, name: Name) -> Option<Found>
+        requires accepted { HeapAccepted self.now.bytes }
+        requires lent { LendsABody self.now }
+        ensures found { IfSome result (IsFound self.now.bytes name.0) }
+        ensures none { IfNone result (HoldsNothing self.now.bytes name.0) }
+    {
+        in_slot_by_call(&self.region, &self.tables, name)
     }
 
     /// Returns the chunk of a name that is a slot's, whoever owns it, if the slot is in the first

@@ -1,3 +1,1 @@
-mod Mapped
-mod Drawn
 mod Filled

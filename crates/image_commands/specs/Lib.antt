@@ -1,6 +1,4 @@
 pub mod Commands
-pub mod Mapping
-pub mod Drawing
 pub use Rattle.heap_model.specs.Store
 pub use Rattle.chunk_format.specs.Blank
 pub use Rattle.store_check.specs.Checks

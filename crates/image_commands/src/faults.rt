@@ -11,7 +11,8 @@ pub const STANDARD_INPUT: &str = "standard input";
 /// The name of standard output, for reports of failures.
 pub const STANDARD_OUTPUT: &str = "standard output";
 
-pub(crate) const STANDARD_ERROR: &str = "standard error";
+/// The name of standard error, for reports of failures.
+pub const STANDARD_ERROR: &str = "standard error";
 
 /// The word for standard input, or standard output, in place of a path.
 pub const STANDARD_STREAM: &str = "-";

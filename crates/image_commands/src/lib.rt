@@ -1,8 +1,7 @@
-//! The commands of the program `palmheap` that run no script, and the files that all commands read
-//! and write. `new`, `check` and `map` work on an image, and `list`, `canonical`, `unpack` and
-//! `pack` on a file.
+//! Commands of the program `palmheap`, and the files that all commands read and write. `new` and
+//! `check` work on an image, and `list`, `canonical`, `unpack` and `pack` on a file.
 //!
-//! The first three are functions over bytes and counted writers. Their contracts state when each
+//! The first two are functions over bytes and counted writers. Their contracts state when each
 //! status is returned, what was written by then, and after which bytes a write failed.
 //! `file_commands` has the other commands. Each also has a form over any `Allowance`, which reports
 //! out of memory only if an allocation failed. Start at `cmd_new`.
@@ -15,10 +14,7 @@
 //! | module | does |
 //! |---|---|
 //! | `commands` | the commands `new` and `check`, over bytes |
-//! | `map_command` | the command `map`, over bytes: a picture of an image as text |
-//! | `draw_command` | the same, with an output file: a picture of an image as SVG |
 //! | `images` | the commands `new` and `check`, over files |
-//! | `maps` | the command `map`, over files |
 //! | `file_listings` | the commands `list` and `canonical`, over files |
 //! | `documents` | the commands `list --json` and `check --json`, over files |
 //! | `folders` | the commands `unpack` and `pack`, over files and folders |
@@ -31,22 +27,20 @@
 
 mod commands;
 mod documents;
-mod draw_command;
 mod faults;
 mod file_listings;
 mod files;
 mod folders;
 mod images;
-mod map_command;
-mod maps;
 mod region_input;
 mod replacing;
 mod suggestions;
 
 pub use commands::{check_region_from, cmd_check, cmd_check_from, cmd_new, cmd_new_from};
 pub use documents::{check_json, list_json, report_document};
-pub use draw_command::{cmd_draw, cmd_draw_from, draw_region_from};
-pub use faults::{STANDARD_INPUT, STANDARD_OUTPUT, STANDARD_STREAM, fail, fail_to_read};
+pub use faults::{
+    STANDARD_ERROR, STANDARD_INPUT, STANDARD_OUTPUT, STANDARD_STREAM, fail, fail_to_read,
+};
 pub use file_listings::{canonical, list};
 pub use files::{
     read_file, read_file_or_input, read_files, read_image, report_left_files, write_file,
@@ -54,8 +48,6 @@ pub use files::{
 };
 pub use folders::{pack, path_in, unpack};
 pub use images::{check, new};
-pub use map_command::{cmd_map, cmd_map_from, map_region_from};
-pub use maps::{draw, map};
 pub use region_input::{SizedFault, read_region_from};
-pub use replacing::output_for_image;
+pub use replacing::{output_for_image, output_for_picture};
 pub use suggestions::{looks_like_file, suggest_checks, suggest_explain, suggest_list};

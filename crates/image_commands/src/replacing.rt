@@ -94,7 +94,7 @@ fn database_over<'a, R: Files + Eprint + AllocGlobal>(
 /// # Errors
 /// - `WriteFault`: there is such a file.
 /// - `NoMemory`: an allocation failed.
-pub(crate) fn output_for_picture<'a, R: Files + Eprint + AllocGlobal>(
+pub fn output_for_picture<'a, R: Files + Eprint + AllocGlobal>(
     rt: &'a R,
     path: &str,
 ) -> Result<OutputFile<'a, R>, Status>

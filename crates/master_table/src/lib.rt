@@ -17,6 +17,6 @@ pub use chain::add_table;
 pub use known::KnownTables;
 pub use slots::{OneTable, Row, TableStart};
 pub use table::{
-    EmptySlot, clear, first_empty_slot, least_number, resolve, resolve_known, resolve_near, set,
-    slots_before, slots_free, slots_total, word_of,
+    EmptySlot, clear, first_empty_slot, least_number, resolve, resolve_by_call, resolve_known,
+    resolve_near, set, slots_before, slots_free, slots_total, word_of,
 };

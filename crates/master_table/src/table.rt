@@ -76,6 +76,19 @@ pub fn resolve(region: &Region, name: Name) -> Option<Place>
     }
 }
 
+/// Returns the place that a slot of the first table holds. None also if the slot is elsewhere.
+#[inline(always)]
+fn resolve_first(region: &Region, name: Name) -> Option<Place>
+    requires tiled { IsTiled region.now.bytes }
+    requires lent { LendsABody region.now }
+    ensures { IfSome result (λ place. HoldsPlace region.now.bytes name.0 place.0) }
+{
+    match Row::of(region).number(region, name.0) {
+        Some(_) => place_in(region, name),
+        None => None,
+    }
+}
+
 /// Returns the place that a slot holds, if the slot is in the first table, or in one that is in the
 /// entry of its block. None also if the slot is elsewhere. It calls no function, so a caller that
 /// ends with a call for all else saves no registers.
@@ -86,8 +99,8 @@ pub fn resolve_near(region: &Region, known: &KnownTables, name: Name) -> Option<
     requires knows { KnowsTables region.now.bytes known.now }
     ensures { IfSome result (λ place. HoldsPlace region.now.bytes name.0 place.0) }
 {
-    if let Some(_) = Row::of(region).number(region, name.0) {
-        return place_in(region, name);
+    if let Some(place) = resolve_first(region, name) {
+        return Some(place);
     }
     if known.has_slot(name.0) {
         return place_in(region, name);
@@ -110,6 +123,35 @@ pub fn resolve_known(region: &Region, known: &KnownTables, name: Name) -> Option
         Some(place) => Some(place),
         None => resolve_further(region, known, name),
     }
+}
+
+/// Returns the same as `resolve_known`. Only the look-up in the first table is in line, so that it
+/// is small enough to be in line in a loop. What it calls returns a place and no chunk: a chunk
+/// would go through memory.
+#[inline(always)]
+pub fn resolve_by_call(region: &Region, known: &KnownTables, name: Name) -> Option<Place>
+    requires accepted { HeapAccepted region.now.bytes }
+    requires lent { LendsABody region.now }
+    requires knows { KnowsTables region.now.bytes known.now }
+    ensures { MatchOption result (HoldsNothing region.now.bytes name.0)
+        (λ place. HoldsPlace region.now.bytes name.0 place.0) }
+{
+    match resolve_first(region, name) {
+        Some(place) => Some(place),
+        None => resolve_elsewhere(region, known, name),
+    }
+}
+
+/// Returns the same as `resolve_known`, by a call.
+#[inline(never)]
+fn resolve_elsewhere(region: &Region, known: &KnownTables, name: Name) -> Option<Place>
+    requires accepted { HeapAccepted region.now.bytes }
+    requires lent { LendsABody region.now }
+    requires knows { KnowsTables region.now.bytes known.now }
+    ensures { MatchOption result (HoldsNothing region.now.bytes name.0)
+        (λ place. HoldsPlace region.now.bytes name.0 place.0) }
+{
+    resolve_known(region, known, name)
 }
 
 /// Returns the same for a name whose place isn't found near. It is never inlined, so that its

@@ -18,8 +18,8 @@ use chunk_format::{DATA_OWNER, FIXED_LOCK, MANAGERS_OWNER};
 use heap_model::{Name, Place, Refusal};
 use heap_place::{Found, Space};
 
-/// Finds the chunk of a name, whoever owns it. A slot is looked up first, and always in line: if a
-/// look-up is a call, what it found goes through memory.
+/// Finds the chunk of a name, whoever owns it. Only the look-up of a slot of the first table is in
+/// line, so that this is small enough to be in line in a loop.
 #[inline(always)]
 pub(crate) fn named(space: &Space, known: &KnownNames, name: Name) -> Option<Found>
     requires accepted { HeapAccepted space.now.bytes }
@@ -28,7 +28,7 @@ pub(crate) fn named(space: &Space, known: &KnownNames, name: Name) -> Option<Fou
     ensures found { IfSome result (IsFound space.now.bytes name.0) }
     ensures none { IfNone result (held space.now.bytes name.0 ≡ None) }
 {
-    if let Some(found) = space.in_slot(name) {
+    if let Some(found) = space.in_slot_by_call(name) {
         return Some(found);
     }
     if is_fixed(space, known, name) {

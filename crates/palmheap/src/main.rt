@@ -3,7 +3,8 @@
 //! The crate `palmheap_program` has its functions.
 #![tactic(auto)]
 
-use palmheap_program::{Ending, read_words, run};
+use base_program::read_words;
+use palmheap_program::{Ending, run};
 use std::process::ExitCode;
 
 fn main(rt: HostRuntime) -> ExitCode {

@@ -1,12 +1,9 @@
-//! The commands that print text or a document, over files.
+//! The command `databases` in the form that is asked for, over files.
 
 ghost use Rattle.std.specs.Prelude.{◌≢◌};
 
 use crate::stores::databases;
-use image_commands::{
-    check, check_json, fail, list, list_json, looks_like_file, read_image, report_document,
-    suggest_list,
-};
+use image_commands::{fail, looks_like_file, read_image, report_document, suggest_list};
 use palm_text::Counted;
 use program_io::command_line::Form;
 use program_io::{Noted, Status};
@@ -14,34 +11,6 @@ use std::io;
 use std::io::{BufWriter, Input};
 use std::rt::Files;
 use store_commands::databases_json_region_from;
-
-/// Runs `list`, and prints in this form.
-pub(crate) fn list_as<R: Files + Input + Print + Eprint + AllocGlobal>(
-    rt: &R,
-    file: &str,
-    form: Form,
-) -> Status
-    ensures { result ≢ Status.BadWords }
-{
-    match form {
-        Form::Text => list(rt, file),
-        Form::Json => list_json(rt, file),
-    }
-}
-
-/// Runs `check`, and prints in this form.
-pub(crate) fn check_as<R: Files + Input + Print + Eprint + AllocGlobal>(
-    rt: &R,
-    image: &str,
-    form: Form,
-) -> Status
-    ensures { result ≢ Status.BadWords }
-{
-    match form {
-        Form::Text => check(rt, image),
-        Form::Json => check_json(rt, image),
-    }
-}
 
 /// Runs `databases`, and prints in this form.
 pub(crate) fn databases_as<R: Files + Input + Print + Eprint + AllocGlobal>(

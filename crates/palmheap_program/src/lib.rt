@@ -3,8 +3,8 @@
 //!
 //! `cmd_run` works over bytes and counted writers. Its contract defines when it returns each
 //! status, what was written by then, and where a write failed. `cmd_run_from` is its form over any
-//! `Allowance`. It reports out of memory only if an allocation failed. The crates `image_commands`
-//! and `store_commands` have the other commands.
+//! `Allowance`. It reports out of memory only if an allocation failed. The crates `image_commands`,
+//! `map_commands` and `store_commands` have the other commands.
 //!
 //! The other functions call the system, like the functions of `image_commands` over paths. Start
 //! with `run`.
@@ -15,25 +15,20 @@
 //! | `live_command` | the same for a script that is run while it is read |
 //! | `scripts` | the command `run`, over files |
 //! | `ending` | how a run of the program ends |
-//! | `meanings` | the command `explain` |
 //! | `stores` | the commands `databases`, `export`, `import` and `migrate`, over files and folders |
-//! | `documents` | `list`, `check` and `databases` in the form that is asked for; `databases --json` |
-//! | `words` | reads the words of the command line |
-//! | `requests` | fulfils their request, and prints the text for words without a command |
+//! | `documents` | `databases` in the form that is asked for |
+//! | `requests` | fulfils the request of the words of the command line |
 #![tactic(auto)]
 
 mod documents;
 mod ending;
 mod live_command;
-mod meanings;
 mod requests;
 mod run_command;
 mod scripts;
 mod stores;
-mod words;
 
 pub use ending::Ending;
 pub use live_command::{LiveEnd, run_live_region_from};
 pub use requests::run;
 pub use run_command::{cmd_run, cmd_run_from, run_region_from};
-pub use words::read_words;

@@ -7,6 +7,8 @@
 //! | module | does |
 //! |---|---|
 //! | `command_line` | reads the words of the command line |
+//! | `command_rows` | the commands and their arguments, with their help |
+//! | `requested` | the request of the words that were matched |
 //! | `help_texts` | the texts of the help |
 //! | `input` | reads a file to its end, within the limit |
 //! | `output` | prints a line, and returns the status of the run |
@@ -19,6 +21,7 @@
 #![tactic(auto)]
 
 pub mod command_line;
+mod command_rows;
 mod error_output;
 mod fault_lines;
 mod fault_report;
@@ -27,6 +30,7 @@ mod input;
 mod noted;
 mod output;
 mod output_file;
+mod requested;
 mod status;
 
 pub use error_output::ErrorOutput;

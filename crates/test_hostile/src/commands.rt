@@ -3,7 +3,8 @@
 
 use crate::stores::{WRITTEN, input_files};
 use heap_model::Bytes;
-use image_commands::{cmd_check_from, cmd_draw_from, cmd_new_from};
+use image_commands::{cmd_check_from, cmd_new_from};
+use map_commands::cmd_draw_from;
 use palm_script::{LineFault, ScriptFault};
 use palm_text::Counted;
 use palmheap_program::cmd_run_from;

@@ -1,9 +1,9 @@
 //! The words of the command line.
 
-use program_io::command_line::{Request, parse};
+use program_io::command_line::{BaseRequest, Request, parse};
 use std::alloc::{AllocError, Global};
 use std::test::Fail;
-use test_support::holds;
+use test_support::{equal, holds};
 
 /// The words of a command line that has no spaces in a word.
 fn words_of(alloc: Global, line: &str) -> Result<Vec<String>, AllocError> {
@@ -25,8 +25,7 @@ fn asked(alloc: Global, line: &str) -> Result<String, AllocError> {
 
 fn shown(alloc: Global, request: &Request) -> Result<String, AllocError> {
     match request {
-        Request::New { size, slots, out } => format!(in alloc; "new {size} {slots} {out}\n"),
-        Request::Check { image, form } => format!(in alloc; "check {image} {form:?}\n"),
+        Request::Base(request) => base_shown(alloc, request),
         Request::Run {
             image,
             script,
@@ -44,10 +43,6 @@ fn shown(alloc: Global, request: &Request) -> Result<String, AllocError> {
             image,
             out: Some(out),
         } => format!(in alloc; "map {image} {out}\n"),
-        Request::List { file, form } => format!(in alloc; "list {file} {form:?}\n"),
-        Request::Canonical { file, out } => format!(in alloc; "canonical {file} {out}\n"),
-        Request::Unpack { file, folder } => format!(in alloc; "unpack {file} {folder}\n"),
-        Request::Pack { folder, out } => format!(in alloc; "pack {folder} {out}\n"),
         Request::Databases { image, form } => { format!(in alloc; "databases {image} {form:?}\n") },
         Request::Export {
             image,
@@ -60,7 +55,18 @@ fn shown(alloc: Global, request: &Request) -> Result<String, AllocError> {
             slots,
             files,
         } => format!(in alloc; "import {out} {size:?} {slots:?} {files:?}\n"),
-        Request::Explain { word } => format!(in alloc; "explain {word}\n"),
+    }
+}
+
+fn base_shown(alloc: Global, request: &BaseRequest) -> Result<String, AllocError> {
+    match request {
+        BaseRequest::New { size, slots, out } => format!(in alloc; "new {size} {slots} {out}\n"),
+        BaseRequest::Check { image, form } => format!(in alloc; "check {image} {form:?}\n"),
+        BaseRequest::List { file, form } => format!(in alloc; "list {file} {form:?}\n"),
+        BaseRequest::Canonical { file, out } => format!(in alloc; "canonical {file} {out}\n"),
+        BaseRequest::Unpack { file, folder } => format!(in alloc; "unpack {file} {folder}\n"),
+        BaseRequest::Pack { folder, out } => format!(in alloc; "pack {folder} {out}\n"),
+        BaseRequest::Explain { word } => format!(in alloc; "explain {word}\n"),
     }
 }
 
@@ -369,6 +375,36 @@ fn check_words(alloc: Global, line: &str, front: &str, part: &str) -> Result<(),
 fn words_are_read(rt: HostRuntime) -> Result<(), Fail> {
     for (line, front, part) in &CASES {
         check_words(rt.alloc(), line, front, part)?;
+    }
+    Ok(())
+}
+
+/// Printed lines, each in one word, and the name in each that is explained.
+static LINES: [(&str, &str); 8] = [
+    ("bad BadOffset 1", "BadOffset 1"),
+    ("refused 25 BadFile Truncated", "25 BadFile Truncated"),
+    ("changes busy ids", "busy ids"),
+    ("line 3 BadWord 2", "BadWord 2"),
+    ("line 3", "line 3"),
+    ("5 refused 8 NotEnoughSpace", "8 NotEnoughSpace"),
+    ("5 refused", "5 refused"),
+    ("BadOffset 1", "BadOffset 1"),
+];
+
+fn check_line(alloc: Global, line: &str, wanted: &str) -> Result<(), Fail> {
+    let mut words = words_of(alloc, "palmheap explain")?;
+    words.push(String::from_str(alloc, line)?)?;
+    let found = match parse(alloc, &words) {
+        Ok(Request::Base(BaseRequest::Explain { word })) => word,
+        _ => "",
+    };
+    equal(line, found, wanted)
+}
+
+#[test]
+fn lines_in_one_word_are_read(rt: HostRuntime) -> Result<(), Fail> {
+    for (line, wanted) in &LINES {
+        check_line(rt.alloc(), line, wanted)?;
     }
     Ok(())
 }

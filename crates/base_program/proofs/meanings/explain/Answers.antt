@@ -1,7 +1,7 @@
 use Rattle.std.proofs.Common.{◌≡◌, ◌≢◌, ◌⊎◌, refl, inl, inr}
 use Rattle.program_io.specs.declared.status.Status.{Status}
 use Rattle.program_io.specs.declared.status.Status.TheVariants.{Done, Refused, BadWords, ReadFault, WriteFault, NoMemory}
-use Rattle.palmheap_program.proofs.meanings.explain.Goals as goal
+use Rattle.base_program.proofs.meanings.explain.Goals as goal
 
 one_of_three : (status : Status) → status ≢ Refused → status ≢ ReadFault → status ≢ NoMemory → (status ≡ Done) ⊎ (status ≡ BadWords) ⊎ (status ≡ WriteFault)
 one_of_three Done a b c = inl refl

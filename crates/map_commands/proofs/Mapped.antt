@@ -10,7 +10,7 @@ use Rattle.palm_text.specs.Output.{Puts}
 use Rattle.palm_text.proofs.Parts.{then_flush}
 use Rattle.image_faults.specs.Lines.{PutsBadImage, fault_line}
 use Rattle.heap_map.specs.Text.{map_text}
-use Rattle.image_commands.specs.Mapping.{PutsMap}
+use Rattle.map_commands.specs.Mapping.{PutsMap}
 
 -- the flush after all of the picture succeeded
 pub flushed : {V : Type 0} (image : List ℕ) (contents : V → Option (List ℕ)) (old between new : Writing V) → Writes contents old between (map_text image) true → Flushes contents between new true → PutsMap image contents old new true

@@ -3,11 +3,11 @@
 ghost use Rattle.std.specs.Prelude.{◌≡◌, ◌≢◌, None};
 
 use crate::draw_command::draw_region_from;
-use crate::faults::{STANDARD_ERROR, STANDARD_OUTPUT, STANDARD_STREAM, fail};
-use crate::files::read_image;
 use crate::map_command::map_region_from;
-use crate::replacing::output_for_picture;
-use crate::suggestions::{looks_like_file, suggest_list};
+use image_commands::{
+    STANDARD_ERROR, STANDARD_OUTPUT, STANDARD_STREAM, fail, looks_like_file, output_for_picture,
+    read_image, suggest_list,
+};
 use palm_text::Counted;
 use program_io::{ErrorOutput, Noted, Status, report_outcome};
 use raw_region::Region;

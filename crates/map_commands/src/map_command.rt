@@ -3,7 +3,7 @@
 ghost use Rattle.std.specs.Prelude.{◌≡◌, ◌≢◌, Err, IfErr, OnOk, None, true, false};
 ghost use Rattle.heap_model.specs.Store.{Accepted};
 ghost use Rattle.heap_map.specs.Pictures.{IsFaultOf};
-ghost use Rattle.image_commands.specs.Mapping.{EndsMap, PutsMap};
+ghost use Rattle.map_commands.specs.Mapping.{EndsMap, PutsMap};
 ghost use Rattle.allowance.specs.Refusals.{GrowthRefused};
 
 use allowance::Allowance;

@@ -3,7 +3,7 @@ use Rattle.std.proofs.Common.{◌≡◌, List, ℕ, true, false, Option, inl}
 use Rattle.heap_svg.specs.Drawing.{WritesDrawing}
 use Rattle.palm_text.specs.Counted.{Writing, Flushes}
 use Rattle.palm_text.proofs.Parts.{then_flush}
-use Rattle.image_commands.specs.Drawing.{PutsDrawing}
+use Rattle.map_commands.specs.Drawing.{PutsDrawing}
 
 -- the flush after the whole picture succeeded
 pub flushed : {W : Type 0} (image : List ℕ) (contents : W → Option (List ℕ)) (old between new : Writing W) → WritesDrawing image contents old between true → Flushes contents between new true → PutsDrawing image contents old new true

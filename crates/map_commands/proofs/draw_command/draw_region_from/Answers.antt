@@ -1,7 +1,7 @@
 use Rattle.std.proofs.Common.{◌≡◌, true, false, subst, inl, inr, rules}
 use Rattle.palm_text.specs.Counted.{Writing}
-use Rattle.image_commands.proofs.Mapped.{not_accepted, puts_first}
-use Rattle.image_commands.proofs.draw_command.draw_region_from.Goals as goal
+use Rattle.map_commands.proofs.Mapped.{not_accepted, puts_first}
+use Rattle.map_commands.proofs.draw_command.draw_region_from.Goals as goal
 
 pub returns-in-Ok-clause-ends : goal.returns-in-Ok-clause-ends
 returns-in-Ok-clause-ends g c = record {

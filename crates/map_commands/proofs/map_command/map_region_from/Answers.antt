@@ -1,8 +1,8 @@
 use Rattle.std.proofs.Common.{◌≡◌, true, false, subst, inr, rules}
 use Rattle.palm_text.specs.Counted.{Writing}
 use Rattle.image_faults.specs.Lines.{PutsBadImage}
-use Rattle.image_commands.proofs.Mapped.{not_accepted, puts_first}
-use Rattle.image_commands.proofs.map_command.map_region_from.Goals as goal
+use Rattle.map_commands.proofs.Mapped.{not_accepted, puts_first}
+use Rattle.map_commands.proofs.map_command.map_region_from.Goals as goal
 
 pub returns-in-Err-BadImage-clause-ends : goal.returns-in-Err-BadImage-clause-ends
 returns-in-Err-BadImage-clause-ends g c =

@@ -1,0 +1,19 @@
+//! The program `palmheap_base`, as a function over a runtime and the words of the command line. It
+//! has those commands of `palmheap` that need neither the managers nor the pictures: a first call
+//! of one of them proves a part of the crates.
+//!
+//! All functions call the system. Start with `run`.
+//!
+//! | module | does |
+//! |---|---|
+//! | `words` | reads the words of the command line |
+//! | `requests` | fulfils their request, and prints the text for words without a command |
+//! | `meanings` | the command `explain` |
+#![tactic(auto)]
+
+mod meanings;
+mod requests;
+mod words;
+
+pub use requests::{answer, fulfil, run};
+pub use words::read_words;

@@ -1,0 +1,3 @@
+pub mod Mapping
+pub mod Drawing
+pub use Rattle.heap_model.specs.Store

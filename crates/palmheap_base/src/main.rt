@@ -1,0 +1,16 @@
+//! The program `palmheap_base`, which has the commands of `palmheap` that its first call proves
+//! soonest.
+//!
+//! The crate `base_program` has its functions.
+#![tactic(auto)]
+
+use base_program::{read_words, run};
+use std::process::ExitCode;
+
+fn main(rt: HostRuntime) -> ExitCode {
+    let status = match read_words(&rt) {
+        Ok(words) => run(&rt, words.as_slice()),
+        Err(status) => status,
+    };
+    ExitCode::from(status.code())
+}

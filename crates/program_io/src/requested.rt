@@ -1,0 +1,221 @@
+//! Returns the request of the words that `clap` has matched.
+//!
+//! Start with `requested`.
+
+use crate::command_line::{BaseRequest, Form, Request, Shown};
+use clap::ArgMatches;
+use std::alloc::{AllocError, Global};
+
+/// Returns the request of the matches of `palmheap`. Each argument of a command is required, except
+/// FILE of `run`, NAME and the options, so nothing is missing.
+pub(crate) fn requested<'a>(
+    alloc: Global,
+    matches: &ArgMatches<'a>,
+) -> Result<Option<Request<'a>>, AllocError> {
+    match matches.subcommand() {
+        Some(("run", given)) => run_requested(alloc, given),
+        Some(("export", given)) => export_requested(alloc, given),
+        Some(("import", given)) => import_requested(alloc, given),
+        Some((name, given)) => Ok(image_requested(name, given)),
+        None => Ok(None),
+    }
+}
+
+/// Returns the request of a command that takes no list of words.
+fn image_requested<'a>(name: &str, given: &ArgMatches<'a>) -> Option<Request<'a>> {
+    match name {
+        "migrate" => migrate_requested(given),
+        "map" => map_requested(given),
+        "databases" => databases_requested(given),
+        _ => Some(Request::Base(base_requested(name, given)?)),
+    }
+}
+
+/// Returns the request of a command that calls no manager.
+fn base_requested<'a>(name: &str, given: &ArgMatches<'a>) -> Option<BaseRequest<'a>> {
+    match name {
+        "new" => new_requested(given),
+        "check" => check_requested(given),
+        "list" => list_requested(given),
+        "canonical" => canonical_requested(given),
+        "unpack" => unpack_requested(given),
+        "pack" => pack_requested(given),
+        "explain" => explain_requested(given),
+        _ => None,
+    }
+}
+
+fn new_requested<'a>(given: &ArgMatches<'a>) -> Option<BaseRequest<'a>> {
+    Some(BaseRequest::New {
+        size: given.get_one::<u32>("SIZE")?,
+        slots: given.get_one::<u16>("SLOTS")?,
+        out: given.get_str("OUT")?,
+    })
+}
+
+fn check_requested<'a>(given: &ArgMatches<'a>) -> Option<BaseRequest<'a>> {
+    Some(BaseRequest::Check {
+        image: given.get_str("IMAGE")?,
+        form: form_of(given),
+    })
+}
+
+fn run_requested<'a>(
+    alloc: Global,
+    given: &ArgMatches<'a>,
+) -> Result<Option<Request<'a>>, AllocError> {
+    let files = Vec::from_slice(alloc, given.get_strs("FILE").unwrap_or(&[]))?;
+    Ok(run_on(given, files))
+}
+
+fn run_on<'a>(given: &ArgMatches<'a>, files: Vec<&'a str>) -> Option<Request<'a>> {
+    Some(Request::Run {
+        image: given.get_str("IMAGE")?,
+        script: given.get_str("SCRIPT")?,
+        out: given.get_str("OUT")?,
+        files,
+        shown: Shown {
+            numbers: given.get_flag("NUMBERS"),
+            strict: given.get_flag("STRICT"),
+        },
+    })
+}
+
+fn migrate_requested<'a>(given: &ArgMatches<'a>) -> Option<Request<'a>> {
+    Some(Request::Migrate {
+        image: given.get_str("IMAGE")?,
+        out: given.get_str("OUT")?,
+    })
+}
+
+fn map_requested<'a>(given: &ArgMatches<'a>) -> Option<Request<'a>> {
+    Some(Request::Map {
+        image: given.get_str("IMAGE")?,
+        out: given.get_str("OUT"),
+    })
+}
+
+fn list_requested<'a>(given: &ArgMatches<'a>) -> Option<BaseRequest<'a>> {
+    Some(BaseRequest::List {
+        file: given.get_str("FILE")?,
+        form: form_of(given),
+    })
+}
+
+fn canonical_requested<'a>(given: &ArgMatches<'a>) -> Option<BaseRequest<'a>> {
+    Some(BaseRequest::Canonical {
+        file: given.get_str("FILE")?,
+        out: given.get_str("OUT")?,
+    })
+}
+
+fn unpack_requested<'a>(given: &ArgMatches<'a>) -> Option<BaseRequest<'a>> {
+    Some(BaseRequest::Unpack {
+        file: given.get_str("FILE")?,
+        folder: given.get_str("DIR")?,
+    })
+}
+
+fn pack_requested<'a>(given: &ArgMatches<'a>) -> Option<BaseRequest<'a>> {
+    Some(BaseRequest::Pack {
+        folder: given.get_str("DIR")?,
+        out: given.get_str("FILE")?,
+    })
+}
+
+fn databases_requested<'a>(given: &ArgMatches<'a>) -> Option<Request<'a>> {
+    Some(Request::Databases {
+        image: given.get_str("IMAGE")?,
+        form: form_of(given),
+    })
+}
+
+/// Returns the form that is asked for.
+fn form_of(given: &ArgMatches) -> Form {
+    if given.get_flag("JSON") {
+        Form::Json
+    } else {
+        Form::Text
+    }
+}
+
+fn export_requested<'a>(
+    alloc: Global,
+    given: &ArgMatches<'a>,
+) -> Result<Option<Request<'a>>, AllocError> {
+    let names = Vec::from_slice(alloc, given.get_strs("NAME").unwrap_or(&[]))?;
+    Ok(export_of(given, names))
+}
+
+fn export_of<'a>(given: &ArgMatches<'a>, names: Vec<&'a str>) -> Option<Request<'a>> {
+    Some(Request::Export {
+        image: given.get_str("IMAGE")?,
+        folder: given.get_str("DIR")?,
+        names,
+    })
+}
+
+fn import_requested<'a>(
+    alloc: Global,
+    given: &ArgMatches<'a>,
+) -> Result<Option<Request<'a>>, AllocError> {
+    let files = Vec::from_slice(alloc, given.get_strs("FILE").unwrap_or(&[]))?;
+    Ok(import_of(given, files))
+}
+
+fn import_of<'a>(given: &ArgMatches<'a>, files: Vec<&'a str>) -> Option<Request<'a>> {
+    Some(Request::Import {
+        out: given.get_str("OUT")?,
+        size: given.get_one::<u32>("SIZE"),
+        slots: given.get_one::<u16>("SLOTS"),
+        files,
+    })
+}
+
+fn explain_requested<'a>(given: &ArgMatches<'a>) -> Option<BaseRequest<'a>> {
+    Some(BaseRequest::Explain {
+        word: asked_for(given.get_strs("WORD")?)?,
+    })
+}
+
+/// Returns the name that is to be explained. That is the first word, but in a printed line the word
+/// after those of `words_before`. A line may be one word, with spaces in it.
+fn asked_for<'a>(words: &[&'a str]) -> Option<&'a str> {
+    let first = *words.first()?;
+    match first.split_once(' ') {
+        Some((start, rest)) => Some(name_in(first, start, rest)),
+        None => Some(name_among(first, words)),
+    }
+}
+
+/// Returns the name among the words of a line, of which `first` is the first. If the line ends
+/// before the name, it is the first word.
+fn name_among<'a>(first: &'a str, words: &[&'a str]) -> &'a str {
+    let second = words.get(1).copied().unwrap_or("");
+    words
+        .get(words_before(first, second))
+        .copied()
+        .unwrap_or(first)
+}
+
+/// Returns the end of a line that begins with the name. The line begins with the word `start`, and
+/// the rest follows a space.
+fn name_in<'a>(line: &'a str, start: &str, rest: &'a str) -> &'a str {
+    let (second, after) = rest.split_once(' ').unwrap_or((rest, line));
+    match words_before(start, second) {
+        0 => line,
+        1 => rest,
+        _ => after,
+    }
+}
+
+/// Returns how many words are before the name in a printed line with these first two words: one is
+/// before it in `bad`, `refused` and `changes`, two are in a faulty line of a script and in a
+/// refused one with its number.
+fn words_before(first: &str, second: &str) -> usize {
+    match (first, second) {
+        ("bad" | "refused" | "changes", _) => 1,
+        ("line", _) | (_, "refused") => 2,
+        _ => 0,
+    }
+}
