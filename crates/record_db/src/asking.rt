@@ -41,6 +41,7 @@ pub fn query(store: &Store, db: Db, index: u32) -> Result<Name, Refusal>
 /// - `NoSuchDatabase`: if the store has no database of this number.
 /// - `NotRecordDatabase`: if it is a resource database.
 /// - `IndexOutOfRange`: if the database has no record at the index.
+#[inline]
 pub fn record_info(store: &Store, db: Db, index: u32) -> Result<RecordInfo, Refusal>
     ensures { DoesRecord store.now (RecordCall.Info db index)
         (reply_of (λ info. Reply.Record info) result) store.now }
