@@ -402,7 +402,7 @@ def alone():
         try:
             fcntl.flock(lock, fcntl.LOCK_EX | fcntl.LOCK_NB)
         except BlockingIOError:
-            say("waiting for another call to end, which proves the program")
+            say("waiting for another call to end, which proves a program")
             fcntl.flock(lock, fcntl.LOCK_EX)
         yield lock
 

@@ -1,6 +1,6 @@
 //! The program `palmheap_base`, as a function over a runtime and the words of the command line. It
-//! has those commands of `palmheap` that need neither the managers nor the pictures: a first call
-//! of one of them proves a part of the crates.
+//! has the commands of `palmheap` that need neither the managers nor the pictures. So a first call
+//! of one of them proves fewer crates.
 //!
 //! All functions call the system. Start with `run`.
 //!

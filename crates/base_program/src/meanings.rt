@@ -3,8 +3,8 @@
 ghost use Rattle.std.specs.Prelude.{◌≡◌, ◌⊎◌, ◌==◌};
 ghost use Rattle.std.specs.List.{before_first};
 
-use explanations::{EXPLANATIONS, cmd_explain};
-use image_commands::STANDARD_OUTPUT;
+use command_files::STANDARD_OUTPUT;
+use explanations::explain_word;
 use palm_text::Counted;
 use program_io::{Noted, Status, report_outcome};
 use std::io;
@@ -16,7 +16,7 @@ pub(crate) fn explain<R: Print + Eprint>(rt: &R, word: &str) -> Status
 {
     let mut out = Counted::new(Noted::new(io::writer(rt)));
     let name = first_word(word);
-    let status = cmd_explain(name.as_bytes(), &EXPLANATIONS, &mut out);
+    let status = explain_word(name.as_bytes(), &mut out);
     let (_, fault) = out.into_inner().into_parts();
     if status == Status::BadWords {
         let _ = eprintln!(rt; "error: no fault, no refusal and no change is called '{name}'");

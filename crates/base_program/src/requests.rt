@@ -5,9 +5,10 @@ ghost use Rattle.clap.specs.Values.{kind_of};
 
 use crate::meanings::explain;
 use clap::error::ErrorKind;
-use image_commands::{
-    STANDARD_OUTPUT, canonical, check, check_json, fail, list, list_json, new, pack, unpack,
-};
+use command_files::{STANDARD_OUTPUT, fail};
+use image_commands::{check, new};
+use image_documents::check_json;
+use path_commands::{canonical, list, list_json, pack, unpack};
 use program_io::command_line::{self, BaseRequest, Form, Request};
 use program_io::{Status, report_write_fault};
 use std::io::Input;
@@ -33,22 +34,8 @@ pub fn fulfil<R: Files + Input + Print + Eprint + AllocGlobal>(
 ) -> Status {
     match request {
         BaseRequest::New { size, slots, out } => new(rt, size, slots, out),
-        BaseRequest::Check {
-            image,
-            form: Form::Text,
-        } => check(rt, image),
-        BaseRequest::Check {
-            image,
-            form: Form::Json,
-        } => check_json(rt, image),
-        BaseRequest::List {
-            file,
-            form: Form::Text,
-        } => list(rt, file),
-        BaseRequest::List {
-            file,
-            form: Form::Json,
-        } => list_json(rt, file),
+        BaseRequest::Check { image, form } => check_as(rt, image, form),
+        BaseRequest::List { file, form } => list_as(rt, file, form),
         BaseRequest::Canonical { file, out } => canonical(rt, file, out),
         BaseRequest::Unpack { file, folder } => unpack(rt, file, folder),
         BaseRequest::Pack { folder, out } => pack(rt, folder, out),
@@ -56,11 +43,41 @@ pub fn fulfil<R: Files + Input + Print + Eprint + AllocGlobal>(
     }
 }
 
+/// Runs `check`, and prints in this form.
+fn check_as<R: Files + Input + Print + Eprint + AllocGlobal>(
+    rt: &R,
+    image: &str,
+    form: Form,
+) -> Status
+    ensures { result ≢ Status.BadWords }
+{
+    match form {
+        Form::Text => check(rt, image),
+        Form::Json => check_json(rt, image),
+    }
+}
+
+/// Runs `list`, and prints in this form.
+fn list_as<R: Files + Input + Print + Eprint + AllocGlobal>(
+    rt: &R,
+    file: &str,
+    form: Form,
+) -> Status
+    ensures { result ≢ Status.BadWords }
+{
+    match form {
+        Form::Text => list(rt, file),
+        Form::Json => list_json(rt, file),
+    }
+}
+
 /// Reports on standard error that the command is one of `palmheap` alone.
 fn fail_to_find<R: Eprint>(rt: &R) -> Status
     ensures { result ≡ Status.BadWords }
 {
-    let _ = eprintln!(rt; "error: only the program palmheap has this command");
+    let _ = eprintln!(rt;
+        "error: this program lacks the command; 'palmheap --build' builds the one that has it"
+    );
     Status::BadWords
 }
 

@@ -3,7 +3,7 @@
 ghost use Rattle.std.specs.Prelude.{◌≡◌, ◌≢◌, ◌⊎◌, IfErr};
 ghost use Rattle.std.specs.IoError.{error_kind};
 
-use image_commands::fail;
+use command_files::fail;
 use program_io::Status;
 use std::io::ErrorKind;
 use std::rt::Env;

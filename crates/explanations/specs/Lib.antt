@@ -1,3 +1,2 @@
 pub mod Explained
 pub mod Ends
-pub mod Names

@@ -1,19 +1,19 @@
 //! The rows of a word.
 
-ghost use Rattle.std.specs.Prelude.{◌≡◌, is_ok};
+ghost use Rattle.std.specs.Prelude.{◌≡◌, ◌⊎◌, is_ok};
 ghost use Rattle.palm_text.specs.Counted.{Writes};
 ghost use Rattle.palm_text.specs.Output.{Puts};
 ghost use Rattle.explanations.specs.Ends.{EndsExplain};
 ghost use Rattle.explanations.specs.Explained as words;
 
-use crate::table::{Explanation, Topic};
+use crate::table::{EXPLANATIONS, Explanation, Topic};
 use itoa::Buffer;
 use palm_text::{Counted, Piece, WriteFault, put_pieces};
-use program_io::Status;
+use program_io::{Status, flushed};
 use std::io::Write;
 
 /// Prints the meaning of a word: a line for each row with this name or number. The case of letters
-/// doesn't matter. It returns `BadWords` if there is no row. The rows are those of `EXPLANATIONS`.
+/// doesn't matter. It returns `BadWords` if there is no row.
 pub fn cmd_explain<V: Write>(word: &[u8], rows: &[Explanation], out: &mut Counted<V>) -> Status
     ensures { EndsExplain word.now rows.now V.contents out.old out.new result }
 {
@@ -26,6 +26,16 @@ pub fn cmd_explain<V: Write>(word: &[u8], rows: &[Explanation], out: &mut Counte
     }
 }
 
+/// Prints the meaning of a word, as `cmd_explain` does, by the rows of `EXPLANATIONS`. The prover
+/// spells the table out in each function that names it, so no other function does.
+pub fn explain_word<V: Write>(word: &[u8], out: &mut Counted<V>) -> Status
+    ensures statuses { (result ≡ Status.Done) ⊎ (result ≡ Status.BadWords)
+        ⊎ (result ≡ Status.WriteFault) }
+    ensures unknown { result ≡ Status.BadWords → out.new ≡ out.old }
+{
+    cmd_explain(word, &EXPLANATIONS, out)
+}
+
 /// Writes the lines of the rows of a word, and flushes.
 #[tactic(auto, using(palm_text::proofs::Parts::then_flush))]
 fn put_flushed<V: Write>(
@@ -36,7 +46,7 @@ fn put_flushed<V: Write>(
     ensures { Puts V.contents out.old out.new (words.answers word.now rows.now) (is_ok result) }
 {
     put_rows(out, word, rows)?;
-    out.flush().map_err(|_| WriteFault)
+    flushed(out)
 }
 
 /// Writes the lines of those rows that have a word as their name or number.

@@ -9,7 +9,7 @@ use Rattle.pdb_format.specs.Writable.{file_size}
 use Rattle.canonical_file.specs.Canonical.{IsCanonical, most_bytes}
 use Rattle.script_lines.specs.declared.fault.LineFault.{LineFault}
 use Rattle.file_parts.specs.Reading.{read_database}
-use Rattle.program_io.specs.FaultLines as lines
+use Rattle.file_commands.specs.LineFaults as lines
 use Rattle.program_io.specs.declared.status.Status.{Status}
 use Rattle.program_io.specs.declared.status.Status.TheVariants.{Done, Refused, BadWords, ReadFault, WriteFault, NoMemory}
 use Rattle.file_commands.specs.Ends.{PutsFault, count_line}

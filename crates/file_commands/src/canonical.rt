@@ -8,14 +8,14 @@ ghost use Rattle.file_changes.specs.Changes.{is_none};
 ghost use Rattle.file_changes.specs.Given.{AreGivenIn};
 ghost use Rattle.file_commands.specs.Ends.{EndsCanonical, PutsPart, WroteWhole};
 
-use crate::faults::{Rewritten, flushed, put_rewritten, say_fault};
+use crate::faults::{Rewritten, put_rewritten, say_fault};
 use allowance::Allowance;
 use canonical_file::{CanonicalFault, put_canonical_by};
 use file_changes::{Changes, changes_by};
 use file_ids::{GivenIds, give_ids_from};
 use palm_text::{Counted, put_all};
 use pdb_format::check_file;
-use program_io::Status;
+use program_io::{Status, flushed};
 use std::alloc::Global;
 use std::io::Write;
 

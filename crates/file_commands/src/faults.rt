@@ -3,7 +3,7 @@
 ghost use Rattle.std.specs.Prelude.{◌≡◌, ◌≤◌, ◌⊎◌, length, true, false, is_ok};
 ghost use Rattle.heap_model.specs.Files.{IsFirstFault};
 ghost use Rattle.palm_text.specs.Output.{Puts};
-ghost use Rattle.palm_text.specs.Counted.{Flushes, Writes};
+ghost use Rattle.palm_text.specs.Counted.{Writes};
 ghost use Rattle.canonical_file.specs.Canonical.{most_bytes};
 ghost use Rattle.file_commands.specs.Ends.{PutsFault, count_line, rewritten_lines};
 ghost use Rattle.file_listing.specs.FaultLines.{fault_lines};
@@ -13,7 +13,7 @@ use file_listing::put_fault;
 use heap_model::FileFault;
 use itoa::Buffer;
 use palm_text::{Counted, Piece, WriteFault, put_pieces};
-use program_io::Status;
+use program_io::{Status, flushed};
 use std::io::Write;
 
 /// Writes the lines for the first fault of a file, and flushes `out`.
@@ -28,7 +28,7 @@ fn put_fault_lines<V: Write>(
     ensures { Puts V.contents out.old out.new (fault_lines file.now fault) (is_ok result) }
 {
     put_fault(out, file, fault)?;
-    out.flush().map_err(|_| WriteFault)
+    flushed(out)
 }
 
 /// Prints the lines for the first fault of a file.
@@ -45,13 +45,6 @@ pub(crate) fn say_fault<V: Write>(out: &mut Counted<V>, file: &[u8], fault: File
         Ok(()) => Status::Refused,
         Err(_) => Status::WriteFault,
     }
-}
-
-/// Flushes a writer.
-pub(crate) fn flushed<V: Write>(out: &mut Counted<V>) -> Result<(), WriteFault>
-    ensures { Flushes V.contents out.old out.new (is_ok result) }
-{
-    out.flush().map_err(|_| WriteFault)
 }
 
 /// The size of a rewritten file in bytes, and its changes.

@@ -6,11 +6,11 @@ ghost use Rattle.canonical_file.specs.Canonical.{most_bytes};
 ghost use Rattle.file_listing.specs.FaultLines.{IsFaultOf};
 ghost use Rattle.file_commands.specs.Ends.{EndsList, PutsListing};
 
-use crate::faults::{flushed, say_fault};
+use crate::faults::say_fault;
 use allowance::Allowance;
 use file_listing::{ListFault, put_listing};
 use palm_text::Counted;
-use program_io::Status;
+use program_io::{Status, flushed};
 use std::alloc::Global;
 use std::io::Write;
 

@@ -14,11 +14,12 @@ ghost use Rattle.file_commands.specs.Ends.{count_line};
 ghost use Rattle.file_commands.specs.Parts.{EndsPack, NotListed, NotUnpacked};
 
 use crate::faults::{put_only_count, say_fault};
+use crate::line_faults::say_line_fault;
 use allowance::Allowance;
 use file_parts::{Listed, PackFault, UnpackFault, Unpacked, pack, read_listed, unpack};
 use heap_model::Bytes;
 use palm_text::{Counted, put};
-use program_io::{Status, say, say_line_fault};
+use program_io::{Status, say};
 use script_lines::ScriptFault;
 use std::io::Write;
 

@@ -3,10 +3,9 @@
 ghost use Rattle.std.specs.Prelude.{◌≢◌};
 
 use crate::commands::{check_region_from, cmd_new_from};
-use crate::faults::STANDARD_OUTPUT;
-use crate::files::read_image;
-use crate::replacing::output_for_image;
-use crate::suggestions::{looks_like_file, suggest_explain, suggest_list};
+use command_files::{
+    STANDARD_OUTPUT, looks_like_file, output_for_image, read_image, suggest_explain, suggest_list,
+};
 use palm_text::Counted;
 use program_io::{Noted, Status, report_outcome};
 use std::io;

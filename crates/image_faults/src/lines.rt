@@ -7,7 +7,7 @@ ghost use Rattle.image_faults.specs.Lines.{fault_line, named_fault_line};
 
 use crate::names::{Numbers, image_fault_name, image_fault_numbers};
 use palm_text::{Counted, Piece, WriteFault, put_pieces};
-use program_io::Status;
+use program_io::{Status, flushed};
 use std::io::Write;
 use store_check::StoreFault;
 
@@ -32,7 +32,7 @@ fn put_flushed<V: Write>(out: &mut Counted<V>, fault: StoreFault) -> Result<(), 
     ensures { Puts V.contents out.old out.new (fault_line fault) (is_ok result) }
 {
     put_fault(out, fault)?;
-    out.flush().map_err(|_| WriteFault)
+    flushed(out)
 }
 
 /// Writes the line for the fault of an image.

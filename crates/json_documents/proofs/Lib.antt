@@ -2,6 +2,5 @@ pub mod ChangeWords
 pub mod Documents
 pub mod EntryTexts
 pub mod Heads
-pub mod Images
 pub mod Infos
 pub mod Sequences

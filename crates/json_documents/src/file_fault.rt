@@ -9,12 +9,11 @@ ghost use Rattle.json_documents.specs.Ends.{PutsFileFault};
 ghost use Rattle.json_documents.specs.Faults.{file_fault_fields, file_fault_json};
 ghost use Rattle.json_documents.specs.Pieces.{json_text};
 
-use crate::output::flushed;
 use crate::pieces::{JsonPiece, put_json};
 use file_listing::fault_place;
 use heap_model::{FileFault, Which};
 use palm_text::{Counted, WriteFault};
-use program_io::Status;
+use program_io::{Status, flushed};
 use std::io::Write;
 
 const NOTHING: JsonPiece<'static> = JsonPiece::Text(b"");

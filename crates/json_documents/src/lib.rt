@@ -1,4 +1,4 @@
-//! JSON documents with the facts that `list` and `check` print as text.
+//! JSON documents with the facts that `list` prints as text. `image_documents` has those of images.
 //!
 //! A document is one object on one line, in ASCII. It is written piece by piece, without memory of
 //! its own. A string has a character for each byte: that of the byte in Windows-1252 or, if there
@@ -24,28 +24,19 @@
 //! | `file_document` | the document of a file |
 //! | `file_fault` | the document for a damaged file |
 //! | `list_command` | the command `list --json` |
-//! | `image_document` | the document of the counts of an image |
-//! | `image_fault` | the document for an image that is refused |
-//! | `check_command` | the command `check --json` |
 #![tactic(auto)]
 
 mod blocks;
-mod check_command;
 mod ending;
 mod entries;
 mod file_document;
 mod file_fault;
 mod head;
-mod image_document;
-mod image_fault;
 mod list_command;
-mod output;
 mod parts;
 mod pieces;
 mod strings;
 
-pub use check_command::{check_json_region_from, cmd_check_json, cmd_check_json_from};
 pub use file_document::{DocumentFault, put_file_document};
-pub use image_fault::say_image_fault;
 pub use list_command::{cmd_list_json, cmd_list_json_from};
 pub use pieces::{JsonPiece, put_json};

@@ -8,10 +8,9 @@ ghost use Rattle.json_documents.specs.Parts.{IsFaultOf};
 
 use crate::file_document::{DocumentFault, put_file_document};
 use crate::file_fault::say_file_fault;
-use crate::output::flushed;
 use allowance::Allowance;
 use palm_text::Counted;
-use program_io::Status;
+use program_io::{Status, flushed};
 use std::alloc::Global;
 use std::io::Write;
 

@@ -4,7 +4,7 @@ ghost use Rattle.std.specs.Prelude.{◌≡◌, ◌≢◌, None};
 
 use crate::draw_command::draw_region_from;
 use crate::map_command::map_region_from;
-use image_commands::{
+use command_files::{
     STANDARD_ERROR, STANDARD_OUTPUT, STANDARD_STREAM, fail, looks_like_file, output_for_picture,
     read_image, suggest_list,
 };

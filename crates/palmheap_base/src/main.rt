@@ -1,5 +1,5 @@
-//! The program `palmheap_base`, which has the commands of `palmheap` that its first call proves
-//! soonest.
+//! The program `palmheap_base`, which has the commands of `palmheap` that need neither the managers
+//! nor the pictures.
 //!
 //! The crate `base_program` has its functions.
 #![tactic(auto)]

@@ -8,7 +8,7 @@ use Rattle.live_scripts.specs.Live.{ReadStops, RunsText}
 use Rattle.live_scripts.specs.declared.fault.LiveFault.{LiveFault}
 use Rattle.live_scripts.specs.declared.fault.LiveFault.TheVariants as faults
 use Rattle.image_faults.specs.Lines.{PutsBadImage}
-use Rattle.program_io.specs.FaultLines.{PutsFault}
+use Rattle.file_commands.specs.LineFaults.{PutsFault}
 use Rattle.script_lines.specs.declared.fault.LineFault.{LineFault}
 use Rattle.program_io.specs.declared.input.InputFault.{InputFault}
 use Rattle.program_io.specs.declared.status.Status.{Status}

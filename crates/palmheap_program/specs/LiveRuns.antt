@@ -11,7 +11,7 @@ use Rattle.live_scripts.specs.Live.{ReadStops, RunsText}
 use Rattle.live_scripts.specs.declared.fault.LiveFault.{LiveFault}
 use Rattle.live_scripts.specs.declared.fault.LiveFault.TheVariants as faults
 use Rattle.image_faults.specs.Lines.{PutsBadImage}
-use Rattle.program_io.specs.FaultLines.{PutsFault}
+use Rattle.file_commands.specs.LineFaults.{PutsFault}
 use Rattle.program_io.specs.declared.status.Status.{Status}
 use Rattle.program_io.specs.declared.status.Status.TheVariants.{Done, Refused, BadWords, ReadFault, WriteFault, NoMemory}
 use Rattle.palmheap_program.specs.declared.live_command.LiveEnd.{LiveEnd}

@@ -10,7 +10,7 @@ use Rattle.script_lines.specs.declared.fault.LineFault.{LineFault}
 use Rattle.script_lines.specs.declared.line.Line.{Line}
 use Rattle.script_calls.specs.Lines.{BreaksOffShort, RunsThroughShort}
 use Rattle.image_faults.specs.Lines.{PutsBadImage}
-use Rattle.program_io.specs.FaultLines.{PutsFault}
+use Rattle.file_commands.specs.LineFaults.{PutsFault}
 use Rattle.palm_text.specs.Output.{Puts}
 use Rattle.program_io.specs.declared.status.Status.{Status}
 use Rattle.program_io.specs.declared.status.Status.TheVariants.{Done, Refused, BadWords, ReadFault, WriteFault, NoMemory}

@@ -3,7 +3,7 @@
 ghost use Rattle.std.specs.Prelude.{◌≢◌};
 
 use crate::stores::databases;
-use image_commands::{fail, looks_like_file, read_image, report_document, suggest_list};
+use command_files::{fail, looks_like_file, read_image, report_document, suggest_list};
 use palm_text::Counted;
 use program_io::command_line::Form;
 use program_io::{Noted, Status};

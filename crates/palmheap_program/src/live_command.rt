@@ -5,11 +5,12 @@ ghost use Rattle.heap_model.specs.Store.{Accepted};
 ghost use Rattle.palmheap_program.specs.LiveRuns.{EndsAtLine, EndsEarlyLive, EndsLive, RunsLive};
 
 use allowance::Allowance;
+use file_commands::say_line_fault;
 use heap_model::Bytes;
 use live_scripts::{LiveFault, LiveInputs, run_read};
 use palm_store::Store;
 use palm_text::Counted;
-use program_io::{INPUT_LIMIT, InputFault, Status, say_line_fault};
+use program_io::{INPUT_LIMIT, InputFault, Status};
 use raw_region::Region;
 use script_lines::LineFault;
 use std::io::{Read, Write};

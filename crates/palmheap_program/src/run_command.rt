@@ -8,11 +8,12 @@ ghost use Rattle.palmheap_program.specs.Runs.{RunsAndFlushes, RunsAndWrites, Run
 ghost use Rattle.allowance.specs.Refusals.{GrowthRefused};
 
 use allowance::Allowance;
+use file_commands::say_line_fault;
 use heap_model::Bytes;
 use palm_script::{RunFault, Script, ScriptFault, run_from};
 use palm_store::Store;
 use palm_text::Counted;
-use program_io::{Status, say_line_fault};
+use program_io::Status;
 use raw_region::Region;
 use script_lines::parse_from;
 use std::alloc::Global;

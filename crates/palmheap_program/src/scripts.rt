@@ -5,13 +5,13 @@ ghost use Rattle.std.specs.Prelude.{◌≡◌, ◌≢◌, ◌⊎◌, [], IfErr, 
 use crate::ending::Ending;
 use crate::live_command::{LiveEnd, run_live_region_from};
 use crate::run_command::run_region_from;
-use heap_model::Bytes;
-use hints::{line_numbers, missing_files};
-use image_commands::{
+use command_files::{
     STANDARD_INPUT, STANDARD_OUTPUT, STANDARD_STREAM, fail, fail_to_read, looks_like_file,
     output_for_image, read_file, read_files, read_image, report_left_files, suggest_checks,
     suggest_list, write_files,
 };
+use heap_model::Bytes;
+use hints::{line_numbers, missing_files};
 use live_scripts::LiveInputs;
 use palm_text::Counted;
 use program_io::command_line::Shown;

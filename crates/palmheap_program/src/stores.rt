@@ -3,13 +3,14 @@
 ghost use Rattle.std.specs.Prelude.{◌≡◌, ◌≢◌, ◌≤◌, ◌⊎◌, IfErr, length};
 
 use allowance::copied;
+use command_files::{
+    STANDARD_OUTPUT, fail, looks_like_file, output_for_image, read_file_or_input, read_image,
+    suggest_checks, suggest_explain, suggest_list, write_file,
+};
 use file_commands::say_count;
 use heap_model::Bytes;
-use image_commands::{
-    STANDARD_OUTPUT, fail, looks_like_file, output_for_image, path_in, read_file_or_input,
-    read_image, suggest_checks, suggest_explain, suggest_list, write_file,
-};
 use palm_text::Counted;
+use path_commands::path_in;
 use program_io::{Noted, Status, report_outcome, report_write_fault};
 use std::alloc::AllocError;
 use std::io::{ErrorKind, Input, Write};

@@ -21,7 +21,7 @@ pub enum Form {
 /// The request of the words.
 #[derive(Drop)]
 pub enum Request<'a> {
-    /// A command of the smaller program too.
+    /// A command that the program `palmheap_base` has too.
     Base(BaseRequest<'a>),
     Run {
         image: &'a str,

@@ -11,8 +11,7 @@
 //! | `requested` | the request of the words that were matched |
 //! | `help_texts` | the texts of the help |
 //! | `input` | reads a file to its end, within the limit |
-//! | `output` | prints a line, and returns the status of the run |
-//! | `fault_lines` | the line for a refused script |
+//! | `output` | prints a line and returns the status of the run, or flushes a writer |
 //! | `output_file` | a file that replaces another as a whole |
 //! | `error_output` | standard error, as a writer |
 //! | `noted` | a writer that keeps its first error |
@@ -23,7 +22,6 @@
 pub mod command_line;
 mod command_rows;
 mod error_output;
-mod fault_lines;
 mod fault_report;
 mod help_texts;
 mod input;
@@ -34,10 +32,9 @@ mod requested;
 mod status;
 
 pub use error_output::ErrorOutput;
-pub use fault_lines::say_line_fault;
 pub use fault_report::{report_fault, report_input_fault, report_outcome, report_write_fault};
 pub use input::{INPUT_LIMIT, InputFault, read_input, read_input_from, read_turn};
 pub use noted::Noted;
-pub use output::{say, say_text};
+pub use output::{flushed, say, say_text};
 pub use output_file::OutputFile;
 pub use status::Status;

@@ -1,13 +1,21 @@
 //! Lines that are printed, and the status that follows.
 
-ghost use Rattle.std.specs.Prelude.{◌≡◌, ◌≢◌, ◌⊎◌, IsOkAnd, string_bytes, true, false};
+ghost use Rattle.std.specs.Prelude.{◌≡◌, ◌≢◌, ◌⊎◌, IsOkAnd, is_ok, string_bytes, true, false};
 ghost use Rattle.std.specs.Result.{IsErr};
+ghost use Rattle.palm_text.specs.Counted.{Flushes};
 ghost use Rattle.palm_text.specs.Output.{Puts};
 
 use crate::status::Status;
-use palm_text::{Counted, put};
+use palm_text::{Counted, WriteFault, put};
 use std::alloc::AllocError;
 use std::io::Write;
+
+/// Flushes a writer.
+pub fn flushed<V: Write>(out: &mut Counted<V>) -> Result<(), WriteFault>
+    ensures { Flushes V.contents out.old out.new (is_ok result) }
+{
+    out.flush().map_err(|_| WriteFault)
+}
 
 /// Prints a line and flushes `out`. Returns `status`, or `WriteFault` if a write or the flush
 /// failed.

@@ -31,7 +31,7 @@ fn image_requested<'a>(name: &str, given: &ArgMatches<'a>) -> Option<Request<'a>
     }
 }
 
-/// Returns the request of a command that calls no manager.
+/// Returns the request of a command of the program `palmheap_base`.
 fn base_requested<'a>(name: &str, given: &ArgMatches<'a>) -> Option<BaseRequest<'a>> {
     match name {
         "new" => new_requested(given),
@@ -209,9 +209,9 @@ fn name_in<'a>(line: &'a str, start: &str, rest: &'a str) -> &'a str {
     }
 }
 
-/// Returns how many words are before the name in a printed line with these first two words: one is
-/// before it in `bad`, `refused` and `changes`, two are in a faulty line of a script and in a
-/// refused one with its number.
+/// Returns how many words come before the name in a printed line with these first two words. One
+/// comes before it after `bad`, `refused` and `changes`. Two come before it in a line with a
+/// number: after `line` and its number, or after a number and `refused`.
 fn words_before(first: &str, second: &str) -> usize {
     match (first, second) {
         ("bad" | "refused" | "changes", _) => 1,

@@ -10,7 +10,7 @@ ghost use Rattle.store_commands.specs.Databases.{EndsDatabases, count_line, info
 ghost use Rattle.heap_model.specs.Database as databases;
 ghost use Rattle.allowance.specs.Refusals.{GrowthRefused};
 
-use crate::images::{count_of, file_of_database, flushed, info_of, nth_of, opened};
+use crate::images::{count_of, file_of_database, info_of, nth_of, opened};
 use allowance::{Allowance, push};
 use code_page::put_text;
 use db_format::DbAttrs;
@@ -18,7 +18,7 @@ use heap_model::{Db, DbInfo};
 use itoa::Buffer;
 use palm_store::Store;
 use palm_text::{Counted, Piece, WriteFault, put_all, put_pieces};
-use program_io::Status;
+use program_io::{Status, flushed};
 use raw_region::Region;
 use std::alloc::{AllocError, Global};
 use std::io::Write;

@@ -1,12 +1,11 @@
 //! Images that are opened, and the databases in them.
 
-ghost use Rattle.std.specs.Prelude.{◌≡◌, ◌≢◌, ◌⊎◌, ◌<◌, Err, IfOk, IfErr, OnOk, OnErr, None, length, slice_get, Some, is_ok, true, false};
+ghost use Rattle.std.specs.Prelude.{◌≡◌, ◌⊎◌, ◌<◌, Err, IfOk, IfErr, OnOk, OnErr, None, length, slice_get, Some, is_ok, true, false};
 ghost use Rattle.heap_model.specs.Files.{file_of};
 ghost use Rattle.heap_model.specs.Store.{Accepted, content, database_under, store_of};
 ghost use Rattle.heap_model.specs.Leaving.{database_here};
 ghost use Rattle.heap_model.specs.DatabaseSteps as rows;
 ghost use Rattle.palm_store.specs.Databases.{HasNumber};
-ghost use Rattle.palm_text.specs.Counted.{Flushes};
 ghost use Rattle.palm_text.specs.Output.{Puts};
 ghost use Rattle.image_faults.specs.Lines.{PutsBadImage};
 ghost use Rattle.script_calls.specs.Lines.{refusal_line};
@@ -17,7 +16,7 @@ use image_faults::say_bad_image;
 use palm_store::{NotAStore, Store, StoreFault};
 use palm_text::{Counted, WriteFault};
 use pdb_files::exported;
-use program_io::Status;
+use program_io::{Status, flushed};
 use raw_region::Region;
 use script_calls::put_refusal;
 use std::alloc::AllocError;
@@ -113,13 +112,6 @@ pub(crate) fn file_of_database<A: Allowance>(
         Ok(file) => Ok(file),
         Err(_refusal) => Err(AllocError),
     }
-}
-
-/// Flushes a writer.
-pub(crate) fn flushed<V: Write>(out: &mut Counted<V>) -> Result<(), WriteFault>
-    ensures { Flushes V.contents out.old out.new (is_ok result) }
-{
-    out.flush().map_err(|_| WriteFault)
 }
 
 /// Writes the reply line for a refusal, and flushes.

@@ -14,17 +14,16 @@ ghost use Rattle.script_calls.specs.Lines.{refusal_line};
 ghost use Rattle.store_commands.specs.Imports.{EndsImport, EndsRefused, ImportsAll, IsChosen, IsFilled, IsNew, IsNoImage, IsNotImported, IsStopped, IsWhy, PutsFilled, StayWithinLimits, image_line, import_text};
 
 use crate::exports::Ended;
-use crate::images::{flushed, put_store, say_refusal};
+use crate::images::{put_store, say_refusal};
 use allowance::Allowance;
 use chunk_format::{BlankFault, blank_from, is_image_size};
 use file_needs::{ENOUGH, image_size, image_slots, needs_of_files};
 use heap_model::{Bytes, Refusal};
-use itoa::Buffer;
 use palm_store::Store;
 use palm_text::{Counted, Piece, WriteFault, put_all, put_pieces};
 use pdb_files::import_from;
 use pdb_format::check_file;
-use program_io::{Status, say};
+use program_io::{Status, flushed, say};
 use std::alloc::Global;
 use std::io::Write;
 

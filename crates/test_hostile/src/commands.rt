@@ -2,13 +2,14 @@
 //! says, and nothing was written.
 
 use crate::stores::{WRITTEN, input_files};
+use file_commands::say_line_fault;
 use heap_model::Bytes;
 use image_commands::{cmd_check_from, cmd_new_from};
 use map_commands::cmd_draw_from;
 use palm_script::{LineFault, ScriptFault};
 use palm_text::Counted;
 use palmheap_program::cmd_run_from;
-use program_io::{Status, say_line_fault};
+use program_io::Status;
 use std::alloc::Global;
 use std::test::*;
 use store_commands::cmd_migrate_from;

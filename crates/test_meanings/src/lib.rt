@@ -1,5 +1,5 @@
-//! Tests of what `explain` prints, of the numbers before replies, and of hints. This crate has no
-//! code but its tests.
+//! Tests of what `explain` prints, of the names of faults, of the numbers before replies, and of
+//! hints. This crate has no code but its tests.
 #![tactic(auto)]
 
 #[cfg(test)]

@@ -1,9 +1,10 @@
 //! Each fault and each refusal has the name that is printed of it.
 
 use chunk_format::BlankFault;
-use explanations::{
-    EXPLANATIONS, Topic, blank_fault_name, cmd_explain, file_fault_name, heap_fault_name,
-    refusal_name, script_fault_name, store_fault_name,
+use explanations::{Topic, explain_word};
+use fault_names::{
+    blank_fault_name, file_fault_name, heap_fault_name, refusal_name, script_fault_name,
+    store_fault_name,
 };
 use heap_check::HeapFault;
 use heap_model::{FileFault, Refusal, Which};
@@ -21,11 +22,7 @@ fn check<F: Display + Drop>(alloc: Global, fault: F, name: &str) -> Result<(), F
     let text = format!(in alloc; "{fault}")?;
     equal(name, text.as_str().split(' ').next(), Some(name))?;
     let mut out = Counted::new(Vec::new(alloc));
-    equal(
-        name,
-        cmd_explain(name.as_bytes(), &EXPLANATIONS, &mut out),
-        Status::Done,
-    )
+    equal(name, explain_word(name.as_bytes(), &mut out), Status::Done)
 }
 
 static HEAP_FAULTS: [HeapFault; 12] = [

@@ -1,6 +1,6 @@
 //! Words, and what `explain` prints of them.
 
-use explanations::{EXPLANATIONS, cmd_explain};
+use explanations::explain_word;
 use palm_text::Counted;
 use program_io::Status;
 use std::alloc::Global;
@@ -11,7 +11,7 @@ use test_support::{Narrow, WhenFull, equal, holds};
 /// Checks what a word means, and the status.
 pub(crate) fn check(alloc: Global, word: &str, status: Status, lines: &str) -> Result<(), Fail> {
     let mut out = Counted::new(Vec::new(alloc));
-    let found = cmd_explain(word.as_bytes(), &EXPLANATIONS, &mut out);
+    let found = explain_word(word.as_bytes(), &mut out);
     let text = out.into_inner();
     equal(word, found, status)?;
     equal(word, str::from_utf8(&text)?, lines)
@@ -89,7 +89,7 @@ fn check_cut(alloc: Global, word: &str, lines: &str, room: usize) -> Result<(), 
     let mut out = Counted::new(narrow);
     equal(
         word,
-        cmd_explain(word.as_bytes(), &EXPLANATIONS, &mut out),
+        explain_word(word.as_bytes(), &mut out),
         Status::WriteFault,
     )?;
     let narrow = out.into_inner();

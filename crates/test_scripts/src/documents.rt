@@ -3,7 +3,7 @@
 use crate::stores::image_of;
 use heap_check::HeapFault;
 use image_commands::cmd_check;
-use json_documents::{cmd_check_json, say_image_fault};
+use image_documents::{cmd_check_json, say_image_fault};
 use palm_store::StoreFault;
 use palm_text::Counted;
 use program_io::Status;

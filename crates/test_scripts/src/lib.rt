@@ -1,6 +1,5 @@
-//! Tests of scripts, of texts and files, and of the program's words and commands, in a crate of
-//! their own: so the proofs of those crates aren't checked a second time for them. It has no code
-//! but its tests.
+//! Tests of scripts, of texts and files, and of the program's commands, in a crate of their own: so
+//! the proofs of those crates aren't checked a second time for them. It has no code but its tests.
 #![tactic(auto)]
 
 #[cfg(test)]
@@ -49,5 +48,3 @@ mod resources;
 mod runs;
 #[cfg(test)]
 mod stores;
-#[cfg(test)]
-mod words;

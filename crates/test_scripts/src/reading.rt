@@ -1,6 +1,6 @@
 //! Reading input: how far, and what a read that fails gives.
 
-use image_commands::{SizedFault, read_region_from};
+use command_files::{SizedFault, read_region_from};
 use program_io::{INPUT_LIMIT, InputFault, read_input, read_input_from};
 use std::alloc::Global;
 use std::io::ErrorKind;

@@ -1,0 +1,36 @@
+//! The files that all commands read and write, and what they report of them on standard error.
+//!
+//! No contract can state the content of a file or a terminal. So most clauses here state only the
+//! statuses with which a function ends. The stored runs of `test_program` show which files are read
+//! and written. Only `read_region_from`, which works over any reader, states what is read.
+//!
+//! | module | does |
+//! |---|---|
+//! | `files` | reads and writes files |
+//! | `region_input` | reads an image into a region |
+//! | `replacing` | output files that don't replace a file of the other kind |
+//! | `faults` | reports why a command did not start |
+//! | `documents` | reports why a command failed that writes a document |
+//! | `suggestions` | reports what an input looks like, what is allowed at a file's fault, which command explains a fault |
+#![tactic(auto)]
+
+mod documents;
+mod faults;
+mod files;
+mod region_input;
+mod replacing;
+mod suggestions;
+
+pub use documents::report_document;
+pub use faults::{
+    STANDARD_ERROR, STANDARD_INPUT, STANDARD_OUTPUT, STANDARD_STREAM, fail, fail_to_read,
+};
+pub use files::{
+    read_file, read_file_or_input, read_files, read_image, report_left_files, write_file,
+    write_files,
+};
+pub use region_input::{SizedFault, read_region_from};
+pub use replacing::{output_for_database, output_for_image, output_for_picture};
+pub use suggestions::{
+    comment_on_file, looks_like_file, suggest_checks, suggest_explain, suggest_list,
+};

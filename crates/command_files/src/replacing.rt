@@ -1,0 +1,163 @@
+//! Output files that don't replace a file of the other kind: an image replaces no PDB or PRC file,
+//! such a file replaces no image, and a picture replaces neither.
+
+ghost use Rattle.std.specs.Prelude.{◌≡◌, ◌⊎◌, Err, IfErr, IsTrue, false};
+ghost use Rattle.std.specs.Io.KnownBytes.{Consumes};
+ghost use Rattle.hints.specs.Lookalikes as words;
+
+use crate::faults::fail;
+use hints::{HEADER_SIZE, IMAGE_HEADER_SIZE, looks_like_database, looks_like_image};
+use program_io::{OutputFile, Status};
+use std::fs;
+use std::fs::File;
+use std::io::Read;
+use std::rt::Files;
+
+/// Returns a writer for an image at a path. Nothing is opened for it yet. If there is a file that
+/// looks like a PDB or PRC file, reports that and returns an error, so that the file stays.
+///
+/// # Errors
+/// - `WriteFault`: there is such a file.
+/// - `NoMemory`: an allocation failed.
+pub fn output_for_image<'a, R: Files + Eprint + AllocGlobal>(
+    rt: &'a R,
+    path: &str,
+) -> Result<OutputFile<'a, R>, Status>
+    ensures { IfErr result (λ status. (status ≡ Status.WriteFault) ⊎ (status ≡ Status.NoMemory)) }
+{
+    let mut head = [0; HEADER_SIZE];
+    if has_head(rt, path, &mut head) {
+        return image_over(rt, path, &head);
+    }
+    unopened(rt, path)
+}
+
+/// Returns a writer for an image in place of a file that begins with these bytes. If they look like
+/// those of a PDB or PRC file, reports that.
+fn image_over<'a, R: Files + Eprint + AllocGlobal>(
+    rt: &'a R,
+    path: &str,
+    head: &[u8],
+) -> Result<OutputFile<'a, R>, Status>
+    ensures kept { IsTrue (words.looks_like_database head.now) → result ≡ Err Status.WriteFault }
+    ensures replaced { words.looks_like_database head.now ≡ false
+        → IfErr result (λ status. status ≡ Status.NoMemory) }
+{
+    if looks_like_database(head) {
+        let kept = "looks like a PDB or PRC file, and an image doesn't replace it";
+        return Err(fail_to_replace(rt, path, kept));
+    }
+    unopened(rt, path)
+}
+
+/// Returns a writer for a PDB or PRC file at a path. Nothing is opened for it yet. If there is a
+/// file that looks like a heap image, reports that and returns an error, so that the file stays.
+///
+/// # Errors
+/// - `WriteFault`: there is such a file.
+/// - `NoMemory`: an allocation failed.
+pub fn output_for_database<'a, R: Files + Eprint + AllocGlobal>(
+    rt: &'a R,
+    path: &str,
+) -> Result<OutputFile<'a, R>, Status>
+    ensures { IfErr result (λ status. (status ≡ Status.WriteFault) ⊎ (status ≡ Status.NoMemory)) }
+{
+    let mut head = [0; IMAGE_HEADER_SIZE];
+    if has_head(rt, path, &mut head) {
+        return database_over(rt, path, &head);
+    }
+    unopened(rt, path)
+}
+
+/// Returns a writer for a PDB or PRC file in place of a file that begins with these bytes. If they
+/// look like those of a heap image, reports that.
+fn database_over<'a, R: Files + Eprint + AllocGlobal>(
+    rt: &'a R,
+    path: &str,
+    head: &[u8],
+) -> Result<OutputFile<'a, R>, Status>
+    ensures kept { IsTrue (words.looks_like_image head.now) → result ≡ Err Status.WriteFault }
+    ensures replaced { words.looks_like_image head.now ≡ false
+        → IfErr result (λ status. status ≡ Status.NoMemory) }
+{
+    if looks_like_image(head) {
+        let kept = "looks like a heap image, and a PDB or PRC file doesn't replace it";
+        return Err(fail_to_replace(rt, path, kept));
+    }
+    unopened(rt, path)
+}
+
+/// Returns a writer for a picture at a path. Nothing is opened for it yet. If there is a file that
+/// looks like a heap image, or like a PDB or PRC file, reports that and returns an error, so that
+/// the file stays.
+///
+/// # Errors
+/// - `WriteFault`: there is such a file.
+/// - `NoMemory`: an allocation failed.
+pub fn output_for_picture<'a, R: Files + Eprint + AllocGlobal>(
+    rt: &'a R,
+    path: &str,
+) -> Result<OutputFile<'a, R>, Status>
+    ensures { IfErr result (λ status. (status ≡ Status.WriteFault) ⊎ (status ≡ Status.NoMemory)) }
+{
+    if is_image(rt, path) || is_database(rt, path) {
+        let kept =
+            "looks like a heap image, or a PDB or PRC file, and a picture doesn't replace it";
+        return Err(fail_to_replace(rt, path, kept));
+    }
+    unopened(rt, path)
+}
+
+/// Returns whether there is a file at a path that looks like a heap image.
+fn is_image<R: Files>(rt: &R, path: &str) -> bool {
+    let mut head = [0; IMAGE_HEADER_SIZE];
+    has_head(rt, path, &mut head) && looks_like_image(&head)
+}
+
+/// Returns whether there is a file at a path that looks like a PDB or PRC file.
+fn is_database<R: Files>(rt: &R, path: &str) -> bool {
+    let mut head = [0; HEADER_SIZE];
+    has_head(rt, path, &mut head) && looks_like_database(&head)
+}
+
+/// Returns a writer for a path, with nothing opened yet.
+fn unopened<'a, R: Files + Eprint + AllocGlobal>(
+    rt: &'a R,
+    path: &str,
+) -> Result<OutputFile<'a, R>, Status>
+    ensures { IfErr result (λ status. status ≡ Status.NoMemory) }
+{
+    match OutputFile::new(rt, path) {
+        Ok(out) => Ok(out),
+        Err(_) => Err(fail(rt, Status::NoMemory)),
+    }
+}
+
+/// Reads the first bytes of the file at a path, as many as `head` has. Returns whether there is a
+/// file with that many bytes. It opens no pipe and no device.
+fn has_head<R: Files>(rt: &R, path: &str, head: &mut [u8]) -> bool {
+    match fs::metadata(rt, path) {
+        Ok(found) if found.is_file() => {}
+        _ => return false,
+    }
+    match File::open(rt, path) {
+        Ok(mut file) => read_head(&mut file, head),
+        Err(_) => false,
+    }
+}
+
+/// Reads the first bytes of a file, as many as `head` has. Returns whether it succeeded.
+fn read_head<F: Read>(file: &mut F, head: &mut [u8]) -> bool
+    ensures { IsTrue result → Consumes (F.remaining file.old) (F.remaining file.new) head.new }
+{
+    file.read_exact(head).is_ok()
+}
+
+/// Reports on standard error why a file isn't replaced, and returns `WriteFault`.
+fn fail_to_replace<R: Eprint>(rt: &R, path: &str, why: &str) -> Status
+    ensures { result ≡ Status.WriteFault }
+{
+    let status = fail(rt, Status::WriteFault);
+    let _ = eprintln!(rt; "{path}: {why}");
+    status
+}

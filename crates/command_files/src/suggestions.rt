@@ -1,0 +1,95 @@
+//! What else an input looks like, which numbers are allowed at a file's fault, and which command
+//! explains a fault.
+
+ghost use Rattle.std.specs.Prelude.{◌≡◌, ◌≤◌, None, length};
+ghost use Rattle.hints.specs.Lookalikes as words;
+
+use crate::faults::{STANDARD_INPUT, STANDARD_STREAM};
+use chunk_format::is_image_size;
+use file_listing::damage_of;
+use heap_model::Bytes;
+use hints::{looks_like_database, looks_like_image};
+use pdb_format::check_file;
+use program_io::{INPUT_LIMIT, Status};
+use raw_region::Region;
+
+/// Returns whether an image looks like a PDB or PRC file.
+pub fn looks_like_file(image: &Region) -> bool
+    requires { image.now.lent ≡ None }
+    ensures { result ≡ words.looks_like_database image.now.bytes }
+{
+    looks_like_database(image.as_slice())
+}
+
+/// Reports on standard error that the image at a path looks like a PDB or PRC file, and the command
+/// that lists it. It reports nothing if `is_file` is false, or if the image wasn't refused.
+pub fn suggest_list<R: Eprint>(rt: &R, path: &str, status: Status, is_file: bool) {
+    if status == Status::Refused && is_file {
+        let _ = eprintln!(rt;
+            "{} looks like a PDB or PRC file: 'palmheap list {path}' lists it",
+            input_name(path)
+        );
+    }
+}
+
+/// Reports on standard error that the file at a path looks like a heap image, and the command that
+/// checks it. Some images are read as a database with the name PHI1. So it also reports this if the
+/// file wasn't refused.
+fn suggest_check<R: Eprint>(rt: &R, path: &str, status: Status, file: &[u8]) {
+    let is_read = status == Status::Done || status == Status::Refused;
+    if is_read && looks_like_image(file) {
+        let _ = eprintln!(rt;
+            "{} looks like a heap image: 'palmheap check {path}' checks it",
+            input_name(path)
+        );
+    }
+}
+
+/// Reports the same as `suggest_check`. If the file doesn't look like an image, but was refused, it
+/// reports the number at the file's first fault, and the numbers that are allowed there.
+pub fn comment_on_file<R: Eprint>(rt: &R, path: &str, status: Status, file: &[u8])
+    requires { length file.now ≤ INPUT_LIMIT }
+{
+    if looks_like_image(file) {
+        suggest_check(rt, path, status, file);
+    } else if status == Status::Refused {
+        if let Err(fault) = check_file(file) {
+            let damage = damage_of(file, fault);
+            let _ = eprintln!(rt; "{}: {damage}", input_name(path));
+        }
+    }
+}
+
+/// Reports on standard error which of some files look like heap images, as `suggest_check`.
+pub fn suggest_checks<R: Eprint>(rt: &R, paths: &[&str], status: Status, files: &[Bytes]) {
+    for (path, file) in paths.iter().zip(files) {
+        suggest_check(rt, path, status, file.as_slice());
+    }
+}
+
+/// Reports on standard error which command explains why no image has a size and a slot count. It
+/// reports nothing with another status than `BadWords`. `size` is the chosen size, if any.
+pub fn suggest_explain<R: Eprint>(rt: &R, status: Status, size: Option<u32>) {
+    if status == Status::BadWords {
+        let name = blank_fault(size);
+        let _ = eprintln!(rt; "'palmheap explain {name}' says what {name} means");
+    }
+}
+
+/// Returns the name of the fault of a size and a slot count of which there is no image: that of the
+/// size, if no image has the size.
+fn blank_fault(size: Option<u32>) -> &'static str {
+    match size {
+        Some(size) if !is_image_size(size as usize) => "BadSize",
+        _ => "BadSlotCount",
+    }
+}
+
+/// Returns the name of an input, for messages.
+fn input_name(path: &str) -> &str {
+    if path == STANDARD_STREAM {
+        STANDARD_INPUT
+    } else {
+        path
+    }
+}
