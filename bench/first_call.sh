@@ -1,5 +1,5 @@
 #!/bin/bash
-# Times the first call of palmheap in a fresh clone, with nothing kept, and then of `palmheap --build`, which proves the
+# Times the first call of palmheap in a fresh clone, with nothing kept, and then `palmheap --build`, which proves the
 # other commands. Prints their progress with the seconds since the start.
 #
 # usage: bench/first_call.sh [REVISION]

@@ -5,7 +5,7 @@
 #
 #   tests/hostile.sh [PROGRAM [KILLS]]
 #
-# PROGRAM is the one that ../palmheap builds, if none is given, and KILLS how many runs are killed, 200 if not said. Needs bash, Linux with
+# PROGRAM is the one that `../palmheap --build` builds, if none is given, and KILLS how many runs are killed, 200 if not said. Needs bash, Linux with
 # /dev/full, GNU coreutils (a sleep of parts of a second among them), cmp, and 100 MB in the folder for temporary files. Takes
 # a minute or two. Each case that fails has a line on standard error; the status is 1 then. What it saw is said on
 # standard output. The gate runs none of this.
@@ -87,8 +87,8 @@ for ((kilobytes = 2048; kilobytes <= 163840; kilobytes += kilobytes / 8)); do
             told=$((told + 1))
             ;;
         126 | 127 | 125 | 134 | 139)
-            # less than what the program needs to be started
-            [ "$told" = 0 ] || wrong "run in $kilobytes KB: status $status"
+            # less than what the program needs to be started; below 4 MB its stack can lack room
+            [ "$told" = 0 ] || [ "$kilobytes" -lt 4096 ] || wrong "run in $kilobytes KB: status $status"
             continue
             ;;
     esac

@@ -4,7 +4,7 @@
 #
 #   tests/maps.sh [PROGRAM]
 #
-# PROGRAM is the one that ../palmheap builds, if none is given. The images are a blank one; one with databases, of which
+# PROGRAM is the one that `../palmheap --build` builds, if none is given. The images are a blank one; one with databases, of which
 # half the records were removed, so that it is in pieces; the same after a compaction; one with 65,533 records; and one
 # with fixed chunks alone. Each picture that differs has its difference on standard error; the status is 1 then.
 # tests/maps/picture.py draws an image by other means: the pictures in tests/maps are what it prints. The SVG of each image

@@ -5,7 +5,7 @@
 #
 #   tests/peers.sh [PROGRAM]
 #
-# PROGRAM is the one that ../palmheap builds, if none is given. It needs Debian's packages libpalm-perl and libpalm-pdb-perl (Palm::PDB,
+# PROGRAM is the one that `../palmheap --build` builds, if none is given. It needs Debian's packages libpalm-perl and libpalm-pdb-perl (Palm::PDB,
 # and modules of it for memos, addresses, dates, tasks and mails), txt2pdbdoc, and imgvtopgm. For each file it prints how many
 # bytes there were and are, how many of them differ where both have one, and what `palmheap list` says of that. Each
 # case that fails has a line on standard error; the status is 1 then. The gate runs none of this.

@@ -4,7 +4,7 @@
 #
 #   tests/program.sh [PROGRAM]
 #
-# PROGRAM is the one that ../palmheap builds, if none is given. Each case that fails has a line on standard error; the status is
+# PROGRAM is the one that `../palmheap --build` builds, if none is given. Each case that fails has a line on standard error; the status is
 # 1 then. The gate runs none of this; what needs no more than files and a runtime stands in crates/test_program.
 top=$(cd -- "$(dirname -- "$0")/.." && pwd)
 program=${1:-$top/crates/palmheap/out/palmheap}
