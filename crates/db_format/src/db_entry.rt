@@ -1,7 +1,7 @@
 //! Entries of either kind.
 
 ghost use Rattle.std.specs.Prelude.{◌≡◌, ◌+◌, ◌≤◌, length};
-ghost use Rattle.heap_model.specs.DatabaseFields.{header_size, resource_size};
+ghost use Rattle.heap_model.specs.DatabaseFields.{header_size};
 ghost use Rattle.heap_model.specs.Database.{resources_in, entry_in, entry_bytes, entry_data};
 ghost use Rattle.heap_model.specs.Database as databases;
 ghost use Rattle.db_format.specs.Entries.{WritesEntry};

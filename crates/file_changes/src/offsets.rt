@@ -2,7 +2,7 @@
 
 ghost use Rattle.std.specs.Prelude.{◌≡◌, ◌↔◌, ◌<◌, ◌≤◌, ◌∷◌, ℕ, List, IsTrue, IfSome, IfNone, length, filter, min, nat_lt};
 ghost use Rattle.std.specs.List.{fold};
-ghost use Rattle.heap_model.specs.Files.{HasNoFault, offsets_in};
+ghost use Rattle.heap_model.specs.Files.{HasNoFault};
 ghost use Rattle.file_changes.specs.Changes as words;
 ghost use Rattle.file_changes.specs.Changes.{HasFiller, IsInOrder};
 

@@ -2,7 +2,6 @@
 
 ghost use Rattle.std.specs.Prelude.{◌≡◌, ◌≤◌, ◌<◌, ◌+◌, is_ok, length, slice_index_or, None};
 ghost use Rattle.heap_model.specs.Database.{entry_count_in};
-ghost use Rattle.heap_model.specs.Files.{blocks_in};
 ghost use Rattle.db_format.specs.EitherEntry.{entry_of};
 ghost use Rattle.palm_text.specs.Counted.{Writes};
 ghost use Rattle.palm_text.specs.Pieces.{piece_text};

@@ -6,7 +6,7 @@ ghost use Rattle.script_lines.specs.Reading.{words_in};
 ghost use Rattle.script_lines.specs.Words.{words_of};
 ghost use Rattle.script_lines.specs.Spellings.{number_below};
 ghost use Rattle.file_parts.specs.Words as words;
-ghost use Rattle.file_parts.specs.Words.{only_word, part_name, part_or, spelled_name, spelled_part, words_after};
+ghost use Rattle.file_parts.specs.Words.{part_name, part_or, spelled_name, spelled_part, words_after};
 
 use crate::part_file::PartFile;
 use db_format::{GREATEST_ID, NameField};

@@ -3,7 +3,7 @@
 
 ghost use Rattle.std.specs.Prelude.{◌≡◌, ◌<◌, None};
 ghost use Rattle.heap_model.specs.Chunk.{managers_owner};
-ghost use Rattle.heap_model.specs.Heap.{HeapAccepted, directory_of};
+ghost use Rattle.heap_model.specs.Heap.{HeapAccepted};
 ghost use Rattle.heap_model.specs.Store.{bytes_under, owner_under, directory_bytes, Accepted};
 ghost use Rattle.store_check.specs.Listing.{header_at, listed_count};
 

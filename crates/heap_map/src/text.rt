@@ -4,7 +4,6 @@ ghost use Rattle.std.specs.Prelude.{◌≡◌, ◌≤◌, ◌<◌, ◌+◌, ◌*
 ghost use Rattle.heap_model.specs.Store.{Accepted};
 ghost use Rattle.palm_text.specs.Counted.{Writes};
 ghost use Rattle.db_format.specs.Headers.{IsWhole};
-ghost use Rattle.store_check.specs.Listing.{listed_count};
 ghost use Rattle.heap_map.specs.Text as texts;
 ghost use Rattle.heap_map.specs.Text.{padded, row_text, row_lines, database_lines, database_text, entries_text, head_text, free_text};
 

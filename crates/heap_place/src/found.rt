@@ -1,7 +1,6 @@
 //! A live chunk that was found.
 
 ghost use Rattle.std.specs.Prelude.{◌≡◌, ◌<◌, ◌^◌};
-ghost use Rattle.heap_model.specs.Chunk.{need};
 ghost use Rattle.heap_place.specs.Found.{movable_by, fixed_by};
 
 use chunk_format::{FIXED_LOCK, Header, MANAGERS_OWNER};

@@ -8,7 +8,6 @@ ghost use Rattle.heap_map.specs.Pictures.{IsFaultOf};
 ghost use Rattle.heap_svg.specs.Legend.{sizes_at};
 ghost use Rattle.heap_svg.specs.Strips.{strips_of as strips_model, ShowImage};
 ghost use Rattle.heap_svg.specs.Rows as rows_of;
-ghost use Rattle.heap_svg.specs.Drawing as texts;
 ghost use Rattle.heap_svg.specs.Drawing.{WritesDrawing, bottom_text, closing_text, compact_notes, drawing_text, inner_text, lists_text, lower_text, middle_text, notes_text, top_text};
 ghost use Rattle.heap_svg.specs.Drawings.{HasDrawing};
 

@@ -1,5 +1,5 @@
 -- The line for the fault that a check of an image answers.
-use Rattle.std.proofs.Common.{◌≡◌, ◌≢◌, ℕ, Bool, Option, List, inl, inr}
+use Rattle.std.proofs.Common.{◌≢◌, ℕ, Bool, Option, List, inl, inr}
 use Rattle.store_check.specs.declared.fault.StoreFault.{StoreFault}
 use Rattle.store_check.specs.declared.fault.StoreFault.TheVariants.{OutOfMemory}
 use Rattle.store_check.specs.Checks.{IsAnswered}

@@ -1,6 +1,6 @@
 -- A database that comes: a chunk of the manager's has no lock, a slot more is listed, and the room
 -- and the slots that chunks take which are made one after the other.
-use Rattle.std.proofs.Common.{◌≡◌, ◌≢◌, ℕ, zero, suc, ◌+◌, ◌*◌, ◌/◌, ◌%◌, ◌^◌, ◌<◌, ◌≤◌, Bool, true, false, cond, List, [], ◌∷◌, ◌++◌, length, Some, refl, sym, ap, subst, ◌∙◌, append_assoc, arith, length-append, inl, inr}
+use Rattle.std.proofs.Common.{◌≡◌, ◌≢◌, ℕ, zero, suc, ◌+◌, ◌*◌, ◌/◌, ◌%◌, ◌^◌, ◌<◌, ◌≤◌, Bool, true, false, cond, List, [], ◌∷◌, ◌++◌, length, Some, refl, sym, ap, ◌∙◌, append_assoc, arith, length-append, inl, inr}
 use Rattle.std.proofs.lemmas.Bool.{cases_eq}
 use Rattle.std.proofs.Math.Seq.{take-append_seam}
 use Rattle.std.proofs.lemmas.List.{append-nil}
@@ -10,9 +10,8 @@ use Rattle.std.specs.Prelude.{count_by}
 use Rattle.std.specs.Option.{is_none}
 use Rattle.heap_model.specs.Bytes.{u32_at, u32_bytes}
 use Rattle.heap_model.specs.Chunk.{Chunk, free, movable, fixed, Spelled}
-use Rattle.heap_model.specs.Slots.{slots_of, area_start}
+use Rattle.heap_model.specs.Slots.{slots_of}
 use Rattle.heap_model.specs.Heap.{IsCallersIfFixed, HeapAccepted}
-use Rattle.heap_model.specs.Placed.{EveryPlaced}
 use Rattle.heap_model.specs.Meaning.{LiveChunk, NamedHere}
 use Rattle.heap_model.specs.Reading.{held}
 use Rattle.heap_model.specs.Space.{rooms, free_slots, Short}
@@ -20,7 +19,7 @@ use Rattle.heap_model.specs.Lists.{same, times, numbered, u32s_in}
 use Rattle.heap_model.specs.Rooms.{Lowers, makes, Stuck}
 use Rattle.byteorder.specs.Numbers.{big_from-take}
 use Rattle.laws_heap.proofs.AlteredChunks.{finds_callers}
-use Rattle.laws_heap.proofs.FoundChunks.{read_heap, held_finds, finds_spelled}
+use Rattle.laws_heap.proofs.FoundChunks.{held_finds, finds_spelled}
 use Rattle.laws_heap.proofs.SlotNumbers.{same_number}
 use Rattle.laws_heap.proofs.FixedNames.{fixed_live_is}
 use Rattle.laws_heap.proofs.SlidImages.{free_slots_held}

@@ -5,7 +5,7 @@ ghost use Rattle.std.specs.Prelude.{◌≡◌, ◌≢◌, ◌<◌, ◌≤◌, �
 ghost use Rattle.heap_model.specs.Bytes.{u32_at};
 ghost use Rattle.heap_model.specs.Frame.{HasFrame};
 ghost use Rattle.heap_model.specs.Lending.{LendsABody};
-ghost use Rattle.heap_model.specs.Slots.{IsSlot, StandsBehind, StandsIn, slots_in_row, slots_total, is_chained};
+ghost use Rattle.heap_model.specs.Slots.{IsSlot, StandsBehind, StandsIn, slots_in_row, is_chained};
 ghost use Rattle.master_table.specs.Table.{IsTiled, IsStart};
 
 use crate::distances::{distance, words};

@@ -1,15 +1,15 @@
 -- The content of a database, which is given by its bytes: how many entries it has, and the one of
 -- an index.
-use Rattle.std.proofs.Common.{◌≡◌, ℕ, suc, ◌+◌, ◌<◌, Option, List, [], ◌∷◌, length, map, get_or, drop, refl, sym, ap, ◌∙◌, arith, add-one, drop-cons}
+use Rattle.std.proofs.Common.{◌≡◌, ℕ, suc, ◌+◌, ◌<◌, Option, List, ◌∷◌, length, map, get_or, drop, refl, sym, ap, ◌∙◌, arith, add-one, drop-cons}
 use Rattle.std.proofs.lemmas.List.{length-map, get_or-map}
 use Rattle.std.proofs.lemmas.List.FromFn.{length-map-range_with_len, get_or-map-range_with_len}
 use Rattle.heap_model.specs.Meaning.{ChunkMap}
 use Rattle.heap_model.specs.Lists.{numbered}
 use Rattle.heap_model.specs.Bytes.{u32_at}
 use Rattle.heap_model.specs.DatabaseFields.{app_info_at, sort_info_at}
-use Rattle.heap_model.specs.Database.{Database, Entry, entry_data, entry_with, header_in, resources_in, entry_offset, entry_in, entry_count_in, database_in}
+use Rattle.heap_model.specs.Database.{Database, Entry, entry_with, header_in, resources_in, entry_offset, entry_in, entry_count_in, database_in}
 use Rattle.heap_model.specs.Store.{bytes_named, content}
-use Rattle.heap_model.specs.Files.{idle_entry, idle, block_size, block_offset, entries_with_offsets, with_offsets, first_block}
+use Rattle.heap_model.specs.Files.{idle_entry, idle, block_size, block_offset, with_offsets, first_block}
 use Rattle.db_format.specs.declared.header.DbHeader.{DbHeader}
 use Rattle.db_format.specs.Headers.{HasHeader}
 use Rattle.pdb_format.proofs.FileParts.{length-with_offsets}

@@ -1,15 +1,13 @@
 -- The parts of a file in their order, and the entries and their data, one after the other.
-use Rattle.std.proofs.Common.{◌≡◌, ℕ, ◌+◌, ◌<◌, ◌≤◌, Bool, true, false, Option, Result, Ok, Err, List, [], ◌∷◌, ◌++◌, length, drop, refl, sym, ap, subst, ◌∙◌, arith, append_assoc, length-append}
+use Rattle.std.proofs.Common.{◌≡◌, ℕ, ◌+◌, ◌<◌, ◌≤◌, Bool, true, false, Option, Result, Ok, Err, List, [], ◌∷◌, ◌++◌, length, drop, refl, sym, ap, subst, ◌∙◌, arith, length-append}
 use Rattle.std.proofs.lemmas.Grind.{common_steps}
 use Rattle.std.specs.Prelude.{IsErr, is_ok}
-use Rattle.std.specs.List.{flat_map}
 use Rattle.palm_text.specs.Counted.{Writing, Writes}
 use Rattle.heap_model.specs.Meaning.{ChunkMap}
-use Rattle.heap_model.specs.Database.{Database, Entry, a_record, a_resource, entry_data, entry_with, data_in, entry_bytes, spelled, entry_in, entry_count_in}
+use Rattle.heap_model.specs.Database.{Database, Entry, a_record, a_resource, entry_data, entry_with, entry_bytes, entry_in, entry_count_in}
 use Rattle.heap_model.specs.Store.{bytes_named}
-use Rattle.heap_model.specs.Files.{block_bytes, block_size, first_block, file_of}
+use Rattle.heap_model.specs.Files.{block_bytes, block_size, file_of}
 use Rattle.palm_text.proofs.Parts.{then, stops, nothing}
-use Rattle.pdb_format.specs.Writable.{file_size}
 use Rattle.pdb_format.specs.FileTexts.{header_text, entries_text, data_text}
 use Rattle.pdb_files.specs.FileParts.{file_entry}
 use Rattle.pdb_format.specs.FileTexts.{blocks_text}

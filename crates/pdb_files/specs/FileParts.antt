@@ -1,12 +1,11 @@
 -- The parts of the file of a database, which is given by its bytes in an image.
 use Rattle.std.specs.Prelude.{◌≡◌, ◌+◌, ◌<◌, ◌^◌, ℕ, List, map, Option, All}
-use Rattle.std.specs.List.{flat_map}
 use Rattle.heap_model.specs.Memory.{Memory}
 use Rattle.heap_model.specs.Lending.{IsLent}
 use Rattle.heap_model.specs.Meaning.{ChunkMap}
-use Rattle.heap_model.specs.Database.{Database, Entry, entry_data, entry_with, header_bytes, entry_bytes, data_in, database_in, IsSpelled, HasShape}
+use Rattle.heap_model.specs.Database.{Database, Entry, entry_with, data_in, database_in, IsSpelled, HasShape}
 use Rattle.heap_model.specs.Store.{bytes_named, content, store_of}
-use Rattle.heap_model.specs.Files.{idle_entry, idle, block_bytes, block_size, block_offset, entries_with_offsets, with_offsets, first_block}
+use Rattle.heap_model.specs.Files.{idle_entry, block_size, block_offset, first_block}
 use Rattle.pdb_format.specs.Writable.{file_size}
 use Rattle.palm_store.specs.Files.{IsDataName}
 use Rattle.pdb_files.specs.declared.exporting.places.Places.{Places}

@@ -1,13 +1,13 @@
 -- The plan for the database that is read from a file, before any of it is made.
-use Rattle.std.specs.Prelude.{◌≡◌, ◌≤◌, ◌<◌, ◌+◌, ◌-◌, ◌^◌, ℕ, Bool, true, false, List, length, map, slice_index, slice_index_or, Option, Some, None, All}
+use Rattle.std.specs.Prelude.{◌≡◌, ◌<◌, ◌+◌, ◌-◌, ◌^◌, ℕ, Bool, true, false, List, length, map, slice_index, slice_index_or, Option, Some, None, All}
 use Rattle.std.specs.List.{AllZip, filter_map}
-use Rattle.heap_model.specs.UniqueIds.{greatest_id, seed_in, with_seed}
-use Rattle.heap_model.specs.Database.{DatabaseHeader, Entry, a_record, a_resource, header_in, resources_in, entry_count_in, entry_in, database_in}
+use Rattle.heap_model.specs.UniqueIds.{seed_in}
+use Rattle.heap_model.specs.Database.{Entry, a_record, a_resource, header_in, resources_in, entry_in, database_in}
 use Rattle.heap_model.specs.Store.{unique_ids}
 use Rattle.heap_model.specs.Files.{HaveIds, idle_attributes, blocks_in}
 use Rattle.heap_model.specs.FileSteps.{size_of_block, block_sizes}
 use Rattle.pdb_format.specs.Blocks.{bytes_at, IsWithin}
-use Rattle.pdb_format.specs.ReadFiles.{header_read, HasIdsFor}
+use Rattle.pdb_format.specs.ReadFiles.{header_read}
 use Rattle.pdb_format.specs.declared.blocks.Block.{Block}
 use Rattle.palm_store.specs.declared.databases.whole.WholeEntry.{WholeEntry}
 use Rattle.palm_store.specs.declared.databases.whole.WholeEntry.TheVariants as whole

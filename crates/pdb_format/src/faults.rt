@@ -3,7 +3,7 @@
 ghost use Rattle.std.specs.Prelude.{◌≡◌, ◌≢◌, ◌≤◌, ◌<◌, ◌+◌, ◌↔◌, ℕ, length, IsTrue, IfSome, IfNone, OnOk, IfErr};
 ghost use Rattle.heap_model.specs.Lists.{Least};
 ghost use Rattle.heap_model.specs.DatabaseFields.{header_size};
-ghost use Rattle.heap_model.specs.Database.{entry_count_in, entry_in};
+ghost use Rattle.heap_model.specs.Database.{entry_count_in};
 ghost use Rattle.heap_model.specs.Files.{entries_end, IsOutside, IsBadInfo, HasBadOffset, IsFirstFault, HasNoFault};
 ghost use Rattle.heap_model.specs.Files.{HasFault};
 ghost use Rattle.heap_model.specs.declared.file_fault.FileFault.TheVariants.{Truncated, BadOffset};

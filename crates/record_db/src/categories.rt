@@ -16,7 +16,7 @@ ghost use Rattle.palm_store.specs.Replies.{done_or_refused, number_or_refused};
 ghost use Rattle.palm_store.specs.Search.{IsFirst, NoneBehind};
 ghost use Rattle.record_db.specs.Checks.{DoesRecord};
 
-use crate::attributes::{ALL_CATEGORIES, Moving, has_category};
+use crate::attributes::{ALL_CATEGORIES, Moving};
 use crate::records::has_locked_of;
 use crate::search::{count_of, first_of};
 use db_format::CATEGORIES;

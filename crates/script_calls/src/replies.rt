@@ -6,7 +6,7 @@ ghost use Rattle.heap_model.specs.MemorySteps.{reply_of};
 ghost use Rattle.heap_model.specs.declared.call.Reply.{Reply};
 ghost use Rattle.script_calls.specs.Lines.{details_text, hex_text, info_words, record_words};
 ghost use Rattle.script_calls.specs.Lines.{refusal_line, reply_line, reply_text, resource_words};
-ghost use Rattle.script_calls.specs.Lines.{told_text, values_text};
+ghost use Rattle.script_calls.specs.Lines.{values_text};
 ghost use Rattle.script_calls.specs.Lines.{words_text};
 ghost use Rattle.script_calls.specs.Lines as words;
 ghost use Rattle.palm_store.specs.Replies.{made_reply};

@@ -1,5 +1,5 @@
 -- What the tests ask to be made can be the header and the entries of a database.
-use Rattle.std.proofs.Common.{◌≡◌, ◌≢◌, ℕ, ◌+◌, ◌<◌, ◌≤◌, Bool, true, false, List, [], ◌∷◌, length, Option, Some, None, refl, sym, ap, subst, ◌∙◌, arith}
+use Rattle.std.proofs.Common.{◌≡◌, ◌≢◌, ℕ, ◌<◌, true, false, List, [], ◌∷◌, Some, None, refl, sym, ap, subst, arith}
 use Rattle.std.proofs.lemmas.List.Elements.{All-nil, All-cons}
 use Rattle.std.proofs.lemmas.List.Kept.{AllPairs-cons}
 use Rattle.std.specs.Prelude.{All}
@@ -7,7 +7,6 @@ use Rattle.std.specs.List.{AllPairs}
 use Rattle.heap_model.specs.Lists.{Distinct}
 use Rattle.heap_model.specs.Database.{IsDatabaseName, has_resources}
 use Rattle.heap_model.specs.declared.database.DbInfo.{DbInfo}
-use Rattle.palm_store.specs.declared.databases.whole.WholeEntry.{WholeEntry}
 use Rattle.palm_store.specs.declared.databases.whole.WholeEntry.TheVariants as whole
 use Rattle.palm_store.specs.WholeDatabases.{CanCome, CanBeWhole}
 

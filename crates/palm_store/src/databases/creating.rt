@@ -3,14 +3,14 @@
 ghost use Rattle.std.specs.Prelude.{◌≡◌, ◌<◌, ◌≤◌, ◌+◌, ◌⊎◌, length, replicate, IfOk, IfErr, OnOk, OnErr, ◌*◌};
 ghost use Rattle.heap_model.specs.Lending.{KeepsLoan};
 ghost use Rattle.heap_model.specs.Bytes.{u32_bytes};
-ghost use Rattle.heap_model.specs.Chunk.{need, managers_owner};
+ghost use Rattle.heap_model.specs.Chunk.{need};
 ghost use Rattle.heap_model.specs.Heap.{HeapAccepted, directory_of};
 ghost use Rattle.heap_model.specs.Reading.{held};
 ghost use Rattle.heap_model.specs.Space.{ShortFor, free_slots, rooms};
 ghost use Rattle.heap_model.specs.DatabaseFields.{header_size};
 ghost use Rattle.heap_model.specs.Leaving.{Leaves};
 ghost use Rattle.heap_model.specs.Rooms.{Stuck};
-ghost use Rattle.heap_model.specs.Store.{Accepted, directory_bytes, owner_under, listed_size, most_databases};
+ghost use Rattle.heap_model.specs.Store.{Accepted, directory_bytes, listed_size, most_databases};
 ghost use Rattle.heap_model.specs.DatabaseSteps.{empty_database, create_parts, create_slots};
 ghost use Rattle.mem_manager.specs.Lookup.{HasNoRoomFor};
 ghost use Rattle.db_format.specs.Headers.{HasHeader};

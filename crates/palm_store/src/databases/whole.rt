@@ -2,7 +2,7 @@
 
 ghost use Rattle.std.specs.Prelude.{◌≡◌, ◌+◌, ◌<◌, None, length, slice_index_or};
 ghost use Rattle.heap_model.specs.Database.{EntryFits};
-ghost use Rattle.db_format.specs.EitherEntry.{entry_of, is_resource, HasFittingId};
+ghost use Rattle.db_format.specs.EitherEntry.{entry_of, HasFittingId};
 ghost use Rattle.db_format.specs.Headers.{header_of};
 ghost use Rattle.palm_store.specs.WholeDatabases.{size_of_data, data_sizes, CanCome, header_asked, entry_named};
 

@@ -4,7 +4,6 @@ ghost use Rattle.std.specs.Prelude.{◌≡◌, ◌<◌, ◌^◌, length};
 ghost use Rattle.heap_model.specs.Meaning.{ChunkMap};
 ghost use Rattle.heap_model.specs.Store.{bytes_named};
 ghost use Rattle.heap_model.specs.Files as files;
-ghost use Rattle.pdb_format.specs.Writable as sizes;
 ghost use Rattle.pdb_files.specs.FileParts.{block_under, content_of, MayBeRead, IsExportable, ArePlaces};
 
 use db_format::{app_info, entries_end, entry_count, entry_slot, has_resources, sort_info};

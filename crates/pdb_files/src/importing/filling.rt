@@ -2,7 +2,6 @@
 
 ghost use Rattle.std.specs.Prelude.{◌≡◌, ◌<◌, ◌≤◌, ℕ, length, map, All};
 ghost use Rattle.heap_model.specs.Lending.{KeepsLoan};
-ghost use Rattle.heap_model.specs.Lists.{times};
 ghost use Rattle.heap_model.specs.Store.{Accepted, store_of};
 ghost use Rattle.pdb_format.specs.Blocks.{bytes_at, IsWithin};
 ghost use Rattle.palm_store.specs.WholeDatabases.{numbers_in};

@@ -5,7 +5,6 @@ ghost use Rattle.std.specs.Prelude.{◌≡◌, ◌++◌, ◌-◌, ◌*◌, ℕ, 
 ghost use Rattle.heap_model.specs.Bytes.{u32_bytes};
 ghost use Rattle.heap_model.specs.Chunk.{free, movable, fixed, size_of};
 ghost use Rattle.heap_model.specs.Slots.{slots_of};
-ghost use Rattle.heap_model.specs.Meaning.{LiveChunk};
 ghost use Rattle.heap_model.specs.Reading.{chunk_at, chunks_of, held, is_accepted};
 ghost use Rattle.test_formats.specs.HeapImages.{words, blank_image, one_chunk_image, database_image, padded, small_image, BreaksAlone, IsOutOfShape};
 

@@ -16,13 +16,12 @@
 //! | 13 | each chunk of owner 0 is the directory or listed in it |
 
 ghost use Rattle.std.specs.Prelude.{◌≡◌, ℕ, List, [], ◌∷◌, replicate, map, Some, None};
-ghost use Rattle.heap_model.specs.Meaning.{LiveChunk};
 ghost use Rattle.heap_model.specs.Maps.{callers_map};
 ghost use Rattle.heap_model.specs.Space.{rooms};
 ghost use Rattle.heap_model.specs.Lists.{moved};
 ghost use Rattle.heap_model.specs.Database.{a_record, a_resource};
 ghost use Rattle.heap_model.specs.UniqueIds.{next_id, id_behind, seed_in, with_seed, IsFresh};
-ghost use Rattle.heap_model.specs.Store.{StoredDatabase, content, listed, databases, named, names_of};
+ghost use Rattle.heap_model.specs.Store.{content, listed, databases, named, names_of};
 ghost use Rattle.heap_model.specs.Rooms.{stretch_of, makes, grows, Stuck};
 ghost use Rattle.test_formats.specs.HeapImages.{database_image};
 ghost use Rattle.test_formats.specs.StoreImages.{changed, resource_image, two_databases, two_rooms, broken};
