@@ -26,7 +26,7 @@ while IFS= read -r file; do
         ./test_* | ./benchmarks/* | ./example_memos/*) ;;
         ./program_io/src/command_line.rt | ./program_io/src/requested.rt | ./program_io/src/output_file.rt) ;;
         ./command_files/src/files.rt | ./path_commands/src/folders.rt) ;;
-        ./base_program/src/words.rt | ./palmheap_program/src/stores.rt) ;;
+        ./image_program/src/words.rt | ./palmheap_program/src/stores.rt) ;;
         # it fills room that allowance took
         ./canonical_file/src/blocks.rt) ;;
         # it makes a box, as docs/C-LIBRARY.md says

@@ -1,19 +1,10 @@
 //! The program `palmheap_base`, as a function over a runtime and the words of the command line. It
 //! has the commands of `palmheap` that need neither the managers nor the pictures. So a first call
-//! of one of them proves fewer crates.
+//! of `list`, `canonical`, `unpack` or `pack` proves fewer crates. `image_program` has the others.
 //!
-//! All functions call the system. Start with `run`.
-//!
-//! | module | does |
-//! |---|---|
-//! | `words` | reads the words of the command line |
-//! | `requests` | fulfils their request, and prints the text for words without a command |
-//! | `meanings` | the command `explain` |
+//! All functions call the system. Start with `run`, in `requests`.
 #![tactic(auto)]
 
-mod meanings;
 mod requests;
-mod words;
 
-pub use requests::{answer, fulfil, run};
-pub use words::read_words;
+pub use requests::{fulfil, run};

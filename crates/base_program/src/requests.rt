@@ -1,24 +1,19 @@
 //! The requests of the words of the command line.
 
-ghost use Rattle.std.specs.Prelude.{◌≡◌, ◌≢◌, ◌⊎◌};
-ghost use Rattle.clap.specs.Values.{kind_of};
+ghost use Rattle.std.specs.Prelude.{◌≢◌};
 
-use crate::meanings::explain;
-use clap::error::ErrorKind;
-use command_files::{STANDARD_OUTPUT, fail};
-use image_commands::{check, new};
-use image_documents::check_json;
+use image_program::{answer, fail_to_find};
 use path_commands::{canonical, list, list_json, pack, unpack};
+use program_io::Status;
 use program_io::command_line::{self, BaseRequest, Form, Request};
-use program_io::{Status, report_write_fault};
 use std::io::Input;
 use std::rt::Files;
 
 /// Fulfils the request of the words of the command line, if its command is one of this crate. The
 /// first word is the program's own name. If the run fails, standard error has the reason.
 ///
-/// No contract can relate the status to the files. The stored runs of `test_program` test `fulfil`
-/// and `answer`, which `palmheap_program` calls too.
+/// No contract can relate the status to the files. The stored runs of `test_program` test `fulfil`,
+/// which `palmheap_program` calls too.
 pub fn run<R: Files + Input + Print + Eprint + AllocGlobal>(rt: &R, words: &[String]) -> Status {
     match command_line::parse(rt.alloc(), words) {
         Ok(Request::Base(request)) => fulfil(rt, request),
@@ -33,27 +28,13 @@ pub fn fulfil<R: Files + Input + Print + Eprint + AllocGlobal>(
     request: BaseRequest,
 ) -> Status {
     match request {
-        BaseRequest::New { size, slots, out } => new(rt, size, slots, out),
-        BaseRequest::Check { image, form } => check_as(rt, image, form),
+        BaseRequest::New { .. } | BaseRequest::Check { .. } | BaseRequest::Explain { .. } => {
+            image_program::fulfil(rt, request)
+        }
         BaseRequest::List { file, form } => list_as(rt, file, form),
         BaseRequest::Canonical { file, out } => canonical(rt, file, out),
         BaseRequest::Unpack { file, folder } => unpack(rt, file, folder),
         BaseRequest::Pack { folder, out } => pack(rt, folder, out),
-        BaseRequest::Explain { word } => explain(rt, word),
-    }
-}
-
-/// Runs `check`, and prints in this form.
-fn check_as<R: Files + Input + Print + Eprint + AllocGlobal>(
-    rt: &R,
-    image: &str,
-    form: Form,
-) -> Status
-    ensures { result ≢ Status.BadWords }
-{
-    match form {
-        Form::Text => check(rt, image),
-        Form::Json => check_json(rt, image),
     }
 }
 
@@ -68,40 +49,5 @@ fn list_as<R: Files + Input + Print + Eprint + AllocGlobal>(
     match form {
         Form::Text => list(rt, file),
         Form::Json => list_json(rt, file),
-    }
-}
-
-/// Reports on standard error that the command is one of `palmheap` alone.
-fn fail_to_find<R: Eprint>(rt: &R) -> Status
-    ensures { result ≡ Status.BadWords }
-{
-    let _ = eprintln!(rt;
-        "error: this program lacks the command; 'palmheap --build' builds the one that has it"
-    );
-    Status::BadWords
-}
-
-/// Prints the text for words without a command: their error, or the help or the version.
-pub fn answer<R: Print + Eprint>(rt: &R, error: &clap::Error) -> Status
-    ensures statuses { (result ≡ Status.Done) ⊎ (result ≡ Status.BadWords)
-        ⊎ (result ≡ Status.WriteFault) ⊎ (result ≡ Status.NoMemory) }
-    ensures no_memory { kind_of error.now ≡ ErrorKind.OutOfMemory → result ≡ Status.NoMemory }
-    ensures shown { (kind_of error.now ≡ ErrorKind.DisplayHelp)
-        ⊎ (kind_of error.now ≡ ErrorKind.DisplayVersion)
-        → (result ≡ Status.Done) ⊎ (result ≡ Status.WriteFault) }
-    ensures bad_words { (kind_of error.now ≢ ErrorKind.OutOfMemory)
-        → (kind_of error.now ≢ ErrorKind.DisplayHelp)
-        → (kind_of error.now ≢ ErrorKind.DisplayVersion) → result ≡ Status.BadWords }
-{
-    if error.kind() == ErrorKind::OutOfMemory {
-        return fail(rt, Status::NoMemory);
-    }
-    match error.print(rt) {
-        _ if error.use_stderr() => Status::BadWords,
-        Ok(()) => Status::Done,
-        Err(reason) => {
-            report_write_fault(rt, STANDARD_OUTPUT, reason);
-            Status::WriteFault
-        }
     }
 }

@@ -32,3 +32,12 @@ pub fn fail_to_read<R: Eprint>(rt: &R, path: &str, fault: InputFault) -> Status
     report_input_fault(rt, path, fault);
     Status::from(fault)
 }
+
+/// Returns the name of the input at a path, for messages.
+pub fn input_name(path: &str) -> &str {
+    if path == STANDARD_STREAM {
+        STANDARD_INPUT
+    } else {
+        path
+    }
+}

@@ -10,20 +10,21 @@
 //! | `region_input` | reads an image into a region |
 //! | `replacing` | output files that don't replace a file of the other kind |
 //! | `faults` | reports why a command did not start |
-//! | `documents` | reports why a command failed that writes a document |
-//! | `suggestions` | reports what an input looks like, what is allowed at a file's fault, which command explains a fault |
+//! | `buffered` | returns and reports the first error of a buffered writer |
+//! | `suggestions` | reports what an input looks like, which command explains a fault |
 #![tactic(auto)]
 
-mod documents;
+mod buffered;
 mod faults;
 mod files;
 mod region_input;
 mod replacing;
 mod suggestions;
 
-pub use documents::report_document;
+pub use buffered::{buffered_fault, report_buffered};
 pub use faults::{
     STANDARD_ERROR, STANDARD_INPUT, STANDARD_OUTPUT, STANDARD_STREAM, fail, fail_to_read,
+    input_name,
 };
 pub use files::{
     read_file, read_file_or_input, read_files, read_image, report_left_files, write_file,
@@ -32,5 +33,5 @@ pub use files::{
 pub use region_input::{SizedFault, read_region_from};
 pub use replacing::{output_for_database, output_for_image, output_for_picture};
 pub use suggestions::{
-    comment_on_file, looks_like_file, suggest_checks, suggest_explain, suggest_list,
+    looks_like_file, suggest_check, suggest_checks, suggest_explain, suggest_list,
 };

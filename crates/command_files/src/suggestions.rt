@@ -1,16 +1,13 @@
-//! What else an input looks like, which numbers are allowed at a file's fault, and which command
-//! explains a fault.
+//! What else an input looks like, and which command explains a fault.
 
-ghost use Rattle.std.specs.Prelude.{◌≡◌, ◌≤◌, None, length};
+ghost use Rattle.std.specs.Prelude.{◌≡◌, None};
 ghost use Rattle.hints.specs.Lookalikes as words;
 
-use crate::faults::{STANDARD_INPUT, STANDARD_STREAM};
+use crate::faults::input_name;
 use chunk_format::is_image_size;
-use file_listing::damage_of;
 use heap_model::Bytes;
 use hints::{looks_like_database, looks_like_image};
-use pdb_format::check_file;
-use program_io::{INPUT_LIMIT, Status};
+use program_io::Status;
 use raw_region::Region;
 
 /// Returns whether an image looks like a PDB or PRC file.
@@ -35,28 +32,13 @@ pub fn suggest_list<R: Eprint>(rt: &R, path: &str, status: Status, is_file: bool
 /// Reports on standard error that the file at a path looks like a heap image, and the command that
 /// checks it. Some images are read as a database with the name PHI1. So it also reports this if the
 /// file wasn't refused.
-fn suggest_check<R: Eprint>(rt: &R, path: &str, status: Status, file: &[u8]) {
+pub fn suggest_check<R: Eprint>(rt: &R, path: &str, status: Status, file: &[u8]) {
     let is_read = status == Status::Done || status == Status::Refused;
     if is_read && looks_like_image(file) {
         let _ = eprintln!(rt;
             "{} looks like a heap image: 'palmheap check {path}' checks it",
             input_name(path)
         );
-    }
-}
-
-/// Reports the same as `suggest_check`. If the file doesn't look like an image, but was refused, it
-/// reports the number at the file's first fault, and the numbers that are allowed there.
-pub fn comment_on_file<R: Eprint>(rt: &R, path: &str, status: Status, file: &[u8])
-    requires { length file.now ≤ INPUT_LIMIT }
-{
-    if looks_like_image(file) {
-        suggest_check(rt, path, status, file);
-    } else if status == Status::Refused {
-        if let Err(fault) = check_file(file) {
-            let damage = damage_of(file, fault);
-            let _ = eprintln!(rt; "{}: {damage}", input_name(path));
-        }
     }
 }
 
@@ -82,14 +64,5 @@ fn blank_fault(size: Option<u32>) -> &'static str {
     match size {
         Some(size) if !is_image_size(size as usize) => "BadSize",
         _ => "BadSlotCount",
-    }
-}
-
-/// Returns the name of an input, for messages.
-fn input_name(path: &str) -> &str {
-    if path == STANDARD_STREAM {
-        STANDARD_INPUT
-    } else {
-        path
     }
 }

@@ -6,7 +6,7 @@ ghost use Rattle.palm_text.specs.Output.{Puts};
 ghost use Rattle.image_documents.specs.Faults.{image_fault_json, named_fault_json};
 
 use image_faults::{Numbers, image_fault_name, image_fault_numbers};
-use json_documents::{JsonPiece, put_json};
+use json_text::{JsonPiece, put_json};
 use palm_text::{Counted, WriteFault};
 use program_io::{Status, flushed};
 use std::io::Write;

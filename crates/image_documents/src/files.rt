@@ -3,7 +3,7 @@
 ghost use Rattle.std.specs.Prelude.{◌≢◌};
 
 use crate::check_command::check_json_region_from;
-use command_files::{fail, looks_like_file, read_image, report_document, suggest_list};
+use command_files::{fail, looks_like_file, read_image, report_buffered, suggest_list};
 use palm_text::Counted;
 use program_io::{Noted, Status};
 use std::io;
@@ -22,7 +22,7 @@ pub fn check_json<R: Files + Input + Print + Eprint + AllocGlobal>(rt: &R, path:
         return fail(rt, Status::NoMemory);
     };
     let mut out = Counted::new(out);
-    let status = report_document(
+    let status = report_buffered(
         rt,
         check_json_region_from(&rt.alloc(), &image, &mut out),
         out,

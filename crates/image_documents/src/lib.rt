@@ -1,5 +1,5 @@
-//! JSON documents of images: the facts that `check` prints as text. `json_documents` describes
-//! what all documents have in common, and has those of files.
+//! JSON documents of images: the facts that `check` prints as text. `json_text` describes what
+//! all documents have in common, and `json_documents` has those of files.
 //!
 //! ```text
 //! {"size":128,"slots":4,"movable":0,"fixed":0,"free":96,"databases":0}

@@ -6,7 +6,7 @@ ghost use Rattle.palm_text.specs.Output.{Puts};
 ghost use Rattle.image_documents.specs.Ends.{heap_json, summary_json};
 
 use heap_check::Summary;
-use json_documents::{JsonPiece, put_json};
+use json_text::{JsonPiece, put_json};
 use palm_text::{Counted, WriteFault};
 use program_io::{Status, flushed};
 use std::io::Write;

@@ -3,4 +3,3 @@ pub mod Documents
 pub mod EntryTexts
 pub mod Heads
 pub mod Infos
-pub mod Sequences

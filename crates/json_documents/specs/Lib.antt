@@ -1,5 +1,3 @@
-pub mod Strings
-pub mod Pieces
 pub mod FileDocument
 pub mod Parts
 pub mod Faults

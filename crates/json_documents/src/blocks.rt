@@ -6,8 +6,8 @@ ghost use Rattle.pdb_format.specs.Blocks.{IsWithin, bytes_at};
 ghost use Rattle.canonical_file.specs.Canonical.{HasBlocks, most_bytes};
 ghost use Rattle.json_documents.specs.FileDocument.{block_json, info_json, infos_json};
 
-use crate::pieces::{JsonPiece, put_json};
 use db_format::{app_info, sort_info};
+use json_text::{JsonPiece, put_json};
 use palm_text::{Counted, WriteFault};
 use pdb_format::Block;
 use std::io::Write;

@@ -6,13 +6,13 @@ ghost use Rattle.canonical_file.specs.Canonical.{HasBlocks};
 ghost use Rattle.file_changes.specs.Changes as changes;
 ghost use Rattle.palm_text.specs.Counted.{Writes};
 ghost use Rattle.json_documents.specs.FileDocument.{changes_json, comma_if, last_json, needs_json, size_json, slots_json};
-ghost use Rattle.json_documents.specs.Pieces.{json_text};
+ghost use Rattle.json_text.specs.Pieces.{json_text};
 
 use crate::parts::Parts;
-use crate::pieces::{JsonPiece, put_json};
 use file_changes::Changes;
 use file_listing::size_and_slots;
 use itoa::Buffer;
+use json_text::{JsonPiece, put_json};
 use palm_text::{Counted, WriteFault};
 use std::io::Write;
 

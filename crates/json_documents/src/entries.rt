@@ -8,10 +8,10 @@ ghost use Rattle.pdb_format.specs.Blocks.{IsWithin, bytes_at};
 ghost use Rattle.canonical_file.specs.Canonical.{HasBlocks, most_bytes};
 ghost use Rattle.json_documents.specs.FileDocument as words;
 ghost use Rattle.json_documents.specs.FileDocument.{data_json, entries_json, entry_at, entry_json, fields_json, index_json, kind_json, value_json};
-ghost use Rattle.json_documents.specs.Pieces.{json_text};
+ghost use Rattle.json_text.specs.Pieces.{json_text};
 
-use crate::pieces::{JsonPiece, put_json};
 use db_format::{DbEntry, INFO_BLOCKS, entry_count};
+use json_text::{JsonPiece, put_json};
 use palm_text::{Counted, WriteFault, put_all};
 use pdb_format::Block;
 use std::io::Write;

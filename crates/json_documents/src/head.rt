@@ -6,8 +6,8 @@ ghost use Rattle.db_format.specs.Headers.{header_of};
 ghost use Rattle.json_documents.specs.FileDocument.{head_json, marks_json, moments_json};
 
 use crate::parts::Moments;
-use crate::pieces::{JsonPiece, put_json};
 use db_format::DbHeader;
+use json_text::{JsonPiece, put_json};
 use palm_text::{Counted, WriteFault};
 use std::io::Write;
 

@@ -1,9 +1,5 @@
 //! JSON documents with the facts that `list` prints as text. `image_documents` has those of images.
-//!
-//! A document is one object on one line, in ASCII. It is written piece by piece, without memory of
-//! its own. A string has a character for each byte: that of the byte in Windows-1252 or, if there
-//! is none, that of its own code. Beside each string from a file stands the same in hex, so a
-//! reader can get the exact bytes.
+//! `json_text` describes what all documents have in common.
 //!
 //! ```text
 //! {"size":97,"name":"MemoDB","name_hex":"4d656d6f4442","attributes":0,"version":0,
@@ -18,7 +14,6 @@
 //!
 //! | module | does |
 //! |---|---|
-//! | `pieces`, `strings` | pieces of documents; strings |
 //! | `parts` | the parts of a file's document that need memory |
 //! | `head`, `blocks`, `entries`, `ending` | the parts of a file's document, in order |
 //! | `file_document` | the document of a file |
@@ -34,9 +29,6 @@ mod file_fault;
 mod head;
 mod list_command;
 mod parts;
-mod pieces;
-mod strings;
 
 pub use file_document::{DocumentFault, put_file_document};
 pub use list_command::{cmd_list_json, cmd_list_json_from};
-pub use pieces::{JsonPiece, put_json};

@@ -1,5 +1,5 @@
 -- Pictures that are written to a file and then flushed.
-use Rattle.std.proofs.Common.{◌≡◌, List, ℕ, true, false, Option, inl}
+use Rattle.std.proofs.Common.{List, ℕ, true, false, Option, inl}
 use Rattle.heap_svg.specs.Drawing.{WritesDrawing}
 use Rattle.palm_text.specs.Counted.{Writing, Flushes}
 use Rattle.palm_text.proofs.Parts.{then_flush}

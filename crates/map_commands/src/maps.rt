@@ -5,8 +5,8 @@ ghost use Rattle.std.specs.Prelude.{◌≡◌, ◌≢◌, None};
 use crate::draw_command::draw_region_from;
 use crate::map_command::map_region_from;
 use command_files::{
-    STANDARD_ERROR, STANDARD_OUTPUT, STANDARD_STREAM, fail, looks_like_file, output_for_picture,
-    read_image, suggest_list,
+    STANDARD_ERROR, STANDARD_OUTPUT, STANDARD_STREAM, buffered_fault, fail, looks_like_file,
+    output_for_picture, read_image, report_buffered, suggest_list,
 };
 use palm_text::Counted;
 use program_io::{ErrorOutput, Noted, Status, report_outcome};
@@ -63,11 +63,7 @@ fn print_map<R: Print + Eprint + AllocGlobal>(rt: &R, image: &Region) -> Status
     };
     let mut out = Counted::new(out);
     let status = map_region_from(&rt.alloc(), image, &mut out);
-    // What is left in `out` after a fault is thrown away. To drop it would write again.
-    let (out, _) = out.into_inner().into_parts();
-    let (_, fault) = out.into_parts();
-    report_outcome(rt, status, &[(STANDARD_OUTPUT, fault)]);
-    status
+    report_buffered(rt, status, out)
 }
 
 /// Writes the picture of an image through a buffer. Returns the status with the first error of
@@ -86,10 +82,7 @@ fn draw_buffered<W: Write + Drop, V: Write>(
     };
     let mut file_out = Counted::new(file_out);
     let status = draw_region_from(&alloc, image, &mut file_out, out);
-    // What is left in `file_out` after a fault is thrown away. To drop it would write again.
-    let (file_out, _) = file_out.into_inner().into_parts();
-    let (_, fault) = file_out.into_parts();
-    (status, fault)
+    (status, buffered_fault(file_out.into_inner()))
 }
 
 /// Writes the picture of an image to standard output.

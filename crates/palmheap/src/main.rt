@@ -3,7 +3,7 @@
 //! The crate `palmheap_program` has its functions.
 #![tactic(auto)]
 
-use base_program::read_words;
+use image_program::read_words;
 use palmheap_program::{Ending, run};
 use std::process::ExitCode;
 

@@ -4,7 +4,8 @@
 //! The crate `base_program` has its functions.
 #![tactic(auto)]
 
-use base_program::{read_words, run};
+use base_program::run;
+use image_program::read_words;
 use std::process::ExitCode;
 
 fn main(rt: HostRuntime) -> ExitCode {

@@ -1,10 +1,9 @@
 -- How a run ends whose script is run while it is read.
-use Rattle.std.proofs.Common.{◌≡◌, ◌≢◌, ◌⊎◌, ℕ, Bool, true, false, List, Option, IfSome, Some, Result, Err, inl, inr, refl, sym, ap, ◌∙◌, subst}
+use Rattle.std.proofs.Common.{◌≡◌, ◌⊎◌, ℕ, Bool, true, false, List, Option, Result, Err, inl, inr, refl, sym, subst}
 use Rattle.heap_model.specs.Memory.{Memory}
 use Rattle.heap_model.specs.Store.{Accepted}
 use Rattle.palm_text.specs.Counted.{Flushes, Writing}
-use Rattle.palm_text.specs.Output.{Puts}
-use Rattle.live_scripts.specs.Live.{ReadStops, RunsText}
+use Rattle.live_scripts.specs.Live.{ReadStops}
 use Rattle.live_scripts.specs.declared.fault.LiveFault.{LiveFault}
 use Rattle.live_scripts.specs.declared.fault.LiveFault.TheVariants as faults
 use Rattle.image_faults.specs.Lines.{PutsBadImage}
@@ -12,10 +11,10 @@ use Rattle.file_commands.specs.LineFaults.{PutsFault}
 use Rattle.script_lines.specs.declared.fault.LineFault.{LineFault}
 use Rattle.program_io.specs.declared.input.InputFault.{InputFault}
 use Rattle.program_io.specs.declared.status.Status.{Status}
-use Rattle.program_io.specs.declared.status.Status.TheVariants.{Done, Refused, BadWords, ReadFault, WriteFault, NoMemory}
+use Rattle.program_io.specs.declared.status.Status.TheVariants.{Refused, WriteFault, NoMemory}
 use Rattle.palmheap_program.specs.declared.live_command.LiveEnd.{LiveEnd}
 use Rattle.palmheap_program.specs.declared.live_command.LiveEnd.TheVariants as ends
-use Rattle.palmheap_program.specs.LiveRuns.{EndsAtLine, EndsEarlyLive, EndsLive, EndsLiveBy, LiveBreaksOff, PutsLiveRefusal, RunsLive, StopsLive, WantsMemory}
+use Rattle.palmheap_program.specs.LiveRuns.{EndsAtLine, EndsEarlyLive, EndsLive, EndsLiveBy, LiveBreaksOff, PutsLiveRefusal, WantsMemory}
 
 module _ {W V : Type 0} (short : Type 0) (region : Memory) (known : Option (List ℕ)) (script : List ℕ) (inputs : List (List ℕ)) (contents : V → Option (List ℕ)) (old new : Writing V) (image_contents : W → Option (List ℕ)) (image_old image_new : Writing W) where
   abbrev By : Status → Type 0

@@ -3,7 +3,7 @@
 ghost use Rattle.std.specs.Prelude.{◌≢◌};
 
 use crate::stores::databases;
-use command_files::{fail, looks_like_file, read_image, report_document, suggest_list};
+use command_files::{fail, looks_like_file, read_image, report_buffered, suggest_list};
 use palm_text::Counted;
 use program_io::command_line::Form;
 use program_io::{Noted, Status};
@@ -40,7 +40,7 @@ fn databases_json<R: Files + Input + Print + Eprint + AllocGlobal>(rt: &R, path:
     };
     let mut out = Counted::new(out);
     let status = databases_json_region_from(&rt.alloc(), image, &mut out);
-    let status = report_document(rt, status, out);
+    let status = report_buffered(rt, status, out);
     suggest_list(rt, path, status, is_file);
     status
 }

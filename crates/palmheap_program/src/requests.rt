@@ -4,7 +4,7 @@ use crate::documents::databases_as;
 use crate::ending::Ending;
 use crate::scripts::{RunPaths, run_script};
 use crate::stores::{export, import, migrate};
-use base_program::answer;
+use image_program::answer;
 use map_commands::{draw, map};
 use program_io::command_line::{self, Request};
 use std::io::Input;

@@ -6,9 +6,9 @@ use crate::ending::Ending;
 use crate::live_command::{LiveEnd, run_live_region_from};
 use crate::run_command::run_region_from;
 use command_files::{
-    STANDARD_INPUT, STANDARD_OUTPUT, STANDARD_STREAM, fail, fail_to_read, looks_like_file,
-    output_for_image, read_file, read_files, read_image, report_left_files, suggest_checks,
-    suggest_list, write_files,
+    STANDARD_INPUT, STANDARD_OUTPUT, STANDARD_STREAM, buffered_fault, fail, fail_to_read,
+    looks_like_file, output_for_image, read_file, read_files, read_image, report_left_files,
+    suggest_checks, suggest_list, write_files,
 };
 use heap_model::Bytes;
 use hints::{line_numbers, missing_files};
@@ -228,9 +228,7 @@ fn run_to<R: Files + Print + Eprint + AllocGlobal>(
         any_refused,
         ..
     } = out.into_inner();
-    // After a fault, the bytes left in `writer` are thrown away. Dropping it would write again.
-    let (out, _) = writer.into_parts();
-    let (_, fault) = out.into_parts();
+    let fault = buffered_fault(writer);
     report_outcome(rt, status, &[(path, image_fault), (STANDARD_OUTPUT, fault)]);
     if status == Status::Done {
         Ok(Replied { files, any_refused })
@@ -286,9 +284,7 @@ fn run_live_to<R: Files + Input + Print + Eprint + AllocGlobal>(
         any_refused,
         ..
     } = out.into_inner();
-    // After a fault, the bytes left in `writer` are thrown away. Dropping it would write again.
-    let (out, _) = writer.into_parts();
-    let (_, fault) = out.into_parts();
+    let fault = buffered_fault(writer);
     match result {
         Ok(files) => Ok(Replied { files, any_refused }),
         Err(LiveEnd::Unread(reason)) => Err(fail_to_read(rt, STANDARD_INPUT, reason)),

@@ -2,7 +2,8 @@
 
 ghost use Rattle.std.specs.Prelude.{◌≢◌};
 
-use command_files::{comment_on_file, fail, read_file_or_input, report_document};
+use crate::comments::comment_on_file;
+use command_files::{fail, read_file_or_input, report_buffered};
 use json_documents::cmd_list_json_from;
 use palm_text::Counted;
 use program_io::{Noted, Status};
@@ -23,7 +24,7 @@ pub fn list_json<R: Files + Input + Print + Eprint + AllocGlobal>(rt: &R, path: 
     };
     let mut out = Counted::new(out);
     let status = cmd_list_json_from(&rt.alloc(), file.as_slice(), &mut out);
-    let status = report_document(rt, status, out);
+    let status = report_buffered(rt, status, out);
     comment_on_file(rt, path, status, file.as_slice());
     status
 }

@@ -2,9 +2,10 @@
 
 ghost use Rattle.std.specs.Prelude.{◌≢◌, ◌≤◌, length};
 
+use crate::comments::comment_on_file;
 use command_files::{
-    STANDARD_ERROR, STANDARD_OUTPUT, STANDARD_STREAM, comment_on_file, fail, output_for_database,
-    read_file_or_input,
+    STANDARD_ERROR, STANDARD_OUTPUT, STANDARD_STREAM, buffered_fault, fail, output_for_database,
+    read_file_or_input, report_buffered,
 };
 use file_commands::{cmd_canonical_from, cmd_list_from};
 use palm_text::Counted;
@@ -30,10 +31,7 @@ pub fn list<R: Files + Input + Print + Eprint + AllocGlobal>(rt: &R, path: &str)
     };
     let mut out = Counted::new(out);
     let status = cmd_list_from(&rt.alloc(), file.as_slice(), &mut out);
-    // What is left in `out` after a fault is thrown away. To drop it would write again.
-    let (out, _) = out.into_inner().into_parts();
-    let (_, fault) = out.into_parts();
-    report_outcome(rt, status, &[(STANDARD_OUTPUT, fault)]);
+    let status = report_buffered(rt, status, out);
     comment_on_file(rt, path, status, file.as_slice());
     status
 }
@@ -117,8 +115,5 @@ fn rewrite<W: Write + Drop, V: Write>(
     };
     let mut file_out = Counted::new(file_out);
     let status = cmd_canonical_from(&alloc, file, &mut file_out, out);
-    // What is left in the buffer after a fault is thrown away. To drop it would write again.
-    let (file_out, _) = file_out.into_inner().into_parts();
-    let (_, file_fault) = file_out.into_parts();
-    (status, file_fault)
+    (status, buffered_fault(file_out.into_inner()))
 }

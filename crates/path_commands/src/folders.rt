@@ -7,8 +7,9 @@ ghost use Rattle.file_parts.specs.Packing.{HasPartsOf};
 ghost use Rattle.heap_model.specs.Database.{data_in};
 ghost use Rattle.heap_model.specs.Files.{blocks_in};
 
+use crate::comments::comment_on_file;
 use command_files::{
-    STANDARD_OUTPUT, comment_on_file, fail, output_for_database, read_file, read_file_or_input,
+    STANDARD_OUTPUT, buffered_fault, fail, output_for_database, read_file, read_file_or_input,
 };
 use file_commands::{cmd_pack_from, list_parts, say_count, unpack_file};
 use file_parts::{Listed, Part, PartName, Unpacked, put_database};
@@ -288,10 +289,7 @@ fn write_lines<R: AllocGlobal, W: Write + Drop>(
         },
         Err(_) => Status::WriteFault,
     };
-    // What is left in `text` after a fault is thrown away. To drop it would write again.
-    let (noted, _) = text.into_inner().into_parts();
-    let (_, fault) = noted.into_parts();
-    (status, fault)
+    (status, buffered_fault(text.into_inner()))
 }
 
 /// Removes the parts of the first ranks from a folder.

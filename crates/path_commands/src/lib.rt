@@ -9,8 +9,10 @@
 //! | `file_listings` | the commands `list` and `canonical` |
 //! | `documents` | the command `list --json` |
 //! | `folders` | the commands `unpack` and `pack` |
+//! | `comments` | reports what a file looks like, and what is allowed at its fault |
 #![tactic(auto)]
 
+mod comments;
 mod documents;
 mod file_listings;
 mod folders;

@@ -15,7 +15,7 @@ use db_format::DbAttrs;
 use heap_model::DbInfo;
 use image_documents::say_image_fault;
 use itoa::Buffer;
-use json_documents::{JsonPiece, put_json};
+use json_text::{JsonPiece, put_json};
 use palm_store::{NotAStore, Store, StoreFault};
 use palm_text::{Counted, WriteFault, put_all};
 use program_io::{Status, flushed};

@@ -2,7 +2,7 @@
 
 use crate::samples::{MEMO_FILE, MIXED_FILE, changed, documented};
 use code_page::put_text;
-use json_documents::{JsonPiece, put_json};
+use json_text::{JsonPiece, put_json};
 use palm_text::Counted;
 use program_io::Status;
 use std::alloc::Global;

@@ -1,5 +1,4 @@
-use Rattle.std.proofs.Common.{◌≡◌, true, false, subst, inl, inr, rules}
-use Rattle.palm_text.specs.Counted.{Writing}
+use Rattle.std.proofs.Common.{◌≡◌, true, false, inl, inr, rules}
 use Rattle.map_commands.proofs.Mapped.{not_accepted, puts_first}
 use Rattle.map_commands.proofs.draw_command.draw_region_from.Goals as goal
 

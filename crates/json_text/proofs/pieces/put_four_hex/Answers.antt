@@ -2,8 +2,8 @@ use Rattle.std.proofs.Common.{List, ℕ, subst}
 use Rattle.std.specs.Prelude.{is_ok}
 use Rattle.heap_model.specs.Bytes.{u32_bytes}
 use Rattle.palm_text.specs.Counted.{Writes}
-use Rattle.json_documents.specs.Strings.{hex_string}
-use Rattle.json_documents.proofs.pieces.put_four_hex.Goals as goal
+use Rattle.json_text.specs.Strings.{hex_string}
+use Rattle.json_text.proofs.pieces.put_four_hex.Goals as goal
 
 pub returns : goal.returns
 unfolding u32_bytes

@@ -1,7 +1,7 @@
 use Rattle.std.specs.Prelude.{codes, is_ok}
 use Rattle.palm_text.proofs.Parts.{then, stops}
-use Rattle.json_documents.specs.Strings.{characters}
-use Rattle.json_documents.proofs.strings.put_closed.Goals as goal
+use Rattle.json_text.specs.Strings.{characters}
+use Rattle.json_text.proofs.strings.put_closed.Goals as goal
 
 pub returns-in-Ok : goal.returns-in-Ok
 returns-in-Ok g c =

@@ -2,8 +2,8 @@
 use Rattle.std.proofs.Common.{◌≡◌, ℕ, ◌+◌, ◌<◌, List, ◌++◌, length, get_or, drop, Option, Bool, true, false, refl, add-one, drop-cons}
 use Rattle.palm_text.specs.Counted.{Writing, Writes}
 use Rattle.palm_text.proofs.Parts.{then, stops}
-use Rattle.json_documents.specs.declared.pieces.JsonPiece.{JsonPiece}
-use Rattle.json_documents.specs.Pieces.{json_text, json_of}
+use Rattle.json_text.specs.declared.pieces.JsonPiece.{JsonPiece}
+use Rattle.json_text.specs.Pieces.{json_text, json_of}
 
 -- the text from a piece on
 piece_at : (ps : List JsonPiece) (i : ℕ) (d : JsonPiece) → i < length ps → json_of (drop i ps) ≡ json_text (get_or ps i d) ++ json_of (drop (i + 1) ps)

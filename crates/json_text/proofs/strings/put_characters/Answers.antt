@@ -1,9 +1,9 @@
 use Rattle.std.proofs.Common.{◌≡◌, [], drop, true, false, arith}
 use Rattle.std.proofs.lemmas.Grind.{common_steps}
 use Rattle.palm_text.proofs.Parts.{nothing}
-use Rattle.json_documents.specs.Strings.{character}
+use Rattle.json_text.specs.Strings.{character}
 use Rattle.code_page.proofs.Sequences.{then_text, stops_text}
-use Rattle.json_documents.proofs.strings.put_characters.Goals as goal
+use Rattle.json_text.proofs.strings.put_characters.Goals as goal
 
 pub loop-byte-preserved : goal.loop-byte-preserved
 loop-byte-preserved g c = λ new ok w.

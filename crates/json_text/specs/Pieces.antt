@@ -1,9 +1,9 @@
 -- The text of each piece, and of pieces one after another.
 use Rattle.std.specs.Prelude.{◌++◌, ℕ, List, [], ◌∷◌, decimal}
 use Rattle.heap_model.specs.Bytes.{u32_bytes}
-use Rattle.json_documents.specs.declared.pieces.JsonPiece.{JsonPiece}
-use Rattle.json_documents.specs.declared.pieces.JsonPiece.TheVariants.{Text, Number, String, Hex, FourBytes, FourHex}
-use Rattle.json_documents.specs.Strings.{string, hex_string}
+use Rattle.json_text.specs.declared.pieces.JsonPiece.{JsonPiece}
+use Rattle.json_text.specs.declared.pieces.JsonPiece.TheVariants.{Text, Number, String, Hex, FourBytes, FourHex}
+use Rattle.json_text.specs.Strings.{string, hex_string}
 
 abbrev pub json_text : JsonPiece → List ℕ
 json_text (Text text) = text.now

@@ -1,8 +1,8 @@
 use Rattle.std.proofs.Common.{◌≡◌, [], drop, true, false, arith}
 use Rattle.std.proofs.lemmas.Grind.{common_steps}
 use Rattle.palm_text.proofs.Parts.{nothing}
-use Rattle.json_documents.proofs.Sequences.{then_piece, stops_piece}
-use Rattle.json_documents.proofs.pieces.put_json.Goals as goal
+use Rattle.json_text.proofs.Sequences.{then_piece, stops_piece}
+use Rattle.json_text.proofs.pieces.put_json.Goals as goal
 
 pub loop-piece-preserved : goal.loop-piece-preserved
 loop-piece-preserved g c = λ new ok w.

@@ -1,7 +1,7 @@
 use Rattle.std.proofs.Common.{drop, Bool}
 use Rattle.palm_text.specs.Counted.{Writing, Writes}
-use Rattle.json_documents.specs.Pieces.{json_of}
-use Rattle.json_documents.proofs.pieces.put_json.Given as goal
+use Rattle.json_text.specs.Pieces.{json_of}
+use Rattle.json_text.proofs.pieces.put_json.Given as goal
 
 -- whatever is written from here on completes the text
 abbrev pub invariant-loop-piece : goal.invariant-loop-piece

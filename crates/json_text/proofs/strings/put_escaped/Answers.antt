@@ -4,7 +4,7 @@ use Rattle.std.proofs.lemmas.List.{append-nil}
 use Rattle.hex.specs.Hex.{encode_lower}
 use Rattle.heap_model.specs.Bytes.{u16_bytes}
 use Rattle.palm_text.specs.Counted.{Writes}
-use Rattle.json_documents.proofs.strings.put_escaped.Goals as goal
+use Rattle.json_text.proofs.strings.put_escaped.Goals as goal
 
 pub returns : goal.returns
 returns g c =

@@ -3,8 +3,8 @@
 ghost use Rattle.std.specs.Prelude.{is_ok};
 ghost use Rattle.heap_model.specs.Bytes.{u32_bytes};
 ghost use Rattle.palm_text.specs.Counted.{Writes};
-ghost use Rattle.json_documents.specs.Pieces.{json_of, json_text};
-ghost use Rattle.json_documents.specs.Strings.{hex_string, string};
+ghost use Rattle.json_text.specs.Pieces.{json_of, json_text};
+ghost use Rattle.json_text.specs.Strings.{hex_string, string};
 
 use crate::strings::{put_hex_string, put_string};
 use byteorder::{BigEndian, ByteOrder};

@@ -1,7 +1,7 @@
 use Rattle.std.proofs.Common.{drop, Bool}
 use Rattle.palm_text.specs.Counted.{Writing, Writes}
-use Rattle.json_documents.specs.Strings.{characters}
-use Rattle.json_documents.proofs.strings.put_characters.Given as goal
+use Rattle.json_text.specs.Strings.{characters}
+use Rattle.json_text.proofs.strings.put_characters.Given as goal
 
 -- whatever is written from here on completes the text
 abbrev pub invariant-loop-byte : goal.invariant-loop-byte

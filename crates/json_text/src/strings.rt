@@ -2,8 +2,8 @@
 
 ghost use Rattle.std.specs.Prelude.{◌≡◌, ◌++◌, ◌∷◌, [], codes, is_ok};
 ghost use Rattle.palm_text.specs.Counted.{Writes};
-ghost use Rattle.json_documents.specs.Strings as words;
-ghost use Rattle.json_documents.specs.Strings.{character, characters, closed, escaped, hex_string, string};
+ghost use Rattle.json_text.specs.Strings as words;
+ghost use Rattle.json_text.specs.Strings.{character, characters, closed, escaped, hex_string, string};
 
 use code_page::character_of;
 use palm_text::{Counted, Piece, WriteFault, put_all, put_pieces};

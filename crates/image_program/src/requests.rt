@@ -1,0 +1,92 @@
+//! The requests of the words of the command line.
+
+ghost use Rattle.std.specs.Prelude.{◌≡◌, ◌≢◌, ◌⊎◌};
+ghost use Rattle.clap.specs.Values.{kind_of};
+
+use crate::meanings::explain;
+use clap::error::ErrorKind;
+use command_files::{STANDARD_OUTPUT, fail};
+use image_commands::{check, new};
+use image_documents::check_json;
+use program_io::command_line::{self, BaseRequest, Form, Request};
+use program_io::{Status, report_write_fault};
+use std::io::Input;
+use std::rt::Files;
+
+/// Fulfils the request of the words of the command line, if its command is one of this crate. The
+/// first word is the program's own name. If the run fails, standard error has the reason.
+///
+/// No contract can relate the status to the files. The stored runs of `test_program` test `fulfil`
+/// and `answer`, which the larger programs call too.
+pub fn run<R: Files + Input + Print + Eprint + AllocGlobal>(rt: &R, words: &[String]) -> Status {
+    match command_line::parse(rt.alloc(), words) {
+        Ok(Request::Base(request)) => fulfil(rt, request),
+        Ok(_) => fail_to_find(rt),
+        Err(error) => answer(rt, &error),
+    }
+}
+
+/// Runs the command of a request. If it is none of this crate, reports that and returns `BadWords`.
+pub fn fulfil<R: Files + Input + Print + Eprint + AllocGlobal>(
+    rt: &R,
+    request: BaseRequest,
+) -> Status {
+    match request {
+        BaseRequest::New { size, slots, out } => new(rt, size, slots, out),
+        BaseRequest::Check { image, form } => check_as(rt, image, form),
+        BaseRequest::Explain { word } => explain(rt, word),
+        BaseRequest::List { .. }
+        | BaseRequest::Canonical { .. }
+        | BaseRequest::Unpack { .. }
+        | BaseRequest::Pack { .. } => fail_to_find(rt),
+    }
+}
+
+/// Runs `check`, and prints in this form.
+fn check_as<R: Files + Input + Print + Eprint + AllocGlobal>(
+    rt: &R,
+    image: &str,
+    form: Form,
+) -> Status
+    ensures { result ≢ Status.BadWords }
+{
+    match form {
+        Form::Text => check(rt, image),
+        Form::Json => check_json(rt, image),
+    }
+}
+
+/// Reports on standard error that the command is one of a larger program.
+pub fn fail_to_find<R: Eprint>(rt: &R) -> Status
+    ensures { result ≡ Status.BadWords }
+{
+    let _ = eprintln!(rt;
+        "error: this program lacks the command; 'palmheap --build' builds the one that has it"
+    );
+    Status::BadWords
+}
+
+/// Prints the text for words without a command: their error, or the help or the version.
+pub fn answer<R: Print + Eprint>(rt: &R, error: &clap::Error) -> Status
+    ensures statuses { (result ≡ Status.Done) ⊎ (result ≡ Status.BadWords)
+        ⊎ (result ≡ Status.WriteFault) ⊎ (result ≡ Status.NoMemory) }
+    ensures no_memory { kind_of error.now ≡ ErrorKind.OutOfMemory → result ≡ Status.NoMemory }
+    ensures shown { (kind_of error.now ≡ ErrorKind.DisplayHelp)
+        ⊎ (kind_of error.now ≡ ErrorKind.DisplayVersion)
+        → (result ≡ Status.Done) ⊎ (result ≡ Status.WriteFault) }
+    ensures bad_words { (kind_of error.now ≢ ErrorKind.OutOfMemory)
+        → (kind_of error.now ≢ ErrorKind.DisplayHelp)
+        → (kind_of error.now ≢ ErrorKind.DisplayVersion) → result ≡ Status.BadWords }
+{
+    if error.kind() == ErrorKind::OutOfMemory {
+        return fail(rt, Status::NoMemory);
+    }
+    match error.print(rt) {
+        _ if error.use_stderr() => Status::BadWords,
+        Ok(()) => Status::Done,
+        Err(reason) => {
+            report_write_fault(rt, STANDARD_OUTPUT, reason);
+            Status::WriteFault
+        }
+    }
+}
