@@ -44,7 +44,7 @@ timed() {
 }
 
 gcc -O2 -o "$work/c" bench/record_calls.c
-./palmheap --build
+./palmheap --build --keep
 ./palmheap new "$size" "$slots" "$work/blank.image" >"$work/said"
 lines_of_records >"$work/records.script"
 

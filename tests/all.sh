@@ -44,7 +44,7 @@ run() {
     fi
 }
 
-run 'rt python3' ./palmheap --build
+run 'rt python3' ./palmheap --build --keep
 run 'grep' tests/growths.sh
 run 'rt' tests/dropped_loans.sh
 run 'rt' tests/program.sh

@@ -13,7 +13,7 @@ top=$(cd -- "$(dirname -- "$0")/.." && pwd)
 program=${1:-$top/crates/palmheap/out/palmheap}
 if [ $# = 0 ]; then
     # proves and builds the program if need be
-    "$top/palmheap" --build || exit 125
+    "$top/palmheap" --build --keep || exit 125
 fi
 kills=${2:-200}
 case $program in /*) ;; *) program=$PWD/$program ;; esac

@@ -14,7 +14,7 @@
 top=$(cd -- "$(dirname -- "$0")/.." && pwd)
 files=${1:-100000}
 program=${PALMHEAP:-$top/palmheap}
-[ -n "$PALMHEAP" ] || "$top/palmheap" --build || exit 125
+[ -n "$PALMHEAP" ] || "$top/palmheap" --build --keep || exit 125
 room=$(mktemp -d) || exit 1
 trap 'rm -rf -- "$room"' EXIT
 

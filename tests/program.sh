@@ -10,7 +10,7 @@ top=$(cd -- "$(dirname -- "$0")/.." && pwd)
 program=${1:-$top/crates/palmheap/out/palmheap}
 if [ $# = 0 ]; then
     # proves and builds the program if need be
-    "$top/palmheap" --build || exit 125
+    "$top/palmheap" --build --keep || exit 125
 fi
 case $program in /*) ;; *) program=$PWD/$program ;; esac
 folder=$(mktemp -d) || exit 1

@@ -1,7 +1,12 @@
 #!/usr/bin/env python3
 """Proves the crates of a program, palmheap if none is named, several at a time, and builds the program.
 
-`palmheap` calls this script. One `rt` locks the folders of all crates that it reads, so each lane is a copy of
+    tools/prove_in_lanes.py [--clear] [PROGRAM]
+
+`palmheap` calls this script. With --clear it proves nothing: it removes what `rt` kept of the program's crates, some
+10 GB, and leaves the program. A later proof then begins from nothing.
+
+One `rt` locks the folders of all crates that it reads, so each lane is a copy of
 the crates, in crates/palmheap/out/lanes. A crate starts when the crates that it uses are proved, the one with the
 longest chain of crates above it first. A proved crate's out/ moves back to the clone, and the other lanes get its
 library by links. So a call that was interrupted loses only what its last crates had not kept, and the next call
@@ -22,7 +27,12 @@ import sys
 import time
 
 TOP = os.path.dirname(os.path.dirname(os.path.realpath(__file__)))
-PROGRAM = sys.argv[1] if len(sys.argv) > 1 else "palmheap"
+WORDS = [it for it in sys.argv[1:] if it != "--clear"]
+PROGRAM = WORDS[0] if WORDS else "palmheap"
+# The smaller programs, which no call uses if the whole one is built.
+SMALLER = ("palmheap_images", "palmheap_base")
+# The files in the program's out/ that --clear leaves: the program, what `palmheap` keeps about it, the lock of the lanes.
+KEPT = (PROGRAM, f"{PROGRAM}.crates", f"{PROGRAM}.list", "lanes.lock")
 # One folder for all programs, as they share crates.
 LANES = f"{TOP}/crates/palmheap/out/lanes"
 # The folders of a crate that its proof reads.
@@ -367,6 +377,28 @@ def build(start):
     os.utime(f"{TOP}/crates/{PROGRAM}/out/{PROGRAM}", (start, start))
 
 
+def clear(crates):
+    """Removes what `rt` kept of the crates of a built program, and the smaller programs. Leaves the program, and the
+    files about it that `palmheap` keeps."""
+    for name in [*(it.name for it in crates), *SMALLER]:
+        out = f"{TOP}/crates/{name}/out"
+        if not os.path.isdir(out):
+            continue
+        with locked(os.path.dirname(out)):
+            for it in os.listdir(out):
+                if name != PROGRAM or it not in KEPT:
+                    remove(f"{out}/{it}")
+            if name != PROGRAM:
+                os.rmdir(out)
+
+
+def remove(path):
+    if os.path.isdir(path) and not os.path.islink(path):
+        shutil.rmtree(path)
+    else:
+        os.remove(path)
+
+
 def version_of_rt():
     try:
         return subprocess.run(["rt", "version"], stdout=subprocess.PIPE, check=True).stdout.decode()
@@ -411,6 +443,11 @@ def main():
     handle_signals()
     start = time.time()
     try:
+        if "--clear" in sys.argv[1:]:
+            with alone():
+                clear_lanes()
+                clear(read_crates())
+            return 0
         version, crates = version_of_rt(), read_crates()
         with alone() as lock:
             clear_lanes()
