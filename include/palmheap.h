@@ -46,7 +46,8 @@ enum {
     PALMHEAP_BAD_SIZE = 4,       /* no image has this size */
     PALMHEAP_BAD_SLOT_COUNT = 5, /* no image of the size has this number of slots */
 
-    /* An image that is no heap. at: an offset in it; of PALMHEAP_BAD_TABLE the number of tables before the wrong one. */
+    /* An image that is no heap. at: an offset in it; of PALMHEAP_BAD_TABLE the index, from 0, of the
+     * table whose field `next` is wrong. */
     PALMHEAP_TOO_SHORT = 20,
     PALMHEAP_BAD_MAGIC = 21,
     PALMHEAP_BAD_SIZE_FIELD = 22,

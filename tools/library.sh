@@ -31,11 +31,20 @@ objcopy --wildcard --keep-global-symbol='palmheap_*' "$room/palmheap.o"
 ar rcs "$room/libpalmheap.a" "$room/palmheap.o"
 gcc -shared -o "$room/libpalmheap.so.0" -Wl,-soname,libpalmheap.so.0 "$room/palmheap.o" -Wl,-z,defs -s
 
-cp -- "$top/include/palmheap.h" "$to/include/palmheap.h"
-cp -- "$room/libpalmheap.a" "$room/libpalmheap.so.0" "$to/lib/"
+# lay FILE PLACE: copies a file to a place, in one step: a program that has the old shared library open keeps it.
+lay() {
+    cp -- "$1" "$2.new.$$"
+    mv -f -- "$2.new.$$" "$2"
+}
+
+lay "$top/include/palmheap.h" "$to/include/palmheap.h"
+lay "$room/libpalmheap.a" "$to/lib/libpalmheap.a"
+lay "$room/libpalmheap.so.0" "$to/lib/libpalmheap.so.0"
 ln -sf libpalmheap.so.0 "$to/lib/libpalmheap.so"
-cat >"$to/lib/pkgconfig/palmheap.pc" <<END
-prefix=$to
+# pkg-config takes a backslash before a character that separates words otherwise.
+prefix=$(printf '%s\n' "$to" | sed "s/[\\\\ \"'#]/\\\\&/g")
+cat >"$room/palmheap.pc" <<END
+prefix=$prefix
 includedir=\${prefix}/include
 libdir=\${prefix}/lib
 
@@ -45,3 +54,4 @@ Version: 0
 Cflags: -I\${includedir}
 Libs: -L\${libdir} -lpalmheap
 END
+lay "$room/palmheap.pc" "$to/lib/pkgconfig/palmheap.pc"

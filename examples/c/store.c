@@ -21,8 +21,10 @@ static void done(const char *call, uint32_t refusal) {
     exit(1);
 }
 
+/* The number of four characters; a char can be negative. */
 static uint32_t type_of(const char four[4]) {
-    return (uint32_t)four[0] << 24 | (uint32_t)four[1] << 16 | (uint32_t)four[2] << 8 | (uint32_t)four[3];
+    const uint8_t *bytes = (const uint8_t *)four;
+    return (uint32_t)bytes[0] << 24 | (uint32_t)bytes[1] << 16 | (uint32_t)bytes[2] << 8 | (uint32_t)bytes[3];
 }
 
 /* Makes a database with one record, and writes a text into the record. A chunk is written only while it is locked. */
@@ -38,7 +40,7 @@ static void make_memo(palmheap_store *store, const char *text) {
     printf("database %u, record %u, chunk %u at %u\n", db, index, chunk, place);
 }
 
-/* Finds the database again, and prints its first record. */
+/* Finds the database again, and prints its first record, but not the zero byte at its end. An empty record has none. */
 static void show_memo(palmheap_store *store) {
     uint32_t db, chunk, size;
     uint8_t text[64];
@@ -47,7 +49,8 @@ static void show_memo(palmheap_store *store) {
     done("query", palmheap_DmQueryRecord(store, db, 0, &chunk));
     done("size", palmheap_MemHandleSize(store, chunk, &size));
     done("read", palmheap_read(store, chunk, 0, size, text, sizeof text, &len));
-    printf("record 0: %.*s\n", (int)len - 1, (char *)text);
+    if (len > 0 && text[len - 1] == 0) len--;
+    printf("record 0: %.*s\n", (int)len, (char *)text);
 }
 
 /* Writes the image of a store to a file. The first call is for the size. */

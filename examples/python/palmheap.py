@@ -127,6 +127,19 @@ BYTE_CALLS = {"write_image": [], "read": [U32, U32, U32], "export": [U32]}
 CALL_NO_ROOM = 100
 
 
+def number(kind, value):
+    """Returns a number for a call. ctypes would cut one that is out of range."""
+    cut = kind(value).value
+    if cut != value:
+        raise ValueError(f"{value} is out of the range of {kind.__name__}")
+    return cut
+
+
+def word(kind, value):
+    """Returns what a call takes: a number in its range, or a structure as it is."""
+    return number(kind, value) if kind in (U8, U16, U32, SIZE) else value
+
+
 class Fault(Exception):
     """An answer that is not 0: its kind and the numbers that locate it."""
 
@@ -215,7 +228,7 @@ class Library:
         if size not in IMAGE_SIZES:
             raise ValueError(size)
         image = (c.c_uint8 * size)()
-        self._good(self.so.palmheap_new(image, size, slots))
+        self._good(self.so.palmheap_new(image, size, number(U16, slots)))
         return bytes(image)
 
     def check(self, image):
@@ -246,7 +259,7 @@ class Library:
     def refusal_name(self, number):
         """Returns the name of a refusal, or None if no refusal has the number."""
         name, count = (U8 * 32)(), SIZE(0)
-        if self.so.palmheap_refusal_name(number, name, len(name), c.byref(count)):
+        if self.so.palmheap_refusal_name(word(U32, number), name, len(name), c.byref(count)):
             return None
         return bytes(name[: count.value]).decode("ascii")
 
@@ -279,7 +292,10 @@ class Store:
         if not self.is_open:
             raise ValueError("the store is closed")
         made = [it() for it in CALLS[name][1]]
-        words = [word for it in given for word in ([it, len(it)] if isinstance(it, bytes) else [it])]
+        if len(given) != len(CALLS[name][0]):
+            raise TypeError(f"{name} takes {len(CALLS[name][0])} words")
+        pairs = zip(CALLS[name][0], given)
+        words = [part for kind, it in pairs for part in ([it, len(it)] if kind is bytes else [word(kind, it)])]
         self._done(getattr(self.so, f"palmheap_{name}")(c.byref(self.place), *words, *map(c.byref, made)))
         told = [it if isinstance(it, c.Structure) else it.value for it in made]
         return told[0] if len(told) == 1 else told or None
@@ -290,18 +306,19 @@ class Store:
             raise ValueError("the store is closed")
         count, room = SIZE(0), (U8 * 1)()
         function = getattr(self.so, f"palmheap_{name}")
-        number = function(c.byref(self.place), *given, room, 0, c.byref(count))
-        if number == CALL_NO_ROOM:
+        given = [word(kind, it) for kind, it in zip(BYTE_CALLS[name], given)]
+        refusal = function(c.byref(self.place), *given, room, 0, c.byref(count))
+        if refusal == CALL_NO_ROOM:
             room = (U8 * count.value)()
-            number = function(c.byref(self.place), *given, room, count.value, c.byref(count))
-        self._done(number)
+            refusal = function(c.byref(self.place), *given, room, count.value, c.byref(count))
+        self._done(refusal)
         return bytes(room[: count.value])
 
     def take_out(self, name):
         """Takes the bytes of a chunk out. Returns them as an array to be used only until `put_back`."""
         if not self.is_open:
             raise ValueError("the store is closed")
-        self._done(self.so.palmheap_take_out(c.byref(self.place), name, c.byref(self.loan)))
+        self._done(self.so.palmheap_take_out(c.byref(self.place), number(U32, name), c.byref(self.loan)))
         return (U8 * self.loan.count).from_address(self.loan.bytes)
 
     def put_back(self):
