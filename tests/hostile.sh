@@ -1,13 +1,14 @@
 #!/bin/bash
 # Runs the program palmheap where it gets little: less and less memory, files that may have few bytes, an output that is
-# closed or full, and runs that are killed in the middle. Looks at the status, at what is said, and at the file that OUT
-# names, which must be the old one or the new one, and never a part.
+# closed or full, runs that are killed in the middle, and pairs of runs on one OUT. Looks at the status, at what is said,
+# and at the file that OUT names, which must be the old one or a new one, and never a part.
 #
-#   tests/hostile.sh [PROGRAM [KILLS]]
+#   tests/hostile.sh [PROGRAM [KILLS [PAIRS]]]
 #
-# PROGRAM is the one that `../palmheap --build` builds, if none is given, and KILLS how many runs are killed, 200 if not said. Needs bash, Linux with
+# PROGRAM is the one that `../palmheap --build` builds, if none is given. KILLS is how many runs are killed, 200 if it is
+# not given, and PAIRS how many pairs run at once, 1000 if it is not given. Needs bash, Linux with
 # /dev/full, GNU coreutils (a sleep of parts of a second among them), cmp, and 100 MB in the folder for temporary files. Takes
-# a minute or two. Each case that fails has a line on standard error; the status is 1 then. What it saw is said on
+# some five minutes. Each case that fails has a line on standard error; the status is 1 then. What it saw is said on
 # standard output. The gate runs none of this.
 top=$(cd -- "$(dirname -- "$0")/.." && pwd)
 program=${1:-$top/crates/palmheap/out/palmheap}
@@ -16,6 +17,7 @@ if [ $# = 0 ]; then
     "$top/palmheap" --build --keep || exit 125
 fi
 kills=${2:-200}
+pairs=${3:-1000}
 case $program in /*) ;; *) program=$PWD/$program ;; esac
 folder=$(mktemp -d) || exit 1
 trap 'rm -rf -- "$folder"' EXIT
@@ -192,12 +194,65 @@ for ((number = 0; number < kills; number += 1)); do
     if cmp -s out.img old.img; then old=$((old + 1)); else new=$((new + 1)); fi
     if [ -e out.img.palmheap-new ]; then
         beside=$((beside + 1))
-        # what a killed run leaves beside OUT is no hindrance for the next
+        # what a killed run leaves beside OUT is no hindrance for the next, which leaves it
         "$program" run large.img large.txt out.img >/dev/null || wrong 'a run behind a killed one'
-        leaves 'a run behind a killed one' 0
+        cmp -s out.img new.img || wrong 'a run behind a killed one: OUT is not the new file'
+        is 'a run behind a killed one' 'out.img out.img.palmheap-new' "$(echo out.img*)"
     fi
 done
 echo "killed: $kills runs of $took microseconds; OUT is the old file $old times and the new one $new times;" \
     "$beside times a file was left beside it"
+
+# Two files of databases that a canonical form changes: a run writes 1 MB in many parts.
+for size in 1000 900; do
+    {
+        echo 'create book "Book" "DATA" "Test" 0 0'
+        for ((record = 0; record < 1000; record += 1)); do echo "recnew book $record $size r"; done
+        echo 'export book'
+    } >book.txt
+    "$program" new 2000000 1100 book.img >/dev/null
+    "$program" run book.img book.txt book.img >/dev/null || wrong "a book of records of $size bytes"
+    mv book.img.1 "$size.pdb"
+    "$program" canonical "$size.pdb" "$size.wanted" >/dev/null || wrong "the rewritten book of $size"
+done
+
+# end_run RUN NAME: waits for a run; its status is 0, 3 with a reason, or that of a killed run. Counts those with 0.
+end_run() {
+    wait "$1"
+    case $? in
+        0) done_runs=$((done_runs + 1)) ;;
+        3) is "$2" 'fault write' "$(head -n 1 "complained.$1")"; [ "$(wc -l <"complained.$1")" -ge 2 ] || wrong "$2: no reason" ;;
+        137) killed_runs=$((killed_runs + 1)) ;;
+        *) wrong "$2: another status" ;;
+    esac
+}
+
+# Pairs of runs on one OUT at once, of which none, one or both are killed: OUT is whole, and no old file if a run is done.
+RANDOM=73
+done_runs=0
+killed_runs=0
+for ((number = 0; number < pairs; number += 1)); do
+    rm -f complained.*
+    # what killed runs of earlier pairs left stays a while
+    [ $((number % 20)) = 0 ] && rm -f out.img*
+    cp old.img out.img
+    before=$done_runs
+    runs=()
+    for size in 1000 900; do
+        (exec "$program" canonical "$size.pdb" out.img >/dev/null 2>"complained.$BASHPID") &
+        runs+=("$!")
+    done
+    if [ $((number % 4)) -ge 2 ]; then
+        sleep "0.0$(printf '%02d' $((RANDOM % 40)))"
+        kill -KILL "${runs[@]:number % 2}" 2>/dev/null
+    fi
+    for run in "${runs[@]}"; do end_run "$run" "pair $number"; done
+    if cmp -s out.img old.img; then
+        [ "$before" = "$done_runs" ] || wrong "pair $number: a run is done, and OUT is the old file"
+    else
+        cmp -s out.img 1000.wanted || cmp -s out.img 900.wanted || wrong "pair $number: OUT is a part of a file"
+    fi
+done
+echo "pairs: of $((2 * pairs)) runs on one OUT at once $done_runs are done and $killed_runs killed; OUT is whole each time"
 
 exit "$failed"

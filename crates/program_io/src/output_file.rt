@@ -2,12 +2,19 @@
 
 use std::alloc::AllocError;
 use std::fs::{File, OpenFile};
-use std::io::Write;
+use std::io::{ErrorKind, Write};
 use std::rt::Files;
 use std::{fs, io};
 
-/// The end of the name of the temporary file.
+/// The end of the name of the temporary file, before its number.
 const SUFFIX: &str = ".palmheap-new";
+
+/// The name of the temporary file of a long path, before its number.
+const SHORT_NAME: &str = "palmheap-new";
+
+/// The most bytes of a file's name to which `SUFFIX` is added. Some file systems take names of 143
+/// bytes, most of 255.
+const LONGEST_NAME: usize = 100;
 
 /// A writer whose bytes appear under a path all at once.
 ///
@@ -15,13 +22,14 @@ const SUFFIX: &str = ".palmheap-new";
 /// then the file at the path is unchanged. A path that names something other than a file, for
 /// example a device, is written to directly.
 ///
-/// The first write opens the temporary file. After the flush that renames it, it takes no more
-/// bytes. The caller must close it.
+/// The first write creates the temporary file, under a name that no file has. So two writers for
+/// one path, of two runs too, never have the same temporary file. After the flush that renames it,
+/// it takes no more bytes. The caller must close it.
 pub struct OutputFile<'a, R: Files> {
     rt: &'a R,
     path: String,
-    /// The path of the temporary file, or none if `path` is written to directly.
-    beside: Option<String>,
+    /// The temporary file, or none if `path` is written to directly.
+    temporary: Option<Temporary>,
     progress: Progress<R::File>,
 }
 
@@ -33,6 +41,57 @@ enum Progress<F: Drop> {
     InPlace,
 }
 
+/// The path of a temporary file.
+#[derive(Drop)]
+struct Temporary {
+    /// The path without a number.
+    stem: String,
+    /// The path. It has room for the greatest number.
+    path: String,
+}
+
+impl Temporary {
+    /// Returns the path of a temporary file next to a path, without a number yet.
+    ///
+    /// # Errors
+    ///
+    /// - `AllocError`: if an allocation failed.
+    fn new<R: Files + AllocGlobal>(rt: &R, path: &str) -> Result<Temporary, AllocError> {
+        let stem = match path.rsplit_once('/') {
+            Some((folder, name)) if name.len() > LONGEST_NAME => {
+                format!(in rt.alloc(); "{folder}/{SHORT_NAME}")?
+            }
+            None if path.len() > LONGEST_NAME => String::from_str(rt.alloc(), SHORT_NAME)?,
+            _ => format!(in rt.alloc(); "{path}{SUFFIX}")?,
+        };
+        let path = format!(in rt.alloc(); "{stem}-{}", u32::MAX)?;
+        Ok(Temporary { stem, path })
+    }
+
+    /// Creates the file. A name that a file has is left to it: another run may write that file, or
+    /// a killed one left it. The next name has the next number.
+    fn create<R: Files>(&mut self, rt: &R) -> io::Result<R::File> {
+        for number in 0..u32::MAX {
+            self.set_number(number)?;
+            match File::create_new(rt, self.path.as_str()) {
+                Err(error) if error.kind() == ErrorKind::AlreadyExists => {}
+                created => return created,
+            }
+        }
+        Err(io::Error::from(ErrorKind::AlreadyExists))
+    }
+
+    /// Sets the number of the path. The path with number 0 ends with no number.
+    fn set_number(&mut self, number: u32) -> io::Result<()> {
+        self.path.clear();
+        self.path.push_str(self.stem.as_str())?;
+        if number > 0 {
+            write!(self.path, "-{number}")?;
+        }
+        Ok(())
+    }
+}
+
 impl<'a, R: Files + AllocGlobal> OutputFile<'a, R> {
     /// Returns a writer for this path, with nothing opened yet.
     ///
@@ -41,27 +100,26 @@ impl<'a, R: Files + AllocGlobal> OutputFile<'a, R> {
     /// - `AllocError`: if an allocation failed.
     pub fn new(rt: &'a R, path: &str) -> Result<OutputFile<'a, R>, AllocError> {
         let path = followed(rt, path)?;
-        let beside = if is_replaceable(rt, path.as_str()) {
-            Some(format!(in rt.alloc(); "{path}{SUFFIX}")?)
+        let temporary = if is_replaceable(rt, path.as_str()) {
+            Some(Temporary::new(rt, path.as_str())?)
         } else {
             None
         };
         Ok(OutputFile {
             rt,
             path,
-            beside,
+            temporary,
             progress: Progress::Unopened,
         })
     }
 
-    /// Opens the file to write to. It first removes the temporary file of an earlier run. The new
-    /// file gets the permissions of the file that it will replace.
-    fn open(&self) -> io::Result<R::File> {
-        let Some(beside) = &self.beside else {
+    /// Opens the file to write to. A temporary file gets the permissions of the file that it will
+    /// replace.
+    fn open(&mut self) -> io::Result<R::File> {
+        let Some(temporary) = &mut self.temporary else {
             return File::create(self.rt, self.path.as_str());
         };
-        let _ = fs::remove_file(self.rt, beside.as_str());
-        let file = File::create_new(self.rt, beside.as_str())?;
+        let file = temporary.create(self.rt)?;
         if let Ok(replaced) = fs::metadata(self.rt, self.path.as_str()) {
             let _ = file.set_permissions(replaced.permissions());
         }
@@ -73,12 +131,12 @@ impl<'a, R: Files + AllocGlobal> OutputFile<'a, R> {
         let OutputFile {
             rt,
             path: _,
-            beside,
+            temporary,
             progress,
         } = self;
-        if let (Some(beside), Progress::Open(file)) = (beside, progress) {
+        if let (Some(temporary), Progress::Open(file)) = (temporary, progress) {
             drop(file);
-            let _ = fs::remove_file(rt, beside.as_str());
+            let _ = fs::remove_file(rt, temporary.path.as_str());
         }
     }
 }
@@ -87,7 +145,7 @@ impl<'a, R: Files + AllocGlobal> OutputFile<'a, R> {
 fn followed<R: Files + AllocGlobal>(rt: &R, path: &str) -> Result<String, AllocError> {
     match fs::canonicalize(rt, path) {
         Ok(real) => Ok(real.into_string()),
-        Err(error) if error.kind() == io::ErrorKind::OutOfMemory => Err(AllocError),
+        Err(error) if error.kind() == ErrorKind::OutOfMemory => Err(AllocError),
         Err(_) => String::from_str(rt.alloc(), path),
     }
 }
@@ -117,9 +175,9 @@ impl<R: Files + AllocGlobal> Write for OutputFile<'_, R> {
             return Ok(());
         };
         file.flush()?;
-        if let Some(beside) = &self.beside {
+        if let Some(temporary) = &self.temporary {
             file.sync_all()?;
-            fs::rename(self.rt, beside.as_str(), self.path.as_str())?;
+            fs::rename(self.rt, temporary.path.as_str(), self.path.as_str())?;
         }
         self.progress = Progress::InPlace;
         Ok(())

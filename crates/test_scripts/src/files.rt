@@ -58,18 +58,25 @@ fn check_found<R: Files + AllocGlobal>(
     equal("what is there", found(rt, path), Some(wanted))
 }
 
+/// The text of a temporary file that a killed run left.
+const LEFT: &str = "what another run left";
+
 /// Makes a file like one that a killed run leaves.
 fn leave_beside<R: Files + AllocGlobal>(rt: &R, path: &str) -> Result<(), Fail> {
     let beside = beside(rt, path)?;
-    Ok(fs::write(rt, beside.as_str(), "what another run left behind")?)
+    Ok(fs::write(rt, beside.as_str(), LEFT)?)
 }
 
-/// A file gets one text and then another in its place, also where another run left a file beside
-/// it.
+/// Checks that a file gets one text and then another, if a killed run left a temporary file, and
+/// that this file stays as it was.
 fn check_replaced<R: Files + AllocGlobal>(rt: &R, path: &str) -> Result<(), Fail> {
     check_taken(rt, path, "the first")?;
+    check_found(rt, path, (true, false))?;
     leave_beside(rt, path)?;
     check_taken(rt, path, "new")?;
+    let left = beside(rt, path)?;
+    check_text(rt, left.as_str(), LEFT)?;
+    fs::remove_file(rt, left.as_str())?;
     check_found(rt, path, (true, false))?;
     Ok(fs::remove_file(rt, path)?)
 }
@@ -78,6 +85,73 @@ fn check_replaced<R: Files + AllocGlobal>(rt: &R, path: &str) -> Result<(), Fail
 fn a_file_is_replaced_as_a_whole(rt: HostRuntime) -> Result<(), Fail> {
     let path = path_of(&rt, "whole")?;
     check_replaced(&rt, path.as_str())
+}
+
+/// Writes two texts to two writers by turns, and flushes both. Returns the result of each flush.
+fn write_by_turns<R: Files + AllocGlobal>(
+    one: &mut OutputFile<R>,
+    other: &mut OutputFile<R>,
+) -> io::Result<(io::Result<()>, io::Result<()>)> {
+    one.write_all(b"one, ")?;
+    other.write_all(b"the other, ")?;
+    one.write_all(b"whole")?;
+    other.write_all(b"whole")?;
+    Ok((one.flush(), other.flush()))
+}
+
+/// Writes to two writers of one path, and closes both.
+fn write_both<R: Files + AllocGlobal>(rt: &R, path: &str) -> Result<(bool, bool), Fail> {
+    let mut one = OutputFile::new(rt, path)?;
+    let Ok(mut other) = OutputFile::new(rt, path) else {
+        one.close();
+        return Err(Fail::from(AllocError));
+    };
+    let flushed = write_by_turns(&mut one, &mut other);
+    one.close();
+    other.close();
+    let (first, second) = flushed?;
+    Ok((first.is_ok(), second.is_ok()))
+}
+
+/// Checks that two writers of one path do not meet: the path has the whole text of the second that
+/// is flushed.
+fn check_two<R: Files + AllocGlobal>(rt: &R, path: &str) -> Result<(), Fail> {
+    let written = write_both(rt, path)?;
+    equal("what is flushed", written, (true, true))?;
+    check_text(rt, path, "the other, whole")?;
+    check_found(rt, path, (true, false))?;
+    Ok(fs::remove_file(rt, path)?)
+}
+
+#[test]
+fn two_writers_of_a_file_do_not_meet(rt: HostRuntime) -> Result<(), Fail> {
+    let path = path_of(&rt, "two")?;
+    check_two(&rt, path.as_str())
+}
+
+/// Adds letters to a path, so that its last name has `length` bytes.
+fn lengthened(mut path: String, folder: &str, length: usize) -> Result<String, AllocError> {
+    for _ in path.len()..folder.len().saturating_add(1).saturating_add(length) {
+        path.push('x')?;
+    }
+    Ok(path)
+}
+
+/// Checks that a file is made and replaced.
+fn check_long<R: Files + AllocGlobal>(rt: &R, path: &str) -> Result<(), Fail> {
+    check_taken(rt, path, "old")?;
+    check_taken(rt, path, "new")?;
+    Ok(fs::remove_file(rt, path)?)
+}
+
+#[test]
+fn a_file_with_a_long_name_is_replaced(rt: HostRuntime) -> Result<(), Fail> {
+    let folder = std::env::temp_dir(&rt)?.into_string();
+    for length in [100, 101, 243, 255] {
+        let path = lengthened(path_of(&rt, "long")?, folder.as_str(), length)?;
+        check_long(&rt, path.as_str())?;
+    }
+    Ok(())
 }
 
 /// What was there before a file was closed, and why a text wasn't taken, if it wasn't.
