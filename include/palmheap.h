@@ -512,29 +512,39 @@ uint32_t palmheap_export(palmheap_store *store, uint32_t db, uint8_t *file, size
 
 /* -- Loans --
  *
- * A loan lets the caller read and write the bytes of a chunk in place, also between other calls on the store. One
- * chunk of a store can be lent at a time. Until it is put back, calls that read, write, free, resize, unlock or export
- * it are refused with 27 (one that is locked with 3, where a call looks for that first), and so are
- * palmheap_write_image and palmheap_close. */
+ * A loan lets the caller read and write the bytes of a chunk in place, also between other calls on the store. Any number
+ * of chunks can be lent at a time, and they are put back in any order. While a chunk is lent, calls that read, write,
+ * free, resize, unlock or export it are refused with 27 (one that is locked with 3, if a call looks for that first).
+ * While any chunk is lent, palmheap_write_image and palmheap_close are refused with 27. */
 
-/* The bytes of a lent chunk and their number, or NULL and 0. The caller sets a new one to {0}, and never changes these
- * fields. */
+/* The bytes of a lent chunk, their number, and the chunk, or NULL, 0 and 0. The caller sets a new one to {0}, and never
+ * changes these fields. */
 typedef struct palmheap_loan {
     uint8_t *bytes;
     size_t count;
+    uint32_t name;
 } palmheap_loan;
 
-/* Takes the bytes of a locked or fixed chunk out of a store, without a copy or an allocation. Sets loan to them: the
- * caller may use loan->count bytes from loan->bytes on, until palmheap_put_back. A loan that was in loan before is not
- * put back. Refusals: 1, 4, 27. */
+/* Takes the bytes of a locked or fixed chunk out of a store, if no chunk is lent. It copies and allocates nothing. Sets
+ * loan to them: the caller may use loan->count bytes from loan->bytes on, until palmheap_put_back. A loan that was in
+ * loan before is not put back. Refusals: 1, 4, 27. */
 uint32_t palmheap_take_out(palmheap_store *store, uint32_t name, palmheap_loan *loan);
 
-/* Puts the bytes of a loan back. loan must be that which palmheap_take_out set for this store last, and not be put back
- * yet. It is NULL and 0 then. */
+/* Takes the bytes of a locked or fixed chunk out, as palmheap_take_out does, but other chunks may be lent. Refusals: 1,
+ * 4, 27. */
+uint32_t palmheap_take_out_also(palmheap_store *store, uint32_t name, palmheap_loan *loan);
+
+/* Puts the bytes of a loan back. loan must be one that palmheap_take_out or palmheap_take_out_also set for this store,
+ * and not be put back yet. It is {0} then. */
 void palmheap_put_back(palmheap_store *store, palmheap_loan *loan);
 
-/* Reports whether a chunk is lent. If so, sets name to it. */
+/* Reports whether a chunk is lent. If so, sets name to it. If several are, it is one of them. */
 bool palmheap_lent(palmheap_store *store, uint32_t *name);
+
+/* Finds the lent chunk with the least place above after: sets name to the chunk, and place to its place. Reports whether
+ * there is one: if not, it sets neither. With 0 for after it finds the first one, and with the last place found the next
+ * one: so the caller goes over all lent chunks in order of their places. */
+bool palmheap_loan_above(palmheap_store *store, uint32_t after, uint32_t *name, uint32_t *place);
 
 #ifdef __cplusplus
 }

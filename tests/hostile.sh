@@ -1,6 +1,6 @@
 #!/bin/bash
 # Runs the program palmheap where it gets little: less and less memory, files that may have few bytes, an output that is
-# closed or full, runs that are killed in the middle, and pairs of runs on one OUT. Looks at the status, at what is said,
+# closed or full, runs that are killed in the middle, also of unpack, and pairs of runs on one OUT. Looks at the status, at what is said,
 # and at the file that OUT names, which must be the old one or a new one, and never a part.
 #
 #   tests/hostile.sh [PROGRAM [KILLS [PAIRS]]]
@@ -239,7 +239,7 @@ for ((number = 0; number < pairs; number += 1)); do
     before=$done_runs
     runs=()
     for size in 1000 900; do
-        (exec "$program" canonical "$size.pdb" out.img >/dev/null 2>"complained.$BASHPID") &
+        (exec "$program" canonical "$size.pdb" out.img >/dev/null 2>"complained.$BASHPID") 2>/dev/null &
         runs+=("$!")
     done
     if [ $((number % 4)) -ge 2 ]; then
@@ -254,5 +254,34 @@ for ((number = 0; number < pairs; number += 1)); do
     fi
 done
 echo "pairs: of $((2 * pairs)) runs on one OUT at once $done_runs are done and $killed_runs killed; OUT is whole each time"
+
+# Killed runs of unpack: `pack` refuses the folder, or makes the file of which it is.
+refused=0
+whole=0
+"$program" unpack 900.pdb parts >/dev/null || wrong 'unpack'
+"$program" pack parts packed.pdb >/dev/null || wrong 'pack'
+rm -rf parts
+begin=$(date +%s%N)
+"$program" unpack 900.pdb parts >/dev/null &
+wait "$!"
+took=$((($(date +%s%N) - begin) / 1000))
+for ((number = 0; number < kills; number += 1)); do
+    rm -rf parts
+    rm -f again.pdb
+    # most kills come near the end, when the text is written
+    delay=$((took / 2 + took * number / kills))
+    "$program" unpack 900.pdb parts >/dev/null 2>&1 &
+    run=$!
+    sleep "$(printf '%d.%06d' $((delay / 1000000)) $((delay % 1000000)))"
+    kill -KILL "$run" 2>/dev/null
+    wait "$run" 2>/dev/null
+    if [ ! -d parts ] || ! "$program" pack parts again.pdb >/dev/null 2>&1; then
+        refused=$((refused + 1))
+    else
+        whole=$((whole + 1))
+        cmp -s packed.pdb again.pdb || wrong "unpack killed after $delay microseconds: records are missing"
+    fi
+done
+echo "unpack: of $kills killed runs $refused folders are refused, and $whole are whole"
 
 exit "$failed"

@@ -144,6 +144,7 @@ def compare_files(program, count):
 
 LINES = 200
 LENT = 27
+MOST_LENT = 16
 CHUNKS = [f"h{it}" for it in range(12)]
 DATABASES = [f"d{it}" for it in range(4)]
 # What is in the caller's memory before a run: bytes, numbers and sizes.
@@ -174,7 +175,7 @@ class Calls:
     def __init__(self, rng, store, files):
         self.rng, self.store, self.files = rng, store, files
         self.names, self.databases, self.lines, self.replies, self.exported = {}, {}, [], [], []
-        self.lent, self.loans, self.refused = None, 0, []
+        self.lent, self.loans, self.most, self.refused = {}, 0, 0, []
 
     # -- what the store has
 
@@ -627,7 +628,10 @@ class Calls:
     # -- loans
 
     def loan(self):
-        (self.put_back if self.lent else self.take_out)()
+        if self.lent and self.rng.randrange(MOST_LENT) < len(self.lent):
+            self.put_back(self.rng.choice(list(self.lent)))
+        else:
+            self.take_out()
 
     def take_out(self):
         """Takes a chunk out, and writes half of it. For the script it is a call that writes all of it: until the chunk is
@@ -635,7 +639,7 @@ class Calls:
         h = self.writable()
         name = self.name(h)
         try:
-            loan = self.store.take_out(name)
+            loan = self.store.take_out_also(name) if self.lent else self.store.take_out(name)
         except palmheap.Refused as refused:
             self.lines.append(f"write {h} 0 -")
             self.refuse(refused.number)
@@ -645,14 +649,26 @@ class Calls:
         loan[:half] = data[:half]
         self.lines.append(f"write {h} 0 {data.hex() or '-'}")
         self.replies.append(("ok", ""))
-        self.lent, self.loans = (name, loan, data), self.loans + 1
+        self.lent[name], self.loans = (loan, data), self.loans + 1
+        self.most = max(self.most, len(self.lent))
+        self.check_lent()
 
-    def put_back(self):
-        name, loan, data = self.lent
+    def check_lent(self):
+        names = self.store.lent()
+        if len(names) != len(self.lent) or set(names) != set(self.lent):
+            sys.exit(f"lent are {sorted(self.lent)}, and not {names}")
+
+    def put_back(self, name):
+        loan, data = self.lent[name]
         half = len(data) // 2
-        if self.store.lent() != name or bytes(loan[:half]) != data[:half]:
+        if bytes(loan[:half]) != data[:half]:
             sys.exit(f"the lent chunk {name} has changed")
-        for call in (lambda: self.store.take_out(name), lambda: self.store.bytes_by("write_image"), self.store.close):
+        for call in (
+            lambda: self.store.take_out(name),
+            lambda: self.store.take_out_also(name),
+            lambda: self.store.bytes_by("write_image"),
+            self.store.close,
+        ):
             try:
                 call()
             except palmheap.Refused as refused:
@@ -660,9 +676,10 @@ class Calls:
                     continue
             sys.exit(f"the chunk {name} is lent, and a call is not refused")
         loan[half:] = data[half:]
-        self.store.put_back()
-        self.lent = None
-        if self.store.lent() is not None or self.store.bytes_by("read", name, 0, len(data)) != data:
+        self.store.put_back(name)
+        del self.lent[name]
+        self.check_lent()
+        if self.store.bytes_by("read", name, 0, len(data)) != data:
             sys.exit(f"the chunk {name} has other bytes than were put back")
 
     # -- lines
@@ -741,8 +758,8 @@ class Calls:
         rows = self.rows()
         for row in self.rng.choices(list(rows), list(rows.values()), k=count):
             row()
-        if self.lent:
-            self.put_back()
+        for name in list(self.lent):
+            self.put_back(name)
 
 
 def number(told):
@@ -817,7 +834,8 @@ def check_refused(library, rng, program, room, image, lines, files):
 
 
 def do_list(library, rng, program, room):
-    """Does calls by an open store, by `palmheap_run` and by the program. Returns the refusals, and the number of loans."""
+    """Does calls by an open store, by `palmheap_run` and by the program. Returns the refusals, the number of loans, and how
+    many were out at once at most."""
     files = list(FILES.values())
     image = library.new(rng.choice((2048, 8192, 65536)), rng.choice((8, 40, 300)))
     with library.open(image) as store:
@@ -845,17 +863,18 @@ def do_list(library, rng, program, room):
         wanted = f"ok{told}" if kind == "ok" else f"refused {told} {library.refusal_name(told)} "
         if not (reply == wanted if kind == "ok" else f"{reply} ".startswith(wanted)):
             sys.exit(f"line {line!r}: a call has {wanted!r}, and the script {reply!r}")
-    return calls.refused, calls.loans
+    return calls.refused, calls.loans, calls.most
 
 
 def compare_drawn(program, seed, count):
-    """Compares lists of calls, `count` calls or some more. Returns them, their refusals and the number of loans."""
-    library, rng, calls, refused, loans = palmheap.Library(), random.Random(seed), 0, [], 0
+    """Compares lists of calls, `count` calls or some more. Returns them and what `do_list` returns."""
+    library, rng, calls, refused, loans, most = palmheap.Library(), random.Random(seed), 0, [], 0, 0
     with tempfile.TemporaryDirectory() as room:
         while calls < count:
-            more_refused, more_loans = do_list(library, rng, program, room)
+            more_refused, more_loans, at_once = do_list(library, rng, program, room)
             calls, refused, loans = calls + LINES, refused + more_refused, loans + more_loans
-    return calls, refused, loans
+            most = max(most, at_once)
+    return calls, refused, loans, most
 
 
 def compare_calls(program, count):
@@ -866,7 +885,7 @@ def compare_calls(program, count):
     calls, refused = sum(it[0] for it in parts), [number for it in parts for number in it[1]]
     met = ", ".join(f"{refused.count(it)} {library.refusal_name(it)}" for it in sorted(set(refused)))
     print(f"{calls} calls answer as lines of scripts do; {len(refused)} were refused: {met}")
-    print(f"{sum(it[2] for it in parts)} loans were put back")
+    print(f"{sum(it[2] for it in parts)} loans were put back, at most {max(it[3] for it in parts)} out at once")
     if 2 * len(refused) > calls:
         sys.exit("more than half of the calls were refused")
 

@@ -17,7 +17,9 @@ TOP = os.path.dirname(os.path.dirname(os.path.realpath(__file__)))
 SOURCES = f"{TOP}/crates/palmheap_c/src"
 NUMBERS = {"u8": "uint8_t", "u16": "uint16_t", "u32": "uint32_t", "u64": "uint64_t", "usize": "size_t", "bool": "bool"}
 # Structures whose name in C is not made of their name here.
-STRUCTS = {"Kept": "palmheap_store", "Slot": "palmheap_store", "LentPart": "palmheap_loan"}
+STRUCTS = {"Kept": "palmheap_store", "Slot": "palmheap_store", "KeptLoan": "palmheap_loan"}
+# Structures that C sees only as fields of another one.
+PARTS = {"palmheap_lent_part"}
 # Pointers in structures, by the name of the field.
 POINTERS = {"at": "void *", "bytes": "uint8_t *"}
 
@@ -147,7 +149,12 @@ def main():
     compare("the function", list(exported(text)), list(declared(header)), wrong)
     compare("the comment on", list(refused_in_crate(text)), list(refused_in_header(whole)), wrong)
     # C alone needs a structure for the items of a list of files. A store is two structures here, one in C.
-    here = {name: fields for name, fields in structures(text)}
+    all_here = dict(structures(text))
+    here = {
+        name: [part for it in fields for part in all_here.get(it.split()[0], [it])]
+        for name, fields in all_here.items()
+        if name not in PARTS
+    }
     there = [it for it in declared_structures(header) if it[0] != "palmheap_bytes"]
     compare("the structure", list(here.items()), there, wrong)
     refusals = refusals_of(text_of(f"{TOP}/crates/heap_model/src/refusal.rt"))

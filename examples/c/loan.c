@@ -1,4 +1,4 @@
-/* Fills a chunk through a pointer while other calls run on the store:
+/* Fills two chunks through pointers while other calls run on the store:
  *
  *   gcc loan.c $(pkg-config --cflags --libs palmheap) -o loan && ./loan
  *
@@ -19,7 +19,7 @@ int main(void) {
     static const uint8_t text[16] = "locked and lent";
     palmheap_store store;
     palmheap_loan loan = {0}, second = {0};
-    uint32_t name, other, lent = 0, place;
+    uint32_t name, other, lent = 0, place, loans = 0;
     uint8_t locks, read[16];
     size_t count;
     want("new", palmheap_new(image, sizeof image, 100).kind, PALMHEAP_OK);
@@ -36,13 +36,26 @@ int main(void) {
     memcpy(loan.bytes + 8, text + 8, 8);
     want("is lent", palmheap_lent(&store, &lent) && lent == name, 1);
     want("take out another", palmheap_take_out(&store, other, &second), PALMHEAP_REFUSED_LENT);
+    want("take out twice", palmheap_take_out_also(&store, name, &second), PALMHEAP_REFUSED_LENT);
+    want("take out also", palmheap_take_out_also(&store, other, &second), 0);
+    want("bytes", (uint32_t)second.count, 1000);
+    want("first byte", second.bytes[0], 255);
+    second.bytes[999] = 1;
+    for (place = 0; palmheap_loan_above(&store, place, &lent, &place);) loans++;
+    want("loans", loans, 2);
     want("read", palmheap_read(&store, name, 0, sizeof read, read, sizeof read, &count), PALMHEAP_REFUSED_LENT);
     want("write image", palmheap_write_image(&store, copy, sizeof copy, &count), PALMHEAP_REFUSED_LENT);
     want("close", palmheap_close(&store), PALMHEAP_REFUSED_LENT);
 
     palmheap_put_back(&store, &loan);
-    want("holds bytes", loan.bytes != NULL || loan.count != 0, 0);
+    want("holds bytes", loan.bytes != NULL || loan.count != 0 || loan.name != 0, 0);
+    want("the other is lent", palmheap_lent(&store, &lent) && lent == other, 1);
+    want("read it", palmheap_read(&store, other, 0, 1, read, sizeof read, &count), PALMHEAP_REFUSED_LENT);
+    want("close", palmheap_close(&store), PALMHEAP_REFUSED_LENT);
+    palmheap_put_back(&store, &second);
     want("is lent", palmheap_lent(&store, &lent), 0);
+    want("read the last byte", palmheap_read(&store, other, 999, 1, read, sizeof read, &count), 0);
+    want("last byte", read[0], 1);
     want("read", palmheap_read(&store, name, 0, sizeof read, read, sizeof read, &count), 0);
     want("differs", memcmp(read, text, sizeof text) != 0, 0);
     want("write image", palmheap_write_image(&store, copy, sizeof copy, &count), 0);

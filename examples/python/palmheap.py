@@ -37,7 +37,7 @@ class Place(c.Structure):
 
 
 class Loan(c.Structure):
-    _fields_ = [("bytes", c.c_void_p), ("count", c.c_size_t)]
+    _fields_ = [("bytes", c.c_void_p), ("count", c.c_size_t), ("name", c.c_uint32)]
 
 
 class DatabaseInfo(c.Structure):
@@ -179,8 +179,10 @@ class Library:
         self.so.palmheap_close.argtypes, self.so.palmheap_close.restype = [place], U32
         for name, kinds, result in (
             ("take_out", [U32, c.POINTER(Loan)], U32),
+            ("take_out_also", [U32, c.POINTER(Loan)], U32),
             ("put_back", [c.POINTER(Loan)], None),
             ("lent", [c.POINTER(U32)], BOOL),
+            ("loan_above", [U32, c.POINTER(U32), c.POINTER(U32)], BOOL),
         ):
             function = getattr(self.so, f"palmheap_{name}")
             function.argtypes, function.restype = [place, *kinds], result
@@ -268,7 +270,7 @@ class Store:
     """An open store. Use it in a `with`, or close it."""
 
     def __init__(self, library, image):
-        self.so, self.place, self.loan = library.so, Place(), Loan()
+        self.so, self.place, self.loans = library.so, Place(), {}
         library._good(self.so.palmheap_open(image, len(image), c.byref(self.place)))
         self.is_open = True
 
@@ -315,23 +317,36 @@ class Store:
         return bytes(room[: count.value])
 
     def take_out(self, name):
-        """Takes the bytes of a chunk out. Returns them as an array to be used only until `put_back`."""
+        """Takes the bytes of a chunk out, if nothing is lent. Returns them as an array to be used only until `put_back`."""
+        return self._lend("take_out", name)
+
+    def take_out_also(self, name):
+        """Takes the bytes of a chunk out, as `take_out` does, but other chunks may be lent."""
+        return self._lend("take_out_also", name)
+
+    def _lend(self, call, name):
         if not self.is_open:
             raise ValueError("the store is closed")
-        self._done(self.so.palmheap_take_out(c.byref(self.place), number(U32, name), c.byref(self.loan)))
-        return (U8 * self.loan.count).from_address(self.loan.bytes)
+        loan = Loan()
+        function = getattr(self.so, f"palmheap_{call}")
+        self._done(function(c.byref(self.place), number(U32, name), c.byref(loan)))
+        self.loans[loan.name] = loan
+        return (U8 * loan.count).from_address(loan.bytes)
 
-    def put_back(self):
-        if not self.loan.bytes:
-            raise ValueError("nothing is lent")
-        self.so.palmheap_put_back(c.byref(self.place), c.byref(self.loan))
+    def put_back(self, name):
+        """Puts the bytes of a lent chunk back."""
+        if name not in self.loans:
+            raise ValueError(f"the chunk {name} isn't lent")
+        self.so.palmheap_put_back(c.byref(self.place), c.byref(self.loans.pop(name)))
 
     def lent(self):
-        """Returns the name of the chunk that is lent, or None."""
+        """Returns the names of all lent chunks, in order of their places."""
         if not self.is_open:
             raise ValueError("the store is closed")
-        name = U32()
-        return name.value if self.so.palmheap_lent(c.byref(self.place), c.byref(name)) else None
+        names, name, place = [], U32(), U32()
+        while self.so.palmheap_loan_above(c.byref(self.place), place.value, c.byref(name), c.byref(place)):
+            names.append(name.value)
+        return names
 
 
 def main():

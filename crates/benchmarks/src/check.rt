@@ -2,7 +2,7 @@
 //! the best and the median time of REPEATS checks in microseconds. Without words the image is a
 //! blank one. bench/check_heap.c makes the same checks in plain C.
 
-ghost use Rattle.std.specs.Prelude.{◌≡◌, IfOk, None};
+ghost use Rattle.std.specs.Prelude.{[], ◌≡◌, IfOk, None};
 
 use crate::timing::Times;
 use crate::work::{Field, NONE, Work};
@@ -32,7 +32,7 @@ pub(crate) fn run(rt: &(impl Clock + Files + Print + AllocGlobal), work: Work<'_
 
 /// Returns the region of an image in a file, or a blank one.
 fn region_of(rt: &(impl Files + AllocGlobal), image: Option<&str>) -> Result<Region>
-    ensures { IfOk result (λ region. region.lent ≡ None) }
+    ensures { IfOk result (λ region. region.lents ≡ []) }
 {
     match image {
         Some(image) => read_region(rt, image),
@@ -41,7 +41,7 @@ fn region_of(rt: &(impl Files + AllocGlobal), image: Option<&str>) -> Result<Reg
 }
 
 fn read_region(rt: &(impl Files + AllocGlobal), image: &str) -> Result<Region>
-    ensures { IfOk result (λ region. region.lent ≡ None) }
+    ensures { IfOk result (λ region. region.lents ≡ []) }
 {
     let bytes = fs::read(rt, image)?;
     Ok(Region::from_bytes(rt.alloc(), &bytes)?)
@@ -53,7 +53,7 @@ fn time_checks(
     region: &Region,
     repeats: u16,
 ) -> io::Result<()>
-    requires { region.now.lent ≡ None }
+    requires { region.now.lents ≡ [] }
 {
     let mut times = Times::new(rt.alloc());
     for _ in 0..repeats {
@@ -64,7 +64,7 @@ fn time_checks(
 
 /// Adds the time of a check. The result is discarded.
 pub(crate) fn time_heap_check(rt: &impl Clock, region: &Region, times: &mut Times) -> io::Result<()>
-    requires { region.now.lent ≡ None }
+    requires { region.now.lents ≡ [] }
 {
     let start = Instant::now(rt)?;
     let _ = check_heap(region);

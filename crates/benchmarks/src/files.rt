@@ -7,7 +7,7 @@
 //! images and files. Without words the run prints only this line, for small files. bench/files.c
 //! does the same in plain C.
 
-ghost use Rattle.std.specs.Prelude.{◌≡◌, IfOk, None};
+ghost use Rattle.std.specs.Prelude.{[], ◌≡◌, IfOk};
 
 mod shapes;
 
@@ -104,7 +104,7 @@ fn time_import(
     file: &[u8],
     times: &mut Times,
 ) -> Result<Db>
-    ensures { store.new.lent ≡ store.old.lent }
+    ensures { store.new.lents ≡ store.old.lents }
 {
     let start = rt.thread_cpu_time()?;
     let db = import(rt.alloc(), store, file)?;
@@ -127,7 +127,7 @@ fn time_export(
 
 /// Makes a store with nothing in it.
 fn blank_store(alloc: Global, work: Work<'_>) -> Result<Store>
-    ensures { IfOk result (λ store. store.lent ≡ None) }
+    ensures { IfOk result (λ store. store.lents ≡ []) }
 {
     let region = blank(alloc, work.size, work.slots)?;
     accepted(alloc, region)
@@ -135,7 +135,7 @@ fn blank_store(alloc: Global, work: Work<'_>) -> Result<Store>
 
 /// Adds the length of an exported file, and the words of the image and of the file.
 fn sum_up(sums: &mut Sums, store: Store, out: &Bytes)
-    requires { store.lent ≡ None }
+    requires { store.lents ≡ [] }
 {
     let out = out.as_slice();
     let length = Sum(out.len().min(u32::MAX as usize) as u32);

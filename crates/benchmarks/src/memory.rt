@@ -12,7 +12,7 @@
 //! Without words the run prints only this line, for a small heap. bench/memory_calls.c does the
 //! same calls in plain C.
 
-ghost use Rattle.std.specs.Prelude.{◌≡◌, IfOk, None};
+ghost use Rattle.std.specs.Prelude.{[], ◌≡◌, IfOk};
 
 mod heaps;
 mod load;
@@ -120,7 +120,7 @@ fn time_load(
     heap: Heap,
     sums: &mut Sums,
 ) -> Result<()>
-    requires { heap.lent ≡ None }
+    requires { heap.lents ≡ [] }
 {
     let mut load = Load::new(rt.alloc(), heap, MOST_BYTES);
     time_kinds(rt, &mut load, work)?;
@@ -183,7 +183,7 @@ fn time_walks(
     walks: &[(&str, Walk)],
     sums: &mut Sums,
 ) -> Result<()>
-    requires { original.now.region.lent ≡ None }
+    requires { original.now.region.lents ≡ [] }
 {
     for (name, walk) in walks {
         walk_through(rt, work, original, name, *walk, sums)?;
@@ -192,7 +192,7 @@ fn time_walks(
 }
 
 fn blank_heap(alloc: Global, work: Work<'_>) -> Result<Heap>
-    ensures { IfOk result (λ heap. heap.lent ≡ None) }
+    ensures { IfOk result (λ heap. heap.lents ≡ []) }
 {
     let region = blank(alloc, work.size, work.slots)?;
     adopted(region)
@@ -296,7 +296,7 @@ fn walk_through(
     walk: Walk,
     sums: &mut Sums,
 ) -> Result<()>
-    requires { original.now.region.lent ≡ None }
+    requires { original.now.region.lents ≡ [] }
 {
     let mut times = Times::new(rt.alloc());
     for _ in 0..work.rounds {
@@ -314,7 +314,7 @@ fn walk_copy(
     sums: &mut Sums,
     times: &mut Times,
 ) -> Result<()>
-    requires { original.now.region.lent ≡ None }
+    requires { original.now.region.lents ≡ [] }
 {
     let mut heap = original.copy(rt.alloc())?;
     original.prepare(&mut heap, walk);
@@ -331,7 +331,7 @@ fn time_walk(
     heap: &mut Heap,
     times: &mut Times,
 ) -> io::Result<Sum>
-    ensures { heap.new.lent ≡ heap.old.lent }
+    ensures { heap.new.lents ≡ heap.old.lents }
 {
     let start = rt.thread_cpu_time()?;
     let replies = original.walk(heap, walk);

@@ -9,7 +9,7 @@
 //! Without words the run prints only this line, for small databases. bench/record_calls.c does the
 //! same calls in plain C.
 
-ghost use Rattle.std.specs.Prelude.{◌≡◌, IfOk, None};
+ghost use Rattle.std.specs.Prelude.{[], ◌≡◌, IfOk};
 
 mod load;
 mod resources;
@@ -118,7 +118,7 @@ fn blank_store(
     kind: u32,
     resources: bool,
 ) -> Result<(Store, Db)>
-    ensures { IfOk result (λ made. made.0.lent ≡ None) }
+    ensures { IfOk result (λ made. made.0.lents ≡ []) }
 {
     let mut store = accepted(alloc, blank(alloc, work.size, work.slots)?)?;
     let db = store.create(&DbName::of(name), kind, CREATOR, resources, 0)?;
@@ -127,8 +127,8 @@ fn blank_store(
 
 /// Makes the store of a region.
 pub(crate) fn accepted(alloc: Global, region: Region) -> Result<Store>
-    requires { region.lent ≡ None }
-    ensures { IfOk result (λ store. store.lent ≡ None) }
+    requires { region.lents ≡ [] }
+    ensures { IfOk result (λ store. store.lents ≡ []) }
 {
     match Store::check(alloc, region) {
         Ok(store) => Ok(store),
@@ -138,7 +138,7 @@ pub(crate) fn accepted(alloc: Global, region: Region) -> Result<Store>
 
 /// Returns the region of a store of which nothing is lent.
 pub(crate) fn region_of(store: Store) -> Region
-    requires { store.lent ≡ None }
+    requires { store.lents ≡ [] }
     ensures { result ≡ store }
 {
     match store.into_region() {

@@ -2,7 +2,7 @@
 //! each it prints the checker's result, and the best and the median time of REPEATS checks by each
 //! checker in microseconds. Without words it prints only the results.
 
-ghost use Rattle.std.specs.Prelude.{◌≡◌, None};
+ghost use Rattle.std.specs.Prelude.{[], ◌≡◌};
 
 mod image;
 
@@ -79,7 +79,7 @@ fn time_both(
     region: &Region,
     repeats: u16,
 ) -> io::Result<()>
-    requires { region.now.lent ≡ None }
+    requires { region.now.lents ≡ [] }
 {
     let (mut heap, mut store) = (Times::new(rt.alloc()), Times::new(rt.alloc()));
     for _ in 0..repeats {
@@ -96,7 +96,7 @@ fn time_turn(
     heap: &mut Times,
     store: &mut Times,
 ) -> io::Result<()>
-    requires { region.now.lent ≡ None }
+    requires { region.now.lents ≡ [] }
 {
     time_heap_check(rt, region, heap)?;
     time_store_check(rt, region, store)
@@ -108,7 +108,7 @@ fn time_store_check(
     region: &Region,
     times: &mut Times,
 ) -> io::Result<()>
-    requires { region.now.lent ≡ None }
+    requires { region.now.lents ≡ [] }
 {
     let start = Instant::now(rt)?;
     let _ = check_store(rt.alloc(), region);

@@ -1,6 +1,6 @@
 -- Sets of numbers, as the bits of a list of bytes. Each byte has the bits of eight numbers, the
 -- least in its lowest bit.
-use Rattle.std.specs.Prelude.{◌≡◌, ◌≢◌, ◌/◌, ◌%◌, ◌↔◌, ℕ, List, slice_index}
+use Rattle.std.specs.Prelude.{◌≡◌, ◌≢◌, ◌≤◌, ◌<◌, ◌/◌, ◌%◌, ◌↔◌, ℕ, List, slice_index}
 use Rattle.std.specs.Int.{bit_at}
 use Rattle.heap_model.specs.Lists.{Least}
 
@@ -29,3 +29,17 @@ KeepsOtherBytes old new number = (other : ℕ) → other / 8 ≢ number / 8 → 
 -- the number is the least that isn't in the set
 abbrev pub IsFirstMissing : List ℕ → ℕ → Type 0
 IsFirstMissing set number = Least (λ other. HasNumber set other → ⊥) number
+
+-- no number of the set is `from` or greater, but below `end`
+abbrev pub HasNoneBetween : List ℕ → ℕ → ℕ → Type 0
+HasNoneBetween set from end = (number : ℕ) → from ≤ number → number < end → HasNumber set number → ⊥
+
+-- the number is the least of the set that is `from` or greater
+pub record IsFirstFrom (set : List ℕ) (from number : ℕ) : Type 0 where
+  pub least : from ≤ number
+  pub here : HasNumber set number
+  pub none_before : HasNoneBetween set from number
+
+-- no number of the set is `from` or greater
+abbrev pub HasNoneFrom : List ℕ → ℕ → Type 0
+HasNoneFrom set from = (number : ℕ) → from ≤ number → HasNumber set number → ⊥

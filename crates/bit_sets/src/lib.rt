@@ -6,4 +6,4 @@
 
 mod sets;
 
-pub use sets::{add, first_missing, has, remove, remove_byte};
+pub use sets::{add, first_from, first_missing, has, remove, remove_byte};

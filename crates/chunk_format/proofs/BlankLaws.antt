@@ -135,6 +135,7 @@ blank_written size slots start image plan is =
     let start_is : start ≡ start_behind slots = plan.start_is in
     record {
       size_is = r.len;
+      unchained = ap (λ (m : ℕ). m == 0x50484932) r.magic_is;
       slots_are = r.slots_are;
       heap = subst (λ (n : ℕ). IsHeap image (free (size - n) ∷ [])) start_is heap;
       nothing = λ name. held-is image (free (size - start) ∷ []) name heap;

@@ -1,9 +1,9 @@
 -- Blank images.
-use Rattle.std.specs.Prelude.{◌≡◌, ◌≤◌, ◌<◌, ◌+◌, ◌-◌, ◌%◌, ℕ, List, [], ◌∷◌, length, slice_index, None}
+use Rattle.std.specs.Prelude.{false, ◌≡◌, ◌≤◌, ◌<◌, ◌+◌, ◌-◌, ◌%◌, ℕ, List, [], ◌∷◌, length, slice_index, None}
 use Rattle.heap_model.specs.Chunk.{free}
 use Rattle.heap_model.specs.Bytes.{u32_at, u16_bytes, u32_bytes, overwritten}
 use Rattle.heap_model.specs.Frame.{magic, magic_at, size_at, slot_count_at, least_size, most_size}
-use Rattle.heap_model.specs.Slots.{slot_count, start_behind}
+use Rattle.heap_model.specs.Slots.{is_chained, slot_count, start_behind}
 use Rattle.heap_model.specs.Heap.{IsHeap}
 use Rattle.heap_model.specs.Reading.{held}
 use Rattle.heap_model.specs.Layout.{IsPlain}
@@ -20,10 +20,11 @@ pub record LeavesRoom (size slots : ℕ) : Type 0 where
   pub some_slot : 0 < slots
   pub a_chunk_fits : start_behind slots + 8 ≤ size
 
--- an accepted heap of this size and with this number of slots, whose only chunk is free. The
--- chunk's first word has only the free bit and the size set, and zeros follow that word.
+-- An accepted heap of profile PHI1, of this size and with this number of slots. Its only chunk is
+-- free: the first word has only the free bit and the size set, and zeros follow that word.
 pub record IsBlank (size slots : ℕ) (image : List ℕ) : Type 0 where
   pub size_is : length image ≡ size
+  pub unchained : is_chained image ≡ false
   pub slots_are : slot_count image ≡ slots
   pub heap : IsHeap image (free (size - start_behind slots) ∷ [])
   pub nothing : (name : ℕ) → held image name ≡ None

@@ -89,7 +89,7 @@ impl Header {
     #[inline]
     pub fn read(region: &Region, at: u32) -> Option<Header>
         requires small { length region.now.bytes < 2 ^ 24 }
-        requires misses { Misses region.now.lent at HEADER_SIZE }
+        requires misses { Misses region.now.lents at HEADER_SIZE }
         ensures is { result ≡ option_map header_of (chunk_at region.now.bytes at) }
         ensures found { IfSome result (HasHeader region.now.bytes at) }
         ensures none { IfNone result ((chunk : Chunk) → Spelled region.now.bytes at chunk → ⊥) }
@@ -105,7 +105,7 @@ impl Header {
     #[inline]
     pub fn read_with_size(region: &Region, at: u32) -> Option<(Header, u32)>
         requires small { length region.now.bytes < 2 ^ 24 }
-        requires misses { Misses region.now.lent at HEADER_SIZE }
+        requires misses { Misses region.now.lents at HEADER_SIZE }
         ensures found { IfSome result (λ both. HasHeader region.now.bytes at both.0) }
         ensures size { IfSome result (λ both. both.1 ≡ size_by both.0) }
         ensures none { IfNone result ((chunk : Chunk) → Spelled region.now.bytes at chunk → ⊥) }
@@ -119,7 +119,7 @@ impl Header {
     pub fn at(region: &Region, at: u32) -> Header
         requires chunk { HasChunk region.now.bytes at }
         requires small { length region.now.bytes < 2 ^ 24 }
-        requires misses { Misses region.now.lent at HEADER_SIZE }
+        requires misses { Misses region.now.lents at HEADER_SIZE }
         ensures { HasHeader region.now.bytes at result }
     {
         let (header, _) = Header::at_with_size(region, at);
@@ -132,7 +132,7 @@ impl Header {
     pub fn at_with_size(region: &Region, at: u32) -> (Header, u32)
         requires chunk { HasChunk region.now.bytes at }
         requires small { length region.now.bytes < 2 ^ 24 }
-        requires misses { Misses region.now.lent at HEADER_SIZE }
+        requires misses { Misses region.now.lents at HEADER_SIZE }
         ensures header { HasHeader region.now.bytes at result.0 }
         ensures size { result.1 ≡ size_by result.0 }
     {
@@ -153,7 +153,7 @@ impl Header {
     #[inline(always)]
     pub fn write(self, region: &mut Region, at: u32)
         requires inside { at + size_by self ≤ length region.old.bytes }
-        requires misses { Misses region.old.lent at HEADER_SIZE }
+        requires misses { Misses region.old.lents at HEADER_SIZE }
         requires small { length region.old.bytes < 2 ^ 24 }
         requires writable { IsWritable at self }
         ensures after { region.new ≡ record region.old
@@ -191,7 +191,7 @@ impl Header {
 #[inline]
 fn decode(region: &Region, at: u32) -> Option<(Header, u32)>
     requires small { length region.now.bytes < 2 ^ 24 }
-    requires misses { Misses region.now.lent at HEADER_SIZE }
+    requires misses { Misses region.now.lents at HEADER_SIZE }
     ensures found { IfSome result
         (λ both. Spelled region.now.bytes at (chunk_with region.now.bytes at both.0)) }
     ensures inside { IfSome result (λ both. at + size_by both.0 ≤ length region.now.bytes) }
@@ -271,7 +271,7 @@ pub struct LiveFields {
 pub fn live_fields(region: &Region, at: u32) -> LiveFields
     requires live { HasLive region.now.bytes at }
     requires small { length region.now.bytes < 2 ^ 24 }
-    requires misses { Misses region.now.lent at HEADER_SIZE }
+    requires misses { Misses region.now.lents at HEADER_SIZE }
     ensures { (bytes : List ℕ) (lock owner h_offset : ℕ)
         → IsLive region.now.bytes at bytes lock owner h_offset
         → (result.length ≡ length bytes) × (result.lock ≡ lock) × (result.owner ≡ owner) }
@@ -332,7 +332,7 @@ fn h_offset(at: u32, slot: u32) -> u32
 /// Writes the two words of a live chunk.
 fn write_live(region: &mut Region, at: u32, count: u32, lock: u8, owner: u8, h_offset: u32)
     requires inside { at + need count ≤ length region.old.bytes }
-    requires misses { Misses region.old.lent at HEADER_SIZE }
+    requires misses { Misses region.old.lents at HEADER_SIZE }
     requires small { length region.old.bytes < 2 ^ 24 }
     requires lock { lock ≤ fixed_lock }
     requires owner { owner ≤ data_owner }

@@ -1,7 +1,7 @@
 //! Blank images.
 #![tactic(auto, using(laws_heap::proofs::Lending::all_within, laws_heap::proofs::Lending::all_misses))]
 
-ghost use Rattle.std.specs.Prelude.{◌≡◌, ◌↔◌, IfOk, Err, None, replicate};
+ghost use Rattle.std.specs.Prelude.{[], ◌≡◌, ◌↔◌, IfOk, Err, None, replicate};
 ghost use Rattle.heap_model.specs.Store.{Accepted, store_of};
 ghost use Rattle.chunk_format.specs.Blank.{IsRegionSize, LeavesRoom, IsPlanned, IsBlank, IsEmpty};
 ghost use Rattle.allowance.specs.Refusals.{GrowthRefused};
@@ -38,7 +38,7 @@ pub fn blank(alloc: Global, size: u32, slots: u16) -> Result<Region, BlankFault>
     ensures blank { IfOk result (λ region. IsBlank size slots region.bytes) }
     ensures accepted { IfOk result (λ region. Accepted region.bytes) }
     ensures empty { IfOk result (λ region. IsEmpty (store_of region.bytes)) }
-    ensures whole { IfOk result (λ region. region.lent ≡ None) }
+    ensures whole { IfOk result (λ region. region.lents ≡ []) }
     ensures size { (result ≡ Err BlankFault.BadSize) ↔ (IsRegionSize size → ⊥) }
     ensures slots { (result ≡ Err BlankFault.BadSlotCount)
         ↔ (IsRegionSize size × (LeavesRoom size slots → ⊥)) }
@@ -57,7 +57,7 @@ pub fn blank_from<A: Allowance>(memory: &A, size: u32, slots: u16) -> Result<Reg
     ensures blank { IfOk result (λ region. IsBlank size slots region.bytes) }
     ensures accepted { IfOk result (λ region. Accepted region.bytes) }
     ensures empty { IfOk result (λ region. IsEmpty (store_of region.bytes)) }
-    ensures whole { IfOk result (λ region. region.lent ≡ None) }
+    ensures whole { IfOk result (λ region. region.lents ≡ []) }
     ensures size { (result ≡ Err BlankFault.BadSize) ↔ (IsRegionSize size → ⊥) }
     ensures slots { (result ≡ Err BlankFault.BadSlotCount)
         ↔ (IsRegionSize size × (LeavesRoom size slots → ⊥)) }
@@ -81,9 +81,9 @@ pub fn blank_from<A: Allowance>(memory: &A, size: u32, slots: u16) -> Result<Reg
 fn write_blank(region: &mut Region, size: u32, slots: u16, start: u32)
     requires zeros { region.old.bytes ≡ replicate size 0 }
     requires planned { IsPlanned size slots start }
-    requires whole { region.old.lent ≡ None }
+    requires whole { region.old.lents ≡ [] }
     ensures blank { IsBlank size slots region.new.bytes }
-    ensures whole { region.new.lent ≡ None }
+    ensures whole { region.new.lents ≡ [] }
 {
     write_frame(region, size, slots);
     Header::Free { size: size - start }.write(region, start);

@@ -1,7 +1,7 @@
 //! The walk over the chunks of an image.
 #![tactic(auto, using(laws_heap::proofs::Lending::all_misses))]
 
-ghost use Rattle.std.specs.Prelude.{◌≡◌, ◌<◌, ◌^◌, length, None};
+ghost use Rattle.std.specs.Prelude.{[], ◌≡◌, ◌<◌, ◌^◌, length, None};
 ghost use Rattle.heap_model.specs.Reading.{chunks_from};
 ghost use Rattle.chunk_format.specs.Header.{headers_of};
 
@@ -21,7 +21,7 @@ pub struct Walk<'a> {
 }
 
 impl<'a> Model for Walk<'a> {
-    ghost use Rattle.std.specs.Prelude.{◌≡◌, ◌<◌, ◌^◌, List, length, None};
+    ghost use Rattle.std.specs.Prelude.{[], ◌≡◌, ◌<◌, ◌^◌, List, length, None};
     ghost use Rattle.heap_model.specs.declared.names.Place.{Place};
     ghost use Rattle.heap_model.specs.Reading.{chunks_from};
     ghost use Rattle.chunk_format.specs.declared.header.Header.{Header};
@@ -32,14 +32,14 @@ impl<'a> Model for Walk<'a> {
     ghost view = { λ walk. headers_of walk.at (chunks_from walk.region.now.bytes walk.at) };
 
     ghost invariant = { λ walk. (length walk.region.now.bytes < 2 ^ 24)
-        × (walk.region.now.lent ≡ None) };
+        × (walk.region.now.lents ≡ []) };
 }
 
 impl<'a> Walk<'a> {
     /// Starts a walk at the chunk at `start`, an offset in bytes from the image's start.
     pub fn new(region: &'a Region, start: u32) -> Walk<'a>
         requires small { length region.now.bytes < 2 ^ 24 }
-        requires whole { region.now.lent ≡ None }
+        requires whole { region.now.lents ≡ [] }
         ensures { result ≡ headers_of start (chunks_from region.now.bytes start) }
     {
         Walk { region, at: start }

@@ -1,7 +1,7 @@
 //! The files that a command reads and writes. If a file can't be read or written, the reason is
 //! printed on standard error.
 
-ghost use Rattle.std.specs.Prelude.{◌≡◌, ◌≤◌, ◌⊎◌, ◌++◌, IfOk, IfErr, None, codes, decimal, length, string_bytes, vec_len};
+ghost use Rattle.std.specs.Prelude.{[], ◌≡◌, ◌≤◌, ◌⊎◌, ◌++◌, IfOk, IfErr, codes, decimal, length, string_bytes, vec_len};
 
 use crate::faults::{STANDARD_INPUT, STANDARD_STREAM, fail, fail_to_read};
 use crate::region_input::{SizedFault, read_sized};
@@ -63,7 +63,7 @@ pub fn read_image<R: Files + Input + Eprint + AllocGlobal>(
     path: &str,
 ) -> Result<Region, Status>
     ensures limit { IfOk result (λ region. length region.bytes ≤ INPUT_LIMIT) }
-    ensures whole { IfOk result (λ region. region.lent ≡ None) }
+    ensures whole { IfOk result (λ region. region.lents ≡ []) }
     ensures faults { IfErr result (λ status. (status ≡ Status.ReadFault) ⊎ (status ≡ Status.NoMemory)) }
 {
     if path != STANDARD_STREAM {

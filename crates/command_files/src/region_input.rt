@@ -1,6 +1,6 @@
 //! Reading an image into a region, without another copy of it.
 
-ghost use Rattle.std.specs.Prelude.{◌≡◌, ◌≢◌, ◌+◌, ◌≤◌, ◌<◌, Err, IfOk, OnOk, OnErr, IfSome, None, length, take};
+ghost use Rattle.std.specs.Prelude.{[], ◌≡◌, ◌≢◌, ◌+◌, ◌≤◌, ◌<◌, Err, IfOk, OnOk, OnErr, IfSome, None, length, take};
 ghost use Rattle.std.specs.Io.KnownBytes.{IsAtEnd, Keeps, prepend_known};
 
 use allowance::{Allowance, zeros};
@@ -33,7 +33,7 @@ pub enum SizedFault {
 ///   size changed while it was read.
 pub(crate) fn read_sized<R: Files + AllocGlobal>(rt: &R, path: &str) -> Result<Region, SizedFault>
     ensures limit { IfOk result (λ region. length region.bytes ≤ INPUT_LIMIT) }
-    ensures whole { IfOk result (λ region. region.lent ≡ None) }
+    ensures whole { IfOk result (λ region. region.lents ≡ []) }
 {
     let Some(size) = size_of(rt, path) else {
         return Err(SizedFault::OtherSize);
@@ -73,7 +73,7 @@ pub fn read_region_from<A: Allowance, R: Read>(
     ensures bytes { IfOk result (λ region.
         IfSome (R.remaining reader.old) (λ all. region.bytes ≡ all)) }
     ensures len { IfOk result (λ region. length region.bytes ≡ size) }
-    ensures whole { IfOk result (λ region. region.lent ≡ None) }
+    ensures whole { IfOk result (λ region. region.lents ≡ []) }
     ensures size { result ≡ Err SizedFault.OtherSize
         → IfSome (R.remaining reader.old) (λ all. length all ≢ size) }
     ensures no_memory { result ≡ Err (SizedFault.Input InputFault.Memory) → A.is_short memory.now }
@@ -110,11 +110,11 @@ fn fill<R: Read>(
 ) -> Result<usize, SizedFault>
     requires room { 0 < length turn.old }
     requires inside { at.old ≤ length region.old.bytes }
-    requires whole { region.old.lent ≡ None }
+    requires whole { region.old.lents ≡ [] }
     ensures count { IfOk result (λ n. at.new ≡ at.old + n) }
     ensures inside { OnOk result (at.new ≤ length region.new.bytes) }
     ensures len { length region.new.bytes ≡ length region.old.bytes }
-    ensures whole { region.new.lent ≡ None }
+    ensures whole { region.new.lents ≡ [] }
     ensures kept { OnOk result (Keeps
         (prepend_known (take at.old region.old.bytes) (R.remaining reader.old))
         (prepend_known (take at.new region.new.bytes) (R.remaining reader.new))) }

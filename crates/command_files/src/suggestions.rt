@@ -1,6 +1,6 @@
 //! What else an input looks like, and which command explains a fault.
 
-ghost use Rattle.std.specs.Prelude.{◌≡◌, None};
+ghost use Rattle.std.specs.Prelude.{[], ◌≡◌};
 ghost use Rattle.hints.specs.Lookalikes as words;
 
 use crate::faults::input_name;
@@ -12,7 +12,7 @@ use raw_region::Region;
 
 /// Returns whether an image looks like a PDB or PRC file.
 pub fn looks_like_file(image: &Region) -> bool
-    requires { image.now.lent ≡ None }
+    requires { image.now.lents ≡ [] }
     ensures { result ≡ words.looks_like_database image.now.bytes }
 {
     looks_like_database(image.as_slice())

@@ -1,25 +1,20 @@
 -- A loan of a store, while calls run.
-use Rattle.std.proofs.Common.{◌≡◌, Option, None, length, sym, ap, subst}
-use Rattle.heap_model.specs.Memory.{Memory, Lent}
-use Rattle.heap_model.specs.Lending.{IsLent}
+use Rattle.std.proofs.Common.{◌≡◌, length, sym, subst}
+use Rattle.heap_model.specs.Memory.{Memory}
 use Rattle.heap_model.specs.declared.names.Name.{Name}
-use Rattle.raw_region.specs.Parts.{PartOut, IsOut}
-use Rattle.raw_region.proofs.LoanLaws.{still_part}
-use Rattle.mem_manager.specs.Loans.{OnLoan}
+use Rattle.mem_manager.specs.Loans.{OnLoan, IsOutUnder}
 use Rattle.palm_store.specs.Loans.{TakesOut, PutsBack}
+use Rattle.palm_store.proofs.LoansBack.{still_out, all_back}
 use Rattle.palm_script.specs.Loans.{LoanStays}
 
--- the name of the loan is lent
-pub out_named : (old out : Memory) (name : Name) (loan : OnLoan) → TakesOut old out name loan → IsLent out loan.name.0
-out_named old out name loan takes = subst (λ (n : Name). IsLent out n.0) (sym takes.name_is) takes.is_lent.lent
+-- the loan's part is out under the loan's name
+pub out_named : (old out : Memory) (name : Name) (loan : OnLoan) → TakesOut old out name loan → IsOutUnder out loan.name.0 loan.part
+out_named old out name loan takes = subst (λ (n : Name). IsOutUnder out n.0 loan.part) (sym takes.name_is) takes.out
 
--- after the calls the part is out still, and the name is lent
-pub still_out : (old out done : Memory) (name : Name) (loan : OnLoan) (other : PartOut) → TakesOut old out name loan → LoanStays out done → other.start ≡ loan.part.start → length other.bytes ≡ length loan.part.bytes → IsOut done.lent other
-still_out old out done name loan other takes stays start long = subst (λ (lent : Option Lent). IsOut lent other) (sym stays.lent) (still_part out.lent loan.part other takes.out start long)
+-- it is out still after the calls
+pub out_after : (old out done : Memory) (name : Name) (loan other : OnLoan) → TakesOut old out name loan → LoanStays out done → other.name ≡ loan.name → other.part.start ≡ loan.part.start → length other.part.bytes ≡ length loan.part.bytes → IsOutUnder done other.name.0 other.part
+out_after old out done name loan other takes stays named start long = still_out old out done name loan other takes stays.lent stays.names named start long
 
-pub still_named : (old out done : Memory) (name : Name) (loan : OnLoan) → TakesOut old out name loan → LoanStays out done → IsLent done loan.name.0
-still_named old out done name loan takes stays = subst (λ (n : Name). IsLent done n.0) (sym takes.name_is) (stays.names name.0 (length loan.part.bytes) takes.is_lent).lent
-
--- nothing is lent once it is put back
-pub none_left : (done new : Memory) (loan : OnLoan) → PutsBack done new loan → new.lent ≡ None
-none_left done new loan back = ap (λ (m : Memory). m.lent) back.rest
+-- and once it is back, what is lent is what was lent before
+pub back_after : (old out done new : Memory) (name : Name) (loan other : OnLoan) → TakesOut old out name loan → LoanStays out done → other.name ≡ loan.name → PutsBack done new other → new.lents ≡ old.lents
+back_after old out done new name loan other takes stays named back = all_back old out done new name loan other takes stays.lent stays.names named back

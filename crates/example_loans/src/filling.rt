@@ -1,6 +1,6 @@
 //! Fills a chunk while calls run.
 
-ghost use Rattle.std.specs.Prelude.{◌≡◌, IfOk, IfErr, None};
+ghost use Rattle.std.specs.Prelude.{[], ◌≡◌, IfOk, IfErr};
 ghost use Rattle.example_loans.specs.Filling.{FillsMeanwhile, IsWhy};
 
 use heap_model::{Call, Name, Refusal, Reply};
@@ -44,7 +44,7 @@ pub(crate) fn fill_meanwhile(
     ensures filled { IfOk result (λ replies.
         FillsMeanwhile store.old name text.now calls.now replies.items store.new) }
     ensures not_filled { IfErr result (IsWhy store.old name text.now) }
-    ensures whole { store.old.lent ≡ None → store.new.lent ≡ None }
+    ensures whole { store.old.lents ≡ [] → store.new.lents ≡ [] }
 {
     let mut loan = match store.take_out(name) {
         Ok(loan) => loan,

@@ -4,7 +4,7 @@
 //! `fill_meanwhile` in `filling.rt` has a contract of its own: start there.
 #![tactic(auto)]
 
-ghost use Rattle.std.specs.Prelude.{◌≡◌, IfOk, None};
+ghost use Rattle.std.specs.Prelude.{[], ◌≡◌, IfOk};
 
 mod filling;
 
@@ -35,7 +35,7 @@ fn main(rt: HostRuntime) -> Result<()> {
 
 /// Makes a store with two chunks, and locks the first.
 fn two_chunks(alloc: Global) -> Result<(Store, Name, Name)>
-    ensures { IfOk result (λ made. made.0.lent ≡ None) }
+    ensures { IfOk result (λ made. made.0.lents ≡ []) }
 {
     let mut store = blank_store(alloc)?;
     let note = store.handle_new(SIZE, OWNER)?;
@@ -63,7 +63,7 @@ fn calls_on(note: Name, other: Name) -> [Call; 5] {
 }
 
 fn blank_store(alloc: Global) -> Result<Store>
-    ensures { IfOk result (λ made. made.lent ≡ None) }
+    ensures { IfOk result (λ made. made.lents ≡ []) }
 {
     match Store::check(alloc, blank(alloc, 4096, 64)?) {
         Ok(store) => Ok(store),

@@ -5,7 +5,7 @@
 //! `write_memo` in `memos.rt` has a contract of its own: start there.
 #![tactic(auto)]
 
-ghost use Rattle.std.specs.Prelude.{◌≡◌, IfOk, None};
+ghost use Rattle.std.specs.Prelude.{[], ◌≡◌, IfOk};
 
 mod memos;
 
@@ -42,7 +42,7 @@ fn main(rt: HostRuntime) -> Result<()> {
 }
 
 fn blank_store(alloc: Global) -> Result<Store>
-    ensures { IfOk result (λ made. made.lent ≡ None) }
+    ensures { IfOk result (λ made. made.lents ≡ []) }
 {
     match Store::check(alloc, blank(alloc, 4096, 64)?) {
         Ok(store) => Ok(store),
@@ -52,7 +52,7 @@ fn blank_store(alloc: Global) -> Result<Store>
 
 /// Adds a memo, and returns the reply to each call that writes its text.
 fn add_memo(alloc: Global, store: &mut Store, db: Db) -> Result<Vec<Reply>>
-    ensures { store.new.lent ≡ store.old.lent }
+    ensures { store.new.lents ≡ store.old.lents }
 {
     let (index, name) = new_record(store, db, END, TEXT.len() as u32 + 1)?;
     Ok(write_memo(alloc, store, Memo { db, index, name }, TEXT)?)

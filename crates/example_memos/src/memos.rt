@@ -1,6 +1,6 @@
 //! Databases of memos. Each record is a text that ends with a zero byte.
 
-ghost use Rattle.std.specs.Prelude.{◌≡◌, IfOk, OnErr};
+ghost use Rattle.std.specs.Prelude.{[], ◌≡◌, IfOk, OnErr};
 ghost use Rattle.heap_model.specs.Runs.{Run};
 ghost use Rattle.example_memos.specs.Memos.{writing};
 
@@ -32,7 +32,7 @@ pub(crate) fn write_memo(
     ensures run { IfOk result (λ replies.
         Run store.old (writing memo text.now) replies.items store.new) }
     ensures none_done { OnErr result (store.new ≡ store.old) }
-    ensures lent { store.new.lent ≡ store.old.lent }
+    ensures lent { store.new.lents ≡ store.old.lents }
 {
     let Ok(text) = copied(alloc, text) else {
         return Err(OutOfMemory);

@@ -9,7 +9,7 @@
 //!    place.
 #![tactic(auto, using(laws_heap::proofs::Lending::all_misses, laws_heap::proofs::Lending::all_within, laws_heap::proofs::LentBodies::none_lends))]
 
-ghost use Rattle.std.specs.Prelude.{◌≡◌, ◌≢◌, ◌⊎◌, ◌+◌, ◌*◌, ◌/◌, ◌%◌, ◌<◌, ◌≤◌, ◌^◌, ◌↔◌, ℕ, true, length, IsTrue, IfSome, IfNone, IfOk, IfErr, OnOk, None};
+ghost use Rattle.std.specs.Prelude.{[], ◌≡◌, ◌≢◌, ◌⊎◌, ◌+◌, ◌*◌, ◌/◌, ◌%◌, ◌<◌, ◌≤◌, ◌^◌, ◌↔◌, ℕ, true, length, IsTrue, IfSome, IfNone, IfOk, IfErr, OnOk, None};
 ghost use Rattle.heap_model.specs.Bytes.{u32_at};
 ghost use Rattle.heap_model.specs.Chunk.{SpelledAll};
 ghost use Rattle.heap_model.specs.Placed.{EveryOne, FirstOne};
@@ -63,7 +63,7 @@ pub(crate) struct Names {
 }
 
 impl Bodies {
-    ghost use Rattle.std.specs.Prelude.{None};
+    ghost use Rattle.std.specs.Prelude.{[], None};
     ghost use Rattle.heap_check.specs.Survey.{movable_by, fixed_by, free_by, noted};
     ghost use Rattle.heap_check.specs.Chained.{managers_by, may_be_by, ManagersBodyBy, AddsMarks};
 
@@ -135,7 +135,7 @@ fn take(set: &mut [u8], number: u32) -> bool
 /// Counts the chunks, and marks the bodies of the manager's fixed ones. The error is the offset of
 /// the first chunk that is not well-formed.
 fn find_bodies(region: &Region, marks: &mut [u8]) -> Result<Bodies, u32>
-    requires whole { region.now.lent ≡ None }
+    requires whole { region.now.lents ≡ [] }
     requires head { IsHead region.now.bytes }
     requires room { 524288 ≤ length marks.old }
     requires clear { HasNone marks.old }
@@ -162,7 +162,7 @@ fn find_bodies(region: &Region, marks: &mut [u8]) -> Result<Bodies, u32>
 /// Returns how many slots the table has whose body is at a place, if the body is marked and has a
 /// table's shape. Then it takes the mark away.
 fn take_table(region: &Region, place: u32, marks: &mut [u8]) -> Option<u32>
-    requires whole { region.now.lent ≡ None }
+    requires whole { region.now.lents ≡ [] }
     requires small { length region.now.bytes < 2 ^ 24 }
     requires spelled { SpelledAll region.now.bytes (model_start region.now.bytes)
         (chunks_of region.now.bytes) (length region.now.bytes) }
@@ -189,7 +189,7 @@ fn take_table(region: &Region, place: u32, marks: &mut [u8]) -> Option<u32>
 /// Walks along the chain, and takes the mark of each table away. The error is the number of tables
 /// before a word `next` that leads to no table, or to one again.
 fn follow(region: &Region, marks: &mut [u8], bodies: Bodies) -> Result<Chain, u32>
-    requires whole { region.now.lent ≡ None }
+    requires whole { region.now.lents ≡ [] }
     requires head { IsHead region.now.bytes }
     requires chained { is_chained region.now.bytes ≡ true }
     requires room { 524288 ≤ length marks.old }
@@ -241,7 +241,7 @@ fn take_unknown(at: u32, header: Header, marks: &mut [u8]) -> bool
 /// Returns the first fixed chunk that has owner 15, or owner 0 and a mark. No body is marked
 /// afterwards.
 fn find_stray(region: &Region, marks: &mut [u8], bodies: Bodies, chain: Chain) -> Option<u32>
-    requires whole { region.now.lent ≡ None }
+    requires whole { region.now.lents ≡ [] }
     requires tiles { Tiles region.now.bytes (chunks_of region.now.bytes) }
     requires room { 524288 ≤ length marks.old }
     requires found { FoundBodies region.now.bytes bodies }
@@ -280,7 +280,7 @@ fn mark_slot(region: &Region, slot: u32, marks: &mut [u8])
 
 /// Marks the slots of a row that are in use.
 fn mark_row(region: &Region, row: Row, marks: &mut [u8])
-    requires whole { region.now.lent ≡ None }
+    requires whole { region.now.lents ≡ [] }
     requires tiles { Tiles region.now.bytes (chunks_of region.now.bytes) }
     requires row { IsRow region.now.bytes row }
     requires room { 524288 ≤ length marks.old }
@@ -296,7 +296,7 @@ fn mark_row(region: &Region, row: Row, marks: &mut [u8])
 
 /// Marks all slots that are in use.
 fn mark_slots(region: &Region, marks: &mut [u8])
-    requires whole { region.now.lent ≡ None }
+    requires whole { region.now.lents ≡ [] }
     requires tiles { Tiles region.now.bytes (chunks_of region.now.bytes) }
     requires room { 524288 ≤ length marks.old }
     requires clear { HasNone marks.old }
@@ -314,7 +314,7 @@ fn mark_slots(region: &Region, marks: &mut [u8])
 /// Returns whether the slot at this offset is marked and holds this place. If so, it takes the mark
 /// away.
 fn take_slot(region: &Region, marks: &mut [u8], slot: u32, place: u32) -> bool
-    requires whole { region.now.lent ≡ None }
+    requires whole { region.now.lents ≡ [] }
     requires tiles { Tiles region.now.bytes (chunks_of region.now.bytes) }
     requires room { 524288 ≤ length marks.old }
     requires slots { (word : ℕ) → HasNumber marks.old word → IsSlot region.now.bytes (4 * word) }
@@ -336,7 +336,7 @@ fn take_slot(region: &Region, marks: &mut [u8], slot: u32, place: u32) -> bool
 /// If so, it takes the mark away.
 #[inline]
 fn take_named(region: &Region, at: u32, header: Header, marks: &mut [u8]) -> bool
-    requires whole { region.now.lent ≡ None }
+    requires whole { region.now.lents ≡ [] }
     requires tiles { Tiles region.now.bytes (chunks_of region.now.bytes) }
     requires small { at + 8 < 2 ^ 24 }
     requires room { 524288 ≤ length marks.old }
@@ -366,7 +366,7 @@ fn is_directory(found: bool, header: Header, word: u32) -> bool
 
 /// Takes the mark away from each slot that holds the place of a movable chunk that names it.
 fn match_names(region: &Region, marks: &mut [u8]) -> Names
-    requires whole { region.now.lent ≡ None }
+    requires whole { region.now.lents ≡ [] }
     requires tiles { Tiles region.now.bytes (chunks_of region.now.bytes) }
     requires room { 524288 ≤ length marks.old }
     requires marked { Marks marks.old (IsInUse region.now.bytes) }
@@ -394,7 +394,7 @@ fn match_names(region: &Region, marks: &mut [u8]) -> Names
 
 /// Returns the first slot of a row that is marked.
 fn first_marked(region: &Region, row: Row, marks: &[u8]) -> Option<u32>
-    requires whole { region.now.lent ≡ None }
+    requires whole { region.now.lents ≡ [] }
     requires tiles { Tiles region.now.bytes (chunks_of region.now.bytes) }
     requires row { IsRow region.now.bytes row }
     requires room { 524288 ≤ length marks.now }
@@ -416,7 +416,7 @@ fn first_marked(region: &Region, row: Row, marks: &[u8]) -> Option<u32>
 
 /// Returns the first slot that is marked.
 fn find_left(region: &Region, marks: &[u8]) -> Option<u32>
-    requires whole { region.now.lent ≡ None }
+    requires whole { region.now.lents ≡ [] }
     requires tiles { Tiles region.now.bytes (chunks_of region.now.bytes) }
     requires room { 524288 ≤ length marks.now }
     requires left { Marks marks.now (IsLeft region.now.bytes) }
@@ -448,7 +448,7 @@ fn no_marks() -> [u8; MARKS]
 /// without a chain would pay for the stack space of its marks.
 #[inline(never)]
 pub(crate) fn check_chained(region: &Region) -> Result<Summary, HeapFault>
-    requires whole { region.now.lent ≡ None }
+    requires whole { region.now.lents ≡ [] }
     requires head { IsHead region.now.bytes }
     requires chained { is_chained region.now.bytes ≡ true }
     ensures accepted { OnOk result (HeapAccepted region.now.bytes) }

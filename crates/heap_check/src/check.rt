@@ -1,7 +1,7 @@
 //! The check of a whole image.
 #![tactic(auto, using(laws_heap::proofs::Lending::all_misses, laws_heap::proofs::Lending::all_within, laws_heap::proofs::LentBodies::none_lends))]
 
-ghost use Rattle.std.specs.Prelude.{◌≡◌, ◌≤◌, true, false, length, map, IfOk, IfErr, OnOk, OnErr, None};
+ghost use Rattle.std.specs.Prelude.{[], ◌≡◌, ◌≤◌, true, false, length, map, IfOk, IfErr, OnOk, OnErr, None};
 ghost use Rattle.heap_model.specs.Slots.{is_chained as model_chained};
 ghost use Rattle.heap_model.specs.Heap.{IsHead, HeapAccepted};
 ghost use Rattle.heap_check.specs.Faults.{IsFirstFault};
@@ -28,7 +28,7 @@ use raw_region::Region;
 /// # Errors
 /// The first fault of the image, in the order of `faults`.
 pub fn check_heap(region: &Region) -> Result<Summary, HeapFault>
-    requires { region.now.lent ≡ None }
+    requires { region.now.lents ≡ [] }
     ensures accepted { OnOk result (HeapAccepted region.now.bytes) }
     ensures summary { IfOk result (Summarizes region.now.bytes) }
     ensures fault { IfErr result (IsFirstFault region.now.bytes) }
@@ -53,7 +53,7 @@ pub fn check_heap(region: &Region) -> Result<Summary, HeapFault>
 /// # Errors
 /// The first fault of the image, in the order of `faults`.
 pub fn check_heap_noting(region: &Region, owners: &mut [u8]) -> Result<Summary, HeapFault>
-    requires whole { region.now.lent ≡ None }
+    requires whole { region.now.lents ≡ [] }
     requires room { marks_needed region.now.bytes ≤ length owners.old }
     requires clear { NoneMarked owners.old }
     ensures accepted { OnOk result (HeapAccepted region.now.bytes) }
@@ -77,7 +77,7 @@ pub fn check_heap_noting(region: &Region, owners: &mut [u8]) -> Result<Summary, 
 
 /// Checks an image with a chain after its head was found right, and then notes owners.
 fn check_chained_noting(region: &Region, owners: &mut [u8]) -> Result<Summary, HeapFault>
-    requires whole { region.now.lent ≡ None }
+    requires whole { region.now.lents ≡ [] }
     requires head { IsHead region.now.bytes }
     requires chained { model_chained region.now.bytes ≡ true }
     requires room { marks_needed region.now.bytes ≤ length owners.old }
@@ -100,7 +100,7 @@ fn check_chained_noting(region: &Region, owners: &mut [u8]) -> Result<Summary, H
 /// next to the code for chains the walk has too few registers.
 #[inline(never)]
 fn check_with_marks(region: &Region) -> Result<Summary, HeapFault>
-    requires whole { region.now.lent ≡ None }
+    requires whole { region.now.lents ≡ [] }
     requires head { IsHead region.now.bytes }
     requires plain { model_chained region.now.bytes ≡ false }
     ensures accepted { OnOk result (HeapAccepted region.now.bytes) }
@@ -113,7 +113,7 @@ fn check_with_marks(region: &Region) -> Result<Summary, HeapFault>
 
 /// Checks the chunks and the slots after a right head, with a mark for the slot of each number.
 fn check_area<M: Mark>(region: &Region, marks: &mut [M]) -> Result<Summary, HeapFault>
-    requires whole { region.now.lent ≡ None }
+    requires whole { region.now.lents ≡ [] }
     requires head { IsHead region.now.bytes }
     requires plain { model_chained region.now.bytes ≡ false }
     requires room { most_slots ≤ length marks.old }

@@ -1,7 +1,7 @@
 //! The directory word.
 #![tactic(auto, using(laws_heap::proofs::Lending::all_misses, laws_heap::proofs::Lending::part_within))]
 
-ghost use Rattle.std.specs.Prelude.{◌≡◌, ◌<◌, ◌^◌, ◌↔◌, length, IsTrue, None};
+ghost use Rattle.std.specs.Prelude.{[], ◌≡◌, ◌<◌, ◌^◌, ◌↔◌, length, IsTrue, None};
 ghost use Rattle.heap_model.specs.Slots.{HasTable};
 ghost use Rattle.heap_model.specs.Heap.{HasDirectory};
 ghost use Rattle.heap_model.specs.Reading.{chunks_of};
@@ -15,7 +15,7 @@ use raw_region::Region;
 /// Returns whether the directory word is 0, or the offset of a slot whose chunk is the manager's.
 pub(crate) fn has_directory(region: &Region, table: OneTable) -> bool
     requires small { length region.now.bytes < 2 ^ 24 }
-    requires whole { region.now.lent ≡ None }
+    requires whole { region.now.lents ≡ [] }
     requires has_table { HasTable region.now }
     requires table { IsOneTable region.now.bytes table }
     requires paired { IsPaired region.now.bytes }
@@ -34,7 +34,7 @@ pub(crate) fn has_directory(region: &Region, table: OneTable) -> bool
 /// Returns whether a chunk has its body at this place, and is a movable one of the manager's.
 fn is_managers(region: &Region, place: u32) -> bool
     requires small { length region.now.bytes < 2 ^ 24 }
-    requires whole { region.now.lent ≡ None }
+    requires whole { region.now.lents ≡ [] }
     ensures { IsTrue result ↔ IsManagersBody region.now.bytes place }
 {
     if place < HEADER_SIZE {

@@ -1,7 +1,7 @@
 //! The faults of the bytes before the chunks, each tested by a function of its own.
 #![tactic(auto, using(laws_heap::proofs::Lending::part_within, laws_heap::proofs::Lending::all_within))]
 
-ghost use Rattle.std.specs.Prelude.{◌≡◌, ◌≤◌, ◌+◌, ◌↔◌, length, IsTrue, IfErr, OnOk, None};
+ghost use Rattle.std.specs.Prelude.{[], ◌≡◌, ◌≤◌, ◌+◌, ◌↔◌, length, IsTrue, IfErr, OnOk, None};
 ghost use Rattle.heap_model.specs.Memory.{IsWithin};
 ghost use Rattle.heap_model.specs.Frame.{HasFrame};
 ghost use Rattle.heap_model.specs.Slots.{area_start as model_start};
@@ -16,7 +16,7 @@ use chunk_format::{
 use raw_region::Region;
 
 fn is_too_short(region: &Region) -> bool
-    requires { region.now.lent ≡ None }
+    requires { region.now.lents ≡ [] }
     ensures { IsTrue result ↔ IsTooShort region.now.bytes }
 {
     let len = region.len();
@@ -62,7 +62,7 @@ fn has_bad_padding(region: &Region) -> bool
 
 /// Tests for the faults of the head, in their order.
 pub(crate) fn check_head(region: &Region) -> Result<(), HeapFault>
-    requires { region.now.lent ≡ None }
+    requires { region.now.lents ≡ [] }
     ensures right { OnOk result (IsHead region.now.bytes) }
     ensures fault { IfErr result (IsFirstFault region.now.bytes) }
 {

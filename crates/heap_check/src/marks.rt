@@ -2,7 +2,7 @@
 //! the chunk.
 #![tactic(auto, using(laws_heap::proofs::Lending::all_misses, laws_heap::proofs::Lending::all_within, laws_heap::proofs::LentBodies::none_lends))]
 
-ghost use Rattle.std.specs.Prelude.{◌≡◌, ◌≢◌, ◌≤◌, ◌↔◌, ℕ, Bool, true, false, List, IsTrue, IfSome, IfNone, None};
+ghost use Rattle.std.specs.Prelude.{[], ◌≡◌, ◌≢◌, ◌≤◌, ◌↔◌, ℕ, Bool, true, false, List, IsTrue, IfSome, IfNone, None};
 ghost use Rattle.heap_model.specs.Frame.{HasFrame};
 ghost use Rattle.heap_check.specs.Owners.{no_owner, noted_owner, met_owner, marked_word, marks_needed as model_needed};
 
@@ -19,7 +19,7 @@ pub const NO_OWNER: u8 = 16;
 /// Returns how many marks are enough for the slots of an image. With a chain it is a mark for each
 /// word. Without a chain it is `MOST_MARKS - 1`.
 pub fn marks_needed(region: &Region) -> usize
-    requires whole { region.now.lent ≡ None }
+    requires whole { region.now.lents ≡ [] }
     ensures enough { model_needed region.now.bytes ≤ result }
     ensures exact { HasFrame region.now → result ≡ model_needed region.now.bytes }
 {

@@ -1,7 +1,7 @@
 //! The owners of slots' chunks, noted after the heap is known to be accepted.
 #![tactic(auto, using(laws_heap::proofs::Lending::all_misses, laws_heap::proofs::Lending::all_within, laws_heap::proofs::LentBodies::none_lends))]
 
-ghost use Rattle.std.specs.Prelude.{◌≡◌, ◌<◌, ℕ, length, None};
+ghost use Rattle.std.specs.Prelude.{[], ◌≡◌, ◌<◌, ℕ, length, None};
 ghost use Rattle.heap_model.specs.Slots.{IsSlot};
 ghost use Rattle.heap_model.specs.Heap.{HeapAccepted};
 ghost use Rattle.heap_check.specs.Owners.{marked_word, NoneMarked, HasOwners, IsRoomFor, NotesOwner};
@@ -24,7 +24,7 @@ fn note_owner(header: Header, owners: &mut [u8])
 /// Marks each slot of an accepted heap with the owner of its chunk, in one walk over the chunks. It
 /// is for a caller that allocates the marks only after the heap is known to be accepted.
 pub fn note_owners(region: &Region, owners: &mut [u8])
-    requires whole { region.now.lent ≡ None }
+    requires whole { region.now.lents ≡ [] }
     requires accepted { HeapAccepted region.now.bytes }
     requires room { (number : ℕ) → IsSlot region.now.bytes (marked_word number)
         → number < length owners.old }

@@ -1,7 +1,7 @@
 //! The one walk over the chunks.
 #![tactic(auto, using(laws_heap::proofs::Lending::all_misses, laws_heap::proofs::Lending::all_within, laws_heap::proofs::Lending::part_within))]
 
-ghost use Rattle.std.specs.Prelude.{◌≡◌, ◌≢◌, ◌≤◌, ◌<◌, ◌+◌, ◌^◌, false, length, map, IfSome, IfNone, OnSome, IfOk, IfErr, OnOk, None};
+ghost use Rattle.std.specs.Prelude.{[], ◌≡◌, ◌≢◌, ◌≤◌, ◌<◌, ◌+◌, ◌^◌, false, length, map, IfSome, IfNone, OnSome, IfOk, IfErr, OnOk, None};
 ghost use Rattle.heap_model.specs.Bytes.{u32_at};
 ghost use Rattle.heap_model.specs.Slots.{HasTable, IsSlot, StandsBehind, slots_total, area_start as model_start};
 ghost use Rattle.heap_check.specs.Faults.{IsBadChunk};
@@ -172,7 +172,7 @@ pub(crate) fn survey_chunks<M: Mark>(
     marks: &mut [M],
 ) -> Result<Survey, u32>
     requires small { length region.now.bytes < 2 ^ 24 }
-    requires whole { region.now.lent ≡ None }
+    requires whole { region.now.lents ≡ [] }
     requires has_table { HasTable region.now }
     requires table { IsOneTable region.now.bytes table }
     requires inside { model_start region.now.bytes ≤ length region.now.bytes }

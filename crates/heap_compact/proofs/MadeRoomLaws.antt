@@ -7,8 +7,8 @@ use Rattle.heap_model.specs.Packing.{SlidesOneStretch}
 use Rattle.laws_heap.proofs.SameLayouts.{same_frame}
 use Rattle.laws_heap.proofs.SlidImages.{packs_one, one_packed_moved, unmoved_bytes}
 use Rattle.laws_heap.proofs.Fits.{stretch_not_short}
-use Rattle.heap_place.specs.declared.stretch.Stretch.{Stretch}
-use Rattle.heap_place.specs.Stretches.{HasRoom, PacksStretch, SlidesStretch}
+use Rattle.heap_compact.specs.declared.stretch.Stretch.{Stretch}
+use Rattle.heap_compact.specs.Stretches.{HasRoom, PacksStretch, SlidesStretch}
 
 -- nothing slides
 pub slides_nothing : (image : List ℕ) → HeapAccepted image → SlidesOneStretch image image

@@ -24,11 +24,11 @@ use Rattle.laws_heap.proofs.ChangedName.{held_updated}
 use Rattle.heap_place.proofs.FoundLaws.{name_held, found_inside, middle_of, heap_in_parts, one_held, when_movable}
 use Rattle.heap_place.proofs.WalkLaws.{free_within}
 use Rattle.heap_place.specs.declared.found.Found.{Found}
-use Rattle.heap_place.specs.declared.stretch.Stretch.{Stretch}
+use Rattle.heap_compact.specs.declared.stretch.Stretch.{Stretch}
 use Rattle.heap_place.specs.Found.{IsFound, IsOne}
 use Rattle.heap_place.specs.Relocation.{RelocatesFound, RelocatesToRun}
 use Rattle.heap_place.specs.Resizes.{TellsWhetherInPlace}
-use Rattle.heap_place.specs.Stretches.{IsAmong, HasRoomOf}
+use Rattle.heap_compact.specs.Stretches.{IsAmong, HasRoomOf}
 use Rattle.heap_compact.specs.Resized.{IsLoose, Resized, FitsInStretch}
 
 -- what was found is the chunk of its own name

@@ -1,21 +1,19 @@
 //! Makes room for a chunk. If no run of free chunks has it, one stretch is packed.
 
 ghost use Rattle.std.specs.Prelude.{◌≡◌, ◌≤◌, ◌<◌, ◌+◌, IfSome, IfNone};
-ghost use Rattle.heap_model.specs.Lending.{LendsABody};
-ghost use Rattle.heap_model.specs.Heap.{HeapAccepted};
 ghost use Rattle.heap_model.specs.Reading.{chunks_of};
 ghost use Rattle.heap_model.specs.Space.{NoRun, Short, moved_bytes};
 ghost use Rattle.heap_model.specs.Packing.{SlidesOneStretch};
 ghost use Rattle.heap_model.specs.Layout.{IsRoom, IsSpot};
+ghost use Rattle.heap_model.specs.Lending.{HoldsHeap};
 
-use heap_place::{Room, Space};
+use crate::space::Space;
+use heap_place::Room;
 
 /// Makes room for a chunk of `size` bytes, header included: neighbouring free chunks. If no run of
 /// free chunks has `size` bytes, it packs the first stretch whose room has them. Returns None if
 /// the room of every stretch is less; then nothing has changed.
 pub fn make_room(space: &mut Space, size: u32) -> Option<Room>
-    requires accepted { HeapAccepted space.old.bytes }
-    requires lent { LendsABody space.old }
     requires some_size { 0 < size }
     ensures room { IfSome result (λ room. IsSpot space.new.bytes room.at room.size) }
     ensures enough { IfSome result (λ room. size ≤ room.size) }
@@ -26,8 +24,9 @@ pub fn make_room(space: &mut Space, size: u32) -> Option<Room>
     ensures slides { SlidesOneStretch space.old.bytes space.new.bytes }
     ensures once { space.new.slid ≡ space.old.slid + moved_bytes space.old.bytes space.new.bytes }
     ensures rest { space.new ≡ record space.old { bytes = space.new.bytes; slid = space.new.slid } }
-    ensures lent { LendsABody space.new }
+    ensures heap { HoldsHeap space.new }
 {
+    space.holds();
     match space.find_room(size) {
         Some(room) => Some(room),
         None => room_by_packing(space, size),
@@ -37,8 +36,6 @@ pub fn make_room(space: &mut Space, size: u32) -> Option<Room>
 /// Packs the first stretch whose room has `size` bytes, and returns that room. Returns None if the
 /// room of every stretch is less.
 pub(crate) fn room_by_packing(space: &mut Space, size: u32) -> Option<Room>
-    requires accepted { HeapAccepted space.old.bytes }
-    requires lent { LendsABody space.old }
     requires some_size { 0 < size }
     ensures room { IfSome result (λ room. IsRoom space.new.bytes room.at room.size) }
     ensures enough { IfSome result (λ room. size ≤ room.size) }
@@ -48,8 +45,9 @@ pub(crate) fn room_by_packing(space: &mut Space, size: u32) -> Option<Room>
     ensures slides { SlidesOneStretch space.old.bytes space.new.bytes }
     ensures once { space.new.slid ≡ space.old.slid + moved_bytes space.old.bytes space.new.bytes }
     ensures rest { space.new ≡ record space.old { bytes = space.new.bytes; slid = space.new.slid } }
-    ensures lent { LendsABody space.new }
+    ensures heap { HoldsHeap space.new }
 {
+    space.holds();
     let stretch = space.stretch_with_room(size)?;
     let room = space.pack_stretch(stretch);
     Some(Room {

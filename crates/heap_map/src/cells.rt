@@ -1,7 +1,7 @@
 //! The cells of a picture: the first mark of the chunks in each cell, and the cell's free bytes.
 #![tactic(auto, using(laws_heap::proofs::Lending::all_within, laws_heap::proofs::Lending::all_misses))]
 
-ghost use Rattle.std.specs.Prelude.{◌≡◌, ◌≤◌, ◌<◌, ◌+◌, ◌*◌, ◌/◌, ◌^◌, ◌⊎◌, min, nat_lt, if◌then◌else◌, ℕ, length, slice_index, IfOk, OnErr, None};
+ghost use Rattle.std.specs.Prelude.{[], ◌≡◌, ◌≤◌, ◌<◌, ◌+◌, ◌*◌, ◌/◌, ◌^◌, ◌⊎◌, min, nat_lt, if◌then◌else◌, ℕ, length, slice_index, IfOk, OnErr};
 ghost use Rattle.heap_model.specs.Store.{Accepted};
 ghost use Rattle.store_check.specs.Naming.{HasRoom};
 ghost use Rattle.heap_map.specs.Cells.{in_cell, cell_size as model_size, cell_count as model_count, Covers, IsClear, ArePainted, AddsChunk};
@@ -109,7 +109,7 @@ impl Cells {
 
 /// Fills cells that are clear with the chunks of an accepted image.
 fn paint(region: &Region, table: &[u16], cells: &mut Cells)
-    requires whole { region.now.lent ≡ None }
+    requires whole { region.now.lents ≡ [] }
     requires accepted { Accepted region.now.bytes }
     requires numbers { HasNumbers (database_number region.now.bytes) table.now }
     requires room { HasRoom region.now.bytes (length table.now) }
@@ -143,7 +143,7 @@ pub(crate) fn cells_of<A: Allowance>(
     region: &Region,
     table: &[u16],
 ) -> Result<Cells, AllocError>
-    requires whole { region.now.lent ≡ None }
+    requires whole { region.now.lents ≡ [] }
     requires accepted { Accepted region.now.bytes }
     requires numbers { HasNumbers (database_number region.now.bytes) table.now }
     requires room { HasRoom region.now.bytes (length table.now) }
@@ -165,7 +165,7 @@ pub(crate) fn marks_of<A: Allowance>(
     region: &Region,
     cells: &Cells,
 ) -> Result<Vec<u8>, AllocError>
-    requires whole { region.now.lent ≡ None }
+    requires whole { region.now.lents ≡ [] }
     requires accepted { Accepted region.now.bytes }
     requires size { cells.now.size ≡ model_size region.now.bytes }
     requires count { length cells.now.marks.items ≡ model_count region.now.bytes }

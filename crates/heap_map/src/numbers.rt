@@ -1,7 +1,7 @@
 //! The number of the database that names a slot, for all slots.
 #![tactic(auto, using(laws_heap::proofs::Lending::all_within, laws_heap::proofs::Lending::all_misses))]
 
-ghost use Rattle.std.specs.Prelude.{◌≡◌, ◌<◌, ◌≤◌, [], ◌∷◌, length, IfOk, OnErr, None};
+ghost use Rattle.std.specs.Prelude.{◌≡◌, ◌<◌, ◌≤◌, [], ◌∷◌, length, IfOk, OnErr};
 ghost use Rattle.heap_model.specs.Database.{data_in, database_in};
 ghost use Rattle.heap_model.specs.Heap.{HeapAccepted};
 ghost use Rattle.heap_model.specs.Store.{Accepted};
@@ -43,7 +43,7 @@ fn note_database(header: &[u8], number: u16, table: &mut [u16])
 
 /// Gives each slot the number of the database that names it.
 fn note_databases(region: &Region, table: &mut [u16])
-    requires whole { region.now.lent ≡ None }
+    requires whole { region.now.lents ≡ [] }
     requires accepted { Accepted region.now.bytes }
     requires clear { HasNumbers (λ slot. 0) table.old }
     ensures { HasNumbers (database_number region.now.bytes) table.new }
@@ -59,7 +59,7 @@ fn note_databases(region: &Region, table: &mut [u16])
 /// Returns how many words of an image can be slots: those of an only table, and with a chain of
 /// tables all words.
 fn word_count(region: &Region) -> usize
-    requires whole { region.now.lent ≡ None }
+    requires whole { region.now.lents ≡ [] }
     requires accepted { HeapAccepted region.now.bytes }
     ensures { HasRoom region.now.bytes result }
 {
@@ -73,7 +73,7 @@ fn word_count(region: &Region) -> usize
 /// Returns the number of the database that names it, or 0, for each word of an image that can be a
 /// slot.
 pub fn database_numbers<A: Allowance>(memory: &A, region: &Region) -> Result<Vec<u16>, AllocError>
-    requires whole { region.now.lent ≡ None }
+    requires whole { region.now.lents ≡ [] }
     requires accepted { Accepted region.now.bytes }
     ensures numbers { IfOk result (λ table. HasNumbers (database_number region.now.bytes) table.items) }
     ensures room { IfOk result (λ table. HasRoom region.now.bytes (length table.items)) }

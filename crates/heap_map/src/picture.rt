@@ -1,7 +1,7 @@
 //! The picture of an image, on a writer.
 #![tactic(auto, using(laws_heap::proofs::Lending::all_within, laws_heap::proofs::Lending::all_misses))]
 
-ghost use Rattle.std.specs.Prelude.{◌≡◌, ◌≢◌, Err, IfOk, IfErr, OnOk, OnErr, is_ok, true, false, None};
+ghost use Rattle.std.specs.Prelude.{[], ◌≡◌, ◌≢◌, Err, IfOk, IfErr, OnOk, OnErr, is_ok, true, false};
 ghost use Rattle.heap_model.specs.Store.{Accepted};
 ghost use Rattle.heap_check.specs.Summary as heaps;
 ghost use Rattle.store_check.specs.Checks.{Summarizes};
@@ -54,7 +54,7 @@ fn map_fault(fault: StoreFault) -> MapFault
 /// - `BadImage`: the image is not accepted.
 /// - `OutOfMemory`: an allocation failed.
 pub fn check_image<A: Allowance>(memory: &A, region: &Region) -> Result<StoreSummary, MapFault>
-    requires whole { region.now.lent ≡ None }
+    requires whole { region.now.lents ≡ [] }
     ensures accepted { OnOk result (Accepted region.now.bytes) }
     ensures summary { IfOk result (Summarizes region.now.bytes) }
     ensures why { IfErr result (IsFaultOf region.now.bytes) }
@@ -76,7 +76,7 @@ struct Picture {
 
 /// Draws an accepted image.
 fn draw<A: Allowance>(memory: &A, region: &Region) -> Result<Picture, AllocError>
-    requires whole { region.now.lent ≡ None }
+    requires whole { region.now.lents ≡ [] }
     requires accepted { Accepted region.now.bytes }
     ensures picture { IfOk result (IsPicture region.now.bytes) }
     ensures short { OnErr result (A.is_short memory.now) }
@@ -91,7 +91,7 @@ fn draw<A: Allowance>(memory: &A, region: &Region) -> Result<Picture, AllocError
 
 /// Checks an image, and draws it if it is accepted.
 fn checked<A: Allowance>(memory: &A, region: &Region) -> Result<(Summary, Picture), MapFault>
-    requires whole { region.now.lent ≡ None }
+    requires whole { region.now.lents ≡ [] }
     ensures accepted { OnOk result (Accepted region.now.bytes) }
     ensures summary { IfOk result (λ both. heaps.Summarizes region.now.bytes both.0) }
     ensures picture { IfOk result (λ both. IsPicture region.now.bytes both.1) }
@@ -113,7 +113,7 @@ fn put_tail<W: Write>(
     region: &Region,
     summary: &Summary,
 ) -> Result<(), WriteFault>
-    requires whole { region.now.lent ≡ None }
+    requires whole { region.now.lents ≡ [] }
     requires accepted { Accepted region.now.bytes }
     requires summary { heaps.Summarizes region.now.bytes summary.now }
     ensures { Writes W.contents out.old out.new (tail_lines region.now.bytes) (is_ok result) }
@@ -131,7 +131,7 @@ fn put_body<W: Write>(
     summary: &Summary,
     picture: &Picture,
 ) -> Result<(), WriteFault>
-    requires whole { region.now.lent ≡ None }
+    requires whole { region.now.lents ≡ [] }
     requires accepted { Accepted region.now.bytes }
     requires summary { heaps.Summarizes region.now.bytes summary.now }
     requires picture { IsPicture region.now.bytes picture.now }
@@ -149,7 +149,7 @@ fn put_lines<W: Write>(
     summary: &Summary,
     picture: &Picture,
 ) -> Result<(), WriteFault>
-    requires whole { region.now.lent ≡ None }
+    requires whole { region.now.lents ≡ [] }
     requires accepted { Accepted region.now.bytes }
     requires summary { heaps.Summarizes region.now.bytes summary.now }
     requires picture { IsPicture region.now.bytes picture.now }
@@ -176,7 +176,7 @@ pub fn put_map<A: Allowance, W: Write>(
     region: &Region,
     out: &mut Counted<W>,
 ) -> Result<(), MapFault>
-    requires whole { region.now.lent ≡ None }
+    requires whole { region.now.lents ≡ [] }
     ensures accepted { OnOk result (Accepted region.now.bytes) }
     ensures done { OnOk result (Writes W.contents out.old out.new (map_text region.now.bytes) true) }
     ensures why { IfErr result (IsFaultOf region.now.bytes) }

@@ -1,7 +1,7 @@
 //! The free pieces of an image: each run of neighbouring free chunks is one.
 #![tactic(auto, using(laws_heap::proofs::Lending::all_within, laws_heap::proofs::Lending::all_misses))]
 
-ghost use Rattle.std.specs.Prelude.{◌≡◌, ◌≤◌, ◌<◌, ◌+◌, ◌^◌, length, None};
+ghost use Rattle.std.specs.Prelude.{[], ◌≡◌, ◌≤◌, ◌<◌, ◌+◌, ◌^◌, length, None};
 ghost use Rattle.heap_model.specs.Heap.{HeapAccepted};
 ghost use Rattle.heap_model.specs.Space.{greatest};
 ghost use Rattle.heap_map.specs.Text.{free_pieces};
@@ -59,7 +59,7 @@ impl Pieces {
 
 /// Returns the free pieces of an accepted heap.
 pub fn free_pieces(region: &Region) -> Pieces
-    requires whole { region.now.lent ≡ None }
+    requires whole { region.now.lents ≡ [] }
     requires accepted { HeapAccepted region.now.bytes }
     ensures count { result.count ≡ length (free_pieces region.now.bytes) }
     ensures largest { result.largest ≡ greatest (free_pieces region.now.bytes) }

@@ -1,7 +1,7 @@
 //! The headers of databases in a region.
 #![tactic(auto, using(laws_heap::proofs::Lending::all_within, laws_heap::proofs::Lending::all_misses))]
 
-ghost use Rattle.std.specs.Prelude.{◌≡◌, ◌<◌, None};
+ghost use Rattle.std.specs.Prelude.{[], ◌≡◌, ◌<◌};
 ghost use Rattle.heap_model.specs.Chunk.{managers_owner};
 ghost use Rattle.heap_model.specs.Heap.{HeapAccepted};
 ghost use Rattle.heap_model.specs.Store.{bytes_under, owner_under, directory_bytes, Accepted};
@@ -14,7 +14,7 @@ use raw_region::Region;
 
 /// Returns the bytes of a chunk of the manager's, by its slot.
 fn managers_bytes(region: &Region, slot: u32) -> &[u8]
-    requires whole { region.now.lent ≡ None }
+    requires whole { region.now.lents ≡ [] }
     requires accepted { HeapAccepted region.now.bytes }
     requires managers { owner_under region.now.bytes slot ≡ managers_owner }
     ensures { result.now ≡ bytes_under region.now.bytes slot }
@@ -26,7 +26,7 @@ fn managers_bytes(region: &Region, slot: u32) -> &[u8]
 
 /// Returns the bytes of the directory. There are none if the directory word is 0.
 pub fn directory_in(region: &Region) -> &[u8]
-    requires whole { region.now.lent ≡ None }
+    requires whole { region.now.lents ≡ [] }
     requires accepted { HeapAccepted region.now.bytes }
     ensures { result.now ≡ directory_bytes region.now.bytes }
 {
@@ -39,7 +39,7 @@ pub fn directory_in(region: &Region) -> &[u8]
 
 /// Returns the header and the entries of the database with an index.
 pub fn header_in<'a>(region: &'a Region, directory: &[u8], db: usize) -> &'a [u8]
-    requires whole { region.now.lent ≡ None }
+    requires whole { region.now.lents ≡ [] }
     requires accepted { Accepted region.now.bytes }
     requires directory { directory.now ≡ directory_bytes region.now.bytes }
     requires below { db < listed_count region.now.bytes }

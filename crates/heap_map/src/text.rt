@@ -1,6 +1,6 @@
 //! The lines of the picture, on a writer.
 
-ghost use Rattle.std.specs.Prelude.{◌≡◌, ◌≤◌, ◌<◌, ◌+◌, ◌*◌, ◌^◌, ℕ, length, replicate, is_ok, None};
+ghost use Rattle.std.specs.Prelude.{[], ◌≡◌, ◌≤◌, ◌<◌, ◌+◌, ◌*◌, ◌^◌, ℕ, length, replicate, is_ok};
 ghost use Rattle.heap_model.specs.Store.{Accepted};
 ghost use Rattle.palm_text.specs.Counted.{Writes};
 ghost use Rattle.db_format.specs.Headers.{IsWhole};
@@ -177,7 +177,7 @@ pub(crate) fn put_databases<W: Write>(
     out: &mut Counted<W>,
     region: &Region,
 ) -> Result<(), WriteFault>
-    requires whole { region.now.lent ≡ None }
+    requires whole { region.now.lents ≡ [] }
     requires accepted { Accepted region.now.bytes }
     ensures { Writes W.contents out.old out.new (database_lines region.now.bytes) (is_ok result) }
 {

@@ -1,7 +1,7 @@
 //! The chunks of an image, written further on in a new one.
 #![tactic(auto, using(laws_heap::proofs::Lending::all_within, laws_heap::proofs::Lending::all_misses))]
 
-ghost use Rattle.std.specs.Prelude.{◌≡◌, ◌≤◌, ◌<◌, ◌+◌, ◌^◌, None, length};
+ghost use Rattle.std.specs.Prelude.{[], ◌≡◌, ◌≤◌, ◌<◌, ◌+◌, ◌^◌, None, length};
 ghost use Rattle.heap_model.specs.Chunk.{HasChunk};
 ghost use Rattle.heap_model.specs.Heap.{HeapAccepted};
 ghost use Rattle.heap_model.specs.Slots.{area_start as model_start};
@@ -23,9 +23,9 @@ pub(crate) fn write_chunks(image: &Region, grown: &mut Region, by: u32)
     requires accepted { HeapAccepted image.now.bytes }
     requires few { by ≤ 8 }
     requires len { length grown.old.bytes ≡ length image.now.bytes + by }
-    requires whole { (image.now.lent ≡ None) × (grown.old.lent ≡ None) }
+    requires whole { (image.now.lents ≡ []) × (grown.old.lents ≡ []) }
     ensures wrote { WroteChunks image.now.bytes grown.old.bytes grown.new.bytes by }
-    ensures whole { grown.new.lent ≡ None }
+    ensures whole { grown.new.lents ≡ [] }
 {
     let start = area_start(image) as usize;
     grown.write(start + by as usize, image.slice(start, image.len() - start));
@@ -39,9 +39,9 @@ fn lower_offsets(image: &Region, grown: &mut Region, by: u32)
     requires len { length grown.old.bytes ≡ length image.now.bytes + by }
     requires copied { StandFurther image.now.bytes grown.old.bytes by
         (model_start image.now.bytes) (length image.now.bytes) }
-    requires whole { (image.now.lent ≡ None) × (grown.old.lent ≡ None) }
+    requires whole { (image.now.lents ≡ []) × (grown.old.lents ≡ []) }
     ensures wrote { WroteChunks image.now.bytes grown.old.bytes grown.new.bytes by }
-    ensures whole { grown.new.lent ≡ None }
+    ensures whole { grown.new.lents ≡ [] }
 {
     let end = image.len() as u32;
     let mut at = area_start(image);
@@ -58,9 +58,9 @@ fn lower_offset(image: &Region, grown: &mut Region, at: u32, by: u32) -> u32
     requires few { by ≤ 8 }
     requires len { length grown.old.bytes ≡ length image.now.bytes + by }
     requires copied { StandFurther image.now.bytes grown.old.bytes by at (length image.now.bytes) }
-    requires whole { (image.now.lent ≡ None) × (grown.old.lent ≡ None) }
+    requires whole { (image.now.lents ≡ []) × (grown.old.lents ≡ []) }
     ensures wrote { WroteChunk image.now.bytes grown.old.bytes grown.new.bytes by at result }
-    ensures whole { grown.new.lent ≡ None }
+    ensures whole { grown.new.lents ≡ [] }
 {
     let (header, size) = Header::at_with_size(image, at);
     if !is_movable(header) {

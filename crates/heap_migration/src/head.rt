@@ -1,7 +1,7 @@
 //! The bytes before the chunks: the frame, the slots and the word `next`.
 #![tactic(auto, using(laws_heap::proofs::Lending::all_within, laws_heap::proofs::Lending::all_misses))]
 
-ghost use Rattle.std.specs.Prelude.{◌≡◌, ◌≤◌, ◌<◌, ◌+◌, ◌^◌, None, length, replicate, false};
+ghost use Rattle.std.specs.Prelude.{[], ◌≡◌, ◌≤◌, ◌<◌, ◌+◌, ◌^◌, None, length, replicate, false};
 ghost use Rattle.heap_model.specs.Heap.{HeapAccepted};
 ghost use Rattle.heap_model.specs.Slots.{is_chained};
 ghost use Rattle.heap_migration.specs.Growth.{growth as model_growth};
@@ -25,9 +25,9 @@ pub(crate) fn write_head(image: &Region, grown: &mut Region, by: u32)
     requires one_table { is_chained image.now.bytes ≡ false }
     requires few { by ≤ 8 }
     requires zeros { grown.old.bytes ≡ replicate (length image.now.bytes + by) 0 }
-    requires whole { (image.now.lent ≡ None) × (grown.old.lent ≡ None) }
+    requires whole { (image.now.lents ≡ []) × (grown.old.lents ≡ []) }
     ensures wrote { HasHead image.now.bytes grown.new.bytes by }
-    ensures whole { grown.new.lent ≡ None }
+    ensures whole { grown.new.lents ≡ [] }
 {
     write_frame(image, grown);
     raise_slots(image, grown, by);
@@ -38,9 +38,9 @@ fn write_frame(image: &Region, grown: &mut Region)
     requires old_frame { 16 ≤ length image.now.bytes }
     requires new_frame { 16 ≤ length grown.old.bytes }
     requires small { length grown.old.bytes < 2 ^ 32 }
-    requires whole { (image.now.lent ≡ None) × (grown.old.lent ≡ None) }
+    requires whole { (image.now.lents ≡ []) × (grown.old.lents ≡ []) }
     ensures wrote { WroteFrame image.now.bytes grown.old.bytes grown.new.bytes }
-    ensures whole { grown.new.lent ≡ None }
+    ensures whole { grown.new.lents ≡ [] }
 {
     grown.write(0, image.slice(0, FRAME_SIZE as usize));
     grown.put_u32(MAGIC_AT, CHAINED_MAGIC);
@@ -53,9 +53,9 @@ fn raise_slots(image: &Region, grown: &mut Region, by: u32)
     requires one_table { is_chained image.now.bytes ≡ false }
     requires few { by ≤ 8 }
     requires len { length grown.old.bytes ≡ length image.now.bytes + by }
-    requires whole { (image.now.lent ≡ None) × (grown.old.lent ≡ None) }
+    requires whole { (image.now.lents ≡ []) × (grown.old.lents ≡ []) }
     ensures wrote { RaisedSlots image.now.bytes grown.old.bytes grown.new.bytes by }
-    ensures whole { grown.new.lent ≡ None }
+    ensures whole { grown.new.lents ≡ [] }
 {
     let end = head_end(image);
     let mut slot = FRAME_SIZE;

@@ -1,7 +1,7 @@
 //! The image that results from a migration.
 #![tactic(auto, using(laws_heap::proofs::Lending::all_within, laws_heap::proofs::Lending::all_misses))]
 
-ghost use Rattle.std.specs.Prelude.{◌≡◌, ◌<◌, ◌+◌, ◌≢◌, ◌↔◌, IfOk, IfErr, OnOk, Err, None, length, true, false};
+ghost use Rattle.std.specs.Prelude.{[], ◌≡◌, ◌<◌, ◌+◌, ◌≢◌, ◌↔◌, IfOk, IfErr, OnOk, OnErr, Err, None, length, true, false};
 ghost use Rattle.heap_model.specs.Frame.{most_size};
 ghost use Rattle.heap_model.specs.Heap.{HeapAccepted};
 ghost use Rattle.heap_model.specs.Slots.{is_chained as model_chained};
@@ -33,7 +33,7 @@ pub enum MigrateFault {
 }
 
 /// Turns an accepted image into one with a chain of tables. Returns an image that has a chain as it
-/// is.
+/// is: for such an image there is no error.
 ///
 /// # Errors
 /// Each error returns the region, unchanged.
@@ -44,11 +44,12 @@ pub fn migrate_from<A: Allowance>(
     region: Region,
 ) -> Result<Region, (MigrateFault, Region)>
     requires accepted { Accepted region.bytes }
-    requires whole { region.lent ≡ None }
+    requires whole { region.lents ≡ [] }
     ensures migrated { IfOk result (λ grown. IsMigrated region.bytes grown.bytes) }
     ensures accepted { IfOk result (λ grown. Accepted grown.bytes) }
-    ensures whole { IfOk result (λ grown. grown.lent ≡ None) }
+    ensures whole { IfOk result (λ grown. grown.lents ≡ []) }
     ensures chained { model_chained region.bytes ≡ true → IfOk result (λ grown. grown ≡ region) }
+    ensures unchained { OnErr result (model_chained region.bytes ≡ false) }
     ensures fits { OnOk result (IsTooLarge region.bytes → ⊥) }
     ensures too_large { IfErr result (λ error.
         (error.0 ≡ MigrateFault.TooLarge) ↔ IsTooLarge region.bytes) }
@@ -70,10 +71,10 @@ pub fn migrate_from<A: Allowance>(
 fn grown_from<A: Allowance>(memory: &A, image: &Region) -> Result<Region, MigrateFault>
     requires accepted { HeapAccepted image.now.bytes }
     requires one_table { model_chained image.now.bytes ≡ false }
-    requires whole { image.now.lent ≡ None }
+    requires whole { image.now.lents ≡ [] }
     ensures bytes { IfOk result (λ grown.
         MigratesBytes image.now.bytes grown.bytes (growth_of image.now.bytes)) }
-    ensures whole { IfOk result (λ grown. grown.lent ≡ None) }
+    ensures whole { IfOk result (λ grown. grown.lents ≡ []) }
     ensures too_large { (result ≡ Err MigrateFault.TooLarge)
         ↔ (most_size < length image.now.bytes + growth_of image.now.bytes) }
     ensures no_memory { result ≡ Err MigrateFault.OutOfMemory → A.is_short memory.now }

@@ -6,8 +6,9 @@ use Rattle.heap_model.specs.Placed.{EveryPlaced, AnyPlaced}
 use Rattle.heap_model.specs.Frame.{magic, chained_magic, magic_at, size_at, reserved_at, directory_at, least_size, most_size}
 use Rattle.heap_model.specs.Slots.{Table, IsSlot, slot_size, slot_count, head_end, area_start, first_next, further_tables}
 
--- The bytes before the chunks are right: the magic, the size of the whole image, the slot count,
--- two zero bytes, and zeros after the table. There is room for at least one chunk.
+-- The bytes before the chunks are right: the magic of one of the two layouts, the size of the whole
+-- image, a slot count above 0, two zero bytes, and zeros where the first table needs padding. There
+-- is room for at least one chunk. `IsChain` says what the word `next` after the table is.
 pub record IsHead (image : List ℕ) : Type 0 where
   pub magic_is : (u32_at image magic_at ≡ magic) ⊎ (u32_at image magic_at ≡ chained_magic)
   pub size_is : u32_at image size_at ≡ length image

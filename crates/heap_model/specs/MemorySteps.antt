@@ -317,9 +317,9 @@ Frames call reply old new = SameFrame old new
 
 -- From an accepted heap the call does its step to an accepted heap. The new heap has the same size,
 -- the same tables and the same directory; only `MoreSlots` adds a table. No locked chunk has moved,
--- and a name that is lent stays lent. All this is true of a refused call too. Of the region's value
--- only the bytes may change, and the count of slid bytes if the call may slide chunks. A call that
--- only asks changes nothing.
+-- and each lent body stays lent at its place. All this is true of a refused call too. Of the
+-- region's value only the bytes may change, and the count of slid bytes if the call may slide
+-- chunks. A call that only asks changes nothing.
 pub record Does (old : Memory) (call : MemoryCall) (reply : Reply) (new : Memory) : Type 0 where
   pub before : HeapAccepted old.bytes
   pub step : MemoryStep old call reply new

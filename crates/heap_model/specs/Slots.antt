@@ -113,11 +113,11 @@ pub record TablesLie (image : List ℕ) : Type 0 where
   pub first : head_end image ≤ length image
   pub slots : EveryOne (λ slot. slot + slot_size ≤ length image) (slots_of image)
 
--- the tables lie within a memory, and its lent part overlaps neither the first table nor a slot
+-- the tables lie within a memory, and its lent parts overlap neither the first table nor a slot
 pub record HasTable (memory : Memory) : Type 0 where
   pub lie : TablesLie memory.bytes
-  pub first_misses : Misses memory.lent 0 (head_end memory.bytes)
-  pub slots_miss : EveryOne (λ slot. Misses memory.lent slot slot_size) (slots_of memory.bytes)
+  pub first_misses : Misses memory.lents 0 (head_end memory.bytes)
+  pub slots_miss : EveryOne (λ slot. Misses memory.lents slot slot_size) (slots_of memory.bytes)
 
 -- how many slots an image has
 abbrev pub slots_total : List ℕ → ℕ

@@ -114,10 +114,10 @@ LeavesTables call reply before after = after ≡ before
 
 -- From an accepted image the call does its step to an accepted image. The new image has the same
 -- size and the same tables, so the same slots; only `MoreSlots` adds a table. No locked chunk has
--- moved, and a name that is lent stays lent. All this is true of a refused call too. The directory
--- is the same chunk, unless there was none and a database was made. Of the region's value only the
--- bytes may change, and the count of slid bytes if the call may slide bytes. A call that only asks
--- changes nothing.
+-- moved, and each lent body stays lent at its place. All this is true of a refused call too. The
+-- directory is the same chunk, unless there was none and a database was made. Of the region's value
+-- only the bytes may change, and the count of slid bytes if the call may slide bytes. A call that
+-- only asks changes nothing.
 pub record DoesInStore (old : Memory) (call : Call) (reply : Reply) (new : Memory) : Type 0 where
   pub before : Accepted old.bytes
   pub step : StoreStep old call reply new

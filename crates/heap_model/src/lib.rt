@@ -30,7 +30,7 @@
 //! | `Counts` | an image and its databases, by how often each name is listed and named |
 //! | `Rooms` | the rooms that are left for a call of several parts |
 //! | `Leaving` | the state after a call that is no step for callers, and a chunk that spells a database |
-//! | `Lending` | the lent part of a heap: the body of a chunk that stays |
+//! | `Lending` | the lent parts of a heap: bodies of chunks that stay |
 //! | `MoreTables` | a further table that is made |
 //! | `Migration` | the change of an image from one layout to the other |
 //! | `Numbers` | the numbers and the names of refusals |
@@ -49,8 +49,8 @@
 //!
 //! Offsets count bytes from the image's start, and numbers are big-endian. The fields of a chunk's
 //! header are those of the Palm OS Programmer's Companion ("Memory Architecture"), and those of a
-//! database of the File Format Specification; the image around the chunks, profile PHI1, is this
-//! project's own (docs/FORMAT.md).
+//! database of the File Format Specification. The image around the chunks, in the profiles PHI1 and
+//! PHI2, is this project's own (docs/FORMAT.md).
 #![tactic(auto)]
 
 mod bytes;

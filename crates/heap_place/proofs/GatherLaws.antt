@@ -11,7 +11,7 @@ use Rattle.laws_heap.proofs.Resizings.{front_parts}
 use Rattle.chunk_format.specs.declared.header.Header.{Header}
 use Rattle.chunk_format.specs.Header.{HasHeader, size_by}
 use Rattle.chunk_format.proofs.HeaderLaws.{size_by-header_of}
-use Rattle.heap_place.specs.Lists.{class_count, AreLists, HasLists, Any, ButAt, Outside, KeepsFree, IsFreeChunk, Pushes}
+use Rattle.heap_place.specs.Lists.{AreLists, HasLists, Any, ButAt, Outside, KeepsFree, IsFreeChunk, Pushes}
 use Rattle.heap_place.specs.Resizes.{IsBound, BeginsWithFree}
 use Rattle.heap_place.specs.Gathers.{Before, Gathering}
 use Rattle.heap_place.proofs.FoundLaws.{heap_in_parts}
@@ -77,9 +77,9 @@ header_bound image at header h b found = by_after b.after b.ends.chunks where
 
 -- ---- one step
 
-pub gathered_lists : (old mid new heads after : List ℕ) (at size : ℕ) → 8 ≤ size → length heads ≡ class_count → AreLists (Before at) old heads → KeepsFree (Outside at size) old mid → Pushes mid new heads after at → AreLists (Before (at + size)) new after
-gathered_lists old mid new heads after at size least len a keeps p =
-    push_lists (Before at) (Before (at + size)) mid new heads after at (lists_kept (Before at) old mid heads (λ x before b. keeps x (inl before) b) a) (λ x b before. (omega arith, λ e. omega arith)) (omega arith) len p
+pub gathered_lists : (old mid new heads after : List ℕ) (at size : ℕ) → 8 ≤ size → AreLists (Before at) old heads → KeepsFree (Outside at size) old mid → Pushes mid new heads after at → AreLists (Before (at + size)) new after
+gathered_lists old mid new heads after at size least a keeps p =
+    push_lists (Before at) (Before (at + size)) mid new heads after at (lists_kept (Before at) old mid heads (λ x before b. keeps x (inl before) b) a) (λ x b before. (omega arith, λ e. omega arith)) (omega arith) p
 
 pub passed_lists : (image heads : List ℕ) (at more : ℕ) → AreLists (Before at) image heads → AreLists (Before (at + more)) image heads
 passed_lists image heads at more a = lists_weaker (Before at) (Before (at + more)) image heads (λ x b before. omega arith) a
@@ -89,12 +89,12 @@ pub kept_lists : (old new heads : List ℕ) (at to : ℕ) → at ≤ to → Keep
 kept_lists old new heads at to more keeps a = lists_weaker (Before at) (Before to) new heads (λ x b before. omega arith) (lists_kept (Before at) old new heads keeps a)
 
 -- a chunk that ends there is put into its list
-pub pushed_lists : (old new heads after : List ℕ) (end room : ℕ) → 8 ≤ room → room ≤ end → length heads ≡ class_count → AreLists (Before (end - room)) old heads → Pushes old new heads after (end - room) → AreLists (Before end) new after
-pushed_lists old new heads after end room least within len a p = push_lists (Before (end - room)) (Before end) old new heads after (end - room) a (λ x b before. (omega arith, λ e. omega arith)) (omega arith) len p
+pub pushed_lists : (old new heads after : List ℕ) (end room : ℕ) → 8 ≤ room → room ≤ end → AreLists (Before (end - room)) old heads → Pushes old new heads after (end - room) → AreLists (Before end) new after
+pushed_lists old new heads after end room least within a p = push_lists (Before (end - room)) (Before end) old new heads after (end - room) a (λ x b before. (omega arith, λ e. omega arith)) (omega arith) p
 
 -- the only one
-pub alone_lists : (old new heads after : List ℕ) (at : ℕ) → length heads ≡ class_count → AreLists (ButAt at) old heads → Pushes old new heads after at → HasLists new after
-alone_lists old new heads after at len a p = push_lists (ButAt at) Any old new heads after at a (λ x b apart. (tt, apart)) tt len p
+pub alone_lists : (old new heads after : List ℕ) (at : ℕ) → AreLists (ButAt at) old heads → Pushes old new heads after at → HasLists new after
+alone_lists old new heads after at a p = push_lists (ButAt at) Any old new heads after at a (λ x b apart. (tt, apart)) tt p
 
 -- ---- the walk
 

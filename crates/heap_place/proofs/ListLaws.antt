@@ -1,10 +1,10 @@
 -- Chains of free chunks: their length is determined, they visit no chunk twice, and what keeps
 -- them.
-use Rattle.std.proofs.Common.{◌≡◌, ◌≢◌, ℕ, zero, suc, ◌+◌, ◌^◌, ◌<◌, ◌≤◌, List, length, replicate, get_or, refl, sym, ap, subst, arith, inl, inr}
+use Rattle.std.proofs.Common.{◌≡◌, ◌≢◌, ℕ, zero, suc, ◌+◌, ◌^◌, ◌<◌, ◌≤◌, List, length, replicate, get_or, refl, sym, ap, subst, ◌∙◌, arith, inl, inr}
 use Rattle.std.specs.Prelude.{◌⊎◌, slice_index}
 use Rattle.std.proofs.Math.ListN.{set}
 use Rattle.std.proofs.Math.Nat.{pow-le-pow_right}
-use Rattle.std.proofs.lemmas.List.{get_or-set_same, get_or-set_other, get_or-replicate}
+use Rattle.std.proofs.lemmas.List.{get_or-set_same, get_or-set_other, get_or-replicate, length-set}
 use Rattle.heap_model.specs.Bytes.{u32_at}
 use Rattle.heap_model.specs.Reading.{size_field}
 use Rattle.heap_model.specs.Layout.{BeginsFree}
@@ -72,10 +72,11 @@ pub list_kept : (P : ℕ → Type 0) (old new : List ℕ) (class head : ℕ) →
 list_kept P old new class head keeps l = record { count = l.count; chain = chain_kept P old new class l.count head keeps l.chain l.each; each = each_kept P old new class l.count head keeps l.chain l.each }
 
 pub lists_kept : (P : ℕ → Type 0) (old new heads : List ℕ) → KeepsFree P old new → AreLists P old heads → AreLists P new heads
-lists_kept P old new heads keeps a = record { lists = λ class below. list_kept P old new class (slice_index heads class) keeps (a.lists class below) }
+lists_kept P old new heads keeps a = record { count = a.count; lists = λ class below. list_kept P old new class (slice_index heads class) keeps (a.lists class below) }
 
 pub lists_weaker : (P Q : ℕ → Type 0) (image heads : List ℕ) → ((x : ℕ) → BeginsFree image x → P x → Q x) → AreLists P image heads → AreLists Q image heads
 lists_weaker P Q image heads each a = record {
+  count = a.count;
   lists = λ class below.
       let l = a.lists class below in
       record { count = l.count; chain = l.chain; each = weaker P Q image class l.count (slice_index heads class) (λ x f. each x f.begins) l.chain l.each };
@@ -85,11 +86,11 @@ pub lists_any : (P : ℕ → Type 0) (image heads : List ℕ) → AreLists P ima
 lists_any P image heads a = lists_weaker P Any image heads (λ x b p. tt) a
 
 -- the empty lists
-pub no_lists : (P : ℕ → Type 0) (image heads : List ℕ) → ((class : ℕ) → class < class_count → slice_index heads class ≡ 0) → AreLists P image heads
-no_lists P image heads none = record { lists = λ class below. record { count = 0; chain = none class below; each = tt } }
+pub no_lists : (P : ℕ → Type 0) (image heads : List ℕ) → length heads ≡ class_count → ((class : ℕ) → class < class_count → slice_index heads class ≡ 0) → AreLists P image heads
+no_lists P image heads len none = record { count = len; lists = λ class below. record { count = 0; chain = none class below; each = tt } }
 
 pub new_lists : (P : ℕ → Type 0) (image : List ℕ) → AreLists P image (replicate class_count 0)
-new_lists P image = no_lists P image (replicate class_count 0) (λ class below. get_or-replicate class_count class 0 0 below)
+new_lists P image = no_lists P image (replicate class_count 0) refl (λ class below. get_or-replicate class_count class 0 0 below)
 
 -- the head of a list, and the others
 pub record IsHead (image heads : List ℕ) (class at : ℕ) : Type 0 where
@@ -104,11 +105,12 @@ head_free image heads class a below some = by_count (a.lists class below).count 
   by_count (suc n) c = record { free = c.0; count = n; rest = c.1 }
 
 -- without its head a list is one of the others
-pub popped : (image heads : List ℕ) (class at : ℕ) → HasLists image heads → class < class_count → length heads ≡ class_count → at ≡ slice_index heads class → 0 < at → AreLists (ButAt at) image (set heads class (second_of image at))
-popped image heads class at a below len is some = record {
+pub popped : (image heads : List ℕ) (class at : ℕ) → HasLists image heads → class < class_count → at ≡ slice_index heads class → 0 < at → AreLists (ButAt at) image (set heads class (second_of image at))
+popped image heads class at a below is some = record {
+  count = length-set heads class (second_of image at) ∙ a.count;
   lists = λ k low. elim (same_or k class) [
     | inl same ↦ subst (λ (j : ℕ). IsList (ButAt at) image j (get_or (set heads class (second_of image at)) j 0)) (sym same)
-        (subst (λ (x : ℕ). IsList (ButAt at) image class x) (sym (get_or-set_same heads class (second_of image at) 0 (omega arith))) rest)
+        (subst (λ (x : ℕ). IsList (ButAt at) image class x) (sym (get_or-set_same heads class (second_of image at) 0 (let n = a.count in omega arith))) rest)
     | inr apart ↦ subst (λ (x : ℕ). IsList (ButAt at) image k x) (sym (get_or-set_other heads class k (second_of image at) 0 apart)) (other k low apart)
   ];
 } where
@@ -132,11 +134,12 @@ popped image heads class at a below len is some = record {
       }
 
 -- a free chunk that is in none of the lists in front of one
-pub pushed : (P : ℕ → Type 0) (image heads : List ℕ) (class at : ℕ) → AreLists P image heads → class < class_count → length heads ≡ class_count → IsFreeOf image class at → P at → second_of image at ≡ slice_index heads class → AreLists P image (set heads class at)
-pushed P image heads class at a below len free holds next = record {
+pub pushed : (P : ℕ → Type 0) (image heads : List ℕ) (class at : ℕ) → AreLists P image heads → class < class_count → IsFreeOf image class at → P at → second_of image at ≡ slice_index heads class → AreLists P image (set heads class at)
+pushed P image heads class at a below free holds next = record {
+  count = length-set heads class at ∙ a.count;
   lists = λ k low. elim (same_or k class) [
     | inl same ↦ subst (λ (j : ℕ). IsList P image j (get_or (set heads class at) j 0)) (sym same)
-        (subst (λ (x : ℕ). IsList P image class x) (sym (get_or-set_same heads class at 0 (omega arith))) longer)
+        (subst (λ (x : ℕ). IsList P image class x) (sym (get_or-set_same heads class at 0 (let n = a.count in omega arith))) longer)
     | inr apart ↦ subst (λ (x : ℕ). IsList P image k x) (sym (get_or-set_other heads class k at 0 apart)) (a.lists k low)
   ];
 } where
@@ -149,9 +152,9 @@ pushed P image heads class at a below len free holds next = record {
       record { count = suc l.count; chain = (free, subst (λ (x : ℕ). Chain image class l.count x) (sym next) l.chain); each = (holds, subst (λ (x : ℕ). OnChain P image l.count x) (sym next) l.each) }
 
 -- so after the push
-pub push_lists : (P Q : ℕ → Type 0) (old new heads after : List ℕ) (at : ℕ) → AreLists P old heads → ((x : ℕ) → BeginsFree old x → P x → Q x × (x ≢ at)) → Q at → length heads ≡ class_count → Pushes old new heads after at → AreLists Q new after
-push_lists P Q old new heads after at a each here len p =
+pub push_lists : (P Q : ℕ → Type 0) (old new heads after : List ℕ) (at : ℕ) → AreLists P old heads → ((x : ℕ) → BeginsFree old x → P x → Q x × (x ≢ at)) → Q at → Pushes old new heads after at → AreLists Q new after
+push_lists P Q old new heads after at a each here p =
     let both : AreLists (λ x. Q x × (x ≢ at)) old heads = lists_weaker P (λ x. Q x × (x ≢ at)) old heads each a in
     let kept : AreLists (λ x. Q x × (x ≢ at)) new heads = lists_kept (λ x. Q x × (x ≢ at)) old new heads (λ x q b. p.links.keeps x q.1 b) both in
     let q : AreLists Q new heads = lists_weaker (λ x. Q x × (x ≢ at)) Q new heads (λ x b q. q.0) kept in
-    subst (λ (hs : List ℕ). AreLists Q new hs) (sym p.is_head) (pushed Q new heads p.class at q p.below len p.free here p.links.second)
+    subst (λ (hs : List ℕ). AreLists Q new hs) (sym p.is_head) (pushed Q new heads p.class at q p.below p.free here p.links.second)

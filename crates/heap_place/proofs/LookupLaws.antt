@@ -1,11 +1,11 @@
 -- Live chunks by their names and by their places.
-use Rattle.std.proofs.Common.{◌≡◌, ◌≢◌, ℕ, ◌+◌, ◌-◌, ◌<◌, ◌≤◌, List, ◌∷◌, ◌++◌, length, Option, Some, None, MatchOption, refl, sym, ap, subst, ◌∙◌, arith, inl, inr}
+use Rattle.std.proofs.Common.{◌≡◌, ◌≢◌, ℕ, ◌+◌, ◌-◌, ◌<◌, ◌≤◌, List, [], ◌∷◌, ◌++◌, length, Option, Some, None, MatchOption, refl, sym, ap, subst, ◌∙◌, arith, inl, inr}
 use Rattle.std.proofs.lemmas.Bool.Decides.{Decides-and, Decides-eqb, Decides-ltb}
 use Rattle.std.specs.Bool.{Decides}
 use Rattle.std.specs.Prelude.{◌==◌, ◌&&◌, nat_lt, IsSome, IfNone}
 use Rattle.std.specs.Option.{option_map}
 use Rattle.heap_model.specs.Bytes.{u32_at}
-use Rattle.heap_model.specs.Chunk.{Chunk, free, movable, fixed, fixed_lock, total, IsLive, HasChunk}
+use Rattle.heap_model.specs.Chunk.{Chunk, free, movable, fixed, fixed_lock, size_of, total, IsLive, HasChunk}
 use Rattle.heap_model.specs.Slots.{area_start}
 use Rattle.heap_model.specs.Heap.{BodyHere, IsHeap, HeapAccepted}
 use Rattle.heap_model.specs.Placed.{EveryPlaced, AnyPlaced}
@@ -28,7 +28,7 @@ use Rattle.chunk_format.specs.declared.header.Header.TheVariants as headers
 use Rattle.chunk_format.specs.declared.header.LiveFields.{LiveFields}
 use Rattle.chunk_format.specs.Header.{header_of, size_by, HasHeader, HasLive}
 use Rattle.heap_place.specs.declared.found.Found.{Found}
-use Rattle.heap_place.specs.Found.{IsFound, IsOne, IsFixed, NothingAt, NoneFixedAs, NoSlotHolds, movable_by, fixed_by}
+use Rattle.heap_place.specs.Found.{IsFound, IsOne, IsFixed, NothingAt, NoneFixedAs, NoneBeginsAt, NoSlotHolds, movable_by, fixed_by}
 use Rattle.heap_place.specs.Search.{Passed}
 use Rattle.heap_place.proofs.WalkLaws.{passed_at, passed_more, passed_parts}
 
@@ -109,6 +109,21 @@ pub fixed_passed : (image : List ℕ) (at : ℕ) (name : Name) (header : Header)
 fixed_passed image at name header p has f = passed_more image (NoneFixedAs image name.0) (NoneFixedAs image name.0) at header p has
     (EveryPlaced-push (NotFixedAs name.0) (area_start image) p.front has.chunk at (passed_at image (NoneFixedAs image name.0) at p) p.holds
     (not_fixed at name has.chunk (subst (λ (h : Header). fixed_by h (placed (at + 8)) name ≡ None) has.header_is f)))
+
+-- one that doesn't begin at an offset is passed
+pub begins_passed : (image : List ℕ) (at there : ℕ) (header : Header) → Passed image (NoneBeginsAt image there) at → HasHeader image at header → at ≢ there → Passed image (NoneBeginsAt image there) (at + size_by header)
+begins_passed image at there header p has other = passed_more image (NoneBeginsAt image there) (NoneBeginsAt image there) at header p has
+    (EveryPlaced-push (λ k c. k ≢ there) (area_start image) p.front has.chunk at (passed_at image (NoneBeginsAt image there) at p) p.holds other)
+
+none_at : (there start : ℕ) (before : List Chunk) (c : Chunk) (after : List Chunk) → EveryPlaced (λ k d. k ≢ there) start (before ++ c ∷ after) → start + total before ≢ there
+none_at there start [] c after e = λ same. e.0 ((let z : start ≡ start + total [] = omega arith in z) ∙ same)
+none_at there start (b ∷ bs) c after e = λ same. none_at there (start + size_of b) bs c after e.1 ((let z : start + size_of b + total bs ≡ start + total (b ∷ bs) = omega arith in z) ∙ same)
+
+-- where no chunk begins no slot's chunk does
+pub none_begins_holds : (image : List ℕ) (place : ℕ) → HeapAccepted image → NoneBeginsAt image (place - 8) (chunks_of image) → NoSlotHolds image place
+none_begins_holds image place h none = λ name holds.
+    let i = in_slot image name place h holds.is_slot holds.held holds.some in
+    none_at (place - 8) (area_start image) i.finds.before (movable i.live.bytes i.live.lock i.live.owner i.named) i.finds.after (subst (λ (cs : List Chunk). EveryPlaced (λ k d. k ≢ place - 8) (area_start image) cs) i.finds.chunks none) (sym i.finds.there)
 
 -- ---- the chunk of a name that stands for one and isn't in a slot
 

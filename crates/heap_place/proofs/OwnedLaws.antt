@@ -2,9 +2,10 @@
 use Rattle.std.proofs.Common.{◌≡◌, ◌≢◌, ℕ, ◌+◌, ◌-◌, ◌<◌, ◌≤◌, Bool, true, false, cond, List, [], ◌∷◌, ◌++◌, length, Option, Some, None, refl, sym, ap, subst, ◌∙◌, append_assoc, arith, inl, inr}
 use Rattle.std.proofs.lemmas.Bool.{cases_eq, eqb-true, eq-eqb}
 use Rattle.std.proofs.lemmas.List.Sums.{sum_by-append, sum_by-cons}
-use Rattle.std.specs.Prelude.{◌==◌}
+use Rattle.std.specs.Prelude.{◌==◌, IsTrue}
 use Rattle.heap_model.specs.Chunk.{Chunk, free, movable, fixed, fixed_lock, size_of, total, is_owned_by, Spelled, SpelledAll}
-use Rattle.heap_model.specs.Memory.{Memory}
+use Rattle.heap_model.specs.Memory.{Memory, Lent, EachLent}
+use Rattle.raw_region.specs.Marks.{BeginsAt}
 use Rattle.heap_model.specs.Lending.{LendsOther, LendsNoneOf}
 use Rattle.heap_model.specs.Slots.{area_start}
 use Rattle.heap_model.specs.Heap.{directory_of, HeapAccepted}
@@ -17,7 +18,7 @@ use Rattle.heap_model.specs.Layout.{merged, layout_of, Becomes, Alters, FreeUpTo
 use Rattle.laws_heap.proofs.Tests.{cond-true, cond-false, true_or_false}
 use Rattle.laws_heap.proofs.Chunks.{total-append, SpelledAll-split, SpelledAll-end}
 use Rattle.laws_heap.proofs.Plain.{plain_same, plain_then}
-use Rattle.laws_heap.proofs.Placed.{TakesBytes, SpelledAll-takes, AnyPlaced-left, AnyPlaced-split, EveryPlaced-split}
+use Rattle.laws_heap.proofs.Placed.{TakesBytes, SpelledAll-takes, AnyPlaced-left, AnyPlaced-split, EveryPlaced-split, EveryPlaced-push}
 use Rattle.laws_heap.proofs.FixedNames.{fixed_live, fixed_has_name}
 use Rattle.laws_heap.proofs.FoundChunks.{read_heap, finds_held}
 use Rattle.laws_heap.proofs.Layouts.{IsNotFree, any-merged}
@@ -29,7 +30,7 @@ use Rattle.chunk_format.specs.declared.header.Header.TheVariants as headers
 use Rattle.chunk_format.specs.Header.{header_of, size_by, HasHeader}
 use Rattle.heap_place.specs.declared.found.Found.{Found}
 use Rattle.heap_place.specs.Found.{IsOne, owned_by}
-use Rattle.heap_place.specs.Search.{Passed, NoneOwned, Freeing}
+use Rattle.heap_place.specs.Search.{Passed, NoneOwned, NoneLentAmong, Freeing}
 use Rattle.heap_place.proofs.WalkLaws.{passed_start, passed_there, passed_at, passed_more, passed_all, passed_parts}
 use Rattle.heap_place.proofs.LookupLaws.{placed}
 use Rattle.heap_place.proofs.LentOwners.{owned_not_lent}
@@ -121,6 +122,43 @@ owned_apart image at owner header found h f has is some =
 -- nor lent, if no chunk of that owner is
 pub owned_other : (m : Memory) (at owner : ℕ) (header : Header) (found : Found) → LendsNoneOf m owner → (f : IsOne m.bytes found) → HasHeader m.bytes at header → owned_by header (placed (at + 8)) owner ≡ Some found → LendsOther m found.place.0
 owned_other m at owner header found none f has is = owned_not_lent m owner found none f (owned_named at owner header has.chunk found has.header_is is).own
+
+-- ---- whether one is lent
+
+lent_pushed : (m : Memory) (at owner : ℕ) (header : Header) → Passed m.bytes (NoneLentAmong m owner) at → (has : HasHeader m.bytes at header) → (IsTrue (is_owned_by owner has.chunk) → LendsOther m (at + 8)) → Passed m.bytes (NoneLentAmong m owner) (at + size_by header)
+lent_pushed m at owner header p has other = passed_more m.bytes (NoneLentAmong m owner) (NoneLentAmong m owner) at header p has
+    (EveryPlaced-push (λ k c. IsTrue (is_owned_by owner c) → LendsOther m (k + 8)) (area_start m.bytes) p.front has.chunk at (passed_at m.bytes (NoneLentAmong m owner) at p) p.holds other)
+
+-- another owner's chunk is passed
+pub lent_not_owned : (m : Memory) (at owner : ℕ) (header : Header) → Passed m.bytes (NoneLentAmong m owner) at → HasHeader m.bytes at header → owned_by header (placed (at + 8)) owner ≡ None → Passed m.bytes (NoneLentAmong m owner) (at + size_by header)
+lent_not_owned m at owner header p has e = lent_pushed m at owner header p has (λ own.
+    let isnt : is_owned_by owner has.chunk ≡ false = not_owned_named at owner has.chunk (subst (λ (h : Header). owned_by h (placed (at + 8)) owner ≡ None) has.header_is e) in
+    absurd (let bad = sym own ∙ isnt in cc))
+
+-- and one that isn't lent
+pub lent_elsewhere : (m : Memory) (at owner : ℕ) (header : Header) (found : Found) → Passed m.bytes (NoneLentAmong m owner) at → HasHeader m.bytes at header → found.place.0 ≡ at + 8 → LendsOther m found.place.0 → Passed m.bytes (NoneLentAmong m owner) (at + size_by header)
+lent_elsewhere m at owner header found p has place other = lent_pushed m at owner header p has (λ own. subst (λ (n : ℕ). LendsOther m n) place other)
+
+pub owned_place : (image : List ℕ) (at owner : ℕ) (header : Header) (found : Found) → HasHeader image at header → owned_by header (placed (at + 8)) owner ≡ Some found → (found.place.0 ≡ at + 8) × (found.owner ≡ owner)
+owned_place image at owner header found has is = let o = owned_named at owner header has.chunk found has.header_is is in (o.place, o.own)
+
+no_begin : (at : ℕ) (lents : List Lent) → (BeginsAt at lents → ⊥) → EachLent (λ l. l.at ≢ at) lents
+no_begin at [] none = tt
+no_begin at (l ∷ ls) none = ((λ e. none (inl e)), no_begin at ls (λ r. none (inr r)))
+
+pub begins_other : (m : Memory) (place : ℕ) → (BeginsAt place m.lents → ⊥) → LendsOther m place
+begins_other m place none = no_begin place m.lents none
+
+none_by : (m : Memory) (owner start : ℕ) (before : List Chunk) (c : Chunk) (after : List Chunk) → EveryPlaced (λ k d. IsTrue (is_owned_by owner d) → LendsOther m (k + 8)) start (before ++ c ∷ after) → IsTrue (is_owned_by owner c) → LendsOther m (start + total before + 8)
+none_by m owner start [] c after e own = subst (λ (n : ℕ). LendsOther m n) (let z : start + 8 ≡ start + total [] + 8 = omega arith in z) (e.0 own)
+none_by m owner start (b ∷ bs) c after e own = subst (λ (n : ℕ). LendsOther m n) (let z : start + size_of b + total bs + 8 ≡ start + total (b ∷ bs) + 8 = omega arith in z) (none_by m owner (start + size_of b) bs c after e.1 own)
+
+pub none_of_owner : (m : Memory) (owner at : ℕ) → HeapAccepted m.bytes → Passed m.bytes (NoneLentAmong m owner) at → length m.bytes ≤ at → LendsNoneOf m owner
+none_of_owner m owner at h p beyond = λ before chunk after e own.
+    none_by m owner (area_start m.bytes) before chunk after (subst (λ (cs : List Chunk). EveryPlaced (λ k d. IsTrue (is_owned_by owner d) → LendsOther m (k + 8)) (area_start m.bytes) cs) e (passed_all m.bytes (NoneLentAmong m owner) at h p beyond)) own
+
+pub whole_none : (m : Memory) (owner : ℕ) → m.lents ≡ [] → LendsNoneOf m owner
+whole_none m owner none = λ before chunk after e own. subst (λ (x : List Lent). EachLent (λ l. l.at ≢ area_start m.bytes + total before + 8) x) (sym none) tt
 
 -- ---- how many there are
 

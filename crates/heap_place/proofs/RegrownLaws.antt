@@ -17,7 +17,7 @@ use Rattle.laws_heap.proofs.Replacements.{same_start}
 use Rattle.laws_heap.proofs.Resizings.{size_of-with_length}
 use Rattle.heap_place.specs.declared.found.Found.{Found}
 use Rattle.heap_place.specs.Resizes.{RunBehind, Resizes}
-use Rattle.heap_place.specs.Lists.{class_count, AreLists, HasLists, Any, Outside, KeepsFree, IsFreeChunk, Links, Pushes}
+use Rattle.heap_place.specs.Lists.{AreLists, HasLists, Any, Outside, KeepsFree, IsFreeChunk, Links, Pushes}
 use Rattle.heap_place.proofs.FoundLaws.{heap_in_parts, found_size}
 use Rattle.heap_place.proofs.ListLaws.{lists_weaker, lists_kept, lists_any, push_lists}
 use Rattle.heap_place.proofs.KeepLaws.{keeps_replaced, outside_apart, live_apart}
@@ -136,9 +136,9 @@ resized_lists old mid heads found own behind e h r keeps lists =
     (lists_weaker (Outside (at + own) behind) (Outside at (need found.length + behind)) old heads (λ x b out. subst (λ (n : ℕ). Outside at (n + behind) x) e (run_outside old found own behind x e h r b out)) lists)
 
 -- and what is left, in front of its own
-pub regrown_lists : (mid new heads after : List ℕ) (at all taken : ℕ) → 8 ≤ taken → taken < all → length heads ≡ class_count → AreLists (Outside at all) mid heads → Pushes mid new heads after (at + taken) → HasLists new after
-regrown_lists mid new heads after at all taken least less len lists p =
-    push_lists (Outside at all) Any mid new heads after (at + taken) lists (λ x b out. (tt, apart x out)) tt len p where
+pub regrown_lists : (mid new heads after : List ℕ) (at all taken : ℕ) → 8 ≤ taken → taken < all → AreLists (Outside at all) mid heads → Pushes mid new heads after (at + taken) → HasLists new after
+regrown_lists mid new heads after at all taken least less lists p =
+    push_lists (Outside at all) Any mid new heads after (at + taken) lists (λ x b out. (tt, apart x out)) tt p where
       apart : (x : ℕ) → Outside at all x → x ≢ at + taken
       apart x out e = elim out [ inl front ↦ omega arith | inr back ↦ omega arith ]
 

@@ -10,7 +10,7 @@ use Rattle.heap_model.specs.Space.{AllFree}
 use Rattle.heap_model.specs.Placed.{AnyPlaced}
 use Rattle.heap_model.specs.Layout.{merged, Alters, FreeUpTo, freed, WritesPlain, IsFreeAt, BeginsFree}
 use Rattle.laws_heap.proofs.Placed.{At, one_at, SpelledAll-takes, AnyPlaced-map, AnyPlaced-mid}
-use Rattle.heap_place.specs.Lists.{class_count, AreLists, HasLists, Any, ButAt, IsFreeChunk, KeepsFree, Pushes}
+use Rattle.heap_place.specs.Lists.{AreLists, HasLists, Any, ButAt, IsFreeChunk, KeepsFree, Pushes}
 use Rattle.heap_place.proofs.ListLaws.{lists_weaker, lists_kept, push_lists}
 use Rattle.heap_place.proofs.KeepLaws.{NotAmong, keeps_replaced, live_apart, free_there}
 use Rattle.heap_model.specs.Placing.{Finds}
@@ -273,11 +273,11 @@ none_there image found there h f b same = live_only f.chunk f.finds.chunks (λ n
       free_not both.0 both.1 (λ n is. live n (sym both.2 ∙ is))
 
 -- the lists, with the chunk that was made free
-pub given_lists : (old mid new heads after : List ℕ) (found : Found) → HeapAccepted old → IsOne old found → KeepsFree Any old mid → length heads ≡ class_count → Pushes mid new heads after (found.place.0 - 8) → HasLists old heads → HasLists new after
-given_lists old mid new heads after found h f keeps len p lists =
+pub given_lists : (old mid new heads after : List ℕ) (found : Found) → HeapAccepted old → IsOne old found → KeepsFree Any old mid → Pushes mid new heads after (found.place.0 - 8) → HasLists old heads → HasLists new after
+given_lists old mid new heads after found h f keeps p lists =
     let at : ℕ = found.place.0 - 8 in
     let others : AreLists (ButAt at) old heads = lists_weaker Any (ButAt at) old heads (λ x b any. none_there old found x h f b) lists in
-    push_lists (ButAt at) Any mid new heads after at (lists_kept (ButAt at) old mid heads (λ x apart b. keeps x tt b) others) (λ x b apart. (tt, apart)) tt len p
+    push_lists (ButAt at) Any mid new heads after at (lists_kept (ButAt at) old mid heads (λ x apart b. keeps x tt b) others) (λ x b apart. (tt, apart)) tt p
 
 -- its own slot
 pub own_slot_is : (old : List ℕ) (found : Found) → HeapAccepted old → (f : IsOne old found) → found.lock ≢ fixed_lock → IsSlot old found.name.0

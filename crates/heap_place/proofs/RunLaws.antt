@@ -14,7 +14,7 @@ use Rattle.laws_heap.proofs.Resizings.{front_parts, grows_parts}
 use Rattle.chunk_format.specs.Header.{header_of, HasHeader}
 use Rattle.chunk_format.specs.declared.header.Header.{Header}
 use Rattle.heap_model.specs.Memory.{Memory, Misses}
-use Rattle.heap_model.specs.Lending.{LendsABody}
+use Rattle.heap_model.specs.Lending.{LendsBodies}
 use Rattle.laws_heap.proofs.LentBodies.{walked_misses}
 use Rattle.heap_place.specs.declared.found.Found.{Found}
 use Rattle.heap_place.specs.Found.{IsOne}
@@ -162,7 +162,7 @@ in_place_no image found count own behind e b short f =
     (λ yes. absurd cc, λ enough. absurd (omega arith))
 
 -- the header there
-pub bound_misses : (m : Memory) (at : ℕ) → HeapAccepted m.bytes → LendsABody m → IsBound m.bytes at → at < length m.bytes → Misses m.lent at 8
+pub bound_misses : (m : Memory) (at : ℕ) → HeapAccepted m.bytes → LendsBodies m → IsBound m.bytes at → at < length m.bytes → Misses m.lents at 8
 bound_misses m at h l b inside =
     walked_misses m b.before at h l (subst (λ (n : ℕ). SpelledAll m.bytes (area_start m.bytes) b.before n) (sym b.ends.there) (SpelledAll-split m.bytes (area_start m.bytes) b.before b.after (length m.bytes) (heap_in_parts m.bytes (b.before ++ b.after) h b.ends.chunks).tiles.area).0) inside
 

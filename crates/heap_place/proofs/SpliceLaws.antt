@@ -83,6 +83,7 @@ two_there image class (suc (suc n)) here at c some next positive = record { more
 
 pub splice_lists : (old new heads : List ℕ) (class here at word : ℕ) → HasLists old heads → class < class_count → Looking old heads class here at → 0 < at → second_of old here ≡ at → here ≢ 0 → Links old new here word → BeginsFree new here → word ≡ second_of old at → AreLists (ButAt at) new heads
 splice_lists old new heads class here at word a below s positive next some l now is = record {
+  count = a.count;
   lists = λ k low. elim (same_or k class) [
     | inl same ↦ subst (λ (j : ℕ). IsList (ButAt at) new j (slice_index heads j)) (sym same)
         (spliced old new class s.steps two.more (slice_index heads class) here at s.walked s.other two.chain next now (l.firsts here two.chain.0.begins) l.keeps (l.second ∙ is))
@@ -99,6 +100,7 @@ splice_lists old new heads class here at word a below s positive next some l now
 
 pub not_listed : (image heads : List ℕ) (class at : ℕ) → HasLists image heads → class < class_count → Looking image heads class 0 at → IsOfClass class (size_field (u32_at image at)) → AreLists (ButAt at) image heads
 not_listed image heads class at a below s at_is = record {
+  count = a.count;
   lists = λ k low. elim (same_or k class) [
     | inl same ↦ subst (λ (j : ℕ). IsList (ButAt at) image j (slice_index heads j)) (sym same) (walk_chain (ButAt at) image class s.steps 0 (slice_index heads class) 0 s.walked refl tt)
     | inr apart ↦

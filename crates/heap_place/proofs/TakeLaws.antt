@@ -78,9 +78,9 @@ rest_chunk old mid at room size b r cut less = by_gap (room - size) (cut r) (ome
       let front = total_push r.before size in
       record { before = r.before ++ free size ∷ []; after = r.after; chunks = e ∙ push_front r.before size (free (suc n) ∷ r.after); there = omega arith }
 
-pub taken_rest : (old mid new heads after : List ℕ) (at room size : ℕ) → 8 ≤ size → size < room → length heads ≡ class_count → AreLists (Outside at room) old heads → KeepsFree (Outside at room) old mid → Pushes mid new heads after (at + size) → AreLists (ButAt at) new after
-taken_rest old mid new heads after at room size least less len a keeps p =
-    push_lists (Outside at room) (ButAt at) mid new heads after (at + size) (lists_kept (Outside at room) old mid heads keeps a) (λ x b out. (front x out, back x out)) (λ e. omega arith) len p where
+pub taken_rest : (old mid new heads after : List ℕ) (at room size : ℕ) → 8 ≤ size → size < room → AreLists (Outside at room) old heads → KeepsFree (Outside at room) old mid → Pushes mid new heads after (at + size) → AreLists (ButAt at) new after
+taken_rest old mid new heads after at room size least less a keeps p =
+    push_lists (Outside at room) (ButAt at) mid new heads after (at + size) (lists_kept (Outside at room) old mid heads keeps a) (λ x b out. (front x out, back x out)) (λ e. omega arith) p where
       front : (x : ℕ) → Outside at room x → x ≢ at
       front x out e = elim out [ inl before ↦ omega arith | inr behind ↦ omega arith ]
 

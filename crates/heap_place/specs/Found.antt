@@ -1,5 +1,5 @@
 -- A live chunk that was found.
-use Rattle.std.specs.Prelude.{◌≡◌, ◌<◌, ◌≤◌, ◌+◌, ◌-◌, ◌==◌, ◌&&◌, nat_lt, if◌then◌else◌, ℕ, List, length, slice_range, Option, Some, None}
+use Rattle.std.specs.Prelude.{◌≢◌, ◌≡◌, ◌<◌, ◌≤◌, ◌+◌, ◌-◌, ◌==◌, ◌&&◌, nat_lt, if◌then◌else◌, ℕ, List, length, slice_range, Option, Some, None}
 use Rattle.heap_model.specs.Chunk.{Chunk, fixed, fixed_lock, managers_owner, data_owner}
 use Rattle.heap_model.specs.Heap.{directory_of}
 use Rattle.heap_model.specs.Placed.{EveryPlaced}
@@ -76,6 +76,10 @@ fixed_by (headers.Fixed length owner) place name = if (place.0 == name.0) && nat
 -- none of the chunks is a fixed one of this name
 abbrev pub NoneFixedAs : List ℕ → ℕ → List Chunk → Type 0
 NoneFixedAs image name chunks = EveryPlaced (NotFixedAs name) (area_start image) chunks
+
+-- none of the chunks begins at this offset
+abbrev pub NoneBeginsAt : List ℕ → ℕ → List Chunk → Type 0
+NoneBeginsAt image there chunks = EveryPlaced (λ at chunk. at ≢ there) (area_start image) chunks
 
 -- no slot contains the place
 abbrev pub NoSlotHolds : List ℕ → ℕ → Type 0

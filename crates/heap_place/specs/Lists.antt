@@ -1,6 +1,6 @@
 -- The lists of free chunks, one for each class of sizes: the chain from each head, and the changes
 -- that keep it.
-use Rattle.std.specs.Prelude.{◌≡◌, ◌≢◌, ◌<◌, ◌≤◌, ◌+◌, ◌-◌, ◌++◌, ◌∷◌, ◌/◌, ◌^◌, ◌⊎◌, ℕ, zero, suc, List, slice_index, slice_set}
+use Rattle.std.specs.Prelude.{◌≡◌, ◌≢◌, ◌<◌, ◌≤◌, ◌+◌, ◌-◌, ◌++◌, ◌∷◌, ◌/◌, ◌^◌, ◌⊎◌, ℕ, zero, suc, List, length, slice_index, slice_set}
 use Rattle.heap_model.specs.Bytes.{u32_at}
 use Rattle.heap_model.specs.Chunk.{Chunk, free, total}
 use Rattle.heap_model.specs.Slots.{area_start}
@@ -46,9 +46,10 @@ pub record IsList (P : ℕ → Type 0) (image : List ℕ) (class head : ℕ) : T
   pub chain : Chain image class count head
   pub each : OnChain P image count head
 
--- from the head of each class a chain of its free chunks leads, and `P` is true of the offset of
--- each of them
+-- there is a head for each class, from which a chain of its free chunks leads, and `P` is true of
+-- the offset of each of them
 pub record AreLists (P : ℕ → Type 0) (image heads : List ℕ) : Type 0 where
+  pub count : length heads ≡ class_count
   pub lists : (class : ℕ) → class < class_count → IsList P image class (slice_index heads class)
 
 -- every offset

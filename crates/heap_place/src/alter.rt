@@ -3,8 +3,7 @@
 
 ghost use Rattle.std.specs.Prelude.{◌≡◌, ◌<◌, ◌-◌, ◌⊎◌};
 ghost use Rattle.heap_model.specs.Chunk.{fixed_lock};
-ghost use Rattle.heap_model.specs.Lending.{LendsABody, LendsOther};
-ghost use Rattle.heap_model.specs.Heap.{HeapAccepted};
+ghost use Rattle.heap_model.specs.Lending.{LendsOther, HoldsHeap};
 ghost use Rattle.heap_model.specs.Layout.{Alters, with_lock, with_owner, WritesPlain};
 ghost use Rattle.heap_place.specs.Found.{IsOne, CanGoTo, header_at};
 ghost use Rattle.heap_place.specs.Lists.{Any, KeepsFree};
@@ -14,9 +13,8 @@ use chunk_format::{HEADER_SIZE, put_lock, put_owner};
 use raw_region::Region;
 
 /// Gives a movable chunk another lock count.
-pub(crate) fn relock_at(region: &mut Region, found: Found, lock: u8)
-    requires accepted { HeapAccepted region.old.bytes }
-    requires lent { LendsABody region.old }
+pub fn relock_at(region: &mut Region, found: Found, lock: u8)
+    requires heap { HoldsHeap region.old }
     requires found { IsOne region.old.bytes found }
     requires movable { found.lock < fixed_lock }
     requires lock { lock < fixed_lock }
@@ -26,23 +24,22 @@ pub(crate) fn relock_at(region: &mut Region, found: Found, lock: u8)
     ensures keeps { KeepsFree Any region.old.bytes region.new.bytes }
     ensures plain { WritesPlain region.old.bytes region.new.bytes }
     ensures rest { region.new ≡ record region.old { bytes = region.new.bytes } }
-    ensures lent { LendsABody region.new }
+    ensures heap { HoldsHeap region.new }
 {
     put_lock(region, found.place.0 - HEADER_SIZE, lock);
 }
 
 /// Gives a live chunk to another owner.
 #[inline(always)]
-pub(crate) fn reown_at(region: &mut Region, found: Found, owner: u8)
-    requires accepted { HeapAccepted region.old.bytes }
-    requires lent { LendsABody region.old }
+pub fn reown_at(region: &mut Region, found: Found, owner: u8)
+    requires heap { HoldsHeap region.old }
     requires found { IsOne region.old.bytes found }
     requires owner { CanGoTo region.old.bytes found owner }
     ensures made { Alters region.old.bytes region.new.bytes (header_at found) (with_owner owner) }
     ensures keeps { KeepsFree Any region.old.bytes region.new.bytes }
     ensures plain { WritesPlain region.old.bytes region.new.bytes }
     ensures rest { region.new ≡ record region.old { bytes = region.new.bytes } }
-    ensures lent { LendsABody region.new }
+    ensures heap { HoldsHeap region.new }
 {
     put_owner(region, found.place.0 - HEADER_SIZE, owner);
 }

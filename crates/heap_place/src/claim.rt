@@ -4,13 +4,12 @@
 ghost use Rattle.std.specs.Prelude.{◌≡◌, ◌≤◌, ◌<◌, ◌+◌, ◌%◌, ◌^◌, length, replicate, true};
 ghost use Rattle.heap_model.specs.Bytes.{u32_at};
 ghost use Rattle.heap_model.specs.Chunk.{movable, fixed, need, data_owner};
-ghost use Rattle.heap_model.specs.Lending.{LendsABody};
 ghost use Rattle.heap_model.specs.Memory.{Misses};
 ghost use Rattle.heap_model.specs.Slots.{IsSlot, is_chained};
 ghost use Rattle.heap_model.specs.MoreTables.{table_need, PutsTable};
-ghost use Rattle.heap_model.specs.Heap.{HeapAccepted};
 ghost use Rattle.heap_model.specs.Reading.{chunks_of};
 ghost use Rattle.heap_model.specs.Layout.{Becomes, IsSpot, WritesPlain};
+ghost use Rattle.heap_model.specs.Lending.{HoldsHeap};
 ghost use Rattle.heap_place.specs.Search.{WroteRest};
 ghost use Rattle.heap_place.specs.Lists.{IsFreeChunk, KeepsFree, Outside, ButAt, CutsRoom, Fills};
 
@@ -21,9 +20,8 @@ use master_table::add_table;
 use raw_region::Region;
 
 /// Makes the start of a run of free chunks one free chunk of `size` bytes, and the rest another.
-pub(crate) fn cut(region: &mut Region, room: Room, size: u32)
-    requires accepted { HeapAccepted region.old.bytes }
-    requires lent { LendsABody region.old }
+pub fn cut(region: &mut Region, room: Room, size: u32)
+    requires heap { HoldsHeap region.old }
     requires room { IsSpot region.old.bytes room.at room.size }
     requires least { need 0 ≤ size }
     requires whole { size % 8 ≡ 0 }
@@ -33,7 +31,7 @@ pub(crate) fn cut(region: &mut Region, room: Room, size: u32)
     ensures keeps { KeepsFree (Outside room.at room.size) region.old.bytes region.new.bytes }
     ensures plain { WritesPlain region.old.bytes region.new.bytes }
     ensures rest { region.new ≡ record region.old { bytes = region.new.bytes } }
-    ensures lent { LendsABody region.new }
+    ensures heap { HoldsHeap region.new }
 {
     write_rest(region, room.at + size, room.size - size);
     Header::Free { size }.write(region, room.at);
@@ -41,9 +39,9 @@ pub(crate) fn cut(region: &mut Region, room: Room, size: u32)
 
 /// Writes the header of a free chunk of `size` bytes at `at`, unless `size` is 0.
 #[inline(always)]
-pub(crate) fn write_rest(region: &mut Region, at: u32, size: u32)
+pub fn write_rest(region: &mut Region, at: u32, size: u32)
     requires inside { at + size ≤ length region.old.bytes }
-    requires misses { Misses region.old.lent at size }
+    requires misses { Misses region.old.lents at size }
     requires small { length region.old.bytes < 2 ^ 24 }
     requires whole { size % 8 ≡ 0 }
     ensures wrote { WroteRest region.old.bytes region.new.bytes at size }
@@ -55,9 +53,8 @@ pub(crate) fn write_rest(region: &mut Region, at: u32, size: u32)
 }
 
 /// Makes the free chunk at `at` a movable one of `count` zeros.
-pub(crate) fn claim_movable(region: &mut Region, at: u32, slot: Name, count: u32, owner: u8)
-    requires accepted { HeapAccepted region.old.bytes }
-    requires lent { LendsABody region.old }
+pub fn claim_movable(region: &mut Region, at: u32, slot: Name, count: u32, owner: u8)
+    requires heap { HoldsHeap region.old }
     requires free { IsFreeChunk region.old.bytes at (need count) }
     requires slot { IsSlot region.old.bytes slot.0 }
     requires empty { u32_at region.old.bytes slot.0 ≡ 0 }
@@ -67,7 +64,7 @@ pub(crate) fn claim_movable(region: &mut Region, at: u32, slot: Name, count: u32
     ensures keeps { KeepsFree (ButAt at) region.old.bytes region.new.bytes }
     ensures plain { WritesPlain region.old.bytes region.new.bytes }
     ensures rest { region.new ≡ record region.old { bytes = region.new.bytes } }
-    ensures lent { LendsABody region.new }
+    ensures heap { HoldsHeap region.new }
 {
     let header = Header::Movable {
         length: count,
@@ -81,9 +78,8 @@ pub(crate) fn claim_movable(region: &mut Region, at: u32, slot: Name, count: u32
 }
 
 /// Makes the free chunk at `at` a fixed one of `count` zeros.
-pub(crate) fn claim_fixed_at(region: &mut Region, at: u32, count: u32, owner: u8)
-    requires accepted { HeapAccepted region.old.bytes }
-    requires lent { LendsABody region.old }
+pub fn claim_fixed_at(region: &mut Region, at: u32, count: u32, owner: u8)
+    requires heap { HoldsHeap region.old }
     requires free { IsFreeChunk region.old.bytes at (need count) }
     requires some_owner { 0 < owner }
     requires most_owner { owner < data_owner }
@@ -92,7 +88,7 @@ pub(crate) fn claim_fixed_at(region: &mut Region, at: u32, count: u32, owner: u8
     ensures keeps { KeepsFree (ButAt at) region.old.bytes region.new.bytes }
     ensures plain { WritesPlain region.old.bytes region.new.bytes }
     ensures rest { region.new ≡ record region.old { bytes = region.new.bytes } }
-    ensures lent { LendsABody region.new }
+    ensures heap { HoldsHeap region.new }
 {
     let header = Header::Fixed {
         length: count,
@@ -104,16 +100,15 @@ pub(crate) fn claim_fixed_at(region: &mut Region, at: u32, count: u32, owner: u8
 }
 
 /// Makes the free chunk at `at` a table of empty slots, the last of the chain.
-pub(crate) fn claim_table_at(region: &mut Region, at: u32)
-    requires accepted { HeapAccepted region.old.bytes }
-    requires lent { LendsABody region.old }
+pub fn claim_table_at(region: &mut Region, at: u32)
+    requires heap { HoldsHeap region.old }
     requires free { IsFreeChunk region.old.bytes at table_need }
     requires chained { is_chained region.old.bytes ≡ true }
     ensures made { PutsTable region.old.bytes region.new.bytes (at + 8) }
     ensures keeps { KeepsFree (ButAt at) region.old.bytes region.new.bytes }
     ensures plain { WritesPlain region.old.bytes region.new.bytes }
     ensures rest { region.new ≡ record region.old { bytes = region.new.bytes } }
-    ensures lent { LendsABody region.new }
+    ensures heap { HoldsHeap region.new }
 {
     let header = Header::Fixed {
         length: TABLE_LENGTH,

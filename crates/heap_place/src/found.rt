@@ -19,7 +19,7 @@ pub struct Found {
 
 /// Returns the chunk whose body is at a place, if its header is a movable one's.
 #[inline]
-pub(crate) fn as_movable(header: Header, place: Place) -> Option<Found>
+pub fn as_movable(header: Header, place: Place) -> Option<Found>
     ensures { result ≡ movable_by header place }
 {
     match header {
@@ -42,7 +42,7 @@ pub(crate) fn as_movable(header: Header, place: Place) -> Option<Found>
 /// Returns the chunk of this name whose body is at a place, if its header is a fixed one's. A table
 /// is not returned.
 #[inline]
-pub(crate) fn as_fixed(header: Header, place: Place, name: Name) -> Option<Found>
+pub fn as_fixed(header: Header, place: Place, name: Name) -> Option<Found>
     ensures { result ≡ fixed_by header place name }
 {
     match header {

@@ -1,12 +1,12 @@
 //! Makes all chunks of an owner free.
 #![tactic(auto, using(laws_heap::proofs::LentBodies::frame_within, laws_heap::proofs::LentBodies::table_within))]
 
-ghost use Rattle.std.specs.Prelude.{◌≡◌, ◌≤◌, ◌<◌, ◌+◌, ◌^◌, count_by, length};
+ghost use Rattle.std.specs.Prelude.{IfSome, IfNone, ◌≡◌, ◌≤◌, ◌<◌, ◌+◌, ◌^◌, count_by, length};
 ghost use Rattle.heap_model.specs.Chunk.{is_owned_by};
-ghost use Rattle.heap_model.specs.Lending.{LendsABody, LendsNoneOf};
-ghost use Rattle.heap_model.specs.Heap.{HeapAccepted};
+ghost use Rattle.heap_model.specs.Lending.{LendsNoneOf, HoldsHeap};
 ghost use Rattle.heap_model.specs.Layout.{Becomes, layout_of, owned_freed, WritesPlain};
-ghost use Rattle.heap_place.specs.Found.{owned_by};
+ghost use Rattle.heap_place.specs.Found.{owned_by, IsOne};
+ghost use Rattle.raw_region.specs.Marks.{BeginsAt};
 
 use crate::found::Found;
 use crate::release::release;
@@ -16,9 +16,8 @@ use raw_region::Region;
 
 /// Makes the chunks of an owner free in one walk, and returns their number. The caller must ensure
 /// that none of them is lent.
-pub(crate) fn release_owned(region: &mut Region, owner: u8) -> u32
-    requires accepted { HeapAccepted region.old.bytes }
-    requires lent { LendsABody region.old }
+pub fn release_owned(region: &mut Region, owner: u8) -> u32
+    requires heap { HoldsHeap region.old }
     requires some_owner { 0 < owner }
     requires none_lent { LendsNoneOf region.old owner }
     ensures gone { Becomes region.old.bytes region.new.bytes
@@ -26,7 +25,7 @@ pub(crate) fn release_owned(region: &mut Region, owner: u8) -> u32
     ensures count { result ≡ count_by (is_owned_by owner) (layout_of region.old.bytes) }
     ensures plain { WritesPlain region.old.bytes region.new.bytes }
     ensures rest { region.new ≡ record region.old { bytes = region.new.bytes } }
-    ensures lent { LendsABody region.new }
+    ensures heap { HoldsHeap region.new }
 {
     let end = region.len() as u32;
     let mut at = area_start(region);
@@ -42,6 +41,33 @@ pub(crate) fn release_owned(region: &mut Region, owner: u8) -> u32
         }
     }
     count
+}
+
+/// Returns a chunk of an owner whose body is lent, if there is one. If nothing is lent, no chunk is
+/// looked at.
+pub fn lent_of_owner(region: &Region, owner: u8) -> Option<Found>
+    requires heap { HoldsHeap region.now }
+    requires some_owner { 0 < owner }
+    ensures found { IfSome result (λ found. IsOne region.now.bytes found) }
+    ensures owns { IfSome result (λ found. found.owner ≡ owner) }
+    ensures begins { IfSome result (λ found. BeginsAt found.place.0 region.now.lents) }
+    ensures none { IfNone result (LendsNoneOf region.now owner) }
+{
+    if region.is_whole() {
+        return None;
+    }
+    let end = region.len() as u32;
+    let mut at = area_start(region);
+    while at < end {
+        let (header, size) = Header::at_with_size(region, at);
+        if let Some(found) = if_owned(header, Place(at + HEADER_SIZE), owner) {
+            if region.lends_at(found.place.0) {
+                return Some(found);
+            }
+        }
+        at += size;
+    }
+    None
 }
 
 /// Returns the chunk whose body is at a place, if its header names this owner.

@@ -2,11 +2,10 @@
 #![tactic(auto, using(laws_heap::proofs::LentBodies::frame_within, laws_heap::proofs::LentBodies::table_within))]
 
 ghost use Rattle.std.specs.Prelude.{◌≡◌, ◌≤◌, ◌<◌, ◌+◌, ◌^◌, length, IfSome, IfNone};
-ghost use Rattle.heap_model.specs.Lending.{LendsABody};
-ghost use Rattle.heap_model.specs.Heap.{HeapAccepted};
 ghost use Rattle.heap_model.specs.Reading.{chunks_of};
 ghost use Rattle.heap_model.specs.Space.{NoRun};
 ghost use Rattle.heap_model.specs.Layout.{IsRoom};
+ghost use Rattle.heap_model.specs.Lending.{HoldsHeap};
 ghost use Rattle.heap_place.specs.Search.{run_by};
 ghost use Rattle.chunk_format.specs.Header.{size_by};
 
@@ -23,9 +22,8 @@ pub struct Room {
 
 /// Returns the first run of neighbouring free chunks that has `size` bytes, up to the chunk with
 /// which it has them.
-pub(crate) fn find_room(region: &Region, size: u32) -> Option<Room>
-    requires accepted { HeapAccepted region.now.bytes }
-    requires lent { LendsABody region.now }
+pub fn find_room(region: &Region, size: u32) -> Option<Room>
+    requires heap { HoldsHeap region.now }
     requires some_size { 0 < size }
     ensures room { IfSome result (λ room. IsRoom region.now.bytes room.at room.size) }
     ensures enough { IfSome result (λ room. size ≤ room.size) }

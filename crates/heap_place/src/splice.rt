@@ -2,69 +2,47 @@
 #![tactic(auto, using(laws_heap::proofs::LentBodies::frame_within, laws_heap::proofs::LentBodies::table_within))]
 
 ghost use Rattle.std.specs.Prelude.{◌≡◌, ◌≢◌, ◌<◌, ◌+◌, length, slice_index, IfSome};
-ghost use Rattle.heap_model.specs.Lending.{LendsABody};
-ghost use Rattle.heap_model.specs.Heap.{HeapAccepted};
+ghost use Rattle.heap_model.specs.Lending.{HoldsHeap};
 ghost use Rattle.heap_place.specs.Lists.{class_count, IsFreeOf, IsFreeChunk, HasLists, AreLists, ButAt, SameChunks};
 ghost use Rattle.heap_place.specs.Splices.{LeadsTo};
 
-use crate::lists::{CLASSES, LINK_AT, class_of};
+use crate::lists::{LINK_AT, Lists, class_of};
 use raw_region::Region;
 
-/// Takes a free chunk out of its list, and returns whether all others are still in theirs. If the
-/// chunk is not among the first `probes` of its list, all lists are dropped.
+/// Takes a free chunk out of its list. If the chunk is not among the first `probes` of its list,
+/// all lists are dropped.
 #[inline(always)]
-pub(crate) fn take_out(
-    region: &mut Region,
-    heads: &mut [u32; CLASSES],
-    at: u32,
-    size: u32,
-    probes: usize,
-) -> bool
-    requires accepted { HeapAccepted region.old.bytes }
-    requires lent { LendsABody region.old }
+pub fn take_out(region: &mut Region, lists: &mut Lists, at: u32, size: u32, probes: usize)
+    requires heap { HoldsHeap region.old }
     requires free { IsFreeChunk region.old.bytes at size }
-    requires lists { HasLists region.old.bytes heads.old }
+    requires lists { HasLists region.old.bytes lists.old }
     ensures same { SameChunks region.old.bytes region.new.bytes }
-    ensures lists { AreLists (ButAt at) region.new.bytes heads.new }
-    ensures count { length heads.new ≡ class_count }
+    ensures lists { AreLists (ButAt at) region.new.bytes lists.new }
     ensures rest { region.new ≡ record region.old { bytes = region.new.bytes } }
-    ensures lent { LendsABody region.new }
+    ensures heap { HoldsHeap region.new }
 {
     let class = class_of(size);
-    if heads[class] == at {
-        heads[class] = region.get_u32(at as usize + LINK_AT);
-        return true;
+    if lists.head(class) == at {
+        lists.set_head(class, region.get_u32(at as usize + LINK_AT));
+        return;
     }
-    match find_before(region, heads, class, at, probes) {
-        Some(before) => {
-            link_past(region, heads, class, before, at);
-            true
-        }
-        None => {
-            *heads = [0; CLASSES];
-            false
-        }
+    match find_before(region, lists, class, at, probes) {
+        Some(before) => link_past(region, lists, class, before, at),
+        None => lists.drop_all(),
     }
 }
 
 /// Returns the chunk of a list before the one at `at`, which isn't its first. Returns 0 if the list
 /// ends without that one, and None if it isn't reached within `probes` steps.
 #[inline(never)]
-fn find_before(
-    region: &Region,
-    heads: &[u32; CLASSES],
-    class: usize,
-    at: u32,
-    probes: usize,
-) -> Option<u32>
-    requires accepted { HeapAccepted region.now.bytes }
-    requires lent { LendsABody region.now }
-    requires lists { HasLists region.now.bytes heads.now }
+fn find_before(region: &Region, lists: &Lists, class: usize, at: u32, probes: usize) -> Option<u32>
+    requires heap { HoldsHeap region.now }
+    requires lists { HasLists region.now.bytes lists.now }
     requires class { class < class_count }
-    requires other { slice_index heads.now class ≢ at }
-    ensures { IfSome result (λ before. LeadsTo region.now.bytes heads.now class before at) }
+    requires other { slice_index lists.now class ≢ at }
+    ensures { IfSome result (λ before. LeadsTo region.now.bytes lists.now class before at) }
 {
-    let mut here = heads[class];
+    let mut here = lists.head(class);
     for _ in 0..probes {
         if here == 0 {
             return Some(0);
@@ -80,17 +58,16 @@ fn find_before(
 
 /// Links the chunk before the one at `at` to the one after it. If `before` is 0, the chunk is in no
 /// list, and nothing is written.
-fn link_past(region: &mut Region, heads: &[u32; CLASSES], class: usize, before: u32, at: u32)
-    requires accepted { HeapAccepted region.old.bytes }
-    requires lent { LendsABody region.old }
-    requires lists { HasLists region.old.bytes heads.now }
+fn link_past(region: &mut Region, lists: &Lists, class: usize, before: u32, at: u32)
+    requires heap { HoldsHeap region.old }
+    requires lists { HasLists region.old.bytes lists.now }
     requires class { class < class_count }
-    requires leads { LeadsTo region.old.bytes heads.now class before at }
+    requires leads { LeadsTo region.old.bytes lists.now class before at }
     requires free { IsFreeOf region.old.bytes class at }
     ensures same { SameChunks region.old.bytes region.new.bytes }
-    ensures lists { AreLists (ButAt at) region.new.bytes heads.now }
+    ensures lists { AreLists (ButAt at) region.new.bytes lists.now }
     ensures rest { region.new ≡ record region.old { bytes = region.new.bytes } }
-    ensures lent { LendsABody region.new }
+    ensures heap { HoldsHeap region.new }
 {
     if before != 0 {
         let next = region.get_u32(at as usize + LINK_AT);

@@ -1,6 +1,6 @@
 //! The picture of an image as SVG, on a writer.
 
-ghost use Rattle.std.specs.Prelude.{◌≡◌, ◌≢◌, ◌<◌, ◌^◌, Err, IfOk, IfErr, OnOk, OnErr, is_ok, true, false, None};
+ghost use Rattle.std.specs.Prelude.{[], ◌≡◌, ◌≢◌, ◌<◌, ◌^◌, Err, IfOk, IfErr, OnOk, OnErr, is_ok, true, false};
 ghost use Rattle.heap_model.specs.Store.{Accepted};
 ghost use Rattle.palm_text.specs.Counted.{Writes};
 ghost use Rattle.store_check.specs.Checks.{Summarizes};
@@ -43,7 +43,7 @@ struct Drawing {
 
 /// Returns the strips of an accepted image that is drawn in rows of `line` bytes.
 fn strips_in<A: Allowance>(memory: &A, region: &Region, line: u32) -> Result<Vec<Strip>, AllocError>
-    requires whole { region.now.lent ≡ None }
+    requires whole { region.now.lents ≡ [] }
     requires accepted { Accepted region.now.bytes }
     ensures exact { IfOk result (λ strips.
         strips.items ≡ strips_model region.now.bytes (rows_of.thin_below line)) }
@@ -61,7 +61,7 @@ fn draw<A: Allowance>(
     region: &Region,
     summary: StoreSummary,
 ) -> Result<Drawing, AllocError>
-    requires whole { region.now.lent ≡ None }
+    requires whole { region.now.lents ≡ [] }
     requires accepted { Accepted region.now.bytes }
     requires summary { Summarizes region.now.bytes summary }
     ensures drawing { IfOk result (HasDrawing region.now.bytes) }
@@ -204,7 +204,7 @@ fn put_lists<W: Write>(
     drawing: &Drawing,
     rows: u32,
 ) -> Result<(), WriteFault>
-    requires whole { region.now.lent ≡ None }
+    requires whole { region.now.lents ≡ [] }
     requires accepted { Accepted region.now.bytes }
     requires drawing { HasDrawing region.now.bytes drawing.now }
     requires rows { rows < 2 ^ 24 }
@@ -222,7 +222,7 @@ fn put_bottom<W: Write>(
     drawing: &Drawing,
     rows: u32,
 ) -> Result<(), WriteFault>
-    requires whole { region.now.lent ≡ None }
+    requires whole { region.now.lents ≡ [] }
     requires accepted { Accepted region.now.bytes }
     requires drawing { HasDrawing region.now.bytes drawing.now }
     requires rows { rows < 2 ^ 24 }
@@ -240,7 +240,7 @@ fn put_lower<W: Write>(
     drawing: &Drawing,
     rows: u32,
 ) -> Result<(), WriteFault>
-    requires whole { region.now.lent ≡ None }
+    requires whole { region.now.lents ≡ [] }
     requires accepted { Accepted region.now.bytes }
     requires drawing { HasDrawing region.now.bytes drawing.now }
     requires rows { rows ≡ rows_of.rows_in drawing.now.summary.heap.size drawing.now.line }
@@ -260,7 +260,7 @@ fn put_inner<W: Write>(
     drawing: &Drawing,
     rows: u32,
 ) -> Result<(), WriteFault>
-    requires whole { region.now.lent ≡ None }
+    requires whole { region.now.lents ≡ [] }
     requires accepted { Accepted region.now.bytes }
     requires drawing { HasDrawing region.now.bytes drawing.now }
     requires rows { rows ≡ rows_of.rows_in drawing.now.summary.heap.size drawing.now.line }
@@ -280,7 +280,7 @@ fn put_rows<W: Write>(
     drawing: &Drawing,
     rows: u32,
 ) -> Result<(), WriteFault>
-    requires whole { region.now.lent ≡ None }
+    requires whole { region.now.lents ≡ [] }
     requires accepted { Accepted region.now.bytes }
     requires drawing { HasDrawing region.now.bytes drawing.now }
     requires rows { rows ≡ rows_of.rows_in drawing.now.summary.heap.size drawing.now.line }
@@ -298,7 +298,7 @@ fn put_drawing<W: Write>(
     region: &Region,
     drawing: &Drawing,
 ) -> Result<(), WriteFault>
-    requires whole { region.now.lent ≡ None }
+    requires whole { region.now.lents ≡ [] }
     requires accepted { Accepted region.now.bytes }
     requires drawing { HasDrawing region.now.bytes drawing.now }
     ensures { WritesDrawing region.now.bytes W.contents out.old out.new (is_ok result) }
@@ -309,7 +309,7 @@ fn put_drawing<W: Write>(
 
 /// Checks an image, and finds what is drawn of it if it is accepted.
 fn drawn<A: Allowance>(memory: &A, region: &Region) -> Result<Drawing, MapFault>
-    requires whole { region.now.lent ≡ None }
+    requires whole { region.now.lents ≡ [] }
     ensures accepted { OnOk result (Accepted region.now.bytes) }
     ensures drawing { IfOk result (HasDrawing region.now.bytes) }
     ensures why { IfErr result (IsFaultOf region.now.bytes) }
@@ -334,7 +334,7 @@ pub fn put_svg<A: Allowance, W: Write>(
     region: &Region,
     out: &mut Counted<W>,
 ) -> Result<(), MapFault>
-    requires whole { region.now.lent ≡ None }
+    requires whole { region.now.lents ≡ [] }
     ensures accepted { OnOk result (Accepted region.now.bytes) }
     ensures done { OnOk result (WritesDrawing region.now.bytes W.contents out.old out.new true) }
     ensures why { IfErr result (IsFaultOf region.now.bytes) }

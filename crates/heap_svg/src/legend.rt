@@ -1,6 +1,6 @@
 //! The legend: the kinds of chunks and the databases.
 
-ghost use Rattle.std.specs.Prelude.{◌≡◌, ◌≤◌, ◌<◌, ◌^◌, is_ok, None};
+ghost use Rattle.std.specs.Prelude.{[], ◌≡◌, ◌≤◌, ◌<◌, ◌^◌, is_ok};
 ghost use Rattle.heap_model.specs.Store.{Accepted};
 ghost use Rattle.db_format.specs.Headers.{IsWhole};
 ghost use Rattle.palm_text.specs.Counted.{Writes};
@@ -203,7 +203,7 @@ pub(crate) fn put_databases_note<W: Write>(
     region: &Region,
     rows: u32,
 ) -> Result<(), WriteFault>
-    requires whole { region.now.lent ≡ None }
+    requires whole { region.now.lents ≡ [] }
     requires accepted { Accepted region.now.bytes }
     requires rows { rows < 2 ^ 26 }
     ensures { Writes W.contents out.old out.new

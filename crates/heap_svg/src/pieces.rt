@@ -64,7 +64,7 @@ impl PieceSizes {
 
 /// Returns the sizes of the free pieces of an accepted heap, in order.
 pub(crate) fn piece_sizes<A: Allowance>(memory: &A, region: &Region) -> Result<Vec<u32>, AllocError>
-    requires whole { region.now.lent ≡ None }
+    requires whole { region.now.lents ≡ [] }
     requires accepted { HeapAccepted region.now.bytes }
     ensures pieces { IfOk result (λ sizes. sizes.items ≡ free_pieces region.now.bytes) }
     ensures short { OnErr result (A.is_short memory.now) }

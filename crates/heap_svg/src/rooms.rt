@@ -1,7 +1,7 @@
 //! The rooms of an image: the free bytes of each stretch. A compact makes one piece of a room.
 #![tactic(auto, using(laws_heap::proofs::Lending::all_within, laws_heap::proofs::Lending::all_misses))]
 
-ghost use Rattle.std.specs.Prelude.{◌≡◌, ◌<◌, ◌≤◌, ◌+◌, ◌^◌, ◌++◌, [], length, IfOk, OnOk, OnErr, None};
+ghost use Rattle.std.specs.Prelude.{◌≡◌, ◌<◌, ◌≤◌, ◌+◌, ◌^◌, ◌++◌, [], length, IfOk, OnOk, OnErr};
 ghost use Rattle.heap_model.specs.Heap.{HeapAccepted};
 ghost use Rattle.heap_model.specs.Space.{greatest};
 ghost use Rattle.heap_map.specs.Pieces.{free_by};
@@ -94,7 +94,7 @@ impl MetRooms {
 
 /// Returns the rooms of an accepted heap, in order.
 fn room_list<A: Allowance>(memory: &A, region: &Region) -> Result<Vec<Room>, AllocError>
-    requires whole { region.now.lent ≡ None }
+    requires whole { region.now.lents ≡ [] }
     requires accepted { HeapAccepted region.now.bytes }
     ensures rooms { IfOk result (λ rooms. rooms.items ≡ rooms_of region.now.bytes) }
     ensures short { OnErr result (A.is_short memory.now) }
@@ -132,7 +132,7 @@ pub(crate) struct Rooms {
 
 /// Finds the rooms of an accepted heap. A compact leaves each as one piece.
 pub(crate) fn find_rooms<A: Allowance>(memory: &A, region: &Region) -> Result<Rooms, AllocError>
-    requires whole { region.now.lent ≡ None }
+    requires whole { region.now.lents ≡ [] }
     requires accepted { HeapAccepted region.now.bytes }
     ensures all { IfOk result (λ rooms. rooms.all.items ≡ rooms_of region.now.bytes) }
     ensures count { IfOk result (λ rooms. rooms.count ≡ length (compact_pieces region.now.bytes)) }

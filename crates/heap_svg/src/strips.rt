@@ -1,7 +1,7 @@
 //! Strips: the bytes that the rectangles of a picture show.
 #![tactic(auto, using(laws_heap::proofs::Lending::all_within, laws_heap::proofs::Lending::all_misses))]
 
-ghost use Rattle.std.specs.Prelude.{◌≡◌, ◌≤◌, ◌<◌, ◌+◌, ◌^◌, [], length, false, IfOk, OnOk, OnErr, None};
+ghost use Rattle.std.specs.Prelude.{◌≡◌, ◌≤◌, ◌<◌, ◌+◌, ◌^◌, [], length, false, IfOk, OnOk, OnErr};
 ghost use Rattle.heap_model.specs.Store.{Accepted};
 ghost use Rattle.store_check.specs.Naming.{HasRoom};
 ghost use Rattle.heap_map.specs.Numbers.{database_number, HasNumbers};
@@ -106,7 +106,7 @@ pub(crate) fn strips_of<A: Allowance>(
     table: &[u16],
     thin: u32,
 ) -> Result<Vec<Strip>, AllocError>
-    requires whole { region.now.lent ≡ None }
+    requires whole { region.now.lents ≡ [] }
     requires accepted { Accepted region.now.bytes }
     requires numbers { HasNumbers (database_number region.now.bytes) table.now }
     requires room { HasRoom region.now.bytes (length table.now) }

@@ -1,12 +1,16 @@
 //! Files that look like PDB or PRC files, and files that look like heap images.
 
 ghost use Rattle.std.specs.Prelude.{◌≡◌, ◌≤◌, length};
+ghost use Rattle.std.specs.List.{list_all};
 ghost use Rattle.hints.specs.Lookalikes as words;
 
 use palm_text::are_printable;
 
 /// The size of a database file's header. By these bytes a file looks like a database file.
 pub const HEADER_SIZE: usize = 78;
+
+/// The size of the field of its name, which comes first.
+const NAME_SIZE: usize = 32;
 
 // The offsets of its fields (File Format Specification).
 const TYPE_AT: usize = 60;
@@ -33,17 +37,50 @@ const IMAGE_SLOT_COUNT_AT: usize = 8;
 /// The field of the next list of a file that has one list. An image has another size.
 const ZERO: [u8; 4] = [0; 4];
 
-/// Returns whether a file looks like a PDB or PRC file. It has a name, a type and a creator that
-/// can be printed, and one list of entries. The entries aren't checked. A file that begins as a
-/// heap image doesn't look like one.
+/// The fields of type and creator of a file that has neither.
+const NO_KINDS: [u8; 8] = [0; 8];
+
+/// Returns whether a file looks like a PDB or PRC file. Two of these hold of its header: it has a
+/// name, a type and a creator that can be printed, one list of entries. The entries aren't checked.
+/// A file that looks like a heap image doesn't look like one.
 pub fn looks_like_database(file: &[u8]) -> bool
     ensures { result ≡ words.looks_like_database file.now }
 {
-    file.len() >= HEADER_SIZE
-        && file[0] != 0
-        && !begins_as_image(file)
-        && are_printable(&file[TYPE_AT..SEED_AT])
-        && file[NEXT_LIST_AT..ENTRY_COUNT_AT] == ZERO[..]
+    file.len() >= HEADER_SIZE && !looks_like_image(file) && has_header(file)
+}
+
+/// Returns whether two parts of a header are those of a PDB or PRC file.
+fn has_header(file: &[u8]) -> bool
+    requires { HEADER_SIZE ≤ length file.now }
+    ensures { result ≡ words.has_header file.now }
+{
+    let is_one_list = file[NEXT_LIST_AT..ENTRY_COUNT_AT] == ZERO[..];
+    if are_printable(&file[TYPE_AT..SEED_AT]) {
+        is_one_list || has_name(file)
+    } else {
+        is_one_list && has_name(file) && file[TYPE_AT..SEED_AT] != NO_KINDS[..]
+    }
+}
+
+/// Returns whether a header has a name, which may be empty: the last byte of its field is zero, and
+/// the others are no control characters below space, but zero.
+fn has_name(file: &[u8]) -> bool
+    requires { NAME_SIZE ≤ length file.now }
+    ensures { result ≡ words.has_name file.now }
+{
+    file[NAME_SIZE - 1] == 0 && are_in_name(&file[..NAME_SIZE])
+}
+
+/// Returns whether the field of a name may have all of these bytes.
+fn are_in_name(bytes: &[u8]) -> bool
+    ensures { result ≡ list_all words.is_in_name bytes.now }
+{
+    for byte in bytes {
+        if *byte != 0 && *byte < b' ' {
+            return false;
+        }
+    }
+    true
 }
 
 /// Returns whether a file looks like a heap image: it begins as one does, with a size below 2^24

@@ -1,6 +1,6 @@
 //! The commands `new` and `check`, over bytes and writers.
 
-ghost use Rattle.std.specs.Prelude.{◌≡◌, IfOk, OnErr, None, is_ok, string_bytes};
+ghost use Rattle.std.specs.Prelude.{[], ◌≡◌, IfOk, OnErr, is_ok, string_bytes};
 ghost use Rattle.image_commands.specs.Commands.{EndsCheck, EndsNew, heap_line, summary_lines};
 ghost use Rattle.allowance.specs.Refusals.{GrowthRefused};
 ghost use Rattle.palm_text.specs.Output.{Puts};
@@ -86,7 +86,7 @@ pub fn check_region_from<A: Allowance, V: Write>(
     region: &Region,
     out: &mut Counted<V>,
 ) -> Status
-    requires whole { region.now.lent ≡ None }
+    requires whole { region.now.lents ≡ [] }
     ensures ends { EndsCheck region.now.bytes V.contents out.old out.new result }
     ensures short { result ≡ Status.NoMemory → A.is_short memory.now }
 {
@@ -127,7 +127,7 @@ fn heap_text<A: Allowance>(memory: &A, summary: &Summary) -> Result<String, Allo
 
 /// Writes the whole image, and flushes.
 fn put_image<W: Write>(image_out: &mut Counted<W>, region: &Region) -> Result<(), WriteFault>
-    requires { region.now.lent ≡ None }
+    requires { region.now.lents ≡ [] }
     ensures { Puts W.contents image_out.old image_out.new region.now.bytes (is_ok result) }
 {
     put(image_out, region.as_slice())

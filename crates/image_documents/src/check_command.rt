@@ -1,6 +1,6 @@
 //! The command `check --json`.
 
-ghost use Rattle.std.specs.Prelude.{◌≡◌, None};
+ghost use Rattle.std.specs.Prelude.{[], ◌≡◌};
 ghost use Rattle.allowance.specs.Refusals.{GrowthRefused};
 ghost use Rattle.image_documents.specs.Ends.{EndsCheckJson};
 
@@ -44,7 +44,7 @@ pub fn check_json_region_from<A: Allowance, V: Write>(
     region: &Region,
     out: &mut Counted<V>,
 ) -> Status
-    requires whole { region.now.lent ≡ None }
+    requires whole { region.now.lents ≡ [] }
     ensures ends { EndsCheckJson region.now.bytes V.contents out.old out.new result }
     ensures short { result ≡ Status.NoMemory → A.is_short memory.now }
 {

@@ -6,7 +6,7 @@ use Rattle.heap_model.specs.Placed.{AnyPlaced}
 use Rattle.heap_model.specs.Slots.{area_start, is_chained}
 use Rattle.heap_model.specs.Heap.{Tiles}
 use Rattle.heap_model.specs.MoreTables.{last_next}
-use Rattle.heap_model.specs.Lending.{LentHere, IsLentBody, LendsABody}
+use Rattle.heap_model.specs.Lending.{LentHere, IsLentBody, LendsBodies}
 use Rattle.laws_heap.proofs.Runs.{chunks_of-tiled}
 use Rattle.laws_heap.proofs.Tables.{chained_behind}
 use Rattle.laws_heap.proofs.AlikeTables.{TellsNoTables, any_alike}
@@ -16,7 +16,7 @@ use Rattle.laws_heap.proofs.MoreTables.{WritesTable, table_chunk, written_replac
 use Rattle.laws_heap.proofs.LentBodies.{front_misses, reads_table, still_lends}
 
 -- the last word `next` of a chain may be read and written
-pub last_within : (memory : Memory) (cs : List Chunk) → is_chained memory.bytes ≡ true → Tiles memory.bytes cs → LendsABody memory → IsWithin memory (last_next memory.bytes) 4
+pub last_within : (memory : Memory) (cs : List Chunk) → is_chained memory.bytes ≡ true → Tiles memory.bytes cs → LendsBodies memory → IsWithin memory (last_next memory.bytes) 4
 last_within memory cs chained t l =
     let lies = last_lies memory.bytes cs chained t in
     let four = chained_behind memory.bytes chained in
@@ -32,7 +32,7 @@ moved_body old new cs ds lent t u starts keeps x =
     (subst (λ (n : ℕ). AnyPlaced (LentHere lent) n ds) (sym starts) (keeps (subst (λ (es : List Chunk). AnyPlaced (LentHere lent) (area_start old) es) (chunks_of-tiled old cs t) x)))
 
 -- where a table was written in place of a free chunk
-pub written_lends : (old mid : Memory) (before after : List Chunk) (at : ℕ) → WritesTable old.bytes mid.bytes before after at → LendsABody old → mid.lent ≡ old.lent → LendsABody mid
+pub written_lends : (old mid : Memory) (before after : List Chunk) (at : ℕ) → WritesTable old.bytes mid.bytes before after at → LendsBodies old → mid.lents ≡ old.lents → LendsBodies mid
 written_lends old mid before after at w l same =
     let r = written_replaces old.bytes mid.bytes before after at w in
     let tiles = replaced_tiles old.bytes mid.bytes before (free 72 ∷ []) (table_chunk ∷ []) after at w.heap.tiles r in
@@ -44,7 +44,7 @@ written_lends old mid before after at w l same =
 lent_tells : (lent : Lent) → TellsNoTables (LentHere lent)
 lent_tells lent at xs ys e h = let some = h.2 in absurd (omega (arith, some))
 
-pub added_lends : (old new : Memory) (place : ℕ) → AddsTable old.bytes new.bytes place → LendsABody old → new.lent ≡ old.lent → LendsABody new
+pub added_lends : (old new : Memory) (place : ℕ) → AddsTable old.bytes new.bytes place → LendsBodies old → new.lents ≡ old.lents → LendsBodies new
 added_lends old new place a l same =
     let d = added old.bytes new.bytes place a in
     still_lends old new same l (λ lent is x.

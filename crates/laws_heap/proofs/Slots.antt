@@ -511,15 +511,15 @@ tables_lie old new len same lie =
 pub slot_within : (memory : Memory) (slot : ℕ) → HasTable memory → IsSlot memory.bytes slot → IsWithin memory slot 4
 slot_within memory slot has s = record {
   inside = each_slot (λ slot. slot + 4 ≤ length memory.bytes) memory.bytes has.lie.slots slot s;
-  misses = each_slot (λ slot. Misses memory.lent slot 4) memory.bytes has.slots_miss slot s;
+  misses = each_slot (λ slot. Misses memory.lents slot 4) memory.bytes has.slots_miss slot s;
 }
 
 -- a memory of which nothing is lent has them if they lie within it
-pub whole_table : (memory : Memory) → memory.lent ≡ None → TablesLie memory.bytes → HasTable memory
+pub whole_table : (memory : Memory) → memory.lents ≡ [] → TablesLie memory.bytes → HasTable memory
 whole_table memory none lie = record {
   lie = lie;
-  first_misses = all_misses memory.lent 0 (head_end memory.bytes) none;
-  slots_miss = every_slot (λ slot. Misses memory.lent slot 4) memory.bytes (λ slot s. all_misses memory.lent slot 4 none);
+  first_misses = all_misses memory.lents 0 (head_end memory.bytes) none;
+  slots_miss = every_slot (λ slot. Misses memory.lents slot 4) memory.bytes (λ slot s. all_misses memory.lents slot 4 none);
 }
 
 -- of an image that is no chain

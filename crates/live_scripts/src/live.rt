@@ -54,7 +54,7 @@ pub fn run_read<A: Allowance, R: Read, W: Write>(
     ensures flushed { OnOk result (out.new.flushed ≡ Some true) }
     ensures text { OnOk result (IfSome (R.remaining reader.old) (λ all. text.new.items ≡ all)) }
     ensures end { OnOk result (IsAtEnd (R.remaining reader.new)) }
-    ensures lent { store.new.lent ≡ store.old.lent }
+    ensures lent { store.new.lents ≡ store.old.lents }
     ensures fault { IfErr result (λ fault. ReadStops (A.is_short memory.now) W.contents
         inputs.entry.files.now (R.remaining reader.old) store.old out.old fault store.new out.new) }
     ensures too_long { result ≡ Err (LiveFault.Input InputFault.TooLong)

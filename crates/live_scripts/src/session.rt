@@ -81,7 +81,7 @@ impl Session {
         ensures ok { OnOk result (ReadsLine (A.is_short memory.now) W.contents inputs.entry.files.now
             text.now self.old store.old out.old self.new store.new out.new) }
         ensures count { OnOk result (self.new.count ≡ self.old.count + 1) }
-        ensures lent { store.new.lent ≡ store.old.lent }
+        ensures lent { store.new.lents ≡ store.old.lents }
         ensures fault { IfErr result (λ fault. LineStops (A.is_short memory.now) W.contents
             inputs.entry.files.now fault text.now self.old store.old out.old self.new store.new out.new) }
         ensures reads_all { result ≢ Err (LiveFault.Input TooLong) }
@@ -123,7 +123,7 @@ impl Session {
             (bound_in self.old) self.old.files.items store.old out.old self.new store.new out.new) }
         ensures count { self.new.count ≡ self.old.count }
         ensures labels { self.new.labels ≡ self.old.labels }
-        ensures lent { store.new.lent ≡ store.old.lent }
+        ensures lent { store.new.lents ≡ store.old.lents }
         ensures write { result ≡ Err RunFault.Write → FailsLine (A.is_short memory.now) W.contents
             inputs.now line.now (bound_in self.old) store.old out.old store.new out.new }
         ensures short { result ≡ Err RunFault.OutOfMemory → A.is_short memory.now }
@@ -181,7 +181,7 @@ impl Session {
             (take n text.now) self.old store.old out.old self.new store.new out.new) }
         ensures last { IfOk result (λ n. IsUnended (drop n text.now)) }
         ensures count { IfOk result (λ n. self.new.count ≤ self.old.count + n) }
-        ensures lent { store.new.lent ≡ store.old.lent }
+        ensures lent { store.new.lents ≡ store.old.lents }
         ensures fault { IfErr result (λ fault. StopsOn (A.is_short memory.now) W.contents
             inputs.entry.files.now fault text.now self.old store.old out.old store.new out.new) }
         ensures reads_all { result ≢ Err (LiveFault.Input TooLong) }
@@ -207,7 +207,7 @@ impl Session {
         requires last { IsUnended text.now }
         ensures ok { OnOk result (EndsOn (A.is_short memory.now) W.contents inputs.entry.files.now
             text.now self.old store.old out.old self.new store.new out.new) }
-        ensures lent { store.new.lent ≡ store.old.lent }
+        ensures lent { store.new.lents ≡ store.old.lents }
         ensures fault { IfErr result (λ fault. StopsAt (A.is_short memory.now) W.contents
             inputs.entry.files.now fault text.now self.old store.old out.old store.new out.new) }
         ensures reads_all { result ≢ Err (LiveFault.Input TooLong) }

@@ -1,6 +1,6 @@
 //! The command `map` with an output file: the picture of an image, as SVG.
 
-ghost use Rattle.std.specs.Prelude.{◌≡◌, ◌≢◌, Err, IfErr, OnOk, None, true, false};
+ghost use Rattle.std.specs.Prelude.{[], ◌≡◌, ◌≢◌, Err, IfErr, OnOk, true, false};
 ghost use Rattle.heap_model.specs.Store.{Accepted};
 ghost use Rattle.heap_map.specs.Pictures.{IsFaultOf};
 ghost use Rattle.map_commands.specs.Drawing.{EndsDraw, PutsDrawing};
@@ -56,7 +56,7 @@ pub fn draw_region_from<A: Allowance, W: Write, V: Write>(
     file_out: &mut Counted<W>,
     out: &mut Counted<V>,
 ) -> Status
-    requires whole { region.now.lent ≡ None }
+    requires whole { region.now.lents ≡ [] }
     ensures ends { EndsDraw region.now.bytes W.contents file_out.old file_out.new
         V.contents out.old out.new result }
     ensures short { result ≡ Status.NoMemory → A.is_short memory.now }
@@ -76,7 +76,7 @@ fn put_flushed<A: Allowance, W: Write>(
     region: &Region,
     file_out: &mut Counted<W>,
 ) -> Result<(), MapFault>
-    requires whole { region.now.lent ≡ None }
+    requires whole { region.now.lents ≡ [] }
     ensures accepted { OnOk result (Accepted region.now.bytes) }
     ensures done { OnOk result
         (PutsDrawing region.now.bytes W.contents file_out.old file_out.new true) }

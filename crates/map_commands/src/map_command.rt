@@ -1,6 +1,6 @@
 //! The command `map`: the picture of an image, as text.
 
-ghost use Rattle.std.specs.Prelude.{◌≡◌, ◌≢◌, Err, IfErr, OnOk, None, true, false};
+ghost use Rattle.std.specs.Prelude.{[], ◌≡◌, ◌≢◌, Err, IfErr, OnOk, true, false};
 ghost use Rattle.heap_model.specs.Store.{Accepted};
 ghost use Rattle.heap_map.specs.Pictures.{IsFaultOf};
 ghost use Rattle.map_commands.specs.Mapping.{EndsMap, PutsMap};
@@ -44,7 +44,7 @@ pub fn map_region_from<A: Allowance, V: Write>(
     region: &Region,
     out: &mut Counted<V>,
 ) -> Status
-    requires whole { region.now.lent ≡ None }
+    requires whole { region.now.lents ≡ [] }
     ensures ends { EndsMap region.now.bytes V.contents out.old out.new result }
     ensures short { result ≡ Status.NoMemory → A.is_short memory.now }
 {
@@ -63,7 +63,7 @@ fn put_flushed<A: Allowance, V: Write>(
     region: &Region,
     out: &mut Counted<V>,
 ) -> Result<(), MapFault>
-    requires whole { region.now.lent ≡ None }
+    requires whole { region.now.lents ≡ [] }
     ensures accepted { OnOk result (Accepted region.now.bytes) }
     ensures done { OnOk result (PutsMap region.now.bytes V.contents out.old out.new true) }
     ensures why { IfErr result (IsFaultOf region.now.bytes) }

@@ -1,6 +1,6 @@
 //! The command `map`, over files.
 
-ghost use Rattle.std.specs.Prelude.{◌≡◌, ◌≢◌, None};
+ghost use Rattle.std.specs.Prelude.{[], ◌≡◌, ◌≢◌, None};
 
 use crate::draw_command::draw_region_from;
 use crate::map_command::map_region_from;
@@ -55,7 +55,7 @@ pub fn draw<R: Files + Input + Print + Eprint + AllocGlobal>(
 
 /// Prints the picture of an image as text.
 fn print_map<R: Print + Eprint + AllocGlobal>(rt: &R, image: &Region) -> Status
-    requires { image.now.lent ≡ None }
+    requires { image.now.lents ≡ [] }
     ensures { result ≢ Status.BadWords }
 {
     let Ok(out) = BufWriter::new(rt.alloc(), Noted::new(io::writer(rt))) else {
@@ -74,7 +74,7 @@ fn draw_buffered<W: Write + Drop, V: Write>(
     file_out: W,
     out: &mut Counted<V>,
 ) -> (Status, Option<io::Error>)
-    requires { image.now.lent ≡ None }
+    requires { image.now.lents ≡ [] }
     ensures { result.0 ≢ Status.BadWords }
 {
     let Ok(file_out) = BufWriter::new(alloc, Noted::new(file_out)) else {
@@ -87,7 +87,7 @@ fn draw_buffered<W: Write + Drop, V: Write>(
 
 /// Writes the picture of an image to standard output.
 fn draw_to_output<R: Print + Eprint + AllocGlobal>(rt: &R, image: &Region) -> Status
-    requires { image.now.lent ≡ None }
+    requires { image.now.lents ≡ [] }
     ensures { result ≢ Status.BadWords }
 {
     let mut out = Counted::new(Noted::new(ErrorOutput::new(rt)));
@@ -107,7 +107,7 @@ fn draw_to_file<R: Files + Print + Eprint + AllocGlobal>(
     image: &Region,
     out_path: &str,
 ) -> Status
-    requires { image.now.lent ≡ None }
+    requires { image.now.lents ≡ [] }
     ensures { result ≢ Status.BadWords }
 {
     let mut file_out = match output_for_picture(rt, out_path) {

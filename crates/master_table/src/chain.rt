@@ -3,7 +3,7 @@
 
 ghost use Rattle.std.specs.Prelude.{◌≡◌, length, true};
 ghost use Rattle.heap_model.specs.Bytes.{u32_bytes, overwritten};
-ghost use Rattle.heap_model.specs.Lending.{LendsABody};
+ghost use Rattle.heap_model.specs.Lending.{LendsBodies};
 ghost use Rattle.heap_model.specs.Slots.{is_chained};
 ghost use Rattle.heap_model.specs.MoreTables.{last_next as model_last, HasNewTable, AddsSlots};
 ghost use Rattle.master_table.specs.Table.{IsTiled};
@@ -17,7 +17,7 @@ use raw_region::Region;
 pub fn add_table(region: &mut Region, place: Place)
     requires chained { is_chained region.old.bytes ≡ true }
     requires table { HasNewTable region.old.bytes place.0 }
-    requires lent { LendsABody region.old }
+    requires lent { LendsBodies region.old }
     ensures adds { AddsSlots region.old.bytes region.new.bytes place.0 }
     ensures after { region.new ≡ record region.old
         { bytes = overwritten region.old.bytes (model_last region.old.bytes) (u32_bytes place.0) } }
@@ -31,7 +31,7 @@ pub fn add_table(region: &mut Region, place: Place)
 fn last_next(region: &Region) -> u32
     requires tiled { IsTiled region.now.bytes }
     requires chained { is_chained region.now.bytes ≡ true }
-    requires lent { LendsABody region.now }
+    requires lent { LendsBodies region.now }
     ensures { result ≡ model_last region.now.bytes }
 {
     let mut at = head_end(region) - NEXT_SIZE;

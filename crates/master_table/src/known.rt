@@ -4,7 +4,7 @@
 
 ghost use Rattle.std.specs.Prelude.{◌≡◌, ◌≢◌, ◌<◌, ◌≤◌, ◌+◌, ◌*◌, ◌%◌, ◌^◌, ℕ, List, IfSome};
 ghost use Rattle.std.specs.Bool.{OnTrue};
-ghost use Rattle.heap_model.specs.Lending.{LendsABody};
+ghost use Rattle.heap_model.specs.Lending.{LendsBodies};
 ghost use Rattle.heap_model.specs.Slots.{IsSlot, further_tables};
 ghost use Rattle.heap_model.specs.Heap.{IsTablePlace};
 ghost use Rattle.master_table.specs.Table.{IsTiled};
@@ -61,7 +61,7 @@ impl KnownTables {
     /// has fewer than 15 slots, or if others are in all entries that it may be in.
     pub fn of(region: &Region) -> KnownTables
         requires tiled { IsTiled region.now.bytes }
-        requires lent { LendsABody region.now }
+        requires lent { LendsBodies region.now }
         ensures { KnowsTables region.now.bytes result }
     {
         let mut known = KnownTables::none();
@@ -76,7 +76,7 @@ impl KnownTables {
     /// Remembers a further table of an image if it has 15 slots or more.
     fn add(&mut self, region: &Region, place: u32)
         requires tiled { IsTiled region.now.bytes }
-        requires lent { LendsABody region.now }
+        requires lent { LendsBodies region.now }
         requires table { IsTablePlace (further_tables region.now.bytes) place }
         requires knows { KnowsTables region.now.bytes self.old }
         ensures { KnowsTables region.now.bytes self.new }

@@ -4,7 +4,7 @@
 ghost use Rattle.std.specs.Prelude.{◌≡◌, ◌≢◌, ◌<◌, ◌≤◌, ◌==◌, ◌+◌, ◌^◌, ℕ, List, IfSome, IfNone, false};
 ghost use Rattle.heap_model.specs.Bytes.{u32_at};
 ghost use Rattle.heap_model.specs.Frame.{HasFrame};
-ghost use Rattle.heap_model.specs.Lending.{LendsABody};
+ghost use Rattle.heap_model.specs.Lending.{LendsBodies};
 ghost use Rattle.heap_model.specs.Slots.{IsSlot, StandsBehind, StandsIn, slots_in_row, is_chained};
 ghost use Rattle.master_table.specs.Table.{IsTiled, IsStart};
 
@@ -53,7 +53,7 @@ impl Row {
     #[inline]
     pub fn of(region: &Region) -> Row
         requires tiled { IsTiled region.now.bytes }
-        requires lent { LendsABody region.now }
+        requires lent { LendsBodies region.now }
         ensures row { IsRow region.now.bytes result }
         ensures start { row_start result ≡ 0 }
     {
@@ -70,7 +70,7 @@ impl Row {
     #[inline]
     pub(crate) fn at(region: &Region, start: TableStart) -> Row
         requires tiled { IsTiled region.now.bytes }
-        requires lent { LendsABody region.now }
+        requires lent { LendsBodies region.now }
         requires start { IsStart region.now.bytes start }
         ensures row { IsRow region.now.bytes result }
         ensures start { row_start result ≡ start.before }
@@ -130,7 +130,7 @@ impl Row {
     #[inline]
     pub(crate) fn word(self, region: &Region, index: u32) -> u32
         requires tiled { IsTiled region.now.bytes }
-        requires lent { LendsABody region.now }
+        requires lent { LendsBodies region.now }
         requires row { IsRow region.now.bytes self }
         requires below { row_start self + index < row_end self }
         ensures { (slot : ℕ) → StandsBehind region.now.bytes slot (row_start self + index)
@@ -151,7 +151,7 @@ impl Row {
     #[inline]
     pub fn behind(self, region: &Region) -> Row
         requires tiled { IsTiled region.now.bytes }
-        requires lent { LendsABody region.now }
+        requires lent { LendsBodies region.now }
         requires row { IsRow region.now.bytes self }
         requires more { self.next ≢ 0 }
         ensures { Behind region.now.bytes self result }
@@ -200,7 +200,7 @@ impl Row {
 /// walks along the tables up to the one that has the slot.
 pub(crate) fn find_number(region: &Region, slot: u32) -> Option<u32>
     requires tiled { IsTiled region.now.bytes }
-    requires lent { LendsABody region.now }
+    requires lent { LendsBodies region.now }
     ensures some { IfSome result (StandsBehind region.now.bytes slot) }
     ensures none { IfNone result (IsSlot region.now.bytes slot → ⊥) }
 {

@@ -4,7 +4,7 @@
 ghost use Rattle.std.specs.Prelude.{◌≡◌, ◌<◌, ◌≤◌, ◌↔◌, ◌+◌, ℕ, List, length, max, MatchOption, IfSome, IfNone, None};
 ghost use Rattle.heap_model.specs.Bytes.{u32_at, u32_bytes, overwritten};
 ghost use Rattle.heap_model.specs.Memory.{IsWithin};
-ghost use Rattle.heap_model.specs.Lending.{LendsABody};
+ghost use Rattle.heap_model.specs.Lending.{LendsBodies};
 ghost use Rattle.heap_model.specs.Slots.{IsSlot, HasTable, StandsBehind, slots_total as model_total};
 ghost use Rattle.heap_model.specs.Heap.{HeapAccepted};
 ghost use Rattle.heap_model.specs.Space.{free_slots};
@@ -43,7 +43,7 @@ pub fn word_of(region: &Region, slot: u32) -> u32
 #[inline(always)]
 pub fn slots_before(region: &Region, name: Name) -> Option<u32>
     requires tiled { IsTiled region.now.bytes }
-    requires lent { LendsABody region.now }
+    requires lent { LendsBodies region.now }
     ensures some { IfSome result (StandsBehind region.now.bytes name.0) }
     ensures none { IfNone result (IsSlot region.now.bytes name.0 → ⊥) }
 {
@@ -55,7 +55,7 @@ pub fn slots_before(region: &Region, name: Name) -> Option<u32>
 #[inline(always)]
 pub fn least_number(region: &Region, name: Name) -> u32
     requires tiled { IsTiled region.now.bytes }
-    requires lent { LendsABody region.now }
+    requires lent { LendsBodies region.now }
     ensures { (number : ℕ) → StandsBehind region.now.bytes name.0 number → result ≤ number }
 {
     let number = name.0.saturating_sub(FRAME_SIZE) / SLOT_SIZE;
@@ -66,7 +66,7 @@ pub fn least_number(region: &Region, name: Name) -> u32
 #[inline(always)]
 pub fn resolve(region: &Region, name: Name) -> Option<Place>
     requires tiled { IsTiled region.now.bytes }
-    requires lent { LendsABody region.now }
+    requires lent { LendsBodies region.now }
     ensures { MatchOption result (HoldsNothing region.now.bytes name.0)
         (λ place. HoldsPlace region.now.bytes name.0 place.0) }
 {
@@ -80,7 +80,7 @@ pub fn resolve(region: &Region, name: Name) -> Option<Place>
 #[inline(always)]
 fn resolve_first(region: &Region, name: Name) -> Option<Place>
     requires tiled { IsTiled region.now.bytes }
-    requires lent { LendsABody region.now }
+    requires lent { LendsBodies region.now }
     ensures { IfSome result (λ place. HoldsPlace region.now.bytes name.0 place.0) }
 {
     match Row::of(region).number(region, name.0) {
@@ -95,7 +95,7 @@ fn resolve_first(region: &Region, name: Name) -> Option<Place>
 #[inline(always)]
 pub fn resolve_near(region: &Region, known: &KnownTables, name: Name) -> Option<Place>
     requires accepted { HeapAccepted region.now.bytes }
-    requires lent { LendsABody region.now }
+    requires lent { LendsBodies region.now }
     requires knows { KnowsTables region.now.bytes known.now }
     ensures { IfSome result (λ place. HoldsPlace region.now.bytes name.0 place.0) }
 {
@@ -114,7 +114,7 @@ pub fn resolve_near(region: &Region, known: &KnownTables, name: Name) -> Option<
 #[inline(always)]
 pub fn resolve_known(region: &Region, known: &KnownTables, name: Name) -> Option<Place>
     requires accepted { HeapAccepted region.now.bytes }
-    requires lent { LendsABody region.now }
+    requires lent { LendsBodies region.now }
     requires knows { KnowsTables region.now.bytes known.now }
     ensures { MatchOption result (HoldsNothing region.now.bytes name.0)
         (λ place. HoldsPlace region.now.bytes name.0 place.0) }
@@ -131,7 +131,7 @@ pub fn resolve_known(region: &Region, known: &KnownTables, name: Name) -> Option
 #[inline(always)]
 pub fn resolve_by_call(region: &Region, known: &KnownTables, name: Name) -> Option<Place>
     requires accepted { HeapAccepted region.now.bytes }
-    requires lent { LendsABody region.now }
+    requires lent { LendsBodies region.now }
     requires knows { KnowsTables region.now.bytes known.now }
     ensures { MatchOption result (HoldsNothing region.now.bytes name.0)
         (λ place. HoldsPlace region.now.bytes name.0 place.0) }
@@ -146,7 +146,7 @@ pub fn resolve_by_call(region: &Region, known: &KnownTables, name: Name) -> Opti
 #[inline(never)]
 fn resolve_elsewhere(region: &Region, known: &KnownTables, name: Name) -> Option<Place>
     requires accepted { HeapAccepted region.now.bytes }
-    requires lent { LendsABody region.now }
+    requires lent { LendsBodies region.now }
     requires knows { KnowsTables region.now.bytes known.now }
     ensures { MatchOption result (HoldsNothing region.now.bytes name.0)
         (λ place. HoldsPlace region.now.bytes name.0 place.0) }
@@ -160,7 +160,7 @@ fn resolve_elsewhere(region: &Region, known: &KnownTables, name: Name) -> Option
 #[inline(never)]
 fn resolve_further(region: &Region, known: &KnownTables, name: Name) -> Option<Place>
     requires accepted { HeapAccepted region.now.bytes }
-    requires lent { LendsABody region.now }
+    requires lent { LendsBodies region.now }
     requires knows { KnowsTables region.now.bytes known.now }
     ensures { MatchOption result (HoldsNothing region.now.bytes name.0)
         (λ place. HoldsPlace region.now.bytes name.0 place.0) }
@@ -180,17 +180,16 @@ fn resolve_further(region: &Region, known: &KnownTables, name: Name) -> Option<P
 #[inline]
 fn follows_no_place(region: &Region, at: u32) -> bool
     requires accepted { HeapAccepted region.now.bytes }
-    requires lent { LendsABody region.now }
+    requires lent { LendsBodies region.now }
     ensures { OnTrue result (IsSlot region.now.bytes at → ⊥) }
 {
     if at < SLOT_SIZE || at as usize > region.len() {
         return false;
     }
-    let word = (at - SLOT_SIZE) as usize;
-    if !region.misses(word, SLOT_SIZE as usize) {
+    if !region.is_whole() {
         return false;
     }
-    region.get_u32(word) >= ABOVE_PLACES
+    region.get_u32((at - SLOT_SIZE) as usize) >= ABOVE_PLACES
 }
 
 /// Returns the place that a slot holds, if it isn't empty.
@@ -211,7 +210,7 @@ fn place_in(region: &Region, slot: Name) -> Option<Place>
 #[inline]
 fn empty_slot(region: &Region, row: Row, index: u32) -> Option<EmptySlot>
     requires tiled { IsTiled region.now.bytes }
-    requires lent { LendsABody region.now }
+    requires lent { LendsBodies region.now }
     requires row { IsRow region.now.bytes row }
     requires below { row_start row + index < row_end row }
     ensures some { IfSome result (IsEmptyAt region.now.bytes (row_start row + index)) }
@@ -232,7 +231,7 @@ fn empty_slot(region: &Region, row: Row, index: u32) -> Option<EmptySlot>
 /// The first empty slot of a row from a number on. The slots before that one are in use.
 fn empty_in_row(region: &Region, row: Row, from: u32) -> Option<EmptySlot>
     requires tiled { IsTiled region.now.bytes }
-    requires lent { LendsABody region.now }
+    requires lent { LendsBodies region.now }
     requires row { IsRow region.now.bytes row }
     requires start { row_start row ≤ from }
     requires used { UsedBefore region.now.bytes from }
@@ -254,7 +253,7 @@ fn empty_in_row(region: &Region, row: Row, from: u32) -> Option<EmptySlot>
 /// come before that table's own.
 pub fn first_empty_slot(region: &Region, start: TableStart, from: u32) -> Option<EmptySlot>
     requires tiled { IsTiled region.now.bytes }
-    requires lent { LendsABody region.now }
+    requires lent { LendsBodies region.now }
     requires start { IsStart region.now.bytes start }
     requires used { UsedBefore region.now.bytes from }
     ensures some { IfSome result (λ slot. IsFirstEmpty region.now.bytes slot.name.0 slot.before) }
@@ -277,7 +276,7 @@ pub fn first_empty_slot(region: &Region, start: TableStart, from: u32) -> Option
 /// before them.
 fn row_from(region: &Region, start: TableStart, from: u32) -> Row
     requires tiled { IsTiled region.now.bytes }
-    requires lent { LendsABody region.now }
+    requires lent { LendsBodies region.now }
     requires start { IsStart region.now.bytes start }
     ensures row { IsRow region.now.bytes result }
     ensures start { row_start result ≤ from }
@@ -293,7 +292,7 @@ fn row_from(region: &Region, start: TableStart, from: u32) -> Row
 /// Returns how many slots there are.
 pub fn slots_total(region: &Region) -> u32
     requires tiled { IsTiled region.now.bytes }
-    requires lent { LendsABody region.now }
+    requires lent { LendsBodies region.now }
     ensures { result ≡ model_total region.now.bytes }
 {
     let mut row = Row::of(region);
@@ -306,7 +305,7 @@ pub fn slots_total(region: &Region) -> u32
 /// Returns how many slots are empty.
 pub fn slots_free(region: &Region) -> u32
     requires tiled { IsTiled region.now.bytes }
-    requires lent { LendsABody region.now }
+    requires lent { LendsBodies region.now }
     ensures { result ≡ free_slots region.now.bytes }
 {
     let mut row = Row::of(region);
@@ -322,7 +321,7 @@ pub fn slots_free(region: &Region) -> u32
 /// first.
 fn count_empty(region: &Region, row: Row, before: u32) -> u32
     requires tiled { IsTiled region.now.bytes }
-    requires lent { LendsABody region.now }
+    requires lent { LendsBodies region.now }
     requires row { IsRow region.now.bytes row }
     requires before { before ≡ empty_before region.now.bytes (row_start row) }
     ensures { result ≡ empty_before region.now.bytes (row_end row) }

@@ -14,8 +14,8 @@ use Rattle.laws_heap.proofs.Exchanges.{ChangesName}
 use Rattle.raw_region.specs.ByteChanges.{changed_every}
 use Rattle.heap_place.specs.declared.found.Found.{Found}
 use Rattle.heap_place.specs.Found.{IsFound}
-use Rattle.heap_place.specs.ByteChanges.{ChangesEvery}
-use Rattle.heap_place.proofs.ByteLaws.{changed_part, length-changed_part}
+use Rattle.heap_compact.specs.ByteChanges.{ChangesEvery}
+use Rattle.heap_compact.proofs.ByteLaws.{changed_part, length-changed_part}
 use Rattle.mem_manager.proofs.StepWords.{one_of, altered}
 use Rattle.mem_manager.proofs.ChunkCalls.{write_changes}
 use Rattle.mem_manager.specs.Lookup.{StandsAs}

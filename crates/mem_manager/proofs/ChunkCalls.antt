@@ -98,7 +98,7 @@ locked old new name found count h f positive loose few is ch rest =
       );
       frame = a.leaves.frame;
       still = a.leaves.still;
-      loan = keeps_changed old new name.0 found (record f.live { lock = count }) h (ap (λ (m : Memory). m.lent) rest) f ch refl;
+      loan = keeps_changed old new name.0 found (record f.live { lock = count }) h (ap (λ (m : Memory). m.lents) rest) f ch refl;
       asks = tt;
       rest = a.rest;
     }
@@ -118,7 +118,7 @@ unlocked old new name found count h f positive loose some here is ch rest =
       );
       frame = a.leaves.frame;
       still = a.leaves.still;
-      loan = keeps_others old new name.0 _ _ (ap (λ (m : Memory). m.lent) rest) ch here;
+      loan = keeps_others old new name.0 _ _ (ap (λ (m : Memory). m.lents) rest) ch here;
       asks = tt;
       rest = a.rest;
     }
@@ -134,13 +134,13 @@ pub wrote : (old new : Memory) (name : Name) (found : Found) (at : ℕ) (bytes :
     → ChangesName old.bytes new.bytes name.0 (Some (record f.live { bytes = overwritten f.live.bytes at bytes })) (Some found.place.0) → OnlyBytes old new → Does old (Write name at bytes) Done new
 wrote old new name found at bytes h f positive some here inside ch rest =
     let a = altered old new name.0 found (λ live. record live { bytes = overwritten live.bytes at bytes }) h f ch rest in
-    record { before = h; step = (may_write old name found at (length bytes) h f positive some here inside, (tt, a.leaves.map)); frame = a.leaves.frame; still = a.leaves.still; loan = keeps_others old new name.0 _ _ (ap (λ (m : Memory). m.lent) rest) ch here; asks = tt; rest = a.rest }
+    record { before = h; step = (may_write old name found at (length bytes) h f positive some here inside, (tt, a.leaves.map)); frame = a.leaves.frame; still = a.leaves.still; loan = keeps_others old new name.0 _ _ (ap (λ (m : Memory). m.lents) rest) ch here; asks = tt; rest = a.rest }
 
 pub filled : (old new : Memory) (name : Name) (found : Found) (at count byte : ℕ) → HeapAccepted old.bytes → (f : IsFound old.bytes name.0 found) → 1 ≤ found.owner → found.lock ≢ 0 → (IsLent old name.0 → ⊥) → (found.length < at + count → ⊥)
     → ChangesName old.bytes new.bytes name.0 (Some (record f.live { bytes = overwritten f.live.bytes at (replicate count byte) })) (Some found.place.0) → OnlyBytes old new → Does old (Set name at count byte) Done new
 filled old new name found at count byte h f positive some here inside ch rest =
     let a = altered old new name.0 found (λ live. record live { bytes = overwritten live.bytes at (replicate count byte) }) h f ch rest in
-    record { before = h; step = (may_write old name found at count h f positive some here inside, (tt, a.leaves.map)); frame = a.leaves.frame; still = a.leaves.still; loan = keeps_others old new name.0 _ _ (ap (λ (m : Memory). m.lent) rest) ch here; asks = tt; rest = a.rest }
+    record { before = h; step = (may_write old name found at count h f positive some here inside, (tt, a.leaves.map)); frame = a.leaves.frame; still = a.leaves.still; loan = keeps_others old new name.0 _ _ (ap (λ (m : Memory). m.lents) rest) ch here; asks = tt; rest = a.rest }
 
 pub text_copied : (old new : Memory) (name : Name) (found : Found) (at : ℕ) (text bytes : List ℕ) → HeapAccepted old.bytes → (f : IsFound old.bytes name.0 found) → 1 ≤ found.owner → found.lock ≢ 0 → (IsLent old name.0 → ⊥) → bytes ≡ text_of text → (found.length < at + length bytes → ⊥)
     → ChangesName old.bytes new.bytes name.0 (Some (record f.live { bytes = overwritten f.live.bytes at bytes })) (Some found.place.0) → OnlyBytes old new → Does old (StrCopy name at text) Done new
@@ -151,7 +151,7 @@ text_copied old new name found at text bytes h f positive some here is inside ch
       step = (may_write old name found at (length (text_of text)) h f positive some here (subst (λ (b : List ℕ). found.length < at + length b → ⊥) is inside), (tt, a.leaves.map));
       frame = a.leaves.frame;
       still = a.leaves.still;
-      loan = keeps_others old new name.0 _ _ (ap (λ (m : Memory). m.lent) rest) ch here;
+      loan = keeps_others old new name.0 _ _ (ap (λ (m : Memory). m.lents) rest) ch here;
       asks = tt;
       rest = a.rest;
     }
@@ -166,7 +166,7 @@ reowned_done old new name found owner h f positive other caller ch rest =
       step = ((is_known k, (not_of_known (λ live. live.owner ≡ 15) k (λ e. other (f.owner_is ∙ e)), (caller, tt))), (tt, a.leaves.map));
       frame = a.leaves.frame;
       still = a.leaves.still;
-      loan = keeps_changed old new name.0 found (record f.live { owner = owner }) h (ap (λ (m : Memory). m.lent) rest) f ch refl;
+      loan = keeps_changed old new name.0 found (record f.live { owner = owner }) h (ap (λ (m : Memory). m.lents) rest) f ch refl;
       asks = tt;
       rest = a.rest;
     }

@@ -11,7 +11,7 @@ use Rattle.heap_model.specs.Heap.{HeapAccepted}
 use Rattle.heap_model.specs.Meaning.{LiveChunk}
 use Rattle.heap_model.specs.Reading.{held}
 use Rattle.heap_model.specs.Maps.{changed}
-use Rattle.heap_model.specs.Space.{place_of, ShortFor, FitsInPlace, MovesNothing, free_behind, free_front}
+use Rattle.heap_model.specs.Space.{ShortFor, FitsInPlace, MovesNothing, free_behind, free_front}
 use Rattle.heap_model.specs.Resizing.{GrowsInPlace}
 use Rattle.heap_model.specs.Refusals.{Check, NoneHolds, FirstBrings, ◌brings◌}
 use Rattle.heap_model.specs.MemorySteps.{Does, Of, IsLocked, reply_of, growth_checks}
@@ -20,7 +20,7 @@ use Rattle.heap_model.specs.declared.call.MemoryCall.TheVariants.{Resize}
 use Rattle.heap_model.specs.declared.call.Reply.TheVariants.{Refused, Done}
 use Rattle.heap_model.specs.declared.refusal.Refusal.{Refusal}
 use Rattle.heap_model.specs.declared.refusal.Refusal.TheVariants.{OwnedByDatabase, ChunkFixed, ChunkLocked, NotEnoughSpace, Lent}
-use Rattle.heap_model.specs.Lending.{IsLent, LendsABody, KeepsLoan}
+use Rattle.heap_model.specs.Lending.{IsLent, LendsBodies, KeepsLoan}
 use Rattle.laws_heap.proofs.Tests.{cond-true, cond-false}
 use Rattle.laws_heap.proofs.Slots.{slot_alike}
 use Rattle.laws_heap.proofs.SameLayouts.{frame_slots}
@@ -37,8 +37,7 @@ use Rattle.master_table.proofs.TableLaws.{used_still}
 use Rattle.master_table.proofs.RowLaws.{starts_still}
 use Rattle.master_table.specs.declared.slots.TableStart.{TableStart}
 use Rattle.mem_manager.specs.Lookup.{IsManaged}
-use Rattle.mem_manager.specs.Loans.{KnowsLent}
-use Rattle.mem_manager.proofs.KnownLoans.{knows_where}
+use Rattle.laws_heap.proofs.KeptLoans.{keeps_itself}
 use Rattle.mem_manager.proofs.KeptLoans.{keeps_still}
 use Rattle.mem_manager.proofs.StepWords.{known, of_known, not_of_known, is_known, refused, altered, stays_in_place, OnlyBytes}
 use Rattle.mem_manager.proofs.ChunkCalls.{lock_small}
@@ -173,18 +172,18 @@ resize_refused region name size found refusal h f positive other loose brought =
 each_still : (old new : List ℕ) (name size : ℕ) → Resized old new name size → (other : ℕ) (live : LiveChunk) → other ≢ name → held old other ≡ Some live → held new other ≡ Some live
 each_still old new name size r other live apart was = r.map other ∙ cond-false (other == name) _ _ (grind (arith, nat_tests)) ∙ was
 
-pub keeps_resized : (old new : Memory) (name size : ℕ) → HeapAccepted old.bytes → LendsABody old → new.lent ≡ old.lent → Resized old.bytes new.bytes name size → (IsLent old name → ⊥) → KeepsLoan old new
+pub keeps_resized : (old new : Memory) (name size : ℕ) → HeapAccepted old.bytes → LendsBodies old → new.lents ≡ old.lents → Resized old.bytes new.bytes name size → (IsLent old name → ⊥) → KeepsLoan old new
 keeps_resized old new name size h lends same r here = keeps_still old new h lends same r.still (λ n live is e. elim (cases_eq n name) [
   | inl this ↦ absurd (here (subst (λ (m : ℕ). IsLent old m) this is))
   | inr apart ↦ each_still old.bytes new.bytes name size r n live apart e
 ])
 
 -- by what is answered
-pub keeps_replied : {A : Type 0} (old new : Memory) (name size : ℕ) (result : Result A Refusal) → HeapAccepted old.bytes → LendsABody old → new.lent ≡ old.lent → OnOk result (Resized old.bytes new.bytes name size) → OnErr result (new ≡ old) → (IsLent old name → ⊥) → KeepsLoan old new
+pub keeps_replied : {A : Type 0} (old new : Memory) (name size : ℕ) (result : Result A Refusal) → HeapAccepted old.bytes → LendsBodies old → new.lents ≡ old.lents → OnOk result (Resized old.bytes new.bytes name size) → OnErr result (new ≡ old) → (IsLent old name → ⊥) → KeepsLoan old new
 keeps_replied old new name size (Ok answer) h lends same done kept here = keeps_resized old new name size h lends same done here
-keeps_replied old new name size (Err refusal) h lends same done kept here = subst (λ (m : Memory). KeepsLoan old m) (sym kept) (λ name count is. is)
+keeps_replied old new name size (Err refusal) h lends same done kept here = subst (λ (m : Memory). KeepsLoan old m) (sym kept) (keeps_itself old)
 
-resize_done : (old new : Memory) (name : Name) (size : ℕ) (found : Found) → HeapAccepted old.bytes → LendsABody old → IsFound old.bytes name.0 found → 1 ≤ found.owner → found.owner ≢ 15 → found.lock ≢ 15 → PassesAll old name.0 size → Resized old.bytes new.bytes name.0 size → BytesAndSlid old new → Does old (Resize name size) Done new
+resize_done : (old new : Memory) (name : Name) (size : ℕ) (found : Found) → HeapAccepted old.bytes → LendsBodies old → IsFound old.bytes name.0 found → 1 ≤ found.owner → found.owner ≢ 15 → found.lock ≢ 15 → PassesAll old name.0 size → Resized old.bytes new.bytes name.0 size → BytesAndSlid old new → Does old (Resize name size) Done new
 resize_done old new name size found h lends f positive other loose passes r rest =
     let k = known old.bytes name.0 found h f positive in
     let same = name_held old.bytes name.0 found h f ∙ sym k in
@@ -202,13 +201,13 @@ resize_done old new name size found h lends f positive other loose passes r rest
       );
       frame = r.frame;
       still = r.still;
-      loan = keeps_resized old new name.0 size h lends (ap (λ (m : Memory). m.lent) rest) r (λ is. passes.0 (of_known (λ live. IsLent old name.0) (name_held old.bytes name.0 found h f) is));
+      loan = keeps_resized old new name.0 size h lends (ap (λ (m : Memory). m.lents) rest) r (λ is. passes.0 (of_known (λ live. IsLent old name.0) (name_held old.bytes name.0 found h f) is));
       asks = tt;
       rest = rest;
     }
 
 -- by what is answered
-pub resize_replied : {A : Type 0} (old new : Memory) (name : Name) (size : ℕ) (found : Found) (result : Result A Refusal) → HeapAccepted old.bytes → LendsABody old → IsFound old.bytes name.0 found → 1 ≤ found.owner → found.owner ≢ 15 → found.lock ≢ 15 → OnOk result (Resized old.bytes new.bytes found.name.0 size)
+pub resize_replied : {A : Type 0} (old new : Memory) (name : Name) (size : ℕ) (found : Found) (result : Result A Refusal) → HeapAccepted old.bytes → LendsBodies old → IsFound old.bytes name.0 found → 1 ≤ found.owner → found.owner ≢ 15 → found.lock ≢ 15 → OnOk result (Resized old.bytes new.bytes found.name.0 size)
     → OnOk result (PassesAll old found.name.0 size) → OnErr result (new ≡ old) → IfErr result (BringsOne old found.name.0 size) → BytesAndSlid old new → Does old (Resize name size) (reply_of (λ answer. Done) result) new
 resize_replied old new name size found (Ok answer) h lends f positive other loose done could refused why rest =
     resize_done old new name size found h lends f positive other loose (subst (λ (n : ℕ). PassesAll old n size) f.name_is could) (subst (λ (n : ℕ). Resized old.bytes new.bytes n size) f.name_is done) rest
@@ -251,15 +250,6 @@ used_resized {start} {freed} old new used name size m r = record {
 pub used_replied : {A : Type 0} {start : TableStart} {freed : ℕ} {names : List ℕ} (old new : Memory) (used name size : ℕ) (result : Result A Refusal) → IsManaged old.bytes used start freed names → OnOk result (Resized old.bytes new.bytes name size) → OnErr result (new ≡ old) → IsManaged new.bytes used start freed names
 used_replied {A} {start} {freed} {names} old new used name size (Ok answer) m done same = used_resized old.bytes new.bytes used name size m done
 used_replied {A} {start} {freed} {names} old new used name size (Err refusal) m done same = subst (λ (r : Memory). IsManaged r.bytes used start freed names) (sym same) m
-
-pub knows_resized : (old new : Memory) (lent : Option Name) (name size : ℕ) → KnowsLent old old.lent lent → new.lent ≡ old.lent → Resized old.bytes new.bytes name size → ((n : Name) → lent ≡ Some n → n.0 ≡ name → ⊥) → KnowsLent new new.lent lent
-knows_resized old new lent name size k same r apart = knows_where old new lent k same (λ n e. still n (apart n e)) where
-  still : (n : Name) → (n.0 ≡ name → ⊥) → (live : LiveChunk) → held old.bytes n.0 ≡ Some live → 0 < live.lock → (held new.bytes n.0 ≡ Some live) × (place_of new.bytes n.0 ≡ place_of old.bytes n.0)
-  still n other live was locked = let now = each_still old.bytes new.bytes name size r n.0 live other was in (now, r.still n.0 live was locked (subst IsSome (sym now) refl))
-
-pub knows_replied : {A : Type 0} (old new : Memory) (lent : Option Name) (name size : ℕ) (result : Result A Refusal) → KnowsLent old old.lent lent → new.lent ≡ old.lent → OnOk result (Resized old.bytes new.bytes name size) → OnErr result (new ≡ old) → ((n : Name) → lent ≡ Some n → n.0 ≡ name → ⊥) → KnowsLent new new.lent lent
-knows_replied old new lent name size (Ok answer) k same done kept apart = knows_resized old new lent name size k same done apart
-knows_replied old new lent name size (Err refusal) k same done kept apart = subst (λ (m : Memory). KnowsLent m m.lent lent) (sym kept) k
 
 pub growth_lent : (old : Memory) (name : ℕ) (found : Found) (size : ℕ) → HeapAccepted old.bytes → IsFound old.bytes name found → IsLent old name → FirstBrings (growth_checks old (held old.bytes) name size) Lent
 growth_lent old name found size h f is = inl (of_known (λ live. IsLent old name) (name_held old.bytes name found h f) is, refl)

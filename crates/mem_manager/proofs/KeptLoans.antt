@@ -1,16 +1,16 @@
 -- What is lent stays lent.
-use Rattle.std.proofs.Common.{◌≡◌, ℕ, zero, suc, ◌+◌, ◌-◌, ◌<◌, List, length, refl, sym, ap, subst, ◌∙◌, arith, inl, inr}
-use Rattle.std.specs.Prelude.{Option, Some, None, IsSome, IfSome}
+use Rattle.std.proofs.Common.{◌≡◌, ℕ, zero, suc, ◌+◌, ◌-◌, ◌<◌, List, [], ◌∷◌, length, refl, sym, ap, subst, ◌∙◌, arith, inl, inr}
+use Rattle.std.specs.Prelude.{Option, Some, None, IsSome}
 use Rattle.std.specs.Prelude.{◌==◌}
 use Rattle.std.proofs.lemmas.Bool.{cases_eq}
 use Rattle.std.proofs.lemmas.Bool.Decides.{nat_tests}
-use Rattle.heap_model.specs.Memory.{Memory, Lent}
+use Rattle.heap_model.specs.Memory.{Memory, Lent, EachLent, SomeLent}
 use Rattle.heap_model.specs.Chunk.{Chunk, free, movable, fixed, fixed_lock, total}
 use Rattle.heap_model.specs.Slots.{area_start}
 use Rattle.heap_model.specs.Heap.{HeapAccepted}
 use Rattle.heap_model.specs.Meaning.{LiveChunk, NamedHere}
 use Rattle.heap_model.specs.Reading.{chunks_of, held}
-use Rattle.heap_model.specs.Lending.{LentHere, IsLentBody, LendsABody, IsBodyOf, IsLent, KeepsLoan}
+use Rattle.heap_model.specs.Lending.{LentHere, IsLentBody, LendsBodies, IsLent, KeepsLoan}
 use Rattle.heap_model.specs.Maps.{callers_map, not_owned}
 use Rattle.heap_model.specs.Layout.{layout_of, Becomes, owned_freed}
 use Rattle.heap_model.specs.MemorySteps.{IsNoCaller, LendsOf, Of}
@@ -21,10 +21,10 @@ use Rattle.laws_heap.proofs.Exchanges.{ChangesName}
 use Rattle.laws_heap.proofs.FixedNames.{fixed_live_is}
 use Rattle.laws_heap.proofs.Directory.{named_start}
 use Rattle.laws_heap.proofs.FoundChunks.{held_finds, named_size, callers_some}
-use Rattle.laws_heap.proofs.Lives.{live_placed}
+use Rattle.laws_heap.proofs.KeptLoans.{unheld_here}
 use Rattle.laws_heap.proofs.OwnedChunks.{owned_held, owned_place}
 use Rattle.laws_heap.proofs.Tests.{cond-false}
-use Rattle.laws_heap.proofs.LentBodies.{apart, in_front, one, behind, stays_here}
+use Rattle.laws_heap.proofs.LentBodies.{some_gives, some_to, apart, in_front, one, behind, stays_here}
 use Rattle.laws_heap.proofs.Placed.{AnyPlaced-parts}
 use Rattle.heap_place.specs.declared.found.Found.{Found}
 use Rattle.heap_place.specs.Found.{IsFound}
@@ -42,11 +42,10 @@ locked_here lent at name live (movable bytes zero owner slot) n l = absurd l
 locked_here lent at name live (movable bytes (suc lock) owner slot) n l = let e : suc lock ≡ live.lock = ap (λ (x : LiveChunk). x.lock) n.1 in omega (arith, e)
 locked_here lent at name live (fixed bytes owner) n l = let e : fixed_lock ≡ live.lock = ap (λ (x : LiveChunk). x.lock) (fixed_live_is at bytes owner n) in omega (arith, e)
 
-pub lent_locked : (memory : Memory) (name : ℕ) (live : LiveChunk) → HeapAccepted memory.bytes → LendsABody memory → IsLent memory name → held memory.bytes name ≡ Some live → 0 < live.lock
-lent_locked memory name live h l is e = go memory.lent l is where
-  go : (x : Option Lent) → IfSome x (IsLentBody memory.bytes) → IsBodyOf memory.bytes name x → 0 < live.lock
-  go None l is = absurd is
-  go (Some lent) l is =
+pub lent_locked : (memory : Memory) (name : ℕ) (live : LiveChunk) → HeapAccepted memory.bytes → LendsBodies memory → IsLent memory name → held memory.bytes name ≡ Some live → 0 < live.lock
+lent_locked memory name live h l is e = some_gives (λ y. place_of memory.bytes name ≡ Some y.at) (IsLentBody memory.bytes) memory.lents l is one_of_them where
+  one_of_them : (lent : Lent) → IsLentBody memory.bytes lent → place_of memory.bytes name ≡ Some lent.at → 0 < live.lock
+  one_of_them lent l is =
       let g = held_finds memory.bytes name live h e in
       let there : g.at + 8 ≡ lent.at = one_place (sym (finds_place memory.bytes name live g.chunk g.at h g.finds) ∙ is) in
       let at_is = g.finds.there in
@@ -66,40 +65,37 @@ lent_locked memory name live h l is e = go memory.lent l is where
 -- ---- a name that is lent
 
 -- it is lent where its body stands where it stood
-pub lent_there : (old new : Memory) (name : ℕ) → new.lent ≡ old.lent → place_of new.bytes name ≡ place_of old.bytes name → IsLent old name → IsLent new name
-lent_there old new name same placed is = subst (λ (x : Option Lent). IsBodyOf new.bytes name x) (sym same) (go old.lent is) where
-  go : (x : Option Lent) → IsBodyOf old.bytes name x → IsBodyOf new.bytes name x
-  go None is = is
-  go (Some y) is = placed ∙ is
+pub lent_there : (old new : Memory) (name : ℕ) → new.lents ≡ old.lents → place_of new.bytes name ≡ place_of old.bytes name → IsLent old name → IsLent new name
+lent_there old new name same placed is =
+    subst (λ (x : List Lent). SomeLent (λ y. place_of new.bytes name ≡ Some y.at) x) (sym same)
+    (some_to (λ y. place_of old.bytes name ≡ Some y.at) (λ y. place_of new.bytes name ≡ Some y.at) old.lents is (λ y e. placed ∙ e))
 
 -- where what is lent stands for what it stood for, and nothing that stays has moved
-pub keeps_still : (old new : Memory) → HeapAccepted old.bytes → LendsABody old → new.lent ≡ old.lent → Still old.bytes new.bytes → ((n : ℕ) (live : LiveChunk) → IsLent old n → held old.bytes n ≡ Some live → held new.bytes n ≡ Some live) → KeepsLoan old new
+pub keeps_still : (old new : Memory) → HeapAccepted old.bytes → LendsBodies old → new.lents ≡ old.lents → Still old.bytes new.bytes → ((n : ℕ) (live : LiveChunk) → IsLent old n → held old.bytes n ≡ Some live → held new.bytes n ≡ Some live) → KeepsLoan old new
 keeps_still old new h l same still each = λ name count is.
     let now = each name is.live is.lent is.is_held in
-    record {
-      lent = lent_there old new name same (still name is.live is.is_held (lent_locked old name is.live h l is.lent is.is_held) (subst IsSome (sym now) refl)) is.lent;
-      live = is.live;
-      is_held = now;
-      many = is.many;
-    }
+    let placed = still name is.live is.is_held (lent_locked old name is.live h l is.lent is.is_held) (subst IsSome (sym now) refl) in
+    (record { lent = lent_there old new name same placed is.lent; live = is.live; is_held = now; many = is.many }, placed)
 
 -- the same, where each name stands for what it stood for
-pub keeps_map : (old new : Memory) → HeapAccepted old.bytes → LendsABody old → new.lent ≡ old.lent → Still old.bytes new.bytes → ((n : ℕ) → held new.bytes n ≡ held old.bytes n) → KeepsLoan old new
+pub keeps_map : (old new : Memory) → HeapAccepted old.bytes → LendsBodies old → new.lents ≡ old.lents → Still old.bytes new.bytes → ((n : ℕ) → held new.bytes n ≡ held old.bytes n) → KeepsLoan old new
 keeps_map old new h l same still map = keeps_still old new h l same still (λ n live is e. map n ∙ e)
 
 -- where one name's chunk is changed in its place, and has as many bytes
-pub keeps_changed : (old new : Memory) (name : ℕ) (found : Found) (now : LiveChunk) → HeapAccepted old.bytes → new.lent ≡ old.lent → (f : IsFound old.bytes name found) → ChangesName old.bytes new.bytes name (Some now) (Some found.place.0) → length now.bytes ≡ length f.live.bytes → KeepsLoan old new
+pub keeps_changed : (old new : Memory) (name : ℕ) (found : Found) (now : LiveChunk) → HeapAccepted old.bytes → new.lents ≡ old.lents → (f : IsFound old.bytes name found) → ChangesName old.bytes new.bytes name (Some now) (Some found.place.0) → length now.bytes ≡ length f.live.bytes → KeepsLoan old new
 keeps_changed old new name found now h same f ch many = λ n count is. elim (cases_eq n name) [
   | inl here ↦
       let mine : f.live ≡ is.live = one_live (sym (name_held old.bytes name found h f) ∙ ap (λ (m : ℕ). held old.bytes m) (sym here) ∙ is.is_held) in
-      let placed : place_of new.bytes n ≡ place_of old.bytes n = ap (λ (m : ℕ). place_of new.bytes m) here ∙ ch.place ∙ sym was ∙ ap (λ (m : ℕ). place_of old.bytes m) (sym here) in
-      record {
-        lent = lent_there old new n same placed is.lent;
-        live = now;
-        is_held = ap (λ (m : ℕ). held new.bytes m) here ∙ ch.here;
-        many = many ∙ ap (λ (x : LiveChunk). length x.bytes) mine ∙ is.many;
-      }
-  | inr other ↦ record { lent = lent_there old new n same (ch.places n other) is.lent; live = is.live; is_held = ch.others n other ∙ is.is_held; many = is.many }
+      let placed : place_of new.bytes n ≡ place_of old.bytes n = ap (λ (m : ℕ). place_of new.bytes m) here ∙ ch.place ∙ sym was ∙ ap (λ (m : ℕ). place_of old.bytes m) (sym here) in (
+        record {
+          lent = lent_there old new n same placed is.lent;
+          live = now;
+          is_held = ap (λ (m : ℕ). held new.bytes m) here ∙ ch.here;
+          many = many ∙ ap (λ (x : LiveChunk). length x.bytes) mine ∙ is.many;
+        },
+        placed,
+      )
+  | inr other ↦ (record { lent = lent_there old new n same (ch.places n other) is.lent; live = is.live; is_held = ch.others n other ∙ is.is_held; many = is.many }, ch.places n other)
 ] where
   some : ℕ → Option ℕ
   some n = Some n
@@ -114,32 +110,21 @@ keeps_changed old new name found now h same f ch many = λ n count is. elim (cas
   was = finds_place old.bytes name f.live f.chunk (found.place.0 - 8) h f.finds ∙ ap (λ (n : ℕ). some n) low
 
 -- where one name's chunk is changed that is not lent
-pub keeps_others : (old new : Memory) (name : ℕ) (now : Option LiveChunk) (there : Option ℕ) → new.lent ≡ old.lent → ChangesName old.bytes new.bytes name now there → (IsLent old name → ⊥) → KeepsLoan old new
+pub keeps_others : (old new : Memory) (name : ℕ) (now : Option LiveChunk) (there : Option ℕ) → new.lents ≡ old.lents → ChangesName old.bytes new.bytes name now there → (IsLent old name → ⊥) → KeepsLoan old new
 keeps_others old new name now there same ch here = λ n count is. elim (cases_eq n name) [
   | inl this ↦ absurd (here (subst (λ (m : ℕ). IsLent old m) this is.lent))
-  | inr other ↦ record { lent = lent_there old new n same (ch.places n other) is.lent; live = is.live; is_held = ch.others n other ∙ is.is_held; many = is.many }
+  | inr other ↦ (record { lent = lent_there old new n same (ch.places n other) is.lent; live = is.live; is_held = ch.others n other ∙ is.is_held; many = is.many }, ch.places n other)
 ]
 
--- a name that stands for nothing is not lent
-pub live_nowhere : (image : List ℕ) (name : ℕ) → held image name ≡ None → place_of image name ≡ None
-unfolding held
-live_nowhere image name e = live_placed (area_start image) (chunks_of image) name e
-
-pub unheld_here : (memory : Memory) (name : ℕ) → held memory.bytes name ≡ None → IsLent memory name → ⊥
-unheld_here memory name none is = go memory.lent is where
-  go : (x : Option Lent) → IsBodyOf memory.bytes name x → ⊥
-  go None is = is
-  go (Some y) is = let no = sym (live_nowhere memory.bytes name none) ∙ is in absurd cc
-
 -- where a chunk is made under one
-pub keeps_made : (old new : Memory) (size owner name : ℕ) → HeapAccepted old.bytes → LendsABody old → new.lent ≡ old.lent → MakesNew old.bytes new.bytes name size owner → KeepsLoan old new
+pub keeps_made : (old new : Memory) (size owner name : ℕ) → HeapAccepted old.bytes → LendsBodies old → new.lents ≡ old.lents → MakesNew old.bytes new.bytes name size owner → KeepsLoan old new
 keeps_made old new size owner name h l same m = keeps_still old new h l same m.leaves.still (λ n live is e. elim (cases_eq n name) [
   | inl this ↦ absurd (unheld_here old name m.fresh (subst (λ (j : ℕ). IsLent old j) this is))
   | inr apart ↦ m.leaves.map n ∙ cond-false (n == name) _ _ (grind (arith, nat_tests)) ∙ e
 ])
 
 -- where all chunks of an owner go of whom none is lent
-pub keeps_owned : (old new : Memory) (owner : ℕ) → HeapAccepted old.bytes → LendsABody old → (IsNoCaller owner → ⊥) → new.lent ≡ old.lent → (LendsOf old (callers_map old.bytes) owner → ⊥) → Becomes old.bytes new.bytes (owned_freed owner (layout_of old.bytes)) → KeepsLoan old new
+pub keeps_owned : (old new : Memory) (owner : ℕ) → HeapAccepted old.bytes → LendsBodies old → (IsNoCaller owner → ⊥) → new.lents ≡ old.lents → (LendsOf old (callers_map old.bytes) owner → ⊥) → Becomes old.bytes new.bytes (owned_freed owner (layout_of old.bytes)) → KeepsLoan old new
 keeps_owned old new owner h l caller same none b = keeps_still old new h l same (λ name live held_there locked is_there. owned_place old.bytes new.bytes owner name h b is_there) each where
   of : (n : ℕ) (live : LiveChunk) → IsLent old n → held old.bytes n ≡ Some live → live.owner ≡ owner → LendsOf old (callers_map old.bytes) owner
   of n live is e own = record {

@@ -1,270 +1,113 @@
--- What a heap knows of its loan gives what the layers below ask for.
-use Rattle.std.proofs.Common.{◌≡◌, ◌≢◌, ℕ, zero, suc, ◌+◌, ◌-◌, ◌<◌, ◌==◌, List, length, refl, sym, ap, subst, ◌∙◌, arith, inl, inr}
-use Rattle.std.specs.Prelude.{Option, Some, None, IsSome, IfSome}
-use Rattle.std.proofs.lemmas.Bool.{cases_eq}
-use Rattle.std.proofs.lemmas.Bool.Decides.{nat_tests}
-use Rattle.heap_model.specs.Memory.{Memory, Lent}
-use Rattle.heap_model.specs.Chunk.{Chunk, free, movable, fixed}
+-- Whether a body is lent, by its place and by its name.
+use Rattle.std.proofs.Common.{◌≡◌, ◌≢◌, ℕ, zero, suc, ◌+◌, ◌<◌, List, [], ◌∷◌, refl, sym, ap, subst, ◌∙◌, arith, inl, inr}
+use Rattle.std.specs.Prelude.{Option, Some, None}
+use Rattle.heap_model.specs.Chunk.{Chunk, free, movable, fixed, total, Spelled}
+use Rattle.heap_model.specs.Placing.{Finds}
+use Rattle.heap_model.specs.Store.{owner_of, owner_under}
+use Rattle.laws_heap.proofs.AlteredChunks.{finds_place}
+use Rattle.heap_place.proofs.FoundLaws.{name_held}
+use Rattle.laws_heap.proofs.KeptLoans.{unheld_here}
+use Rattle.mem_manager.specs.Lookup.{IsHere}
 use Rattle.heap_model.specs.Slots.{area_start}
+use Rattle.heap_model.specs.Memory.{Memory, Lent, EachLent}
 use Rattle.heap_model.specs.Heap.{HeapAccepted}
 use Rattle.heap_model.specs.Meaning.{LiveChunk, NamedHere}
 use Rattle.heap_model.specs.Reading.{held}
-use Rattle.heap_model.specs.Placed.{AnyPlaced}
-use Rattle.heap_model.specs.Placing.{Finds}
-use Rattle.heap_model.specs.Lending.{LentHere, IsLentBody, LendsABody, LendsOther, IsBodyOf, IsLent}
-use Rattle.heap_model.specs.Space.{place_of, Still}
-use Rattle.heap_model.specs.Maps.{callers_map, not_owned}
+use Rattle.heap_model.specs.Lending.{IsLent, LentHere, IsLentBody, LendsBodies, LendsOther}
+use Rattle.heap_model.specs.Space.{place_of}
 use Rattle.heap_model.specs.declared.names.Name.{Name}
-use Rattle.laws_heap.proofs.Placed.{AnyPlaced-mid}
-use Rattle.laws_heap.proofs.FixedNames.{fixed_live_is, fixed_owned}
-use Rattle.laws_heap.proofs.FoundChunks.{held_finds, finds_read, callers_some}
-use Rattle.laws_heap.proofs.Exchanges.{ChangesName}
-use Rattle.heap_place.proofs.FoundLaws.{name_held}
+use Rattle.raw_region.specs.Marks.{BeginsAt}
+use Rattle.laws_heap.proofs.FixedNames.{fixed_live_is}
+use Rattle.laws_heap.proofs.FoundChunks.{named_size, held_finds, finds_spelled}
+use Rattle.laws_heap.proofs.LentBodies.{lent_chunk, apart, in_front, one, behind, some_gives, some_to}
 use Rattle.heap_place.specs.declared.found.Found.{Found}
-use Rattle.heap_place.specs.Found.{IsOne, IsFound}
-use Rattle.mem_manager.specs.Loans.{LendsUnder, KnowsLent}
-use Rattle.mem_manager.specs.Lookup.{MakesNew}
-use Rattle.laws_heap.proofs.Tests.{cond-false}
-use Rattle.mem_manager.proofs.Places.{callers_held, not_managers}
-use Rattle.heap_place.proofs.RelocateLaws.{one_placed}
-use Rattle.laws_heap.proofs.AlteredChunks.{finds_place}
+use Rattle.heap_place.specs.Found.{IsFound, IsOne}
+use Rattle.heap_compact.proofs.RelocateLaws.{one_placed}
+use Rattle.mem_manager.proofs.KeptLoans.{lent_locked}
+use Rattle.mem_manager.proofs.StepWords.{one_of}
 
 same_place : {m n : ℕ} → Some m ≡ Some n → m ≡ n
 same_place e = cc
 
-here : (lent : Lent) (at name : ℕ) (live : LiveChunk) (c : Chunk) → NamedHere name live at c → 0 < live.lock → lent.at ≡ at + 8 → lent.count ≡ length live.bytes → LentHere lent at c
-here lent at name live (free size) n = absurd n
-here lent at name live (movable bytes zero owner slot) n = λ some there count.
-    let e : 0 ≡ live.lock = ap (λ (x : LiveChunk). x.lock) n.1 in absurd (omega (arith, e, some))
-here lent at name live (movable bytes (suc lock) owner slot) n = λ some there count. (there, count ∙ sym (ap (λ (x : LiveChunk). length x.bytes) n.1))
-here lent at name live (fixed bytes owner) n = λ some there count. (there, count ∙ sym (ap (λ (x : LiveChunk). length x.bytes) (fixed_live_is at bytes owner n)), fixed_owned at bytes owner n)
+-- ---- whether a body is lent
 
--- where the chunk stands whose body it is
-pub record StandsLent (image : List ℕ) (name : ℕ) (lent : Lent) : Type 0 where
-  pub live : LiveChunk
-  pub chunk : Chunk
-  pub at : ℕ
-  pub finds : Finds image name live chunk at
-  pub there : lent.at ≡ at + 8
-  pub is : LentHere lent at chunk
+pub none_begins : (at : ℕ) (lents : List Lent) → (BeginsAt at lents → ⊥) → EachLent (λ l. l.at ≢ at) lents
+none_begins at [] none = tt
+none_begins at (l ∷ ls) none = ((λ e. none (inl e)), none_begins at ls (λ r. none (inr r)))
 
-pub stands_lent : (memory : Memory) (name : ℕ) (lent : Lent) → HeapAccepted memory.bytes → LendsUnder memory name lent → StandsLent memory.bytes name lent
-stands_lent memory name lent h u =
-    let g = held_finds memory.bytes name u.live h (callers_held (held memory.bytes name) u.live u.is_held) in
-    let there : lent.at ≡ g.at + 8 = same_place (sym u.there ∙ finds_place memory.bytes name u.live g.chunk g.at h g.finds) in
-    record { live = u.live; chunk = g.chunk; at = g.at; finds = g.finds; there = there; is = here lent g.at name u.live g.chunk g.finds.named u.stays there u.whole }
+pub placed : (image : List ℕ) (name : ℕ) (found : Found) → HeapAccepted image → IsFound image name found → place_of image name ≡ Some found.place.0
+placed image name found h f = subst (λ (n : ℕ). place_of image n ≡ Some found.place.0) f.name_is (one_placed image found h (one_of f))
 
-pub knows_lends : (memory : Memory) (name : Option Name) → HeapAccepted memory.bytes → KnowsLent memory memory.lent name → LendsABody memory
-knows_lends memory name h k = go memory.lent name k where
-  go : (lent : Option Lent) (n : Option Name) → KnowsLent memory lent n → IfSome lent (IsLentBody memory.bytes)
-  go None None k = tt
-  go None (Some n) k = absurd k
-  go (Some lent) None k = absurd k
-  go (Some lent) (Some n) k =
-      let s = stands_lent memory n.0 lent h k in
-      subst (λ cs. AnyPlaced (LentHere lent) (area_start memory.bytes) cs) (sym s.finds.chunks)
-      (AnyPlaced-mid (LentHere lent) (area_start memory.bytes) s.finds.before s.chunk s.finds.after (subst (λ (j : ℕ). LentHere lent j s.chunk) s.finds.there s.is))
+pub here_of : (m : Memory) (name : Name) (found : Found) → HeapAccepted m.bytes → IsFound m.bytes name.0 found → LendsOther m found.place.0 → IsLent m name.0 → ⊥
+here_of m name found h f other is =
+    some_gives (λ l. place_of m.bytes name.0 ≡ Some l.at) (λ l. l.at ≢ found.place.0) m.lents other is (λ l differs e. differs (same_place (sym e ∙ placed m.bytes name.0 found h f)))
 
-pub one_name : (m n : ℕ) (x y : LiveChunk) (at : ℕ) (c : Chunk) → NamedHere m x at c → NamedHere n y at c → m ≡ n
-one_name m n x y at (free size) a b = absurd a
-one_name m n x y at (movable bytes lock owner slot) a b = sym a.0 ∙ b.0
-one_name m n x y at (fixed bytes owner) a b = sym a.0 ∙ b.0
+pub lent_of : (m : Memory) (name : Name) (found : Found) → HeapAccepted m.bytes → IsFound m.bytes name.0 found → BeginsAt found.place.0 m.lents → IsLent m name.0
+lent_of m name found h f begins =
+    some_to (λ l. l.at ≡ found.place.0) (λ l. place_of m.bytes name.0 ≡ Some l.at) m.lents begins (λ l e. placed m.bytes name.0 found h f ∙ ap (λ (n : ℕ). Some n) (sym e))
 
-pub known_other : (memory : Memory) (name : Option Name) (found : Found) → HeapAccepted memory.bytes → KnowsLent memory memory.lent name → IsOne memory.bytes found → (name ≡ Some found.name → ⊥) → LendsOther memory found.place.0
-known_other memory name found h k f other = go memory.lent name k other where
-  same_chunk : {c d : Chunk} → Some c ≡ Some d → c ≡ d
-  same_chunk e = cc
+pub lent_begins : (m : Memory) (name : ℕ) (found : Found) → HeapAccepted m.bytes → IsFound m.bytes name found → IsLent m name → BeginsAt found.place.0 m.lents
+lent_begins m name found h f lent =
+    some_to (λ l. place_of m.bytes name ≡ Some l.at) (λ l. l.at ≡ found.place.0) m.lents lent (λ l is. same_place (sym is ∙ placed m.bytes name found h f))
 
-  go : (lent : Option Lent) (n : Option Name) → KnowsLent memory lent n → (n ≡ Some found.name → ⊥) → IfSome lent (λ x. x.at ≢ found.place.0)
-  go None None k o = tt
-  go None (Some n) k o = absurd k
-  go (Some lent) None k o = absurd k
-  go (Some lent) (Some n) k o = λ e.
-      let s = stands_lent memory n.0 lent h k in
-      let low = f.behind_header in
-      let there = s.there in
-      let at_is : found.place.0 - 8 ≡ s.at = omega (arith, e, low, there) in
-      let mine = subst (λ (j : ℕ). Finds memory.bytes found.name.0 f.live f.chunk j) at_is f.finds in
-      let c_is : f.chunk ≡ s.chunk = same_chunk (sym (finds_read memory.bytes found.name.0 f.live f.chunk s.at h mine) ∙ finds_read memory.bytes n.0 s.live s.chunk s.at h s.finds) in
-      let names : n.0 ≡ found.name.0 = one_name n.0 found.name.0 s.live f.live s.at s.chunk s.finds.named (subst (λ (c : Chunk). NamedHere found.name.0 f.live s.at c) c_is mine.named) in
-      o (λ i. Some (record { 0 = names i }))
+-- a lent body at the place of a chunk is that chunk's
+pub lent_at_found : (m : Memory) (name : ℕ) (live : LiveChunk) (chunk : Chunk) (at : ℕ) (lent : Lent) → IsLentBody m.bytes lent → (f : Finds m.bytes name live chunk at) → at + 8 ≡ lent.at → LentHere lent at chunk
+lent_at_found m name live chunk at lent l f same =
+    let p = lent_chunk m.bytes lent l in
+    let at_is = p.is.there in let fits = p.is.fits in let there = f.there in
+    let size = named_size name live at chunk f.named in
+    elim (apart f.before chunk f.after p.before p.chunk p.after (sym f.chunks ∙ p.chunks)) [
+      | in_front k ↦ absurd (omega (arith, k, at_is, there, same, size))
+      | one t s ↦
+          let where_is : area_start m.bytes + total p.before ≡ at = omega (arith, t, there) in
+          subst (λ (c : Chunk). LentHere lent at c) (sym s) (subst (λ (n : ℕ). LentHere lent n p.chunk) where_is p.here)
+      | behind k ↦ absurd (omega (arith, k, at_is, there, same, fits))
+    ]
 
--- ---- whether a name is lent
+pub other_not_lent : (m : Memory) (found : Found) → HeapAccepted m.bytes → IsOne m.bytes found → LendsOther m found.place.0 → IsLent m found.name.0 → ⊥
+other_not_lent m found h f other is =
+    some_gives (λ l. place_of m.bytes found.name.0 ≡ Some l.at) (λ l. l.at ≢ found.place.0) m.lents other is (λ l differs e. differs (same_place (sym e ∙ one_placed m.bytes found h f)))
 
-pub other_not_lent : (memory : Memory) (found : Found) → HeapAccepted memory.bytes → IsOne memory.bytes found → LendsOther memory found.place.0 → IsLent memory found.name.0 → ⊥
-other_not_lent memory found h f other lent = go memory.lent other lent where
-  go : (x : Option Lent) → IfSome x (λ y. y.at ≢ found.place.0) → IsBodyOf memory.bytes found.name.0 x → ⊥
-  go None o b = b
-  go (Some y) o b = o (same_place (sym b ∙ one_placed memory.bytes found h f))
+pub not_lent_other : (m : Memory) (name : ℕ) (found : Found) → HeapAccepted m.bytes → IsFound m.bytes name found → (IsLent m name → ⊥) → LendsOther m found.place.0
+not_lent_other m name found h f here = none_begins found.place.0 m.lents (λ b. here (some_to (λ l. l.at ≡ found.place.0) (λ l. place_of m.bytes name ≡ Some l.at) m.lents b (λ l e. placed m.bytes name found h f ∙ ap (λ (n : ℕ). Some n) (sym e))))
 
-pub known_lent : (memory : Memory) (name : Option Name) (n : Name) → KnowsLent memory memory.lent name → name ≡ Some n → IsLent memory n.0
-known_lent memory name n k e = go memory.lent (subst (λ (x : Option Name). KnowsLent memory memory.lent x) e k) where
-  go : (x : Option Lent) → KnowsLent memory x (Some n) → IsBodyOf memory.bytes n.0 x
-  go None b = b
-  go (Some y) b = b.there
+-- what is lent has an owner other than the manager
+owner_there : (image : List ℕ) (name : ℕ) (live : LiveChunk) → held image name ≡ Some live → owner_under image name ≡ live.owner
+unfolding owner_under
+owner_there image name live e = ap owner_of e
 
--- ---- a heap goes on knowing it
+owned_here : (image : List ℕ) (lent : Lent) (at name : ℕ) (live : LiveChunk) (c : Chunk) → Spelled image at c → NamedHere name live at c → LentHere lent at c → 0 < live.owner
+owned_here image lent at name live (free size) s n l = absurd l
+owned_here image lent at name live (movable bytes zero owner slot) s n l = absurd l
+owned_here image lent at name live (movable bytes (suc lock) owner slot) s n l =
+    let own : owner ≡ live.owner = ap (λ (x : LiveChunk). x.owner) n.1 in
+    elim s.3 [ inl none ↦ absurd (omega (arith, none)) | inr some ↦ omega (arith, some, own) ]
+owned_here image lent at name live (fixed bytes owner) s n l =
+    let own : owner ≡ live.owner = ap (λ (x : LiveChunk). x.owner) (fixed_live_is at bytes owner n) in let some = l.2 in omega (arith, some, own)
 
-pub record StaysLent (old new : List ℕ) (name : ℕ) (live : LiveChunk) : Type 0 where
-  pub now : LiveChunk
-  pub is_held : callers_map new name ≡ Some now
-  pub stays : 0 < now.lock
-  pub many : length now.bytes ≡ length live.bytes
-  pub there : place_of new name ≡ place_of old name
+pub lent_owned : (m : Memory) (name : ℕ) → HeapAccepted m.bytes → LendsBodies m → IsLent m name → owner_under m.bytes name ≢ 0
+lent_owned m name h l is own = by (held m.bytes name) refl where
+  by : (o : Option LiveChunk) → held m.bytes name ≡ o → ⊥
+  by None e = unheld_here m name e is
+  by (Some live) e =
+      let g = held_finds m.bytes name live h e in
+      let some : 0 < live.owner = some_gives (λ y. place_of m.bytes name ≡ Some y.at) (IsLentBody m.bytes) m.lents l is (λ y body at.
+      let here : g.at + 8 ≡ y.at = same_place (sym (finds_place m.bytes name live g.chunk g.at h g.finds) ∙ at) in
+      owned_here m.bytes y g.at name live g.chunk (finds_spelled m.bytes name live g.chunk g.at h g.finds) g.finds.named (lent_at_found m name live g.chunk g.at y body g.finds here)) in
+      let there = owner_there m.bytes name live e in
+      omega (arith, some, there, own)
 
-pub knows_still : (old new : Memory) (name : Option Name) → KnowsLent old old.lent name → new.lent ≡ old.lent → ((n : ℕ) (live : LiveChunk) → callers_map old.bytes n ≡ Some live → 0 < live.lock → StaysLent old.bytes new.bytes n live) → KnowsLent new new.lent name
-knows_still old new name k same each = subst (λ (x : Option Lent). KnowsLent new x name) (sym same) (go old.lent name k) where
-  go : (x : Option Lent) (n : Option Name) → KnowsLent old x n → KnowsLent new x n
-  go None None k = tt
-  go None (Some n) k = k
-  go (Some y) None k = k
-  go (Some y) (Some n) k =
-      let s = each n.0 k.live k.is_held k.stays in
-      record { live = s.now; is_held = s.is_held; stays = s.stays; there = s.there ∙ k.there; whole = k.whole ∙ sym s.many }
+pub here_inside : (region value : Memory) (name : ℕ) → region ≡ value → HeapAccepted region.bytes → LendsBodies region → IsHere value name → IsLent region name → ⊥
+here_inside region value name view h lends here is =
+    let here_too = subst (λ (m : Memory). IsHere m name) (sym view) here in
+    here_too.not_lent (lent_owned region name h lends is) is
 
--- of a name that callers give
-pub here_of : (memory : Memory) (lent : Option Name) (name : Name) (found : Found) → HeapAccepted memory.bytes → KnowsLent memory memory.lent lent → (f : IsFound memory.bytes name.0 found) → (lent ≡ Some found.name → ⊥) → IsLent memory name.0 → ⊥
-here_of memory lent name found h k f other is =
-    let own : IsOne memory.bytes found = subst (λ (n : ℕ). IsFound memory.bytes n found) (sym f.name_is) f in
-    other_not_lent memory found h own (known_other memory lent found h k own other) (subst (λ (n : ℕ). IsLent memory n) (sym f.name_is) is)
+pub managers_here : (region value : Memory) (name : ℕ) → region ≡ value → HeapAccepted region.bytes → LendsBodies region → owner_under value.bytes name ≡ 0 → IsLent value name → ⊥
+managers_here region value name view h lends own is = here_inside region value name view h lends (record { not_lent = λ other lent_too. other own }) (subst (λ (m : Memory). IsLent m name) (sym view) is)
 
-pub lent_of_name : (memory : Memory) (lent : Option Name) (name : Name) (found : Found) → KnowsLent memory memory.lent lent → (f : IsFound memory.bytes name.0 found) → lent ≡ Some found.name → IsLent memory name.0
-lent_of_name memory lent name found k f e = subst (λ (n : ℕ). IsLent memory n) f.name_is (known_lent memory lent found.name k e)
-
--- where one name's chunk is changed in its place, and goes on staying with as many bytes, if it
--- does
-pub knows_changed : (old new : Memory) (lent : Option Name) (name : ℕ) (found : Found) (now : LiveChunk) → HeapAccepted old.bytes → KnowsLent old old.lent lent → new.lent ≡ old.lent → (f : IsFound old.bytes name found) → ChangesName old.bytes new.bytes name (Some now) (Some found.place.0)
-    → now.owner ≢ 0 → length now.bytes ≡ length f.live.bytes → (0 < f.live.lock → 0 < now.lock) → KnowsLent new new.lent lent
-knows_changed old new lent name found now h k same f ch owned many locks = knows_still old new lent k same each where
-  low : found.place.0 - 8 + 8 ≡ found.place.0
-  low = let b = f.behind_header in omega (arith, b)
-
-  some : ℕ → Option ℕ
-  some n = Some n
-
-  was : place_of old.bytes name ≡ Some found.place.0
-  was = finds_place old.bytes name f.live f.chunk (found.place.0 - 8) h f.finds ∙ ap (λ (n : ℕ). some n) low
-
-  one_live : (x y : LiveChunk) → Some x ≡ Some y → x ≡ y
-  one_live x y e = cc
-
-  each : (n : ℕ) (live : LiveChunk) → callers_map old.bytes n ≡ Some live → 0 < live.lock → StaysLent old.bytes new.bytes n live
-  each n live e locked =
-      let was_held : held old.bytes n ≡ Some live = callers_held (held old.bytes n) live e in
-      elim (cases_eq n name) [
-        | inl here ↦
-            let mine : f.live ≡ live = one_live f.live live (sym (name_held old.bytes name found h f) ∙ ap (λ (m : ℕ). held old.bytes m) (sym here) ∙ was_held) in
-            record {
-              now = now;
-              is_held = callers_some new.bytes n now (ap (λ (m : ℕ). held new.bytes m) here ∙ ch.here) owned;
-              stays = locks (subst (λ (x : LiveChunk). 0 < x.lock) (sym mine) locked);
-              many = many ∙ ap (λ (x : LiveChunk). length x.bytes) mine;
-              there = ap (λ (m : ℕ). place_of new.bytes m) here ∙ ch.place ∙ sym was ∙ ap (λ (m : ℕ). place_of old.bytes m) (sym here);
-            }
-        | inr other ↦ record {
-          now = live;
-          is_held = callers_some new.bytes n live (ch.others n other ∙ was_held) (not_managers live (ap (not_owned 0) (sym was_held) ∙ e));
-          stays = locked;
-          many = refl;
-          there = ch.places n other;
-        }
-      ]
-
--- where one name's chunk is changed, and it is not the one that is lent
-pub knows_beside : (old new : Memory) (lent : Option Name) (name : ℕ) (now : Option LiveChunk) (there : Option ℕ) → KnowsLent old old.lent lent → new.lent ≡ old.lent → ChangesName old.bytes new.bytes name now there → ((n : Name) → lent ≡ Some n → n.0 ≡ name → ⊥) → KnowsLent new new.lent lent
-knows_beside old new lent name now there k same ch other = subst (λ (x : Option Lent). KnowsLent new x lent) (sym same) (go old.lent lent k other) where
-  go : (x : Option Lent) (n : Option Name) → KnowsLent old x n → ((m : Name) → n ≡ Some m → m.0 ≡ name → ⊥) → KnowsLent new x n
-  go None None k o = tt
-  go None (Some n) k o = k
-  go (Some y) None k o = k
-  go (Some y) (Some n) k o =
-      let apart = o n refl in
-      let was_held : held old.bytes n.0 ≡ Some k.live = callers_held (held old.bytes n.0) k.live k.is_held in
-      record {
-        live = k.live;
-        is_held = callers_some new.bytes n.0 k.live (ch.others n.0 apart ∙ was_held) (not_managers k.live (ap (not_owned 0) (sym was_held) ∙ k.is_held));
-        stays = k.stays;
-        there = ch.places n.0 apart ∙ k.there;
-        whole = k.whole;
-      }
-
--- the name that is lent is not this one
-pub lent_apart : (memory : Memory) (lent : Option Name) (name : Name) (found : Found) → IsFound memory.bytes name.0 found → (lent ≡ Some found.name → ⊥) → (n : Name) → lent ≡ Some n → n.0 ≡ name.0 → ⊥
-lent_apart memory lent name found f other n e same =
-    let names : n.0 ≡ found.name.0 = same ∙ sym f.name_is in
-    other (e ∙ (λ i. Some (record { 0 = names i })))
-
--- a name that stands for nothing is not lent
-pub lent_not_new : (memory : Memory) (lent : Option Name) (name : ℕ) → KnowsLent memory memory.lent lent → held memory.bytes name ≡ None → (n : Name) → lent ≡ Some n → n.0 ≡ name → ⊥
-lent_not_new memory lent name k none n e same = go memory.lent (subst (λ (x : Option Name). KnowsLent memory memory.lent x) e k) where
-  go : (x : Option Lent) → KnowsLent memory x (Some n) → ⊥
-  go None b = b
-  go (Some y) b = let is = sym (callers_held (held memory.bytes n.0) b.live b.is_held) ∙ ap (λ (m : ℕ). held memory.bytes m) same ∙ none in absurd cc
-
--- a name that is not lent has its body elsewhere, and isn't the one that the heap remembers
-pub not_lent_other : (memory : Memory) (name : ℕ) (found : Found) → HeapAccepted memory.bytes → IsFound memory.bytes name found → (IsLent memory name → ⊥) → LendsOther memory found.place.0
-not_lent_other memory name found h f here = go memory.lent here where
-  some : ℕ → Option ℕ
-  some n = Some n
-
-  go : (x : Option Lent) → (IsBodyOf memory.bytes name x → ⊥) → IfSome x (λ y. y.at ≢ found.place.0)
-  go None refuse = tt
-  go (Some y) refuse = λ e.
-      let low = f.behind_header in
-      let at_is : found.place.0 - 8 + 8 ≡ y.at = omega (arith, e, low) in
-      refuse (finds_place memory.bytes name f.live f.chunk (found.place.0 - 8) h f.finds ∙ ap (λ (n : ℕ). some n) at_is)
-
-pub here_apart : (memory : Memory) (lent : Option Name) (name : ℕ) → KnowsLent memory memory.lent lent → (IsLent memory name → ⊥) → (n : Name) → lent ≡ Some n → n.0 ≡ name → ⊥
-here_apart memory lent name k here n e same = here (subst (λ (m : ℕ). IsLent memory m) same (known_lent memory lent n k e))
-
--- where what stands for something does so still, and what stays stands where it was
-pub knows_kept : (old new : Memory) (lent : Option Name) → KnowsLent old old.lent lent → new.lent ≡ old.lent → ((n : ℕ) → held new.bytes n ≡ held old.bytes n) → Still old.bytes new.bytes → KnowsLent new new.lent lent
-knows_kept old new lent k same map still = knows_still old new lent k same each where
-  each : (n : ℕ) (live : LiveChunk) → callers_map old.bytes n ≡ Some live → 0 < live.lock → StaysLent old.bytes new.bytes n live
-  each n live e locked =
-      let was_held : held old.bytes n ≡ Some live = callers_held (held old.bytes n) live e in
-      let now_held : held new.bytes n ≡ Some live = map n ∙ was_held in
-      record {
-        now = live;
-        is_held = callers_some new.bytes n live now_held (not_managers live (ap (not_owned 0) (sym was_held) ∙ e));
-        stays = locked;
-        many = refl;
-        there = still n live was_held locked (subst IsSome (sym now_held) refl);
-      }
-
--- a new chunk is made under a name that stood for nothing
-pub knows_fresh : (old new : Memory) (lent : Option Name) (name size owner : ℕ) → KnowsLent old old.lent lent → new.lent ≡ old.lent → MakesNew old.bytes new.bytes name size owner → KnowsLent new new.lent lent
-knows_fresh old new lent name size owner k same m = knows_still old new lent k same each where
-  each : (n : ℕ) (live : LiveChunk) → callers_map old.bytes n ≡ Some live → 0 < live.lock → StaysLent old.bytes new.bytes n live
-  each n live e locked =
-      let was_held : held old.bytes n ≡ Some live = callers_held (held old.bytes n) live e in
-      elim (cases_eq n name) [
-        | inl same_name ↦ absurd (let is = sym was_held ∙ ap (λ (j : ℕ). held old.bytes j) same_name ∙ m.fresh in cc)
-        | inr apart ↦
-            let now_held : held new.bytes n ≡ Some live = m.leaves.map n ∙ cond-false (n == name) _ _ (grind (arith, nat_tests)) ∙ was_held in
-            record {
-              now = live;
-              is_held = callers_some new.bytes n live now_held (not_managers live (ap (not_owned 0) (sym was_held) ∙ e));
-              stays = locked;
-              many = refl;
-              there = m.leaves.still n live was_held locked (subst IsSome (sym now_held) refl);
-            }
-      ]
-
--- where the chunk that is lent is as it was, and stands where it did
-pub knows_where : (old new : Memory) (lent : Option Name) → KnowsLent old old.lent lent → new.lent ≡ old.lent → ((n : Name) → lent ≡ Some n → (live : LiveChunk) → held old.bytes n.0 ≡ Some live → 0 < live.lock → (held new.bytes n.0 ≡ Some live) × (place_of new.bytes n.0 ≡ place_of old.bytes n.0)) → KnowsLent new new.lent lent
-knows_where old new lent k same each = subst (λ (x : Option Lent). KnowsLent new x lent) (sym same) (go old.lent lent k each) where
-  go : (x : Option Lent) (n : Option Name) → KnowsLent old x n → ((m : Name) → n ≡ Some m → (live : LiveChunk) → held old.bytes m.0 ≡ Some live → 0 < live.lock → (held new.bytes m.0 ≡ Some live) × (place_of new.bytes m.0 ≡ place_of old.bytes m.0)) → KnowsLent new x n
-  go None None k e = tt
-  go None (Some n) k e = k
-  go (Some y) None k e = k
-  go (Some y) (Some n) k e =
-      let was_held : held old.bytes n.0 ≡ Some k.live = callers_held (held old.bytes n.0) k.live k.is_held in
-      let now = e n refl k.live was_held k.stays in
-      record {
-        live = k.live;
-        is_held = callers_some new.bytes n.0 k.live now.0 (not_managers k.live (ap (not_owned 0) (sym was_held) ∙ k.is_held));
-        stays = k.stays;
-        there = now.1 ∙ k.there;
-        whole = k.whole;
-      }
+-- nor is what has no lock
+pub unlocked_here : (region value : Memory) (name : ℕ) (found : Found) → region ≡ value → HeapAccepted region.bytes → LendsBodies region → IsFound region.bytes name found → found.lock ≡ 0 → IsLent value name → ⊥
+unlocked_here region value name found view h lends f unlocked is =
+    let locked = lent_locked region name f.live h lends (subst (λ (m : Memory). IsLent m name) (sym view) is) (name_held region.bytes name found h f) in
+    let lock = f.lock_is in
+    omega (arith, locked, lock, unlocked)

@@ -2,6 +2,7 @@ pub mod RememberedNames
 pub mod StepWords
 pub mod ChunkCalls
 pub mod NewChunks
+pub mod OutLaws
 pub mod CountLaws
 pub mod Texts
 pub mod KnownLoans

@@ -1,5 +1,5 @@
 -- The step of the call that makes a further table.
-use Rattle.std.proofs.Common.{◌≡◌, ℕ, ◌+◌, ◌≤◌, List, [], ◌∷◌, Option, refl, sym, ap, subst, ◌∙◌, arith, inl}
+use Rattle.std.proofs.Common.{◌≡◌, ℕ, ◌+◌, ◌≤◌, List, [], ◌∷◌, refl, sym, ap, subst, ◌∙◌, arith, inl}
 use Rattle.std.specs.Prelude.{IsSome}
 use Rattle.heap_model.specs.Memory.{Memory}
 use Rattle.heap_model.specs.Slots.{slots_total, area_start}
@@ -18,11 +18,8 @@ use Rattle.laws_heap.proofs.SlidImages.{slot_unheld, slides_alike, same_moved}
 use Rattle.master_table.proofs.TableLaws.{used_fewer, used_more_slots}
 use Rattle.master_table.proofs.RowLaws.{starts_gained}
 use Rattle.master_table.specs.declared.slots.TableStart.{TableStart}
-use Rattle.heap_model.specs.declared.names.Name.{Name}
-use Rattle.mem_manager.specs.Loans.{KnowsLent}
 use Rattle.mem_manager.specs.Lookup.{IsManaged}
-use Rattle.mem_manager.proofs.KnownLoans.{knows_kept}
-use Rattle.heap_model.specs.Lending.{LendsABody, KeepsLoan}
+use Rattle.heap_model.specs.Lending.{LendsBodies, KeepsLoan}
 use Rattle.laws_heap.proofs.KeptLoans.{keeps_then}
 use Rattle.mem_manager.proofs.KeptLoans.{lent_there, keeps_map}
 use Rattle.mem_manager.proofs.StepWords.{OnlyBytes, refused, still_unmoved}
@@ -32,10 +29,11 @@ pub more_refused : (region : Memory) → HeapAccepted region.bytes → HasNoMore
 more_refused region h none = refused region MoreSlots NotEnoughSpace h (inl (none, refl))
 
 -- what is lent stays so where a table is put
-keeps_put : (old new : Memory) (place : ℕ) → new.lent ≡ old.lent → PutsTable old.bytes new.bytes place → KeepsLoan old new
-keeps_put old new place same p = λ name count is. record { lent = lent_there old new name same (p.places name) is.lent; live = is.live; is_held = p.map name ∙ is.is_held; many = is.many }
+keeps_put : (old new : Memory) (place : ℕ) → new.lents ≡ old.lents → PutsTable old.bytes new.bytes place → KeepsLoan old new
+keeps_put old new place same p = λ name count is.
+    (record { lent = lent_there old new name same (p.places name) is.lent; live = is.live; is_held = p.map name ∙ is.is_held; many = is.many }, p.places name)
 
-pub more_made : (old mid new : Memory) (place : ℕ) → HeapAccepted old.bytes → LendsABody old → (HasNoMore old.bytes → ⊥) → SlidesOneStretch old.bytes mid.bytes → BytesAndSlid old mid → PutsTable mid.bytes new.bytes place → OnlyBytes mid new → Does old MoreSlots Done new
+pub more_made : (old mid new : Memory) (place : ℕ) → HeapAccepted old.bytes → LendsBodies old → (HasNoMore old.bytes → ⊥) → SlidesOneStretch old.bytes mid.bytes → BytesAndSlid old mid → PutsTable mid.bytes new.bytes place → OnlyBytes mid new → Does old MoreSlots Done new
 more_made old mid new place h lends can slides first p rest =
     let alike = slides_alike old.bytes mid.bytes h slides in
     let more = gains_free mid.bytes new.bytes place slides.becomes.frame.accepted p.gains p.map in
@@ -45,7 +43,7 @@ more_made old mid new place h lends can slides first p rest =
       step = ((can, tt), ((tt, omega arith), λ name. p.map name ∙ alike.holds name));
       frame = (place, gains_after old.bytes mid.bytes new.bytes place slides.becomes.frame p.gains);
       still = still_then old.bytes mid.bytes new.bytes alike (still_unmoved mid.bytes new.bytes (λ name was is. p.places name));
-      loan = keeps_then old mid new (keeps_map old mid h lends (ap (λ (m : Memory). m.lent) first) alike.stays alike.holds) (keeps_put mid new place (ap (λ (m : Memory). m.lent) rest) p);
+      loan = keeps_then old mid new (keeps_map old mid h lends (ap (λ (m : Memory). m.lents) first) alike.stays alike.holds) (keeps_put mid new place (ap (λ (m : Memory). m.lents) rest) p);
       asks = tt;
       rest = rest_then old mid new first rest;
     }
@@ -64,10 +62,6 @@ used_gained {start} {freed} old new used fewer m most few d =
       free = λ some. gains_slot old.bytes new.bytes d.frame.0 freed g (m.free some);
       known = λ name is. subst IsSome (sym (same name)) (m.known name is);
     }
-
--- what is lent stays so
-pub knows_gained : (old new : Memory) (lent : Option Name) → KnowsLent old old.lent lent → Does old MoreSlots Done new → KnowsLent new new.lent lent
-knows_gained old new lent k d = knows_kept old new lent k (ap (λ (m : Memory). m.lent) d.rest) d.step.1.1 d.still
 
 -- ---- what moves
 

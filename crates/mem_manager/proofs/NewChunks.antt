@@ -41,9 +41,9 @@ use Rattle.master_table.proofs.RowLaws.{starts_still}
 use Rattle.master_table.specs.declared.slots.TableStart.{TableStart}
 use Rattle.mem_manager.specs.Lookup.{IsManaged, IsNextEmpty, IsSlotOrNone, MakesNew, HasNoRoomFor}
 use Rattle.mem_manager.proofs.SlidChunks.{BytesAndSlid, rest_then, held_then, still_then, first_slid, used_slid}
-use Rattle.heap_model.specs.Lending.{IsLent, LendsABody}
-use Rattle.laws_heap.proofs.KeptLoans.{keeps_then}
-use Rattle.mem_manager.proofs.KeptLoans.{keeps_others, keeps_made, keeps_map, keeps_owned, unheld_here}
+use Rattle.heap_model.specs.Lending.{IsLent, LendsBodies}
+use Rattle.laws_heap.proofs.KeptLoans.{keeps_then, unheld_here}
+use Rattle.mem_manager.proofs.KeptLoans.{keeps_others, keeps_made, keeps_map, keeps_owned}
 use Rattle.heap_model.specs.MemorySteps.{LendsOf}
 use Rattle.mem_manager.proofs.StepWords.{known, of_known, not_of_known, is_known, refused, OnlyBytes, still_others, used_altered, with_names}
 use Rattle.mem_manager.specs.Known.{IsKnown, Remembers}
@@ -76,7 +76,7 @@ freed old new name found h f positive other unlocked here ch rest = record {
   );
   frame = ch.frame;
   still = still_others old.bytes new.bytes name.0 None None ch (inr refl);
-  loan = keeps_others old new name.0 None None (ap (λ (m : Memory). m.lent) rest) ch here;
+  loan = keeps_others old new name.0 None None (ap (λ (m : Memory). m.lents) rest) ch here;
   asks = tt;
   rest = rest;
 } where
@@ -116,14 +116,14 @@ new_left old mid new size owner name there h empty slides ch =
     }
 
 -- the step, where the owner is one for callers
-pub new_step : (old new : Memory) (size owner : ℕ) (result : Result Name Refusal) → HeapAccepted old.bytes → LendsABody old → (IsNoCaller owner → ⊥) → IfOk result (λ name. MakesNew old.bytes new.bytes name.0 size owner) → OnOk result (HasNoRoomFor old.bytes size → ⊥) → OnErr result (HasNoRoomFor old.bytes size)
+pub new_step : (old new : Memory) (size owner : ℕ) (result : Result Name Refusal) → HeapAccepted old.bytes → LendsBodies old → (IsNoCaller owner → ⊥) → IfOk result (λ name. MakesNew old.bytes new.bytes name.0 size owner) → OnOk result (HasNoRoomFor old.bytes size → ⊥) → OnErr result (HasNoRoomFor old.bytes size)
     → IfErr result (λ refusal. refusal ≡ NotEnoughSpace) → OnErr result (new ≡ old) → BytesAndSlid old new → Does old (HandleNew size owner) (reply_of (λ name. Named name) result) new
 new_step old new size owner (Ok name) h lends caller made had no_room refusal refused_is rest = record {
   before = h;
   step = ((caller, (had, tt)), (made.fresh, made.leaves.map));
   frame = made.leaves.frame;
   still = made.leaves.still;
-  loan = keeps_made old new size owner name.0 h lends (ap (λ (m : Memory). m.lent) rest) made;
+  loan = keeps_made old new size owner name.0 h lends (ap (λ (m : Memory). m.lents) rest) made;
   asks = tt;
   rest = rest;
 }
@@ -176,7 +176,7 @@ start_made old new table name size owner starts made = starts_still old new tabl
 pub ptr_short : (region : Memory) (size owner : ℕ) → HeapAccepted region.bytes → (IsNoCaller owner → ⊥) → Short region.bytes (need size) → Does region (PtrNew size owner) (Refused NotEnoughSpace) region
 ptr_short region size owner h caller none = refused region (PtrNew size owner) NotEnoughSpace h (inr (caller, inl (none, refl)))
 
-pub ptr_made : (old mid new : Memory) (size owner : ℕ) (name : Name) (there : Option ℕ) → HeapAccepted old.bytes → LendsABody old → (IsNoCaller owner → ⊥) → (Short old.bytes (need size) → ⊥) → held mid.bytes name.0 ≡ None → SlidesOneStretch old.bytes mid.bytes → BytesAndSlid old mid
+pub ptr_made : (old mid new : Memory) (size owner : ℕ) (name : Name) (there : Option ℕ) → HeapAccepted old.bytes → LendsBodies old → (IsNoCaller owner → ⊥) → (Short old.bytes (need size) → ⊥) → held mid.bytes name.0 ≡ None → SlidesOneStretch old.bytes mid.bytes → BytesAndSlid old mid
     → ChangesName mid.bytes new.bytes name.0 (Some (zeros size fixed_lock owner)) there → OnlyBytes mid new → Does old (PtrNew size owner) (Named name) new
 ptr_made old mid new size owner name there h lends caller room empty slides first ch rest =
     let alike = slides_alike old.bytes mid.bytes h slides in
@@ -185,8 +185,8 @@ ptr_made old mid new size owner name there h lends caller room empty slides firs
       step = ((caller, (room, tt)), (sym (alike.holds name.0) ∙ empty, held_then old.bytes mid.bytes new.bytes name.0 (Some (zeros size fixed_lock owner)) there alike ch));
       frame = frame_then old.bytes mid.bytes new.bytes slides.becomes.frame ch.frame;
       still = still_then old.bytes mid.bytes new.bytes alike (still_others mid.bytes new.bytes name.0 (Some (zeros size fixed_lock owner)) there ch (inl empty));
-      loan = keeps_then old mid new (keeps_map old mid h lends (ap (λ (m : Memory). m.lent) first) alike.stays alike.holds)
-          (keeps_others mid new name.0 (Some (zeros size fixed_lock owner)) there (ap (λ (m : Memory). m.lent) rest) ch (unheld_here mid name.0 empty));
+      loan = keeps_then old mid new (keeps_map old mid h lends (ap (λ (m : Memory). m.lents) first) alike.stays alike.holds)
+          (keeps_others mid new name.0 (Some (zeros size fixed_lock owner)) there (ap (λ (m : Memory). m.lents) rest) ch (unheld_here mid name.0 empty));
       asks = tt;
       rest = rest_then old mid new first rest;
     }
@@ -203,13 +203,13 @@ ptr_changes old new at room size owner h caller r fits x =
 
 -- ---- all chunks of an owner
 
-pub owner_freed : (old new : Memory) (owner count : ℕ) → HeapAccepted old.bytes → LendsABody old → (IsNoCaller owner → ⊥) → (LendsOf old (callers_map old.bytes) owner → ⊥) → Becomes old.bytes new.bytes (owned_freed owner (layout_of old.bytes)) → count ≡ count_by (is_owned_by owner) (layout_of old.bytes) → OnlyBytes old new → Does old (FreeByOwner owner) (Number count) new
+pub owner_freed : (old new : Memory) (owner count : ℕ) → HeapAccepted old.bytes → LendsBodies old → (IsNoCaller owner → ⊥) → (LendsOf old (callers_map old.bytes) owner → ⊥) → Becomes old.bytes new.bytes (owned_freed owner (layout_of old.bytes)) → count ≡ count_by (is_owned_by owner) (layout_of old.bytes) → OnlyBytes old new → Does old (FreeByOwner owner) (Number count) new
 owner_freed old new owner count h lends caller here b counted rest = record {
   before = h;
   step = ((caller, (here, tt)), (counted ∙ owned-merged owner (chunks_of old.bytes), λ name. owned_held old.bytes new.bytes owner name h b));
   frame = b.frame;
   still = λ name live held_there locked is_there. owned_place old.bytes new.bytes owner name h b is_there;
-  loan = keeps_owned old new owner h lends caller (ap (λ (m : Memory). m.lent) rest) here b;
+  loan = keeps_owned old new owner h lends caller (ap (λ (m : Memory). m.lents) rest) here b;
   asks = tt;
   rest = rest;
 }

@@ -14,7 +14,7 @@ use Rattle.laws_heap.proofs.Meanings.{held-zero}
 use Rattle.laws_heap.proofs.FoundChunks.{held_finds, finds_one, callers_managers}
 use Rattle.laws_heap.proofs.AlteredChunks.{finds_place}
 use Rattle.heap_place.proofs.FoundLaws.{name_held}
-use Rattle.heap_place.proofs.RelocateLaws.{one_placed}
+use Rattle.heap_compact.proofs.RelocateLaws.{one_placed}
 use Rattle.heap_place.specs.declared.found.Found.{Found}
 use Rattle.heap_place.specs.Found.{IsFound, IsOne, NothingAt}
 use Rattle.mem_manager.specs.Lookup.{IsThere}

@@ -25,7 +25,7 @@ use Rattle.master_table.proofs.TableLaws.{used_still}
 use Rattle.master_table.proofs.RowLaws.{starts_still}
 use Rattle.master_table.specs.declared.slots.TableStart.{TableStart}
 use Rattle.mem_manager.specs.Lookup.{IsManaged, IsNextEmpty}
-use Rattle.heap_model.specs.Lending.{LendsABody}
+use Rattle.heap_model.specs.Lending.{LendsBodies}
 use Rattle.mem_manager.proofs.KeptLoans.{keeps_map}
 use Rattle.mem_manager.proofs.StepWords.{OnlyBytes, none_there}
 
@@ -33,7 +33,7 @@ use Rattle.mem_manager.proofs.StepWords.{OnlyBytes, none_there}
 abbrev pub BytesAndSlid : Memory → Memory → Type 0
 BytesAndSlid old new = new ≡ record old { bytes = new.bytes; slid = new.slid }
 
-pub compacted : (old new : Memory) (count : ℕ) → HeapAccepted old.bytes → LendsABody old → Becomes old.bytes new.bytes (packed (chunks_of old.bytes)) → count ≡ moved_bytes old.bytes new.bytes → BytesAndSlid old new → Does old Compact (Number count) new
+pub compacted : (old new : Memory) (count : ℕ) → HeapAccepted old.bytes → LendsBodies old → Becomes old.bytes new.bytes (packed (chunks_of old.bytes)) → count ≡ moved_bytes old.bytes new.bytes → BytesAndSlid old new → Does old Compact (Number count) new
 compacted old new count h lends b moved rest =
     let alike = packed_alike old.bytes new.bytes h b in
     record {
@@ -41,7 +41,7 @@ compacted old new count h lends b moved rest =
       step = (tt, (moved, alike.holds));
       frame = b.frame;
       still = alike.stays;
-      loan = keeps_map old new h lends (ap (λ (m : Memory). m.lent) rest) alike.stays alike.holds;
+      loan = keeps_map old new h lends (ap (λ (m : Memory). m.lents) rest) alike.stays alike.holds;
       asks = tt;
       rest = rest;
     }

@@ -17,6 +17,7 @@ use Rattle.heap_model.specs.MemorySteps.{MemoryCall, Does, MemoryStep, Of, row_o
 use Rattle.heap_model.specs.declared.call.Reply.{Reply}
 use Rattle.heap_model.specs.declared.call.Reply.TheVariants.{Refused}
 use Rattle.heap_model.specs.declared.refusal.Refusal.{Refusal}
+use Rattle.laws_heap.proofs.KeptLoans.{keeps_itself}
 use Rattle.laws_heap.proofs.Meanings.{held-is, empty_unheld}
 use Rattle.laws_heap.proofs.Slots.{slot_alike}
 use Rattle.laws_heap.proofs.Accepted.{heap_of_read}
@@ -28,7 +29,7 @@ use Rattle.laws_heap.proofs.ChangedName.{held_updated}
 use Rattle.laws_heap.proofs.SlidImages.{changes_move_nothing}
 use Rattle.master_table.proofs.TableLaws.{used_still}
 use Rattle.heap_place.proofs.FoundLaws.{name_held}
-use Rattle.heap_place.proofs.RelocateLaws.{one_placed}
+use Rattle.heap_compact.proofs.RelocateLaws.{one_placed}
 use Rattle.heap_place.specs.declared.found.Found.{Found}
 use Rattle.heap_place.specs.Found.{IsFound, IsOne}
 use Rattle.master_table.proofs.RowLaws.{starts_still}
@@ -76,7 +77,7 @@ unchanged region call reply h step = record {
   step = step;
   frame = frames_same region call reply h step;
   still = λ name live held_there locked there. refl;
-  loan = λ name count is. is;
+  loan = keeps_itself region;
   asks = asks_same (row_of region call).only_asks region;
   rest = nothing_slid (may_slide call) region;
 }

@@ -23,7 +23,7 @@ use Rattle.master_table.proofs.TableLaws.{used_still}
 use Rattle.heap_place.proofs.FoundLaws.{name_held, bytes_inside}
 use Rattle.heap_place.specs.declared.found.Found.{Found}
 use Rattle.heap_place.specs.Found.{IsFound, IsOne, CanGoTo, SlidesWithin}
-use Rattle.heap_place.proofs.RelocateLaws.{found_held, one_placed}
+use Rattle.heap_compact.proofs.RelocateLaws.{found_held, one_placed}
 use Rattle.master_table.proofs.RowLaws.{starts_still}
 use Rattle.master_table.specs.declared.slots.TableStart.{TableStart}
 use Rattle.mem_manager.specs.Lookup.{IsManaged, IsMovable, StandsAs}

@@ -3,4 +3,3 @@ pub mod Known
 pub mod Loans
 pub mod Counting
 pub mod Replies
-pub mod LentNames

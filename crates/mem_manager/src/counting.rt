@@ -1,11 +1,10 @@
-//! The counts of a heap's chunks, also while the body of one is lent.
+//! The counts of a heap's chunks, also while bodies are lent.
 #![tactic(auto, using(laws_heap::proofs::LentBodies::frame_within, laws_heap::proofs::LentBodies::table_within))]
 
 ghost use Rattle.std.specs.Prelude.{◌≡◌, ◌+◌, ◌<◌, ◌^◌};
-ghost use Rattle.heap_model.specs.Heap.{HeapAccepted};
-ghost use Rattle.heap_model.specs.Lending.{LendsABody};
 ghost use Rattle.heap_check.specs.Summary.{Summarizes};
 ghost use Rattle.heap_check.specs.Survey.{movable_by, fixed_by, free_by};
+ghost use Rattle.heap_model.specs.Lending.{HoldsHeap};
 
 use chunk_format::{Header, area_start};
 use heap_check::Summary;
@@ -56,8 +55,7 @@ impl Counts {
 
 /// Counts the slots and the chunks of a heap, in one walk over the chunks.
 pub(crate) fn count_chunks(region: &Region) -> Summary
-    requires accepted { HeapAccepted region.now.bytes }
-    requires lent { LendsABody region.now }
+    requires heap { HoldsHeap region.now }
     ensures { Summarizes region.now.bytes result }
 {
     let size = region.len() as u32;

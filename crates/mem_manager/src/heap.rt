@@ -1,9 +1,10 @@
 //! The heap. Its calls are in the modules below: those that ask, that change a chunk in its place,
 //! that make and free chunks, that move them, and that take bytes out and put them back. `row` in
 //! `heap_model`'s specs (`MemorySteps`) gives the errors of each call for callers in their order.
-//! For `take_out`, `out_checks` in this crate's specs (`Loans`) gives them.
+//! For `take_out` and `take_out_also`, `out_checks` and `also_out_checks` in this crate's specs
+//! (`Loans`) give them.
 
-ghost use Rattle.std.specs.Prelude.{◌≡◌, ◌≢◌, IfOk, IfErr, OnOk, OnErr, None};
+ghost use Rattle.std.specs.Prelude.{[], ◌≡◌, ◌≢◌, IfOk, IfErr, OnOk, OnErr, None};
 ghost use Rattle.heap_model.specs.Heap.{HeapAccepted};
 ghost use Rattle.heap_check.specs.Faults.{IsFirstFault};
 
@@ -17,10 +18,9 @@ mod managing;
 mod moving;
 
 use crate::known::KnownNames;
-use crate::lent_name::LentName;
 use heap_check::{HeapFault, check_heap};
+use heap_compact::Space;
 use heap_model::{Name, Place};
-use heap_place::Space;
 use master_table::TableStart;
 use raw_region::Region;
 use std::fmt;
@@ -45,21 +45,19 @@ pub struct Heap {
     freed: Name,
     /// Names of fixed chunks that were found. They need no second search.
     known: KnownNames,
-    /// The name of the chunk whose bytes are taken out.
-    lent: LentName,
 }
 
 impl Model for Heap {
     ghost use Rattle.heap_model.specs.Memory.{Memory};
     ghost use Rattle.mem_manager.specs.Lookup.{IsManaged};
-    ghost use Rattle.mem_manager.specs.Loans.{KnowsLent};
+    ghost use Rattle.heap_model.specs.Lending.{LendsBodies};
 
     ghost Value = { Memory };
 
     ghost view = { λ heap. heap.space };
 
     ghost invariant = { λ heap. IsManaged heap.space.bytes heap.used heap.start heap.freed.0 heap.known
-        × KnowsLent heap.space heap.space.lent heap.lent };
+        × LendsBodies heap.space };
 }
 
 /// The place of the body of a chunk that was locked, and its new lock count.
@@ -93,7 +91,7 @@ impl Heap {
     /// - `NotAHeap`: the region isn't an accepted heap. It is returned unchanged with its first
     ///   fault.
     pub fn adopt(region: Region) -> Result<Heap, NotAHeap>
-        requires { region.lent ≡ None }
+        requires { region.lents ≡ [] }
         ensures accepted { OnOk result (HeapAccepted region.bytes) }
         ensures same { IfOk result (λ heap. heap ≡ region) }
         ensures refused { OnErr result (HeapAccepted region.bytes → ⊥) }
@@ -102,12 +100,11 @@ impl Heap {
     {
         match check_heap(&region) {
             Ok(_) => Ok(Heap {
-                space: Space::of_heap(region),
+                space: Space::of_accepted(region),
                 used: 0,
                 start: TableStart::first(),
                 freed: Name(0),
                 known: KnownNames::none(),
-                lent: LentName::none(),
             }),
             Err(fault) => Err(NotAHeap { fault, region }),
         }
@@ -117,11 +114,11 @@ impl Heap {
     pub fn into_region(self) -> Result<Region, Heap>
         ensures same { IfOk result (λ region. region ≡ self) }
         ensures accepted { IfOk result (λ region. HeapAccepted region.bytes) }
-        ensures whole { OnOk result (self.lent ≡ None) }
-        ensures lent { OnErr result (self.lent ≢ None) }
+        ensures whole { OnOk result (self.lents ≡ []) }
+        ensures lent { OnErr result (self.lents ≢ []) }
         ensures handed_back { IfErr result (λ heap. heap ≡ self) }
     {
-        if self.lent.is_some() {
+        if !self.space.is_whole() {
             return Err(self);
         }
         let Heap { space, .. } = self;

@@ -11,7 +11,6 @@ mod bounds;
 mod counting;
 mod heap;
 mod known;
-mod lent_name;
 mod loan;
 mod lookup;
 

@@ -1,10 +1,10 @@
 //! Finds the chunk of a name or of a place, and refuses a chunk that a call can't use.
 
-ghost use Rattle.std.specs.Prelude.{◌≡◌, ◌≢◌, ◌≤◌, ℕ, IsSome, IfSome, IfNone, IfOk, OnOk, IfErr, OnErr, Some, None};
+ghost use Rattle.std.specs.Prelude.{[], ◌≡◌, ◌≢◌, ◌≤◌, ℕ, IsSome, IfSome, IfNone, IfOk, OnOk, IfErr, OnErr, Some, None};
 ghost use Rattle.std.specs.Bool.{OnTrue, OnFalse};
 ghost use Rattle.heap_model.specs.Chunk.{fixed_lock, data_owner};
-ghost use Rattle.heap_model.specs.Lending.{LendsABody};
-ghost use Rattle.heap_model.specs.Heap.{HeapAccepted};
+ghost use Rattle.heap_model.specs.Lending.{LendsOther};
+ghost use Rattle.raw_region.specs.Marks.{BeginsAt};
 ghost use Rattle.heap_model.specs.Reading.{held};
 ghost use Rattle.heap_model.specs.Maps.{callers_map};
 ghost use Rattle.heap_model.specs.MemorySteps.{IsNowhere};
@@ -13,17 +13,15 @@ ghost use Rattle.mem_manager.specs.Lookup.{IsThere};
 ghost use Rattle.mem_manager.specs.Known.{KnowsHeld};
 
 use crate::known::KnownNames;
-use crate::lent_name::LentName;
 use chunk_format::{DATA_OWNER, FIXED_LOCK, MANAGERS_OWNER};
+use heap_compact::Space;
 use heap_model::{Name, Place, Refusal};
-use heap_place::{Found, Space};
+use heap_place::Found;
 
 /// Finds the chunk of a name, whoever owns it. Only the look-up of a slot of the first table is in
 /// line, so that this is small enough to be in line in a loop.
 #[inline(always)]
 pub(crate) fn named(space: &Space, known: &KnownNames, name: Name) -> Option<Found>
-    requires accepted { HeapAccepted space.now.bytes }
-    requires lent { LendsABody space.now }
     requires known { KnowsHeld space.now.bytes known.now }
     ensures found { IfSome result (IsFound space.now.bytes name.0) }
     ensures none { IfNone result (held space.now.bytes name.0 ≡ None) }
@@ -41,12 +39,11 @@ pub(crate) fn named(space: &Space, known: &KnownNames, name: Name) -> Option<Fou
 /// are searched.
 #[inline(never)]
 fn is_fixed(space: &Space, known: &KnownNames, name: Name) -> bool
-    requires accepted { HeapAccepted space.now.bytes }
-    requires lent { LendsABody space.now }
     requires known { KnowsHeld space.now.bytes known.now }
     ensures there { OnTrue result (IsSome (held space.now.bytes name.0)) }
     ensures none { OnFalse result (held space.now.bytes name.0 ≡ None) }
 {
+    space.holds();
     if known.has(name) {
         return true;
     }
@@ -59,14 +56,13 @@ fn is_fixed(space: &Space, known: &KnownNames, name: Name) -> bool
 /// Finds the chunk of a name. Refuses a chunk of the manager.
 #[inline(always)]
 pub(crate) fn find(space: &Space, known: &KnownNames, name: Name) -> Result<Found, Refusal>
-    requires accepted { HeapAccepted space.now.bytes }
-    requires lent { LendsABody space.now }
     requires known { KnowsHeld space.now.bytes known.now }
     ensures found { IfOk result (IsFound space.now.bytes name.0) }
     ensures callers { IfOk result (λ found. 1 ≤ found.owner) }
     ensures none { OnErr result (callers_map space.now.bytes name.0 ≡ None) }
     ensures refusal { IfErr result (λ refusal. refusal ≡ Refusal.InvalidHandle) }
 {
+    space.holds();
     if let Some(found) = space.in_slot(name) {
         return callers(found);
     }
@@ -84,8 +80,6 @@ pub(crate) fn find_again(
     known: &mut KnownNames,
     name: Name,
 ) -> Result<Found, Refusal>
-    requires accepted { HeapAccepted space.now.bytes }
-    requires lent { LendsABody space.now }
     requires known { KnowsHeld space.now.bytes known.old }
     ensures found { IfOk result (IsFound space.now.bytes name.0) }
     ensures callers { IfOk result (λ found. 1 ≤ found.owner) }
@@ -93,6 +87,7 @@ pub(crate) fn find_again(
     ensures refusal { IfErr result (λ refusal. refusal ≡ Refusal.InvalidHandle) }
     ensures remembered { KnowsHeld space.now.bytes known.new }
 {
+    space.holds();
     if let Some(found) = space.in_slot(name) {
         return callers(found);
     }
@@ -119,13 +114,12 @@ fn callers(found: Found) -> Result<Found, Refusal>
 
 /// Returns the name of the chunk whose body is at a place. Refuses a chunk of the manager.
 pub(crate) fn name_at(space: &Space, known: &KnownNames, place: Place) -> Result<Name, Refusal>
-    requires accepted { HeapAccepted space.now.bytes }
-    requires lent { LendsABody space.now }
     requires known { KnowsHeld space.now.bytes known.now }
     ensures there { IfOk result (λ name. IsThere space.now.bytes place.0 name.0) }
     ensures none { OnErr result (IsNowhere space.now.bytes (callers_map space.now.bytes) place.0) }
     ensures refusal { IfErr result (λ refusal. refusal ≡ Refusal.InvalidHandle) }
 {
+    space.holds();
     match placed(space, known, place) {
         Some(found) if found.owner != MANAGERS_OWNER => Ok(found.name),
         _ => Err(Refusal::InvalidHandle),
@@ -135,8 +129,6 @@ pub(crate) fn name_at(space: &Space, known: &KnownNames, place: Place) -> Result
 /// Finds the chunk whose body is at a place, whoever owns it. The place of a fixed chunk is also
 /// its name.
 fn placed(space: &Space, known: &KnownNames, place: Place) -> Option<Found>
-    requires accepted { HeapAccepted space.now.bytes }
-    requires lent { LendsABody space.now }
     requires known { KnowsHeld space.now.bytes known.now }
     ensures found { IfSome result (IsOne space.now.bytes) }
     ensures there { IfSome result (λ found. found.place.0 ≡ place.0) }
@@ -192,13 +184,14 @@ pub(crate) fn check_locked(found: Found) -> Result<(), Refusal>
 
 /// Refuses a chunk whose bytes are lent.
 #[inline]
-pub(crate) fn check_here(lent: &LentName, found: Found) -> Result<(), Refusal>
-    requires { found.name.0 ≢ 0 }
-    ensures ok { OnOk result (lent.now ≡ Some found.name → ⊥) }
-    ensures err { OnErr result (lent.now ≡ Some found.name) }
+#[tactic(auto, using(crate::proofs::KnownLoans::none_begins))]
+pub(crate) fn check_here(space: &Space, found: Found) -> Result<(), Refusal>
+    requires found { IsOne space.now.bytes found }
+    ensures ok { OnOk result (LendsOther space.now found.place.0) }
+    ensures err { OnErr result (BeginsAt found.place.0 space.now.lents) }
     ensures refusal { IfErr result (λ refusal. refusal ≡ Refusal.Lent) }
 {
-    if lent.is(found.name) {
+    if space.lends(found) {
         return Err(Refusal::Lent);
     }
     Ok(())

@@ -1,50 +1,34 @@
 -- Laws on what is lent while calls are done.
 use Rattle.std.proofs.Common.{◌≡◌, ℕ, suc, zero, ◌+◌, ◌≤◌, List, [], ◌∷◌, length, Option, Some, None, refl, sym, ap, ◌∙◌, subst, add-one, arith}
 use Rattle.std.proofs.lemmas.Option.{slice_get-get_or}
-use Rattle.heap_model.specs.Memory.{Memory, Lent}
+use Rattle.heap_model.specs.Memory.{Memory}
 use Rattle.heap_model.specs.Slots.{area_start}
 use Rattle.heap_model.specs.Meaning.{LiveChunk}
 use Rattle.heap_model.specs.Reading.{chunks_of, held}
 use Rattle.heap_model.specs.Space.{place_of}
-use Rattle.heap_model.specs.Lending.{IsBodyOf, IsLent, IsLentAs}
+use Rattle.heap_model.specs.Lending.{IsLent, IsLentAs}
 use Rattle.heap_model.specs.StoreSteps.{Call, DoesInStore}
 use Rattle.heap_model.specs.Runs.{Run}
 use Rattle.heap_model.specs.declared.call.Reply.{Reply}
-use Rattle.laws_heap.proofs.KeptLoans.{keeps_itself, keeps_then}
-use Rattle.laws_heap.proofs.Lives.{live_placed}
+use Rattle.laws_heap.proofs.KeptLoans.{keeps_itself, keeps_then, lent_as}
 use Rattle.palm_script.specs.Headline.{AnswersAsRun}
 use Rattle.palm_script.specs.Loans.{LoanStays, RunsOnLoan}
 use Rattle.palm_script.proofs.RunLaws.{answers_as_run}
 
 -- ---- over one call
 
--- a name that is lent stands for a chunk
-lent_as : (memory : Memory) (name : ℕ) (lent : Option Lent) → memory.lent ≡ lent → IsBodyOf memory.bytes name lent → (o : Option LiveChunk) → held memory.bytes name ≡ o → (count : ℕ) × IsLentAs memory name count
-unfolding held
-lent_as memory name None same out o is = absurd out
-lent_as memory name (Some lent) same out None is = absurd (let e = live_placed (area_start memory.bytes) (chunks_of memory.bytes) name is in cc)
-lent_as memory name (Some lent) same out (Some live) is = (
-  length live.bytes,
-  record { lent = subst (IsBodyOf memory.bytes name) (sym same) out; live = live; is_held = is; many = refl },
-)
-
-same_place : (old new : List ℕ) (name : ℕ) (lent : Option Lent) → IsBodyOf old name lent → IsBodyOf new name lent → place_of new name ≡ place_of old name
-same_place old new name None was is = absurd was
-same_place old new name (Some lent) was is = is ∙ sym was
-
 pub stays_itself : (memory : Memory) → LoanStays memory memory
 stays_itself memory = record { lent = refl; names = keeps_itself memory; places = λ name is. refl }
 
 pub call_stays : (old new : Memory) (call : Call) (reply : Reply) → DoesInStore old call reply new → LoanStays old new
 call_stays old new call reply does = record { lent = same; names = does.loan; places = place } where
-  same : new.lent ≡ old.lent
-  same = ap (λ (m : Memory). m.lent) does.rest
+  same : new.lents ≡ old.lents
+  same = ap (λ (m : Memory). m.lents) does.rest
 
   place : (name : ℕ) → IsLent old name → place_of new.bytes name ≡ place_of old.bytes name
   place name out =
-      let was = lent_as old name old.lent refl out (held old.bytes name) refl in
-      let is : IsLentAs new name was.0 = does.loan name was.0 was.1 in
-      same_place old.bytes new.bytes name old.lent out (subst (IsBodyOf new.bytes name) same is.lent)
+      let was = lent_as old name out (held old.bytes name) refl in
+      (does.loan name was.0 was.1).1
 
 -- ---- over calls
 
@@ -52,8 +36,8 @@ pub stays_then : (old mid new : Memory) → LoanStays old mid → LoanStays mid 
 stays_then old mid new first second = record { lent = second.lent ∙ first.lent; names = keeps_then old mid new first.names second.names; places = place } where
   place : (name : ℕ) → IsLent old name → place_of new.bytes name ≡ place_of old.bytes name
   place name out =
-      let was = lent_as old name old.lent refl out (held old.bytes name) refl in
-      second.places name (first.names name was.0 was.1).lent ∙ first.places name out
+      let was = lent_as old name out (held old.bytes name) refl in
+      second.places name (first.names name was.0 was.1).0.lent ∙ first.places name out
 
 loan_at : (old : Memory) (calls : List Call) (replies : List Reply) (new : Memory) → Call → Reply → (runs : AnswersAsRun old calls replies new) → (count : ℕ) → count ≤ length calls → LoanStays old (runs.region count)
 loan_at old calls replies new call reply runs zero within = subst (LoanStays old) (sym runs.first) (stays_itself old)

@@ -1,20 +1,20 @@
--- The loan of a store while calls are done on it.
-use Rattle.std.specs.Prelude.{◌≡◌, ◌≤◌, ◌+◌, ℕ, List, length, slice_get, Some}
+-- The loans of a store while calls are done on it.
+use Rattle.std.specs.Prelude.{[], ◌≡◌, ◌≤◌, ◌+◌, ℕ, List, length, slice_get, Some}
 use Rattle.heap_model.specs.Memory.{Memory}
 use Rattle.heap_model.specs.Lending.{IsLent, KeepsLoan}
 use Rattle.heap_model.specs.Space.{place_of}
 use Rattle.heap_model.specs.StoreSteps.{Call, DoesInStore}
 use Rattle.heap_model.specs.declared.call.Reply.{Reply}
 
--- The loan stays from one region to another. The same bytes are out, and each name that is lent
+-- All loans stay from one region to another. The same bytes are out, and each name that is lent
 -- stays lent, with the length and the place of its chunk. If nothing is lent of the first region,
 -- nothing is lent of the second.
 pub record LoanStays (old new : Memory) : Type 0 where
-  pub lent : new.lent ≡ old.lent
+  pub lent : new.lents ≡ old.lents
   pub names : KeepsLoan old new
   pub places : (name : ℕ) → IsLent old name → place_of new.bytes name ≡ place_of old.bytes name
 
--- A list of calls was run, and the loan stays after each of them, even after a compaction. `region
+-- A list of calls was run, and all loans stay after each of them, even after a compaction. `region
 -- count` is the region after the first `count` calls. Each reply is that of its call's step from
 -- one of these regions to the next.
 pub record RunsOnLoan (old : Memory) (calls : List Call) (replies : List Reply) (new : Memory) : Type 0 where

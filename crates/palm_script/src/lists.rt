@@ -1,6 +1,6 @@
 //! Lists of calls, done one after another.
 
-ghost use Rattle.std.specs.Prelude.{◌≡◌, All, IfErr, IfOk, OnErr, None};
+ghost use Rattle.std.specs.Prelude.{[], ◌≡◌, All, IfErr, IfOk, OnErr};
 ghost use Rattle.heap_model.specs.Runs.{Run};
 ghost use Rattle.heap_model.specs.declared.call.Reply.{Reply};
 ghost use Rattle.heap_model.specs.declared.refusal.Refusal.{Refusal};
@@ -102,9 +102,9 @@ pub fn check_and_run(
     region: Region,
     calls: &[Call],
 ) -> Result<(Store, Vec<Reply>), NotRun>
-    requires { region.lent ≡ None }
+    requires { region.lents ≡ [] }
     ensures run { IfOk result (λ done. AnswersAsRun region calls.now done.1.items done.0) }
-    ensures whole { IfOk result (λ done. done.0.lent ≡ None) }
+    ensures whole { IfOk result (λ done. done.0.lents ≡ []) }
     ensures not_run { IfErr result (HandsBack region) }
     ensures short { IfErr result (λ error. WantsMemory error → GrowthRefused) }
     ensures no_memory { IfOk result (λ done. All (λ reply.
@@ -120,9 +120,9 @@ pub fn check_and_run_from<A: Allowance>(
     region: Region,
     calls: &[Call],
 ) -> Result<(Store, Vec<Reply>), NotRun>
-    requires { region.lent ≡ None }
+    requires { region.lents ≡ [] }
     ensures run { IfOk result (λ done. AnswersAsRun region calls.now done.1.items done.0) }
-    ensures whole { IfOk result (λ done. done.0.lent ≡ None) }
+    ensures whole { IfOk result (λ done. done.0.lents ≡ []) }
     ensures not_run { IfErr result (HandsBack region) }
     ensures short { IfErr result (λ error. WantsMemory error → A.is_short memory.now) }
     ensures no_memory { IfOk result (λ done. All (λ reply.

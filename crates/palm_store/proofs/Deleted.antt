@@ -23,6 +23,7 @@ use Rattle.heap_model.specs.declared.refusal.Refusal.TheVariants.{ChunkLocked}
 use Rattle.heap_model.specs.declared.call.DatabaseCall.TheVariants.{Delete}
 use Rattle.heap_model.specs.declared.call.Call.TheVariants as calls
 use Rattle.heap_model.specs.declared.call.Reply.TheVariants as replies
+use Rattle.laws_heap.proofs.KeptLoans.{keeps_itself}
 use Rattle.laws_heap.proofs.Meanings.{held-zero}
 use Rattle.laws_store.proofs.Times.{times-cons, times-append}
 use Rattle.laws_store.proofs.NewDatabases.{managers_loose}
@@ -157,7 +158,7 @@ not_deleted old db a has locked =
       tables = refl;
       directory = inl refl;
       still = λ name live e locked there. refl;
-      loan = λ name count is. is;
+      loan = keeps_itself old;
       asks = tt;
       rest = refl;
     }

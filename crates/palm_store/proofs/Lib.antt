@@ -35,3 +35,4 @@ pub mod TwoChanges
 pub mod SearchLaws
 pub mod Rests
 pub mod Loans
+pub mod LoansBack

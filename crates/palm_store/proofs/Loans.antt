@@ -1,9 +1,10 @@
 -- What is not lent: chunks of the manager's, and those without a lock.
-use Rattle.std.proofs.Common.{◌≡◌, ◌≢◌, ℕ, ◌<◌, List, Option, Some, refl, sym, ap, subst, ◌∙◌, arith, inl, inr}
+use Rattle.std.proofs.Common.{[], ◌≡◌, ◌≢◌, ℕ, ◌<◌, List, Option, Some, refl, sym, ap, subst, ◌∙◌, arith, inl, inr}
 use Rattle.std.proofs.lemmas.Bool.{cases_eq}
-use Rattle.heap_model.specs.Memory.{Memory, Lent}
+use Rattle.heap_model.specs.Memory.{Memory, Lent, SomeLent}
 use Rattle.heap_model.specs.Heap.{HeapAccepted, directory_of}
-use Rattle.heap_model.specs.Lending.{IsLent, IsBodyOf}
+use Rattle.heap_model.specs.Space.{place_of}
+use Rattle.heap_model.specs.Lending.{IsLent}
 use Rattle.heap_model.specs.Meaning.{LiveChunk}
 use Rattle.heap_model.specs.MemorySteps.{Of, IsLocked}
 use Rattle.heap_model.specs.Reading.{held}
@@ -32,8 +33,8 @@ use Rattle.palm_store.proofs.FilledData.{rewritten_steps}
 use Rattle.palm_store.proofs.KnownIds.{stand_still}
 
 -- where nothing is lent
-pub none_lent : (memory : Memory) (name : ℕ) → memory.lent ≡ None → IsLent memory name → ⊥
-none_lent memory name none lent = subst (λ (x : Option Lent). IsBodyOf memory.bytes name x) none lent
+pub none_lent : (memory : Memory) (name : ℕ) → memory.lents ≡ [] → IsLent memory name → ⊥
+none_lent memory name none lent = subst (λ (x : List Lent). SomeLent (λ l. place_of memory.bytes name ≡ Some l.at) x) none lent
 
 -- ---- chunks of the manager's
 
@@ -92,6 +93,9 @@ takes_out old new name (Ok loan) a t =
       out = t.out;
       is_lent = t.is_lent;
       unmoved = t.unmoved;
+      at = t.at;
+      placed = t.placed;
+      there = t.there;
       rest = t.rest;
     }
 takes_out old new name (Err refusal) a t = tt

@@ -9,7 +9,7 @@
 //! - `whole`, `files`: the calls that make a whole database, fill its data and read it, for the
 //!   crate of files.
 
-ghost use Rattle.std.specs.Prelude.{◌≡◌, ◌≢◌, ◌⊎◌, ◌↔◌, is_ok, IfOk, IfErr, OnOk, OnErr, Err, None};
+ghost use Rattle.std.specs.Prelude.{[], ◌≡◌, ◌≢◌, ◌⊎◌, ◌↔◌, is_ok, IfOk, IfErr, OnOk, OnErr, Err, None};
 ghost use Rattle.heap_model.specs.Store.{Accepted};
 ghost use Rattle.palm_text.specs.Counted.{Writes};
 ghost use Rattle.store_check.specs.Checks.{IsAnswered, Summarizes};
@@ -98,7 +98,7 @@ impl Store {
     /// It then allocates a bit for each number up to the greatest ID, at least 32 KiB and at most 2
     /// MiB. It frees this memory again.
     pub fn check(alloc: Global, region: Region) -> Result<Store, NotAStore>
-        requires { region.lent ≡ None }
+        requires { region.lents ≡ [] }
         ensures accepted { OnOk result (Accepted region.bytes) }
         ensures same { IfOk result (λ store. store ≡ region) }
         ensures fault { IfErr result (λ error. IsAnswered region.bytes error.fault) }
@@ -114,7 +114,7 @@ impl Store {
     /// The same as `check`, but each allocation asks for a grant. It reports `OutOfMemory` only if
     /// an allocation failed.
     pub fn check_from<A: Allowance>(memory: &A, region: Region) -> Result<Store, NotAStore>
-        requires { region.lent ≡ None }
+        requires { region.lents ≡ [] }
         ensures accepted { OnOk result (Accepted region.bytes) }
         ensures same { IfOk result (λ store. store ≡ region) }
         ensures fault { IfErr result (λ error. IsAnswered region.bytes error.fault) }
@@ -134,7 +134,7 @@ impl Store {
     /// image.
     pub(crate) fn of_accepted(region: Region) -> Store
         requires accepted { Accepted region.bytes }
-        requires whole { region.lent ≡ None }
+        requires whole { region.lents ≡ [] }
         ensures same { result ≡ region }
     {
         Store {
@@ -147,8 +147,8 @@ impl Store {
     pub fn into_region(self) -> Result<Region, Store>
         ensures same { IfOk result (λ region. region ≡ self) }
         ensures accepted { IfOk result (λ region. Accepted region.bytes) }
-        ensures whole { OnOk result (self.lent ≡ None) }
-        ensures lent { OnErr result (self.lent ≢ None) }
+        ensures whole { OnOk result (self.lents ≡ []) }
+        ensures lent { OnErr result (self.lents ≢ []) }
         ensures handed_back { IfErr result (λ store. store ≡ self) }
     {
         let Store { heap, known } = self;
@@ -171,12 +171,12 @@ impl Store {
     /// Writes the image, and flushes nothing. If a write fails or writes 0 bytes, a prefix of the
     /// image was written. While a body is lent, nothing is written.
     pub fn write_image<W: Write>(&self, writer: &mut Counted<W>) -> Result<(), ImageFault>
-        ensures lent { (result ≡ Err ImageFault.Lent) ↔ (self.now.lent ≢ None) }
-        ensures nothing { self.now.lent ≢ None → writer.new ≡ writer.old }
-        ensures writes { self.now.lent ≡ None
+        ensures lent { (result ≡ Err ImageFault.Lent) ↔ (self.now.lents ≢ []) }
+        ensures nothing { self.now.lents ≢ [] → writer.new ≡ writer.old }
+        ensures writes { self.now.lents ≡ []
             → Writes W.contents writer.old writer.new self.now.bytes (is_ok result) }
     {
-        if self.heap.lent().is_some() {
+        if !self.heap.is_whole() {
             return Err(ImageFault::Lent);
         }
         put_all(writer, self.heap.image()).map_err(|_| ImageFault::Write)

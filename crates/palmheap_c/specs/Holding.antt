@@ -23,7 +23,7 @@ slot_owns at (Some store) = owns_store at store
 
 -- the store of a place that holds one, or else any store
 abbrev pub kept_in : Option Memory → Memory
-kept_in None = record { bytes = []; slid = 0; lent = None }
+kept_in None = record { bytes = []; slid = 0; lents = [] }
 kept_in (Some store) = store
 
 -- the place holds an open store

@@ -1,5 +1,5 @@
 -- What the calls do that open a store, close it, and write its image.
-use Rattle.std.specs.Prelude.{◌≡◌, ◌≢◌, ◌⊎◌, ℕ, List, Option, Some, None}
+use Rattle.std.specs.Prelude.{[], ◌≡◌, ◌≢◌, ◌⊎◌, ℕ, List, Option, Some, None}
 use Rattle.allowance.specs.Refusals.{GrowthRefused}
 use Rattle.heap_model.specs.Memory.{Memory}
 use Rattle.heap_model.specs.Numbers.{number_of}
@@ -12,7 +12,7 @@ use Rattle.palmheap_c.specs.Holding.{kept_in}
 pub record IsStore (image : List ℕ) (store : Memory) : Type 0 where
   pub accepted : Accepted image
   pub bytes : store.bytes ≡ image
-  pub whole : store.lent ≡ None
+  pub whole : store.lents ≡ []
 
 -- the place holds an open store of the image
 pub record HoldsImage (image : List ℕ) (place : Option Memory) : Type 0 where
@@ -24,16 +24,16 @@ pub record HoldsImage (image : List ℕ) (place : Option Memory) : Type 0 where
 -- the result is the number of `Lent`.
 abbrev pub Closes : Option Memory → Option Memory → ℕ → Type 0
 Closes old new result =
-    ((result ≡ 0) × ((kept_in old).lent ≡ None) × (new ≡ None))
-    ⊎ ((result ≡ number_of Lent) × ((kept_in old).lent ≢ None) × (new ≡ old))
+    ((result ≡ 0) × ((kept_in old).lents ≡ []) × (new ≡ None))
+    ⊎ ((result ≡ number_of Lent) × ((kept_in old).lents ≢ []) × (new ≡ old))
 
 -- Nothing of the image of a store was written: a chunk of it is lent, or an allocation failed.
 abbrev pub RefusesImage : Memory → ℕ → Type 0
-RefusesImage store result = ((result ≡ number_of Lent) × (store.lent ≢ None)) ⊎ ((result ≡ number_of OutOfMemory) × GrowthRefused)
+RefusesImage store result = ((result ≡ number_of Lent) × (store.lents ≢ [])) ⊎ ((result ≡ number_of OutOfMemory) × GrowthRefused)
 
 -- The buffer got the image of a store, or is too short for it. Otherwise the call was refused, and
 -- the buffer and the count are unchanged.
 abbrev pub WritesImage : Memory → (old new : List ℕ) → (was count : ℕ) → ℕ → Type 0
 WritesImage store old new was count result =
-    ((store.lent ≡ None) × PutsCoded store.bytes old new count result)
+    ((store.lents ≡ []) × PutsCoded store.bytes old new count result)
     ⊎ (RefusesImage store result × (new ≡ old) × (count ≡ was))

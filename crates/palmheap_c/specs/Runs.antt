@@ -1,5 +1,5 @@
 -- The results of running a script on an image, as lists of bytes.
-use Rattle.std.specs.Prelude.{◌≡◌, ◌<◌, ◌+◌, ◌^◌, ◌-◌, ◌⊎◌, ℕ, List, [], ◌∷◌, length, min, None, Ok, Err}
+use Rattle.std.specs.Prelude.{◌≡◌, ◌<◌, ◌+◌, ◌^◌, ◌-◌, ◌⊎◌, ℕ, List, [], ◌∷◌, length, min, Ok, Err}
 use Rattle.std.specs.List.{flat_map}
 use Rattle.allowance.specs.Refusals.{GrowthRefused}
 use Rattle.heap_model.specs.Memory.{Memory}
@@ -26,7 +26,7 @@ pub record Ran (image script : List ℕ) (inputs : List (List ℕ)) (image_after
   pub lines : List Line
   pub bound : Bindings
   pub image_is : region.bytes ≡ image
-  pub whole : region.lent ≡ None
+  pub whole : region.lents ≡ []
   pub before : Accepted image
   pub read : read_script script ≡ Ok lines
   pub ran : Lines GrowthRefused inputs region unbound lines text files region_after bound

@@ -1,6 +1,6 @@
 //! A store that a caller in C keeps between calls.
 
-ghost use Rattle.std.specs.Prelude.{◌≡◌, ◌↔◌, false, Option, Some, None};
+ghost use Rattle.std.specs.Prelude.{[], ◌≡◌, ◌↔◌, false, Option, Some, None};
 ghost use Rattle.heap_model.specs.Memory.{Memory};
 
 use crate::parts::Parts;
@@ -43,9 +43,9 @@ impl Held {
 
     /// Returns whether a chunk of the store is lent.
     pub(crate) fn is_lent(&self) -> bool
-        ensures { result ≡ false ↔ (self.now.lent ≡ None) }
+        ensures { result ≡ false ↔ (self.now.lents ≡ []) }
     {
-        self.store.lent().is_some()
+        !self.store.is_whole()
     }
 }
 

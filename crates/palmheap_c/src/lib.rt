@@ -55,7 +55,10 @@ pub use files::{palmheap_canonical, palmheap_pdb_blocks, palmheap_pdb_check, pal
 pub use images::{palmheap_check, palmheap_new};
 pub use infos::{DatabaseInfo, RecordInfo, ResourceInfo};
 pub use kept::{Kept, Slot};
-pub use loans::{palmheap_lent, palmheap_put_back, palmheap_take_out};
+pub use loans::{
+    palmheap_lent, palmheap_loan_above, palmheap_put_back, palmheap_take_out,
+    palmheap_take_out_also,
+};
 pub use memory_calls::{
     palmheap_DmSet, palmheap_DmStrCopy, palmheap_DmWrite, palmheap_MemChunkFree,
     palmheap_MemHandleLock, palmheap_MemHandleLockCount, palmheap_MemHandleNew,

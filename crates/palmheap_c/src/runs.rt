@@ -1,6 +1,6 @@
 //! Running a script on an image in the caller's memory.
 
-ghost use Rattle.std.specs.Prelude.{◌≡◌, None, Ok, IfErr, IfOk, map};
+ghost use Rattle.std.specs.Prelude.{[], ◌≡◌, Ok, IfErr, IfOk, map};
 ghost use Rattle.heap_model.specs.Store.{Accepted};
 ghost use Rattle.script_lines.specs.Reading.{read_script};
 ghost use Rattle.palmheap_c.specs.Opening.{IsStore};
@@ -60,7 +60,7 @@ fn results_of(
     ensures ran { IfOk result (λ done.
         HasResults image.now script.now (map (λ file. file.now) files.now)
         done.0.bytes done.1.text.items done.1.files.items done.1.ends.items) }
-    ensures whole { IfOk result (λ done. done.0.lent ≡ None) }
+    ensures whole { IfOk result (λ done. done.0.lents ≡ []) }
     ensures refused { IfErr result (IsRunRefusal image.now script.now) }
 {
     let Ok(inputs) = copied_all(alloc, files) else {
@@ -85,7 +85,7 @@ fn run_on(
 ) -> Result<(Region, Vec<u8>, Vec<Bytes>), Answer>
     ensures ran { IfOk result (λ done. Ran image.now script.now inputs.now
         done.0.bytes done.1.items done.2.items) }
-    ensures whole { IfOk result (λ done. done.0.lent ≡ None) }
+    ensures whole { IfOk result (λ done. done.0.lents ≡ []) }
     ensures refused { IfErr result (IsRunRefusal image.now script.now) }
 {
     let (mut store, script) = match read(alloc, image, script) {
@@ -102,7 +102,7 @@ fn run_on(
 
 /// Returns the region of a store. No chunk of the store may be lent.
 fn region_of(store: Store) -> Region
-    requires { store.lent ≡ None }
+    requires { store.lents ≡ [] }
     ensures same { result ≡ store }
     ensures accepted { Accepted result.bytes }
 {

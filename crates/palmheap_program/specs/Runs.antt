@@ -1,7 +1,7 @@
 -- What `run` prints and writes. A definition that ends in a `Bool` has it true if all was written
 -- and flushed, and false if a write or a flush failed. If a definition has `short`, a line was
 -- refused as out of memory only if `short` holds.
-use Rattle.std.specs.Prelude.{◌≡◌, ◌≢◌, ◌⊎◌, ℕ, Bool, true, false, List, Option, None, Ok, Err}
+use Rattle.std.specs.Prelude.{[], ◌≡◌, ◌≢◌, ◌⊎◌, ℕ, Bool, true, false, List, Option, Ok, Err}
 use Rattle.heap_model.specs.Memory.{Memory}
 use Rattle.palm_text.specs.Counted.{Flushes, Writing}
 use Rattle.heap_model.specs.Store.{Accepted}
@@ -61,7 +61,7 @@ pub record EndsEarly {W V : Type 0} (short : Type 0) (inputs : List (List ℕ)) 
 -- nothing is lent.
 pub record ReadsAs (image script : List ℕ) (lines : List Line) (region : Memory) : Type 0 where
   pub image_is : region.bytes ≡ image
-  pub whole : region.lent ≡ None
+  pub whole : region.lents ≡ []
   pub before : Accepted image
   pub read : read_script script ≡ Ok lines
 

@@ -1,6 +1,6 @@
 //! The command `run`, if its script is run while it is read.
 
-ghost use Rattle.std.specs.Prelude.{◌≡◌, ◌≢◌, ◌<◌, [], Err, IfOk, IfErr, IfSome, None, length, true};
+ghost use Rattle.std.specs.Prelude.{◌≡◌, ◌≢◌, ◌<◌, [], Err, IfOk, IfErr, IfSome, length, true};
 ghost use Rattle.heap_model.specs.Store.{Accepted};
 ghost use Rattle.palmheap_program.specs.LiveRuns.{EndsAtLine, EndsEarlyLive, EndsLive, RunsLive};
 
@@ -41,7 +41,7 @@ pub fn run_live_region_from<A: Allowance, R: Read, W: Write, V: Write>(
     image_out: &mut Counted<W>,
     out: &mut Counted<V>,
 ) -> Result<Vec<Bytes>, LiveEnd>
-    requires whole { region.lent ≡ None }
+    requires whole { region.lents ≡ [] }
     requires none { script.old.items ≡ [] }
     ensures done { IfOk result (λ files. RunsLive (A.is_short memory.now)
         region (R.remaining reader.old) script.new.items inputs.entry.files.now V.contents out.old out.new
@@ -69,7 +69,7 @@ fn run_store<A: Allowance, R: Read, W: Write, V: Write>(
     image_out: &mut Counted<W>,
     out: &mut Counted<V>,
 ) -> Result<Vec<Bytes>, LiveEnd>
-    requires whole { store.lent ≡ None }
+    requires whole { store.lents ≡ [] }
     requires accepted { Accepted store.bytes }
     requires none { script.old.items ≡ [] }
     ensures done { IfOk result (λ files. RunsLive (A.is_short memory.now)

@@ -1,6 +1,6 @@
 //! The command `run`: a script, run on an image.
 
-ghost use Rattle.std.specs.Prelude.{◌≡◌, ◌≢◌, ◌⊎◌, Ok, Err, IfOk, IfErr, OnOk, None, true, false};
+ghost use Rattle.std.specs.Prelude.{[], ◌≡◌, ◌≢◌, ◌⊎◌, Ok, Err, IfOk, IfErr, OnOk, true, false};
 ghost use Rattle.heap_model.specs.Store.{Accepted};
 ghost use Rattle.script_lines.specs.Reading.{read_script};
 ghost use Rattle.palmheap_program.specs.Runs.{EndsEarly, EndsRun, PrintingFails, PutsRefusal, PutsScriptFault, RunBreaksOffShort};
@@ -85,7 +85,7 @@ pub fn run_region_from<A: Allowance, W: Write, V: Write>(
     files: &mut Vec<Bytes>,
     out: &mut Counted<V>,
 ) -> Status
-    requires whole { region.lent ≡ None }
+    requires whole { region.lents ≡ [] }
     ensures ends { EndsRun region.bytes script.now inputs.now V.contents out.old out.new
         W.contents image_out.old image_out.new files.new.items result }
     ensures files_kept { result ≢ Status.Done → files.new ≡ files.old }
@@ -111,7 +111,7 @@ fn read<'a, A: Allowance, V: Write>(
     script: &'a [u8],
     out: &mut Counted<V>,
 ) -> Result<(Store, Script<'a>), Status>
-    requires whole { region.lent ≡ None }
+    requires whole { region.lents ≡ [] }
     ensures store { IfOk result (λ read. read.0 ≡ region) }
     ensures accepted { OnOk result (Accepted region.bytes) }
     ensures script { IfOk result (λ read. read_script script.now ≡ Ok read.1) }
@@ -168,7 +168,7 @@ fn run_script<A: Allowance, W: Write, V: Write>(
     files: &mut Vec<Bytes>,
     out: &mut Counted<V>,
 ) -> Status
-    requires whole { store.lent ≡ None }
+    requires whole { store.lents ≡ [] }
     ensures statuses { (result ≡ Status.Done) ⊎ (result ≡ Status.WriteFault)
         ⊎ (result ≡ Status.NoMemory) }
     ensures done { result ≡ Status.Done → RunsAndWrites (Unit {0}) inputs.now script.now store
@@ -208,7 +208,7 @@ fn print_replies<A: Allowance, V: Write>(
     inputs: &[Bytes],
     out: &mut Counted<V>,
 ) -> Result<Vec<Bytes>, Status>
-    ensures lent { store.new.lent ≡ store.old.lent }
+    ensures lent { store.new.lents ≡ store.old.lents }
     ensures ok { IfOk result (λ files. RunsAndFlushes (Unit {0}) V.contents inputs.now script.now
         store.old out.old store.new out.new files.items true) }
     ensures faults { IfErr result (λ status.

@@ -1,6 +1,6 @@
 //! The command `run`.
 
-ghost use Rattle.std.specs.Prelude.{◌≡◌, ◌≢◌, ◌⊎◌, [], IfErr, None, false};
+ghost use Rattle.std.specs.Prelude.{◌≡◌, ◌≢◌, ◌⊎◌, [], IfErr, false};
 
 use crate::ending::Ending;
 use crate::live_command::{LiveEnd, run_live_region_from};
@@ -201,7 +201,7 @@ fn run_to<R: Files + Print + Eprint + AllocGlobal>(
     given: Given<'_>,
     path: &str,
 ) -> Result<Replied, Status>
-    requires { image.lent ≡ None }
+    requires { image.lents ≡ [] }
     ensures { IfErr result (λ status. (status ≡ Status.Refused)
         ⊎ (status ≡ Status.WriteFault) ⊎ (status ≡ Status.NoMemory)) }
 {
@@ -253,7 +253,7 @@ fn run_live_to<R: Files + Input + Print + Eprint + AllocGlobal>(
     script: &mut Vec<u8>,
     path: &str,
 ) -> Result<Replied, Status>
-    requires whole { image.lent ≡ None }
+    requires whole { image.lents ≡ [] }
     requires none { script.old.items ≡ [] }
     ensures { IfErr result (λ status. status ≢ Status.BadWords) }
 {

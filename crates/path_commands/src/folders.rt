@@ -27,6 +27,9 @@ use std::{fs, io, str};
 /// The name of the text in a folder of parts.
 const TEXT: &str = "database";
 
+/// The name of the text while it is written. No part has it.
+const UNFINISHED_TEXT: &str = "database.palmheap-new";
+
 /// Runs `unpack`. The path `-` means standard input.
 pub fn unpack<R: Files + Input + Print + Eprint + AllocGlobal>(
     rt: &R,
@@ -147,8 +150,8 @@ fn part_path(alloc: Global, folder: &str, name: PartName) -> Result<String, Allo
 }
 
 /// Makes a folder with the parts of a file and the text, and returns how many files it has. If a
-/// step fails, it removes the files that it made, and the folder. It writes the text last, so a
-/// folder with a text is whole.
+/// step fails, it removes the files that it made, and the folder. It writes the text last, and under
+/// another name first. So a folder with a text is whole, also if the run is killed.
 fn make_folder<R: Files + Eprint + AllocGlobal>(
     rt: &R,
     folder: &str,
@@ -252,19 +255,39 @@ fn write_text<R: Files + Eprint + AllocGlobal>(
     let Ok(path) = path_in(rt.alloc(), folder, TEXT) else {
         return fail(rt, Status::NoMemory);
     };
-    let created = match File::create_new(rt, path.as_str()) {
-        Ok(created) => created,
-        Err(reason) => {
-            report_write_fault(rt, path.as_str(), reason);
-            return Status::WriteFault;
-        }
+    let Ok(unfinished) = path_in(rt.alloc(), folder, UNFINISHED_TEXT) else {
+        return fail(rt, Status::NoMemory);
     };
-    let (status, fault) = write_lines(rt, created, file, unpacked);
+    let (mut status, mut fault) = write_lines_to(rt, unfinished.as_str(), file, unpacked);
+    if status == Status::Done {
+        if let Err(reason) = fs::rename(rt, unfinished.as_str(), path.as_str()) {
+            status = Status::WriteFault;
+            fault = Some(reason);
+        }
+    }
     if status != Status::Done {
-        let _ = fs::remove_file(rt, path.as_str());
+        let _ = fs::remove_file(rt, unfinished.as_str());
     }
     report_outcome(rt, status, &[(path.as_str(), fault)]);
     status
+}
+
+/// Writes the text of an unpacked file to a path with no file. Also returns the writer's first
+/// error.
+fn write_lines_to<R: Files + AllocGlobal>(
+    rt: &R,
+    path: &str,
+    file: &[u8],
+    unpacked: &Unpacked,
+) -> (Status, Option<io::Error>)
+    requires { IsUnpacked file.now unpacked.now }
+    ensures { (result.0 ≡ Status.Done) ⊎ (result.0 ≡ Status.WriteFault)
+        ⊎ (result.0 ≡ Status.NoMemory) }
+{
+    match File::create_new(rt, path) {
+        Ok(created) => write_lines(rt, created, file, unpacked),
+        Err(reason) => (Status::WriteFault, Some(reason)),
+    }
 }
 
 /// Writes the text of an unpacked file, and flushes. Also returns the writer's first error.

@@ -1,4 +1,4 @@
--- What a `&` to bytes with a gap shows of where they start. Assumes `Logic`.
+-- What a `&` to bytes with holes shows of where they start. Assumes `Logic`.
 use mathlib.Core.List.{[], ◌∷◌}
 use Prim.Native.Nat.{ℕ, ◌+◌}
 use seplogic.Ra.Ura.{Ura}

@@ -1,12 +1,14 @@
 mod Apart
 mod Bytes
+mod Carries
 pub mod ChangeLaws
+mod Each
 mod Fields
 mod GappedFields
-mod GapLaws
 mod GapWrites
+pub mod HoleLaws
 pub mod LoanLaws
-mod Loans
+pub mod MarkLaws
 mod PartLaws
 mod Values
 mod Walks

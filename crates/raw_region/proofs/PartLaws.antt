@@ -41,7 +41,7 @@ overwritten_by_part old at k new part is many =
     let rest = drop (at + length part) old in
     rw (is, many, drop-drop (length part) at old) (sym (append_assoc (take at old) part rest))
 
-length-taken : (old : List ℕ) (at n : ℕ) → at + n ≤ length old → length (take n (drop at old)) ≡ n
+pub length-taken : (old : List ℕ) (at n : ℕ) → at + n ≤ length old → length (take n (drop at old)) ≡ n
 length-taken old at n within = simp (length-take, length-drop) (omega arith)
 
 pub length-part : (old : List ℕ) (at n : ℕ) → at + n ≤ length old
@@ -67,7 +67,7 @@ overwritten_by_slide old new from to n within is =
     is ∙ ap (λ (k : ℕ). (take to old ++ part) ++ drop (to + k) old) many
 
 -- a part of a part
-part-in-part : (list : List ℕ) (n by k : ℕ) → by + k ≤ n
+pub part-in-part : (list : List ℕ) (n by k : ℕ) → by + k ≤ n
     → take k (drop by (take n list)) ≡ take k (drop by list)
 part-in-part list n by k within =
     let rest = n - by in

@@ -1,4 +1,4 @@
--- The lent part of a region, as a caller in C holds it.
+-- A lent part of a region, as a caller in C holds it.
 use Rattle.std.specs.Prelude.{◌≡◌, ◌<◌, ◌^◌, ℕ, List, [], length, Option, Some, None}
 use base.Fml.{Fml, ftrue}
 use denote.RawPtr.{Ptr}

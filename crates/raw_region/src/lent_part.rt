@@ -1,4 +1,4 @@
-//! The lent part of a region, as a caller in C holds it.
+//! A lent part of a region, as a caller in C holds it.
 
 ghost use Rattle.std.specs.Prelude.{◌≡◌, ℕ, List, length, Option, Some, None};
 ghost use denote.RawPtr.{null_ptr};

@@ -1,4 +1,4 @@
-//! The lent part of a region.
+//! A lent part of a region.
 
 ghost use Rattle.std.specs.Prelude.{◌≡◌, ◌+◌, ◌≤◌, length, slice_range};
 ghost use Rattle.heap_model.specs.Bytes.{overwritten};

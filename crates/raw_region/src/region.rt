@@ -1,20 +1,20 @@
 //! The type `Region`, and its methods to read, write, slide and lend bytes.
 
-ghost use Rattle.std.specs.Prelude.{◌≡◌, ◌+◌, ◌<◌, ◌^◌, length, slice_range, replicate, IfOk, OnErr, IfSome, Some, None, IsTrue, ◌↔◌, ◌≤◌};
-ghost use Rattle.heap_model.specs.Memory.{IsWithin, Misses};
+ghost use Rattle.std.specs.Prelude.{◌≡◌, ◌+◌, ◌<◌, ◌≤◌, ◌%◌, ◌^◌, ◌↔◌, IsTrue, length, slice_range, replicate, IfOk, OnErr, IfSome, IfNone, [], ◌∷◌};
+ghost use Rattle.heap_model.specs.Memory.{IsWithin, Misses, NoneBegins, without};
 ghost use Rattle.raw_region.specs.Parts.{IsOut};
+ghost use Rattle.raw_region.specs.Marks.{BeginsAt, IsMarkable, IsNextLent, NoneBeginsAbove};
 ghost use Rattle.heap_model.specs.Bytes.{AreBytes, u16_at, u32_at, u16_bytes, u32_bytes, overwritten};
 ghost use Rattle.raw_region.specs.ByteChanges.{changed_every};
 ghost use Rattle.allowance.specs.Refusals.{GrowthRefused};
 
 use crate::byte_change::ByteChange;
-use crate::gap::{self, Gap};
 use crate::gapped::Gapped;
 use crate::part::Part;
 use crate::room::{Lease, Room};
 use crate::run::Run;
 use crate::words;
-use allowance::{Allowance, failed};
+use allowance::{Allowance, failed, zeros};
 use byteorder::{BigEndian, ByteOrder};
 use heap_model::Tally;
 use std::alloc::{AllocError, Global};
@@ -28,18 +28,22 @@ use std::mem::{ManuallyDrop, replace};
 /// odd ones too. The caller of each method must prove that the bytes it names are within the
 /// region.
 ///
-/// One part may be lent at a time. Then the region owns the bytes before that part and after it,
-/// and contracts see zeros in its place. A region can be dropped only if nothing is lent.
+/// Any number of parts may be lent. Then the region owns the bytes outside of them, and contracts
+/// see zeros in their place. Proofs know which parts are lent, so no access tests it. At run time a
+/// bit for each multiple of 8 is set where a lent part begins. The bits are allocated with the
+/// region. A region can be dropped only if nothing is lent.
 pub struct Region {
     run: Gapped,
-    /// The lent part, if there is one.
-    gap: Option<Gap>,
     len: usize,
     alloc: Global,
     /// The right to free the block of the bytes, if there is one.
     lease: Option<Lease<Global>>,
     /// The number of bytes that `slide` copied.
     slid: Tally,
+    /// A bit for each multiple of 8, set where a lent part begins.
+    marks: Vec<u8>,
+    /// The number of lent parts.
+    count: usize,
 }
 
 impl Model for Region {
@@ -47,18 +51,20 @@ impl Model for Region {
 
     ghost Value = { Memory };
 
-    ghost use Rattle.raw_region.specs.Gaps.{bytes_of, lent_of, KnowsGap};
+    ghost use Rattle.raw_region.specs.Holes.{KnowsLents};
+    ghost use Rattle.raw_region.specs.Marks.{KnowsMarks};
 
     ghost view = { λ region. record {
-      bytes = bytes_of region.run;
+      bytes = region.run.bytes;
       slid = region.slid.total;
-      lent = lent_of region.run.ptr region.gap;
+      lents = region.run.lents;
     } };
 
     ghost use Rattle.std.specs.Prelude.{◌≡◌, ◌<◌, ◌^◌, MatchOption};
 
     ghost invariant = { λ region. (region.len ≡ region.run.len)
-        × (region.len < 2 ^ 63) × KnowsGap region.run region.gap
+        × (region.len < 2 ^ 63) × KnowsLents region.run.ptr region.run.len region.run.lents
+        × KnowsMarks region.marks.items region.run.len region.count region.run.lents
         × MatchOption region.lease (region.len ≡ 0) (λ lease.
         (0 < lease.size) × (lease.alloc ≡ region.alloc)
         × (lease.ptr ≡ region.run.ptr) × (lease.size ≡ region.len)) };
@@ -72,7 +78,7 @@ impl Region {
     pub fn zeroed(alloc: Global, size: u32) -> Result<Region, AllocError>
         ensures bytes { IfOk result (λ region. region.bytes ≡ replicate size 0) }
         ensures len { IfOk result (λ region. length region.bytes ≡ size) }
-        ensures whole { IfOk result (λ region. region.lent ≡ None) }
+        ensures whole { IfOk result (λ region. region.lents ≡ []) }
         ensures short { OnErr result GrowthRefused }
     {
         Region::zeroed_from(&alloc, size)
@@ -82,7 +88,7 @@ impl Region {
     pub fn zeroed_from<A: Allowance>(memory: &A, size: u32) -> Result<Region, AllocError>
         ensures bytes { IfOk result (λ region. region.bytes ≡ replicate size 0) }
         ensures len { IfOk result (λ region. length region.bytes ≡ size) }
-        ensures whole { IfOk result (λ region. region.lent ≡ None) }
+        ensures whole { IfOk result (λ region. region.lents ≡ []) }
         ensures short { OnErr result (A.is_short memory.now) }
     {
         Region::of_zeros(memory, size as usize)
@@ -94,7 +100,7 @@ impl Region {
     /// - `AllocError`: if the allocation failed.
     pub fn from_bytes(alloc: Global, bytes: &[u8]) -> Result<Region, AllocError>
         ensures bytes { IfOk result (λ region. region.bytes ≡ bytes.now) }
-        ensures whole { IfOk result (λ region. region.lent ≡ None) }
+        ensures whole { IfOk result (λ region. region.lents ≡ []) }
         ensures short { OnErr result GrowthRefused }
     {
         Region::copied_from(&alloc, bytes)
@@ -103,7 +109,7 @@ impl Region {
     /// The same as `from_bytes`, with a grant of `memory` for the allocation.
     pub fn copied_from<A: Allowance>(memory: &A, bytes: &[u8]) -> Result<Region, AllocError>
         ensures bytes { IfOk result (λ region. region.bytes ≡ bytes.now) }
-        ensures whole { IfOk result (λ region. region.lent ≡ None) }
+        ensures whole { IfOk result (λ region. region.lents ≡ []) }
         ensures short { OnErr result (A.is_short memory.now) }
     {
         let mut region = Region::of_zeros(memory, bytes.len())?;
@@ -115,30 +121,33 @@ impl Region {
     fn of_zeros<A: Allowance>(memory: &A, size: usize) -> Result<Region, AllocError>
         requires { size < 2 ^ 63 }
         ensures bytes { IfOk result (λ region. region.bytes ≡ replicate size 0) }
-        ensures whole { IfOk result (λ region. region.lent ≡ None) }
+        ensures whole { IfOk result (λ region. region.lents ≡ []) }
         ensures short { OnErr result (A.is_short memory.now) }
     {
         if size == 0 {
             return Ok(Region {
                 run: Gapped::whole(Run::empty()),
-                gap: None,
                 len: 0,
                 alloc: memory.allocator(),
                 lease: None,
                 slid: Tally::new(),
+                marks: Vec::new(memory.allocator()),
+                count: 0,
             });
         }
+        let marks = zeros(memory, size / 64 + 1)?;
         let alloc = memory.grant()?;
         let Some((room, lease)) = Room::new(&alloc, size) else {
             return Err(unsafe { failed(memory) });
         };
         Ok(Region {
             run: Gapped::whole(room.zeroed()),
-            gap: None,
             len: size,
             alloc,
             lease: Some(lease),
             slid: Tally::new(),
+            marks,
+            count: 0,
         })
     }
 
@@ -153,7 +162,7 @@ impl Region {
     /// Returns all bytes of the region, in order.
     #[inline]
     pub fn as_slice(&self) -> &[u8]
-        requires { self.now.lent ≡ None }
+        requires { self.now.lents ≡ [] }
         ensures is { result.now ≡ self.now.bytes }
         ensures bytes { AreBytes self.now.bytes }
     {
@@ -260,112 +269,98 @@ impl Region {
         ensures bytes { self.new.bytes
             ≡ overwritten self.old.bytes to (slice_range self.old.bytes from (from + n)) }
         ensures slid { self.new.slid ≡ self.old.slid + n }
-        ensures lent { self.new.lent ≡ self.old.lent }
+        ensures lent { self.new.lents ≡ self.old.lents }
         ensures len { length self.new.bytes ≡ length self.old.bytes }
     {
         self.slid.add(n);
-        if from < to {
-            self.slide_up(from, to, n);
-        } else {
-            self.slide_down(from, to, n);
-        }
+        self.run.slide(from, to, n);
     }
 
-    /// Copies the `n` bytes at `from` up to `to`, and counts nothing.
-    fn slide_up(&mut self, from: usize, to: usize, n: usize)
-        requires from { IsWithin self.old from n }
-        requires to { IsWithin self.old to n }
-        requires up { from < to }
-        ensures bytes { self.new.bytes
-            ≡ overwritten self.old.bytes to (slice_range self.old.bytes from (from + n)) }
-        ensures rest { self.new ≡ record self.old { bytes = self.new.bytes } }
-        ensures len { length self.new.bytes ≡ length self.old.bytes }
-    {
-        let lent = self.gap;
-        let count = to - from + n;
-        match gap::met(lent, from, count) {
-            None => self.run.slide_within(from, count, from, to, n),
-            Some(gap) => self.run.carry_up(gap, from, to, n),
-        }
-    }
-
-    /// Copies the `n` bytes at `from` down to `to`, and counts nothing.
-    fn slide_down(&mut self, from: usize, to: usize, n: usize)
-        requires from { IsWithin self.old from n }
-        requires to { IsWithin self.old to n }
-        requires down { to ≤ from }
-        ensures bytes { self.new.bytes
-            ≡ overwritten self.old.bytes to (slice_range self.old.bytes from (from + n)) }
-        ensures rest { self.new ≡ record self.old { bytes = self.new.bytes } }
-        ensures len { length self.new.bytes ≡ length self.old.bytes }
-    {
-        let lent = self.gap;
-        let count = from - to + n;
-        match gap::met(lent, to, count) {
-            None => self.run.slide_within(to, count, from, to, n),
-            Some(gap) => self.run.carry_down(gap, from, to, n),
-        }
-    }
-
-    /// Reports whether the `n` bytes at `at` miss the lent part.
-    #[inline]
-    pub fn misses(&self, at: usize, n: usize) -> bool
-        requires { at + n < 2 ^ 64 }
-        ensures { IsTrue result ↔ Misses self.now.lent at n }
-    {
-        gap::met(self.gap, at, n).is_none()
-    }
-
-    /// Lends the `n` bytes at `at`. Until they are taken back, the region doesn't own them and
-    /// lends nothing else.
+    /// Lends the `n` bytes at `at`. Until they are taken back, the region doesn't own them. They
+    /// must not overlap other lent parts, nor begin where one of these does.
     pub fn lend(&mut self, at: usize, n: usize) -> Part
         requires within { IsWithin self.old at n }
-        requires none { self.old.lent ≡ None }
+        requires begins { NoneBegins at self.old.lents }
+        requires place { IsMarkable at × (at < 2 ^ 32) }
         ensures part { result.bytes ≡ slice_range self.old.bytes at (at + n) }
         ensures after { self.new ≡ record self.old {
           bytes = overwritten self.old.bytes at (replicate n 0);
-          lent = Some (record { at = at; count = n; start = result.start });
+          lents = record { at = at; count = n; start = result.start } ∷ self.old.lents;
         } }
         ensures len { length self.new.bytes ≡ length self.old.bytes }
     {
-        let whole = replace(&mut self.run, Gapped::whole(Run::empty())).into_run(self.len);
-        let (front, more) = whole.cut(at);
-        let (run, rest) = more.cut(n);
-        let none = replace(&mut self.run, Gapped::of(front, n, rest));
+        let whole = replace(&mut self.run, Gapped::whole(Run::empty()));
+        let (others, run) = whole.cut_out(at, n);
+        let none = replace(&mut self.run, others);
         let _no_bytes = unsafe { ManuallyDrop::new_unchecked(none) };
-        self.gap = Some(Gap { at, count: n });
+        bit_sets::add(&mut self.marks, (at / 8) as u32);
+        self.count += 1;
         Part { run }
     }
 
-    /// Takes back the lent part.
-    pub fn take_back(&mut self, part: Part)
-        requires { IsOut self.old.lent part }
-        ensures bytes { IfSome self.old.lent
-            (λ lent. self.new.bytes ≡ overwritten self.old.bytes lent.at part.bytes) }
+    /// Takes back the lent part at `at`. Others may be taken back before it or after it.
+    pub fn take_back(&mut self, at: usize, part: Part)
+        requires out { IsOut self.old.lents at part }
+        requires place { at < 2 ^ 32 }
+        ensures after { self.new ≡ record self.old {
+          bytes = overwritten self.old.bytes at part.bytes;
+          lents = without at self.old.lents;
+        } }
         ensures len { length self.new.bytes ≡ length self.old.bytes }
-        ensures rest { self.new ≡ record self.old { bytes = self.new.bytes; lent = None } }
     {
         let Part { run } = part;
-        let Gap { at, count } = self.gap.unwrap();
-        let (front, rest) = replace(&mut self.run, Gapped::whole(Run::empty())).apart(at, count);
-        let whole = Gapped::whole(front.joined(run.joined(rest)));
-        let none = replace(&mut self.run, whole);
+        let others = replace(&mut self.run, Gapped::whole(Run::empty()));
+        let none = replace(&mut self.run, others.filled_in(at, run));
         let _no_bytes = unsafe { ManuallyDrop::new_unchecked(none) };
-        self.gap = None;
+        bit_sets::remove(&mut self.marks, (at / 8) as u32);
+        self.count -= 1;
+    }
+
+    /// Returns whether nothing is lent.
+    #[inline]
+    pub fn is_whole(&self) -> bool
+        ensures { IsTrue result ↔ (self.now.lents ≡ []) }
+    {
+        self.count == 0
+    }
+
+    /// Returns whether a lent part begins at `at`.
+    #[inline]
+    pub fn lends_at(&self, at: u32) -> bool
+        requires { IsMarkable at × (at ≤ length self.now.bytes) }
+        ensures { IsTrue result ↔ BeginsAt at self.now.lents }
+    {
+        self.count != 0 && bit_sets::has(&self.marks, at / 8)
+    }
+
+    /// Returns the least offset above `after` at which a lent part begins, if there is one.
+    pub fn next_lent(&self, after: u32) -> Option<u32>
+        requires { length self.now.bytes < 2 ^ 32 }
+        ensures next { IfSome result (IsNextLent self.now.lents after) }
+        ensures none { IfNone result (NoneBeginsAbove after self.now.lents) }
+    {
+        if self.count == 0 {
+            return None;
+        }
+        match bit_sets::first_from(&self.marks, after / 8 + 1) {
+            Some(unit) => Some(8 * unit),
+            None => None,
+        }
     }
 }
 
 impl Drop for Region {
     fn drop(self)
-        requires { self.lent ≡ None }
+        requires { self.lents ≡ [] }
     {
         let Region {
             run,
-            gap: _,
             len,
             alloc,
             lease,
             slid: _,
+            marks: _,
+            count: _,
         } = self;
         let run = run.into_run(len);
         match lease {

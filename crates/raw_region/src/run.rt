@@ -1,15 +1,11 @@
 //! Bytes in a row, reached by a raw pointer.
 //!
 //! A run doesn't know where its block begins or ends, so a part of a block is a run too. A part of
-//! a region is lent this way: a run is cut into the bytes before the part, the part, and the bytes
-//! after it. Each of the three is a run. Joined again, they have the bytes that the three runs have
-//! then. The laws `cut_at` and `joined_at` of `proofs/Loans.antt` prove this for the ownership of a
-//! run. The right to free the block stays with the region, which can't use it before the parts are
-//! joined.
+//! a region is lent as a run. The right to free the block stays with the region, which can't use it
+//! before all parts are back.
 
-ghost use Rattle.std.specs.Prelude.{◌≡◌, ◌+◌, ◌<◌, ◌≤◌, ◌^◌, ◌++◌, ℕ, List, [], length, take, drop};
+ghost use Rattle.std.specs.Prelude.{◌≡◌, ◌<◌, ◌^◌, ℕ, List, [], length};
 ghost use Rattle.raw_region.specs.Ownership.{bytes_at, bytes_lent};
-ghost use denote.RawPtr.{◌+ₚ◌};
 
 use crate::room::Room;
 use std::marker::Model;
@@ -73,36 +69,6 @@ impl Run {
         Run {
             ptr: &raw mut none as *mut u8,
             len: 0,
-        }
-    }
-
-    /// Cuts the run after its first `at` bytes.
-    pub(crate) fn cut(self, at: usize) -> (Run, Run)
-        requires { at ≤ length self.bytes }
-        ensures first { (result.0.ptr ≡ self.ptr) × (result.0.len ≡ at) × (result.0.bytes ≡ take at self.bytes) }
-        ensures rest { (result.1.ptr ≡ self.ptr +ₚ at) × (result.1.len + at ≡ self.len) × (result.1.bytes ≡ drop at self.bytes) }
-    {
-        let Run { ptr, len } = self;
-        let rest = unsafe { ptr.add(at) };
-        (
-            Run { ptr, len: at },
-            Run {
-                ptr: rest,
-                len: len - at,
-            },
-        )
-    }
-
-    /// Joins this run with the run directly after it.
-    pub(crate) fn joined(self, rest: Run) -> Run
-        requires { (rest.ptr ≡ self.ptr +ₚ self.len) × (self.len + rest.len < 2 ^ 63) }
-        ensures { (result.ptr ≡ self.ptr) × (result.len ≡ self.len + rest.len) × (result.bytes ≡ self.bytes ++ rest.bytes) }
-    {
-        let Run { ptr, len } = self;
-        let Run { ptr: _, len: more } = rest;
-        Run {
-            ptr,
-            len: len + more,
         }
     }
 }

@@ -45,7 +45,7 @@ use std::alloc::Global;
 /// - `OutOfMemory`: an allocation failed.
 /// - Any other fault: the image's first one, in the order of `faults`.
 pub fn check_store(alloc: Global, region: &Region) -> Result<StoreSummary, StoreFault>
-    requires whole { region.now.lent ≡ None }
+    requires whole { region.now.lents ≡ [] }
     ensures accepted { OnOk result (Accepted region.now.bytes) }
     ensures summary { IfOk result (Summarizes region.now.bytes) }
     ensures fault { IfErr result (IsAnswered region.now.bytes) }
@@ -64,7 +64,7 @@ pub fn check_store_from<A: Allowance>(
     memory: &A,
     region: &Region,
 ) -> Result<StoreSummary, StoreFault>
-    requires whole { region.now.lent ≡ None }
+    requires whole { region.now.lents ≡ [] }
     ensures accepted { OnOk result (Accepted region.now.bytes) }
     ensures summary { IfOk result (Summarizes region.now.bytes) }
     ensures fault { IfErr result (IsAnswered region.now.bytes) }
@@ -81,7 +81,7 @@ pub fn check_store_from<A: Allowance>(
 /// Does the same for an image with more words than `MOST_MARKS`. It allocates the marks of owners
 /// after its heap was found accepted.
 fn check_large<A: Allowance>(memory: &A, region: &Region) -> Result<StoreSummary, StoreFault>
-    requires whole { region.now.lent ≡ None }
+    requires whole { region.now.lents ≡ [] }
     ensures accepted { OnOk result (Accepted region.now.bytes) }
     ensures summary { IfOk result (Summarizes region.now.bytes) }
     ensures fault { IfErr result (IsAnswered region.now.bytes) }
@@ -105,7 +105,7 @@ fn check_noting<A: Allowance>(
     region: &Region,
     owners: &mut [u8],
 ) -> Result<StoreSummary, StoreFault>
-    requires whole { region.now.lent ≡ None }
+    requires whole { region.now.lents ≡ [] }
     requires room { model_needed region.now.bytes ≤ length owners.old }
     requires clear { NoneMarked owners.old }
     ensures accepted { OnOk result (Accepted region.now.bytes) }
@@ -128,7 +128,7 @@ fn check_databases<A: Allowance>(
     region: &Region,
     owners: &[u8],
 ) -> Result<u32, StoreFault>
-    requires whole { region.now.lent ≡ None }
+    requires whole { region.now.lents ≡ [] }
     requires accepted { HeapAccepted region.now.bytes }
     requires owners { HasOwners region.now.bytes owners.now }
     ensures accepted { OnOk result (Accepted region.now.bytes) }
@@ -148,7 +148,7 @@ fn check_with_table<A: Allowance>(
     owners: &[u8],
     table: &mut [Body],
 ) -> Result<u32, StoreFault>
-    requires whole { region.now.lent ≡ None }
+    requires whole { region.now.lents ≡ [] }
     requires accepted { HeapAccepted region.now.bytes }
     requires owners { HasOwners region.now.bytes owners.now }
     requires table { most_databases ≤ length table.old }
@@ -168,7 +168,7 @@ fn check_with_table<A: Allowance>(
 
 /// Proves that the numbers in a region are bytes, as those in a slice are.
 fn know_bytes(region: &Region)
-    requires whole { region.now.lent ≡ None }
+    requires whole { region.now.lents ≡ [] }
     ensures { AreBytes region.now.bytes }
 {
     let _bytes = region.as_slice();
@@ -182,7 +182,7 @@ fn check_marks<A: Allowance>(
     owners: &[u8],
     table: &mut [Body],
 ) -> Result<(), StoreFault>
-    requires whole { region.now.lent ≡ None }
+    requires whole { region.now.lents ≡ [] }
     requires accepted { HeapAccepted region.now.bytes }
     requires owners { HasOwners region.now.bytes owners.now }
     requires table { most_databases ≤ length table.old }
@@ -208,7 +208,7 @@ fn check_with_marks(
     marks: &mut [u8],
     table: &mut [Body],
 ) -> Result<(), StoreFault>
-    requires whole { region.now.lent ≡ None }
+    requires whole { region.now.lents ≡ [] }
     requires accepted { HeapAccepted region.now.bytes }
     requires owners { HasOwners region.now.bytes owners.now }
     requires room { HasRoom region.now.bytes (length marks.old) }
@@ -242,7 +242,7 @@ fn check_listed(
     marks: &mut [u8],
     table: &mut [Body],
 ) -> Result<(), StoreFault>
-    requires whole { region.now.lent ≡ None }
+    requires whole { region.now.lents ≡ [] }
     requires accepted { HeapAccepted region.now.bytes }
     requires owners { HasOwners region.now.bytes owners.now }
     requires room { HasRoom region.now.bytes (length marks.old) }
@@ -272,7 +272,7 @@ fn check_listed(
 
 /// Returns the size in bytes of a set with room for all IDs, and for the numbers of names.
 fn set_size(region: &Region, headers: &[Body]) -> usize
-    requires whole { region.now.lent ≡ None }
+    requires whole { region.now.lents ≡ [] }
     requires listed { AreListed region.now.bytes headers.now }
     requires headers { HaveHeaders region.now.bytes }
     ensures ids { HasRoomForAll region.now.bytes result }
@@ -288,7 +288,7 @@ fn check_ids_and_names<A: Allowance>(
     region: &Region,
     headers: &[Body],
 ) -> Result<(), StoreFault>
-    requires whole { region.now.lent ≡ None }
+    requires whole { region.now.lents ≡ [] }
     requires listed { AreListed region.now.bytes headers.now }
     requires headers { HaveHeaders region.now.bytes }
     ensures fault { IfErr result (IsFirstOr (own_faults region.now.bytes)) }
@@ -303,7 +303,7 @@ fn check_ids_and_names<A: Allowance>(
 
 /// Tests for the faults of IDs and names, with this set of numbers, which is empty.
 fn check_with_set(region: &Region, headers: &[Body], seen: &mut [u8]) -> Result<(), StoreFault>
-    requires whole { region.now.lent ≡ None }
+    requires whole { region.now.lents ≡ [] }
     requires listed { AreListed region.now.bytes headers.now }
     requires headers { HaveHeaders region.now.bytes }
     requires ids { HasRoomForAll region.now.bytes (length seen.old) }

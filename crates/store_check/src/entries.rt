@@ -1,7 +1,7 @@
 //! The entries of databases, and the chunks of their data.
 #![tactic(auto, using(laws_heap::proofs::Lending::all_within, laws_heap::proofs::Lending::all_misses))]
 
-ghost use Rattle.std.specs.Prelude.{◌≡◌, ◌<◌, ◌↔◌, List, ℕ, length, IsTrue, IfSome, IfNone, None};
+ghost use Rattle.std.specs.Prelude.{[], ◌≡◌, ◌<◌, ◌↔◌, List, ℕ, length, IsTrue, IfSome, IfNone, None};
 ghost use Rattle.heap_model.specs.Heap.{HeapAccepted};
 ghost use Rattle.heap_model.specs.Lists.{Least};
 ghost use Rattle.heap_model.specs.Database.{data_in, database_in};
@@ -43,7 +43,7 @@ fn find_bad_entry_in(
     owners: &[u8],
     marks: &mut [u8],
 ) -> Option<u16>
-    requires whole { region.now.lent ≡ None }
+    requires whole { region.now.lents ≡ [] }
     requires owners { HasOwners region.now.bytes owners.now }
     requires listed { AreListed region.now.bytes headers.now }
     requires headers { HaveHeaders region.now.bytes }
@@ -76,7 +76,7 @@ pub(crate) fn find_bad_entry(
     owners: &[u8],
     marks: &mut [u8],
 ) -> Option<StoreFault>
-    requires whole { region.now.lent ≡ None }
+    requires whole { region.now.lents ≡ [] }
     requires owners { HasOwners region.now.bytes owners.now }
     requires listed { AreListed region.now.bytes headers.now }
     requires headers { HaveHeaders region.now.bytes }

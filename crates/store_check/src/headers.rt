@@ -1,7 +1,7 @@
 //! The headers that the directory lists.
 #![tactic(auto, using(laws_heap::proofs::Lending::all_within, laws_heap::proofs::Lending::all_misses))]
 
-ghost use Rattle.std.specs.Prelude.{◌≡◌, ◌≤◌, ◌↔◌, ℕ, List, length, IsTrue, IfSome, IfNone, None};
+ghost use Rattle.std.specs.Prelude.{[], ◌≡◌, ◌≤◌, ◌↔◌, ℕ, List, length, IsTrue, IfSome, IfNone, None};
 ghost use Rattle.heap_model.specs.Heap.{HeapAccepted};
 ghost use Rattle.heap_model.specs.Store.{most_databases, IsInfoBlock};
 ghost use Rattle.heap_check.specs.Faults.{FirstBrought};
@@ -42,7 +42,7 @@ pub(crate) fn find_bad_header(
     owners: &[u8],
     table: &mut [Body],
 ) -> Option<StoreFault>
-    requires whole { region.now.lent ≡ None }
+    requires whole { region.now.lents ≡ [] }
     requires owners { HasOwners region.now.bytes owners.now }
     requires listing { IsListing region.now.bytes directory.now }
     requires room { most_databases ≤ length table.old }

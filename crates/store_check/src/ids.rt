@@ -1,7 +1,7 @@
 //! The unique IDs of records, for each database on its own.
 #![tactic(auto, using(laws_heap::proofs::Lending::all_within, laws_heap::proofs::Lending::all_misses))]
 
-ghost use Rattle.std.specs.Prelude.{◌≡◌, ◌≤◌, ◌<◌, ◌^◌, ◌↔◌, ℕ, Some, false, length, IsTrue, IfOk, IfSome, IfNone, OnErr, None};
+ghost use Rattle.std.specs.Prelude.{[], ◌≡◌, ◌≤◌, ◌<◌, ◌^◌, ◌↔◌, ℕ, Some, false, length, IsTrue, IfOk, IfSome, IfNone, OnErr, None};
 ghost use Rattle.heap_model.specs.Lists.{Least};
 ghost use Rattle.heap_model.specs.Database.{resources_in, entry_count_in};
 ghost use Rattle.heap_check.specs.Faults.{FirstBrought};
@@ -59,7 +59,7 @@ fn greatest_id_in(header: &[u8], least: u32) -> u32
 
 /// Returns the greatest ID of all records, or 0 if there are no records.
 pub(crate) fn greatest_id(region: &Region, headers: &[Body]) -> u32
-    requires whole { region.now.lent ≡ None }
+    requires whole { region.now.lents ≡ [] }
     requires listed { AreListed region.now.bytes headers.now }
     requires headers { HaveHeaders region.now.bytes }
     ensures ids { (db : ℕ) → db < model_count region.now.bytes
@@ -169,7 +169,7 @@ fn find_bad_id_in(header: &[u8], seen: &mut [u8]) -> Option<u16>
 /// Returns the first record of all databases, in their order, whose ID is 0 or that of an earlier
 /// record of its database.
 pub(crate) fn find_bad_id(region: &Region, headers: &[Body], seen: &mut [u8]) -> Option<StoreFault>
-    requires whole { region.now.lent ≡ None }
+    requires whole { region.now.lents ≡ [] }
     requires listed { AreListed region.now.bytes headers.now }
     requires headers { HaveHeaders region.now.bytes }
     requires room { HasRoomForAll region.now.bytes (length seen.old) }

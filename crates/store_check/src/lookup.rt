@@ -1,7 +1,7 @@
 //! The chunks of the manager: the places of their bodies, by their slots, and the bytes there.
 #![tactic(auto, using(laws_heap::proofs::Lending::all_within, laws_heap::proofs::Lending::all_misses))]
 
-ghost use Rattle.std.specs.Prelude.{◌≡◌, ◌≤◌, ◌<◌, ◌+◌, length, slice_range, None};
+ghost use Rattle.std.specs.Prelude.{[], ◌≡◌, ◌≤◌, ◌<◌, ◌+◌, length, slice_range, None};
 ghost use Rattle.heap_model.specs.Chunk.{managers_owner};
 ghost use Rattle.heap_model.specs.Heap.{HeapAccepted};
 ghost use Rattle.heap_model.specs.Store.{owner_under, directory_bytes};
@@ -40,7 +40,7 @@ fn as_movable(header: Header, place: Place) -> Option<Body>
 
 /// Returns the body of a chunk of the manager's. Its slot holds the place.
 fn body_under(region: &Region, slot: u32) -> Body
-    requires whole { region.now.lent ≡ None }
+    requires whole { region.now.lents ≡ [] }
     requires accepted { HeapAccepted region.now.bytes }
     requires managers { owner_under region.now.bytes slot ≡ managers_owner }
     ensures { HasBody region.now.bytes slot result }
@@ -52,7 +52,7 @@ fn body_under(region: &Region, slot: u32) -> Body
 /// Returns the bytes of a body.
 #[inline]
 pub(crate) fn bytes_of(region: &Region, body: Body) -> &[u8]
-    requires whole { region.now.lent ≡ None }
+    requires whole { region.now.lents ≡ [] }
     requires inside { body.place.0 + body.length ≤ length region.now.bytes }
     ensures { result.now ≡ slice_range region.now.bytes
         body.place.0 (body.place.0 + body.length) }
@@ -62,7 +62,7 @@ pub(crate) fn bytes_of(region: &Region, body: Body) -> &[u8]
 
 /// Returns the bytes of the directory. There are none if the directory word is 0.
 pub(crate) fn directory_in(region: &Region) -> &[u8]
-    requires whole { region.now.lent ≡ None }
+    requires whole { region.now.lents ≡ [] }
     requires accepted { HeapAccepted region.now.bytes }
     ensures { result.now ≡ directory_bytes region.now.bytes }
 {
@@ -76,7 +76,7 @@ pub(crate) fn directory_in(region: &Region) -> &[u8]
 /// Returns the body under the directory's word with an index: the header of that database and its
 /// entries.
 pub(crate) fn find_header(region: &Region, directory: &[u8], db: usize) -> Body
-    requires whole { region.now.lent ≡ None }
+    requires whole { region.now.lents ≡ [] }
     requires listing { IsListing region.now.bytes directory.now }
     requires below { db < model_count region.now.bytes }
     ensures { HasBody region.now.bytes (listed_at region.now.bytes db) result }
@@ -87,7 +87,7 @@ pub(crate) fn find_header(region: &Region, directory: &[u8], db: usize) -> Body
 /// Returns the bytes of the header of the database with an index, and of its entries.
 #[inline]
 pub(crate) fn header_of<'a>(region: &'a Region, headers: &[Body], db: usize) -> &'a [u8]
-    requires whole { region.now.lent ≡ None }
+    requires whole { region.now.lents ≡ [] }
     requires listed { AreListed region.now.bytes headers.now }
     requires below { db < length headers.now }
     ensures { result.now ≡ header_at region.now.bytes db }

@@ -17,7 +17,7 @@ use std::alloc::AllocError;
 /// Returns how many marks an image gets: one for each slot of an only table, and with a chain of
 /// tables one for each word of the image.
 pub(crate) fn mark_count(region: &Region) -> usize
-    requires whole { region.now.lent ≡ None }
+    requires whole { region.now.lents ≡ [] }
     requires accepted { HeapAccepted region.now.bytes }
     ensures room { HasRoom region.now.bytes result }
     ensures most { slot_size * result ≤ length region.now.bytes }

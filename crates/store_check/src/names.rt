@@ -1,7 +1,7 @@
 //! The names of databases.
 #![tactic(auto, using(laws_heap::proofs::Lending::all_within, laws_heap::proofs::Lending::all_misses))]
 
-ghost use Rattle.std.specs.Prelude.{◌≡◌, ◌≤◌, ◌<◌, ◌*◌, ◌/◌, ◌↔◌, length, IsTrue, IfSome, IfNone, None};
+ghost use Rattle.std.specs.Prelude.{[], ◌≡◌, ◌≤◌, ◌<◌, ◌*◌, ◌/◌, ◌↔◌, length, IsTrue, IfSome, IfNone, None};
 ghost use Rattle.heap_model.specs.DatabaseFields.{name_size};
 ghost use Rattle.heap_model.specs.Database.{HasName, name_in};
 ghost use Rattle.heap_check.specs.Faults.{FirstBrought};
@@ -17,7 +17,7 @@ use raw_region::Region;
 
 /// Returns the first database whose field for a name has none.
 pub(crate) fn find_bad_name(region: &Region, headers: &[Body]) -> Option<StoreFault>
-    requires whole { region.now.lent ≡ None }
+    requires whole { region.now.lents ≡ [] }
     requires listed { AreListed region.now.bytes headers.now }
     requires headers { HaveHeaders region.now.bytes }
     ensures some { IfSome result (FirstBrought (name_faults region.now.bytes)) }
@@ -67,7 +67,7 @@ fn is_same_name(header: &[u8], other: &[u8]) -> bool
 
 /// Returns whether an earlier database has the name of the one with an index.
 fn has_earlier_name(region: &Region, headers: &[Body], db: usize) -> bool
-    requires whole { region.now.lent ≡ None }
+    requires whole { region.now.lents ≡ [] }
     requires listed { AreListed region.now.bytes headers.now }
     requires headers { HaveHeaders region.now.bytes }
     requires names { HaveNames region.now.bytes }
@@ -86,7 +86,7 @@ fn has_earlier_name(region: &Region, headers: &[Body], db: usize) -> bool
 /// Returns whether an earlier database has the name of the one with an index. It compares names
 /// only if the set of the earlier names' numbers has the number.
 fn has_same_name(region: &Region, headers: &[Body], db: usize, number: u32, seen: &[u8]) -> bool
-    requires whole { region.now.lent ≡ None }
+    requires whole { region.now.lents ≡ [] }
     requires listed { AreListed region.now.bytes headers.now }
     requires headers { HaveHeaders region.now.bytes }
     requires names { HaveNames region.now.bytes }
@@ -109,7 +109,7 @@ pub(crate) fn find_same_name(
     headers: &[Body],
     seen: &mut [u8],
 ) -> Option<StoreFault>
-    requires whole { region.now.lent ≡ None }
+    requires whole { region.now.lents ≡ [] }
     requires listed { AreListed region.now.bytes headers.now }
     requires headers { HaveHeaders region.now.bytes }
     requires names { HaveNames region.now.bytes }

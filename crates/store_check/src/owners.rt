@@ -1,7 +1,7 @@
 //! The owners of the chunks of slots, as they were noted.
 #![tactic(auto, using(laws_heap::proofs::Lending::all_within, laws_heap::proofs::Lending::all_misses))]
 
-ghost use Rattle.std.specs.Prelude.{◌≡◌, ◌↔◌, ℕ, List, length, IsTrue, IfOk, OnErr, None};
+ghost use Rattle.std.specs.Prelude.{[], ◌≡◌, ◌↔◌, ℕ, List, length, IsTrue, IfOk, OnErr, None};
 ghost use Rattle.heap_model.specs.Chunk.{managers_owner, data_owner};
 ghost use Rattle.heap_model.specs.Heap.{HeapAccepted};
 ghost use Rattle.heap_model.specs.Store.{owner_under};
@@ -18,7 +18,7 @@ use std::alloc::AllocError;
 /// Allocates marks, and notes in them the owners of the chunks of an image's slots. The only error
 /// is a failed allocation.
 pub(crate) fn noted_owners<A: Allowance>(memory: &A, region: &Region) -> Result<Vec<u8>, AllocError>
-    requires whole { region.now.lent ≡ None }
+    requires whole { region.now.lents ≡ [] }
     requires accepted { HeapAccepted region.now.bytes }
     ensures owners { IfOk result (λ owners. HasOwners region.now.bytes owners.items) }
     ensures short { OnErr result (A.is_short memory.now) }

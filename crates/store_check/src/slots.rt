@@ -34,7 +34,7 @@ fn is_other_or_marked(slot: u32, owners: &[u8], marks: &[u8]) -> bool
 /// Returns the first bad word of the directory, whose own slot is marked. If there is none, all
 /// slots that it lists are marked too.
 pub(crate) fn find_bad_slot(region: &Region, owners: &[u8], marks: &mut [u8]) -> Option<StoreFault>
-    requires whole { region.now.lent ≡ None }
+    requires whole { region.now.lents ≡ [] }
     requires accepted { HeapAccepted region.now.bytes }
     requires owners { HasOwners region.now.bytes owners.now }
     requires room { HasRoom region.now.bytes (length marks.old) }

@@ -1,5 +1,5 @@
 -- The databases of a store by their numbers, names and indexes, as the calls on it answer.
-use Rattle.std.proofs.Common.{◌≡◌, ◌≢◌, ℕ, ◌<◌, List, map, length, Option, Some, None, refl, sym, ap, ◌∙◌, arith, inl, inr}
+use Rattle.std.proofs.Common.{[], ◌≡◌, ◌≢◌, ℕ, ◌<◌, List, map, length, Option, Some, None, refl, sym, ap, ◌∙◌, arith, inl, inr}
 use Rattle.std.specs.Prelude.{IsSome, All, slice_get, option_map}
 use Rattle.std.proofs.lemmas.Option.{slice_get-map, slice_get_within, get_or_from_slice_get}
 use Rattle.std.specs.List.{Any}
@@ -83,11 +83,11 @@ no_info m db refusal has does = elim does.step.0 [
 pub file_is : (m : Memory) (db : Db) (file : List ℕ) → HasNumber m.bytes db.0 → DoesInStore m (calls.File (Export db)) (replies.Data file) m → file ≡ file_of (content (store_of m.bytes).map (database_here m.bytes db.0))
 file_is m db file has does = in_here m.bytes db (λ database. file ≡ file_of (content (store_of m.bytes).map database)) has does.step.1.0
 
-none_of : (m : Memory) (names : List ℕ) → m.lent ≡ None → Any (IsLent m) names → ⊥
+none_of : (m : Memory) (names : List ℕ) → m.lents ≡ [] → Any (IsLent m) names → ⊥
 none_of m names whole lent = none_lent m lent.1 whole lent.4
 
 -- only out of memory refuses it
-pub no_file : (m : Memory) (db : Db) (refusal : Refusal) → m.lent ≡ None → HasNumber m.bytes db.0 → DoesInStore m (calls.File (Export db)) (replies.Refused refusal) m → refusal ≡ OutOfMemory
+pub no_file : (m : Memory) (db : Db) (refusal : Refusal) → m.lents ≡ [] → HasNumber m.bytes db.0 → DoesInStore m (calls.File (Export db)) (replies.Refused refusal) m → refusal ≡ OutOfMemory
 no_file m db refusal whole has does = elim does.step.0 [
   | inl none ↦ absurd (not_none m.bytes db.0 has none.0)
   | inr (some, inl lent) ↦ absurd (none_of m (data_in (database_here m.bytes db.0)) whole (in_here m.bytes db (λ database. Any (IsLent m) (data_in database)) has lent.0))

@@ -72,7 +72,7 @@ ImportsAll old (file ∷ files) new = (db : Db) × (mid : Memory) × Imports old
 -- the store of a new image, which is blank
 pub record IsNew (image : NewImage) (memory : Memory) : Type 0 where
   pub blank : IsBlank image.size image.slots memory.bytes
-  pub whole : memory.lent ≡ None
+  pub whole : memory.lents ≡ []
 
 -- the store that the files make of the new image
 pub record IsFilled (choice : ImageChoice) (files : List (List ℕ)) (image : NewImage) (filled : Memory) : Type 0 where

@@ -1,6 +1,6 @@
 //! The command `databases`: a line for each database of an image.
 
-ghost use Rattle.std.specs.Prelude.{◌≡◌, IfOk, OnErr, None, decimal, is_ok};
+ghost use Rattle.std.specs.Prelude.{[], ◌≡◌, IfOk, OnErr, decimal, is_ok};
 ghost use Rattle.std.specs.List.{flat_map};
 ghost use Rattle.heap_model.specs.Store.{database_under, store_of};
 ghost use Rattle.palm_store.specs.Databases.{HasNumber};
@@ -52,7 +52,7 @@ pub fn databases_region_from<A: Allowance, V: Write>(
     region: Region,
     out: &mut Counted<V>,
 ) -> Status
-    requires whole { region.lent ≡ None }
+    requires whole { region.lents ≡ [] }
     ensures ends { EndsDatabases region.bytes V.contents out.old out.new result }
     ensures short { result ≡ Status.NoMemory → A.is_short memory.now }
 {
@@ -78,7 +78,7 @@ pub(crate) struct Row {
 
 /// What is printed of a database. The only error is that an allocation failed.
 fn row_of_number<A: Allowance>(memory: &A, store: &Store, db: Db) -> Result<Row, AllocError>
-    requires whole { store.now.lent ≡ None }
+    requires whole { store.now.lents ≡ [] }
     requires there { HasNumber store.now.bytes db.0 }
     ensures row { IfOk result (λ row. row
         ≡ row_of (store_of store.now.bytes) (database_under store.now.bytes db.0)) }
@@ -94,7 +94,7 @@ fn row_of_number<A: Allowance>(memory: &A, store: &Store, db: Db) -> Result<Row,
 
 /// What is printed of all databases, in their order. The only error is that an allocation failed.
 pub(crate) fn rows_of<A: Allowance>(memory: &A, store: &Store) -> Result<Vec<Row>, AllocError>
-    requires { store.now.lent ≡ None }
+    requires { store.now.lents ≡ [] }
     ensures rows { IfOk result (λ rows. rows.items ≡ rows_in (store_of store.now.bytes)) }
     ensures short { OnErr result (A.is_short memory.now) }
 {

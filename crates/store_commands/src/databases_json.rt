@@ -1,6 +1,6 @@
 //! The command `databases --json`: a document of the databases of an image.
 
-ghost use Rattle.std.specs.Prelude.{◌≡◌, ◌⊎◌, Err, IfOk, IfErr, OnOk, None, is_ok, true, false};
+ghost use Rattle.std.specs.Prelude.{[], ◌≡◌, ◌⊎◌, Err, IfOk, IfErr, OnOk, is_ok, true, false};
 ghost use Rattle.allowance.specs.Refusals.{GrowthRefused};
 ghost use Rattle.heap_model.specs.Store.{Accepted};
 ghost use Rattle.heap_model.specs.Database as databases;
@@ -52,7 +52,7 @@ pub fn databases_json_region_from<A: Allowance, V: Write>(
     region: Region,
     out: &mut Counted<V>,
 ) -> Status
-    requires whole { region.lent ≡ None }
+    requires whole { region.lents ≡ [] }
     ensures ends { EndsDatabasesJson region.bytes V.contents out.old out.new result }
     ensures short { result ≡ Status.NoMemory → A.is_short memory.now }
 {
@@ -80,7 +80,7 @@ fn opened_json<A: Allowance, V: Write>(
     region: Region,
     out: &mut Counted<V>,
 ) -> Result<Store, Status>
-    requires whole { region.lent ≡ None }
+    requires whole { region.lents ≡ [] }
     ensures store { IfOk result (λ store. store ≡ region) }
     ensures accepted { OnOk result (Accepted region.bytes) }
     ensures silent { OnOk result (out.new ≡ out.old) }

@@ -1,6 +1,6 @@
 //! The command `export`, but for the folder: the files of databases, with their names.
 
-ghost use Rattle.std.specs.Prelude.{◌≡◌, ◌⊎◌, Err, IfOk, IfErr, OnOk, OnErr, IfSome, IfNone, Some, None, map, true, false};
+ghost use Rattle.std.specs.Prelude.{[], ◌≡◌, ◌⊎◌, Err, IfOk, IfErr, OnOk, OnErr, IfSome, IfNone, Some, None, map, true, false};
 ghost use Rattle.std.specs.List.{AllZip};
 ghost use Rattle.heap_model.specs.Store.{Accepted, database_under, store_of};
 ghost use Rattle.palm_store.specs.Databases.{HasNumber};
@@ -48,7 +48,7 @@ pub fn export_files<A: Allowance, V: Write>(
     words: &[Bytes],
     out: &mut Counted<V>,
 ) -> Result<Vec<ExportedFile>, Ended>
-    requires whole { region.lent ≡ None }
+    requires whole { region.lents ≡ [] }
     ensures accepted { OnOk result (Accepted region.bytes) }
     ensures files { IfOk result (λ files.
         AreExported (store_of region.bytes) words.now files.items) }
@@ -86,7 +86,7 @@ fn file_of_number<A: Allowance>(
     store: &Store,
     db: Db,
 ) -> Result<ExportedFile, AllocError>
-    requires whole { store.now.lent ≡ None }
+    requires whole { store.now.lents ≡ [] }
     requires there { HasNumber store.now.bytes db.0 }
     ensures file { IfOk result (λ file. file
         ≡ file_for (store_of store.now.bytes) (database_under store.now.bytes db.0)) }
@@ -101,7 +101,7 @@ fn file_of_number<A: Allowance>(
 
 /// The files of all databases, in their order. The only error is that an allocation failed.
 fn all_files<A: Allowance>(memory: &A, store: &Store) -> Result<Vec<ExportedFile>, AllocError>
-    requires whole { store.now.lent ≡ None }
+    requires whole { store.now.lents ≡ [] }
     ensures files { IfOk result (λ files. files.items
         ≡ map (file_for (store_of store.now.bytes)) (store_of store.now.bytes).databases) }
     ensures short { OnErr result (A.is_short memory.now) }
@@ -142,7 +142,7 @@ fn named_files<A: Allowance>(
     store: &Store,
     words: &[Bytes],
 ) -> Result<Vec<ExportedFile>, NotNamed>
-    requires whole { store.now.lent ≡ None }
+    requires whole { store.now.lents ≡ [] }
     ensures files { IfOk result (λ files.
         AllZip (IsFileNamed (store_of store.now.bytes)) words.now files.items) }
     ensures missing { IfErr result (IsNotNamed (store_of store.now.bytes) words.now) }

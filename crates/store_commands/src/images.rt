@@ -1,6 +1,6 @@
 //! Images that are opened, and the databases in them.
 
-ghost use Rattle.std.specs.Prelude.{◌≡◌, ◌⊎◌, ◌<◌, Err, IfOk, IfErr, OnOk, OnErr, None, length, slice_get, Some, is_ok, true, false};
+ghost use Rattle.std.specs.Prelude.{[], ◌≡◌, ◌⊎◌, ◌<◌, Err, IfOk, IfErr, OnOk, OnErr, length, slice_get, Some, is_ok, true, false};
 ghost use Rattle.heap_model.specs.Files.{file_of};
 ghost use Rattle.heap_model.specs.Store.{Accepted, content, database_under, store_of};
 ghost use Rattle.heap_model.specs.Leaving.{database_here};
@@ -33,7 +33,7 @@ pub fn opened<A: Allowance, V: Write>(
     region: Region,
     out: &mut Counted<V>,
 ) -> Result<Store, Status>
-    requires whole { region.lent ≡ None }
+    requires whole { region.lents ≡ [] }
     ensures store { IfOk result (λ store. store ≡ region) }
     ensures accepted { OnOk result (Accepted region.bytes) }
     ensures silent { OnOk result (out.new ≡ out.old) }
@@ -102,7 +102,7 @@ pub(crate) fn file_of_database<A: Allowance>(
     store: &Store,
     db: Db,
 ) -> Result<Bytes, AllocError>
-    requires whole { store.now.lent ≡ None }
+    requires whole { store.now.lents ≡ [] }
     requires there { HasNumber store.now.bytes db.0 }
     ensures file { IfOk result (λ file. file
         ≡ file_of (content (store_of store.now.bytes).map (database_here store.now.bytes db.0))) }
@@ -129,7 +129,7 @@ pub(crate) fn say_refusal<V: Write>(
 /// Writes the whole image of a store of which nothing is lent, and flushes.
 #[tactic(auto, using(palm_text::proofs::Parts::then_flush))]
 pub fn put_store<W: Write>(image_out: &mut Counted<W>, store: &Store) -> Result<(), WriteFault>
-    requires { store.now.lent ≡ None }
+    requires { store.now.lents ≡ [] }
     ensures { Puts W.contents image_out.old image_out.new store.now.bytes (is_ok result) }
 {
     match store.write_image(image_out) {

@@ -1,7 +1,7 @@
 //! The command `import`: an image that is just large enough for some files, with their databases in
 //! it.
 
-ghost use Rattle.std.specs.Prelude.{◌≡◌, ◌≢◌, ◌≤◌, ◌⊎◌, ℕ, List, Err, IfOk, IfErr, OnOk, None, IfSome, IfNone, All, is_ok, min, replicate, codes, true, false};
+ghost use Rattle.std.specs.Prelude.{[], ◌≡◌, ◌≢◌, ◌≤◌, ◌⊎◌, ℕ, List, Err, IfOk, IfErr, OnOk, None, IfSome, IfNone, All, is_ok, min, replicate, codes, true, false};
 ghost use Rattle.std.specs.List.{concat};
 ghost use Rattle.allowance.specs.Refusals.{GrowthRefused};
 ghost use Rattle.heap_model.specs.Files.{HasNoFault};
@@ -103,7 +103,7 @@ fn filled_store<A: Allowance>(
     files: &[Bytes],
 ) -> Result<(NewImage, Store), NotImported>
     ensures filled { IfOk result (λ made. IsFilled choice files.now made.0 made.1) }
-    ensures whole { IfOk result (λ made. made.1.lent ≡ None) }
+    ensures whole { IfOk result (λ made. made.1.lents ≡ []) }
     ensures why { IfErr result (IsWhy choice files.now) }
     ensures short { result ≡ Err NotImported.OutOfMemory → A.is_short memory.now }
 {
@@ -121,7 +121,7 @@ fn filled_with<A: Allowance>(
 ) -> Result<(NewImage, Store), NotImported>
     requires { All HasNoFault files.now }
     ensures filled { IfOk result (λ made. IsFilled choice files.now made.0 made.1) }
-    ensures whole { IfOk result (λ made. made.1.lent ≡ None) }
+    ensures whole { IfOk result (λ made. made.1.lents ≡ []) }
     ensures why { IfErr result (IsWhy choice files.now) }
     ensures short { result ≡ Err NotImported.OutOfMemory → A.is_short memory.now }
 {
@@ -203,7 +203,7 @@ fn fitting_size(slots: u16, databases: usize, bytes: u64) -> Option<u32>
 /// The store of a new image.
 fn new_store<A: Allowance>(memory: &A, image: NewImage) -> Result<Store, NotImported>
     ensures made { IfOk result (IsNew image) }
-    ensures whole { IfOk result (λ store. store.lent ≡ None) }
+    ensures whole { IfOk result (λ store. store.lents ≡ []) }
     ensures accepted { IfOk result (λ store. Accepted store.bytes) }
     ensures why { IfErr result (IsNoImage image) }
     ensures short { result ≡ Err NotImported.OutOfMemory → A.is_short memory.now }
@@ -230,7 +230,7 @@ fn import_all<A: Allowance>(
     ensures done { OnOk result (ImportsAll store.old files.now store.new) }
     ensures accepted { OnOk result (Accepted store.new.bytes) }
     ensures why { IfErr result (IsStopped store.old files.now) }
-    ensures lent { store.new.lent ≡ store.old.lent }
+    ensures lent { store.new.lents ≡ store.old.lents }
     ensures short { result ≡ Err NotImported.OutOfMemory → A.is_short memory.now }
 {
     for index in 0..files.len() {
@@ -290,7 +290,7 @@ fn put_filled<W: Write, V: Write>(
     image_out: &mut Counted<W>,
     out: &mut Counted<V>,
 ) -> Ended
-    requires { store.now.lent ≡ None }
+    requires { store.now.lents ≡ [] }
     ensures ends { PutsFilled image count store.now.bytes W.contents image_out.old image_out.new
         V.contents out.old out.new result.status }
     ensures word { result.word ≡ None }

@@ -1,6 +1,6 @@
 //! The command `migrate`: an image gets a chain of tables.
 
-ghost use Rattle.std.specs.Prelude.{◌≡◌, ◌⊎◌, Err, IfOk, IfErr, OnOk, None, true, false};
+ghost use Rattle.std.specs.Prelude.{[], ◌≡◌, ◌⊎◌, Err, IfOk, IfErr, OnOk, true, false};
 ghost use Rattle.heap_model.specs.Store.{Accepted};
 ghost use Rattle.heap_migration.specs.Stores.{IsMigrated};
 ghost use Rattle.store_commands.specs.Migrating.{EndsMigrate, PutsNotMigrated};
@@ -56,7 +56,7 @@ pub fn migrate_region_from<A: Allowance, W: Write, V: Write>(
     image_out: &mut Counted<W>,
     out: &mut Counted<V>,
 ) -> Status
-    requires whole { region.lent ≡ None }
+    requires whole { region.lents ≡ [] }
     ensures ends { EndsMigrate region.bytes W.contents image_out.old image_out.new
         V.contents out.old out.new result }
     ensures short { result ≡ Status.NoMemory → A.is_short memory.now }
@@ -78,9 +78,9 @@ fn migrated<A: Allowance, V: Write>(
     region: Region,
     out: &mut Counted<V>,
 ) -> Result<Store, Status>
-    requires whole { region.lent ≡ None }
+    requires whole { region.lents ≡ [] }
     ensures store { IfOk result (λ store. IsMigrated region.bytes store.bytes) }
-    ensures whole { IfOk result (λ store. store.lent ≡ None) }
+    ensures whole { IfOk result (λ store. store.lents ≡ []) }
     ensures accepted { OnOk result (Accepted region.bytes) }
     ensures silent { OnOk result (out.new ≡ out.old) }
     ensures faults { IfErr result (λ status. (status ≡ Status.Refused)

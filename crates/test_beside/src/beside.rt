@@ -1,6 +1,6 @@
 //! A call on a store, and the same on the plain model next to it.
 
-ghost use Rattle.std.specs.Prelude.{◌≡◌, IfOk, None};
+ghost use Rattle.std.specs.Prelude.{[], ◌≡◌, IfOk, None};
 
 use crate::draw::{database_call, file_call, memory_call, record_call, resource_call};
 use heap_model::{Call, Name, Place, Refusal, Reply};
@@ -57,7 +57,7 @@ impl Beside {
         spot: &str,
         call: &Call,
     ) -> Result<Reply, Fail>
-        ensures { store.new.lent ≡ store.old.lent }
+        ensures { store.new.lents ≡ store.old.lents }
     {
         let reply = do_call(alloc, store, call);
         let after = image_of(alloc, store)?;
@@ -84,8 +84,8 @@ impl Beside {
         spot: &str,
         call: &Call,
     ) -> Result<Reply, Fail>
-        requires { store.old.lent ≡ None }
-        ensures { store.new.lent ≡ None }
+        requires { store.old.lents ≡ [] }
+        ensures { store.new.lents ≡ [] }
     {
         let reply = reply_while_lent(alloc, store, name, call)?;
         let after = image_of(alloc, store)?;
@@ -121,8 +121,8 @@ fn reply_while_lent(
     name: Name,
     call: &Call,
 ) -> Result<Reply, Refusal>
-    requires { store.old.lent ≡ None }
-    ensures { store.new.lent ≡ None }
+    requires { store.old.lents ≡ [] }
+    ensures { store.new.lents ≡ [] }
 {
     let loan = store.take_out(name)?;
     let reply = do_call(alloc, store, call);
@@ -186,7 +186,7 @@ fn difference(
 
 /// The store of an image.
 pub fn store_of(alloc: Global, image: &[u8]) -> Result<Store, Fail>
-    ensures { IfOk result (λ made. made.lent ≡ None) }
+    ensures { IfOk result (λ made. made.lents ≡ []) }
 {
     match Store::check(alloc, Region::from_bytes(alloc, image)?) {
         Ok(store) => Ok(store),

@@ -1,6 +1,6 @@
 //! Each byte of an image with a database, set to each other value.
 
-ghost use Rattle.std.specs.Prelude.{◌≡◌, None};
+ghost use Rattle.std.specs.Prelude.{[], ◌≡◌, None};
 
 use crate::stores::listed_store;
 use palm_script::{Script, parse, run};
@@ -129,7 +129,7 @@ fn replies(alloc: Global, calls: &[(&str, &str)]) -> Result<String, Fail> {
 
 /// Runs calls on a store, and returns what they print. What they leave is a store.
 fn run_on(alloc: Global, mut store: Store, calls: &Script<'_>) -> Result<Vec<u8>, Fail>
-    requires { store.lent ≡ None }
+    requires { store.lents ≡ [] }
 {
     let said = printed(alloc, &mut store, calls)?;
     store_of(alloc, &image_of(alloc, &store)?)?;
@@ -138,7 +138,7 @@ fn run_on(alloc: Global, mut store: Store, calls: &Script<'_>) -> Result<Vec<u8>
 
 /// What calls print on a store.
 fn printed(alloc: Global, store: &mut Store, calls: &Script<'_>) -> Result<Vec<u8>, Fail>
-    ensures { store.new.lent ≡ store.old.lent }
+    ensures { store.new.lents ≡ store.old.lents }
 {
     let mut out = Counted::new(Vec::new(alloc));
     run(alloc, store, calls, &[], &mut out)?;

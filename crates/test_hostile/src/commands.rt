@@ -139,22 +139,22 @@ fn draw_with(
 
 /// The number of allocations of each, and its status if none fails.
 static TRIALS: [(Trial, u32, Status); 13] = [
-    (Trial::New(128), 1, Status::Done),
+    (Trial::New(128), 2, Status::Done),
     (Trial::New(100), 0, Status::BadWords),
-    (Trial::Check(DATABASE), 5, Status::Done),
+    (Trial::Check(DATABASE), 6, Status::Done),
     (Trial::Check(""), 0, Status::Refused),
-    (Trial::Run(BLANK, WRITTEN), 35, Status::Done),
+    (Trial::Run(BLANK, WRITTEN), 36, Status::Done),
     (
         Trial::Run(BLANK, "bind a 16\nbound a\n"),
-        10,
+        11,
         Status::Refused,
     ),
-    (Trial::Run("00", WRITTEN), 1, Status::Refused),
-    (Trial::Migrate(DATABASE), 4, Status::Done),
-    (Trial::Migrate(BLANK), 4, Status::Done),
-    (Trial::Migrate("00"), 1, Status::Refused),
-    (Trial::Draw(DATABASE), 15, Status::Done),
-    (Trial::Draw("00"), 1, Status::Refused),
+    (Trial::Run("00", WRITTEN), 2, Status::Refused),
+    (Trial::Migrate(DATABASE), 6, Status::Done),
+    (Trial::Migrate(BLANK), 6, Status::Done),
+    (Trial::Migrate("00"), 2, Status::Refused),
+    (Trial::Draw(DATABASE), 16, Status::Done),
+    (Trial::Draw("00"), 2, Status::Refused),
     (Trial::BadLine, 2, Status::Refused),
 ];
 

@@ -1,6 +1,6 @@
 //! A list of calls that is drawn call by call along the plain model, and then run as a whole.
 
-ghost use Rattle.std.specs.Prelude.{◌≡◌, None};
+ghost use Rattle.std.specs.Prelude.{[], ◌≡◌, None};
 
 use heap_model::{Call, Name, Place, Reply};
 use palm_script::run_calls;
@@ -30,14 +30,14 @@ pub(crate) struct Drawn {
 }
 
 impl Model for Drawn {
-    ghost use Rattle.std.specs.Prelude.{◌≡◌, None};
+    ghost use Rattle.std.specs.Prelude.{[], ◌≡◌};
     ghost use Rattle.heap_model.specs.Memory.{Memory};
 
     ghost Value = { Memory };
 
     ghost view = { λ drawn. drawn.store };
 
-    ghost invariant = { λ drawn. drawn.store.lent ≡ None };
+    ghost invariant = { λ drawn. drawn.store.lents ≡ [] };
 }
 
 impl Drawn {

@@ -1,7 +1,7 @@
 //! Each allocation fails in turn. Out of memory is reported if one failed, and only then, and
 //! nothing was done.
 
-ghost use Rattle.std.specs.Prelude.{◌≡◌, IfOk, IfErr, None};
+ghost use Rattle.std.specs.Prelude.{[], ◌≡◌, IfOk, IfErr, None};
 ghost use Rattle.palm_script.specs.Headline.{HandsBack};
 
 use crate::stores::{
@@ -134,7 +134,7 @@ fn ran_with(
     store: &mut Store,
     text: &str,
 ) -> Result<(Option<RunFault>, Vec<u8>), Fail>
-    ensures { store.new.lent ≡ store.old.lent }
+    ensures { store.new.lents ≡ store.old.lents }
 {
     let script = parse(alloc, text.as_bytes())?;
     let inputs = input_files(alloc)?;
@@ -166,7 +166,7 @@ fn list_with(memory: &RefusesOne, alloc: Global) -> Result<Came, Fail> {
 
 /// Whether the list wants memory.
 fn wants_list(memory: &RefusesOne, store: &mut Store) -> bool
-    ensures { store.new.lent ≡ store.old.lent }
+    ensures { store.new.lents ≡ store.old.lents }
 {
     matches!(
         run_calls_from(memory, store, &calls_in_list()),
@@ -175,8 +175,8 @@ fn wants_list(memory: &RefusesOne, store: &mut Store) -> bool
 }
 
 fn run_list(memory: &RefusesOne, region: Region) -> Result<(Store, Vec<Reply>), NotRun>
-    requires { region.lent ≡ None }
-    ensures run { IfOk result (λ made. made.0.lent ≡ None) }
+    requires { region.lents ≡ [] }
+    ensures run { IfOk result (λ made. made.0.lents ≡ []) }
     ensures not_run { IfErr result (HandsBack region) }
 {
     check_and_run_from(memory, region, &calls_in_list())
@@ -206,7 +206,7 @@ fn call_with(
     mut store: Store,
     call: &Call,
 ) -> Result<Came, Fail>
-    requires { store.lent ≡ None }
+    requires { store.lents ≡ [] }
 {
     let image = image_of(alloc, &store)?;
     let is_want = wants_call(memory, &mut store, call);
@@ -215,7 +215,7 @@ fn call_with(
 
 /// Whether a call wants memory.
 fn wants_call(memory: &RefusesOne, store: &mut Store, call: &Call) -> bool
-    ensures { store.new.lent ≡ store.old.lent }
+    ensures { store.new.lents ≡ store.old.lents }
 {
     do_call_from(memory, store, call) == Reply::Refused(Refusal::OutOfMemory)
 }
@@ -267,8 +267,8 @@ fn tried(memory: &RefusesOne, alloc: Global, trial: &Trial) -> Result<Came, Fail
 
 /// Calls, and the number of allocations of each.
 static TRIALS: [(Trial, u32); 23] = [
-    (Trial::Zeros, 1),
-    (Trial::Copy, 1),
+    (Trial::Zeros, 2),
+    (Trial::Copy, 2),
     (Trial::Check(BLANK, ""), 2),
     (Trial::Check(ONE_CHUNK, ""), 2),
     (Trial::Check(BLANK, WRITTEN), 2),

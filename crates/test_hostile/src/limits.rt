@@ -1,6 +1,6 @@
 //! Images and scripts at their limits: no "out of memory" is invented for them.
 
-ghost use Rattle.std.specs.Prelude.{◌≡◌, IfOk, None};
+ghost use Rattle.std.specs.Prelude.{[], ◌≡◌, IfOk, None};
 
 use heap_model::{Call, MemoryCall, Name, Reply};
 use image_commands::cmd_check;
@@ -124,7 +124,7 @@ const READ: Call = Call::Memory(MemoryCall::Read {
 
 /// A store with the largest chunk alone.
 fn with_largest(alloc: Global) -> Result<Store, Fail>
-    ensures { IfOk result (λ made. made.lent ≡ None) }
+    ensures { IfOk result (λ made. made.lents ≡ []) }
 {
     let mut store = store_of(alloc, &blank_image(alloc, MOST, 1)?)?;
     let made = store.handle_new(LARGEST, 1);

@@ -1,6 +1,6 @@
 //! Stores after scripts and files, and the scripts and files.
 
-ghost use Rattle.std.specs.Prelude.{◌≡◌, IfOk, None};
+ghost use Rattle.std.specs.Prelude.{[], ◌≡◌, IfOk, None};
 
 use heap_model::{Bytes, Db};
 use palm_script::{RunFault, parse, run};
@@ -32,7 +32,7 @@ pub(crate) fn input_files(alloc: Global) -> Result<Vec<Bytes>, Fail> {
 
 /// The store of a listed image.
 pub(crate) fn listed_store(alloc: Global, listing: &str) -> Result<Store, Fail>
-    ensures { IfOk result (λ made. made.lent ≡ None) }
+    ensures { IfOk result (λ made. made.lents ≡ []) }
 {
     store_of(alloc, &bytes_of(alloc, listing)?)
 }
@@ -43,7 +43,7 @@ pub(crate) fn store_behind(
     listing: &str,
     script: &str,
 ) -> Result<(Store, Vec<u8>), Fail>
-    ensures { IfOk result (λ made. made.0.lent ≡ None) }
+    ensures { IfOk result (λ made. made.0.lents ≡ []) }
 {
     let mut store = listed_store(alloc, listing)?;
     let said = printed(alloc, &mut store, script)?;
@@ -52,7 +52,7 @@ pub(crate) fn store_behind(
 
 /// What a script prints that is run on a store.
 fn printed(alloc: Global, store: &mut Store, text: &str) -> Result<Vec<u8>, Fail>
-    ensures { store.new.lent ≡ store.old.lent }
+    ensures { store.new.lents ≡ store.old.lents }
 {
     let mut out = Counted::new(Vec::new(alloc));
     match ran(alloc, store, text, &mut out)? {
@@ -68,7 +68,7 @@ pub(crate) fn ran<W: Write>(
     text: &str,
     out: &mut Counted<W>,
 ) -> Result<Option<RunFault>, Fail>
-    ensures { store.new.lent ≡ store.old.lent }
+    ensures { store.new.lents ≡ store.old.lents }
 {
     let script = parse(alloc, text.as_bytes())?;
     let inputs = input_files(alloc)?;
@@ -77,7 +77,7 @@ pub(crate) fn ran<W: Write>(
 
 /// A store with the database of a file, and the number of that.
 pub(crate) fn with_database(alloc: Global, listing: &str) -> Result<(Store, Db), Fail>
-    ensures { IfOk result (λ made. made.0.lent ≡ None) }
+    ensures { IfOk result (λ made. made.0.lents ≡ []) }
 {
     let mut store = listed_store(alloc, WIDE)?;
     let db = import(alloc, &mut store, &bytes_of(alloc, listing)?)?;

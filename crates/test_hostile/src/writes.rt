@@ -1,7 +1,7 @@
 //! Each write fails in turn: what was written is a prefix of what was to be, nothing is written
 //! after it, and what a run did is what the lines did whose reply was begun.
 
-ghost use Rattle.std.specs.Prelude.{◌≡◌};
+ghost use Rattle.std.specs.Prelude.{[], ◌≡◌};
 
 use crate::stores::{
     CARRIED, WRITTEN, has_image, input_files, listed_store, ran, store_behind, with_database,
@@ -191,7 +191,7 @@ fn cut_run(
     text: &str,
     cut: Cut,
 ) -> Result<(Option<RunFault>, Narrow), Fail>
-    ensures { store.new.lent ≡ store.old.lent }
+    ensures { store.new.lents ≡ store.old.lents }
 {
     let mut out = narrow(alloc, cut);
     let fault = ran(alloc, store, text, &mut out)?;

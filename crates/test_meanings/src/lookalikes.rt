@@ -17,22 +17,48 @@ fn check(alloc: Global, listing: &str, at: usize, byte: u8, wanted: bool) -> Res
     holds(format_args!("{listing} {at} {byte}"), looks == wanted)
 }
 
+/// A file with an empty name.
+const NAMELESS_FILE: &str = "00*60 44415441 54657374 00*12";
+
+/// A file with a type and a creator that can't be printed.
+const UNPRINTABLE_FILE: &str = "41 00*59 E4 00*7 01 00*11";
+
+/// A file whose name begins with the magic of an image, and goes on.
+const LONG_MAGIC_FILE: &str = "5048493141 00*55 44415441 54657374 00*12";
+
+/// A file with neither a type nor a creator, as an archive begins.
+const KINDLESS_FILE: &str = "41 00*79";
+
 /// Files, where one byte is another, and whether they look like PDB or PRC files: whole ones, two
 /// with a wrong offset or number of entries, one that goes on elsewhere, one without a name, one
-/// with a type that can't be printed, images, and one that begins with the magic.
-static FILES: [(&str, usize, u8, bool); 12] = [
+/// with a type that can't be printed, images, and files that begin with the magic. Then files that
+/// lack two of the parts of a header.
+static FILES: [(&str, usize, u8, bool); 25] = [
     (EMPTY_FILE, 40, 1, true),
     (ORDER_FILE, 40, 1, true),
     (TINY_FILE, 40, 1, true),
     (ORDER_FILE, 86, 0xFF, true),
     (ORDER_FILE, 76, 0xFF, true),
-    (ORDER_FILE, 75, 1, false),
-    (ORDER_FILE, 0, 0, false),
-    (ORDER_FILE, 60, 0x1F, false),
+    (ORDER_FILE, 75, 1, true),
+    (ORDER_FILE, 0, 0, true),
+    (ORDER_FILE, 60, 0x1F, true),
+    (ORDER_FILE, 67, 0x80, true),
+    (NAMELESS_FILE, 75, 1, true),
+    (NAMELESS_FILE, 60, 0, true),
+    (UNPRINTABLE_FILE, 40, 0, true),
+    (UNPRINTABLE_FILE, 60, 0, false),
     (BLANK, 0, 0x51, false),
     (DATABASE, 0, 0x51, false),
-    (MAGIC_FILE, 3, 0x32, false),
-    (MAGIC_FILE, 3, 0x33, true),
+    (MAGIC_FILE, 3, 0x31, true),
+    (MAGIC_FILE, 3, 0x32, true),
+    (LONG_MAGIC_FILE, 3, 0x31, true),
+    (LONG_MAGIC_FILE, 4, 0, true),
+    (MAGIC_FILE, 5, 1, false),
+    (UNPRINTABLE_FILE, 72, 1, false),
+    (UNPRINTABLE_FILE, 31, 0x41, false),
+    (UNPRINTABLE_FILE, 30, 0x1F, false),
+    (KINDLESS_FILE, 68, 1, false),
+    (KINDLESS_FILE, 67, 1, true),
 ];
 
 #[test]

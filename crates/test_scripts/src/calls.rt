@@ -1,6 +1,6 @@
 //! Memory that is refused, calls that are done one by one, and a reply line that breaks off.
 
-ghost use Rattle.std.specs.Prelude.{◌≡◌, IfOk, None};
+ghost use Rattle.std.specs.Prelude.{[], ◌≡◌, IfOk, None};
 
 use crate::call_lists::PLACES;
 use chunk_format::blank;
@@ -16,8 +16,8 @@ use test_support::{BLANK, RefusesOne, equal, image};
 
 /// The store of a region.
 fn accepted(alloc: Global, region: Region) -> Result<Store, Fail>
-    requires { region.lent ≡ None }
-    ensures { IfOk result (λ made. made.lent ≡ None) }
+    requires { region.lents ≡ [] }
+    ensures { IfOk result (λ made. made.lents ≡ []) }
 {
     match Store::check(alloc, region) {
         Ok(store) => Ok(store),
@@ -27,21 +27,21 @@ fn accepted(alloc: Global, region: Region) -> Result<Store, Fail>
 
 /// The store of a listed image.
 pub(crate) fn listed_store(alloc: Global, listing: &str) -> Result<Store, Fail>
-    ensures { IfOk result (λ made. made.lent ≡ None) }
+    ensures { IfOk result (λ made. made.lents ≡ []) }
 {
     accepted(alloc, image(alloc, listing, "")?)
 }
 
 /// A store of 128 bytes with 4 slots, and one free chunk of 96.
 pub(crate) fn small_store(alloc: Global) -> Result<Store, Fail>
-    ensures { IfOk result (λ made. made.lent ≡ None) }
+    ensures { IfOk result (λ made. made.lents ≡ []) }
 {
     listed_store(alloc, BLANK)
 }
 
 /// Returns an empty store of `size` bytes with 4 slots.
 pub(crate) fn blank_store(alloc: Global, size: u32) -> Result<Store, Fail>
-    ensures { IfOk result (λ made. made.lent ≡ None) }
+    ensures { IfOk result (λ made. made.lents ≡ []) }
 {
     accepted(alloc, blank(alloc, size, 4)?)
 }
@@ -58,7 +58,7 @@ fn run_with<W: Write>(
     script: &Script<'_>,
     out: W,
 ) -> (Ended, W)
-    ensures { store.new.lent ≡ store.old.lent }
+    ensures { store.new.lents ≡ store.old.lents }
 {
     let mut out = Counted::new(out);
     let ended = match run_from(memory, store, script, &[], &mut out) {
@@ -106,7 +106,7 @@ fn refused_memory_leaves_all_as_it_was(rt: HostRuntime) -> Result<(), Fail> {
 
 /// Makes a chunk of `length` bytes.
 fn chunk_of(store: &mut Store, length: u32) -> Result<Name, Fail>
-    ensures { store.new.lent ≡ store.old.lent }
+    ensures { store.new.lents ≡ store.old.lents }
 {
     Ok(store.handle_new(length, 1)?)
 }
@@ -168,7 +168,7 @@ fn length_of(reply: &Reply) -> Option<usize> {
 
 /// Checks that a read of `count` bytes from a chunk returns `count` bytes.
 fn check_count(alloc: Global, store: &mut Store, name: Name, count: u32) -> Result<(), Fail>
-    ensures { store.new.lent ≡ store.old.lent }
+    ensures { store.new.lents ≡ store.old.lents }
 {
     let call = Call::Memory(MemoryCall::Read { name, at: 0, count });
     let length = length_of(&do_call(alloc, store, &call));
@@ -251,7 +251,7 @@ fn put_replies(
     store: &mut Store,
     calls: &[Call],
 ) -> Result<(), AllocError>
-    ensures { store.new.lent ≡ store.old.lent }
+    ensures { store.new.lents ≡ store.old.lents }
 {
     for call in calls {
         let reply = do_call(alloc, store, call);
@@ -267,7 +267,7 @@ pub(crate) fn check_calls(
     lists: &[&[Call]],
     wanted: &str,
 ) -> Result<(), Fail>
-    ensures { store.new.lent ≡ store.old.lent }
+    ensures { store.new.lents ≡ store.old.lents }
 {
     let mut text = String::new(alloc);
     for calls in lists {
@@ -320,7 +320,7 @@ fn run_cut(
     script: &Script<'_>,
     room: &mut [u8; 4],
 ) -> Option<RunFault>
-    ensures { store.new.lent ≡ store.old.lent }
+    ensures { store.new.lents ≡ store.old.lents }
 {
     let mut out = Counted::new(room.as_mut_slice());
     let ran = run(alloc, store, script, &[], &mut out);

@@ -1,6 +1,6 @@
 //! Records: the lines that make, use, change, move and delete them.
 
-ghost use Rattle.std.specs.Prelude.{◌≡◌};
+ghost use Rattle.std.specs.Prelude.{[], ◌≡◌};
 
 use crate::calls::{check_calls, creation, listed_store};
 use crate::commands::check_image;
@@ -331,7 +331,7 @@ fn calls_on(db: Db) -> [Call; 9] {
 
 /// A chunk is no database: calls of each kind say so.
 fn check_no_database(alloc: Global, store: &mut Store, number: u32) -> Result<(), Fail>
-    ensures { store.new.lent ≡ store.old.lent }
+    ensures { store.new.lents ≡ store.old.lents }
 {
     let said = "Refused(NoSuchDatabase); ".repeat(alloc, 9)?;
     check_calls(alloc, store, &[&calls_on(Db(number))], said.as_str())

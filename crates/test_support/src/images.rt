@@ -4,7 +4,7 @@
 //! One of the listings is the worked image of docs/FORMAT.md.
 #![tactic(auto, using(laws_heap::proofs::Lending::all_within))]
 
-ghost use Rattle.std.specs.Prelude.{◌≡◌, IfOk, None};
+ghost use Rattle.std.specs.Prelude.{[], ◌≡◌, IfOk, None};
 
 use chunk_format::blank;
 use raw_region::Region;
@@ -93,7 +93,7 @@ pub fn bytes_of(alloc: Global, listing: &str) -> Result<Vec<u8>, Fail> {
 /// The image of a listing with bytes changed: each change is an offset and the hex that stands
 /// there instead, as `27: 00, 172: FF000000`.
 pub fn image(alloc: Global, listing: &str, changes: &str) -> Result<Region, Fail>
-    ensures whole { IfOk result (λ region. region.lent ≡ None) }
+    ensures whole { IfOk result (λ region. region.lents ≡ []) }
 {
     let mut region = Region::from_bytes(alloc, bytes_of(alloc, listing)?.as_slice())?;
     for change in changes.split(", ") {
@@ -116,7 +116,7 @@ pub fn changed_words(
     slots: u16,
     words: &[(usize, u32)],
 ) -> Result<Region, Fail>
-    ensures whole { IfOk result (λ region. region.lent ≡ None) }
+    ensures whole { IfOk result (λ region. region.lents ≡ []) }
 {
     let mut region = blank(alloc, size, slots)?;
     for (at, word) in words {

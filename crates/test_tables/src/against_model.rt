@@ -1,7 +1,7 @@
 //! Images with a chain in which words are changed, by the check of heaps and by the plain model.
 #![tactic(auto, using(laws_heap::proofs::Lending::all_within))]
 
-ghost use Rattle.std.specs.Prelude.{◌≡◌, IfOk, None};
+ghost use Rattle.std.specs.Prelude.{[], ◌≡◌, IfOk};
 
 use crate::images::{TABLE, image, put_word};
 use heap_check::{HeapFault, check_heap};
@@ -21,7 +21,7 @@ enum Said {
 }
 
 fn said_by_check(region: &Region) -> Said
-    requires { region.now.lent ≡ None }
+    requires { region.now.lents ≡ [] }
 {
     match check_heap(region) {
         Ok(_) => Said::Accepted,
@@ -31,7 +31,7 @@ fn said_by_check(region: &Region) -> Said
 }
 
 fn said_by_model(alloc: Global, region: &Region) -> Result<Said, Fail>
-    requires { region.now.lent ≡ None }
+    requires { region.now.lents ≡ [] }
 {
     match Image::decode(alloc, region.as_slice()) {
         Ok(_) => Ok(Said::Accepted),
@@ -43,7 +43,7 @@ fn said_by_model(alloc: Global, region: &Region) -> Result<Said, Fail>
 
 /// What both say of an image.
 fn agreed<D: Display + Drop>(alloc: Global, spot: D, region: &Region) -> Result<Said, Fail>
-    requires { region.now.lent ≡ None }
+    requires { region.now.lents ≡ [] }
 {
     let said = said_by_check(region);
     equal(spot, said, said_by_model(alloc, region)?)?;
@@ -79,7 +79,7 @@ static TABLES: [(u32, u32); 22] = [
 ];
 
 fn tables(alloc: Global) -> Result<Region, Fail>
-    ensures { IfOk result (λ region. region.lent ≡ None) }
+    ensures { IfOk result (λ region. region.lents ≡ []) }
 {
     image(alloc, 160, &TABLES)
 }

@@ -1,7 +1,7 @@
 //! The largest images: with as many tables as there can be, and with one table of as many slots.
 #![tactic(auto, using(laws_heap::proofs::Lending::all_within))]
 
-ghost use Rattle.std.specs.Prelude.{◌≡◌, IfOk, None};
+ghost use Rattle.std.specs.Prelude.{[], ◌≡◌, IfOk};
 
 use crate::chains::counted;
 use crate::images::{TABLE, image, put_word, put_words};
@@ -29,7 +29,7 @@ fn place_of(number: u32) -> u32 {
 /// An image full of the given number of tables of one slot. Each leads to the one before it, so
 /// that the chain begins at the last.
 fn many_tables(alloc: Global, count: u32) -> Result<Region, Fail>
-    ensures { IfOk result (λ region. region.lent ≡ None) }
+    ensures { IfOk result (λ region. region.lents ≡ []) }
 {
     let last = place_of(count.saturating_sub(1));
     let mut region = image(alloc, last.saturating_add(8), &[(20, last)])?;
@@ -76,7 +76,7 @@ const LAST: u32 = MOST;
 /// An image with a table of as many slots as there can be, whose last one holds the place of a
 /// chunk of no bytes.
 fn many_slots(alloc: Global) -> Result<Region, Fail>
-    ensures { IfOk result (λ region. region.lent ≡ None) }
+    ensures { IfOk result (λ region. region.lents ≡ []) }
 {
     let size = MOST - 8 - 24;
     let slot = 32 + 4 * SLOTS;

@@ -1,6 +1,6 @@
 //! Tables that are made while calls go on.
 
-ghost use Rattle.std.specs.Prelude.{◌≡◌, IfOk, None};
+ghost use Rattle.std.specs.Prelude.{[], ◌≡◌, IfOk};
 
 use crate::images::image;
 use chunk_format::blank;
@@ -14,15 +14,15 @@ use test_support::equal;
 /// The heap of a blank image with a chain of tables and one slot, by its size and the first word of
 /// its chunk, which begins at 24.
 fn heap(alloc: Global, size: u32, chunk: u32) -> Result<Heap, Fail>
-    ensures { IfOk result (λ heap. heap.lent ≡ None) }
+    ensures { IfOk result (λ heap. heap.lents ≡ []) }
 {
     adopted(image(alloc, size, &[(24, chunk)])?)
 }
 
 /// The heap of a region.
 fn adopted(region: Region) -> Result<Heap, Fail>
-    requires { region.lent ≡ None }
-    ensures { IfOk result (λ heap. heap.lent ≡ None) }
+    requires { region.lents ≡ [] }
+    ensures { IfOk result (λ heap. heap.lents ≡ []) }
 {
     match Heap::adopt(region) {
         Ok(heap) => Ok(heap),
@@ -32,8 +32,8 @@ fn adopted(region: Region) -> Result<Heap, Fail>
 
 /// The region of a heap.
 fn region_of(heap: Heap) -> Result<Region, Fail>
-    requires { heap.lent ≡ None }
-    ensures { IfOk result (λ region. region.lent ≡ None) }
+    requires { heap.lents ≡ [] }
+    ensures { IfOk result (λ region. region.lents ≡ []) }
 {
     match heap.into_region() {
         Ok(region) => Ok(region),
@@ -43,7 +43,7 @@ fn region_of(heap: Heap) -> Result<Region, Fail>
 
 /// What a heap counts, and the image after it, checked anew.
 fn counts(heap: Heap) -> Result<[u32; 5], Fail>
-    requires { heap.lent ≡ None }
+    requires { heap.lents ≡ [] }
 {
     let heap = adopted(region_of(heap)?)?;
     let s = heap.summary();
@@ -111,7 +111,7 @@ fn slots_of_each_table_are_given(rt: HostRuntime) -> Result<(), Fail> {
 
 /// Whether each chunk of a heap is found under its name, and freed.
 fn check_names(heap: &mut Heap, names: &[Name]) -> Result<(), Fail>
-    ensures { heap.new.lent ≡ heap.old.lent }
+    ensures { heap.new.lents ≡ heap.old.lents }
 {
     for name in names {
         equal(format_args!("size of {}", name.0), heap.size(*name), Ok(8))?;
@@ -145,7 +145,7 @@ fn slots_are_found_that_no_one_remembers(rt: HostRuntime) -> Result<(), Fail> {
 
 /// Every call refuses a name that no chunk of a caller has.
 fn check_no_name(heap: &mut Heap, name: Name) -> Result<(), Fail>
-    ensures { heap.new.lent ≡ heap.old.lent }
+    ensures { heap.new.lents ≡ heap.old.lents }
 {
     let wrong = Refusal::InvalidHandle;
     let answers = [

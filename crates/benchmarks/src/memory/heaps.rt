@@ -1,6 +1,6 @@
 //! Heaps that are copied for calls that walk through all chunks.
 
-ghost use Rattle.std.specs.Prelude.{◌≡◌, IfOk, None};
+ghost use Rattle.std.specs.Prelude.{[], ◌≡◌, IfOk};
 
 use crate::memory::load::{Load, OWNER, region_of};
 use crate::work::Work;
@@ -46,8 +46,8 @@ pub(crate) struct Original {
 impl Original {
     /// Returns a copy of the heap.
     pub(crate) fn copy(&self, alloc: Global) -> Result<Heap>
-        requires { self.now.region.lent ≡ None }
-        ensures { IfOk result (λ heap. heap.lent ≡ None) }
+        requires { self.now.region.lents ≡ [] }
+        ensures { IfOk result (λ heap. heap.lents ≡ []) }
     {
         let region = Region::from_bytes(alloc, self.region.as_slice())?;
         adopted(region)
@@ -56,8 +56,8 @@ impl Original {
 
 /// Makes the heap of a region.
 pub(crate) fn adopted(region: Region) -> Result<Heap>
-    requires { region.lent ≡ None }
-    ensures { IfOk result (λ heap. heap.lent ≡ None) }
+    requires { region.lents ≡ [] }
+    ensures { IfOk result (λ heap. heap.lents ≡ []) }
 {
     match Heap::adopt(region) {
         Ok(heap) => Ok(heap),
@@ -75,7 +75,7 @@ pub(crate) const TABLES_APART: u32 = 1_021;
 /// isn't 0, a chunk of fewer than `most_between` bytes was made after each further table, and freed
 /// at the end.
 pub(crate) fn chained_heap(alloc: Global, size: u32, tables: u16, most_between: u32) -> Result<Heap>
-    ensures { IfOk result (λ heap. heap.lent ≡ None) }
+    ensures { IfOk result (λ heap. heap.lents ≡ []) }
 {
     let mut region = blank(alloc, size, 1)?;
     region.write(0, &CHAINED_MAGIC);
@@ -95,8 +95,8 @@ pub(crate) fn chained_heap(alloc: Global, size: u32, tables: u16, most_between: 
 
 /// Makes a heap that chunks nearly fill, one under each slot, and frees every second one.
 pub(crate) fn full(alloc: Global, blank: Heap, work: Work<'_>) -> Result<Original, AllocError>
-    requires { blank.lent ≡ None }
-    ensures { IfOk result (λ full. full.region.lent ≡ None) }
+    requires { blank.lents ≡ [] }
+    ensures { IfOk result (λ full. full.region.lents ≡ []) }
 {
     let mut load = Load::new(alloc, blank, most_when_full(work));
     load.make(work.slots)?;
@@ -123,8 +123,8 @@ fn most_when_full(work: Work<'_>) -> u16 {
 /// them is a chunk of no bytes, which is kept, and nothing else is free. Before half of the chunks
 /// are freed, there is one under each slot.
 pub(crate) fn one_class(alloc: Global, blank: Heap, slots: u16) -> Result<Original, AllocError>
-    requires { blank.lent ≡ None }
-    ensures { IfOk result (λ made. made.region.lent ≡ None) }
+    requires { blank.lents ≡ [] }
+    ensures { IfOk result (λ made. made.region.lents ≡ []) }
 {
     let pairs = usize::from(slots / 2);
     let mut original = OneClass {
@@ -148,14 +148,14 @@ struct OneClass {
 }
 
 impl Model for OneClass {
-    ghost use Rattle.std.specs.Prelude.{◌≡◌, None};
+    ghost use Rattle.std.specs.Prelude.{[], ◌≡◌};
     ghost use Rattle.heap_model.specs.Memory.{Memory};
 
     ghost Value = { Memory };
 
     ghost view = { λ made. made.heap };
 
-    ghost invariant = { λ made. made.heap.lent ≡ None };
+    ghost invariant = { λ made. made.heap.lents ≡ [] };
 }
 
 impl OneClass {
@@ -188,7 +188,7 @@ impl OneClass {
     }
 
     fn into_original(self) -> Original
-        ensures { result.region.lent ≡ None }
+        ensures { result.region.lents ≡ [] }
     {
         Original {
             region: region_of(self.heap),

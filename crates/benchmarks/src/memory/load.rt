@@ -1,6 +1,6 @@
 //! A heap under load: its chunks are made, freed and asked for in a fixed order.
 
-ghost use Rattle.std.specs.Prelude.{◌≡◌, None};
+ghost use Rattle.std.specs.Prelude.{[], ◌≡◌};
 
 use crate::memory::heaps::Kept;
 use crate::memory::numbers::Numbers;
@@ -44,20 +44,20 @@ pub(crate) struct Load {
 }
 
 impl Model for Load {
-    ghost use Rattle.std.specs.Prelude.{◌≡◌, None};
+    ghost use Rattle.std.specs.Prelude.{[], ◌≡◌};
     ghost use Rattle.heap_model.specs.Memory.{Memory};
 
     ghost Value = { Memory };
 
     ghost view = { λ load. load.heap };
 
-    ghost invariant = { λ load. load.heap.lent ≡ None };
+    ghost invariant = { λ load. load.heap.lents ≡ [] };
 }
 
 impl Load {
     /// Starts with no chunks. Chunks will have 0 to `most` bytes.
     pub(crate) fn new(alloc: Global, heap: Heap, most: u16) -> Load
-        requires { heap.lent ≡ None }
+        requires { heap.lents ≡ [] }
     {
         Load {
             heap,
@@ -234,7 +234,7 @@ impl Load {
     }
 
     pub(crate) fn into_region(self) -> Region
-        ensures { result.lent ≡ None }
+        ensures { result.lents ≡ [] }
     {
         region_of(self.heap)
     }
@@ -242,7 +242,7 @@ impl Load {
 
 /// Returns the region of a heap of which nothing is lent.
 pub(crate) fn region_of(heap: Heap) -> Region
-    requires { heap.lent ≡ None }
+    requires { heap.lents ≡ [] }
     ensures { result ≡ heap }
 {
     match heap.into_region() {

@@ -1,7 +1,7 @@
 //! Calls that walk through a heap with free bytes between its chunks, or that move these chunks.
 //! Also orders of calls for which lists of free chunks help least.
 
-ghost use Rattle.std.specs.Prelude.{◌≡◌};
+ghost use Rattle.std.specs.Prelude.{[], ◌≡◌};
 
 use crate::memory::heaps::{LARGE, Original, SMALL};
 use crate::memory::load::OWNER;
@@ -40,7 +40,7 @@ impl Original {
     /// Prepares a copy of the heap. It is parted if stretches are to be compacted. The chunks
     /// between the first free ones are freed if one chunk is to take them.
     pub(crate) fn prepare(&self, heap: &mut Heap, walk: Walk)
-        ensures { heap.new.lent ≡ heap.old.lent }
+        ensures { heap.new.lents ≡ heap.old.lents }
     {
         match walk {
             Walk::HandleNew => self.part(heap),
@@ -52,7 +52,7 @@ impl Original {
     /// Locks chunks of a heap, which part it into stretches of about the same number of chunks
     /// each.
     fn part(&self, heap: &mut Heap)
-        ensures { heap.new.lent ≡ heap.old.lent }
+        ensures { heap.new.lents ≡ heap.old.lents }
     {
         let step = (self.kept.len() / STRETCHES).max(1);
         for kept in self.kept.iter().step_by(step) {
@@ -63,7 +63,7 @@ impl Original {
     }
 
     fn free_first(&self, heap: &mut Heap)
-        ensures { heap.new.lent ≡ heap.old.lent }
+        ensures { heap.new.lents ≡ heap.old.lents }
     {
         for kept in self.kept.iter().take(self.freed()) {
             if heap.free(kept.name).is_err() {
@@ -94,7 +94,7 @@ impl Original {
 
     /// Does the calls, and returns the sum of their replies.
     pub(crate) fn walk(&self, heap: &mut Heap, walk: Walk) -> Sum
-        ensures { heap.new.lent ≡ heap.old.lent }
+        ensures { heap.new.lents ≡ heap.old.lents }
     {
         let mut replies = Sum(0);
         match walk {
@@ -112,7 +112,7 @@ impl Original {
 
     /// Makes chunks that each take three quarters of the room of a stretch.
     fn make_large(&self, heap: &mut Heap, replies: &mut Sum)
-        ensures { heap.new.lent ≡ heap.old.lent }
+        ensures { heap.new.lents ≡ heap.old.lents }
     {
         let size = self.bytes() / (2 * STRETCHES as u32) / 4 * 3;
         for _ in 0..STRETCHES / 2 {
@@ -121,7 +121,7 @@ impl Original {
     }
 
     fn resize_each(&self, heap: &mut Heap, replies: &mut Sum)
-        ensures { heap.new.lent ≡ heap.old.lent }
+        ensures { heap.new.lents ≡ heap.old.lents }
     {
         for kept in &self.kept {
             replies.add_done(heap.resize(kept.name, kept.length.saturating_add(8)));
@@ -130,7 +130,7 @@ impl Original {
     }
 
     fn resize_one(&self, heap: &mut Heap, replies: &mut Sum)
-        ensures { heap.new.lent ≡ heap.old.lent }
+        ensures { heap.new.lents ≡ heap.old.lents }
     {
         if let Some(kept) = self.kept.get(self.kept.len() / 2) {
             replies.add_done(heap.resize(kept.name, self.bytes() / 4));
@@ -138,7 +138,7 @@ impl Original {
     }
 
     fn make_far(&self, heap: &mut Heap, replies: &mut Sum)
-        ensures { heap.new.lent ≡ heap.old.lent }
+        ensures { heap.new.lents ≡ heap.old.lents }
     {
         for _ in 0..self.large {
             replies.add_name(heap.handle_new(LARGE, OWNER));
@@ -146,7 +146,7 @@ impl Original {
     }
 
     fn resize_in_turn(&self, heap: &mut Heap, replies: &mut Sum)
-        ensures { heap.new.lent ≡ heap.old.lent }
+        ensures { heap.new.lents ≡ heap.old.lents }
     {
         for kept in self.kept.iter().take(self.large) {
             replies.add_done(heap.resize(kept.name, LARGE));
@@ -156,7 +156,7 @@ impl Original {
 
     /// Makes a chunk that takes the room of the freed chunks and of the free ones next to them.
     fn make_over(&self, heap: &mut Heap, replies: &mut Sum)
-        ensures { heap.new.lent ≡ heap.old.lent }
+        ensures { heap.new.lents ≡ heap.old.lents }
     {
         let freed = self.freed().min(u32::MAX as usize) as u32;
         let size = freed.saturating_mul(SMALL + 16);

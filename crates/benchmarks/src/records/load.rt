@@ -1,6 +1,6 @@
 //! Databases under load: their entries are made, moved, removed and asked for in a fixed order.
 
-ghost use Rattle.std.specs.Prelude.{◌≡◌, None};
+ghost use Rattle.std.specs.Prelude.{[], ◌≡◌};
 
 use crate::records::region_of;
 use crate::records::resources::ResourceLoad;
@@ -84,20 +84,20 @@ pub(crate) struct Load {
 }
 
 impl Model for Load {
-    ghost use Rattle.std.specs.Prelude.{◌≡◌, None};
+    ghost use Rattle.std.specs.Prelude.{[], ◌≡◌};
     ghost use Rattle.heap_model.specs.Memory.{Memory};
 
     ghost Value = { Memory };
 
     ghost view = { λ load. load.store };
 
-    ghost invariant = { λ load. load.store.lent ≡ None };
+    ghost invariant = { λ load. load.store.lents ≡ [] };
 }
 
 impl Load {
     /// Makes a load on a database that has no records yet, and on one of resources.
     pub(crate) fn new(store: Store, db: Db, resources: ResourceLoad) -> Load
-        requires { store.lent ≡ None }
+        requires { store.lents ≡ [] }
     {
         Load {
             store,

@@ -1,6 +1,6 @@
 //! A database of resources under load: they are made, searched for and removed in a fixed order.
 
-ghost use Rattle.std.specs.Prelude.{◌≡◌, None};
+ghost use Rattle.std.specs.Prelude.{[], ◌≡◌};
 
 use crate::records::region_of;
 use crate::timing::{Sum, Sums};
@@ -32,20 +32,20 @@ pub(crate) struct ResourceLoad {
 }
 
 impl Model for ResourceLoad {
-    ghost use Rattle.std.specs.Prelude.{◌≡◌, None};
+    ghost use Rattle.std.specs.Prelude.{[], ◌≡◌};
     ghost use Rattle.heap_model.specs.Memory.{Memory};
 
     ghost Value = { Memory };
 
     ghost view = { λ load. load.store };
 
-    ghost invariant = { λ load. load.store.lent ≡ None };
+    ghost invariant = { λ load. load.store.lents ≡ [] };
 }
 
 impl ResourceLoad {
     /// Makes a load on a database that has no resources yet.
     pub(crate) fn new(store: Store, db: Db) -> ResourceLoad
-        requires { store.lent ≡ None }
+        requires { store.lents ≡ [] }
     {
         ResourceLoad {
             store,

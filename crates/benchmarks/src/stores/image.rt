@@ -1,6 +1,6 @@
 //! Images with databases, built chunk by chunk.
 
-ghost use Rattle.std.specs.Prelude.{◌≡◌, IfOk, None};
+ghost use Rattle.std.specs.Prelude.{[], ◌≡◌, IfOk};
 
 use raw_region::Region;
 use std::alloc::{AllocError, Global};
@@ -59,7 +59,7 @@ impl Store {
     /// this order, and all are in use. The data chunks are as long as all of them can be. The rest
     /// of the image is a free chunk after them.
     pub(crate) fn image(self, alloc: Global) -> Result<Region, AllocError>
-        ensures { IfOk result (λ region. region.lent ≡ None) }
+        ensures { IfOk result (λ region. region.lents ≡ []) }
     {
         let slots = self.data_chunks().wrapping_add(self.first_data());
         let mut chunks = Chunks::new(alloc, slots);
@@ -194,7 +194,7 @@ impl Chunks {
 
     /// Makes the image of these chunks, with a free chunk after them if there is room.
     fn into_region(self, alloc: Global, size: u32) -> Result<Region, AllocError>
-        ensures { IfOk result (λ region. region.lent ≡ None) }
+        ensures { IfOk result (λ region. region.lents ≡ []) }
     {
         let mut bytes = Vec::new(alloc);
         self.put_image(&mut bytes, size)?;

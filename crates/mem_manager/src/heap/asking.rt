@@ -1,5 +1,5 @@
 //! Calls that read a heap and leave it unchanged.
-#![tactic(auto, using(crate::proofs::KnownLoans::knows_lends, crate::proofs::KnownLoans::known_other, crate::proofs::Places::found_named, laws_heap::proofs::LentBodies::table_within))]
+#![tactic(auto, using(crate::proofs::Places::found_named, laws_heap::proofs::LentBodies::table_within))]
 
 ghost use Rattle.std.specs.Prelude.{◌≡◌, ◌≢◌, ◌≤◌, ◌<◌, Err};
 ghost use Rattle.heap_model.specs.MemorySteps.{Does, reply_of};
@@ -76,7 +76,7 @@ impl Heap {
         ensures takes_no_memory { result ≢ Err Refusal.OutOfMemory }
     {
         let found = find(&self.space, &self.known, name)?;
-        check_here(&self.lent, found)?;
+        check_here(&self.space, found)?;
         check_range(at, count as usize, found.length)?;
         let start = found.place.0 as usize + at as usize;
         Ok(self.space.region().slice(start, count as usize))

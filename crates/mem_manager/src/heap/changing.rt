@@ -1,5 +1,5 @@
 //! Calls that change a chunk in its place.
-#![tactic(auto, using(crate::proofs::KnownLoans::knows_lends, crate::proofs::KnownLoans::known_other, crate::proofs::Places::found_named, laws_heap::proofs::LentBodies::table_within))]
+#![tactic(auto, using(crate::proofs::Places::found_named, laws_heap::proofs::LentBodies::table_within))]
 
 ghost use Rattle.std.specs.Prelude.{◌≡◌, ◌≤◌, ◌<◌};
 ghost use Rattle.heap_model.specs.MemorySteps.{Does};
@@ -53,7 +53,7 @@ impl Heap {
         let found = find(&self.space, &self.known, name)?;
         check_movable(found)?;
         check_locked(found)?;
-        check_here(&self.lent, found)?;
+        check_here(&self.space, found)?;
         let count = found.lock - 1;
         self.space.relock(found, count);
         Ok(count)
@@ -73,7 +73,7 @@ impl Heap {
     {
         let found = find_again(&self.space, &mut self.known, name)?;
         check_locked(found)?;
-        check_here(&self.lent, found)?;
+        check_here(&self.space, found)?;
         check_range(at, bytes.len(), found.length)?;
         self.space.write(found, at, bytes);
         Ok(())
@@ -93,7 +93,7 @@ impl Heap {
     {
         let found = find_again(&self.space, &mut self.known, name)?;
         check_locked(found)?;
-        check_here(&self.lent, found)?;
+        check_here(&self.space, found)?;
         check_range(at, count as usize, found.length)?;
         self.space.fill(found, at, count, byte);
         Ok(())
@@ -115,7 +115,7 @@ impl Heap {
     {
         let found = find_again(&self.space, &mut self.known, name)?;
         check_locked(found)?;
-        check_here(&self.lent, found)?;
+        check_here(&self.space, found)?;
         let part = before_zero(text);
         check_ended_range(at, part.len(), found.length)?;
         self.space.write_ended(found, at, part);

@@ -1,7 +1,7 @@
 //! Calls for the store above on a movable chunk that it has found. The chunk is looked up once. The
 //! result is passed to each call with the chunk's name, which contracts refer to. It is valid until
 //! the chunk moves, is freed, or gets another length, owner or lock.
-#![tactic(auto, using(crate::proofs::KnownLoans::knows_lends, crate::proofs::KnownLoans::known_other, laws_heap::proofs::LentBodies::table_within))]
+#![tactic(auto, using(laws_heap::proofs::LentBodies::table_within))]
 
 ghost use Rattle.std.specs.Prelude.{◌≡◌, ◌≢◌, ◌≤◌, ◌<◌, ◌+◌, length, slice_range, IfErr, OnOk, OnErr};
 ghost use Rattle.heap_model.specs.Chunk.{managers_owner};
@@ -136,7 +136,7 @@ impl Heap {
         ensures loan { KeepsLoan self.old self.new }
         ensures rest { self.new ≡ record self.old { bytes = self.new.bytes; slid = self.new.slid } }
     {
-        check_here(&self.lent, found)?;
+        check_here(&self.space, found)?;
         resize_found(&mut self.space, found, size)
     }
 

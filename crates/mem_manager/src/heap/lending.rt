@@ -1,7 +1,7 @@
 //! Calls by which the store above reads a heap and any of its chunks.
-#![tactic(auto, using(crate::proofs::KnownLoans::knows_lends, crate::proofs::KnownLoans::known_other, laws_heap::proofs::LentBodies::table_within))]
+#![tactic(auto, using(laws_heap::proofs::LentBodies::table_within))]
 
-ghost use Rattle.std.specs.Prelude.{◌≡◌, ◌≢◌, IsSome, Some, None, IfSome, IfNone};
+ghost use Rattle.std.specs.Prelude.{[], ◌≡◌, ◌≢◌, ◌↔◌, IsSome, IsTrue, Some, None, IfSome, IfNone};
 ghost use Rattle.heap_model.specs.Chunk.{fixed_lock};
 ghost use Rattle.heap_model.specs.Lending.{IsLent, LendsOther};
 ghost use Rattle.heap_model.specs.Heap.{HeapAccepted};
@@ -15,11 +15,11 @@ ghost use Rattle.mem_manager.specs.Lookup.{IsMovable, StandsAs, IsHere};
 use crate::counting::count_chunks;
 use crate::heap::Heap;
 use crate::known::KnownNames;
-use crate::lent_name::LentName;
 use crate::lookup::named;
 use heap_check::Summary;
+use heap_compact::Space;
 use heap_model::Name;
-use heap_place::{Found, Space};
+use heap_place::Found;
 use master_table::TableStart;
 use raw_region::Region;
 
@@ -28,16 +28,15 @@ impl Heap {
     /// of tables.
     pub fn of_accepted(region: Region) -> Heap
         requires accepted { HeapAccepted region.bytes }
-        requires whole { region.lent ≡ None }
+        requires whole { region.lents ≡ [] }
         ensures same { result ≡ region }
     {
         Heap {
-            space: Space::of_heap(region),
+            space: Space::of_accepted(region),
             used: 0,
             start: TableStart::first(),
             freed: Name(0),
             known: KnownNames::none(),
-            lent: LentName::none(),
         }
     }
 
@@ -50,7 +49,7 @@ impl Heap {
 
     /// Returns the bytes of the image.
     pub fn image(&self) -> &[u8]
-        requires { self.now.lent ≡ None }
+        requires { self.now.lents ≡ [] }
         ensures { result.now ≡ self.now.bytes }
     {
         let region = self.space.region();
@@ -83,6 +82,15 @@ impl Heap {
         ensures unlocked { result ≡ 0 → IsLent self.now name.0 → ⊥ }
     {
         self.space.chunk(name).lock
+    }
+
+    /// Returns whether the body of a movable chunk is lent.
+    #[inline(always)]
+    pub fn sys_lends(&self, name: Name) -> bool
+        requires { IsMovable self.now.bytes name.0 }
+        ensures { IsTrue result ↔ IsLent self.now name.0 }
+    {
+        self.space.lends(self.space.movable(name))
     }
 
     /// Returns the bytes of a movable chunk, as they are in the image.

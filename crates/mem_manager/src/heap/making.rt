@@ -1,10 +1,9 @@
 //! Calls that make chunks and free them.
-#![tactic(auto, using(crate::proofs::KnownLoans::knows_lends, crate::proofs::KnownLoans::known_other, laws_heap::proofs::LentBodies::table_within, laws_heap::proofs::LentBodies::frame_within))]
+#![tactic(auto, using(laws_heap::proofs::LentBodies::table_within, laws_heap::proofs::LentBodies::frame_within))]
 
 ghost use Rattle.std.specs.Prelude.{◌≡◌, ◌≤◌, ◌<◌, ◌+◌, ◌↔◌, ℕ, List, IfSome, IfOk, OnOk, IfErr, OnErr, None};
 ghost use Rattle.heap_model.specs.Chunk.{need, data_owner};
-ghost use Rattle.heap_model.specs.Lending.{LendsABody};
-ghost use Rattle.heap_model.specs.Heap.{HeapAccepted};
+ghost use Rattle.heap_model.specs.Lending.{LendsBodies, HoldsHeap};
 ghost use Rattle.heap_model.specs.Reading.{chunks_of};
 ghost use Rattle.heap_model.specs.Space.{NoRun, Short, free_slots, MovesOneStretch, moved_bytes};
 ghost use Rattle.heap_model.specs.Packing.{SlidesOneStretch};
@@ -23,9 +22,9 @@ use crate::heap::Heap;
 use crate::known::KnownNames;
 use crate::lookup::{check_callers, check_here, find};
 use chunk_format::{FIXED_LOCK, MANAGERS_OWNER, TABLE_LENGTH, chunk_size, is_chained, slot_count};
-use heap_compact::make_room;
+use heap_compact::{Space, make_room};
 use heap_model::{Name, Refusal};
-use heap_place::{Found, Room, Space};
+use heap_place::{Found, Room};
 use master_table::{EmptySlot, TableStart, first_empty_slot, least_number, slots_total, word_of};
 use raw_region::Region;
 
@@ -140,7 +139,7 @@ impl Heap {
         if found.lock > 0 && found.lock < FIXED_LOCK {
             return Err(Refusal::ChunkLocked);
         }
-        check_here(&self.lent, found)?;
+        check_here(&self.space, found)?;
         self.used = used_without(self.space.region(), self.used, name);
         self.freed = freed_slot(self.space.region(), self.freed, found);
         self.known.forget(name);
@@ -160,10 +159,9 @@ impl Heap {
         // The heap is looked at, so that its invariant is known.
         let _ = &self.space;
         check_owner(owner)?;
-        if let Some(name) = self.lent.get() {
-            if self.space.chunk(name).owner == owner {
-                return Err(Refusal::Lent);
-            }
+        if let Some(found) = self.space.lent_of_owner(owner) {
+            let _place = found.place;
+            return Err(Refusal::Lent);
         }
         let count = self.space.give_back_owned(owner);
         self.used = 0;
@@ -182,8 +180,7 @@ pub(crate) fn next_empty_slot(
     start: TableStart,
     freed: Name,
 ) -> Option<EmptySlot>
-    requires accepted { HeapAccepted region.now.bytes }
-    requires lent { LendsABody region.now }
+    requires heap { HoldsHeap region.now }
     requires in_use { UsedBefore region.now.bytes used }
     requires start { IsStart region.now.bytes start }
     requires freed { IsSlotOrNone region.now.bytes freed.0 }
@@ -209,8 +206,6 @@ pub(crate) fn make_movable(
     size: u32,
     owner: u8,
 ) -> Result<EmptySlot, Refusal>
-    requires accepted { HeapAccepted space.old.bytes }
-    requires lent { LendsABody space.old }
     requires some { IfSome found (λ slot. IsNextEmpty space.old.bytes slot.name.0 slot.before) }
     requires none { (found ≡ None) ↔ (free_slots space.old.bytes ≡ 0) }
     requires table { IfSome found (λ slot. IsStart space.old.bytes slot.table) }
@@ -228,7 +223,9 @@ pub(crate) fn make_movable(
     ensures lowers { OnOk result (Lowers space.old.bytes space.new.bytes (need size)) }
     ensures once { space.new.slid ≡ space.old.slid + moved_bytes space.old.bytes space.new.bytes }
     ensures rest { space.new ≡ record space.old { bytes = space.new.bytes; slid = space.new.slid } }
+    ensures heap { HoldsHeap space.new }
 {
+    space.holds();
     let slot = found.ok_or(Refusal::NotEnoughSpace)?;
     let room = room_for(space, size)?;
     space.claim(room, slot.name, size, owner);
@@ -237,14 +234,14 @@ pub(crate) fn make_movable(
 
 /// Makes a further table of empty slots, as `Heap::more_slots` does.
 fn make_table(space: &mut Space) -> Result<(), Refusal>
-    requires accepted { HeapAccepted space.old.bytes }
-    requires lent { LendsABody space.old }
     ensures does { Does space.old MemoryCall.MoreSlots (done_or_refused result) space.new }
     ensures unmoved { MovesOnlyForRoom space.old.bytes space.new.bytes gained_length }
     ensures one_stretch { MovesOneStretch space.old.bytes space.new.bytes }
     ensures once { space.new.slid ≡ space.old.slid + moved_bytes space.old.bytes space.new.bytes }
     ensures refused { OnErr result (space.new ≡ space.old) }
+    ensures heap { HoldsHeap space.new }
 {
+    space.holds();
     if !is_chained(space.region()) {
         return Err(Refusal::NotEnoughSpace);
     }
@@ -255,8 +252,6 @@ fn make_table(space: &mut Space) -> Result<(), Refusal>
 
 /// Returns room for a chunk of `size` bytes. Packs one stretch if it has to.
 fn room_for(space: &mut Space, size: u32) -> Result<Room, Refusal>
-    requires accepted { HeapAccepted space.old.bytes }
-    requires lent { LendsABody space.old }
     ensures room { IfOk result (λ room. IsSpot space.new.bytes room.at room.size) }
     ensures enough { IfOk result (λ room. need size ≤ room.size) }
     ensures not_short { OnOk result (Short space.old.bytes (need size) → ⊥) }
@@ -267,8 +262,9 @@ fn room_for(space: &mut Space, size: u32) -> Result<Room, Refusal>
     ensures slides { SlidesOneStretch space.old.bytes space.new.bytes }
     ensures once { space.new.slid ≡ space.old.slid + moved_bytes space.old.bytes space.new.bytes }
     ensures rest { space.new ≡ record space.old { bytes = space.new.bytes; slid = space.new.slid } }
-    ensures lent { LendsABody space.new }
+    ensures heap { HoldsHeap space.new }
 {
+    space.holds();
     let Some(needed) = chunk_size(size) else {
         return Err(Refusal::NotEnoughSpace);
     };
@@ -281,7 +277,7 @@ fn room_for(space: &mut Space, size: u32) -> Result<Room, Refusal>
 #[inline(always)]
 pub(crate) fn used_without(region: &Region, used: u32, name: Name) -> u32
     requires tiled { IsTiled region.now.bytes }
-    requires lent { LendsABody region.now }
+    requires lent { LendsBodies region.now }
     ensures fewer { result ≤ used }
     ensures apart { NotAmong region.now.bytes result name.0 }
 {
@@ -292,8 +288,7 @@ pub(crate) fn used_without(region: &Region, used: u32, name: Name) -> u32
 /// It is the chunk's own slot if that is in a further table, else `freed`.
 #[inline(always)]
 pub(crate) fn freed_slot(region: &Region, freed: Name, found: Found) -> Name
-    requires accepted { HeapAccepted region.now.bytes }
-    requires lent { LendsABody region.now }
+    requires heap { HoldsHeap region.now }
     requires found { IsOne region.now.bytes found }
     requires freed { IsSlotOrNone region.now.bytes freed.0 }
     ensures { IsSlotOrNone region.now.bytes result.0 }

@@ -1,6 +1,6 @@
 //! Calls for the store above, on its own chunks (owner 0) and on those of databases (owner 15).
 //! They have preconditions. Only `sys_new` refuses, with `NotEnoughSpace`.
-#![tactic(auto, using(crate::proofs::KnownLoans::knows_lends, crate::proofs::KnownLoans::known_other, laws_heap::proofs::LentBodies::table_within))]
+#![tactic(auto, using(laws_heap::proofs::LentBodies::table_within))]
 
 ghost use Rattle.std.specs.Prelude.{◌≡◌, ◌≢◌, ◌≤◌, ◌<◌, ◌+◌, length, slice_range, IsSome, IfOk, IfErr, OnOk, OnErr};
 ghost use Rattle.heap_model.specs.Chunk.{need, managers_owner, data_owner};

@@ -1,10 +1,9 @@
 //! Calls that move chunks.
-#![tactic(auto, using(crate::proofs::KnownLoans::knows_lends, crate::proofs::KnownLoans::known_other, crate::proofs::Places::found_named, laws_heap::proofs::LentBodies::table_within))]
+#![tactic(auto, using(crate::proofs::Places::found_named, laws_heap::proofs::LentBodies::table_within))]
 
 ghost use Rattle.std.specs.Prelude.{◌≡◌, ◌≢◌, ◌+◌, OnOk, OnErr, IfErr};
 ghost use Rattle.heap_model.specs.Chunk.{fixed_lock};
-ghost use Rattle.heap_model.specs.Lending.{LendsABody, LendsOther};
-ghost use Rattle.heap_model.specs.Heap.{HeapAccepted};
+ghost use Rattle.heap_model.specs.Lending.{LendsOther, HoldsHeap};
 ghost use Rattle.heap_model.specs.Space.{MovesOneStretchAnd};
 ghost use Rattle.heap_model.specs.Reading.{chunks_of};
 ghost use Rattle.heap_model.specs.Packing.{Packed, Slid};
@@ -59,7 +58,7 @@ impl Heap {
         let found = find(&self.space, &self.known, name)?;
         check_callers(found)?;
         check_movable(found)?;
-        check_here(&self.lent, found)?;
+        check_here(&self.space, found)?;
         resize_found(&mut self.space, found, size)
     }
 }
@@ -67,8 +66,6 @@ impl Heap {
 /// Gives a movable chunk that was found `size` bytes, as `Heap::resize` does.
 #[inline(always)]
 pub(crate) fn resize_found(space: &mut Space, found: Found, size: u32) -> Result<(), Refusal>
-    requires accepted { HeapAccepted space.old.bytes }
-    requires lent { LendsABody space.old }
     requires other { LendsOther space.old found.place.0 }
     requires found { IsOne space.old.bytes found }
     requires movable { found.lock ≢ fixed_lock }
@@ -80,14 +77,16 @@ pub(crate) fn resize_found(space: &mut Space, found: Found, size: u32) -> Result
     ensures unmoved { MovesOnlyToGrow space.old.bytes space.new.bytes found.name.0 size }
     ensures one_stretch { MovesOneStretchAnd space.old.bytes space.new.bytes found.name.0 }
     ensures rest { space.new ≡ record space.old { bytes = space.new.bytes; slid = space.new.slid } }
+    ensures heap { HoldsHeap space.new }
 {
+    space.holds();
     if space.grow_in_place(found, size) {
         return Ok(());
     }
     if found.lock > 0 {
         return Err(Refusal::ChunkLocked);
     }
-    if !resize_by_moving(space, found.name, size) {
+    if !resize_by_moving(space, found, size) {
         return Err(Refusal::NotEnoughSpace);
     }
     Ok(())

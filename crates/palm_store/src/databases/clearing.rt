@@ -1,4 +1,4 @@
-//! The chunks that a database names: whether one is locked, and all of them freed.
+//! The chunks that a database names: whether one is locked or lent, and all of them freed.
 
 ghost use Rattle.std.specs.Prelude.{◌≡◌, ◌<◌, ◌↔◌, length, slice_index, IsTrue, Any};
 ghost use Rattle.heap_model.specs.Lending.{IsLent, KeepsLoan};
@@ -77,19 +77,31 @@ pub(crate) fn has_locked(heap: &Heap, db: Db, chunk: Found) -> bool
     false
 }
 
-/// Returns whether a database names the chunk whose body is lent.
+/// Returns whether a slot has a chunk whose body is lent.
+fn is_lent(heap: &Heap, slot: Name) -> bool
+    requires heap { HeapAccepted heap.now.bytes }
+    requires movable { 0 < slot.0 → IsMovable heap.now.bytes slot.0 }
+    ensures { IsTrue result ↔ IsLent heap.now slot.0 }
+{
+    if slot.0 == 0 {
+        return false;
+    }
+    heap.sys_lends(slot)
+}
+
+/// Returns whether a database names a chunk whose body is lent.
 pub(crate) fn has_lent(heap: &Heap, db: Db, chunk: Found) -> bool
     requires accepted { Accepted heap.now.bytes }
     requires number { HasNumber heap.now.bytes db.0 }
     requires chunk { StandsAs heap.now.bytes db.0 chunk }
     ensures { IsTrue result ↔ Any (IsLent heap.now) (named_under heap.now.bytes db.0) }
 {
-    let Some(lent) = heap.lent() else {
+    if heap.is_whole() {
         return false;
-    };
+    }
     let body = header_in(heap, db, chunk);
     for index in 0..slot_count(body) {
-        if slot_at(body, index) == lent {
+        if is_lent(heap, slot_at(body, index)) {
             return true;
         }
     }

@@ -44,7 +44,7 @@ impl Store {
         }
     }
 
-    /// Returns whether a database names the chunk whose body is lent.
+    /// Returns whether a database names a chunk whose body is lent.
     pub fn lends_data(&self, db: Db) -> bool
         requires { HasNumber self.now.bytes db.0 }
         ensures { IsTrue result ↔ Any (IsLent self.now) (named_under self.now.bytes db.0) }

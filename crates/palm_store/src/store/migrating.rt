@@ -1,6 +1,6 @@
 //! The call that gives a store a chain of master pointer tables.
 
-ghost use Rattle.std.specs.Prelude.{◌≡◌, ◌≢◌, ◌↔◌, IfOk, IfErr, OnOk, None, true};
+ghost use Rattle.std.specs.Prelude.{[], ◌≡◌, ◌≢◌, ◌↔◌, IfOk, IfErr, OnOk, OnErr, false, true};
 ghost use Rattle.heap_model.specs.Slots.{is_chained};
 ghost use Rattle.heap_model.specs.Store.{Accepted};
 ghost use Rattle.heap_migration.specs.Stores.{IsMigrated, IsTooLarge};
@@ -14,7 +14,7 @@ use std::alloc::Global;
 
 impl Store {
     /// Gives the store a chain of master pointer tables, so that `more_slots` can add tables. A
-    /// store that has a chain is returned as it is.
+    /// store that has a chain is returned as it is, unless a body is lent.
     ///
     /// With an even number of slots the image grows by 8 bytes, and the names of fixed chunks grow
     /// by 8. It allocates the new image, and frees the old one.
@@ -27,12 +27,13 @@ impl Store {
     pub fn migrate(self, alloc: Global) -> Result<Store, (MigrateFault, Store)>
         ensures migrated { IfOk result (λ store. IsMigrated self.bytes store.bytes) }
         ensures chained { is_chained self.bytes ≡ true → IfOk result (λ store. store ≡ self) }
+        ensures unchained { self.lents ≡ [] → OnErr result (is_chained self.bytes ≡ false) }
         ensures fits { OnOk result (IsTooLarge self.bytes → ⊥) }
-        ensures stays_whole { IfOk result (λ store. store.lent ≡ None) }
-        ensures whole { OnOk result (self.lent ≡ None) }
+        ensures stays_whole { IfOk result (λ store. store.lents ≡ []) }
+        ensures whole { OnOk result (self.lents ≡ []) }
         ensures lent { IfErr result (λ error.
-            (error.0 ≡ MigrateFault.Lent) ↔ (self.lent ≢ None)) }
-        ensures too_large { self.lent ≡ None → IfErr result (λ error.
+            (error.0 ≡ MigrateFault.Lent) ↔ (self.lents ≢ [])) }
+        ensures too_large { self.lents ≡ [] → IfErr result (λ error.
             (error.0 ≡ MigrateFault.TooLarge) ↔ IsTooLarge self.bytes) }
         ensures handed_back { IfErr result (λ error. error.1 ≡ self) }
         ensures no_memory { IfErr result (λ error.
@@ -46,12 +47,13 @@ impl Store {
     pub fn migrate_from<A: Allowance>(self, memory: &A) -> Result<Store, (MigrateFault, Store)>
         ensures migrated { IfOk result (λ store. IsMigrated self.bytes store.bytes) }
         ensures chained { is_chained self.bytes ≡ true → IfOk result (λ store. store ≡ self) }
+        ensures unchained { self.lents ≡ [] → OnErr result (is_chained self.bytes ≡ false) }
         ensures fits { OnOk result (IsTooLarge self.bytes → ⊥) }
-        ensures stays_whole { IfOk result (λ store. store.lent ≡ None) }
-        ensures whole { OnOk result (self.lent ≡ None) }
+        ensures stays_whole { IfOk result (λ store. store.lents ≡ []) }
+        ensures whole { OnOk result (self.lents ≡ []) }
         ensures lent { IfErr result (λ error.
-            (error.0 ≡ MigrateFault.Lent) ↔ (self.lent ≢ None)) }
-        ensures too_large { self.lent ≡ None → IfErr result (λ error.
+            (error.0 ≡ MigrateFault.Lent) ↔ (self.lents ≢ [])) }
+        ensures too_large { self.lents ≡ [] → IfErr result (λ error.
             (error.0 ≡ MigrateFault.TooLarge) ↔ IsTooLarge self.bytes) }
         ensures handed_back { IfErr result (λ error. error.1 ≡ self) }
         ensures no_memory { IfErr result (λ error.
@@ -67,11 +69,12 @@ impl Store {
 /// Migrates a region that lends nothing.
 fn migrate_region<A: Allowance>(memory: &A, region: Region) -> Result<Store, (MigrateFault, Store)>
     requires accepted { Accepted region.bytes }
-    requires whole { region.lent ≡ None }
+    requires whole { region.lents ≡ [] }
     ensures migrated { IfOk result (λ store. IsMigrated region.bytes store.bytes) }
     ensures chained { is_chained region.bytes ≡ true → IfOk result (λ store. store ≡ region) }
+    ensures unchained { OnErr result (is_chained region.bytes ≡ false) }
     ensures fits { OnOk result (IsTooLarge region.bytes → ⊥) }
-    ensures stays_whole { IfOk result (λ store. store.lent ≡ None) }
+    ensures stays_whole { IfOk result (λ store. store.lents ≡ []) }
     ensures not_lent { IfErr result (λ error. error.0 ≢ MigrateFault.Lent) }
     ensures too_large { IfErr result (λ error.
         (error.0 ≡ MigrateFault.TooLarge) ↔ IsTooLarge region.bytes) }

@@ -1,7 +1,7 @@
 //! Each fault, the order of faults, and what is accepted.
 #![tactic(auto, using(laws_heap::proofs::Lending::all_within))]
 
-ghost use Rattle.std.specs.Prelude.{◌≡◌, IfOk, None, ◌≤◌};
+ghost use Rattle.std.specs.Prelude.{[], ◌≡◌, IfOk, ◌≤◌};
 
 use crate::heap::found::found;
 use chunk_format::blank;
@@ -13,7 +13,7 @@ use test_support::{BLANK, DATABASE, ONE_CHUNK, bytes_of, equal, image};
 
 /// What the checker finds in a region has this text.
 fn check_found(alloc: Global, spot: &str, region: &Region, text: &str) -> Result<(), Fail>
-    requires { region.now.lent ≡ None }
+    requires { region.now.lents ≡ [] }
 {
     let found = found(alloc, region)?;
     equal(spot, found.as_str(), text)
@@ -266,7 +266,7 @@ fn the_greatest_length_is_16_777_208(rt: HostRuntime) -> Result<(), Fail> {
 /// Zeros, with the words of a blank image of one slot and 16,777,216 bytes.
 fn with_one_slot(alloc: Global, size: u32) -> Result<Region, AllocError>
     requires { 28 ≤ size }
-    ensures { IfOk result (λ region. region.lent ≡ None) }
+    ensures { IfOk result (λ region. region.lents ≡ []) }
 {
     let mut region = Region::zeroed(alloc, size)?;
     region.write(0, b"PHI1\x01\0\0\0\0\x01\0\0");

@@ -1,6 +1,6 @@
 //! What the checker finds, as text.
 
-ghost use Rattle.std.specs.Prelude.{◌≡◌, None};
+ghost use Rattle.std.specs.Prelude.{[], ◌≡◌};
 
 use heap_check::{Summary, check_heap};
 use raw_region::Region;
@@ -8,7 +8,7 @@ use std::alloc::{AllocError, Global};
 
 /// What the checker finds: the counts of an accepted heap, or the text of its first fault.
 pub(crate) fn found(alloc: Global, region: &Region) -> Result<String, AllocError>
-    requires { region.now.lent ≡ None }
+    requires { region.now.lents ≡ [] }
 {
     match check_heap(region) {
         Ok(summary) => counts_of(alloc, summary),

@@ -1,7 +1,7 @@
 //! Frames and blank images.
 #![tactic(auto, using(laws_heap::proofs::Lending::all_within))]
 
-ghost use Rattle.std.specs.Prelude.{◌≡◌, length, IfOk, None};
+ghost use Rattle.std.specs.Prelude.{[], ◌≡◌, length, IfOk, None};
 
 use chunk_format::{
     BlankFault, area_start, blank, blank_from, directory, has_magic, head_end, reserved,
@@ -15,7 +15,7 @@ use test_support::{BLANK, RefusesOne, bytes_of, equal};
 /// 16 bytes of which only the slot count isn't zero.
 pub(crate) fn frame_of(alloc: Global, slots: u16) -> Result<Region, Fail>
     ensures len { IfOk result (λ region. length region.bytes ≡ 16) }
-    ensures whole { IfOk result (λ region. region.lent ≡ None) }
+    ensures whole { IfOk result (λ region. region.lents ≡ []) }
 {
     let mut region = Region::zeroed(alloc, 16)?;
     region.put_u16(8, slots);
@@ -106,7 +106,7 @@ fn a_blank_image_has_its_limits(rt: HostRuntime) -> Result<(), Fail> {
 
 /// Why there is no image, if there is none.
 fn fault_of(made: Result<Region, BlankFault>) -> Option<BlankFault>
-    requires { IfOk made (λ region. region.lent ≡ None) }
+    requires { IfOk made (λ region. region.lents ≡ []) }
 {
     match made {
         Ok(_) => None,

@@ -1,7 +1,7 @@
 //! Sizes, headers and walks, by the format's own numbers.
 #![tactic(auto, using(laws_heap::proofs::Lending::all_within, laws_heap::proofs::Lending::all_misses))]
 
-ghost use Rattle.std.specs.Prelude.{◌≡◌, ◌≤◌, ◌<◌, ◌^◌, length, IfOk, None};
+ghost use Rattle.std.specs.Prelude.{[], ◌≡◌, ◌≤◌, ◌<◌, ◌^◌, length, IfOk, None};
 ghost use Rattle.chunk_format.specs.Header.{IsWritable, size_by};
 
 use chunk_format::{Header, Walk, chunk_size, put_lock, put_owner};
@@ -248,7 +248,7 @@ static CHUNKS: [(Place, Header); 4] = [
 /// The chunks with this word as the fixed one's second.
 fn chunks_with(alloc: Global, second: u32) -> Result<Region, AllocError>
     ensures len { IfOk result (λ region. length region.bytes ≡ 88) }
-    ensures whole { IfOk result (λ region. region.lent ≡ None) }
+    ensures whole { IfOk result (λ region. region.lents ≡ []) }
 {
     let mut region = Region::zeroed(alloc, 88)?;
     region.put_u32(24, 0x8000_0008);

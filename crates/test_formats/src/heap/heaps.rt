@@ -1,12 +1,13 @@
 //! Heaps by their words, and calls on chunks by their names.
 #![tactic(auto, using(laws_heap::proofs::Lending::all_within, laws_heap::proofs::LentBodies::none_lends))]
 
-ghost use Rattle.std.specs.Prelude.{◌<◌, ◌≡◌, IfOk, None};
+ghost use Rattle.std.specs.Prelude.{[], ◌<◌, ◌≡◌, IfOk, None};
 
 use chunk_format::{chunk_size, directory};
 use heap_check::check_heap;
+use heap_compact::Space;
 use heap_model::{Name, Place};
-use heap_place::{Found, Room, Space};
+use heap_place::{Found, Room};
 use master_table::{TableStart, first_empty_slot};
 use raw_region::Region;
 use std::alloc::Global;
@@ -16,7 +17,7 @@ use test_support::changed_words;
 
 /// A blank image of 128 bytes with 4 slots in which words are changed.
 pub(crate) fn image(alloc: Global, words: &[(usize, u32)]) -> Result<Region, Fail>
-    ensures { IfOk result (λ region. region.lent ≡ None) }
+    ensures { IfOk result (λ region. region.lents ≡ []) }
 {
     changed_words(alloc, 128, 4, words)
 }
@@ -35,9 +36,9 @@ impl Model for CheckedSpace {
 
     ghost view = { λ checked. checked.space };
 
-    ghost use Rattle.std.specs.Prelude.{◌≡◌, None};
+    ghost use Rattle.std.specs.Prelude.{[], ◌≡◌};
 
-    ghost invariant = { λ checked. HeapAccepted checked.space.bytes × (checked.space.lent ≡ None) };
+    ghost invariant = { λ checked. HeapAccepted checked.space.bytes × (checked.space.lents ≡ []) };
 }
 
 /// A blank heap of 128 bytes with 4 slots in which words are changed, which the checker accepts.
@@ -47,19 +48,27 @@ pub(crate) fn heap(alloc: Global, words: &[(usize, u32)]) -> Result<CheckedSpace
 
 /// The space of a region that the checker accepts.
 pub(crate) fn accepted(region: Region) -> Result<CheckedSpace, Fail>
-    requires { region.lent ≡ None }
+    requires { region.lents ≡ [] }
 {
     match check_heap(&region) {
         Ok(_) => Ok(CheckedSpace {
-            space: Space::new(region),
+            space: Space::of_accepted(region),
         }),
         Err(_) => Err("no heap")?,
     }
 }
 
 impl CheckedSpace {
+    /// Gives the region back.
+    pub(crate) fn into_region(self) -> Region
+        ensures { result.lents ≡ [] }
+    {
+        let CheckedSpace { space } = self;
+        space.into_region()
+    }
+
     pub(crate) fn region(&self) -> &Region
-        ensures { result.now.lent ≡ None }
+        ensures { result.now.lents ≡ [] }
     {
         self.space.region()
     }

@@ -3,7 +3,7 @@
 use crate::heap::heaps::{CheckedSpace, heap, image};
 use crate::heap::steps::{Stage, Step, Told, Words, left_by};
 use heap_model::{Name, Place};
-use heap_place::{Found, Space};
+use heap_place::Found;
 use std::test::*;
 use test_support::equal;
 
@@ -233,7 +233,7 @@ fn chunks_are_placed_and_given_back(rt: HostRuntime) -> Result<(), Fail> {
 #[test]
 fn a_region_comes_back(rt: HostRuntime) -> Result<(), Fail> {
     let before = image(rt.alloc(), &[(40, 7)])?;
-    let region = Space::new(image(rt.alloc(), &[(40, 7)])?).into_region();
+    let region = heap(rt.alloc(), &[(40, 7)])?.into_region();
     equal("bytes", region.as_slice(), before.as_slice())
 }
 

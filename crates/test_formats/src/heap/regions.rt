@@ -1,7 +1,7 @@
 //! Numbers and bytes of a region, and parts that it lends.
 #![tactic(auto, using(laws_heap::proofs::Lending::all_within))]
 
-ghost use Rattle.std.specs.Prelude.{◌≡◌, None};
+ghost use Rattle.std.specs.Prelude.{[], ◌≡◌};
 
 use raw_region::Region;
 use std::test::*;
@@ -68,7 +68,7 @@ fn slides_bytes_where_they_overlap(rt: HostRuntime) -> Result<(), Fail> {
 
 /// Slides the given number of bytes from one offset to another.
 fn check_slide(mut region: Region, slide: (usize, usize, usize), after: &[u8]) -> Result<(), Fail>
-    requires { region.lent ≡ None }
+    requires { region.lents ≡ [] }
 {
     let (from, to, n) = slide;
     let most = region.len();
@@ -85,13 +85,18 @@ fn check_slide(mut region: Region, slide: (usize, usize, usize), after: &[u8]) -
 
 #[test]
 fn lends_a_part(rt: HostRuntime) -> Result<(), Fail> {
-    let mut region = Region::from_bytes(rt.alloc(), b"abcdefgh")?;
-    let mut part = region.lend(2, 3);
+    let mut region = Region::from_bytes(rt.alloc(), b"abcdefghijklmnop")?;
+    let mut part = region.lend(8, 3);
     part.write(1, b"XY");
     let there = part.len() == 3 && part.slice(2, 1) == b"Y".as_slice();
-    let missed = region.misses(1, 1) && !region.misses(1, 2) && region.misses(5, 3);
-    region.slide(0, 6, 2);
-    region.take_back(part);
-    equal("part", (there, missed), (true, true))?;
-    equal("bytes", region.as_slice(), b"abcXYfab".as_slice())
+    let told = (region.lends_at(8), region.lends_at(16), region.is_whole());
+    region.slide(0, 12, 2);
+    region.take_back(8, part);
+    equal("part", (there, told), (true, (true, false, false)))?;
+    equal(
+        "whole",
+        (region.lends_at(8), region.is_whole()),
+        (false, true),
+    )?;
+    equal("bytes", region.as_slice(), b"abcdefghiXYlabop".as_slice())
 }

@@ -1,6 +1,6 @@
 //! The bytes that a chunk leaves which gets another length, where it stands or elsewhere.
 
-ghost use Rattle.std.specs.Prelude.{◌≡◌, IfOk, None};
+ghost use Rattle.std.specs.Prelude.{[], ◌≡◌, IfOk};
 
 use crate::heap::heaps::{CheckedSpace, accepted};
 use heap_model::Name;
@@ -34,7 +34,7 @@ type Case = (Resize, Chunks, bool, Chunks);
 
 /// The image of chunks in a frame.
 fn heap_of(alloc: Global, frame: Frame, given: Chunks) -> Result<Region, Fail>
-    ensures { IfOk result (λ region. region.lent ≡ None) }
+    ensures { IfOk result (λ region. region.lents ≡ []) }
 {
     let (front, back) = frame;
     let (chunks, changes) = given;
@@ -58,7 +58,7 @@ fn check_resize(
     can: bool,
     left: &Region,
 ) -> Result<(), Fail>
-    requires { left.now.lent ≡ None }
+    requires { left.now.lents ≡ [] }
 {
     let (way, name, count) = change;
     let told = resize(space, (way, name, count));

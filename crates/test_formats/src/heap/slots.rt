@@ -1,7 +1,7 @@
 //! Slots of an only table.
 #![tactic(auto, using(laws_heap::proofs::Lending::all_within, laws_heap::proofs::LentBodies::none_lends))]
 
-ghost use Rattle.std.specs.Prelude.{◌≡◌, None};
+ghost use Rattle.std.specs.Prelude.{[], ◌≡◌, None};
 ghost use Rattle.heap_model.specs.Heap.{HeapAccepted};
 
 use crate::heap::frames::frame_of;
@@ -130,7 +130,7 @@ fn a_slot_resolves_to_its_place(rt: HostRuntime) -> Result<(), Fail> {
 
 /// The number of a slot, and the place that it holds.
 fn look_up(region: &Region, name: Name) -> Result<(Option<u32>, Option<Place>), Fail>
-    requires { region.now.lent ≡ None }
+    requires { region.now.lents ≡ [] }
 {
     match check_heap(region) {
         Ok(_) => Ok((slots_before(region, name), resolve(region, name))),
@@ -161,7 +161,7 @@ fn check_first(
 
 /// The first empty slot of a heap. A search that begins at it finds it again.
 fn first_empty(region: &Region) -> Result<Option<EmptySlot>, Fail>
-    requires { region.now.lent ≡ None }
+    requires { region.now.lents ≡ [] }
 {
     match check_heap(region) {
         Ok(_) => {
@@ -181,8 +181,8 @@ fn first_empty(region: &Region) -> Result<Option<EmptySlot>, Fail>
 
 /// Puts a place into a slot of a heap, or empties it.
 fn put(region: &mut Region, slot: Name, place: Option<Place>) -> Result<(), Fail>
-    requires { region.old.lent ≡ None }
-    ensures { region.new.lent ≡ None }
+    requires { region.old.lents ≡ [] }
+    ensures { region.new.lents ≡ [] }
 {
     match check_heap(region) {
         Ok(_) => put_in(region, slot, place),
@@ -192,8 +192,8 @@ fn put(region: &mut Region, slot: Name, place: Option<Place>) -> Result<(), Fail
 
 fn put_in(region: &mut Region, slot: Name, place: Option<Place>) -> Result<(), Fail>
     requires accepted { HeapAccepted region.old.bytes }
-    requires whole { region.old.lent ≡ None }
-    ensures { region.new.lent ≡ None }
+    requires whole { region.old.lents ≡ [] }
+    ensures { region.new.lents ≡ [] }
 {
     match slots_before(region, slot) {
         Some(_) => {

@@ -1,7 +1,7 @@
 //! Images as large as they come.
 #![tactic(auto, using(laws_heap::proofs::Lending::all_within))]
 
-ghost use Rattle.std.specs.Prelude.{◌≡◌, IfOk, None};
+ghost use Rattle.std.specs.Prelude.{[], ◌≡◌, IfOk};
 
 use crate::store::found::text_of;
 use raw_region::Region;
@@ -12,8 +12,8 @@ use test_support::equal;
 
 /// Writes a word, if it lies in the region.
 fn put(region: &mut Region, at: u32, word: u32) -> Result<(), Fail>
-    requires { region.old.lent ≡ None }
-    ensures { region.new.lent ≡ None }
+    requires { region.old.lents ≡ [] }
+    ensures { region.new.lents ≡ [] }
 {
     let at = at as usize;
     if at > region.len() || region.len() - at < 4 {
@@ -25,8 +25,8 @@ fn put(region: &mut Region, at: u32, word: u32) -> Result<(), Fail>
 
 /// Writes words, one after the other.
 fn put_all(region: &mut Region, at: u32, words: &[u32]) -> Result<(), Fail>
-    requires { region.old.lent ≡ None }
-    ensures { region.new.lent ≡ None }
+    requires { region.old.lents ≡ [] }
+    ensures { region.new.lents ≡ [] }
 {
     let mut next = at;
     for word in words {
@@ -66,7 +66,7 @@ static HEADS: [(u32, &[u32]); 6] = [
 
 /// An image with these, and records without a byte.
 fn many_records(alloc: Global) -> Result<Region, Fail>
-    ensures { IfOk result (λ region. region.lent ≡ None) }
+    ensures { IfOk result (λ region. region.lents ≡ []) }
 {
     let mut region = Region::zeroed(alloc, MOST)?;
     put_heads(&mut region)?;
@@ -77,8 +77,8 @@ fn many_records(alloc: Global) -> Result<Region, Fail>
 }
 
 fn put_heads(region: &mut Region) -> Result<(), Fail>
-    requires { region.old.lent ≡ None }
-    ensures { region.new.lent ≡ None }
+    requires { region.old.lents ≡ [] }
+    ensures { region.new.lents ≡ [] }
 {
     for (at, words) in &HEADS {
         put_all(region, *at, words)?;
@@ -88,8 +88,8 @@ fn put_heads(region: &mut Region) -> Result<(), Fail>
 
 /// The record after `number` others: its entry, its slot and its chunk.
 fn put_record(region: &mut Region, index: u32) -> Result<(), Fail>
-    requires { region.old.lent ≡ None }
-    ensures { region.new.lent ≡ None }
+    requires { region.old.lents ≡ [] }
+    ensures { region.new.lents ≡ [] }
 {
     let (slot, at) = (
         index.wrapping_mul(4).wrapping_add(24),
@@ -115,7 +115,7 @@ static OF_MANY_RECORDS: [(&[(u32, u32)], &str); 4] = [
 
 /// What is found in an image in which words are changed.
 fn check_found(alloc: Global, mut region: Region, row: (&[(u32, u32)], &str)) -> Result<(), Fail>
-    requires { region.lent ≡ None }
+    requires { region.lents ≡ [] }
 {
     let (changes, text) = row;
     change(&mut region, changes)?;
@@ -124,8 +124,8 @@ fn check_found(alloc: Global, mut region: Region, row: (&[(u32, u32)], &str)) ->
 }
 
 fn change(region: &mut Region, changes: &[(u32, u32)]) -> Result<(), Fail>
-    requires { region.old.lent ≡ None }
-    ensures { region.new.lent ≡ None }
+    requires { region.old.lents ≡ [] }
+    ensures { region.new.lents ≡ [] }
 {
     for (at, word) in changes {
         put(region, *at, *word)?;
@@ -143,7 +143,7 @@ fn many_records_are_checked(rt: HostRuntime) -> Result<(), Fail> {
 
 /// An image of the given number of databases without records.
 fn many_databases(alloc: Global, count: u16) -> Result<Region, Fail>
-    ensures { IfOk result (λ region. region.lent ≡ None) }
+    ensures { IfOk result (λ region. region.lents ≡ []) }
 {
     let length = 4 * count as u32;
     let room = (length + 7) / 8 * 8;
@@ -162,8 +162,8 @@ fn many_databases(alloc: Global, count: u16) -> Result<Region, Fail>
 /// The database after `number` others: its slot, its number in the directory, and its chunk with
 /// its name.
 fn put_database(region: &mut Region, headers: u32, index: u32) -> Result<(), Fail>
-    requires { region.old.lent ≡ None }
-    ensures { region.new.lent ≡ None }
+    requires { region.old.lents ≡ [] }
+    ensures { region.new.lents ≡ [] }
 {
     let (place, slot) = (
         index.wrapping_mul(4),

@@ -1,6 +1,6 @@
 //! Allocations that fail.
 
-ghost use Rattle.std.specs.Prelude.{◌≡◌, None};
+ghost use Rattle.std.specs.Prelude.{[], ◌≡◌};
 
 use crate::store::found::text_of;
 use raw_region::Region;
@@ -26,7 +26,7 @@ static GRANTED: [Granted; 8] = [
 
 /// What is found if the given number of allocations is granted.
 fn found_with(alloc: Global, granted: u32, region: &Region) -> Result<String, AllocError>
-    requires { region.now.lent ≡ None }
+    requires { region.now.lents ≡ [] }
 {
     let memory = RefusesOne::behind(alloc, granted);
     let found = check_store_from(&memory, region);

@@ -1,6 +1,6 @@
 //! Files of databases that were made by calls, byte for byte.
 
-ghost use Rattle.std.specs.Prelude.{◌≡◌};
+ghost use Rattle.std.specs.Prelude.{[], ◌≡◌};
 
 use crate::files::stores::blank_store;
 use heap_model::{Db, DbName, Name, Refusal, Which};
@@ -28,7 +28,7 @@ const RESOURCES: &str = "50 00*31 \
 
 /// Writes bytes over a chunk while it is locked.
 fn fill(store: &mut Store, name: Name, bytes: &[u8]) -> Result<(), Refusal>
-    ensures { store.new.lent ≡ store.old.lent }
+    ensures { store.new.lents ≡ store.old.lents }
 {
     store.lock(name)?;
     store.write(name, 0, bytes)?;
@@ -38,7 +38,7 @@ fn fill(store: &mut Store, name: Name, bytes: &[u8]) -> Result<(), Refusal>
 
 /// Makes an info block of a database.
 fn make_block(store: &mut Store, db: Db, which: Which, bytes: &[u8]) -> Result<(), Refusal>
-    ensures { store.new.lent ≡ store.old.lent }
+    ensures { store.new.lents ≡ store.old.lents }
 {
     let name = store.handle_new(bytes.len().min(9) as u32, 1)?;
     fill(store, name, bytes)?;
@@ -47,7 +47,7 @@ fn make_block(store: &mut Store, db: Db, which: Which, bytes: &[u8]) -> Result<(
 
 /// Makes a record after the others.
 fn make_record(store: &mut Store, db: Db, bytes: &[u8]) -> Result<(), Refusal>
-    ensures { store.new.lent ≡ store.old.lent }
+    ensures { store.new.lents ≡ store.old.lents }
 {
     let (_, name) = new_record(store, db, 9, bytes.len().min(9) as u32)?;
     fill(store, name, bytes)
@@ -57,7 +57,7 @@ fn make_record(store: &mut Store, db: Db, bytes: &[u8]) -> Result<(), Refusal>
 /// the second is archived and still in use, the third has no data any more, and the last has no
 /// byte.
 fn make_records(store: &mut Store) -> Result<Db, Refusal>
-    ensures { store.new.lent ≡ store.old.lent }
+    ensures { store.new.lents ≡ store.old.lents }
 {
     let db = store.create(
         &DbName::of(b"Notes"),
@@ -74,7 +74,7 @@ fn make_records(store: &mut Store) -> Result<Db, Refusal>
 }
 
 fn make_four(store: &mut Store, db: Db) -> Result<(), Refusal>
-    ensures { store.new.lent ≡ store.old.lent }
+    ensures { store.new.lents ≡ store.old.lents }
 {
     make_record(store, db, b"first")?;
     make_record(store, db, b"kept")?;
@@ -83,7 +83,7 @@ fn make_four(store: &mut Store, db: Db) -> Result<(), Refusal>
 }
 
 fn change_four(store: &mut Store, db: Db) -> Result<(), Refusal>
-    ensures { store.new.lent ≡ store.old.lent }
+    ensures { store.new.lents ≡ store.old.lents }
 {
     archive(store, db, 1)?;
     delete(store, db, 2)?;
@@ -94,7 +94,7 @@ fn change_four(store: &mut Store, db: Db) -> Result<(), Refusal>
 
 /// Makes a database with two resources, the second of which has no byte.
 fn make_resources(store: &mut Store) -> Result<Db, Refusal>
-    ensures { store.new.lent ≡ store.old.lent }
+    ensures { store.new.lents ≡ store.old.lents }
 {
     let db = store.create(&DbName::of(b"P"), 0x6170_706C, 0x5465_7374, true, 5)?;
     let (_, code) = new_resource(store, db, 0x636F_6465, 1, 3)?;

@@ -1,6 +1,6 @@
 //! Databases that are read from files, entry by entry and byte by byte.
 
-ghost use Rattle.std.specs.Prelude.{◌≡◌};
+ghost use Rattle.std.specs.Prelude.{[], ◌≡◌};
 
 use crate::files::stores::blank_store;
 use heap_model::{Db, DbInfo, DbName, FileFault, Name, RecordInfo, Refusal, ResourceInfo, Which};
@@ -66,7 +66,7 @@ fn import_listed(
     store: &mut Store,
     listing: &str,
 ) -> Result<Result<Db, Refusal>, Fail>
-    ensures { store.new.lent ≡ store.old.lent }
+    ensures { store.new.lents ≡ store.old.lents }
 {
     Ok(import(alloc, store, &bytes_of(alloc, listing)?))
 }
@@ -78,7 +78,7 @@ fn check_import(
     listing: &str,
     refusal: Option<Refusal>,
 ) -> Result<(), Fail>
-    ensures { store.new.lent ≡ store.old.lent }
+    ensures { store.new.lents ≡ store.old.lents }
 {
     let answer = import_listed(alloc, store, listing)?;
     equal(listing, answer.err(), refusal)
@@ -86,7 +86,7 @@ fn check_import(
 
 /// A listed file is read, and the records of its database are these.
 fn check_read(alloc: Global, store: &mut Store, row: (&str, &[Read])) -> Result<(), Fail>
-    ensures { store.new.lent ≡ store.old.lent }
+    ensures { store.new.lents ≡ store.old.lents }
 {
     let (listing, records) = row;
     let db = import_listed(alloc, store, listing)??;
@@ -143,7 +143,7 @@ fn check_bytes(alloc: Global, store: &Store, name: Name, listing: &str) -> Resul
 
 /// A listed file is read, and info blocks of its database have these bytes.
 fn check_blocks(alloc: Global, store: &mut Store, row: (&str, &[(Which, &str)])) -> Result<(), Fail>
-    ensures { store.new.lent ≡ store.old.lent }
+    ensures { store.new.lents ≡ store.old.lents }
 {
     let (listing, blocks) = row;
     let db = import_listed(alloc, store, listing)??;
@@ -234,7 +234,7 @@ fn the_seed_goes_on(rt: HostRuntime) -> Result<(), Fail> {
 /// A record that is made comes after the two that were read, and has the first ID that is free
 /// after the seed.
 fn check_new(store: &mut Store, db: Db) -> Result<(), Fail>
-    ensures { store.new.lent ≡ store.old.lent }
+    ensures { store.new.lents ≡ store.old.lents }
 {
     let (index, name) = new_record(store, db, 65_535, 0)?;
     let made = RecordInfo {
@@ -334,7 +334,7 @@ fn check_short(alloc: Global, size: u32, slots: u16) -> Result<(), Fail> {
 }
 
 fn take_four_slots(store: &mut Store) -> Result<(), Fail>
-    ensures { store.new.lent ≡ store.old.lent }
+    ensures { store.new.lents ≡ store.old.lents }
 {
     for _ in 0..4 {
         store.handle_new(0, 1)?;

@@ -1,6 +1,6 @@
 //! A call on a heap, and the same on the plain model next to it.
 
-ghost use Rattle.std.specs.Prelude.{◌≡◌, IfOk, None};
+ghost use Rattle.std.specs.Prelude.{[], ◌≡◌, IfOk, None};
 
 use crate::heap::calls::do_call;
 use crate::heap::linked::{are_built, class_with_a_gap};
@@ -20,12 +20,12 @@ pub(crate) struct Beside {
     heap: Heap,
     chunks: PlainHeap,
     are_built: bool,
-    ghost whole: { heap.lent ≡ None },
+    ghost whole: { heap.lents ≡ [] },
 }
 
 impl Beside {
     pub(crate) fn new(alloc: Global, region: Region) -> Result<Beside, Fail>
-        requires { region.lent ≡ None }
+        requires { region.lents ≡ [] }
     {
         let chunks = PlainHeap::of(alloc, &Image::decode(alloc, region.as_slice())?)?;
         Ok(Beside {
@@ -150,8 +150,8 @@ fn reply_while_lent(
     name: Name,
     call: &MemoryCall,
 ) -> Result<Reply, Refusal>
-    requires { heap.old.lent ≡ None }
-    ensures { heap.new.lent ≡ None }
+    requires { heap.old.lents ≡ [] }
+    ensures { heap.new.lents ≡ [] }
 {
     let loan = heap.take_out(name)?;
     let reply = do_call(alloc, heap, call);
@@ -161,8 +161,8 @@ fn reply_while_lent(
 
 /// The heap of a region.
 pub(crate) fn adopt(region: Region) -> Result<Heap, Fail>
-    requires { region.lent ≡ None }
-    ensures { IfOk result (λ heap. heap.lent ≡ None) }
+    requires { region.lents ≡ [] }
+    ensures { IfOk result (λ heap. heap.lents ≡ []) }
 {
     match Heap::adopt(region) {
         Ok(heap) => Ok(heap),

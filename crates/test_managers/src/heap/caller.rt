@@ -1,7 +1,7 @@
 //! A caller with a contract of its own, to copy: what follows from the steps of the calls that it
 //! makes.
 
-ghost use Rattle.std.specs.Prelude.{◌≡◌, length};
+ghost use Rattle.std.specs.Prelude.{[], ◌≡◌, length};
 ghost use Rattle.heap_model.specs.Heap.{HeapAccepted, directory_of};
 
 use crate::heap::beside::adopt;
@@ -16,7 +16,7 @@ fn new_note(heap: &mut Heap, text: &[u8]) -> Result<Name, Refusal>
     ensures accepted { HeapAccepted heap.new.bytes }
     ensures len { length heap.new.bytes ≡ length heap.old.bytes }
     ensures directory { directory_of heap.new.bytes ≡ directory_of heap.old.bytes }
-    ensures lent { heap.new.lent ≡ heap.old.lent }
+    ensures lent { heap.new.lents ≡ heap.old.lents }
 {
     let name = heap.handle_new(32, 1)?;
     heap.lock(name)?;

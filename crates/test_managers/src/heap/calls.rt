@@ -1,6 +1,6 @@
 //! Calls done on a heap.
 
-ghost use Rattle.std.specs.Prelude.{◌≡◌};
+ghost use Rattle.std.specs.Prelude.{[], ◌≡◌};
 ghost use Rattle.heap_model.specs.Lending.{KeepsLoan};
 
 use heap_model::{Bytes, MemoryCall, Refusal, Reply};
@@ -9,14 +9,14 @@ use std::alloc::Global;
 
 /// Does a call on a heap.
 pub(crate) fn do_call(alloc: Global, heap: &mut Heap, call: &MemoryCall) -> Reply
-    ensures lent { heap.new.lent ≡ heap.old.lent }
+    ensures lent { heap.new.lents ≡ heap.old.lents }
     ensures loan { KeepsLoan heap.old heap.new }
 {
     answer(alloc, heap, call).unwrap_or_else(Reply::Refused)
 }
 
 fn answer(alloc: Global, heap: &mut Heap, call: &MemoryCall) -> Result<Reply, Refusal>
-    ensures lent { heap.new.lent ≡ heap.old.lent }
+    ensures lent { heap.new.lents ≡ heap.old.lents }
     ensures loan { KeepsLoan heap.old heap.new }
 {
     match call {

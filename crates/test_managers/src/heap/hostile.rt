@@ -1,7 +1,7 @@
 //! Heaps whose free chunks are as bad as can be: of one class that has room in its last one alone,
 //! of 8 bytes each, unjoined, with second words that lead anywhere.
 
-ghost use Rattle.std.specs.Prelude.{◌≡◌, IfOk, None};
+ghost use Rattle.std.specs.Prelude.{[], ◌≡◌, IfOk};
 
 use crate::heap::beside::{Beside, adopt};
 use crate::heap::by_hand::check_on;
@@ -17,7 +17,7 @@ use test_support::changed_words;
 
 /// Does the call of a line on a heap, with no model next to it.
 fn check_line(alloc: Global, heap: &mut Heap, line: &str) -> Result<(), Fail>
-    ensures { heap.new.lent ≡ heap.old.lent }
+    ensures { heap.new.lents ≡ heap.old.lents }
 {
     let (call, right) = sides_of(line)?;
     let reply = do_call(alloc, heap, &memory_call_of(alloc, call)?);
@@ -26,7 +26,7 @@ fn check_line(alloc: Global, heap: &mut Heap, line: &str) -> Result<(), Fail>
 
 /// Does the calls of some lines on one heap, and sees that its image is a heap still.
 fn check_alone(alloc: Global, region: Region, lines: &str) -> Result<(), Fail>
-    requires { region.lent ≡ None }
+    requires { region.lents ≡ [] }
 {
     let mut heap = adopt(region)?;
     for line in lines.lines() {
@@ -42,7 +42,7 @@ fn check_alone(alloc: Global, region: Region, lines: &str) -> Result<(), Fail>
 /// A heap of the given number of free chunks of 16 bytes, each with a fixed one of 8 bytes after
 /// it, and a last one of 24.
 fn scattered(alloc: Global, count: u32) -> Result<Region, Fail>
-    ensures { IfOk result (λ region. region.lent ≡ None) }
+    ensures { IfOk result (λ region. region.lents ≡ []) }
 {
     let mut words = Vec::new(alloc);
     let mut at = 32usize;
@@ -78,7 +78,7 @@ fn the_last_of_a_list_has_the_room(rt: HostRuntime) -> Result<(), Fail> {
 
 /// An image of 28 free chunks of 8 bytes, each with this second word.
 fn unjoined(alloc: Global, second: u32) -> Result<Region, Fail>
-    ensures { IfOk result (λ made. made.lent ≡ None) }
+    ensures { IfOk result (λ made. made.lents ≡ []) }
 {
     let mut words = Vec::new(alloc);
     for number in 0..28usize {

@@ -1,6 +1,6 @@
 //! Lists of calls that look random, on a heap and on the plain model next to it.
 
-ghost use Rattle.std.specs.Prelude.{◌≡◌, None};
+ghost use Rattle.std.specs.Prelude.{[], ◌≡◌};
 
 use crate::heap::beside::Beside;
 use crate::heap::images::{FIVE, LARGE, ODD};
@@ -36,7 +36,7 @@ fn step(
 /// that is adopted for it, if `anew`, and else on one heap from end to end. Where a chunk is placed
 /// may differ between the two, so each call is held against the model alone.
 fn run_list(alloc: Global, region: Region, list: (u64, u32), anew: bool) -> Result<(), Fail>
-    requires { region.lent ≡ None }
+    requires { region.lents ≡ [] }
 {
     let (seed, count) = list;
     let mut random = Pcg32::new(seed, 1);

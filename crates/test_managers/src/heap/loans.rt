@@ -1,7 +1,7 @@
 //! Bodies that are lent: the calls that are refused meanwhile, and all others, which go on as if
 //! nothing were lent.
 
-ghost use Rattle.std.specs.Prelude.{◌≡◌, None};
+ghost use Rattle.std.specs.Prelude.{[], ◌≡◌, None};
 ghost use Rattle.heap_model.specs.Lending.{KeepsLoan};
 
 use crate::heap::beside::{Beside, adopt};
@@ -198,8 +198,8 @@ fn calls_are_done_while_a_body_is_lent(rt: HostRuntime) -> Result<(), Fail> {
 
 /// Why the bytes of a name can't be taken out. If they can, they are put back.
 fn refused(heap: &mut Heap, name: Name) -> Option<Refusal>
-    requires { heap.old.lent ≡ None }
-    ensures { heap.new.lent ≡ None }
+    requires { heap.old.lents ≡ [] }
+    ensures { heap.new.lents ≡ [] }
 {
     match heap.take_out(name) {
         Ok(loan) => {
@@ -217,8 +217,8 @@ fn said_meanwhile(
     name: Name,
     other: Name,
 ) -> Result<(Option<Name>, Option<Refusal>), Refusal>
-    requires { heap.old.lent ≡ None }
-    ensures { heap.new.lent ≡ None }
+    requires { heap.old.lents ≡ [] }
+    ensures { heap.new.lents ≡ [] }
 {
     let loan = heap.take_out(name)?;
     let lent = heap.lent();
@@ -280,7 +280,7 @@ fn step(
     name: Option<Name>,
     random: &mut Pcg32,
 ) -> Result<(), Fail>
-    ensures lent { apart.new.lent ≡ apart.old.lent }
+    ensures lent { apart.new.lents ≡ apart.old.lents }
     ensures loan { KeepsLoan apart.old apart.new }
 {
     let call = memory_call(random, alloc, &Image::decode(alloc, beside.image())?)?;
@@ -300,7 +300,7 @@ fn go_on(
     name: Name,
     random: &mut Pcg32,
 ) -> Result<(), Fail>
-    ensures lent { apart.new.lent ≡ apart.old.lent }
+    ensures lent { apart.new.lents ≡ apart.old.lents }
     ensures loan { KeepsLoan apart.old apart.new }
 {
     for _ in 0..CALLS {
@@ -309,8 +309,26 @@ fn go_on(
     Ok(())
 }
 
-/// Lends the bytes of a name for some calls, writes the first of them, and puts them back. Both
-/// heaps must have the same image then.
+/// Lends the bytes of a name for some calls, writes the first of them, and puts them back.
+fn go_on_lent(
+    alloc: Global,
+    beside: &mut Beside,
+    apart: &mut Heap,
+    name: Name,
+    random: &mut Pcg32,
+) -> Result<(), Fail>
+    ensures { apart.new.lents ≡ apart.old.lents }
+{
+    let mut loan = apart.take_out(name)?;
+    let done = go_on(alloc, beside, apart, name, random);
+    let first: &[u8] = if loan.len() > 0 { b"L" } else { b"" };
+    loan.write(0, first);
+    apart.put_back(loan);
+    done
+}
+
+/// Lends the bytes of a name for some calls that write the first of them. Both heaps must have the
+/// same image then.
 fn lend(
     alloc: Global,
     beside: &mut Beside,
@@ -318,15 +336,11 @@ fn lend(
     name: Name,
     random: &mut Pcg32,
 ) -> Result<(), Fail>
-    requires { apart.old.lent ≡ None }
-    ensures { apart.new.lent ≡ None }
+    requires { apart.old.lents ≡ [] }
+    ensures { apart.new.lents ≡ [] }
 {
-    let mut loan = apart.take_out(name)?;
-    let done = go_on(alloc, beside, apart, name, random);
-    let first: &[u8] = if loan.len() > 0 { b"L" } else { b"" };
-    loan.write(0, first);
-    apart.put_back(loan);
-    done?;
+    go_on_lent(alloc, beside, apart, name, random)?;
+    let first: &[u8] = if apart.size(name)? > 0 { b"L" } else { b"" };
     let write = MemoryCall::Write {
         name,
         at: 0,
@@ -339,7 +353,7 @@ fn lend(
 /// Does a list of calls that a seed gives: most of them while a body is lent that stays where it
 /// is. Returns how many bodies were lent.
 fn run_list(alloc: Global, region: Region, seed: u64) -> Result<u32, Fail>
-    requires { region.lent ≡ None }
+    requires { region.lents ≡ [] }
 {
     let mut random = Pcg32::new(seed, 1);
     let mut apart = adopt(Region::from_bytes(alloc, region.as_slice())?)?;

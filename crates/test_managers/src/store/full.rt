@@ -1,7 +1,7 @@
 //! As many databases as there may be, as many records, and as many resources as there are slots
 //! for.
 
-ghost use Rattle.std.specs.Prelude.{◌≡◌};
+ghost use Rattle.std.specs.Prelude.{[], ◌≡◌};
 
 use crate::notation::{check_reply, sides_of};
 use crate::store::calls::call_of;
@@ -100,7 +100,7 @@ fn every_slot_is_a_resource(rt: HostRuntime) -> Result<(), Fail> {
 
 /// Does the call of a line on a store, with no model next to it.
 fn check_alone(alloc: Global, store: &mut Store, line: &str) -> Result<(), Fail>
-    ensures { store.new.lent ≡ store.old.lent }
+    ensures { store.new.lents ≡ store.old.lents }
 {
     let (call, right) = sides_of(line)?;
     let reply = do_call(alloc, store, &call_of(alloc, call)?);

@@ -1,6 +1,6 @@
 //! Images that tests start from.
 
-ghost use Rattle.std.specs.Prelude.{◌≡◌, IfOk, None};
+ghost use Rattle.std.specs.Prelude.{[], ◌≡◌, IfOk};
 
 use heap_model::DbName;
 use palm_store::Store;
@@ -53,7 +53,7 @@ pub(crate) fn full_database(alloc: Global) -> Result<Vec<u8>, Fail> {
 
 /// A store with the given number of databases, whose names are the numbers from 1 on.
 pub(crate) fn with_databases(alloc: Global, count: u32) -> Result<Store, Fail>
-    ensures { IfOk result (λ made. made.lent ≡ None) }
+    ensures { IfOk result (λ made. made.lents ≡ []) }
 {
     let mut store = store_of(alloc, &blank_image(alloc, 200_000, 1_100)?)?;
     for number in 1..=count {

@@ -1,10 +1,30 @@
 //! Lists of calls that look random, on a store and on the plain model next to it.
 
+ghost use Rattle.std.specs.Prelude.{◌≡◌};
+
+use heap_model::Call;
+use palm_store::Store;
 use rand_pcg::Pcg32;
 use std::alloc::Global;
 use std::test::*;
 use test_beside::{Beside, Counts, MIXED, OUTCOMES, blank_image, chained_image, store_of};
 use test_support::{DATABASE, TWO_DATABASES, bytes_of as listed, equal};
+
+/// Does a call on a store and on the model, and counts what it returns. The call's text names it in
+/// an error.
+fn count_call(
+    alloc: Global,
+    counts: &mut Counts,
+    store: &mut Store,
+    beside: &mut Beside,
+    called: (&str, &Call),
+) -> Result<(), Fail>
+    ensures { store.new.lents ≡ store.old.lents }
+{
+    let (spot, call) = called;
+    let reply = beside.call_on(alloc, store, spot, call)?;
+    counts.add(call, &reply)
+}
 
 /// Does a list of calls that a seed gives, each on the image that the one before left, and counts
 /// what they return. Each image must be taken as a store; a call is done on that one, if `anew`,
@@ -27,8 +47,13 @@ fn run_list(
         }
         let call = beside.any_call(&mut random, alloc)?;
         let spot = format!(in alloc; "call {number} of list {seed}")?;
-        let reply = beside.call_on(alloc, &mut store, spot.as_str(), &call)?;
-        counts.add(&call, &reply)?;
+        count_call(
+            alloc,
+            counts,
+            &mut store,
+            &mut beside,
+            (spot.as_str(), &call),
+        )?;
     }
     store_of(alloc, &beside.image)?;
     Ok(())

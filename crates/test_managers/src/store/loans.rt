@@ -1,7 +1,7 @@
 //! Bodies that are lent by a store: what a caller does with one, what is refused meanwhile, and
 //! that all other calls go on.
 
-ghost use Rattle.std.specs.Prelude.{◌≡◌, ◌≢◌, None};
+ghost use Rattle.std.specs.Prelude.{[], ◌≡◌, ◌≢◌, IfOk, None};
 ghost use Rattle.heap_model.specs.Lending.{KeepsLoan};
 
 use heap_model::{
@@ -25,8 +25,8 @@ const B: Name = Name(20);
 
 /// Why the bytes of a name can't be taken out. If they can, they are put back.
 fn refused(store: &mut Store, name: Name) -> Option<Refusal>
-    requires { store.old.lent ≡ None }
-    ensures { store.new.lent ≡ None }
+    requires { store.old.lents ≡ [] }
+    ensures { store.new.lents ≡ [] }
 {
     match store.take_out(name) {
         Ok(loan) => {
@@ -39,7 +39,7 @@ fn refused(store: &mut Store, name: Name) -> Option<Refusal>
 
 /// Why the bytes of a name can't be taken out while others are.
 fn refused_meanwhile(store: &mut Store, name: Name) -> Refusal
-    requires { store.old.lent ≢ None }
+    requires { store.old.lents ≢ [] }
     ensures { store.new ≡ store.old }
 {
     match store.take_out(name) {
@@ -56,10 +56,11 @@ fn why_not_written(alloc: Global, store: &Store) -> Option<ImageFault> {
 
 /// Calls that are refused while the first chunk is lent, and those that go on.
 fn check_meanwhile(alloc: Global, store: &mut Store) -> Result<(), Fail>
-    ensures lent { store.new.lent ≡ store.old.lent }
+    ensures lent { store.new.lents ≡ store.old.lents }
     ensures loan { KeepsLoan store.old store.new }
 {
     equal("lent", store.lent(), Some(A))?;
+    equal("loans", store.loans(alloc)?.as_slice(), [A].as_slice())?;
     equal("read", store.read(A, 0, 1).err(), Some(Refusal::Lent))?;
     equal("unlock", store.unlock(A).err(), Some(Refusal::Lent))?;
     equal("resize", store.resize(A, 56).err(), Some(Refusal::Lent))?;
@@ -73,6 +74,25 @@ fn check_meanwhile(alloc: Global, store: &mut Store) -> Result<(), Fail>
     equal("run_calls", replies.as_slice(), wanted.as_slice())
 }
 
+/// What a store says while the bytes of its first chunk are out: the loan's name and length, why a
+/// second loan is refused, and whether all calls were answered as they must be. The bytes are
+/// written before they are put back.
+type Said = ((Name, usize), Refusal, Result<(), Fail>);
+
+fn said_meanwhile(alloc: Global, store: &mut Store) -> Result<Said, Refusal>
+    requires { store.old.lents ≡ [] }
+    ensures { store.new.lents ≡ [] }
+{
+    let mut loan = store.take_out(A)?;
+    let shape = (loan.name(), loan.len());
+    let again = refused_meanwhile(store, A);
+    let done = check_meanwhile(alloc, store);
+    let text: &[u8] = if loan.len() >= 2 { b"hi" } else { b"" };
+    loan.write(0, text);
+    store.put_back(loan);
+    Ok((shape, again, done))
+}
+
 /// The first chunk is taken out, written, and put back. The other one has moved, and has its bytes.
 #[test]
 fn a_body_is_lent_and_put_back(rt: HostRuntime) -> Result<(), Fail> {
@@ -84,13 +104,7 @@ fn a_body_is_lent_and_put_back(rt: HostRuntime) -> Result<(), Fail> {
     let refusal = refused(&mut store, A);
     equal("no lock", refusal, Some(Refusal::ChunkNotLocked))?;
     store.lock(A)?;
-    let mut loan = store.take_out(A)?;
-    let shape = (loan.name(), loan.len());
-    let again = refused_meanwhile(&mut store, A);
-    let done = check_meanwhile(alloc, &mut store);
-    let text: &[u8] = if loan.len() >= 2 { b"hi" } else { b"" };
-    loan.write(0, text);
-    store.put_back(loan);
+    let (shape, again, done) = said_meanwhile(alloc, &mut store)?;
     done?;
     equal("loan", shape, (A, 24))?;
     equal("a second loan", again, Refusal::Lent)?;
@@ -100,24 +114,50 @@ fn a_body_is_lent_and_put_back(rt: HostRuntime) -> Result<(), Fail> {
     equal("b", store.read(B, 0, 24), Ok(b))
 }
 
+/// The store comes back where its region is asked for.
+fn not_given_back(store: Store) -> Store
+    requires { store.lents ≢ [] }
+    ensures { result ≡ store }
+{
+    match store.into_region() {
+        Ok(_) => unreachable!(),
+        Err(store) => store,
+    }
+}
+
+/// The store comes back where a chain of tables is asked for.
+fn not_migrated(alloc: Global, store: Store) -> (MigrateFault, Store)
+    requires { store.lents ≢ [] }
+    ensures { result.1 ≡ store }
+{
+    match store.migrate(alloc) {
+        Ok(_) => unreachable!(),
+        Err(both) => both,
+    }
+}
+
 /// While a body is lent, neither the region is given back nor a chain of tables is made. The store
-/// comes back.
+/// comes back, and so do the bytes.
+fn refused_whole(alloc: Global, store: Store) -> Result<(MigrateFault, Store), Refusal>
+    requires { store.lents ≡ [] }
+    ensures { IfOk result (λ back. back.1.lents ≡ []) }
+{
+    let mut store = store;
+    let loan = store.take_out(A)?;
+    let store = not_given_back(store);
+    let both = not_migrated(alloc, store);
+    let (fault, mut store) = both;
+    store.put_back(loan);
+    Ok((fault, store))
+}
+
 #[test]
 fn a_store_that_lends_stays_a_store(rt: HostRuntime) -> Result<(), Fail> {
     let alloc = rt.alloc();
     let mut store = store_of(alloc, &listed(alloc, TWO_CHUNKS)?)?;
     let before = image_of(alloc, &store)?;
     store.lock(A)?;
-    let loan = store.take_out(A)?;
-    let store = match store.into_region() {
-        Ok(_) => unreachable!(),
-        Err(store) => store,
-    };
-    let (fault, mut store) = match store.migrate(alloc) {
-        Ok(_) => unreachable!(),
-        Err(both) => both,
-    };
-    store.put_back(loan);
+    let (fault, mut store) = refused_whole(alloc, store)?;
     store.unlock(A)?;
     equal("migrate", fault, MigrateFault::Lent)?;
     equal("the image", image_of(alloc, &store)?, before)?;
@@ -169,8 +209,8 @@ fn check_lent(
     name: Name,
     row: (&Call, Option<Refusal>),
 ) -> Result<(), Fail>
-    requires { store.old.lent ≡ None }
-    ensures { store.new.lent ≡ None }
+    requires { store.old.lents ≡ [] }
+    ensures { store.new.lents ≡ [] }
 {
     let (call, refusal) = row;
     let reply = beside.call_lent(alloc, store, name, "lent", call)?;
@@ -233,7 +273,7 @@ struct Pair {
     store: Store,
     beside: Beside,
     counts: Counts,
-    ghost whole: { store.lent ≡ None },
+    ghost whole: { store.lents ≡ [] },
 }
 
 /// Does a call on both. The replies must be the same.
@@ -244,7 +284,7 @@ fn do_both(
     name: Option<Name>,
     call: &Call,
 ) -> Result<(), Fail>
-    ensures lent { apart.new.lent ≡ apart.old.lent }
+    ensures lent { apart.new.lents ≡ apart.old.lents }
     ensures loan { KeepsLoan apart.old apart.new }
 {
     let spot = format!(in alloc; "{call:?} while {name:?} is lent")?;
@@ -268,7 +308,7 @@ fn step(
     name: Option<Name>,
     random: &mut Pcg32,
 ) -> Result<(), Fail>
-    ensures lent { apart.new.lent ≡ apart.old.lent }
+    ensures lent { apart.new.lents ≡ apart.old.lents }
     ensures loan { KeepsLoan apart.old apart.new }
 {
     let call = pair.beside.any_call(random, alloc)?;
@@ -355,7 +395,7 @@ fn do_all(
     name: Option<Name>,
     calls: &[Call],
 ) -> Result<(), Fail>
-    ensures lent { apart.new.lent ≡ apart.old.lent }
+    ensures lent { apart.new.lents ≡ apart.old.lents }
     ensures loan { KeepsLoan apart.old apart.new }
 {
     for call in calls {
@@ -373,7 +413,7 @@ fn go_on(
     name: Name,
     random: &mut Pcg32,
 ) -> Result<(), Fail>
-    ensures lent { apart.new.lent ≡ apart.old.lent }
+    ensures lent { apart.new.lents ≡ apart.old.lents }
     ensures loan { KeepsLoan apart.old apart.new }
 {
     for _ in 0..CALLS {
@@ -391,7 +431,7 @@ fn go_on_after(
     name: Name,
     random: &mut Pcg32,
 ) -> Result<(), Fail>
-    ensures { apart.new.lent ≡ apart.old.lent }
+    ensures { apart.new.lents ≡ apart.old.lents }
 {
     if random.random_range(0..4u32) > 0 {
         return Ok(());
@@ -400,8 +440,26 @@ fn go_on_after(
     do_all(alloc, pair, apart, None, &calls)
 }
 
-/// Lends the bytes of a name for some calls, writes the first of them, and puts them back. Both
-/// stores must have the same image then.
+/// Lends the bytes of a name for some calls, writes the first of them, and puts them back.
+fn go_on_lent(
+    alloc: Global,
+    pair: &mut Pair,
+    apart: &mut Store,
+    name: Name,
+    random: &mut Pcg32,
+) -> Result<(), Fail>
+    ensures { apart.new.lents ≡ apart.old.lents }
+{
+    let mut loan = apart.take_out(name)?;
+    let done = go_on(alloc, pair, apart, name, random);
+    let first: &[u8] = if loan.len() > 0 { b"L" } else { b"" };
+    loan.write(0, first);
+    apart.put_back(loan);
+    done
+}
+
+/// Lends the bytes of a name for some calls that write the first of them. Both stores must have the
+/// same image then.
 fn lend(
     alloc: Global,
     pair: &mut Pair,
@@ -409,15 +467,11 @@ fn lend(
     name: Name,
     random: &mut Pcg32,
 ) -> Result<(), Fail>
-    requires { apart.old.lent ≡ None }
-    ensures { apart.new.lent ≡ None }
+    requires { apart.old.lents ≡ [] }
+    ensures { apart.new.lents ≡ [] }
 {
-    let mut loan = apart.take_out(name)?;
-    let done = go_on(alloc, pair, apart, name, random);
-    let first: &[u8] = if loan.len() > 0 { b"L" } else { b"" };
-    loan.write(0, first);
-    apart.put_back(loan);
-    done?;
+    go_on_lent(alloc, pair, apart, name, random)?;
+    let first: &[u8] = if apart.size(name)? > 0 { b"L" } else { b"" };
     let write = Call::Memory(MemoryCall::Write {
         name,
         at: 0,
@@ -440,7 +494,7 @@ fn lock_any(
     apart: &mut Store,
     random: &mut Pcg32,
 ) -> Result<(), Fail>
-    ensures { apart.new.lent ≡ apart.old.lent }
+    ensures { apart.new.lents ≡ apart.old.lents }
 {
     match any_chunk(alloc, &pair.beside, random, 0)? {
         Some(name) => {

@@ -1,7 +1,7 @@
 //! Calls with the replies that they must have, as rows, which are done on a store and on the plain
 //! model next to it.
 
-ghost use Rattle.std.specs.Prelude.{◌≡◌};
+ghost use Rattle.std.specs.Prelude.{[], ◌≡◌};
 
 use crate::notation::{check_reply, sides_of};
 use crate::store::calls::call_of;
@@ -42,7 +42,7 @@ fn check(
     call: &Call,
     reply: &str,
 ) -> Result<(), Fail>
-    ensures { store.new.lent ≡ store.old.lent }
+    ensures { store.new.lents ≡ store.old.lents }
 {
     let said = beside.call_on(alloc, store, about, call)?;
     check_reply(alloc, format_args!("{about}: {call:?}"), &said, reply)
@@ -56,7 +56,7 @@ fn check_line(
     beside: &mut Beside,
     line: &str,
 ) -> Result<(), Fail>
-    ensures { store.new.lent ≡ store.old.lent }
+    ensures { store.new.lents ≡ store.old.lents }
 {
     let (call, reply) = sides_of(line)?;
     check(alloc, about, store, beside, &call_of(alloc, call)?, reply)
@@ -86,7 +86,7 @@ fn check_read(
     listing: &str,
     reply: &str,
 ) -> Result<(), Fail>
-    ensures { store.new.lent ≡ store.old.lent }
+    ensures { store.new.lents ≡ store.old.lents }
 {
     let import = Call::File(FileCall::Import(file(alloc, listing)?));
     check(alloc, about, store, beside, &import, reply)
@@ -101,7 +101,7 @@ fn check_written(
     db: Db,
     listing: &str,
 ) -> Result<(), Fail>
-    ensures { store.new.lent ≡ store.old.lent }
+    ensures { store.new.lents ≡ store.old.lents }
 {
     let export = Call::File(FileCall::Export(db));
     let said = beside.call_on(alloc, store, about, &export)?;
@@ -117,7 +117,7 @@ fn check_id(
     db: Db,
     id: u32,
 ) -> Result<(), Fail>
-    ensures { store.new.lent ≡ store.old.lent }
+    ensures { store.new.lents ≡ store.old.lents }
 {
     let new = Call::Record(RecordCall::New { db, at: 0, size: 0 });
     beside.call_on(alloc, store, about, &new)?;
@@ -137,7 +137,7 @@ fn unlock(
     name: Name,
     count: u32,
 ) -> Result<(), Fail>
-    ensures { store.new.lent ≡ store.old.lent }
+    ensures { store.new.lents ≡ store.old.lents }
 {
     let call = Call::Memory(MemoryCall::Unlock(name));
     for left in (0..count).rev() {
@@ -154,7 +154,7 @@ fn check_step(
     beside: &mut Beside,
     step: &Step,
 ) -> Result<(), Fail>
-    ensures { store.new.lent ≡ store.old.lent }
+    ensures { store.new.lents ≡ store.old.lents }
 {
     match step {
         Step::Does(line) => check_line(alloc, about, store, beside, line),

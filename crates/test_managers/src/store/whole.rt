@@ -1,6 +1,6 @@
 //! Databases that are made whole, and found again as they were asked for.
 
-ghost use Rattle.std.specs.Prelude.{◌≡◌, length, take, IfOk, None};
+ghost use Rattle.std.specs.Prelude.{[], ◌≡◌, length, take, IfOk, None};
 ghost use Rattle.heap_model.specs.DatabaseFields.{name_size};
 
 use crate::store::images::with_databases;
@@ -37,7 +37,7 @@ fn info_of_two(name: &[u8], attributes: u16) -> DbInfo
 fn make_records(store: &mut Store, names: &mut [Name]) -> Result<Db, Refusal>
     requires { length names.old ≡ 4 }
     ensures len { length names.new ≡ 4 }
-    ensures lent { store.new.lent ≡ store.old.lent }
+    ensures lent { store.new.lents ≡ store.old.lents }
 {
     let blocks = BlockSizes {
         app_info: Some(3),
@@ -62,7 +62,7 @@ fn make_records(store: &mut Store, names: &mut [Name]) -> Result<Db, Refusal>
 fn make_resources(store: &mut Store, names: &mut [Name]) -> Result<Db, Refusal>
     requires { length names.old ≡ 4 }
     ensures len { length names.new ≡ 4 }
-    ensures lent { store.new.lent ≡ store.old.lent }
+    ensures lent { store.new.lents ≡ store.old.lents }
 {
     let blocks = BlockSizes {
         app_info: None,
@@ -85,7 +85,7 @@ fn make_resources(store: &mut Store, names: &mut [Name]) -> Result<Db, Refusal>
 
 /// A blank store of 400 bytes with 20 slots.
 fn small_store(alloc: Global) -> Result<Store, Fail>
-    ensures { IfOk result (λ made. made.lent ≡ None) }
+    ensures { IfOk result (λ made. made.lents ≡ []) }
 {
     store_of(alloc, &blank_image(alloc, 400, 20)?)
 }

@@ -1,4 +1,4 @@
-use Rattle.std.proofs.Common.{◌≡◌, ◌+◌, ◌≤◌, ℕ, Option, length, take, sym, ap, subst, ◌∙◌, arith}
+use Rattle.std.proofs.Common.{◌≡◌, ◌+◌, ◌≤◌, ℕ, List, length, take, sym, ap, subst, ◌∙◌, arith}
 use Rattle.std.proofs.lemmas.List.{length-take}
 use Rattle.heap_model.specs.Memory.{Lent, Memory, Misses}
 use Rattle.command_files.proofs.Filled.{front_written, filled}
@@ -12,7 +12,7 @@ write-requires g c =
     let inside = c.requires.inside in
     record {
       inside = omega arith;
-      misses = subst (λ (lent : Option Lent). Misses lent c.args.at.now (length (take c.in-Ok.n c.read.new.buf))) (sym c.requires.whole) tt;
+      misses = subst (λ (lents : List Lent). Misses lents c.args.at.now (length (take c.in-Ok.n c.read.new.buf))) (sym c.requires.whole) tt;
     }
 
 pub returns-clause-kept : goal.returns-clause-kept

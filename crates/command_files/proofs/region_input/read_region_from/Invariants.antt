@@ -1,4 +1,4 @@
-use Rattle.std.proofs.Common.{◌≡◌, ◌<◌, ◌≤◌, ◌-◌, None, length, take}
+use Rattle.std.proofs.Common.{[], ◌≡◌, ◌<◌, ◌≤◌, ◌-◌, length, take}
 use Rattle.std.specs.Io.KnownBytes.{Keeps, prepend_known}
 use Rattle.command_files.proofs.region_input.read_region_from.Given as goal
 
@@ -7,7 +7,7 @@ abbrev pub invariant-loop-region : goal.invariant-loop-region
 invariant-loop-region g l = record {
   size : length l.region.bytes ≡ l.fn.size;
   inside : l.at ≤ length l.region.bytes;
-  whole : l.region.lent ≡ None;
+  whole : l.region.lents ≡ [];
   room : 0 < length l.turn.items;
   kept : Keeps (g.R.Read.remaining l.initial.reader) (prepend_known (take l.at l.region.bytes) (g.R.Read.remaining l.reader));
 }

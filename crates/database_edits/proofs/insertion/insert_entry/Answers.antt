@@ -6,6 +6,7 @@ use Rattle.heap_model.specs.Leaving.{database_here}
 use Rattle.heap_model.specs.StoreWords.{next_modification}
 use Rattle.db_format.specs.EitherEntry.{entry_of, is_resource}
 use Rattle.laws_heap.proofs.Results.{on_err}
+use Rattle.laws_heap.proofs.KeptLoans.{keeps_then}
 use Rattle.database_edits.specs.Edits.{HasNoRoomFor, entry_inserted}
 use Rattle.database_edits.proofs.Chunks.{is_movable}
 use Rattle.database_edits.proofs.HeadersHere.{heading_spelled}
@@ -36,3 +37,6 @@ returns-clause-inserted c =
     (next_modification c.heading_here-heading.result.modification_number) c.seed_after.result entry d c.put_entry.ensures.writes.managers has c.requires.inside (ap (λ (n : ℕ). n + 1) count)
     (c.seed_after.ensures d.header (sym c.heading_here-heading.ensures.seed)) c.heading_here-heading.ensures.modification_number refl
     c.put_entry_count.ensures.puts c.put_seed.ensures.puts c.put_modification_number.ensures.puts)
+
+pub returns-clause-loan : goal.returns-clause-loan
+returns-clause-loan c = keeps_then _ _ _ (keeps_then _ _ _ (keeps_then _ _ _ (keeps_then _ _ _ (keeps_then _ _ _ c.grow.ensures.loan c.slide_entries.ensures.loan) c.put_entry.ensures.loan) c.put_entry_count.ensures.loan) c.put_seed.ensures.loan) c.put_modification_number.ensures.loan

@@ -2,6 +2,7 @@
 -- shrinks.
 use Rattle.std.proofs.Common.{refl, ◌+◌, ◌-◌, arith}
 use Rattle.heap_model.specs.Leaving.{database_here}
+use Rattle.laws_heap.proofs.KeptLoans.{keeps_then}
 use Rattle.database_edits.specs.Edits.{entry_removed}
 use Rattle.database_edits.proofs.Entries.{inside_body}
 use Rattle.database_edits.proofs.RemovedEntries.{removed, slid_kept, header_written}
@@ -48,3 +49,6 @@ returns-clause-removed c =
     removed c.args.heap.now.bytes c.slide_entries.new.heap.bytes c.put_modification_number.new.heap.bytes c.shrink.new.heap.bytes c.args.db.0 c.args.index c.entry_offset.result (c.heading_here-heading.result.entry_count - 1) c.heading_here-heading.result.entry_count
     (entry_removed c.args.index (database_here c.args.heap.now.bytes c.args.db.0)) c.heading_here-heading.result.resources c.requires.spells c.requires.inside
     c.heading_here-heading.ensures.kind c.heading_here-heading.ensures.entry_count c.slide_entries.ensures.slides c.slide_entries.ensures.len refl c.entry_offset.ensures refl c.requires.spells.spelled.fits.name wrote.writes c.shrink.ensures.shrinks
+
+pub returns-clause-loan : goal.returns-clause-loan
+returns-clause-loan c = keeps_then _ _ _ (keeps_then _ _ _ (keeps_then _ _ _ c.slide_entries.ensures.loan c.put_entry_count.ensures.loan) c.put_modification_number.ensures.loan) c.shrink.ensures.loan

@@ -4,6 +4,7 @@ use Rattle.heap_model.specs.Database.{Entry, Database, has_resources}
 use Rattle.heap_model.specs.Leaving.{Respells, database_here}
 use Rattle.db_format.specs.EitherEntry.{entry_of}
 use Rattle.db_format.specs.Entries.{with_entry}
+use Rattle.laws_heap.proofs.KeptLoans.{keeps_then}
 use Rattle.database_edits.specs.Edits.{counted_if, entry_written}
 use Rattle.database_edits.proofs.RaisedNumbers.{respells_twice, counted_entries, counted_attributes, counted_entry}
 use Rattle.database_edits.proofs.replacement.write_entry.Goals as goal
@@ -24,3 +25,6 @@ returns-clause-written c =
     respells_twice c.args.heap.now.bytes c.count_change_if.new.heap.bytes c.write_entry.new.heap.bytes c.args.db.0 (counted_if c.args.counts d) (entry_written c.args.counts c.args.index entry d) c.requires.spells c.count_change_if.ensures.counted
     (subst (λ (e : Database ℕ). Respells c.count_change_if.new.heap.bytes c.write_entry.new.heap.bytes c.args.db.0 e)
     (ap (λ (e : Database ℕ). with_entry e c.args.index entry) c.count_change_if.ensures.now ∙ counted_entry c.args.counts c.args.index entry d) c.write_entry.ensures.respells)
+
+pub returns-clause-loan : goal.returns-clause-loan
+returns-clause-loan c = keeps_then _ _ _ c.count_change_if.ensures.loan c.write_entry.ensures.loan

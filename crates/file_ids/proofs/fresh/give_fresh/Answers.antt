@@ -19,7 +19,7 @@ pub loop-id-preserved : goal.loop-id-preserved
 loop-id-preserved c = elim c.if-id-eq0.branch [
   | then-id-eq0 w ↦ rw (w.taken-is, w.ids-is, w.last-is)
       (given_fresh c.args.taken.now c.args.seed c.args.ids.now c.loop-id.taken w.add.new.set c.loop-id.last c.loop-id.ids c.loop-id.id-index w.first_free-last.result (omega arith) (omega arith) (omega arith)
-      w.first_free-last.ensures.fresh w.first_free-last.ensures.most w.add.ensures c.loop-id.invariant)
+      w.first_free-last.ensures.fresh w.first_free-last.ensures.most w.add.ensures.adds c.loop-id.invariant)
   | else-id-eq0 w ↦ rw (w.taken-is, w.ids-is, w.last-is, set-get_or)
       (given_stays c.args.taken.now c.args.seed c.args.ids.now c.loop-id.taken c.loop-id.last c.loop-id.ids c.loop-id.id-index (omega arith) (omega arith) w.if-id-eq0.false c.loop-id.invariant)
 ]

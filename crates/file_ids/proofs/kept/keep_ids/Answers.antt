@@ -16,7 +16,7 @@ loop-index-preserved c =
     let is = id_there c.args.file.now c.loop-index.index c.record_id-id.result c.requires.records (omega arith) c.record_id-id.ensures.is in
     elim c.if-id-ne0.branch [
       | then-id-ne0+then-not-has w ↦ rw (add-one, w.taken-is, w.ids-is)
-          (kept_here (unique_ids (database_in c.args.file.now)) c.loop-index.taken w.add.new.set c.loop-index.ids c.loop-index.index c.record_id-id.result inside is w.if-id-ne0.true c.record_id-id.ensures.most (λ here. (let yes = w.has.ensures.1 here in let no = w.if-not-has.true in cc)) w.add.ensures c.loop-index.invariant)
+          (kept_here (unique_ids (database_in c.args.file.now)) c.loop-index.taken w.add.new.set c.loop-index.ids c.loop-index.index c.record_id-id.result inside is w.if-id-ne0.true c.record_id-id.ensures.most (λ here. (let yes = w.has.ensures.1 here in let no = w.if-not-has.true in cc)) w.add.ensures.adds c.loop-index.invariant)
       | else-id-ne0 w ↦ rw (add-one, w.taken-is, w.ids-is)
           (kept_not (unique_ids (database_in c.args.file.now)) c.loop-index.taken c.loop-index.ids c.loop-index.index c.record_id-id.result inside is
           (elim w.else-id-ne0.branch [

@@ -1,28 +1,17 @@
-use Rattle.std.proofs.Common.{ℕ, subst}
-use Rattle.std.specs.Bool.{OnTrue, OnFalse}
-use Rattle.heap_model.specs.Chunk.{need}
-use Rattle.heap_model.specs.Space.{ShortFor, MovesOneStretchAnd}
-use Rattle.heap_compact.specs.Resized.{Resized}
-use Rattle.heap_compact.proofs.ResizedLaws.{one_of, loose_there, loose_lock}
+use Rattle.laws_heap.proofs.Unmoved.{alone_one}
+use Rattle.heap_compact.proofs.ResizedLaws.{run_resized, run_not_short, resized_here}
 use Rattle.heap_compact.proofs.growing.resize_by_moving.Goals as goal
 
-pub chunk-found-requires-clause-there : goal.chunk-found-requires-clause-there
-chunk-found-requires-clause-there c = loose_there c.args.space.now.bytes c.args.name.0 c.requires.loose
+pub returns-then-relocate-clause-resized : goal.returns-then-relocate-clause-resized
+returns-then-relocate-clause-resized c =
+    (resized_here c.args.space.now.bytes c.relocate.new.self.bytes c.args.found.name.0 c.args.count c.args.found c.requires.found
+    (run_resized c.args.space.now.bytes c.relocate.new.self.bytes c.args.found c.args.count c.holds.ensures.accepted c.requires.found c.requires.unlocked c.if-relocate.ensures.moved)).0
 
-pub resize_found-requires-clause-found : goal.resize_found-requires-clause-found
-resize_found-requires-clause-found c = one_of c.args.space.now.bytes c.args.name.0 c.chunk-found.result c.chunk-found.ensures
+pub returns-then-relocate-clause-not_short : goal.returns-then-relocate-clause-not_short
+returns-then-relocate-clause-not_short c = run_not_short c.args.space.now.bytes c.relocate.new.self.bytes c.args.found c.args.count c.if-relocate.ensures.moved
 
-pub resize_found-requires-clause-unlocked : goal.resize_found-requires-clause-unlocked
-resize_found-requires-clause-unlocked c = loose_lock c.args.space.now.bytes c.args.name.0 c.chunk-found.result c.requires.accepted c.requires.loose c.chunk-found.ensures
-
-pub returns-clause-resized : goal.returns-clause-resized
-returns-clause-resized c = subst (λ (n : ℕ). OnTrue c.resize_found.result (Resized c.args.space.now.bytes c.resize_found.new.space.bytes n c.args.count)) c.chunk-found.ensures.name_is c.resize_found.ensures.resized
-
-pub returns-clause-not_short : goal.returns-clause-not_short
-returns-clause-not_short c = subst (λ (n : ℕ). OnTrue c.resize_found.result (ShortFor c.args.space.now.bytes n (need c.args.count) → ⊥)) c.chunk-found.ensures.name_is c.resize_found.ensures.not_short
-
-pub returns-clause-short : goal.returns-clause-short
-returns-clause-short c = subst (λ (n : ℕ). OnFalse c.resize_found.result (ShortFor c.args.space.now.bytes n (need c.args.count))) c.chunk-found.ensures.name_is c.resize_found.ensures.short
-
-pub returns-clause-one_stretch : goal.returns-clause-one_stretch
-returns-clause-one_stretch c = subst (λ (n : ℕ). MovesOneStretchAnd c.args.space.now.bytes c.resize_found.new.space.bytes n) c.chunk-found.ensures.name_is c.resize_found.ensures.one_stretch
+pub returns-then-relocate-clause-one_stretch : goal.returns-then-relocate-clause-one_stretch
+returns-then-relocate-clause-one_stretch c =
+    alone_one c.args.space.now.bytes c.relocate.new.self.bytes c.args.found.name.0
+    (resized_here c.args.space.now.bytes c.relocate.new.self.bytes c.args.found.name.0 c.args.count c.args.found c.requires.found
+    (run_resized c.args.space.now.bytes c.relocate.new.self.bytes c.args.found c.args.count c.holds.ensures.accepted c.requires.found c.requires.unlocked c.if-relocate.ensures.moved)).1

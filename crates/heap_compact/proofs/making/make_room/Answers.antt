@@ -6,7 +6,7 @@ pub returns-in-Some-clause-not_short : goal.returns-in-Some-clause-not_short
 returns-in-Some-clause-not_short c = spot_not_short c.args.space.now.bytes c.in-Some.room.at c.in-Some.room.size c.args.size c.requires.some_size c.in-Some.ensures.room c.in-Some.ensures.enough
 
 pub returns-in-Some-clause-slides : goal.returns-in-Some-clause-slides
-returns-in-Some-clause-slides c = slides_nothing c.args.space.now.bytes c.requires.accepted
+returns-in-Some-clause-slides c = slides_nothing c.args.space.now.bytes c.holds.ensures.accepted
 
 pub returns-in-Some-clause-once : goal.returns-in-Some-clause-once
-returns-in-Some-clause-once c = moves_none c.args.space.now.bytes c.args.space.now.slid c.requires.accepted
+returns-in-Some-clause-once c = moves_none c.args.space.now.bytes c.args.space.now.slid c.holds.ensures.accepted

@@ -1,11 +1,11 @@
-use Rattle.std.proofs.Common.{◌-◌, ◌≡◌, None}
+use Rattle.std.proofs.Common.{[], ◌-◌, ◌≡◌, None}
 use Rattle.heap_migration.specs.Writing.{WroteUpTo}
 use Rattle.heap_migration.proofs.chunks.lower_offsets.Given as goal
 
 abbrev pub invariant-loop-at : goal.invariant-loop-at
 invariant-loop-at l = record {
   wrote : WroteUpTo l.image.bytes l.fn.grown.bytes l.grown.bytes l.by l.at;
-  whole : l.grown.lent ≡ None;
+  whole : l.grown.lents ≡ [];
 }
 
 abbrev pub decreases-loop-at : goal.decreases-loop-at

@@ -25,5 +25,5 @@ loop-slot-preserved c =
     record {
       raised = raised_more image c.args.grown.now.bytes c.loop-slot.grown.bytes c.put_u32.new.self.bytes c.args.by c.loop-slot.slot c.loop-slot.invariant.raised (omega arith) (omega arith) (raised_fits c.args.by (u32_at image c.loop-slot.slot) c.requires.few fits)
           (ap (λ (m : Memory). m.bytes) c.put_u32.ensures.after ∙ ap (λ (n : ℕ). overwritten c.loop-slot.grown.bytes c.loop-slot.slot (u32_bytes n)) word);
-      whole = ap (λ (m : Memory). m.lent) c.put_u32.ensures.after ∙ c.loop-slot.invariant.whole;
+      whole = ap (λ (m : Memory). m.lents) c.put_u32.ensures.after ∙ c.loop-slot.invariant.whole;
     }

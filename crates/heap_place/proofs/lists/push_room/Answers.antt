@@ -14,11 +14,11 @@ returns-then-room-gt0-clause-same c = one_word c.args.region.now.bytes c.push.ne
 
 pub returns-then-room-gt0-clause-lists : goal.returns-then-room-gt0-clause-lists
 returns-then-room-gt0-clause-lists c =
-    pushed_lists c.args.region.now.bytes c.push.new.region.bytes c.args.heads.now c.push.new.heads c.args.end c.args.room (chunk_inside c.args.region.now.bytes (c.args.end - c.args.room) c.args.room c.requires.accepted (c.requires.free (omega arith))).1
-    c.requires.within c.told-heads c.requires.lists c.push.ensures.pushed
+    pushed_lists c.args.region.now.bytes c.push.new.region.bytes c.args.lists.now c.push.new.lists c.args.end c.args.room (chunk_inside c.args.region.now.bytes (c.args.end - c.args.room) c.args.room c.requires.heap.accepted (c.requires.free (omega arith))).1
+    c.requires.within c.requires.lists c.push.ensures.pushed
 
 pub returns-else-room-gt0-clause-same : goal.returns-else-room-gt0-clause-same
-returns-else-room-gt0-clause-same c = no_words c.args.region.now.bytes c.requires.accepted
+returns-else-room-gt0-clause-same c = no_words c.args.region.now.bytes c.requires.heap.accepted
 
 pub returns-else-room-gt0-clause-lists : goal.returns-else-room-gt0-clause-lists
-returns-else-room-gt0-clause-lists c = lists_weaker (Before (c.args.end - c.args.room)) (Before c.args.end) c.args.region.now.bytes c.args.heads.now (λ x b before. omega arith) c.requires.lists
+returns-else-room-gt0-clause-lists c = lists_weaker (Before (c.args.end - c.args.room)) (Before c.args.end) c.args.region.now.bytes c.args.lists.now (λ x b before. omega arith) c.requires.lists

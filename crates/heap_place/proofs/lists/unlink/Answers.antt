@@ -10,17 +10,17 @@ use Rattle.heap_place.proofs.lists.unlink.Goals as goal
 
 pub size_at-requires : goal.size_at-requires
 size_at-requires c =
-    let b = spot_front c.args.region.now.bytes c.args.room.at c.args.room.size c.requires.accepted c.requires.some c.requires.room in
-    let least = (chunk_inside c.args.region.now.bytes c.args.room.at _ c.requires.accepted b).1 in
-    part_within c.args.region.now c.args.room.at _ c.args.room.at 4 (free_within c.args.region.now c.args.room.at _ c.requires.accepted c.requires.lent b) (omega arith) (omega (arith, least))
+    let b = spot_front c.args.region.now.bytes c.args.room.at c.args.room.size c.requires.heap.accepted c.requires.some c.requires.room in
+    let least = (chunk_inside c.args.region.now.bytes c.args.room.at _ c.requires.heap.accepted b).1 in
+    part_within c.args.region.now c.args.room.at _ c.args.room.at 4 (free_within c.args.region.now c.args.room.at _ c.requires.heap.accepted c.requires.heap.lent b) (omega arith) (omega (arith, least))
 
 pub take_out-requires-clause-free : goal.take_out-requires-clause-free
 take_out-requires-clause-free c =
     let size : size_field (u32_at c.args.region.now.bytes c.args.room.at) ≡ c.args.room.size = sym c.size_at.ensures ∙ c.if-size_at-room.true in
-    subst (λ (n : ℕ). IsFreeChunk c.args.region.now.bytes c.args.room.at n) size (spot_front c.args.region.now.bytes c.args.room.at c.args.room.size c.requires.accepted c.requires.some c.requires.room)
+    subst (λ (n : ℕ). IsFreeChunk c.args.region.now.bytes c.args.room.at n) size (spot_front c.args.region.now.bytes c.args.room.at c.args.room.size c.requires.heap.accepted c.requires.some c.requires.room)
 
 pub returns-then-size_at-room-clause-lists : goal.returns-then-size_at-room-clause-lists
 returns-then-size_at-room-clause-lists c =
     let size : size_field (u32_at c.args.region.now.bytes c.args.room.at) ≡ c.args.room.size = sym c.size_at.ensures ∙ c.if-size_at-room.true in
-    taken_outside c.args.region.now.bytes c.take_out.new.region.bytes c.take_out.new.heads c.args.room.at c.args.room.size c.take_out.ensures.same
-    (subst (λ (n : ℕ). IsFreeChunk c.args.region.now.bytes c.args.room.at n) size (spot_front c.args.region.now.bytes c.args.room.at c.args.room.size c.requires.accepted c.requires.some c.requires.room)) c.take_out.ensures.lists
+    taken_outside c.args.region.now.bytes c.take_out.new.region.bytes c.take_out.new.lists c.args.room.at c.args.room.size c.take_out.ensures.same
+    (subst (λ (n : ℕ). IsFreeChunk c.args.region.now.bytes c.args.room.at n) size (spot_front c.args.region.now.bytes c.args.room.at c.args.room.size c.requires.heap.accepted c.requires.some c.requires.room)) c.take_out.ensures.lists

@@ -12,4 +12,4 @@ neither image place None h slots fixed = nothing_at image place h slots fixed
 neither image place (Some found) h slots fixed = tt
 
 pub returns-in-None-clause-none : goal.returns-in-None-clause-none
-returns-in-None-clause-none c = neither c.args.region.now.bytes c.args.place.0 c.find_fixed.result c.requires.accepted c.in-None.ensures.none c.find_fixed.ensures.none
+returns-in-None-clause-none c = neither c.args.region.now.bytes c.args.place.0 c.find_fixed.result c.requires.heap.accepted c.in-None.ensures.none c.find_fixed.ensures.none

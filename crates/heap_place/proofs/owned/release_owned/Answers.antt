@@ -7,7 +7,7 @@ use Rattle.heap_place.proofs.LentOwners.{freed_none_lent}
 use Rattle.heap_place.proofs.owned.release_owned.Goals as goal
 
 pub loop-at-init : goal.loop-at-init
-loop-at-init c = (subst (λ n. Freeing c.args.region.now.bytes c.args.region.now.bytes c.args.owner n 0) (sym c.area_start-at.ensures) (freeing_start c.args.region.now.bytes c.args.owner c.requires.accepted), refl, c.requires.lent, c.requires.none_lent)
+loop-at-init c = (subst (λ n. Freeing c.args.region.now.bytes c.args.region.now.bytes c.args.owner n 0) (sym c.area_start-at.ensures) (freeing_start c.args.region.now.bytes c.args.owner c.requires.heap.accepted), refl, c.requires.heap, c.requires.none_lent)
 
 pub at_with_size-header-requires-clause-chunk : goal.at_with_size-header-requires-clause-chunk
 at_with_size-header-requires-clause-chunk c =
@@ -46,8 +46,8 @@ pub loop-at-preserved-in-Some : goal.loop-at-preserved-in-Some
 loop-at-preserved-in-Some c = (
   (freeing_more c.args.region.now.bytes c.loop-at.region.bytes c.release-at.new.region.bytes c.args.owner c.loop-at.at c.loop-at.count c.release-at.result c.at_with_size-header.result.0 c.in-Some.found c.loop-at.invariant.0 c.at_with_size-header.ensures.header (sym c.if_owned.ensures ∙ c.in-Some.is) c.release-at.ensures.gone c.release-at.ensures.free c.release-at.ensures.plain).0,
   c.release-at.ensures.rest ∙ ap (λ (m : Memory). record m { bytes = c.release-at.new.region.bytes }) c.loop-at.invariant.1,
-  c.release-at.ensures.lent,
-  freed_none_lent c.loop-at.region c.release-at.new.region c.args.owner c.in-Some.found c.loop-at.invariant.0.frame.accepted c.loop-at.invariant.2 c.loop-at.invariant.3 (ap (λ (m : Memory). m.lent) c.release-at.ensures.rest)
+  c.release-at.ensures.heap,
+  freed_none_lent c.loop-at.region c.release-at.new.region c.args.owner c.in-Some.found c.loop-at.invariant.0.frame.accepted c.loop-at.invariant.2.lent c.loop-at.invariant.3 (ap (λ (m : Memory). m.lents) c.release-at.ensures.rest)
       (owned_one c.loop-at.region.bytes (NoneOwned c.args.owner) c.loop-at.at c.args.owner c.at_with_size-header.result.0 c.in-Some.found c.loop-at.invariant.0.frame.accepted c.requires.some_owner c.loop-at.invariant.0.passed c.at_with_size-header.ensures.header (sym c.if_owned.ensures ∙ c.in-Some.is))
       (owned_other c.loop-at.region c.loop-at.at c.args.owner c.at_with_size-header.result.0 c.in-Some.found c.loop-at.invariant.3 (owned_one c.loop-at.region.bytes (NoneOwned c.args.owner) c.loop-at.at c.args.owner c.at_with_size-header.result.0 c.in-Some.found c.loop-at.invariant.0.frame.accepted c.requires.some_owner c.loop-at.invariant.0.passed c.at_with_size-header.ensures.header (sym c.if_owned.ensures ∙ c.in-Some.is)) c.at_with_size-header.ensures.header (sym c.if_owned.ensures ∙ c.in-Some.is))
       c.release-at.ensures.gone,
@@ -80,4 +80,4 @@ pub at_with_size-header-requires-clause-misses : goal.at_with_size-header-requir
 at_with_size-header-requires-clause-misses c =
     let p = c.loop-at.invariant.0.passed in
     let len = c.loop-at.invariant.0.frame.len in
-    walked_misses c.loop-at.region p.front c.loop-at.at c.loop-at.invariant.0.frame.accepted c.loop-at.invariant.2 p.spelled (omega arith)
+    walked_misses c.loop-at.region p.front c.loop-at.at c.loop-at.invariant.0.frame.accepted c.loop-at.invariant.2.lent p.spelled (omega arith)

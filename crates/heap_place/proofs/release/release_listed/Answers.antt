@@ -15,7 +15,7 @@ returns-clause-free c =
 
 pub returns-clause-lists : goal.returns-clause-lists
 returns-clause-lists c =
-    given_lists c.args.region.now.bytes c.release_alone-size.new.region.bytes c.push.new.region.bytes c.args.heads.now c.push.new.heads c.args.found c.requires.accepted c.requires.found c.release_alone-size.ensures.keeps c.told-heads c.push.ensures.pushed c.requires.lists
+    given_lists c.args.region.now.bytes c.release_alone-size.new.region.bytes c.push.new.region.bytes c.args.lists.now c.push.new.lists c.args.found c.requires.heap.accepted c.requires.found c.release_alone-size.ensures.keeps c.push.ensures.pushed c.requires.lists
 
 pub returns-clause-plain : goal.returns-clause-plain
 returns-clause-plain c =

@@ -2,4 +2,4 @@ use Rattle.heap_place.specs.Splices.{Looking}
 use Rattle.heap_place.proofs.splice.find_before.Given as goal
 
 abbrev pub invariant-loop : goal.invariant-loop
-invariant-loop l = Looking l.fn.region.bytes l.fn.heads l.fn.class l.here l.fn.at
+invariant-loop l = Looking l.fn.region.bytes l.fn.lists l.fn.class l.here l.fn.at

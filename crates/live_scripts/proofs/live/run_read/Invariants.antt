@@ -1,4 +1,4 @@
-use Rattle.std.proofs.Common.{◌≡◌, ◌<◌, ◌≤◌, ◌-◌, cond, drop, length, take, true, vec_len}
+use Rattle.std.proofs.Common.{[], ◌≡◌, ◌<◌, ◌≤◌, ◌-◌, cond, drop, length, take, true, vec_len}
 use Rattle.std.specs.Io.KnownBytes.{IsAtEnd, Keeps, prepend_known}
 use Rattle.script_lines.specs.Cuts.{IsUnended}
 use Rattle.live_scripts.specs.Sessions.{HasRun}
@@ -13,7 +13,7 @@ invariant-loop-is_end g l = record {
   count : l.session.count ≤ l.at;
   kept : Keeps (g.R.Read.remaining l.fn.reader) (prepend_known l.text.items (g.R.Read.remaining l.reader));
   room : 0 < length l.turn.items;
-  lent : l.store.lent ≡ l.fn.store.lent;
+  lent : l.store.lents ≡ l.fn.store.lents;
   ended : l.is_end ≡ true → IsAtEnd (g.R.Read.remaining l.reader) × IsUnended (drop l.at l.text.items);
 }
 

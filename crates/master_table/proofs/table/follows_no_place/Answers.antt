@@ -1,6 +1,7 @@
-use Rattle.std.proofs.Common.{◌≤◌, arith}
+use Rattle.std.proofs.Common.{◌≤◌, ◌-◌, arith}
 use Rattle.std.proofs.lemmas.Bool.{OnTrue_from, leb-true}
 use Rattle.heap_model.specs.Slots.{IsSlot}
+use Rattle.laws_heap.proofs.Lending.{all_misses}
 use Rattle.master_table.proofs.SlotWords.{slot_front}
 use Rattle.master_table.proofs.table.follows_no_place.Goals as goal
 
@@ -9,7 +10,7 @@ get_u32-requires c =
     let low = c.if-at-lt-SLOT_SIZE.false in
     let high = c.if-at-len.false in
     let len = c.len.ensures in
-    record { inside = omega (arith, low, high, len); misses = c.misses.ensures.0 c.if-not-misses.false }
+    record { inside = omega (arith, low, high, len); misses = all_misses c.args.region.now.lents (c.args.at - 4) 4 (c.is_whole.ensures.0 c.if-not-is_whole.false) }
 
 pub returns : goal.returns
 returns c = OnTrue_from _ (IsSlot c.args.region.now.bytes c.args.at → ⊥) (λ is slot.

@@ -8,18 +8,18 @@ use Rattle.mem_manager.proofs.counting.count_chunks.Goals as goal
 
 pub at_with_size-header-requires-clause-chunk : goal.at_with_size-header-requires-clause-chunk
 at_with_size-header-requires-clause-chunk c =
-    let chunk = passed_there c.args.region.now.bytes (AreCounted c.loop-at.counts) c.loop-at.at c.requires.accepted c.loop-at.invariant (omega arith) in
+    let chunk = passed_there c.args.region.now.bytes (AreCounted c.loop-at.counts) c.loop-at.at c.requires.heap.accepted c.loop-at.invariant (omega arith) in
     record { chunk = chunk.0; spelled = chunk.1 }
 
 pub at_with_size-header-requires-clause-misses : goal.at_with_size-header-requires-clause-misses
-at_with_size-header-requires-clause-misses c = walked_misses c.args.region.now c.loop-at.invariant.front c.loop-at.at c.requires.accepted c.requires.lent c.loop-at.invariant.spelled (omega arith)
+at_with_size-header-requires-clause-misses c = walked_misses c.args.region.now c.loop-at.invariant.front c.loop-at.at c.requires.heap.accepted c.requires.heap.lent c.loop-at.invariant.spelled (omega arith)
 
 pub with-counts-requires : goal.with-counts-requires
 with-counts-requires c =
     let within = counted_within c.args.region.now.bytes c.loop-at.counts c.loop-at.at c.loop-at.invariant in
     let size = passed_size c.args.region.now.bytes c.loop-at.at c.at_with_size-header.result.0 c.at_with_size-header.ensures.header in
     let inside = size.1 in
-    let most = c.requires.accepted.1.tiles.head.most in
+    let most = c.requires.heap.accepted.1.tiles.head.most in
     let free = free_fits c.at_with_size-header.result.0 in
     omega arith
 
@@ -29,9 +29,9 @@ loop-at-preserved c =
     (counted_more c.args.region.now.bytes c.loop-at.counts c.with-counts.result c.loop-at.at c.at_with_size-header.result.0 c.loop-at.invariant c.at_with_size-header.ensures.header c.with-counts.ensures.movable c.with-counts.ensures.fixed c.with-counts.ensures.free)
 
 pub loop-at-init : goal.loop-at-init
-loop-at-init c = subst (λ n. Passed c.args.region.now.bytes (AreCounted (record { movable = 0; fixed = 0; free = 0 })) n) (sym c.area_start-at.ensures) (passed_start c.args.region.now.bytes (AreCounted (record { movable = 0; fixed = 0; free = 0 })) c.requires.accepted (record { movable = refl; fixed = refl; free = refl }))
+loop-at-init c = subst (λ n. Passed c.args.region.now.bytes (AreCounted (record { movable = 0; fixed = 0; free = 0 })) n) (sym c.area_start-at.ensures) (passed_start c.args.region.now.bytes (AreCounted (record { movable = 0; fixed = 0; free = 0 })) c.requires.heap.accepted (record { movable = refl; fixed = refl; free = refl }))
 
 pub returns : goal.returns
 returns c =
-    let all = passed_all c.args.region.now.bytes (AreCounted c.loop-at.counts) c.loop-at.at c.requires.accepted c.loop-at.invariant (omega arith) in
+    let all = passed_all c.args.region.now.bytes (AreCounted c.loop-at.counts) c.loop-at.at c.requires.heap.accepted c.loop-at.invariant (omega arith) in
     record { size = c.len-size.ensures; slots = c.slots_total.ensures; movable = all.movable; fixed = all.fixed; free = all.free }

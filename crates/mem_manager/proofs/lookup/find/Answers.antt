@@ -2,7 +2,7 @@ use Rattle.mem_manager.proofs.Places.{refused_unknown}
 use Rattle.mem_manager.proofs.lookup.find.Goals as goal
 
 pub returns-in-Some-clause-none : goal.returns-in-Some-clause-none
-returns-in-Some-clause-none c = refused_unknown c.args.space.now.bytes c.args.name.0 c.in-Some.found c.callers.result c.requires.accepted c.in-Some.ensures.found c.callers.ensures.managers
+returns-in-Some-clause-none c = refused_unknown c.args.space.now.bytes c.args.name.0 c.in-Some.found c.callers.result c.holds.ensures.accepted c.in-Some.ensures.found c.callers.ensures.managers
 
 pub returns-then-is_fixed-clause-none : goal.returns-then-is_fixed-clause-none
-returns-then-is_fixed-clause-none c = refused_unknown c.args.space.now.bytes c.args.name.0 c.chunk.result c.callers-then-is_fixed.result c.requires.accepted c.chunk.ensures c.callers-then-is_fixed.ensures.managers
+returns-then-is_fixed-clause-none c = refused_unknown c.args.space.now.bytes c.args.name.0 c.chunk.result c.callers-then-is_fixed.result c.holds.ensures.accepted c.chunk.ensures c.callers-then-is_fixed.ensures.managers

@@ -6,7 +6,7 @@ use Rattle.store_check.proofs.names.find_same_name.Goals as goal
 
 pub loop-db-preserved : goal.loop-db-preserved
 loop-db-preserved c =
-    names_more c.args.region.now.bytes c.loop-db.seen c.add.new.set c.loop-db.db c.number_of_name-number.result (c.number_of_name-number.ensures.is ∙ ap name_number c.header_of.ensures) c.add.ensures
+    names_more c.args.region.now.bytes c.loop-db.seen c.add.new.set c.loop-db.db c.number_of_name-number.result (c.number_of_name-number.ensures.is ∙ ap name_number c.header_of.ensures) c.add.ensures.adds
     (λ bad. false≢true (c.if-has_same_name.ensures.1 bad)) c.loop-db.invariant
 
 pub returns-clause-none : goal.returns-clause-none

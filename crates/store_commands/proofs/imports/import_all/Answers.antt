@@ -13,7 +13,7 @@ loop-index-preserved g c =
     record {
       imported = imports_next c.args.store.now c.loop-index.store c.import_from.new.store c.args.files.now c.loop-index.index c.index-files-index.result c.in-Ok.field-0 c.loop-index-test.true c.index-files-index.is c.loop-index.invariant.imported does;
       accepted = does.accepted;
-      lent = ap (λ (memory : Memory). memory.lent) does.rest ∙ c.loop-index.invariant.lent;
+      lent = ap (λ (memory : Memory). memory.lents) does.rest ∙ c.loop-index.invariant.lent;
     }
 
 pub returns-in-Err-clause-why : goal.returns-in-Err-clause-why

@@ -1,11 +1,15 @@
--- The name of the loan is lent still after the call.
-use Rattle.std.proofs.Common.{sym, subst, length}
-use Rattle.heap_model.specs.Lending.{IsLent}
-use Rattle.heap_model.specs.declared.names.Name.{Name}
+-- The loan is out still after the call, and nothing is lent once it is back.
+use Rattle.std.proofs.Common.{◌∙◌, ap, refl}
+use Rattle.heap_model.specs.Memory.{Memory}
+use Rattle.palm_store.proofs.LoansBack.{still_out, all_back}
 use Rattle.test_beside.proofs.beside.reply_while_lent.Goals as goal
 
-pub put_back-requires-clause-name : goal.put_back-requires-clause-name
-put_back-requires-clause-name c =
-    let taken = c.in_ok-loan.ensures.taken in
-    let still = c.do_call-reply.ensures.does.loan c.args.name.0 (length c.in_ok-loan.loan.part.bytes) taken.is_lent in
-    subst (λ (name : Name). IsLent c.do_call-reply.new.store name.0) (sym taken.name_is) still.lent
+pub put_back-requires : goal.put_back-requires
+put_back-requires c =
+    let does = c.do_call-reply.ensures.does in
+    still_out c.args.store.now c.take_out.new.self c.do_call-reply.new.store c.args.name c.in_ok-loan.loan c.in_ok-loan.loan c.in_ok-loan.ensures.taken (ap (λ (m : Memory). m.lents) does.rest) does.loan refl refl refl
+
+pub returns : goal.returns
+returns c =
+    let does = c.do_call-reply.ensures.does in
+    all_back c.args.store.now c.take_out.new.self c.do_call-reply.new.store c.put_back.new.self c.args.name c.in_ok-loan.loan c.in_ok-loan.loan c.in_ok-loan.ensures.taken (ap (λ (m : Memory). m.lents) does.rest) does.loan refl c.put_back.ensures.back ∙ c.requires

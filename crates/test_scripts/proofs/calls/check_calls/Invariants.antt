@@ -1,6 +1,6 @@
 -- What is lent stays lent.
-use Rattle.std.proofs.Common.{◌≡◌}
+use Rattle.std.proofs.Common.{[], ◌≡◌}
 use Rattle.test_scripts.proofs.calls.check_calls.Given as goal
 
 abbrev pub invariant-loop-calls : goal.invariant-loop-calls
-invariant-loop-calls l = l.store.lent ≡ l.fn.store.lent
+invariant-loop-calls l = l.store.lents ≡ l.fn.store.lents

@@ -1,6 +1,6 @@
 -- What is lent stays lent.
-use Rattle.std.proofs.Common.{◌≡◌}
+use Rattle.std.proofs.Common.{[], ◌≡◌}
 use Rattle.test_scripts.proofs.calls.put_replies.Given as goal
 
 abbrev pub invariant-loop-call : goal.invariant-loop-call
-invariant-loop-call l = l.store.lent ≡ l.fn.store.lent
+invariant-loop-call l = l.store.lents ≡ l.fn.store.lents

@@ -1,7 +1,7 @@
 -- Nothing is lent.
-use Rattle.std.proofs.Common.{◌≡◌}
+use Rattle.std.proofs.Common.{[], ◌≡◌}
 use Rattle.std.specs.Prelude.{None}
 use Rattle.test_support.proofs.images.changed_words.Given as goal
 
 abbrev pub invariant-loop-at : goal.invariant-loop-at
-invariant-loop-at l = l.region.lent ≡ None
+invariant-loop-at l = l.region.lents ≡ []

@@ -1,7 +1,7 @@
 -- Nothing is lent.
-use Rattle.std.proofs.Common.{◌≡◌}
+use Rattle.std.proofs.Common.{[], ◌≡◌}
 use Rattle.std.specs.Prelude.{None}
 use Rattle.test_tables.proofs.large.many_tables.Given as goal
 
 abbrev pub invariant-loop-number : goal.invariant-loop-number
-invariant-loop-number l = l.region.lent ≡ None
+invariant-loop-number l = l.region.lents ≡ []

@@ -1,4 +1,5 @@
-use Rattle.std.proofs.Common.{◌≡◌, ℕ, ◌-◌, sym, subst, ap, arith}
+use Rattle.mem_manager.proofs.KnownLoans.{here_of, lent_of}
+use Rattle.std.proofs.Common.{◌≡◌, ℕ, ◌-◌, sym, subst, arith}
 use Rattle.heap_model.specs.Memory.{Memory}
 use Rattle.heap_model.specs.MemorySteps.{Does}
 use Rattle.heap_model.specs.declared.call.MemoryCall.TheVariants.{Free}
@@ -12,8 +13,6 @@ use Rattle.mem_manager.specs.Lookup.{IsSlotOrNone}
 use Rattle.mem_manager.proofs.NewChunks.{free_lent, free_database, free_locked, freed, used_freed}
 use Rattle.mem_manager.proofs.ChunkCalls.{not_the_directory}
 use Rattle.laws_heap.proofs.ExchangedNames.{freed_changes}
-use Rattle.mem_manager.proofs.KnownLoans.{here_of, lent_of_name, knows_beside, lent_apart}
-use Rattle.mem_manager.proofs.Places.{found_named}
 use Rattle.mem_manager.proofs.heap.Heap.free_found.Goals as goal
 use Rattle.mem_manager.proofs.heap.Heap.free_found.Goals.{else-found-gt0-via-then-found-gt0+else-found-lt-FIXED_LOCK, else-found-gt0-via-else-found-gt0}
 
@@ -34,7 +33,7 @@ returns-then-found-lt-FIXED_LOCK c =
     (free_locked c.self.inside.space c.args.name c.args.found c.self.invariant.0.accepted f c.requires.callers c.in_ok-check_callers.ensures.ok c.if-found-gt0.true c.if-found-lt-FIXED_LOCK.true)
 
 pub check_here-requires : goal.check_here-requires
-check_here-requires c = found_named c.self.inside.space.bytes c.args.name.0 c.args.found c.self.invariant.0.accepted (inside_too c.args.name.0 c.args.found c.self.view_is c.requires.found)
+check_here-requires c = record { found = one_of (inside_too c.args.name.0 c.args.found c.self.view_is c.requires.found) }
 
 pub give_back-requires-clause-found : goal.give_back-requires-clause-found
 give_back-requires-clause-found c = one_of (inside_too c.args.name.0 c.args.found c.self.view_is c.requires.found)
@@ -45,13 +44,10 @@ give_back-requires-clause-no_directory c = not_the_directory c.self.inside.space
 pub invariant_of-self : goal.invariant_of-self
 invariant_of-self c = (
   (let f = inside_too c.args.name.0 c.args.found c.self.view_is c.requires.found in
-      used_freed c.self.inside.space.bytes c.give_back.new.self.bytes c.self.inside.used c.used_without-self-inside.result c.args.name.0 c.forget.new.self c.self.invariant.0 (subst (λ (m : Memory). IsSlotOrNone m.bytes c.freed_slot-self-inside.result.0) c.region-2.ensures c.freed_slot-self-inside.ensures) c.used_without-self-inside.ensures.fewer
-      (subst (λ (m : Memory). NotAmong m.bytes c.used_without-self-inside.result c.args.name.0) c.region.ensures c.used_without-self-inside.ensures.apart) c.forget.ensures
+      used_freed c.self.inside.space.bytes c.give_back.new.self.bytes c.self.inside.used c.used_without-self-inside.result c.args.name.0 c.forget.new.self c.self.invariant.0 (subst (λ (m : Memory). IsSlotOrNone m.bytes c.freed_slot-self-inside.result.0) c.region-2.ensures.same c.freed_slot-self-inside.ensures) c.used_without-self-inside.ensures.fewer
+      (subst (λ (m : Memory). NotAmong m.bytes c.used_without-self-inside.result c.args.name.0) c.region.ensures.same c.used_without-self-inside.ensures.apart) c.forget.ensures
       (freed_changes c.self.inside.space.bytes c.give_back.new.self.bytes c.args.name.0 (c.args.found.place.0 - 8) f.live f.chunk c.self.invariant.0.accepted f.finds c.give_back.ensures.gone)),
-  (let f = inside_too c.args.name.0 c.args.found c.self.view_is c.requires.found in
-      knows_beside c.self.inside.space c.give_back.new.self c.self.inside.lent c.args.name.0 _ _ c.self.invariant.1 (ap (λ (m : Memory). m.lent) c.give_back.ensures.rest)
-      (freed_changes c.self.inside.space.bytes c.give_back.new.self.bytes c.args.name.0 (c.args.found.place.0 - 8) f.live f.chunk c.self.invariant.0.accepted f.finds c.give_back.ensures.gone)
-      (lent_apart c.self.inside.space c.self.inside.lent c.args.name c.args.found f c.in_ok-check_here.ensures.ok)),
+  c.give_back.ensures.heap.lent,
 )
 
 pub returns : goal.returns
@@ -63,7 +59,7 @@ returns c =
       | else-found-gt0-via-then-found-gt0+else-found-lt-FIXED_LOCK w ↦ λ some below. let not_below = w.if-found-lt-FIXED_LOCK.false in omega arith
       | else-found-gt0-via-else-found-gt0 w ↦ λ some below. let none = w.if-found-gt0.false in omega arith
     ])
-    (here_of c.self.inside.space c.self.inside.lent c.args.name c.args.found c.self.invariant.0.accepted c.self.invariant.1 (inside_too c.args.name.0 c.args.found c.self.view_is c.requires.found) c.in_ok-check_here.ensures.ok)
+    (here_of c.self.inside.space c.args.name c.args.found c.self.invariant.0.accepted (inside_too c.args.name.0 c.args.found c.self.view_is c.requires.found) c.in_ok-check_here.ensures.ok)
     (freed_changes c.self.inside.space.bytes c.give_back.new.self.bytes c.args.name.0 (c.args.found.place.0 - 8) f.live f.chunk c.self.invariant.0.accepted f.finds c.give_back.ensures.gone) c.give_back.ensures.rest)
 
 pub returns-in_err-check_here : goal.returns-in_err-check_here
@@ -75,4 +71,4 @@ returns-in_err-check_here c =
       | else-found-gt0-via-then-found-gt0+else-found-lt-FIXED_LOCK w ↦ λ some below. let not_below = w.if-found-lt-FIXED_LOCK.false in omega arith
       | else-found-gt0-via-else-found-gt0 w ↦ λ some below. let none = w.if-found-gt0.false in omega arith
     ])
-    (lent_of_name c.self.inside.space c.self.inside.lent c.args.name c.args.found c.self.invariant.1 f c.in_err-check_here.ensures.err))
+    (lent_of c.self.inside.space c.args.name c.args.found c.self.invariant.0.accepted f c.in_err-check_here.ensures.err))

@@ -1,4 +1,4 @@
-use Rattle.std.proofs.Common.{◌≡◌, ◌≢◌, ◌+◌, ◌<◌, refl, subst, ap, arith}
+use Rattle.std.proofs.Common.{◌≢◌, ◌+◌, refl, subst, arith}
 use Rattle.heap_model.specs.Memory.{Memory}
 use Rattle.heap_model.specs.MemorySteps.{Does}
 use Rattle.heap_model.specs.declared.call.MemoryCall.TheVariants.{Lock}
@@ -6,7 +6,6 @@ use Rattle.heap_model.specs.declared.call.Reply.{Reply}
 use Rattle.heap_model.specs.declared.refusal.Refusal.{Refusal}
 use Rattle.mem_manager.proofs.StepWords.{handed_on, used_altered, one_of}
 use Rattle.mem_manager.proofs.ChunkCalls.{lock_fixed, lock_full, lock_small, relock_changes, locked}
-use Rattle.mem_manager.proofs.KnownLoans.{knows_changed}
 use Rattle.mem_manager.proofs.heap.Heap.lock.Goals as goal
 
 pub returns-in_err-check_movable : goal.returns-in_err-check_movable
@@ -44,13 +43,7 @@ pub invariant_of-self : goal.invariant_of-self
 invariant_of-self c = (
   let f = c.in_ok-found.ensures.found in
       used_altered c.self.inside.space.bytes c.relock.new.self.bytes c.self.inside.used c.args.name.0 _ _ c.self.invariant.0 (relock_changes c.self.inside.space.bytes c.relock.new.self.bytes c.args.name.0 c.in_ok-found.found (c.in_ok-found.found.lock + 1) c.self.invariant.0.accepted f c.in_ok-check_movable.ensures.ok c.relock.ensures.made),
-  (let f = c.in_ok-found.ensures.found in
-      let caller = c.in_ok-found.ensures.callers in
-      let own = f.owner_is in
-      let more : 0 < c.in_ok-found.found.lock + 1 = omega arith in
-      knows_changed c.self.inside.space c.relock.new.self c.self.inside.lent c.args.name.0 c.in_ok-found.found _ c.self.invariant.0.accepted c.self.invariant.1 (ap (λ (m : Memory). m.lent) c.relock.ensures.rest) f
-      (relock_changes c.self.inside.space.bytes c.relock.new.self.bytes c.args.name.0 c.in_ok-found.found (c.in_ok-found.found.lock + 1) c.self.invariant.0.accepted f c.in_ok-check_movable.ensures.ok c.relock.ensures.made)
-      (λ none. let z : f.live.owner ≡ 0 = none in omega (arith, z, own, caller)) refl (λ locked. more)),
+  c.relock.ensures.heap.lent,
 )
 
 pub returns : goal.returns

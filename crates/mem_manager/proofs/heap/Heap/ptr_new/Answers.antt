@@ -10,8 +10,6 @@ use Rattle.heap_model.specs.declared.refusal.Refusal.{Refusal}
 use Rattle.mem_manager.proofs.StepWords.{answered, handed_on, refused}
 use Rattle.mem_manager.proofs.NewChunks.{ptr_short, ptr_made, ptr_claimed, ptr_unheld, used_ptr}
 use Rattle.mem_manager.proofs.SlidChunks.{nothing_slides, once_then, made_moves_nothing, nothing_then, one_stretch_then, itself_one}
-use Rattle.laws_heap.proofs.SlidImages.{slides_alike}
-use Rattle.mem_manager.proofs.KnownLoans.{knows_lends, knows_kept, knows_beside, lent_not_new}
 use Rattle.mem_manager.proofs.heap.Heap.ptr_new.Goals as goal
 
 pub returns-in_err-check_owner-clause-does : goal.returns-in_err-check_owner-clause-does
@@ -32,18 +30,13 @@ returns-in_err-room-clause-does c =
 pub invariant_of-self-2 : goal.invariant_of-self-2
 invariant_of-self-2 c = (
   used_ptr c.self.inside.space.bytes c.room_for.new.space.bytes c.claim_fixed-name.new.self.bytes c.self.inside.used c.in_ok-room.room.at c.in_ok-room.room.size c.args.size c.args.owner c.claim_fixed-name.result.0 c.remember.new.self c.self.invariant.0 c.claim_fixed-name.ensures.name c.remember.ensures c.in_ok-check_owner.ensures.ok c.room_for.ensures.slides c.in_ok-room.ensures.room c.in_ok-room.ensures.enough c.claim_fixed-name.ensures.made,
-  let alike = slides_alike c.self.inside.space.bytes c.room_for.new.space.bytes c.self.invariant.0.accepted c.room_for.ensures.slides in
-      let mid = knows_kept c.self.inside.space c.room_for.new.space c.self.inside.lent c.self.invariant.1 (ap (λ (m : Memory). m.lent) c.room_for.ensures.rest) alike.holds alike.stays in
-      knows_beside c.room_for.new.space c.claim_fixed-name.new.self c.self.inside.lent c.claim_fixed-name.result.0 _ _ mid (ap (λ (m : Memory). m.lent) c.claim_fixed-name.ensures.rest)
-      (ptr_claimed c.self.inside.space.bytes c.room_for.new.space.bytes c.claim_fixed-name.new.self.bytes c.in_ok-room.room.at c.in_ok-room.room.size c.args.size c.args.owner c.claim_fixed-name.result.0 c.claim_fixed-name.ensures.name c.in_ok-check_owner.ensures.ok c.room_for.ensures.slides c.in_ok-room.ensures.room c.in_ok-room.ensures.enough c.claim_fixed-name.ensures.made)
-      (lent_not_new c.room_for.new.space c.self.inside.lent c.claim_fixed-name.result.0 mid
-      (ap (held c.room_for.new.space.bytes) c.claim_fixed-name.ensures.name ∙ ptr_unheld c.self.inside.space.bytes c.room_for.new.space.bytes c.in_ok-room.room.at c.in_ok-room.room.size c.args.size c.room_for.ensures.slides c.in_ok-room.ensures.room c.in_ok-room.ensures.enough)),
+  c.claim_fixed-name.ensures.heap.lent,
 )
 
 pub returns-clause-does : goal.returns-clause-does
 returns-clause-does c =
     subst (λ (m : Memory). Does m (PtrNew c.args.size c.args.owner) (Reply.Named c.claim_fixed-name.result) c.claim_fixed-name.new.self) c.self.view_is
-    (ptr_made c.self.inside.space c.room_for.new.space c.claim_fixed-name.new.self c.args.size c.args.owner c.claim_fixed-name.result (Some (c.in_ok-room.room.at + 8)) c.self.invariant.0.accepted (knows_lends c.self.inside.space c.self.inside.lent c.self.invariant.0.accepted c.self.invariant.1) c.in_ok-check_owner.ensures.ok c.in_ok-room.ensures.not_short
+    (ptr_made c.self.inside.space c.room_for.new.space c.claim_fixed-name.new.self c.args.size c.args.owner c.claim_fixed-name.result (Some (c.in_ok-room.room.at + 8)) c.self.invariant.0.accepted c.self.invariant.1 c.in_ok-check_owner.ensures.ok c.in_ok-room.ensures.not_short
     (ap (held c.room_for.new.space.bytes) c.claim_fixed-name.ensures.name ∙ ptr_unheld c.self.inside.space.bytes c.room_for.new.space.bytes c.in_ok-room.room.at c.in_ok-room.room.size c.args.size c.room_for.ensures.slides c.in_ok-room.ensures.room c.in_ok-room.ensures.enough)
     c.room_for.ensures.slides c.room_for.ensures.rest
     (ptr_claimed c.self.inside.space.bytes c.room_for.new.space.bytes c.claim_fixed-name.new.self.bytes c.in_ok-room.room.at c.in_ok-room.room.size c.args.size c.args.owner c.claim_fixed-name.result.0 c.claim_fixed-name.ensures.name c.in_ok-check_owner.ensures.ok c.room_for.ensures.slides c.in_ok-room.ensures.room c.in_ok-room.ensures.enough c.claim_fixed-name.ensures.made)

@@ -1,4 +1,4 @@
-use Rattle.std.proofs.Common.{subst, refl, inl, ap}
+use Rattle.std.proofs.Common.{subst, refl, inl}
 use Rattle.heap_model.specs.Memory.{Memory}
 use Rattle.heap_model.specs.MemorySteps.{Does}
 use Rattle.heap_model.specs.declared.call.MemoryCall.TheVariants.{SetOwner}
@@ -7,7 +7,6 @@ use Rattle.heap_model.specs.declared.refusal.Refusal.{Refusal}
 use Rattle.mem_manager.proofs.StepWords.{refused, used_altered, with_names, one_of}
 use Rattle.mem_manager.proofs.RememberedNames.{handed_back}
 use Rattle.mem_manager.proofs.ChunkCalls.{set_owner_database, set_owner_no_caller, reown_changes, can_go_to, reowned_done}
-use Rattle.mem_manager.proofs.KnownLoans.{knows_changed}
 use Rattle.mem_manager.proofs.heap.Heap.set_owner.Goals as goal
 
 pub returns-in_err-found : goal.returns-in_err-found
@@ -38,11 +37,7 @@ pub invariant_of-self-2 : goal.invariant_of-self-2
 invariant_of-self-2 c = (
   let f = c.in_ok-found.ensures.found in
       used_altered c.self.inside.space.bytes c.reown.new.self.bytes c.self.inside.used c.args.name.0 _ _ (with_names c.self.inside.space.bytes c.self.inside.used c.find_again.new.known c.self.invariant.0 c.find_again.ensures.remembered) (reown_changes c.self.inside.space.bytes c.reown.new.self.bytes c.args.name.0 c.in_ok-found.found c.args.owner c.self.invariant.0.accepted f (can_go_to c.self.inside.space.bytes c.args.name.0 c.in_ok-found.found c.args.owner c.self.invariant.0.accepted f c.in_ok-found.ensures.callers c.in_ok-check_owner.ensures.ok) c.reown.ensures.made),
-  (let f = c.in_ok-found.ensures.found in
-      let caller = c.in_ok-check_owner.ensures.ok in
-      knows_changed c.self.inside.space c.reown.new.self c.self.inside.lent c.args.name.0 c.in_ok-found.found _ c.self.invariant.0.accepted c.self.invariant.1 (ap (λ (m : Memory). m.lent) c.reown.ensures.rest) f
-      (reown_changes c.self.inside.space.bytes c.reown.new.self.bytes c.args.name.0 c.in_ok-found.found c.args.owner c.self.invariant.0.accepted f (can_go_to c.self.inside.space.bytes c.args.name.0 c.in_ok-found.found c.args.owner c.self.invariant.0.accepted f c.in_ok-found.ensures.callers c.in_ok-check_owner.ensures.ok) c.reown.ensures.made)
-      (λ none. caller (inl none)) refl (λ locked. locked)),
+  c.reown.ensures.heap.lent,
 )
 
 pub returns : goal.returns

@@ -7,10 +7,9 @@ use Rattle.heap_model.specs.declared.refusal.Refusal.{Refusal}
 use Rattle.mem_manager.proofs.StepWords.{refused, used_altered, with_names, one_of}
 use Rattle.mem_manager.proofs.RememberedNames.{handed_back}
 use Rattle.mem_manager.proofs.ChunkCalls.{unlocked_write, write_beyond, write_changes, text_copied}
-use Rattle.mem_manager.proofs.KnownLoans.{here_of, lent_of_name, knows_changed}
 use Rattle.mem_manager.proofs.ChunkCalls.{write_lent}
-use Rattle.laws_heap.proofs.Frames.{length-overwritten}
 use Rattle.mem_manager.proofs.heap.Heap.str_copy.Goals as goal
+use Rattle.mem_manager.proofs.KnownLoans.{here_of, lent_of}
 
 pub returns-in_err-found : goal.returns-in_err-found
 returns-in_err-found c =
@@ -32,7 +31,7 @@ returns-in_err-check_ended_range c =
     let all : length (c.before_zero-part.result.now ++ 0 ∷ []) ≡ length (text_of c.args.text.now) = ap length is in
     let beyond = c.in_err-check_ended_range.ensures.err in
     handed_back (λ done. Reply.Done) c.from_residual-in_err-check_ended_range.result c.self.view_is (let e = c.from_residual-in_err-check_ended_range.ensures in (e.0, e.1)) c.in_err-check_ended_range.ensures.refusal
-    (refused c.self.inside.space (StrCopy c.args.name c.args.at c.args.text.now) Refusal.OutOfBounds c.self.invariant.0.accepted (write_beyond c.self.inside.space c.args.name c.in_ok-found.found c.args.at (length (text_of c.args.text.now)) c.self.invariant.0.accepted c.in_ok-found.ensures.found c.in_ok-found.ensures.callers c.in_ok-check_locked.ensures.ok (here_of c.self.inside.space c.self.inside.lent c.args.name c.in_ok-found.found c.self.invariant.0.accepted c.self.invariant.1 c.in_ok-found.ensures.found c.in_ok-check_here.ensures.ok) (omega arith)))
+    (refused c.self.inside.space (StrCopy c.args.name c.args.at c.args.text.now) Refusal.OutOfBounds c.self.invariant.0.accepted (write_beyond c.self.inside.space c.args.name c.in_ok-found.found c.args.at (length (text_of c.args.text.now)) c.self.invariant.0.accepted c.in_ok-found.ensures.found c.in_ok-found.ensures.callers c.in_ok-check_locked.ensures.ok (here_of c.self.inside.space c.args.name c.in_ok-found.found c.self.invariant.0.accepted c.in_ok-found.ensures.found c.in_ok-check_here.ensures.ok) (omega arith)))
 
 pub write_ended-requires-clause-found : goal.write_ended-requires-clause-found
 write_ended-requires-clause-found c = one_of c.in_ok-found.ensures.found
@@ -44,14 +43,7 @@ pub invariant_of-self-2 : goal.invariant_of-self-2
 invariant_of-self-2 c = (
   let f = c.in_ok-found.ensures.found in
       used_altered c.self.inside.space.bytes c.write_ended.new.self.bytes c.self.inside.used c.args.name.0 _ _ (with_names c.self.inside.space.bytes c.self.inside.used c.find_again.new.known c.self.invariant.0 c.find_again.ensures.remembered) (write_changes c.self.inside.space.bytes c.write_ended.new.self.bytes c.args.name.0 c.in_ok-found.found c.args.at (c.before_zero-part.result.now ++ 0 ∷ []) c.self.invariant.0.accepted f (let inside = c.in_ok-check_ended_range.ensures.ok in let some = length-append c.before_zero-part.result.now (0 ∷ []) in omega arith) c.write_ended.ensures.made),
-  (let f = c.in_ok-found.ensures.found in
-      let count = f.count in
-      let caller = c.in_ok-found.ensures.callers in
-      let own = f.owner_is in
-      let inside = c.in_ok-check_ended_range.ensures.ok in let some = length-append c.before_zero-part.result.now (0 ∷ []) in
-      knows_changed c.self.inside.space c.write_ended.new.self c.self.inside.lent c.args.name.0 c.in_ok-found.found _ c.self.invariant.0.accepted c.self.invariant.1 (ap (λ (m : Memory). m.lent) c.write_ended.ensures.rest) f
-      (write_changes c.self.inside.space.bytes c.write_ended.new.self.bytes c.args.name.0 c.in_ok-found.found c.args.at (c.before_zero-part.result.now ++ 0 ∷ []) c.self.invariant.0.accepted f (omega arith) c.write_ended.ensures.made)
-      (λ none. let z : f.live.owner ≡ 0 = none in omega (arith, z, own, caller)) (length-overwritten f.live.bytes c.args.at (c.before_zero-part.result.now ++ 0 ∷ []) (omega arith)) (λ locked. locked)),
+  c.write_ended.ensures.heap.lent,
 )
 
 pub returns : goal.returns
@@ -61,11 +53,11 @@ returns c =
     let inside = c.in_ok-check_ended_range.ensures.ok in
     let f = c.in_ok-found.ensures.found in
     subst (λ (m : Memory). Does m (StrCopy c.args.name c.args.at c.args.text.now) Reply.Done c.write_ended.new.self) c.self.view_is
-    (text_copied c.self.inside.space c.write_ended.new.self c.args.name c.in_ok-found.found c.args.at c.args.text.now (c.before_zero-part.result.now ++ 0 ∷ []) c.self.invariant.0.accepted f c.in_ok-found.ensures.callers c.in_ok-check_locked.ensures.ok (here_of c.self.inside.space c.self.inside.lent c.args.name c.in_ok-found.found c.self.invariant.0.accepted c.self.invariant.1 c.in_ok-found.ensures.found c.in_ok-check_here.ensures.ok) is (λ beyond. inside (omega arith))
+    (text_copied c.self.inside.space c.write_ended.new.self c.args.name c.in_ok-found.found c.args.at c.args.text.now (c.before_zero-part.result.now ++ 0 ∷ []) c.self.invariant.0.accepted f c.in_ok-found.ensures.callers c.in_ok-check_locked.ensures.ok (here_of c.self.inside.space c.args.name c.in_ok-found.found c.self.invariant.0.accepted c.in_ok-found.ensures.found c.in_ok-check_here.ensures.ok) is (λ beyond. inside (omega arith))
     (write_changes c.self.inside.space.bytes c.write_ended.new.self.bytes c.args.name.0 c.in_ok-found.found c.args.at (c.before_zero-part.result.now ++ 0 ∷ []) c.self.invariant.0.accepted f (let inside = c.in_ok-check_ended_range.ensures.ok in let some = length-append c.before_zero-part.result.now (0 ∷ []) in omega arith) c.write_ended.ensures.made) c.write_ended.ensures.rest)
 
 pub returns-in_err-check_here : goal.returns-in_err-check_here
 returns-in_err-check_here c =
     handed_back (λ done. Reply.Done) c.from_residual-in_err-check_here.result c.self.view_is (let e = c.from_residual-in_err-check_here.ensures in (e.0, e.1)) c.in_err-check_here.ensures.refusal
     (refused c.self.inside.space (StrCopy c.args.name c.args.at c.args.text.now) Refusal.Lent c.self.invariant.0.accepted (write_lent c.self.inside.space c.args.name c.in_ok-found.found c.args.at (length (text_of c.args.text.now)) c.self.invariant.0.accepted c.in_ok-found.ensures.found c.in_ok-found.ensures.callers c.in_ok-check_locked.ensures.ok
-    (lent_of_name c.self.inside.space c.self.inside.lent c.args.name c.in_ok-found.found c.self.invariant.1 c.in_ok-found.ensures.found c.in_err-check_here.ensures.err)))
+    (lent_of c.self.inside.space c.args.name c.in_ok-found.found c.self.invariant.0.accepted c.in_ok-found.ensures.found c.in_err-check_here.ensures.err)))

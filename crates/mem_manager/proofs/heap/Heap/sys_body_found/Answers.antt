@@ -1,19 +1,18 @@
 use Rattle.std.proofs.Common.{◌∙◌, subst}
 use Rattle.heap_model.specs.Memory.{Memory}
 use Rattle.heap_model.specs.Lending.{LendsOther}
-use Rattle.mem_manager.proofs.KnownLoans.{not_lent_other}
 use Rattle.mem_manager.proofs.StoreCalls.{found_viewed}
 use Rattle.mem_manager.proofs.StepWords.{one_of}
 use Rattle.mem_manager.proofs.StoreCalls.{found_under}
-use Rattle.mem_manager.proofs.LoanCalls.{here_inside}
 use Rattle.mem_manager.proofs.heap.Heap.sys_body_found.Goals as goal
+use Rattle.mem_manager.proofs.KnownLoans.{not_lent_other, here_inside}
 
 pub body_of-requires : goal.body_of-requires
 body_of-requires c =
     let f = found_viewed c.args.name.0 c.args.found c.self.view_is c.requires.stands in
     record {
       found = one_of c.requires.stands.is;
-      other = subst (λ (m : Memory). LendsOther m c.args.found.place.0) c.self.view_is (not_lent_other c.self.inside.space c.args.name.0 c.args.found c.self.invariant.0.accepted f (here_inside c.self.inside.space c.args.self.now c.self.inside.lent c.args.name.0 c.self.view_is c.self.invariant.0.accepted c.self.invariant.1 c.requires.here));
+      other = subst (λ (m : Memory). LendsOther m c.args.found.place.0) c.self.view_is (not_lent_other c.self.inside.space c.args.name.0 c.args.found c.self.invariant.0.accepted f (here_inside c.self.inside.space c.args.self.now c.args.name.0 c.self.view_is c.self.invariant.0.accepted c.self.invariant.1 c.requires.here));
     }
 
 pub returns : goal.returns

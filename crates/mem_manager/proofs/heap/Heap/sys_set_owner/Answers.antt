@@ -1,4 +1,4 @@
-use Rattle.std.proofs.Common.{◌≡◌, ◌≢◌, sym, subst, ap, refl, arith}
+use Rattle.std.proofs.Common.{◌≢◌, sym, subst, ap, refl}
 use Rattle.heap_model.specs.Memory.{Memory}
 use Rattle.heap_model.specs.Heap.{directory_of}
 use Rattle.heap_model.specs.Maps.{reowned}
@@ -7,7 +7,6 @@ use Rattle.heap_model.specs.Leaving.{Leaves}
 use Rattle.mem_manager.proofs.ChunkCalls.{reown_changes}
 use Rattle.mem_manager.proofs.StepWords.{used_altered, altered}
 use Rattle.mem_manager.proofs.StoreCalls.{may_go_to, movable_there, movable_loose, movable_viewed}
-use Rattle.mem_manager.proofs.KnownLoans.{knows_changed}
 use Rattle.heap_model.specs.Lending.{KeepsLoan}
 use Rattle.mem_manager.proofs.KeptLoans.{keeps_changed}
 use Rattle.mem_manager.proofs.heap.Heap.sys_set_owner.Goals as goal
@@ -23,12 +22,7 @@ invariant_of-self c = (
       (reown_changes c.self.inside.space.bytes c.reown.new.self.bytes c.args.name.0 c.movable-found.result c.args.owner c.self.invariant.0.accepted c.movable-found.ensures
       (may_go_to c.self.inside.space.bytes c.args.name.0 c.movable-found.result c.args.owner c.self.invariant.0.accepted c.movable-found.ensures (movable_viewed c.args.name.0 c.self.view_is c.requires.movable)
       (subst (λ (m : Memory). c.args.name.0 ≢ directory_of m.bytes) (sym c.self.view_is) c.requires.no_directory) c.requires.some_owner c.requires.most_owner) c.reown.ensures.made),
-  (let some = c.requires.some_owner in
-      knows_changed c.self.inside.space c.reown.new.self c.self.inside.lent c.args.name.0 c.movable-found.result _ c.self.invariant.0.accepted c.self.invariant.1 (ap (λ (m : Memory). m.lent) c.reown.ensures.rest) c.movable-found.ensures
-      (reown_changes c.self.inside.space.bytes c.reown.new.self.bytes c.args.name.0 c.movable-found.result c.args.owner c.self.invariant.0.accepted c.movable-found.ensures
-      (may_go_to c.self.inside.space.bytes c.args.name.0 c.movable-found.result c.args.owner c.self.invariant.0.accepted c.movable-found.ensures (movable_viewed c.args.name.0 c.self.view_is c.requires.movable)
-      (subst (λ (m : Memory). c.args.name.0 ≢ directory_of m.bytes) (sym c.self.view_is) c.requires.no_directory) c.requires.some_owner c.requires.most_owner) c.reown.ensures.made)
-      (λ none. let z : c.args.owner ≡ 0 = none in omega (arith, z, some)) refl (λ locked. locked)),
+  c.reown.ensures.heap.lent,
 )
 
 pub returns-clause-leaves : goal.returns-clause-leaves
@@ -48,7 +42,7 @@ movable-found-requires-clause-movable c = movable_loose c.self.inside.space.byte
 pub returns-clause-loan : goal.returns-clause-loan
 returns-clause-loan c =
     subst (λ (m : Memory). KeepsLoan m c.reown.new.self) c.self.view_is
-    (keeps_changed c.self.inside.space c.reown.new.self c.args.name.0 c.movable-found.result _ c.self.invariant.0.accepted (ap (λ (m : Memory). m.lent) c.reown.ensures.rest) c.movable-found.ensures
+    (keeps_changed c.self.inside.space c.reown.new.self c.args.name.0 c.movable-found.result _ c.self.invariant.0.accepted (ap (λ (m : Memory). m.lents) c.reown.ensures.rest) c.movable-found.ensures
     (reown_changes c.self.inside.space.bytes c.reown.new.self.bytes c.args.name.0 c.movable-found.result c.args.owner c.self.invariant.0.accepted c.movable-found.ensures
     (may_go_to c.self.inside.space.bytes c.args.name.0 c.movable-found.result c.args.owner c.self.invariant.0.accepted c.movable-found.ensures (movable_viewed c.args.name.0 c.self.view_is c.requires.movable)
     (subst (λ (m : Memory). c.args.name.0 ≢ directory_of m.bytes) (sym c.self.view_is) c.requires.no_directory) c.requires.some_owner c.requires.most_owner) c.reown.ensures.made)

@@ -1,12 +1,11 @@
 use Rattle.std.proofs.Common.{subst, ap, ◌+◌}
 use Rattle.mem_manager.proofs.StepWords.{used_altered}
 use Rattle.mem_manager.proofs.StoreCalls.{within_viewed, slide_changes, slid_viewed, found_viewed, stands_slid}
-use Rattle.mem_manager.proofs.KnownLoans.{not_lent_other, here_apart, knows_beside}
 use Rattle.heap_model.specs.Memory.{Memory}
 use Rattle.heap_model.specs.Lending.{KeepsLoan}
 use Rattle.mem_manager.proofs.KeptLoans.{keeps_others}
-use Rattle.mem_manager.proofs.LoanCalls.{here_inside}
 use Rattle.mem_manager.proofs.heap.Heap.sys_slide.Goals as goal
+use Rattle.mem_manager.proofs.KnownLoans.{not_lent_other, here_inside}
 
 pub slide_within-requires-clause-from_within : goal.slide_within-requires-clause-from_within
 slide_within-requires-clause-from_within c = within_viewed c.self.inside.space c.args.self.now c.args.name.0 c.args.found (c.args.from + c.args.count) c.self.view_is c.self.invariant.0.accepted (found_viewed c.args.name.0 c.args.found c.self.view_is c.requires.stands) c.requires.from_within
@@ -20,9 +19,7 @@ invariant_of-self c = (
       (slide_changes c.self.inside.space.bytes c.slide_within.new.self.bytes c.args.name.0 c.args.found c.args.from c.args.to c.args.count c.self.invariant.0.accepted (found_viewed c.args.name.0 c.args.found c.self.view_is c.requires.stands)
       (within_viewed c.self.inside.space c.args.self.now c.args.name.0 c.args.found (c.args.from + c.args.count) c.self.view_is c.self.invariant.0.accepted (found_viewed c.args.name.0 c.args.found c.self.view_is c.requires.stands) c.requires.from_within)
       (within_viewed c.self.inside.space c.args.self.now c.args.name.0 c.args.found (c.args.to + c.args.count) c.self.view_is c.self.invariant.0.accepted (found_viewed c.args.name.0 c.args.found c.self.view_is c.requires.stands) c.requires.to_within) c.slide_within.ensures.made),
-  knows_beside c.self.inside.space c.slide_within.new.self c.self.inside.lent c.args.name.0 _ _ c.self.invariant.1 (ap (λ (m : Memory). m.lent) c.slide_within.ensures.rest)
-      (slide_changes c.self.inside.space.bytes c.slide_within.new.self.bytes c.args.name.0 c.args.found c.args.from c.args.to c.args.count c.self.invariant.0.accepted (found_viewed c.args.name.0 c.args.found c.self.view_is c.requires.stands) (within_viewed c.self.inside.space c.args.self.now c.args.name.0 c.args.found (c.args.from + c.args.count) c.self.view_is c.self.invariant.0.accepted (found_viewed c.args.name.0 c.args.found c.self.view_is c.requires.stands) c.requires.from_within) (within_viewed c.self.inside.space c.args.self.now c.args.name.0 c.args.found (c.args.to + c.args.count) c.self.view_is c.self.invariant.0.accepted (found_viewed c.args.name.0 c.args.found c.self.view_is c.requires.stands) c.requires.to_within) c.slide_within.ensures.made)
-      (here_apart c.self.inside.space c.self.inside.lent c.args.name.0 c.self.invariant.1 (here_inside c.self.inside.space c.args.self.now c.self.inside.lent c.args.name.0 c.self.view_is c.self.invariant.0.accepted c.self.invariant.1 c.requires.here)),
+  c.slide_within.ensures.heap.lent,
 )
 
 pub returns-clause-leaves : goal.returns-clause-leaves
@@ -37,13 +34,13 @@ returns-clause-stands c =
     stands_slid c.self.inside.space.bytes c.slide_within.new.self.bytes c.args.name.0 c.args.found c.args.from c.args.to c.args.count c.self.invariant.0.accepted f c.requires.stands.movable from_within to_within c.slide_within.ensures.made
 
 pub slide_within-requires-clause-other : goal.slide_within-requires-clause-other
-slide_within-requires-clause-other c = not_lent_other c.self.inside.space c.args.name.0 c.args.found c.self.invariant.0.accepted (found_viewed c.args.name.0 c.args.found c.self.view_is c.requires.stands) (here_inside c.self.inside.space c.args.self.now c.self.inside.lent c.args.name.0 c.self.view_is c.self.invariant.0.accepted c.self.invariant.1 c.requires.here)
+slide_within-requires-clause-other c = not_lent_other c.self.inside.space c.args.name.0 c.args.found c.self.invariant.0.accepted (found_viewed c.args.name.0 c.args.found c.self.view_is c.requires.stands) (here_inside c.self.inside.space c.args.self.now c.args.name.0 c.self.view_is c.self.invariant.0.accepted c.self.invariant.1 c.requires.here)
 
 pub returns-clause-loan : goal.returns-clause-loan
 returns-clause-loan c =
     subst (λ (m : Memory). KeepsLoan m c.slide_within.new.self) c.self.view_is
-    (keeps_others c.self.inside.space c.slide_within.new.self c.args.name.0 _ _ (ap (λ (m : Memory). m.lent) c.slide_within.ensures.rest)
+    (keeps_others c.self.inside.space c.slide_within.new.self c.args.name.0 _ _ (ap (λ (m : Memory). m.lents) c.slide_within.ensures.rest)
     (slide_changes c.self.inside.space.bytes c.slide_within.new.self.bytes c.args.name.0 c.args.found c.args.from c.args.to c.args.count c.self.invariant.0.accepted (found_viewed c.args.name.0 c.args.found c.self.view_is c.requires.stands)
     (within_viewed c.self.inside.space c.args.self.now c.args.name.0 c.args.found (c.args.from + c.args.count) c.self.view_is c.self.invariant.0.accepted (found_viewed c.args.name.0 c.args.found c.self.view_is c.requires.stands) c.requires.from_within)
     (within_viewed c.self.inside.space c.args.self.now c.args.name.0 c.args.found (c.args.to + c.args.count) c.self.view_is c.self.invariant.0.accepted (found_viewed c.args.name.0 c.args.found c.self.view_is c.requires.stands) c.requires.to_within) c.slide_within.ensures.made)
-    (here_inside c.self.inside.space c.args.self.now c.self.inside.lent c.args.name.0 c.self.view_is c.self.invariant.0.accepted c.self.invariant.1 c.requires.here))
+    (here_inside c.self.inside.space c.args.self.now c.args.name.0 c.self.view_is c.self.invariant.0.accepted c.self.invariant.1 c.requires.here))

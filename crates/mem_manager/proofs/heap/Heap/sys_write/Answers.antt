@@ -8,11 +8,10 @@ use Rattle.heap_model.specs.Leaving.{Leaves}
 use Rattle.laws_heap.proofs.Frames.{length-overwritten}
 use Rattle.mem_manager.proofs.StepWords.{used_altered, stays_in_place, altered}
 use Rattle.mem_manager.proofs.StoreCalls.{within_viewed, write_viewed, found_viewed, stands_written}
-use Rattle.mem_manager.proofs.KnownLoans.{not_lent_other, here_apart, knows_beside}
 use Rattle.heap_model.specs.Lending.{KeepsLoan}
 use Rattle.mem_manager.proofs.KeptLoans.{keeps_others}
-use Rattle.mem_manager.proofs.LoanCalls.{here_inside}
 use Rattle.mem_manager.proofs.heap.Heap.sys_write.Goals as goal
+use Rattle.mem_manager.proofs.KnownLoans.{not_lent_other, here_inside}
 
 pub write-requires-clause-within : goal.write-requires-clause-within
 write-requires-clause-within c = within_viewed c.self.inside.space c.args.self.now c.args.name.0 c.args.found (c.args.at + length c.args.bytes.now) c.self.view_is c.self.invariant.0.accepted (found_viewed c.args.name.0 c.args.found c.self.view_is c.requires.stands) c.requires.within
@@ -21,9 +20,7 @@ pub invariant_of-self : goal.invariant_of-self
 invariant_of-self c = (
   used_altered c.self.inside.space.bytes c.write.new.self.bytes c.self.inside.used c.args.name.0 _ _ c.self.invariant.0
       (write_viewed c.self.inside.space c.args.self.now c.write.new.self.bytes c.args.name.0 c.args.found c.args.at c.args.bytes.now c.self.view_is c.self.invariant.0.accepted (found_viewed c.args.name.0 c.args.found c.self.view_is c.requires.stands) c.requires.within c.write.ensures.made),
-  knows_beside c.self.inside.space c.write.new.self c.self.inside.lent c.args.name.0 _ _ c.self.invariant.1 (ap (λ (m : Memory). m.lent) c.write.ensures.rest)
-      (write_viewed c.self.inside.space c.args.self.now c.write.new.self.bytes c.args.name.0 c.args.found c.args.at c.args.bytes.now c.self.view_is c.self.invariant.0.accepted (found_viewed c.args.name.0 c.args.found c.self.view_is c.requires.stands) c.requires.within c.write.ensures.made)
-      (here_apart c.self.inside.space c.self.inside.lent c.args.name.0 c.self.invariant.1 (here_inside c.self.inside.space c.args.self.now c.self.inside.lent c.args.name.0 c.self.view_is c.self.invariant.0.accepted c.self.invariant.1 c.requires.here)),
+  c.write.ensures.heap.lent,
 )
 
 pub returns-clause-leaves : goal.returns-clause-leaves
@@ -47,11 +44,11 @@ returns-clause-stands c =
     (write_viewed c.self.inside.space c.args.self.now c.write.new.self.bytes c.args.name.0 c.args.found c.args.at c.args.bytes.now c.self.view_is c.self.invariant.0.accepted f c.requires.within c.write.ensures.made)
 
 pub write-requires-clause-other : goal.write-requires-clause-other
-write-requires-clause-other c = not_lent_other c.self.inside.space c.args.name.0 c.args.found c.self.invariant.0.accepted (found_viewed c.args.name.0 c.args.found c.self.view_is c.requires.stands) (here_inside c.self.inside.space c.args.self.now c.self.inside.lent c.args.name.0 c.self.view_is c.self.invariant.0.accepted c.self.invariant.1 c.requires.here)
+write-requires-clause-other c = not_lent_other c.self.inside.space c.args.name.0 c.args.found c.self.invariant.0.accepted (found_viewed c.args.name.0 c.args.found c.self.view_is c.requires.stands) (here_inside c.self.inside.space c.args.self.now c.args.name.0 c.self.view_is c.self.invariant.0.accepted c.self.invariant.1 c.requires.here)
 
 pub returns-clause-loan : goal.returns-clause-loan
 returns-clause-loan c =
     subst (λ (m : Memory). KeepsLoan m c.write.new.self) c.self.view_is
-    (keeps_others c.self.inside.space c.write.new.self c.args.name.0 _ _ (ap (λ (m : Memory). m.lent) c.write.ensures.rest)
+    (keeps_others c.self.inside.space c.write.new.self c.args.name.0 _ _ (ap (λ (m : Memory). m.lents) c.write.ensures.rest)
     (write_viewed c.self.inside.space c.args.self.now c.write.new.self.bytes c.args.name.0 c.args.found c.args.at c.args.bytes.now c.self.view_is c.self.invariant.0.accepted (found_viewed c.args.name.0 c.args.found c.self.view_is c.requires.stands) c.requires.within c.write.ensures.made)
-    (here_inside c.self.inside.space c.args.self.now c.self.inside.lent c.args.name.0 c.self.view_is c.self.invariant.0.accepted c.self.invariant.1 c.requires.here))
+    (here_inside c.self.inside.space c.args.self.now c.args.name.0 c.self.view_is c.self.invariant.0.accepted c.self.invariant.1 c.requires.here))

@@ -1,13 +1,13 @@
-use Rattle.std.proofs.Common.{◌-◌, refl, subst, ap, arith}
+use Rattle.std.proofs.Common.{◌-◌, refl, subst, arith}
 use Rattle.heap_model.specs.Memory.{Memory}
 use Rattle.heap_model.specs.MemorySteps.{Does}
 use Rattle.heap_model.specs.declared.call.MemoryCall.TheVariants.{Unlock}
 use Rattle.heap_model.specs.declared.call.Reply.{Reply}
 use Rattle.mem_manager.proofs.StepWords.{handed_on, used_altered, one_of}
 use Rattle.mem_manager.proofs.ChunkCalls.{unlock_fixed, unlock_none, lock_small, relock_changes, unlocked}
-use Rattle.mem_manager.proofs.KnownLoans.{here_of, lent_of_name, knows_beside, lent_apart}
 use Rattle.mem_manager.proofs.ChunkCalls.{unlock_lent}
 use Rattle.mem_manager.proofs.heap.Heap.unlock.Goals as goal
+use Rattle.mem_manager.proofs.KnownLoans.{here_of, lent_of}
 
 pub returns-in_err-check_movable : goal.returns-in_err-check_movable
 returns-in_err-check_movable c =
@@ -38,20 +38,17 @@ pub invariant_of-self : goal.invariant_of-self
 invariant_of-self c = (
   let f = c.in_ok-found.ensures.found in
       used_altered c.self.inside.space.bytes c.relock.new.self.bytes c.self.inside.used c.args.name.0 _ _ c.self.invariant.0 (relock_changes c.self.inside.space.bytes c.relock.new.self.bytes c.args.name.0 c.in_ok-found.found (c.in_ok-found.found.lock - 1) c.self.invariant.0.accepted f c.in_ok-check_movable.ensures.ok c.relock.ensures.made),
-  (let f = c.in_ok-found.ensures.found in
-      knows_beside c.self.inside.space c.relock.new.self c.self.inside.lent c.args.name.0 _ _ c.self.invariant.1 (ap (λ (m : Memory). m.lent) c.relock.ensures.rest)
-      (relock_changes c.self.inside.space.bytes c.relock.new.self.bytes c.args.name.0 c.in_ok-found.found (c.in_ok-found.found.lock - 1) c.self.invariant.0.accepted f c.in_ok-check_movable.ensures.ok c.relock.ensures.made)
-      (lent_apart c.self.inside.space c.self.inside.lent c.args.name c.in_ok-found.found f c.in_ok-check_here.ensures.ok)),
+  c.relock.ensures.heap.lent,
 )
 
 pub returns : goal.returns
 returns c =
     let f = c.in_ok-found.ensures.found in
     subst (λ (m : Memory). Does m (Unlock c.args.name) (Reply.Number (c.in_ok-found.found.lock - 1)) c.relock.new.self) c.self.view_is
-    (unlocked c.self.inside.space c.relock.new.self c.args.name c.in_ok-found.found (c.in_ok-found.found.lock - 1) c.self.invariant.0.accepted f c.in_ok-found.ensures.callers c.in_ok-check_movable.ensures.ok c.in_ok-check_locked.ensures.ok (here_of c.self.inside.space c.self.inside.lent c.args.name c.in_ok-found.found c.self.invariant.0.accepted c.self.invariant.1 c.in_ok-found.ensures.found c.in_ok-check_here.ensures.ok) refl (relock_changes c.self.inside.space.bytes c.relock.new.self.bytes c.args.name.0 c.in_ok-found.found (c.in_ok-found.found.lock - 1) c.self.invariant.0.accepted f c.in_ok-check_movable.ensures.ok c.relock.ensures.made) c.relock.ensures.rest)
+    (unlocked c.self.inside.space c.relock.new.self c.args.name c.in_ok-found.found (c.in_ok-found.found.lock - 1) c.self.invariant.0.accepted f c.in_ok-found.ensures.callers c.in_ok-check_movable.ensures.ok c.in_ok-check_locked.ensures.ok (here_of c.self.inside.space c.args.name c.in_ok-found.found c.self.invariant.0.accepted c.in_ok-found.ensures.found c.in_ok-check_here.ensures.ok) refl (relock_changes c.self.inside.space.bytes c.relock.new.self.bytes c.args.name.0 c.in_ok-found.found (c.in_ok-found.found.lock - 1) c.self.invariant.0.accepted f c.in_ok-check_movable.ensures.ok c.relock.ensures.made) c.relock.ensures.rest)
 
 pub returns-in_err-check_here : goal.returns-in_err-check_here
 returns-in_err-check_here c =
     handed_on (λ count. Reply.Number count) c.from_residual-in_err-check_here.result c.self.view_is (let e = c.from_residual-in_err-check_here.ensures in (e.0, e.1)) c.in_err-check_here.ensures.refusal
     (unlock_lent c.self.inside.space c.args.name c.in_ok-found.found c.self.invariant.0.accepted c.in_ok-found.ensures.found c.in_ok-found.ensures.callers c.in_ok-check_movable.ensures.ok c.in_ok-check_locked.ensures.ok
-    (lent_of_name c.self.inside.space c.self.inside.lent c.args.name c.in_ok-found.found c.self.invariant.1 c.in_ok-found.ensures.found c.in_err-check_here.ensures.err))
+    (lent_of c.self.inside.space c.args.name c.in_ok-found.found c.self.invariant.0.accepted c.in_ok-found.ensures.found c.in_err-check_here.ensures.err))

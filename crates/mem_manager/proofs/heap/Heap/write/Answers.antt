@@ -1,4 +1,4 @@
-use Rattle.std.proofs.Common.{length, subst, arith, refl, inl, ap, ◌≡◌}
+use Rattle.std.proofs.Common.{length, subst, arith, refl, inl}
 use Rattle.heap_model.specs.Memory.{Memory}
 use Rattle.heap_model.specs.MemorySteps.{Does}
 use Rattle.heap_model.specs.declared.call.MemoryCall.TheVariants.{Write}
@@ -8,9 +8,8 @@ use Rattle.mem_manager.proofs.StepWords.{refused, used_altered, with_names, one_
 use Rattle.mem_manager.proofs.RememberedNames.{handed_back}
 use Rattle.mem_manager.proofs.ChunkCalls.{unlocked_write, write_beyond, write_changes, wrote}
 use Rattle.mem_manager.proofs.ChunkCalls.{write_lent}
-use Rattle.mem_manager.proofs.KnownLoans.{here_of, lent_of_name, knows_changed}
-use Rattle.laws_heap.proofs.Frames.{length-overwritten}
 use Rattle.mem_manager.proofs.heap.Heap.write.Goals as goal
+use Rattle.mem_manager.proofs.KnownLoans.{here_of, lent_of}
 
 pub returns-in_err-found : goal.returns-in_err-found
 returns-in_err-found c =
@@ -28,7 +27,7 @@ returns-in_err-check_locked c =
 pub returns-in_err-check_range : goal.returns-in_err-check_range
 returns-in_err-check_range c =
     handed_back (λ done. Reply.Done) c.from_residual-in_err-check_range.result c.self.view_is (let e = c.from_residual-in_err-check_range.ensures in (e.0, e.1)) c.in_err-check_range.ensures.refusal
-    (refused c.self.inside.space (Write c.args.name c.args.at c.args.bytes.now) Refusal.OutOfBounds c.self.invariant.0.accepted (write_beyond c.self.inside.space c.args.name c.in_ok-found.found c.args.at (length c.args.bytes.now) c.self.invariant.0.accepted c.in_ok-found.ensures.found c.in_ok-found.ensures.callers c.in_ok-check_locked.ensures.ok (here_of c.self.inside.space c.self.inside.lent c.args.name c.in_ok-found.found c.self.invariant.0.accepted c.self.invariant.1 c.in_ok-found.ensures.found c.in_ok-check_here.ensures.ok) c.in_err-check_range.ensures.err))
+    (refused c.self.inside.space (Write c.args.name c.args.at c.args.bytes.now) Refusal.OutOfBounds c.self.invariant.0.accepted (write_beyond c.self.inside.space c.args.name c.in_ok-found.found c.args.at (length c.args.bytes.now) c.self.invariant.0.accepted c.in_ok-found.ensures.found c.in_ok-found.ensures.callers c.in_ok-check_locked.ensures.ok (here_of c.self.inside.space c.args.name c.in_ok-found.found c.self.invariant.0.accepted c.in_ok-found.ensures.found c.in_ok-check_here.ensures.ok) c.in_err-check_range.ensures.err))
 
 pub write-requires-clause-found : goal.write-requires-clause-found
 write-requires-clause-found c = one_of c.in_ok-found.ensures.found
@@ -40,24 +39,17 @@ pub invariant_of-self-2 : goal.invariant_of-self-2
 invariant_of-self-2 c = (
   let f = c.in_ok-found.ensures.found in
       used_altered c.self.inside.space.bytes c.write.new.self.bytes c.self.inside.used c.args.name.0 _ _ (with_names c.self.inside.space.bytes c.self.inside.used c.find_again.new.known c.self.invariant.0 c.find_again.ensures.remembered) (write_changes c.self.inside.space.bytes c.write.new.self.bytes c.args.name.0 c.in_ok-found.found c.args.at c.args.bytes.now c.self.invariant.0.accepted f (let inside = c.in_ok-check_range.ensures.ok in omega arith) c.write.ensures.made),
-  (let f = c.in_ok-found.ensures.found in
-      let within = c.in_ok-check_range.ensures.ok in
-      let count = f.count in
-      let caller = c.in_ok-found.ensures.callers in
-      let own = f.owner_is in
-      knows_changed c.self.inside.space c.write.new.self c.self.inside.lent c.args.name.0 c.in_ok-found.found _ c.self.invariant.0.accepted c.self.invariant.1 (ap (λ (m : Memory). m.lent) c.write.ensures.rest) f
-      (write_changes c.self.inside.space.bytes c.write.new.self.bytes c.args.name.0 c.in_ok-found.found c.args.at c.args.bytes.now c.self.invariant.0.accepted f (omega (arith, within)) c.write.ensures.made)
-      (λ none. let z : f.live.owner ≡ 0 = none in omega (arith, z, own, caller)) (length-overwritten f.live.bytes c.args.at c.args.bytes.now (omega (arith, within, count))) (λ locked. locked)),
+  c.write.ensures.heap.lent,
 )
 
 pub returns : goal.returns
 returns c =
     let f = c.in_ok-found.ensures.found in
     subst (λ (m : Memory). Does m (Write c.args.name c.args.at c.args.bytes.now) Reply.Done c.write.new.self) c.self.view_is
-    (wrote c.self.inside.space c.write.new.self c.args.name c.in_ok-found.found c.args.at c.args.bytes.now c.self.invariant.0.accepted f c.in_ok-found.ensures.callers c.in_ok-check_locked.ensures.ok (here_of c.self.inside.space c.self.inside.lent c.args.name c.in_ok-found.found c.self.invariant.0.accepted c.self.invariant.1 c.in_ok-found.ensures.found c.in_ok-check_here.ensures.ok) c.in_ok-check_range.ensures.ok (write_changes c.self.inside.space.bytes c.write.new.self.bytes c.args.name.0 c.in_ok-found.found c.args.at c.args.bytes.now c.self.invariant.0.accepted f (let inside = c.in_ok-check_range.ensures.ok in omega arith) c.write.ensures.made) c.write.ensures.rest)
+    (wrote c.self.inside.space c.write.new.self c.args.name c.in_ok-found.found c.args.at c.args.bytes.now c.self.invariant.0.accepted f c.in_ok-found.ensures.callers c.in_ok-check_locked.ensures.ok (here_of c.self.inside.space c.args.name c.in_ok-found.found c.self.invariant.0.accepted c.in_ok-found.ensures.found c.in_ok-check_here.ensures.ok) c.in_ok-check_range.ensures.ok (write_changes c.self.inside.space.bytes c.write.new.self.bytes c.args.name.0 c.in_ok-found.found c.args.at c.args.bytes.now c.self.invariant.0.accepted f (let inside = c.in_ok-check_range.ensures.ok in omega arith) c.write.ensures.made) c.write.ensures.rest)
 
 pub returns-in_err-check_here : goal.returns-in_err-check_here
 returns-in_err-check_here c =
     handed_back (λ done. Reply.Done) c.from_residual-in_err-check_here.result c.self.view_is (let e = c.from_residual-in_err-check_here.ensures in (e.0, e.1)) c.in_err-check_here.ensures.refusal
     (refused c.self.inside.space (Write c.args.name c.args.at c.args.bytes.now) Refusal.Lent c.self.invariant.0.accepted (write_lent c.self.inside.space c.args.name c.in_ok-found.found c.args.at (length c.args.bytes.now) c.self.invariant.0.accepted c.in_ok-found.ensures.found c.in_ok-found.ensures.callers c.in_ok-check_locked.ensures.ok
-    (lent_of_name c.self.inside.space c.self.inside.lent c.args.name c.in_ok-found.found c.self.invariant.1 c.in_ok-found.ensures.found c.in_err-check_here.ensures.err)))
+    (lent_of c.self.inside.space c.args.name c.in_ok-found.found c.self.invariant.0.accepted c.in_ok-found.ensures.found c.in_err-check_here.ensures.err)))

@@ -10,5 +10,5 @@ returns-then-found-ne-FIXED_LOCK c = λ some.
     let image = c.args.region.now.bytes in
     let name = c.args.found.name.0 in
     let f = c.requires.found in
-    let m : IsMovable image name = record { live = f.live; is_held = name_held image name c.args.found c.requires.accepted f; movable = λ fixed. c.if-found-ne-FIXED_LOCK.true (f.lock_is ∙ fixed) } in
-    (movable_holds_place image name c.requires.accepted (movable_there image name m) (movable_loose image name m)).is_slot
+    let m : IsMovable image name = record { live = f.live; is_held = name_held image name c.args.found c.requires.heap.accepted f; movable = λ fixed. c.if-found-ne-FIXED_LOCK.true (f.lock_is ∙ fixed) } in
+    (movable_holds_place image name c.requires.heap.accepted (movable_there image name m) (movable_loose image name m)).is_slot

@@ -14,24 +14,24 @@ pub returns-then-not-is_chained-clause-one_stretch : goal.returns-then-not-is_ch
 returns-then-not-is_chained-clause-one_stretch c = itself_one c.args.space.now.bytes
 
 pub returns-then-not-is_chained-clause-once : goal.returns-then-not-is_chained-clause-once
-returns-then-not-is_chained-clause-once c = nothing_slides c.args.space.now c.requires.accepted
+returns-then-not-is_chained-clause-once c = nothing_slides c.args.space.now c.holds.ensures.accepted
 
 pub returns-in_err-room-clause-does : goal.returns-in_err-room-clause-does
 returns-in_err-room-clause-does c =
     subst (λ (m : Memory). Does c.args.space.now MoreSlots (reply_of (λ done. Reply.Done) c.from_residual.result) m) (sym c.in_err-room.ensures.refused)
     (answered (λ done. Reply.Done) c.from_residual.result (let e = c.from_residual.ensures in (e.0, e.1)) c.in_err-room.ensures.refusal
-    (more_refused c.args.space.now c.requires.accepted (inr c.in_err-room.ensures.short)))
+    (more_refused c.args.space.now c.holds.ensures.accepted (inr c.in_err-room.ensures.short)))
 
 pub returns-clause-does : goal.returns-clause-does
 returns-clause-does c =
-    let chained : is_chained c.args.space.now.bytes ≡ true = ap (λ (m : Memory). is_chained m.bytes) (sym c.region.ensures) ∙ sym c.is_chained.ensures ∙ c.if-not-is_chained.false in
-    more_made c.args.space.now c.room_for.new.space c.claim_table.new.self (c.in_ok-room.room.at + 8) c.requires.accepted c.requires.lent
+    let chained : is_chained c.args.space.now.bytes ≡ true = ap (λ (m : Memory). is_chained m.bytes) (sym c.region.ensures.same) ∙ sym c.is_chained.ensures ∙ c.if-not-is_chained.false in
+    more_made c.args.space.now c.room_for.new.space c.claim_table.new.self (c.in_ok-room.room.at + 8) c.holds.ensures.accepted c.holds.ensures.lent
     (λ none. elim none [ inl plain ↦ false≢true (sym plain ∙ chained) | inr short ↦ c.in_ok-room.ensures.not_short short ])
     c.room_for.ensures.slides c.room_for.ensures.rest c.claim_table.ensures.made c.claim_table.ensures.rest
 
 pub returns-clause-one_stretch : goal.returns-clause-one_stretch
 returns-clause-one_stretch c =
-    one_stretch_then c.args.space.now.bytes c.room_for.new.space.bytes c.claim_table.new.self.bytes c.requires.accepted c.room_for.ensures.slides
+    one_stretch_then c.args.space.now.bytes c.room_for.new.space.bytes c.claim_table.new.self.bytes c.holds.ensures.accepted c.room_for.ensures.slides
     (puts_move_nothing c.room_for.new.space.bytes c.claim_table.new.self.bytes (c.in_ok-room.room.at + 8) c.claim_table.ensures.made)
 
 pub returns-clause-once : goal.returns-clause-once

@@ -1,30 +1,33 @@
--- One name alone is lent.
-use Rattle.std.proofs.Common.{◌≡◌, refl, sym, ap, subst, ◌∙◌, arith, rules, ℕ, List, length, false, below_more}
+-- The slots of a database are asked in turn. If nothing is lent, none is asked.
+use Rattle.std.proofs.Common.{◌≡◌, refl, sym, ap, subst, ◌∙◌, arith, ℕ, List, length, false, below_more}
 use Rattle.std.proofs.lemmas.Bool.{both_ways}
 use Rattle.heap_model.specs.Database.{database_in, data_in}
 use Rattle.heap_model.specs.Lending.{IsLent}
 use Rattle.palm_store.specs.Databases.{named_under}
 use Rattle.palm_store.proofs.Loans.{none_lent}
-use Rattle.palm_store.proofs.NamedChunks.{named_at, any_at, none_of}
+use Rattle.palm_store.proofs.NamedChunks.{named_at, slot_movable, any_at, none_of}
 use Rattle.palm_store.proofs.databases.clearing.has_lent.Goals as goal
 
-pub returns-in_default : goal.returns-in_default
-returns-in_default c = (λ lent. absurd (both_ways false refl lent), λ any. absurd (none_lent c.args.heap.now any.1 c.in_default.ensures.none any.4))
+pub returns-then-is_whole : goal.returns-then-is_whole
+returns-then-is_whole c = (λ lent. absurd (both_ways false refl lent), λ any. absurd (none_lent c.args.heap.now any.1 (c.is_whole.ensures.0 c.if-is_whole.true) any.4))
 
-pub returns-then-eq : goal.returns-then-eq
-returns-then-eq c =
+pub is_lent-requires-clause-movable : goal.is_lent-requires-clause-movable
+is_lent-requires-clause-movable c some =
     let at = named_at c.args.heap.now.bytes c.header_in-body.result.now c.header_in-body.result.now c.args.db.0 c.loop-index.index c.slot_count-index-end.result c.slot_at.result.0 c.header_in-body.ensures.is c.header_in-body.ensures.is c.slot_count-index-end.ensures
     c.loop-index-test.true c.slot_at.ensures in
-    let same : c.slot_at.result.0 ≡ c.in-Some.lent.0 = search rules in
-    let lent : IsLent c.args.heap.now c.slot_at.result.0 = subst (IsLent c.args.heap.now) (sym same) c.in-Some.ensures.lent in
-    (λ yes. any_at (IsLent c.args.heap.now) (named_under c.args.heap.now.bytes c.args.db.0) c.loop-index.index c.slot_at.result.0 at.below at.is lent, λ any. refl)
+    slot_movable c.args.heap.now.bytes c.args.db.0 c.loop-index.index c.slot_at.result.0 c.requires.accepted c.requires.number at some
+
+pub returns-then-is_lent : goal.returns-then-is_lent
+returns-then-is_lent c =
+    let at = named_at c.args.heap.now.bytes c.header_in-body.result.now c.header_in-body.result.now c.args.db.0 c.loop-index.index c.slot_count-index-end.result c.slot_at.result.0 c.header_in-body.ensures.is c.header_in-body.ensures.is c.slot_count-index-end.ensures
+    c.loop-index-test.true c.slot_at.ensures in
+    (λ yes. any_at (IsLent c.args.heap.now) (named_under c.args.heap.now.bytes c.args.db.0) c.loop-index.index c.slot_at.result.0 at.below at.is (c.is_lent.ensures.0 c.if-is_lent.true), λ any. refl)
 
 pub loop-index-preserved : goal.loop-index-preserved
 loop-index-preserved c =
     let at = named_at c.args.heap.now.bytes c.header_in-body.result.now c.header_in-body.result.now c.args.db.0 c.loop-index.index c.slot_count-index-end.result c.slot_at.result.0 c.header_in-body.ensures.is c.header_in-body.ensures.is c.slot_count-index-end.ensures
     c.loop-index-test.true c.slot_at.ensures in
-    let apart : c.slot_at.result.0 ≡ c.in-Some.lent.0 → ⊥ = search rules in
-    below_more _ _ c.loop-index.invariant (λ lent. apart (at.is ∙ c.in-Some.ensures.alone _ lent))
+    below_more _ _ c.loop-index.invariant (λ lent. both_ways _ c.if-is_lent.false (c.is_lent.ensures.1 (subst (IsLent c.args.heap.now) (sym at.is) lent)))
 
 pub returns : goal.returns
 returns c =

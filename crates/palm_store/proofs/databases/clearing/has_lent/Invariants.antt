@@ -1,4 +1,4 @@
--- None of the slots that were passed is that of the chunk that is lent.
+-- None of the slots that were passed has a chunk that is lent.
 use Rattle.std.proofs.Common.{ℕ, ◌<◌, get_or}
 use Rattle.heap_model.specs.Lending.{IsLent}
 use Rattle.palm_store.specs.Databases.{named_under}

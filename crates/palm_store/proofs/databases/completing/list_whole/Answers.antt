@@ -36,3 +36,6 @@ sys_free-requires-clause-here c =
 
 pub returns-clause-loan : goal.returns-clause-loan
 returns-clause-loan c = keeps_then c.args.heap.now c.sys_new.new.self c.make_data_and_list.new.heap c.sys_new.ensures.loan c.make_data_and_list.ensures.loan
+
+pub returns-in-Err-clause-loan : goal.returns-in-Err-clause-loan
+returns-in-Err-clause-loan c = keeps_then _ _ _ (keeps_then _ _ _ c.sys_new.ensures.loan c.make_data_and_list.ensures.loan) c.sys_free.ensures.loan

@@ -6,6 +6,7 @@ use Rattle.heap_model.specs.Reading.{held}
 use Rattle.heap_model.specs.StoreWords.{all_gone}
 use Rattle.laws_heap.proofs.Results.{on_err}
 use Rattle.heap_model.specs.FileSteps.{makings, listing_part, listing_slots}
+use Rattle.laws_heap.proofs.KeptLoans.{keeps_then}
 use Rattle.palm_store.specs.WholeDatabases.{data_sizes, numbers_in, AreOwnChunks}
 use Rattle.palm_store.proofs.GainedChunks.{own_chunks, taken_back}
 use Rattle.palm_store.proofs.WholeRooms.{runs_more}
@@ -33,3 +34,9 @@ pub returns-in-Err-clause-refused : goal.returns-in-Err-clause-refused
 returns-in-Err-clause-refused c =
     let back = subst (λ (m : Memory). Leaves m.bytes c.free_named.new.heap.bytes (all_gone (held m.bytes) (numbers_in c.make_data.new.names))) c.in-Err.ensures.refused c.free_named.ensures.leaves in
     taken_back c.args.heap.now.bytes c.make_data.new.heap.bytes c.free_named.new.heap.bytes _ _ c.requires.heap c.in_ok-make_data.ensures.made back
+
+pub returns-in-Err-clause-loan : goal.returns-in-Err-clause-loan
+returns-in-Err-clause-loan c = keeps_then _ _ _ (keeps_then _ _ _ c.make_data.ensures.loan c.list_last.ensures.loan) c.free_named.ensures.loan
+
+pub returns-clause-loan : goal.returns-clause-loan
+returns-clause-loan c = keeps_then _ _ _ c.make_data.ensures.loan c.list_last.ensures.loan

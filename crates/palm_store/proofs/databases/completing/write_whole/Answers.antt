@@ -7,6 +7,7 @@ use Rattle.heap_model.specs.Reading.{held}
 use Rattle.db_format.specs.Headers.{HasHeader}
 use Rattle.laws_store.proofs.Spellings.{length-header_bytes}
 use Rattle.database_edits.proofs.Chunks.{is_movable}
+use Rattle.laws_heap.proofs.KeptLoans.{keeps_then}
 use Rattle.palm_store.specs.WholeDatabases.{numbers_in, entries_named, whole_database}
 use Rattle.palm_store.proofs.WholeBytes.{length-named, puts_front, start_room, then_rebodied, whole_header, whole_spelled, whole_fits}
 use Rattle.palm_store.proofs.Loans.{managers_here}
@@ -51,3 +52,6 @@ returns-clause-fits c =
 
 pub sys_write-requires-clause-here : goal.sys_write-requires-clause-here
 sys_write-requires-clause-here c = managers_here c.args.heap.now c.args.slot.0 c.requires.owner
+
+pub returns-clause-loan : goal.returns-clause-loan
+returns-clause-loan c = keeps_then _ _ _ c.sys_write.ensures.loan c.write_entries.ensures.loan

@@ -9,6 +9,7 @@ use Rattle.heap_model.specs.Leaving.{Leaves}
 use Rattle.heap_model.specs.Database.{Entry, Database, entry_with, has_resources}
 use Rattle.db_format.specs.EitherEntry.{entry_of}
 use Rattle.laws_store.proofs.Numbered.{accepted_spells, entries_here, kind_here}
+use Rattle.laws_heap.proofs.KeptLoans.{keeps_then}
 use Rattle.mem_manager.specs.Lookup.{IsMovable}
 use Rattle.heap_model.specs.EntrySteps.{most_entries}
 use Rattle.database_edits.proofs.Chunks.{is_movable}
@@ -73,3 +74,9 @@ sys_free-requires-clause-here c =
     let made = made_chunk c.args.heap.now.bytes c.sys_new.new.self.bytes c.in_ok-name.name.0 c.args.size data_owner c.in_ok-name.ensures.made in
     let there = subst (λ (m : Memory). held m.bytes c.in_ok-name.name.0 ≡ Some (record { bytes = replicate c.args.size 0; lock = 0; owner = data_owner })) (sym c.in-Err.ensures.refused) made in
     loose_here c.insert_entry.new.heap c.in_ok-name.name.0 c.sys_find-made.result _ (subst (λ (m : Memory). HeapAccepted m.bytes) (sym c.in-Err.ensures.refused) c.in_ok-name.ensures.made.leaves.frame.accepted) c.sys_find-made.ensures.stands there refl c.sys_find-made.ensures.unlocked
+
+pub returns-in-Err-clause-loan : goal.returns-in-Err-clause-loan
+returns-in-Err-clause-loan c = keeps_then _ _ _ (keeps_then _ _ _ c.sys_new.ensures.loan c.insert_entry.ensures.loan) c.sys_free.ensures.loan
+
+pub returns-clause-loan : goal.returns-clause-loan
+returns-clause-loan c = keeps_then _ _ _ c.sys_new.ensures.loan c.insert_entry.ensures.loan

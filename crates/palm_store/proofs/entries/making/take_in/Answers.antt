@@ -5,6 +5,7 @@ use Rattle.db_format.specs.EitherEntry.{entry_of}
 use Rattle.laws_heap.proofs.Results.{on_err}
 use Rattle.laws_store.proofs.Numbered.{accepted_spells, entries_here, kind_here}
 use Rattle.heap_model.specs.EntrySteps.{most_entries}
+use Rattle.laws_heap.proofs.KeptLoans.{keeps_then}
 use Rattle.palm_store.proofs.EntriesHere.{index_most}
 use Rattle.palm_store.proofs.GivenData.{given, given_kept, given_movable, given_no_directory, takes_in, takes_none, no_room_to_take}
 use Rattle.palm_store.proofs.entries.making.take_in.Goals as goal
@@ -44,3 +45,6 @@ returns-clause-none_made c =
     takes_none c.args.heap.now.bytes c.sys_set_owner.new.self.bytes c.args.db.0 c.args.at (entry_with (λ none. c.args.name.0) (entry_of c.args.entry)) c.args.name.0 c.requires.accepted c.requires.number (given c.args.heap.now.bytes c.args.name.0 c.requires.given)
     (takes_in c.args.heap.now.bytes c.insert_entry.new.heap.bytes c.sys_set_owner.new.self.bytes c.args.db.0 c.args.at (entry_with (λ none. c.args.name.0) (entry_of c.args.entry)) (entry_of c.with_slot.result) c.args.name.0
     c.with_slot.ensures.is c.in_ok-insert_entry.ensures.inserted c.sys_set_owner.ensures.leaves)
+
+pub returns-clause-loan : goal.returns-clause-loan
+returns-clause-loan c = keeps_then _ _ _ c.insert_entry.ensures.loan c.sys_set_owner.ensures.loan

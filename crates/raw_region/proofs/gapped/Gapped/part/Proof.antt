@@ -25,7 +25,8 @@ use denote.Struct.Lending.{lent_out}
 use denote.Triple.Walked.{Stays, walk_of, says, stay_dropped, Goes-dropped, ends_at}
 use Rattle.std_alloc.proofs.Words.{pointer_in, pointer_out}
 use Rattle.std_alloc.proofs.VecSteps.Shapes.{after}
-use Rattle.raw_region.specs.Gaps.{bytes_of, MissesGap}
+use Rattle.heap_model.specs.Memory.{Misses}
+use Rattle.raw_region.specs.Holes.{is_out}
 use Rattle.raw_region.proofs.Apart.{part_seen}
 use Rattle.raw_region.proofs.GapWrites.{length-part_of}
 use Rattle.raw_region.proofs.GappedFields.{Words, words, shows_ptr}
@@ -47,8 +48,8 @@ part_spec 𝓤 𝓛 𝓜 𝓡 wired =
     let i = a.1.0 in let n = a.1.1.0 in let fi : i < 2 ^ 64 = are.1.0.1 in let fn : n < 2 ^ 64 = are.1.1.0.1 in
     let y : W.Ghost = ((κs, qs, bounds, a, (vs, (vint w64 i ∷ [], (vint w64 n ∷ [], tt)))), tt) in
     let at : ℕ × ℕ = (block_of d.ptr, i + count_of d.ptr) in
-    let xs : List ℕ = slice_range (bytes_of d) i (i + n) in
-    let Asked : Type 0 = (i + n ≤ d.len) × MissesGap d i n in
+    let xs : List ℕ = slice_range d.bytes i (i + n) in
+    let Asked : Type 0 = (i + n ≤ d.len) × Misses d.lents i n in
     qed 𝓛 (((‵ (flft κ q) ⊛ ‵ ftrue) ⊛ ‵ (owns (types_at f.ended.signature.params κs) a y.0.4)) ∷ raw (fact 𝓤 Asked) ∷ []) ∵
     move ! (1 ∷ []) $ heard ! Asked (λ asked. split ! $ split ! $ move ! (2 ∷ []) $ fsplit ! $ fsplit ! $ keep ! (1 ∷ 3 ∷ []) $
     use1 𝓛 (‵ (hidden_shr Words κ (words d) b o) ⊛ ‵ (fhide (R.the_lent d d.ptr κ))) (lent_out 𝓛 R.struct R.the_codes R.the_heap R.the_lent κ d b o) $ split ! $

@@ -1,40 +1,50 @@
-use Rattle.std.proofs.Common.{◌≡◌, ◌++◌, ℕ, List, length, replicate, take, drop, ap, sym, ◌∙◌, arith}
-use Rattle.std.specs.Prelude.{Some}
-use Rattle.std.proofs.lemmas.List.{length-replicate}
-use denote.RawPtr.{Ptr, ◌+ₚ◌}
-use Rattle.heap_model.specs.Memory.{Memory}
+use Rattle.std.proofs.Common.{◌≡◌, ℕ, ◌+◌, ◌/◌, ◌≤◌, ◌<◌, ◌^◌, ap, sym, subst, ◌∙◌, List, ◌∷◌, length, arith}
+use Rattle.std.specs.Prelude.{MatchOption}
+use Rattle.core.specs.List.{refill}
+use denote.RawPtr.{Ptr}
+use Rattle.bit_sets.specs.Sets.{AddsNumber}
+use Rattle.heap_model.specs.Memory.{Memory, Lent, IsWithin, Misses, NoneBegins}
 use Rattle.raw_region.specs.declared.gapped.Gapped.{Gapped}
-use Rattle.raw_region.specs.Gaps.{bytes_of}
-use Rattle.raw_region.proofs.GapWrites.{length-over}
-use Rattle.raw_region.proofs.LoanLaws.{lent_bytes, whole_of, same_memory}
+use Rattle.raw_region.specs.Holes.{KnowsLents, lent_at}
+use Rattle.raw_region.specs.Marks.{KnowsMarks}
+use Rattle.raw_region.proofs.HoleLaws.{knows_more}
+use Rattle.raw_region.proofs.MarkLaws.{few_lent, marks_more}
+use Rattle.raw_region.proofs.GapWrites.{refill_all}
 use Rattle.raw_region.proofs.region.Region.lend.Goals as goal
 
-pub returns-clause-after : goal.returns-clause-after
-returns-clause-after c =
+pub overflow_add-self : goal.overflow_add-self
+overflow_add-self c =
     let g = c.self.inside.run in
-    let at = c.args.at in
-    let n = c.args.n in
-    let e = c.of.ensures in
-    let after = c.replace-none.ensures.after in
-    let view = c.self.view_is in
-    let whole = c.into_run-whole.ensures.2 ∙ ap (λ (x : Gapped). x.front) c.replace.ensures.value in
-    let first = c.cut-front.ensures.first in
-    let more = c.cut-front.ensures.rest in
-    let run = c.cut-run.ensures.first in
-    let last = c.cut-run.ensures.rest in
-    let none = whole_of g c.self.inside.gap c.self.invariant.2 (ap (λ (m : Memory). m.lent) view ∙ c.requires.none) in
-    let start = ap (λ (p : Ptr). p +ₚ at) (ap (λ (x : Gapped). x.ptr) after ∙ e.0 ∙ first.0) ∙ sym (run.0 ∙ more.0) in
-    same_memory
-    ((λ i. bytes_of (after i)) ∙ (λ i. e.2 i ++ (replicate (e.3 i) 0 ++ e.4 i))
-    ∙ lent_bytes g at n c.args.self.now.bytes c.cut-front.result.0.bytes c.cut-run.result.1.bytes none (ap (λ (m : Memory). m.bytes) view)
-    (first.2 ∙ ap (λ (l : List ℕ). take at l) whole) (last.2 ∙ ap (λ (l : List ℕ). drop n l) (more.2 ∙ ap (λ (l : List ℕ). drop at l) whole)))
-    (ap (λ (m : Memory). m.slid) view)
-    (λ i. Some (record { at = at; count = n; start = start i }))
+    let few = few_lent g.ptr g.len g.lents c.self.invariant.2 in
+    let many = c.self.invariant.3.many in
+    let most = g.ok.1 in
+    record { fits = omega (arith, few, many, most) }
 
-pub returns-clause-len : goal.returns-clause-len
-returns-clause-len c =
-    let within = c.requires.within.inside in
-    let zeros : List ℕ = replicate c.args.n 0 in
-    let many : length zeros ≡ c.args.n = length-replicate c.args.n 0 in
-    ap (λ (m : Memory). length m.bytes) (returns-clause-after c)
-    ∙ length-over c.args.self.now.bytes zeros c.args.at (omega (arith, within, many))
+pub invariant_of-self : goal.invariant_of-self
+invariant_of-self c =
+    let g = c.self.inside.run in let at = c.args.at in let n = c.args.n in let marks = c.self.inside.marks in
+    let inv = c.self.invariant in
+    let e = c.replace-whole.ensures.value in
+    let cut = c.cut_out-others.ensures.others in
+    let after = c.replace-none.ensures.after in
+    let ptr : g.ptr ≡ c.replace-none.new.dest.ptr = sym (ap (λ (x : Gapped). x.ptr) after ∙ cut.0 ∙ ap (λ (x : Gapped). x.ptr) e) in
+    let len : g.len ≡ c.replace-none.new.dest.len = sym (ap (λ (x : Gapped). x.len) after ∙ cut.1 ∙ ap (λ (x : Gapped). x.len) e) in
+    let lents : lent_at g.ptr at n ∷ g.lents ≡ c.replace-none.new.dest.lents = sym (ap (λ (x : Gapped). x.lents) after ∙ cut.3 ∙ ap (λ (x : Gapped). lent_at x.ptr at n ∷ x.lents) e) in
+    let view : Memory = c.args.self.now in
+    let same = sym (ap (λ (m : Memory). m.lents) c.self.view_is) in
+    let misses : Misses g.lents at n = subst (λ (l : List Lent). Misses l at n) same c.requires.within.misses in
+    let begins : NoneBegins at g.lents = subst (λ (l : List Lent). NoneBegins at l) same c.requires.begins in
+    let all = ap (λ (m : Memory). length m.bytes) c.self.view_is in
+    let inside = c.requires.within.inside in let ok = g.ok.0 in
+    let place = c.requires.place in
+    let value = c.deref_mut.ensures.value in
+    let items : length marks.items ≡ marks.len = ap length (sym value) ∙ c.deref_mut.ensures.len in
+    let added = c.add.ensures.adds in
+    let many : length c.add.new.set ≡ length marks.items = c.add.ensures.len ∙ ap length value in
+    let adds : AddsNumber marks.items c.add.new.set (at / 8) = subst (λ (l : List ℕ). AddsNumber l c.add.new.set (at / 8)) value added in
+    let filled : c.add.new.set ≡ refill marks.len marks.items c.add.new.set = sym (refill_all marks.len marks.items c.add.new.set (many ∙ items) items) in
+    let k : KnowsMarks c.add.new.set g.len (c.self.inside.count + 1) (lent_at g.ptr at n ∷ g.lents) =
+    marks_more marks.items c.add.new.set g.len c.self.inside.count g.lents (lent_at g.ptr at n) inv.3 many place.0 adds in
+    subst (λ (x : Ptr × ℕ × List Lent × List ℕ). (c.self.inside.len ≡ x.1) × (c.self.inside.len < 2 ^ 63) × KnowsLents x.0 x.1 x.2 × KnowsMarks x.3 x.1 (c.self.inside.count + 1) x.2
+    × MatchOption c.self.inside.lease (c.self.inside.len ≡ 0) (λ lease. (0 < lease.size) × (lease.alloc ≡ c.self.inside.alloc) × (lease.ptr ≡ x.0) × (lease.size ≡ c.self.inside.len)))
+    (λ i. (ptr i, len i, lents i, filled i)) (inv.0, inv.1, knows_more g.ptr g.len g.lents at n inv.2 (omega (arith, inside, ok, all)) misses begins, k, inv.4)

@@ -1,7 +1,7 @@
 -- Nothing is lent.
-use Rattle.std.proofs.Common.{◌≡◌}
+use Rattle.std.proofs.Common.{[], ◌≡◌}
 use Rattle.std.specs.Prelude.{None}
 use Rattle.test_formats.proofs.store.large.change.Given as goal
 
 abbrev pub invariant-loop-at : goal.invariant-loop-at
-invariant-loop-at l = l.region.lent ≡ None
+invariant-loop-at l = l.region.lents ≡ []

@@ -1,7 +1,7 @@
 -- Nothing is lent.
-use Rattle.std.proofs.Common.{◌≡◌}
+use Rattle.std.proofs.Common.{[], ◌≡◌}
 use Rattle.std.specs.Prelude.{None}
 use Rattle.test_managers.proofs.store.lists.run_list.Given as goal
 
 abbrev pub invariant-loop-number : goal.invariant-loop-number
-invariant-loop-number l = l.store.lent ≡ None
+invariant-loop-number l = l.store.lents ≡ []

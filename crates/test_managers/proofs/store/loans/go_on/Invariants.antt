@@ -1,10 +1,10 @@
 -- What is lent stays lent.
-use Rattle.std.proofs.Common.{◌≡◌}
+use Rattle.std.proofs.Common.{[], ◌≡◌}
 use Rattle.heap_model.specs.Lending.{KeepsLoan}
 use Rattle.test_managers.proofs.store.loans.go_on.Given as goal
 
 abbrev pub invariant-loop : goal.invariant-loop
 invariant-loop l = record {
-  lent : l.apart.lent ≡ l.initial.apart.lent;
+  lent : l.apart.lents ≡ l.initial.apart.lents;
   loan : KeepsLoan l.initial.apart l.apart;
 }

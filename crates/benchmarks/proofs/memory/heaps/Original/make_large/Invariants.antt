@@ -1,6 +1,6 @@
 -- What is lent stays lent.
-use Rattle.std.proofs.Common.{◌≡◌}
+use Rattle.std.proofs.Common.{[], ◌≡◌}
 use Rattle.benchmarks.proofs.memory.heaps.Original.make_large.Given as goal
 
 abbrev pub invariant-loop : goal.invariant-loop
-invariant-loop l = l.heap.lent ≡ l.fn.heap.lent
+invariant-loop l = l.heap.lents ≡ l.fn.heap.lents

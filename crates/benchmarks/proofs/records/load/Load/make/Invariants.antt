@@ -1,7 +1,7 @@
 -- Nothing is lent.
-use Rattle.std.proofs.Common.{◌≡◌}
+use Rattle.std.proofs.Common.{[], ◌≡◌}
 use Rattle.std.specs.Prelude.{None}
 use Rattle.benchmarks.proofs.records.load.Load.make.Given as goal
 
 abbrev pub invariant-loop : goal.invariant-loop
-invariant-loop l = l.self-inside.store.lent ≡ None
+invariant-loop l = l.self-inside.store.lents ≡ []

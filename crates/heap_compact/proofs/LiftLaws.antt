@@ -1,0 +1,230 @@
+-- Chunks are lifted over the free chunk after them.
+use Rattle.std.proofs.Common.{◌≡◌, ℕ, zero, suc, ◌+◌, ◌-◌, ◌^◌, ◌<◌, List, [], ◌∷◌, ◌++◌, length, refl, sym, ap, subst, ◌∙◌, append_assoc, arith, inl, inr}
+use Rattle.std.specs.Prelude.{◌⊎◌, ◌↔◌}
+use Rattle.std.proofs.lemmas.Bool.{cases_eq}
+use Rattle.heap_model.specs.Bytes.{u32_at}
+use Rattle.heap_model.specs.Chunk.{Chunk, free, movable, fixed, need, size_of, total}
+use Rattle.heap_model.specs.Slots.{Table, Tables, IsSlot, area_start, further_tables}
+use Rattle.heap_model.specs.Heap.{BodyHere, IsBody, IsKnownIfFixed, ManagersHere, directory_of, HasDirectory, IsHeap}
+use Rattle.heap_model.specs.Placed.{EveryPlaced, AnyPlaced}
+use Rattle.heap_model.specs.Reading.{chunks_of}
+use Rattle.heap_model.specs.Space.{NoneStays}
+use Rattle.heap_model.specs.Layout.{WritesPlain}
+use Rattle.heap_model.specs.Packing.{lives}
+use Rattle.laws_heap.proofs.Bodies.{IsBody-low, IsBody-high}
+use Rattle.laws_heap.proofs.Placed.{EveryPlaced-append, EveryPlaced-split, AnyPlaced-left, AnyPlaced-right, AnyPlaced-split}
+use Rattle.laws_heap.proofs.Chunks.{total-append, SameWords}
+use Rattle.laws_heap.proofs.Slots.{slot_alike, start_listed}
+use Rattle.laws_heap.proofs.Plain.{free_plain, lives_plain, middle_plain}
+use Rattle.laws_heap.proofs.Runs.{chunks_of-tiled}
+use Rattle.heap_compact.specs.Lifting.{Lifting, FreeBehind, Lifts}
+use Rattle.heap_place.specs.Lists.{IsFreeChunk}
+use Rattle.heap_compact.specs.Packs.{BecomesExactly}
+use Rattle.heap_compact.proofs.ExactLaws.{exactly_start}
+
+-- ---- what does not depend on where a chunk stands
+
+loose_known : (tables : List Table) (at : ℕ) (cs : List Chunk) → NoneStays cs → EveryPlaced (IsKnownIfFixed tables) at cs
+loose_known tables at [] n = tt
+loose_known tables at (free size ∷ cs) n = (tt, loose_known tables (at + size) cs n)
+loose_known tables at (movable bytes zero owner slot ∷ cs) n = (tt, loose_known tables (at + need (length bytes)) cs n)
+loose_known tables at (movable bytes (suc count) owner slot ∷ cs) n = absurd n
+loose_known tables at (fixed bytes owner ∷ cs) n = absurd n
+
+managers_here : (slot m n : ℕ) (c : Chunk) → ManagersHere slot m c → ManagersHere slot n c
+managers_here slot m n (free size) h = h
+managers_here slot m n (movable bytes lock owner named) h = h
+managers_here slot m n (fixed bytes owner) h = h
+
+managers_anywhere : (slot m n : ℕ) (cs : List Chunk) → AnyPlaced (ManagersHere slot) m cs → AnyPlaced (ManagersHere slot) n cs
+managers_anywhere slot m n [] h = h
+managers_anywhere slot m n (c ∷ cs) h = elim h [ inl here ↦ inl (managers_here slot m n c here) | inr later ↦ inr (managers_anywhere slot (m + size_of c) (n + size_of c) cs later) ]
+
+-- ---- where bodies are, once their chunks went up
+
+body_up : (slot place at by : ℕ) (c : Chunk) → BodyHere slot place at c → BodyHere slot (place + by) (at + by) c
+body_up slot place at by (free size) b = b
+body_up slot place at by (movable bytes lock owner named) b = let e = b.1 in (b.0, omega arith)
+body_up slot place at by (fixed bytes owner) b = b
+
+bodies_up : (slot place at by : ℕ) (cs : List Chunk) → IsBody at cs slot place → IsBody (at + by) cs slot (place + by)
+bodies_up slot place at by [] b = b
+bodies_up slot place at by (c ∷ cs) b = elim b [
+  | inl here ↦ inl (body_up slot place at by c here)
+  | inr later ↦ let e : at + size_of c + by ≡ at + by + size_of c = omega arith in inr (subst (λ (n : ℕ). IsBody n cs slot (place + by)) e (bodies_up slot place (at + size_of c) by cs later))
+]
+
+body_down : (slot place at by : ℕ) (c : Chunk) → BodyHere slot place (at + by) c → BodyHere slot (place - by) at c
+body_down slot place at by (free size) b = b
+body_down slot place at by (movable bytes lock owner named) b = let e = b.1 in (b.0, omega arith)
+body_down slot place at by (fixed bytes owner) b = b
+
+bodies_down : (slot place at by : ℕ) (cs : List Chunk) → IsBody (at + by) cs slot place → IsBody at cs slot (place - by)
+bodies_down slot place at by [] b = b
+bodies_down slot place at by (c ∷ cs) b = elim b [
+  | inl here ↦ inl (body_down slot place at by c here)
+  | inr later ↦ let e : at + by + size_of c ≡ at + size_of c + by = omega arith in inr (bodies_down slot place (at + size_of c) by cs (subst (λ (n : ℕ). IsBody n cs slot place) e later))
+]
+
+-- a body among chunks in a row
+pub body_in : (at : ℕ) (xs ys : List Chunk) (next slot place : ℕ) → next ≡ at + total xs → IsBody at (xs ++ ys) slot place → IsBody at xs slot place ⊎ IsBody next ys slot place
+body_in at xs ys next slot place e b = elim (AnyPlaced-split (BodyHere slot place) at xs ys b) [ inl front ↦ inl front | inr back ↦ inr (subst (λ (n : ℕ). IsBody n ys slot place) (sym e) back) ]
+
+pub body_behind : (at : ℕ) (xs ys : List Chunk) (next slot place : ℕ) → next ≡ at + total xs → IsBody next ys slot place → IsBody at (xs ++ ys) slot place
+body_behind at xs ys next slot place e b = AnyPlaced-right (BodyHere slot place) at xs ys (subst (λ (n : ℕ). IsBody n ys slot place) e b)
+
+pub body_front : (at : ℕ) (xs ys : List Chunk) (slot place : ℕ) → IsBody at xs slot place → IsBody at (xs ++ ys) slot place
+body_front at xs ys slot place b = AnyPlaced-left (BodyHere slot place) at xs ys b
+
+-- ---- all are mended: the ties are whole again
+
+module _ (old image : List ℕ) (before moved after : List Chunk) (gap at : ℕ) (l : Lifting old image before moved [] after gap at) where
+  start : ℕ
+  start = area_start old + total before
+
+  is_start : start ≡ area_start old + total before
+  unfolding start
+  is_start = refl
+
+  end : at ≡ start + gap + total moved
+  unfolding start
+  end = l.there
+
+  -- a slot that contained a place before
+  to_new : (slot : ℕ) → IsSlot old slot → 0 < u32_at old slot → IsBody (area_start old) (before ++ free gap ∷ (moved ++ after)) slot (u32_at image slot)
+  to_new slot s some = elim (body_in (area_start old) before (moved ++ free gap ∷ after) start slot (u32_at old slot) is_start ((l.heap.tied slot (u32_at old slot) some).0 (s, refl))) [
+    | inl front ↦
+        let high = IsBody-high (area_start old) before slot (u32_at old slot) front in
+        let same : u32_at image slot ≡ u32_at old slot = l.kept slot s (inl (omega (arith, high, is_start))) in
+        body_front (area_start old) before (free gap ∷ (moved ++ after)) slot (u32_at image slot) (subst (λ (p : ℕ). IsBody (area_start old) before slot p) (sym same) front)
+    | inr rest ↦ elim (body_in start moved (free gap ∷ after) (start + total moved) slot (u32_at old slot) refl rest) [
+      | inl here ↦
+          let low = IsBody-low start moved slot (u32_at old slot) here in
+          let high = IsBody-high start moved slot (u32_at old slot) here in
+          let same : u32_at image slot ≡ u32_at old slot + gap = l.lifted slot s (omega (arith, low, is_start)) (omega (arith, high, end)) in
+          body_behind (area_start old) before (free gap ∷ (moved ++ after)) start slot (u32_at image slot) is_start
+          (inr (body_front (start + gap) moved after slot (u32_at image slot) (subst (λ (p : ℕ). IsBody (start + gap) moved slot p) (sym same) (bodies_up slot (u32_at old slot) start gap moved here))))
+      | inr behind ↦ elim behind [
+        | inl none ↦ absurd none
+        | inr back ↦
+            let low = IsBody-low (start + total moved + gap) after slot (u32_at old slot) back in
+            let same : u32_at image slot ≡ u32_at old slot = l.kept slot s (inr (omega (arith, low, end))) in
+            let e : start + total moved + gap ≡ start + gap + total moved = omega arith in
+            body_behind (area_start old) before (free gap ∷ (moved ++ after)) start slot (u32_at image slot) is_start
+            (inr (body_behind (start + gap) moved after (start + gap + total moved) slot (u32_at image slot) refl (subst (λ (n : ℕ). IsBody n after slot (u32_at image slot)) e (subst (λ (p : ℕ). IsBody (start + total moved + gap) after slot p) (sym same) back))))
+      ]
+    ]
+  ]
+
+  -- a body that there is now
+  of_old : (slot place : ℕ) → IsBody (area_start old) (before ++ (moved ++ free gap ∷ after)) slot place → 0 < place → IsSlot old slot × (u32_at old slot ≡ place)
+  of_old slot place b some = (l.heap.tied slot place some).1 b
+
+  to_old : (slot place : ℕ) → IsBody (area_start old) (before ++ free gap ∷ (moved ++ after)) slot place → IsSlot old slot × (u32_at image slot ≡ place)
+  to_old slot place b = elim (body_in (area_start old) before (free gap ∷ (moved ++ after)) start slot place is_start b) [
+    | inl front ↦
+        let low = IsBody-low (area_start old) before slot place front in
+        let high = IsBody-high (area_start old) before slot place front in
+        let was = of_old slot place (body_front (area_start old) before (moved ++ free gap ∷ after) slot place front) (omega arith) in
+        let held = was.1 in
+        (was.0, l.kept slot was.0 (inl (omega (arith, high, held, is_start))) ∙ held)
+    | inr rest ↦ elim rest [
+      | inl none ↦ absurd none
+      | inr more ↦ elim (body_in (start + gap) moved after (start + gap + total moved) slot place refl more) [
+        | inl here ↦
+            let low = IsBody-low (start + gap) moved slot place here in
+            let high = IsBody-high (start + gap) moved slot place here in
+            let was = of_old slot (place - gap) (body_behind (area_start old) before (moved ++ free gap ∷ after) start slot (place - gap) is_start (body_front start moved (free gap ∷ after) slot (place - gap) (bodies_down slot place start gap moved here))) (omega arith) in
+            let held = was.1 in
+            let e : u32_at old slot + gap ≡ place = omega arith in
+            (was.0, l.lifted slot was.0 (omega (arith, low, held, is_start)) (omega (arith, high, held, end)) ∙ e)
+        | inr back ↦
+            let low = IsBody-low (start + gap + total moved) after slot place back in
+            let e : start + gap + total moved ≡ start + total moved + gap = omega arith in
+            let was = of_old slot place (body_behind (area_start old) before (moved ++ free gap ∷ after) start slot place is_start
+            (body_behind start moved (free gap ∷ after) (start + total moved) slot place refl (inr (subst (λ (n : ℕ). IsBody n after slot place) e back)))) (omega arith) in
+            let held = was.1 in
+            (was.0, l.kept slot was.0 (inr (omega (arith, low, held, end))) ∙ held)
+      ]
+    ]
+  ]
+
+  new_start : area_start image ≡ area_start old
+  new_start = start_listed old image l.tables
+
+  slot_new : (slot : ℕ) → IsSlot old slot → IsSlot image slot
+  slot_new slot s = slot_alike old image slot l.slots s
+
+  slot_old : (slot : ℕ) → IsSlot image slot → IsSlot old slot
+  slot_old slot s = slot_alike image old slot (sym l.slots) s
+
+  place_new : (slot place : ℕ) → 0 < place → u32_at image slot ≡ place → IsSlot old slot → IsBody (area_start old) (before ++ free gap ∷ (moved ++ after)) slot place
+  place_new slot place some e s = elim (cases_eq (u32_at old slot) 0) [
+    | inl none ↦ let same : u32_at image slot ≡ u32_at old slot = l.kept slot s (inl (omega (arith, none))) in absurd (omega arith)
+    | inr used ↦ subst (λ (p : ℕ). IsBody (area_start old) (before ++ free gap ∷ (moved ++ after)) slot p) e (to_new slot s (omega arith))
+  ]
+
+  tied_again : (slot place : ℕ) → 0 < place → ((IsSlot image slot × (u32_at image slot ≡ place)) ↔ IsBody (area_start image) (before ++ free gap ∷ (moved ++ after)) slot place)
+  tied_again slot place some = (
+    λ s. subst (λ (n : ℕ). IsBody n (before ++ free gap ∷ (moved ++ after)) slot place) (sym new_start) (place_new slot place some s.1 (slot_old slot s.0)),
+    λ b. let s = to_old slot place (subst (λ (n : ℕ). IsBody n (before ++ free gap ∷ (moved ++ after)) slot place) new_start b) in (slot_new slot s.0, s.1),
+  )
+
+  known_again : NoneStays moved → EveryPlaced (IsKnownIfFixed (further_tables image)) (area_start image) (before ++ free gap ∷ (moved ++ after))
+  known_again loose =
+      let known : ℕ → Chunk → Type 0 = IsKnownIfFixed (further_tables old) in
+      let first = EveryPlaced-split known (area_start old) before (moved ++ free gap ∷ after) l.heap.fixed_are_known in
+      let second = EveryPlaced-split known (area_start old + total before) moved (free gap ∷ after) first.1 in
+      let here : ℕ = area_start old + total before in
+      let e : here + total moved + gap ≡ here + gap + total moved = omega arith in
+      subst (λ (ts : List Table). EveryPlaced (IsKnownIfFixed ts) (area_start image) (before ++ free gap ∷ (moved ++ after))) (sym (ap (λ (t : Tables). t.further) l.tables))
+      (subst (λ (n : ℕ). EveryPlaced known n (before ++ free gap ∷ (moved ++ after))) (sym new_start)
+      (EveryPlaced-append known (area_start old) before (free gap ∷ (moved ++ after)) first.0
+      (tt, EveryPlaced-append known (here + gap) moved after (loose_known (further_tables old) (here + gap) moved loose) (subst (λ (n : ℕ). EveryPlaced known n after) e second.1.1))))
+
+  managers_again : (slot : ℕ) → AnyPlaced (ManagersHere slot) (area_start old) (before ++ (moved ++ free gap ∷ after)) → AnyPlaced (ManagersHere slot) (area_start image) (before ++ free gap ∷ (moved ++ after))
+  managers_again slot h =
+      let here : ℕ = area_start image + total before in
+      let P : ℕ → Chunk → Type 0 = ManagersHere slot in
+      elim (AnyPlaced-split P (area_start old) before (moved ++ free gap ∷ after) h) [
+        | inl front ↦ AnyPlaced-left P (area_start image) before (free gap ∷ (moved ++ after)) (managers_anywhere slot (area_start old) (area_start image) before front)
+        | inr rest ↦ AnyPlaced-right P (area_start image) before (free gap ∷ (moved ++ after)) (inr (elim (AnyPlaced-split P (area_start old + total before) moved (free gap ∷ after) rest) [
+          | inl mid ↦ AnyPlaced-left P (here + gap) moved after (managers_anywhere slot (area_start old + total before) (here + gap) moved mid)
+          | inr more ↦ AnyPlaced-right P (here + gap) moved after (elim more [
+            | inl none ↦ absurd none
+            | inr back ↦ managers_anywhere slot (area_start old + total before + total moved + gap) (here + gap + total moved) after back
+          ])
+        ]))
+      ]
+
+  directory_again : HasDirectory image (before ++ free gap ∷ (moved ++ after))
+  directory_again = elim l.heap.directory [
+    | inl none ↦ inl (l.directory ∙ none)
+    | inr m ↦ inr (subst (λ (d : ℕ). AnyPlaced (ManagersHere d) (area_start image) (before ++ free gap ∷ (moved ++ after))) (sym l.directory) (managers_again (directory_of old) m))
+  ]
+
+  heap_again : NoneStays moved → IsHeap image (before ++ free gap ∷ (moved ++ after))
+  heap_again loose = record { tiles = l.tiles; tied = tied_again; fixed_are_known = known_again loose; directory = directory_again }
+
+  lift_plain : gap < 2 ^ 24 → lives moved ≡ moved → WritesPlain old image
+  lift_plain small live =
+      let sizes = total-append moved (free gap ∷ []) in
+      let was : chunks_of old ≡ before ++ ((moved ++ free gap ∷ []) ++ after) =
+      chunks_of-tiled old (before ++ (moved ++ free gap ∷ after)) l.heap.tiles ∙ ap (λ (cs : List Chunk). before ++ cs) (sym (append_assoc moved (free gap ∷ []) after)) in
+      let word : u32_at image start ≡ 2 ^ 31 + gap = subst (λ (k : ℕ). u32_at image k ≡ 2 ^ 31 + gap) (sym is_start) l.plain in
+      middle_plain old image before (moved ++ free gap ∷ []) (free gap ∷ moved) after start was l.tiles new_start is_start (omega (arith, sizes)) l.front
+      (subst (λ (k : ℕ). SameWords old image k after) (let same : at + total [] ≡ start + total (moved ++ free gap ∷ []) = omega (arith, sizes, end) in same) l.back)
+      (free_plain image start gap moved word small (lives_plain image (start + gap) moved live))
+
+  pub lift_done : gap < 2 ^ 24 → lives moved ≡ moved → NoneStays moved → BecomesExactly old image (before ++ free gap ∷ (moved ++ after))
+  lift_done small live loose = record {
+    frame = record { accepted = (before ++ free gap ∷ (moved ++ after), heap_again loose); len = l.len; tables = l.tables; slots = l.slots; directory = l.directory };
+    exact = chunks_of-tiled image (before ++ free gap ∷ (moved ++ after)) l.tiles;
+    plain = lift_plain small live;
+  }
+
+-- the free chunk stands where the first of them stood
+pub lifted_room : (old new : List ℕ) (before mid after : List Chunk) (start end gap : ℕ) → FreeBehind old before mid after start end gap → Lifts old new start end gap → IsFreeChunk new start gap
+lifted_room old new before mid after start end gap f lifts =
+    let b = lifts before mid after f in
+    record { before = before; after = mid ++ after; chunks = b.exact; there = f.from ∙ ap (λ (n : ℕ). n + total before) (sym (exactly_start old new (before ++ free gap ∷ (mid ++ after)) b)) }

@@ -1,0 +1,12 @@
+use Rattle.std.proofs.Common.{◌-◌, ◌+◌, ◌≡◌}
+use Rattle.heap_place.specs.Lists.{AreLists}
+use Rattle.heap_place.specs.Gathers.{Before}
+use Rattle.heap_compact.specs.Packs.{PacksUpTo}
+use Rattle.heap_model.specs.Lending.{HoldsHeap}
+use Rattle.heap_compact.proofs.pack.pack.Given as goal
+
+abbrev pub invariant-loop-at : goal.invariant-loop-at
+invariant-loop-at l = PacksUpTo l.initial.region.bytes l.region.bytes l.start l.end l.at l.slid l.room × (l.region.slid ≡ l.initial.region.slid + l.slid) × AreLists (Before (l.at - l.room)) l.region.bytes l.lists × HoldsHeap l.region × (l.region.lents ≡ l.initial.region.lents)
+
+abbrev pub decreases-loop-at : goal.decreases-loop-at
+decreases-loop-at l = l.end - l.at

@@ -1,0 +1,37 @@
+use Rattle.std.proofs.Common.{◌-◌, sym, subst, ◌∙◌, ap}
+use Rattle.heap_model.specs.Memory.{Memory}
+use Rattle.heap_model.specs.Heap.{directory_of}
+use Rattle.heap_model.specs.Layout.{Alters, freed, WritesPlain}
+use Rattle.heap_place.specs.Found.{IsOne}
+use Rattle.laws_heap.proofs.Plain.{plain_then}
+use Rattle.heap_compact.proofs.GivenBackLaws.{same_found, then_freed}
+use Rattle.heap_compact.proofs.KeptLaws.{viewed_kept}
+use Rattle.heap_compact.proofs.space.Space.give_back.Goals as goal
+
+pub release_listed-requires-clause-found : goal.release_listed-requires-clause-found
+release_listed-requires-clause-found c =
+    same_found c.self.inside.region.bytes c.build.new.region.bytes c.args.found c.self.invariant.heap.accepted c.build.ensures.same
+    (subst (λ (m : Memory). IsOne m.bytes c.args.found) (sym c.self.view_is) c.requires.found)
+
+pub release_listed-requires-clause-no_directory : goal.release_listed-requires-clause-no_directory
+release_listed-requires-clause-no_directory c e = c.requires.no_directory (e ∙ c.build.ensures.same.frame.directory ∙ ap (λ (m : Memory). directory_of m.bytes) c.self.view_is)
+
+pub returns-clause-gone : goal.returns-clause-gone
+returns-clause-gone c =
+    subst (λ (m : Memory). Alters m.bytes c.release_listed.new.region.bytes (c.args.found.place.0 - 8) freed) c.self.view_is
+    (then_freed c.self.inside.region.bytes c.build.new.region.bytes c.release_listed.new.region.bytes c.args.found c.self.invariant.heap.accepted c.build.ensures.same
+    (subst (λ (m : Memory). IsOne m.bytes c.args.found) (sym c.self.view_is) c.requires.found) c.release_listed.ensures.gone)
+
+pub returns-clause-plain : goal.returns-clause-plain
+returns-clause-plain c =
+    subst (λ (m : Memory). WritesPlain m.bytes c.release_listed.new.region.bytes) c.self.view_is
+    (plain_then c.self.inside.region.bytes c.build.new.region.bytes c.release_listed.new.region.bytes c.build.ensures.plain c.release_listed.ensures.plain)
+
+pub invariant_of-self : goal.invariant_of-self
+invariant_of-self c = record {
+  heap = c.release_listed.ensures.heap;
+  lists = c.release_listed.ensures.lists;
+  tables = viewed_kept c.args.self.now c.self.inside.region c.release_listed.new.region.bytes c.self.inside.tables c.self.view_is (subst (λ (m : Memory). Alters m.bytes c.release_listed.new.region.bytes (c.args.found.place.0 - 8) freed) c.self.view_is
+      (then_freed c.self.inside.region.bytes c.build.new.region.bytes c.release_listed.new.region.bytes c.args.found c.self.invariant.heap.accepted c.build.ensures.same
+      (subst (λ (m : Memory). IsOne m.bytes c.args.found) (sym c.self.view_is) c.requires.found) c.release_listed.ensures.gone)).frame c.self.invariant.tables;
+}

@@ -1,0 +1,12 @@
+use Rattle.std.proofs.Common.{ap, length, arith}
+use Rattle.heap_model.specs.Memory.{Memory}
+use Rattle.heap_place.proofs.FoundLaws.{bytes_inside}
+use Rattle.heap_place.proofs.LentLaws.{found_markable}
+use Rattle.heap_compact.proofs.KeptLaws.{viewed_heap}
+use Rattle.heap_compact.proofs.space.Space.lends.Goals as goal
+
+pub lends_at-requires : goal.lends_at-requires
+lends_at-requires c =
+    let inside = bytes_inside c.args.self.now.bytes c.args.found (viewed_heap c.args.self.now c.self.inside.region c.self.view_is c.self.invariant.heap).accepted c.requires.found in
+    let same = ap (λ (m : Memory). length m.bytes) c.self.view_is in
+    ((found_markable c.args.self.now.bytes c.args.found (viewed_heap c.args.self.now c.self.inside.region c.self.view_is c.self.invariant.heap).accepted c.requires.found).0, omega (arith, inside, same))

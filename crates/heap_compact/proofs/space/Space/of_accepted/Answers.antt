@@ -1,0 +1,11 @@
+use Rattle.std.proofs.Common.{ℕ, List, sym, subst}
+use Rattle.heap_place.specs.Lists.{Any, HasLists}
+use Rattle.heap_place.proofs.ListLaws.{new_lists}
+use Rattle.heap_compact.proofs.space.Space.of_accepted.Goals as goal
+
+pub invariant_of-result : goal.invariant_of-result
+invariant_of-result c = record {
+  heap = c.requires.heap;
+  lists = subst (λ (heads : List ℕ). HasLists c.args.region.bytes heads) (sym c.none.ensures) (new_lists Any c.args.region.bytes);
+  tables = c.of-tables.ensures;
+}

@@ -1,0 +1,10 @@
+use Rattle.std.proofs.Common.{◌-◌}
+use Rattle.heap_place.specs.Search.{Passed}
+use Rattle.heap_compact.specs.Stretches.{HaveRooms}
+use Rattle.heap_compact.proofs.stretch.largest_room.Given as goal
+
+abbrev pub invariant-loop-at : goal.invariant-loop-at
+invariant-loop-at l = Passed l.region.bytes (HaveRooms l.largest l.room) l.at
+
+abbrev pub decreases-loop-at : goal.decreases-loop-at
+decreases-loop-at l = l.end - l.at

@@ -1,0 +1,9 @@
+use Rattle.std.proofs.Common.{◌-◌, length}
+use Rattle.heap_place.specs.Resizes.{RunsUpTo, IsBound}
+use Rattle.heap_place.proofs.release.free_run.Given as goal
+
+abbrev pub invariant-loop-size : goal.invariant-loop-size
+invariant-loop-size l = RunsUpTo l.region.bytes l.at l.end l.size × IsBound l.region.bytes l.end
+
+abbrev pub decreases-loop-size : goal.decreases-loop-size
+decreases-loop-size l = length l.region.bytes - l.end

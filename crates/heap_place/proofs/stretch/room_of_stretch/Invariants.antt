@@ -1,9 +1,0 @@
-use Rattle.std.proofs.Common.{◌-◌}
-use Rattle.heap_place.specs.Stretches.{SumsUpTo}
-use Rattle.heap_place.proofs.stretch.room_of_stretch.Given as goal
-
-abbrev pub invariant-loop-at : goal.invariant-loop-at
-invariant-loop-at l = SumsUpTo l.region.bytes l.stretch l.at l.room
-
-abbrev pub decreases-loop-at : goal.decreases-loop-at
-decreases-loop-at l = l.stretch.end - l.at

@@ -1,9 +1,0 @@
-use Rattle.std.proofs.Common.{◌-◌}
-use Rattle.heap_place.specs.Stretches.{SeenUpTo}
-use Rattle.heap_place.proofs.stretch.stretch_around.Given as goal
-
-abbrev pub invariant-loop-here : goal.invariant-loop-here
-invariant-loop-here l = SeenUpTo l.region.bytes l.at l.start l.here
-
-abbrev pub decreases-loop-here : goal.decreases-loop-here
-decreases-loop-here l = l.end - l.here

@@ -1,9 +1,0 @@
-use Rattle.std.proofs.Common.{◌-◌}
-use Rattle.heap_place.specs.Stretches.{SeenRooms}
-use Rattle.heap_place.proofs.stretch.stretch_with_room.Given as goal
-
-abbrev pub invariant-loop-here : goal.invariant-loop-here
-invariant-loop-here l = SeenRooms l.region.bytes l.size l.start l.here l.room
-
-abbrev pub decreases-loop-here : goal.decreases-loop-here
-decreases-loop-here l = l.end - l.here

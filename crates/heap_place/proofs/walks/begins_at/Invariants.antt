@@ -1,0 +1,10 @@
+use Rattle.std.proofs.Common.{◌-◌, length}
+use Rattle.heap_place.specs.Found.{NoneBeginsAt}
+use Rattle.heap_place.specs.Search.{Passed}
+use Rattle.heap_place.proofs.walks.begins_at.Given as goal
+
+abbrev pub invariant-loop-at : goal.invariant-loop-at
+invariant-loop-at l = Passed l.region.bytes (NoneBeginsAt l.region.bytes l.there) l.at
+
+abbrev pub decreases-loop-at : goal.decreases-loop-at
+decreases-loop-at l = length l.region.bytes - l.at
