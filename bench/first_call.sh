@@ -1,6 +1,6 @@
 #!/bin/bash
-# Times the first call of palmheap in a fresh clone, with nothing kept, then the first call of a command on files, and
-# then `palmheap --build`, which proves the other commands. Prints their progress with the seconds since the start.
+# Times the first call of palmheap in a fresh clone, with nothing kept, and then `palmheap --build`, which proves the
+# other commands. Prints their progress with the seconds since the start.
 #
 # usage: bench/first_call.sh [REVISION]
 #
@@ -34,9 +34,6 @@ shown() {
 shown new 128 4 a.img
 [ -s a.img ]
 echo "the first call took $((SECONDS - begin)) s"
-shown list a.img
-[ -x crates/palmheap_base/out/named/palmheap ]
-echo "with the commands on files it took $((SECONDS - begin)) s"
 shown --build
 [ -x crates/palmheap/out/palmheap ]
 echo "the whole program took $((SECONDS - begin)) s"

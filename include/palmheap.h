@@ -5,8 +5,8 @@
  *
  * The caller must ensure the following. Otherwise the behavior is undefined.
  *
- * - A pointer is not NULL, also if its length is 0. It is valid: to read what it points to, and to write it if it is no
- *   pointer to const. An output may have any value before the call.
+ * - A pointer is valid: to read what it points to, and to write it if it is no pointer to const. It is not NULL, unless
+ *   it has a length and that is 0. An output may have any value before the call.
  * - Memory that a function writes does not overlap other memory that it is given.
  * - While a call runs, no other thread writes memory that the call is given, or reads memory that the call writes, and
  *   none uses the store of the call.
@@ -15,8 +15,8 @@
  * - A parameter x_len is the number of items of the array x. Sizes, counts of bytes and offsets are in bytes.
  * - The caller owns all memory that it passes, and the library keeps no pointer to it after the call. The library
  *   itself keeps memory only for an open store, until palmheap_close.
- * - A function that fails leaves the caller's memory as it was. Only if a buffer is too short, it sets the count or the
- *   sizes that the caller needs.
+ * - A function that fails leaves the caller's memory as it was. There are two exceptions. If a buffer is too short, the
+ *   function sets the count or the sizes that the caller needs. palmheap_open sets its store to none.
  */
 #ifndef PALMHEAP_H
 #define PALMHEAP_H
@@ -88,7 +88,8 @@ enum {
 
 /* ---- Files and images. These functions keep nothing between calls, and accept any bytes. ----
  *
- * Those with a count work like snprintf: call one with the length 0 for the count, and then with room for that many.
+ * Those with a count work like snprintf: call one with NULL and the length 0 for the count, and then with room for that
+ * many.
  * With PALMHEAP_OK the items after the first *count of a buffer are unchanged.
  */
 
@@ -143,7 +144,7 @@ palmheap_answer palmheap_check(const uint8_t *image, size_t image_len, palmheap_
 
 /* ---- Scripts. ---- */
 
-/* Some bytes. at is not NULL, also if len is 0. */
+/* Some bytes. at may be NULL if len is 0. */
 typedef struct palmheap_bytes {
     const uint8_t *at;
     size_t len;
@@ -170,15 +171,16 @@ palmheap_answer palmheap_run(uint8_t *image, size_t image_len, const uint8_t *sc
 /* ---- An open store. ----
  *
  * A store lives from palmheap_open to palmheap_close. The caller passes the address of a palmheap_store. No other call
- * may use the store at the same time, and no call may use it after palmheap_close returned 0. A copy of a
- * palmheap_store is the same store. The caller never changes its field.
+ * may use the store at the same time. Once palmheap_close returned 0, only palmheap_open and palmheap_close may get the
+ * palmheap_store. A copy of a palmheap_store is the same store, so close only one of them. The caller never changes the
+ * field, but may set a new palmheap_store to {0}.
  *
  * A call returns 0, or the number of a refusal. A refused call changes no chunk and no database, and leaves the
  * caller's memory as it was. Comments list the refusals of a call in the order in which it looks for them. A call with
  * a buffer can also return PALMHEAP_CALL_NO_ROOM: then only its count is written.
  */
 
-/* An open store, or none. */
+/* An open store, or none: then at is NULL. */
 typedef struct palmheap_store {
     void *at;
 } palmheap_store;
@@ -216,8 +218,9 @@ enum {
 
 /* Results of a call that are no refusals. */
 enum {
-    PALMHEAP_CALL_NO_ROOM = 100,   /* a buffer is too short; the call's count is the size that it needs */
-    PALMHEAP_CALL_NO_REFUSAL = 101 /* no refusal has the number */
+    PALMHEAP_CALL_NO_ROOM = 100,    /* a buffer is too short; the call's count is the size that it needs */
+    PALMHEAP_CALL_NO_REFUSAL = 101, /* no refusal has the number */
+    PALMHEAP_CALL_NO_POINTER = 102  /* no pointer to the chunk is out */
 };
 
 /* Writes the name of a refusal into a buffer, ASCII without a zero at its end, as InvalidHandle. No name has more than
@@ -225,12 +228,13 @@ enum {
  * PALMHEAP_CALL_NO_REFUSAL, and changes nothing, if no refusal has the number. */
 uint32_t palmheap_refusal_name(uint32_t refusal, uint8_t *name, size_t name_len, size_t *count);
 
-/* Opens an image: checks it, and copies it into a store that lives until palmheap_close. Sets store to it. A store
- * that was in store before is not closed. The caller's image stays as it is: palmheap_write_image writes the new one.
- * Answers: PALMHEAP_OK, PALMHEAP_NO_MEMORY, 20 to 47. */
+/* Opens an image: checks it, and copies it into a store that lives until palmheap_close. Sets store to it. If it fails,
+ * it sets store->at to NULL. A store that was in store before is not closed. The caller's image stays as it is:
+ * palmheap_write_image writes the new one. Answers: PALMHEAP_OK, PALMHEAP_NO_MEMORY, 20 to 47. */
 palmheap_answer palmheap_open(const uint8_t *image, size_t image_len, palmheap_store *store);
 
-/* Closes a store and frees its memory. Only palmheap_open may get store then. If a chunk is lent, the store stays open.
+/* Closes a store and frees its memory, and sets store->at to NULL. If a chunk is lent, the store stays open. If
+ * store->at is NULL already, it does nothing and returns 0: the store was set to {0}, failed to open, or is closed.
  * Refusals: 27. */
 uint32_t palmheap_close(palmheap_store *store);
 
@@ -310,7 +314,8 @@ uint32_t palmheap_more_slots(palmheap_store *store);
  * first byte highest. A date counts the seconds since 1904-01-01 00:00:00. An attribute 0x0001 marks a database with
  * resources, 0x0002 one that is read-only. */
 
-/* The header of a database. The first name_length bytes of name are its name, and the others are 0. */
+/* The header of a database. The first name_length bytes of name are its name. The others are 0 in what a call writes,
+ * and ignored in what a call is given. */
 typedef struct palmheap_database_info {
     uint8_t name[32];
     uint32_t name_length;
@@ -545,6 +550,24 @@ bool palmheap_lent(palmheap_store *store, uint32_t *name);
  * there is one: if not, it sets neither. With 0 for after it finds the first one, and with the last place found the next
  * one: so the caller goes over all lent chunks in order of their places. */
 bool palmheap_loan_above(palmheap_store *store, uint32_t after, uint32_t *name, uint32_t *place);
+
+/* -- Pointers --
+ *
+ * A pointer to the bytes of a movable chunk, as applications have it. The library keeps the loan, and counts how often
+ * the pointer is out. So a caller needs no palmheap_loan, and functions that know nothing of each other can lock the
+ * same chunk. While a pointer is out, the chunk is lent, as above, and its lock count is one higher: one for all of
+ * them. The pointer stays valid until it was unlocked as often as it was locked, whatever other calls do.
+ * palmheap_lent and palmheap_loan_above find these chunks too. palmheap_put_back can't be called for them: no
+ * palmheap_loan has them. */
+
+/* Gives the pointer to the bytes of a chunk: sets bytes to them, and count to their number. If it is not out, this
+ * locks the chunk, and lends it. If it is, this gives the same pointer. Refusals: 1, 6, 5, 27, 26. 5 if the chunk has
+ * 14 locks, or the pointer is out 4,294,967,295 times. 27 if a palmheap_loan has the bytes. */
+uint32_t palmheap_lock_pointer(palmheap_store *store, uint32_t name, uint8_t **bytes, size_t *count);
+
+/* Unlocks the pointer to the bytes of a chunk once. The last time it puts the bytes back, and unlocks the chunk once.
+ * Returns PALMHEAP_CALL_NO_POINTER, and changes nothing, if no pointer to the chunk is out. */
+uint32_t palmheap_unlock_pointer(palmheap_store *store, uint32_t name);
 
 #ifdef __cplusplus
 }

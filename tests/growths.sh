@@ -25,7 +25,7 @@ while IFS= read -r file; do
         *.antt) proofs+=("$file") ;;
         ./test_* | ./benchmarks/* | ./example_memos/*) ;;
         ./program_io/src/command_line.rt | ./program_io/src/requested.rt | ./program_io/src/output_file.rt) ;;
-        ./command_files/src/files.rt | ./path_commands/src/folders.rt) ;;
+        ./command_files/src/files.rt | ./file_commands/src/folders.rt) ;;
         ./image_program/src/words.rt | ./palmheap_program/src/stores.rt) ;;
         # it fills room that allowance took
         ./canonical_file/src/blocks.rt) ;;

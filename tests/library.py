@@ -145,6 +145,8 @@ def compare_files(program, count):
 LINES = 200
 LENT = 27
 MOST_LENT = 16
+MOST_PINNED = 3
+NO_POINTER = 102
 CHUNKS = [f"h{it}" for it in range(12)]
 DATABASES = [f"d{it}" for it in range(4)]
 # What is in the caller's memory before a run: bytes, numbers and sizes.
@@ -176,6 +178,8 @@ class Calls:
         self.rng, self.store, self.files = rng, store, files
         self.names, self.databases, self.lines, self.replies, self.exported = {}, {}, [], [], []
         self.lent, self.loans, self.most, self.refused = {}, 0, 0, []
+        # The chunks to which pointers are out: their labels, and how often.
+        self.pinned, self.pointers = {}, 0
 
     # -- what the store has
 
@@ -207,7 +211,9 @@ class Calls:
 
     def new_chunk(self):
         """A label that no chunk has."""
-        return self.one_of((it for it in CHUNKS if not self.facts(it)), CHUNKS)
+        kept = {label for label, _ in self.pinned.values()}
+        free = [it for it in CHUNKS if it not in kept]
+        return self.one_of((it for it in free if not self.facts(it)), free)
 
     def movable(self):
         return self.chunk(lambda size, owner, locks: locks < 14)
@@ -628,8 +634,9 @@ class Calls:
     # -- loans
 
     def loan(self):
-        if self.lent and self.rng.randrange(MOST_LENT) < len(self.lent):
-            self.put_back(self.rng.choice(list(self.lent)))
+        loans = [it for it in self.lent if it not in self.pinned]
+        if loans and self.rng.randrange(MOST_LENT) < len(self.lent):
+            self.put_back(self.rng.choice(loans))
         else:
             self.take_out()
 
@@ -644,14 +651,59 @@ class Calls:
             self.lines.append(f"write {h} 0 -")
             self.refuse(refused.number)
             return
+        self.loans += 1
+        self.fill_lent(h, loan)
+
+    def fill_lent(self, h, loan):
         data = bytes(self.rng.randrange(256) for _ in range(len(loan)))
         half = len(data) // 2
         loan[:half] = data[:half]
         self.lines.append(f"write {h} 0 {data.hex() or '-'}")
         self.replies.append(("ok", ""))
-        self.lent[name], self.loans = (loan, data), self.loans + 1
+        self.lent[self.name(h)] = (loan, data)
         self.most = max(self.most, len(self.lent))
         self.check_lent()
+
+    def pointer(self):
+        """Locks or unlocks a pointer. For the script the first one of a chunk is a lock and a call that writes, and the last
+        one an unlock."""
+        if self.pinned and self.rng.random() < 0.6:
+            self.unlock_pointer(self.rng.choice(list(self.pinned)))
+            return
+        if self.pinned and (self.rng.random() < 0.3 or len(self.pinned) == MOST_PINNED):
+            h = self.pinned[self.rng.choice(list(self.pinned))][0]
+        else:
+            h = self.movable()
+        name = self.name(h)
+        try:
+            given = self.store.lock_pointer(name)
+        except palmheap.Refused as refused:
+            if name in self.pinned:
+                sys.exit(f"a pointer to {name} is not given again: {refused.number}")
+            self.lines.append(f"lock {h}")
+            self.refuse(refused.number)
+            return
+        self.pointers += 1
+        if name in self.pinned:
+            self.pinned[name][1] += 1
+            was = self.lent[name][0]
+            if (palmheap.c.addressof(given), len(given)) != (palmheap.c.addressof(was), len(was)):
+                sys.exit(f"another pointer to {name} is given")
+            return
+        self.pinned[name] = [h, 1]
+        self.lines.append(f"lock {h}")
+        self.replies.append(("ok", f" {self.ask('MemHandleLockCount', name)}"))
+        self.fill_lent(h, given)
+
+    def unlock_pointer(self, name):
+        if self.pinned[name][1] == 1:
+            self.put_back(name)
+            return
+        self.pinned[name][1] -= 1
+        locks = self.ask("MemHandleLockCount", name)
+        self.store.unlock_pointer(name)
+        if self.ask("MemHandleLockCount", name) != locks or name not in self.store.lent():
+            sys.exit(f"the pointer to {name} is no longer out")
 
     def check_lent(self):
         names = self.store.lent()
@@ -676,9 +728,20 @@ class Calls:
                     continue
             sys.exit(f"the chunk {name} is lent, and a call is not refused")
         loan[half:] = data[half:]
-        self.store.put_back(name)
+        if name in self.pinned:
+            self.store.unlock_pointer(name)
+            self.lines.append(f"unlock {self.pinned.pop(name)[0]}")
+            self.replies.append(("ok", f" {self.ask('MemHandleLockCount', name)}"))
+        else:
+            self.store.put_back(name)
         del self.lent[name]
         self.check_lent()
+        try:
+            self.store.unlock_pointer(name)
+            sys.exit(f"no pointer to {name} is out, and one is unlocked")
+        except palmheap.Refused as refused:
+            if refused.number != NO_POINTER:
+                sys.exit(f"no pointer to {name} is out: {refused.number}")
         if self.store.bytes_by("read", name, 0, len(data)) != data:
             sys.exit(f"the chunk {name} has other bytes than were put back")
 
@@ -752,12 +815,16 @@ class Calls:
             self.find_type: 4,
             self.count_resources: 4,
             self.loan: 20,
+            self.pointer: 16,
         }
 
     def draw(self, count):
         rows = self.rows()
         for row in self.rng.choices(list(rows), list(rows.values()), k=count):
             row()
+        for name in list(self.pinned):
+            while name in self.pinned:
+                self.unlock_pointer(name)
         for name in list(self.lent):
             self.put_back(name)
 
@@ -780,10 +847,11 @@ def shown_info(info):
 def run_within(library, image, script, files, room):
     """`palmheap_run` with buffers of `room` items, each before one more. Returns the answer, and what it may write."""
     image = (palmheap.U8 * len(image)).from_buffer_copy(image)
-    given = (palmheap.Bytes * len(files))(*[palmheap.Bytes(it, len(it)) for it in files])
+    given = (palmheap.Bytes * len(files))(*[palmheap.Bytes(*palmheap.span(it)) for it in files])
     kinds, sizes = (palmheap.U8, palmheap.U8, palmheap.SIZE), palmheap.Sizes(*UNUSED)
     buffers = [(kind * (count + 1))(*[UNUSED[0]] * (count + 1)) for kind, count in zip(kinds, room)]
-    words = [(it, len(it)) for it in (image, script, given)] + list(zip(buffers, room))
+    words = [(it, len(it)) for it in (image, script, given)]
+    words += [(it if count else None, count) for it, count in zip(buffers, room)]
     answer = library.so.palmheap_run(*[it for pair in words for it in pair], palmheap.c.byref(sizes))
     written = [bytes(image), *map(list, buffers), (sizes.printed, sizes.exported, sizes.files)]
     return (answer.kind, answer.at, answer.entry), written
@@ -834,8 +902,8 @@ def check_refused(library, rng, program, room, image, lines, files):
 
 
 def do_list(library, rng, program, room):
-    """Does calls by an open store, by `palmheap_run` and by the program. Returns the refusals, the number of loans, and how
-    many were out at once at most."""
+    """Does calls by an open store, by `palmheap_run` and by the program. Returns the refusals, the number of loans, how
+    many were out at once at most, and the number of pointers."""
     files = list(FILES.values())
     image = library.new(rng.choice((2048, 8192, 65536)), rng.choice((8, 40, 300)))
     with library.open(image) as store:
@@ -863,22 +931,37 @@ def do_list(library, rng, program, room):
         wanted = f"ok{told}" if kind == "ok" else f"refused {told} {library.refusal_name(told)} "
         if not (reply == wanted if kind == "ok" else f"{reply} ".startswith(wanted)):
             sys.exit(f"line {line!r}: a call has {wanted!r}, and the script {reply!r}")
-    return calls.refused, calls.loans, calls.most
+    return calls.refused, calls.loans, calls.most, calls.pointers
 
 
 def compare_drawn(program, seed, count):
     """Compares lists of calls, `count` calls or some more. Returns them and what `do_list` returns."""
-    library, rng, calls, refused, loans, most = palmheap.Library(), random.Random(seed), 0, [], 0, 0
+    library, rng, calls, refused, loans, most, pointers = palmheap.Library(), random.Random(seed), 0, [], 0, 0, 0
     with tempfile.TemporaryDirectory() as room:
         while calls < count:
-            more_refused, more_loans, at_once = do_list(library, rng, program, room)
+            more_refused, more_loans, at_once, more_pointers = do_list(library, rng, program, room)
             calls, refused, loans = calls + LINES, refused + more_refused, loans + more_loans
+            pointers += more_pointers
             most = max(most, at_once)
-    return calls, refused, loans, most
+    return calls, refused, loans, most, pointers
+
+
+def check_closed(library):
+    """Closes a store that was never opened, failed to open, or is closed: nothing happens."""
+    so, failed, image = library.so, palmheap.Place(UNUSED[0]), library.new(2048, 8)
+    places = palmheap.Place(), failed, palmheap.Place()
+    answer = so.palmheap_open(None, 0, palmheap.c.byref(failed))
+    opened = so.palmheap_open(image, len(image), palmheap.c.byref(places[2]))
+    if (answer.kind, opened.kind) != (20, 0) or so.palmheap_close(palmheap.c.byref(places[2])):
+        sys.exit("a store was not opened, or not closed")
+    for place in places:
+        if place.at or so.palmheap_close(palmheap.c.byref(place)) or place.at:
+            sys.exit("a closed store is not closed in vain")
 
 
 def compare_calls(program, count):
     library = palmheap.Library()
+    check_closed(library)
     if [library.refusal_name(it) for it in (0, 28, 1 << 31)] != [None] * 3:
         sys.exit("a number of no refusal has a name")
     parts = each_part(compare_drawn, program, count)
@@ -886,7 +969,9 @@ def compare_calls(program, count):
     met = ", ".join(f"{refused.count(it)} {library.refusal_name(it)}" for it in sorted(set(refused)))
     print(f"{calls} calls answer as lines of scripts do; {len(refused)} were refused: {met}")
     print(f"{sum(it[2] for it in parts)} loans were put back, at most {max(it[3] for it in parts)} out at once")
-    if 2 * len(refused) > calls:
+    print(f"{sum(it[4] for it in parts)} pointers were given, and unlocked")
+    # (those that a loan is in the way of are drawn to be refused)
+    if 2 * (len(refused) - refused.count(LENT)) > calls:
         sys.exit("more than half of the calls were refused")
 
 

@@ -7,7 +7,8 @@
 # sanitizers, and compares the library with the commands `list` and `canonical` on FILES damaged files (100000). It
 # compares as many calls on a store, and palmheap_run on scripts of the same calls, with the command `run`: by text,
 # files and image, with buffers that are long enough or too short, and on scripts and images with faults.
-# Links by pkg-config, shared and static, sees that wrong headers are refused, and lets each allocation fail in turn.
+# Lends chunks at random, 10 steps for each of FILES. Links by pkg-config, shared and static, sees that wrong headers are
+# refused, and lets each allocation fail in turn.
 # Needs rt, gcc and python3. Without g++, pkg-config, valgrind or cargo, it leaves out what they run, and says so.
 # PALMHEAP names a built program to compare with (./palmheap). The status is 1 if something differs. The gate doesn't
 # run this.
@@ -58,7 +59,7 @@ END
 python3 "$top/tests/library.py" files "$room" || fail 'no files were made'
 for case in 'plain' 'sanitized -fsanitize=address,undefined -fno-sanitize-recover'; do
     name=${case%% *}
-    for demo in demo store loan; do
+    for demo in demo store loan locks; do
         # shellcheck disable=SC2086
         gcc $flags ${case#"$name"} "$top/examples/c/$demo.c" "$static" -o "$room/$name.$demo" ||
             fail "the $name $demo was not built"
@@ -69,6 +70,12 @@ for case in 'plain' 'sanitized -fsanitize=address,undefined -fno-sanitize-recove
     done
     "$room/$name.store" "$room/$name.image" >"$room/$name.store.txt" || fail "the $name store failed"
     "$room/$name.loan" >"$room/$name.loan.txt" || fail "the $name loan failed"
+    "$room/$name.locks" >"$room/$name.locks.txt" || fail "the $name locks failed"
+    # shellcheck disable=SC2086
+    gcc $flags ${case#"$name"} "$top/tests/library_loans.c" "$static" -o "$room/$name.loans" ||
+        fail "the $name test of loans was not built"
+    "$room/$name.loans" $((10 * files)) 1 >"$room/$name.loans.txt" ||
+        { cat "$room/$name.loans.txt"; fail "the $name test of loans failed"; }
 done
 for file in "$room"/*.pdb; do
     base=$(basename "$file").txt
@@ -76,6 +83,11 @@ for file in "$room"/*.pdb; do
 done
 cmp "$room/plain.store.txt" "$room/sanitized.store.txt" || fail 'the stores differ'
 cmp "$room/plain.image" "$room/sanitized.image" || fail 'the images of the stores differ'
+cmp "$room/plain.locks.txt" "$room/sanitized.locks.txt" || fail 'the address books differ'
+cmp "$room/plain.loans.txt" "$room/sanitized.loans.txt" || fail 'the loans differ'
+cat "$room/plain.loans.txt"
+grep '^record' "$room/plain.locks.txt" >"$room/records" || fail 'the address book has no records'
+[ "$(wc -l <"$room/records")" = 5 ] && LC_ALL=C sort -c -k 3 "$room/records" || fail 'the address book is not sorted'
 grep -q '^record 0: Buy milk$' "$room/plain.store.txt" || fail 'the store has no such record'
 "$program" check "$room/plain.image" | grep -q 'databases 1' || fail 'the image of the store has not one database'
 # Linked by pkg-config: shared, and static, which needs no file of the library to run.
@@ -110,7 +122,7 @@ gcc $flags "$top/tests/library_stack.c" "$static" -o "$room/plain.stack" || fail
 nm -D --defined-only "$room/lib/lib/libpalmheap.so" | awk '{ print $3 }' | grep -v '^palmheap_' && fail 'a name escapes'
 
 if command -v valgrind >/dev/null; then
-    for words in "demo $room/memos.pdb $room/out" "store $room/out" loan memory; do
+    for words in "demo $room/memos.pdb $room/out" "store $room/out" loan locks memory 'loans 10000 2'; do
         # shellcheck disable=SC2086
         valgrind -q --error-exitcode=9 --leak-check=full --errors-for-leak-kinds=all "$room"/plain.$words >/dev/null ||
             fail 'valgrind found an error'

@@ -55,9 +55,11 @@ static struct memory {
     palmheap_sizes sizes;
     palmheap_store opened;
     uint32_t db;
+    uint8_t *bytes;
 } memory, before;
 
 static palmheap_store store;
+static uint32_t chunk;
 
 /* ---- the functions that allocate */
 
@@ -70,6 +72,8 @@ static uint32_t open_store(void) { return palmheap_open(memory.image, SIZE, &mem
 static uint32_t write_image(void) { return palmheap_write_image(&store, memory.out, OUT, &memory.count); }
 static uint32_t import(void) { return palmheap_import(&store, file, sizeof file, &memory.db); }
 static uint32_t export(void) { return palmheap_export(&store, memory.db, memory.out, OUT, &memory.count); }
+
+static uint32_t lock_pointer(void) { return palmheap_lock_pointer(&store, chunk, &memory.bytes, &memory.count); }
 
 static uint32_t run(void) {
     palmheap_bytes input = {file, sizeof file};
@@ -106,6 +110,7 @@ int main(void) {
     file[85] = 1;
     memcpy(file + 88, "Buy milk", 9);
     memset(&memory, 165, sizeof memory);
+    memory.opened = (palmheap_store){0};
     try("pdb_blocks", blocks_of, PALMHEAP_NO_MEMORY, 0);
     try("canonical", canonical, PALMHEAP_NO_MEMORY, 0);
     try("pdb_list", list, PALMHEAP_NO_MEMORY, 0);
@@ -115,11 +120,18 @@ int main(void) {
     if (palmheap_open(memory.image, SIZE, &store).kind != PALMHEAP_OK) return 1;
     int opened = blocks;
     try("open", open_store, PALMHEAP_NO_MEMORY, opened - closed);
-    if (palmheap_close(&memory.opened) != 0 || blocks != opened) return 1;
+    for (int i = 0; i < 2; i++)
+        if (palmheap_close(&memory.opened) != 0 || memory.opened.at || blocks != opened) return 1;
     try("import", import, PALMHEAP_REFUSED_OUT_OF_MEMORY, 0);
     try("export", export, PALMHEAP_REFUSED_OUT_OF_MEMORY, 0);
     try("write_image", write_image, PALMHEAP_REFUSED_OUT_OF_MEMORY, 0);
     try("run", run, PALMHEAP_NO_MEMORY, 0);
+    uint8_t locks;
+    if (palmheap_MemHandleNew(&store, 8, 1, &chunk) != 0) return 1;
+    int before_pointers = blocks;
+    try("lock_pointer", lock_pointer, PALMHEAP_REFUSED_OUT_OF_MEMORY, 1);
+    if (palmheap_unlock_pointer(&store, chunk) != 0 || palmheap_MemHandleLockCount(&store, chunk, &locks) != 0) return 1;
+    if (locks != 0 || blocks > before_pointers + 1) return 1;
     if (palmheap_close(&store) != 0 || blocks != closed) return 1;
     return blocks != 0;
 }

@@ -23,11 +23,9 @@ int main(int argc, char **argv) {
     }
     static const uint8_t script[] = "new a 8 1\nmoreslots\n";
     static uint8_t printed[64];
-    uint8_t exported[1];
-    size_t ends[1];
     palmheap_sizes sizes;
-    answer = palmheap_run(image, len, script, sizeof script - 1, (palmheap_bytes[1]){{script, 0}}, 0, printed,
-        sizeof printed, exported, 0, ends, 0, &sizes);
+    answer = palmheap_run(image, len, script, sizeof script - 1, NULL, 0, printed, sizeof printed,
+        NULL, 0, NULL, 0, &sizes);
     if (answer.kind != PALMHEAP_OK) {
         fprintf(stderr, "run: %u\n", (unsigned)answer.kind);
         return 1;

@@ -45,7 +45,7 @@ printf 'no heap, and as long as one must be: 64 bytes at the least......' >bad.i
 # statuses of images and scripts that are refused, for which nothing is written
 says 'check of a refused image' 1 'bad BadMagic' '' check bad.img
 says 'run of a refused image' 1 'bad BadMagic' '' run bad.img calls.txt b.img
-says 'run of a refused script' 1 'line 1 UnknownCommand' '' run a.img faulty.txt b.img
+says 'run of a refused script' 1 'line 1 UnknownCommand' 'faulty.txt:1: frob is unknown here' run a.img faulty.txt b.img
 says 'migration of a refused image' 1 'bad BadMagic' '' migrate bad.img b.img
 says 'a size that no image has' 2 'bad BadSize' "'palmheap explain BadSize' says what BadSize means" new 127 4 b.img
 is 'nothing is written' 'a.img bad.img calls.txt faulty.txt' "$(echo *)"
@@ -259,7 +259,9 @@ rm lines replies complained c.img
 # the lines before a faulty line were run, and no image is written
 printf 'freebytes\nfrob\nfreebytes\n' >late.txt
 is 'a faulty line after another' 'ok 96
-line 2 UnknownCommand' "$("$program" run a.img - c.img <late.txt)"
+line 2 UnknownCommand' "$("$program" run a.img - c.img <late.txt 2>complained)"
+is 'a faulty line after another, explained' 'standard input:2: frob is unknown here' "$(cat complained)"
+rm complained
 is 'no image after a faulty line' '' "$(ls c.img 2>/dev/null)"
 printf '# no call\nfreebytes\n\nsize a' >late.txt
 is 'the numbers of lines that run as they come' '2 ok 96

@@ -45,6 +45,8 @@ def c_parameters(name, kind):
         const = "" if found[1] else "const "
         item = "palmheap_bytes" if found[2] == "&[u8]" else c_name(found[2])
         return [f"{const}{item} *{name}", f"size_t {name}_len"]
+    if kind == "&mut *mut u8":
+        return [f"uint8_t **{name}"]
     found = re.fullmatch(r"&(mut )?(.+)", kind)
     if found:
         return [f"{'' if found[1] else 'const '}{c_name(found[2])} *{name}"]

@@ -29,8 +29,8 @@ import time
 TOP = os.path.dirname(os.path.dirname(os.path.realpath(__file__)))
 WORDS = [it for it in sys.argv[1:] if it != "--clear"]
 PROGRAM = WORDS[0] if WORDS else "palmheap"
-# The smaller programs, which no call uses if the whole one is built.
-SMALLER = ("palmheap_images", "palmheap_base")
+# The smaller program, which no call uses if the whole one is built.
+SMALLER = "palmheap_images"
 # The files in the program's out/ that --clear leaves: the program, what `palmheap` keeps about it, the lock of the lanes.
 KEPT = (PROGRAM, f"{PROGRAM}.crates", f"{PROGRAM}.list", "lanes.lock")
 # One folder for all programs, as they share crates.
@@ -378,9 +378,9 @@ def build(start):
 
 
 def clear(crates):
-    """Removes what `rt` kept of the crates of a built program, and the smaller programs. Leaves the program, and the
+    """Removes what `rt` kept of the crates of a built program, and the smaller program. Leaves the program, and the
     files about it that `palmheap` keeps."""
-    for name in [*(it.name for it in crates), *SMALLER]:
+    for name in [*(it.name for it in crates), SMALLER]:
         out = f"{TOP}/crates/{name}/out"
         if not os.path.isdir(out):
             continue

@@ -37,9 +37,8 @@ static uint8_t *made_by(makes_bytes *function, const uint8_t *file, size_t len, 
 
 /* Shows where the blocks of a file stand. A file has two blocks at least, so the first call has too little room. */
 static void show_blocks(const uint8_t *file, size_t len) {
-    palmheap_block none[1];
     size_t count;
-    palmheap_answer answer = palmheap_pdb_blocks(file, len, none, 0, &count);
+    palmheap_answer answer = palmheap_pdb_blocks(file, len, NULL, 0, &count);
     if (answer.kind != PALMHEAP_NO_ROOM) { fprintf(stderr, "kind %u\n", answer.kind); exit(3); }
     palmheap_block *blocks = malloc(count * sizeof *blocks);
     if (!blocks || palmheap_pdb_blocks(file, len, blocks, count, &count).kind != PALMHEAP_OK) exit(3);
@@ -52,10 +51,9 @@ static void show_blocks(const uint8_t *file, size_t len) {
 /* Runs a script that imports a file and exports it again. The first call is for the sizes of its results. */
 static void show_run(uint8_t *image, size_t image_len, palmheap_bytes file) {
     static const uint8_t script[] = "import it 1\nexport it\n";
-    uint8_t none[1];
     size_t len = sizeof script - 1, ends[1];
     palmheap_sizes sizes;
-    palmheap_answer answer = palmheap_run(image, image_len, script, len, &file, 1, none, 0, none, 0, ends, 0, &sizes);
+    palmheap_answer answer = palmheap_run(image, image_len, script, len, &file, 1, NULL, 0, NULL, 0, NULL, 0, &sizes);
     if (answer.kind != PALMHEAP_NO_ROOM) { fprintf(stderr, "kind %u\n", answer.kind); exit(3); }
     uint8_t *printed = malloc(sizes.printed), *exported = malloc(sizes.exported + 1);
     if (!printed || !exported) exit(3);

@@ -55,9 +55,8 @@ static void show_memo(palmheap_store *store) {
 
 /* Writes the image of a store to a file. The first call is for the size. */
 static int write_image(palmheap_store *store, const char *path) {
-    uint8_t none[1];
     size_t len = 0;
-    uint32_t result = palmheap_write_image(store, none, 0, &len);
+    uint32_t result = palmheap_write_image(store, NULL, 0, &len);
     if (result != PALMHEAP_CALL_NO_ROOM) done("write_image", result);
     uint8_t *image = malloc(len);
     if (!image) { perror("memory"); return 3; }

@@ -140,6 +140,11 @@ def word(kind, value):
     return number(kind, value) if kind in (U8, U16, U32, SIZE) else value
 
 
+def span(data):
+    """Returns the pointer and the length of bytes, for a call: NULL if there are none."""
+    return data or None, len(data)
+
+
 class Fault(Exception):
     """An answer that is not 0: its kind and the numbers that locate it."""
 
@@ -183,6 +188,8 @@ class Library:
             ("put_back", [c.POINTER(Loan)], None),
             ("lent", [c.POINTER(U32)], BOOL),
             ("loan_above", [U32, c.POINTER(U32), c.POINTER(U32)], BOOL),
+            ("lock_pointer", [U32, c.POINTER(c.c_void_p), c.POINTER(SIZE)], U32),
+            ("unlock_pointer", [U32], U32),
         ):
             function = getattr(self.so, f"palmheap_{name}")
             function.argtypes, function.restype = [place, *kinds], result
@@ -203,17 +210,16 @@ class Library:
 
     def _made(self, function, file, item=c.c_uint8):
         """Calls a function for the number of items that it makes, and then with room for them."""
-        count = c.c_size_t(0)
-        items = (item * 1)()
-        answer = function(file, len(file), items, 0, c.byref(count))
+        count, items = c.c_size_t(0), ()
+        answer = function(*span(file), None, 0, c.byref(count))
         if answer.kind == NO_ROOM:
             items = (item * count.value)()
-            answer = function(file, len(file), items, count.value, c.byref(count))
+            answer = function(*span(file), items, count.value, c.byref(count))
         self._good(answer)
         return items[: count.value]
 
     def pdb_check(self, file):
-        self._good(self.so.palmheap_pdb_check(file, len(file)))
+        self._good(self.so.palmheap_pdb_check(*span(file)))
 
     def pdb_blocks(self, file):
         """Returns the AppInfo block, the SortInfo block and the data of each entry, or None for each that is not there."""
@@ -235,25 +241,26 @@ class Library:
 
     def check(self, image):
         counts = Counts()
-        self._good(self.so.palmheap_check(image, len(image), c.byref(counts)))
+        self._good(self.so.palmheap_check(*span(image), c.byref(counts)))
         return {name: getattr(counts, name) for name, _ in Counts._fields_}
 
     def run(self, image, script, files=()):
         """Runs a script on an image. Returns the image afterwards, the reply lines, and the files that it exports."""
         image = (U8 * len(image)).from_buffer_copy(image)
-        given = (Bytes * len(files))(*[Bytes(it, len(it)) for it in files])
+        given = (Bytes * len(files))(*[Bytes(*span(it)) for it in files]) if files else None
         sizes, room = Sizes(), (0, 0, 0)
         while True:
-            text, exported, ends = ((kind * max(1, count))() for kind, count in zip((U8, U8, SIZE), room))
+            text, exported, ends = ((kind * count)() if count else None for kind, count in zip((U8, U8, SIZE), room))
             buffers = (text, room[0], exported, room[1], ends, room[2], c.byref(sizes))
-            answer = self.so.palmheap_run(image, len(image), script, len(script), given, len(files), *buffers)
+            answer = self.so.palmheap_run(image, len(image), *span(script), given, len(files), *buffers)
             if answer.kind != NO_ROOM:
                 break
             room = (sizes.printed, sizes.exported, sizes.files)
         self._good(answer)
-        starts = [0, *ends[: sizes.files]]
+        text, exported, ends = ((it or ())[:count] for it, count in zip((text, exported, ends), room))
+        starts = [0, *ends]
         parts = [bytes(exported[at:end]) for at, end in zip(starts, starts[1:])]
-        return bytes(image), bytes(text[: sizes.printed]).decode("ascii"), parts
+        return bytes(image), bytes(text).decode("ascii"), parts
 
     def open(self, image):
         return Store(self, image)
@@ -271,7 +278,7 @@ class Store:
 
     def __init__(self, library, image):
         self.so, self.place, self.loans = library.so, Place(), {}
-        library._good(self.so.palmheap_open(image, len(image), c.byref(self.place)))
+        library._good(self.so.palmheap_open(*span(image), c.byref(self.place)))
         self.is_open = True
 
     def __enter__(self):
@@ -297,7 +304,7 @@ class Store:
         if len(given) != len(CALLS[name][0]):
             raise TypeError(f"{name} takes {len(CALLS[name][0])} words")
         pairs = zip(CALLS[name][0], given)
-        words = [part for kind, it in pairs for part in ([it, len(it)] if kind is bytes else [word(kind, it)])]
+        words = [part for kind, it in pairs for part in (span(it) if kind is bytes else [word(kind, it)])]
         self._done(getattr(self.so, f"palmheap_{name}")(c.byref(self.place), *words, *map(c.byref, made)))
         told = [it if isinstance(it, c.Structure) else it.value for it in made]
         return told[0] if len(told) == 1 else told or None
@@ -306,15 +313,15 @@ class Store:
         """Does a call of `BYTE_CALLS`, and returns the bytes."""
         if not self.is_open:
             raise ValueError("the store is closed")
-        count, room = SIZE(0), (U8 * 1)()
+        count, room = SIZE(0), None
         function = getattr(self.so, f"palmheap_{name}")
         given = [word(kind, it) for kind, it in zip(BYTE_CALLS[name], given)]
-        refusal = function(c.byref(self.place), *given, room, 0, c.byref(count))
+        refusal = function(c.byref(self.place), *given, None, 0, c.byref(count))
         if refusal == CALL_NO_ROOM:
             room = (U8 * count.value)()
             refusal = function(c.byref(self.place), *given, room, count.value, c.byref(count))
         self._done(refusal)
-        return bytes(room[: count.value])
+        return bytes(room or ())
 
     def take_out(self, name):
         """Takes the bytes of a chunk out, if nothing is lent. Returns them as an array to be used only until `put_back`."""
@@ -338,6 +345,20 @@ class Store:
         if name not in self.loans:
             raise ValueError(f"the chunk {name} isn't lent")
         self.so.palmheap_put_back(c.byref(self.place), c.byref(self.loans.pop(name)))
+
+    def lock_pointer(self, name):
+        """Gives the bytes of a chunk as an array, to be used until as many calls of `unlock_pointer`."""
+        if not self.is_open:
+            raise ValueError("the store is closed")
+        at, count = c.c_void_p(), SIZE(0)
+        self._done(self.so.palmheap_lock_pointer(c.byref(self.place), number(U32, name), c.byref(at), c.byref(count)))
+        return (U8 * count.value).from_address(at.value)
+
+    def unlock_pointer(self, name):
+        """Unlocks the bytes that `lock_pointer` gave once."""
+        if not self.is_open:
+            raise ValueError("the store is closed")
+        self._done(self.so.palmheap_unlock_pointer(c.byref(self.place), number(U32, name)))
 
     def lent(self):
         """Returns the names of all lent chunks, in order of their places."""

@@ -48,7 +48,7 @@ pub(crate) const LEAST: Work<'static> = Work {
 const MOST_MOVED: u16 = 2000;
 
 /// The maximum number of bytes of a chunk, if the heap isn't to be full.
-const MOST_BYTES: u16 = 64;
+const MOST_BODY: u16 = 64;
 
 /// The calls whose time doesn't depend on the heap, with the names that are printed.
 static CALLS: [(&str, Call); 7] = [
@@ -122,7 +122,7 @@ fn time_load(
 ) -> Result<()>
     requires { heap.lents ≡ [] }
 {
-    let mut load = Load::new(rt.alloc(), heap, MOST_BYTES);
+    let mut load = Load::new(rt.alloc(), heap, MOST_BODY);
     time_kinds(rt, &mut load, work)?;
     load.add_to(sums);
     Ok(())

@@ -73,7 +73,7 @@ static CALLS: [(&str, Call); 17] = [
 const KIND: u32 = 0x4441_5441;
 
 /// The type of the database of resources, `appl`.
-const PROGRAM: u32 = 0x6170_706C;
+const PROGRAM_TYPE: u32 = 0x6170_706C;
 
 /// The creator of the databases, `Test`.
 const CREATOR: u32 = 0x5465_7374;
@@ -104,7 +104,7 @@ fn time_each(
 /// Makes a load on a database without records and on one without resources, each alone in its
 /// image.
 fn blank_load(alloc: Global, work: Work<'_>) -> Result<Load> {
-    let (store, db) = blank_store(alloc, work, b"Resources", PROGRAM, true)?;
+    let (store, db) = blank_store(alloc, work, b"Resources", PROGRAM_TYPE, true)?;
     let resources = ResourceLoad::new(store, db);
     let (store, db) = blank_store(alloc, work, b"Records", KIND, false)?;
     Ok(Load::new(store, db, resources))

@@ -24,20 +24,20 @@ pub(crate) const FIELDS: [Field; 1] = [Field::Rounds];
 pub(crate) const LEAST: Work<'static> = NONE;
 
 /// The maximum size of an image.
-const MOST: u32 = 16_777_208;
+const MOST_CHECKED: u32 = 16_777_208;
 
 /// Returns the images, each with its name. The first two have the maximum number of slots. In the
 /// next two all numbers go down with the size.
 fn stores() -> [(&'static str, Store); 7] {
-    let records = store(MOST, 1, 65_533);
-    let shared = store(MOST, 2, 65_532);
+    let records = store(MOST_CHECKED, 1, 65_533);
+    let shared = store(MOST_CHECKED, 2, 65_532);
     [
         ("records", records),
         ("falling", records.with(Flaw::FallingIds)),
-        ("half", store(MOST / 16 * 8, 1, 32_766)),
-        ("quarter", store(MOST / 32 * 8, 1, 16_383)),
+        ("half", store(MOST_CHECKED / 16 * 8, 1, 32_766)),
+        ("quarter", store(MOST_CHECKED / 32 * 8, 1, 16_383)),
         ("one_id", records.with(Flaw::OneId)),
-        ("names", store(MOST, 1024, 62)),
+        ("names", store(MOST_CHECKED, 1024, 62)),
         ("shared", shared.with(Flaw::SharedData)),
     ]
 }

@@ -7,7 +7,7 @@ use Rattle.std.proofs.lemmas.List.{get_or-set_same, get_or-set_other, get_or_pas
 use Rattle.std.proofs.lemmas.Nat.Bits.{and_pow, bit_at_set_same, bit_at_set_other, bit_at-lt, bit_at-zero, bit_at_xor, bit_at-pow_same, bit_at-pow_other, bit_at_ones, bit_at-trailing_ones}
 use Rattle.std.specs.Prelude.{◌↔◌, not, nat_eq}
 use Rattle.std.specs.Int.{bit_at, trailing_ones}
-use Rattle.bit_sets.specs.Sets.{HasNumber, HasNone, AddsNumber, RemovesNumber, IsFirstMissing}
+use Rattle.bit_sets.specs.Sets.{IsInSet, HasNone, AddsNumber, RemovesNumber, IsFirstMissing}
 
 -- ---- one bit
 
@@ -78,7 +78,7 @@ flip_other n k i small apart =
     let low = bit_at-lt n i in
     ap (λ (m : ℕ). bit_at (bit_xor n m) i) (flip_mask k small) ∙ bits ∙ ap (λ (y : ℕ). (bit_at n i + y) % 2) none ∙ omega (arith, low)
 
-pub number_removed : (seen new : List ℕ) (number : ℕ) → number / 8 < length seen → HasNumber seen number → new ≡ set seen (number / 8) (bit_xor (get_or seen (number / 8) 0) (1 * 2 ^ (number % 8) % 2 ^ 8)) → RemovesNumber seen new number
+pub number_removed : (seen new : List ℕ) (number : ℕ) → number / 8 < length seen → IsInSet seen number → new ≡ set seen (number / 8) (bit_xor (get_or seen (number / 8) 0) (1 * 2 ^ (number % 8) % 2 ^ 8)) → RemovesNumber seen new number
 number_removed seen new number inside has e = rw e (record {
   gone = λ one. let none = own_byte seen (number / 8) byte number inside refl ∙ flip_same (get_or seen (number / 8) 0) (number % 8) (omega arith) has in absurd (omega (arith, none, one));
   others = λ other apart. let same = kept other apart in (λ one. sym same ∙ one, λ one. same ∙ one);
@@ -111,7 +111,7 @@ none_in_zeros size each none number has =
 
 -- each number below this is in the set
 pub record HasBelow (seen : List ℕ) (end : ℕ) : Type 0 where
-  pub all : (number : ℕ) → number < end → HasNumber seen number
+  pub all : (number : ℕ) → number < end → IsInSet seen number
 
 bit_of : (seen : List ℕ) (index number : ℕ) → number / 8 ≡ index → bit_at (get_or seen (number / 8) 0) (number % 8) ≡ bit_at (get_or seen index 0) (number % 8)
 bit_of seen index number is = ap (λ (i : ℕ). bit_at (get_or seen i 0) (number % 8)) is

@@ -1,13 +1,13 @@
 //! Adds numbers to a set, removes them, and looks them up.
 
 ghost use Rattle.std.specs.Prelude.{◌<◌, ◌/◌, ◌*◌, ◌+◌, ◌^◌, ◌≡◌, ◌↔◌, ℕ, length, IsTrue, IfSome, IfNone};
-ghost use Rattle.bit_sets.specs.Sets.{HasNumber, AddsNumber, RemovesNumber, KeepsOtherBytes, IsFirstMissing, IsFirstFrom, HasNoneBetween, HasNoneFrom};
+ghost use Rattle.bit_sets.specs.Sets.{IsInSet, AddsNumber, RemovesNumber, KeepsOtherBytes, IsFirstMissing, IsLeastFrom, HasNoneBetween, HasNoneFrom};
 
 /// Reports whether a number is in the set.
 #[inline]
 pub fn has(set: &[u8], number: u32) -> bool
     requires { number / 8 < length set.now }
-    ensures { IsTrue result ↔ HasNumber set.now number }
+    ensures { IsTrue result ↔ IsInSet set.now number }
 {
     set[(number / 8) as usize] & (1u8 << (number % 8)) != 0
 }
@@ -26,7 +26,7 @@ pub fn add(set: &mut [u8], number: u32)
 #[inline]
 pub fn remove(set: &mut [u8], number: u32)
     requires room { number / 8 < length set.old }
-    requires there { HasNumber set.old number }
+    requires there { IsInSet set.old number }
     ensures removes { RemovesNumber set.old set.new number }
     ensures len { length set.new ≡ length set.old }
 {
@@ -37,8 +37,8 @@ pub fn remove(set: &mut [u8], number: u32)
 #[inline]
 pub fn remove_byte(set: &mut [u8], number: u32)
     requires { number / 8 < length set.old }
-    ensures gone { (other : ℕ) → other / 8 ≡ number / 8 → HasNumber set.new other → ⊥ }
-    ensures none_comes { (other : ℕ) → HasNumber set.new other → HasNumber set.old other }
+    ensures gone { (other : ℕ) → other / 8 ≡ number / 8 → IsInSet set.new other → ⊥ }
+    ensures none_comes { (other : ℕ) → IsInSet set.new other → IsInSet set.old other }
     ensures others { KeepsOtherBytes set.old set.new number }
 {
     set[(number / 8) as usize] = 0;
@@ -62,7 +62,7 @@ pub fn first_missing(set: &[u8]) -> u32
 /// byte without a number at once.
 pub fn first_from(set: &[u8], from: u32) -> Option<u32>
     requires { length set.now < 2 ^ 28 }
-    ensures first { IfSome result (IsFirstFrom set.now from) }
+    ensures first { IfSome result (IsLeastFrom set.now from) }
     ensures none { IfNone result (HasNoneFrom set.now from) }
 {
     for index in (from / 8) as usize..set.len() {
@@ -81,7 +81,7 @@ pub fn first_from(set: &[u8], from: u32) -> Option<u32>
 fn first_of_byte(set: &[u8], from: u32) -> Option<u32>
     requires few { length set.now < 2 ^ 28 }
     requires inside { from / 8 < length set.now }
-    ensures first { IfSome result (IsFirstFrom set.now from) }
+    ensures first { IfSome result (IsLeastFrom set.now from) }
     ensures none { IfNone result (HasNoneBetween set.now from (8 * (from / 8) + 8)) }
 {
     for number in from..8 * (from / 8) + 8 {

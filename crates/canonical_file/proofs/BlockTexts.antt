@@ -6,7 +6,7 @@ use Rattle.std.proofs.lemmas.List.{length-take}
 use Rattle.std.proofs.lemmas.List.Elements.{All-head, All-tail}
 use Rattle.std.proofs.lemmas.List.Sums.{sum_by-cons}
 use Rattle.heap_model.specs.Files.{block_bytes, block_size, blocks_in}
-use Rattle.pdb_format.specs.Blocks.{bytes_at, IsWithin, length_within}
+use Rattle.pdb_format.specs.Blocks.{bytes_at, IsBlockWithin, length_within}
 use Rattle.pdb_format.specs.declared.blocks.Block.{Block}
 use Rattle.pdb_format.proofs.FileBlocks.{block_count, length-blocks, block_of}
 use Rattle.pdb_format.proofs.WrittenOffsets.{all_bytes}
@@ -28,7 +28,7 @@ block_here file blocks i bytes has inside is =
     ∙ ap (λ (xs : List ℕ). xs ++ all_bytes (drop (i + 1) (blocks_in file))) (sym is)
 
 -- how many bytes a block has
-pub block_long : (file : List ℕ) (block : Option Block) → IsWithin (length file) block → block_size (bytes_at file block) ≡ length_within block
+pub block_long : (file : List ℕ) (block : Option Block) → IsBlockWithin (length file) block → block_size (bytes_at file block) ≡ length_within block
 block_long file None within = refl
 block_long file (Some block) within =
     let first = within.0 in
@@ -38,12 +38,12 @@ block_long file (Some block) within =
     let is : length (slice_range file block.start block.end) ≡ block.end - block.start = omega arith in
     is
 
-all_long : (file : List ℕ) (blocks : List (Option Block)) → All (IsWithin (length file)) blocks → length (all_bytes (map (bytes_at file) blocks)) ≡ sum_by length_within blocks
+all_long : (file : List ℕ) (blocks : List (Option Block)) → All (IsBlockWithin (length file)) blocks → length (all_bytes (map (bytes_at file) blocks)) ≡ sum_by length_within blocks
 all_long file [] within = refl
 all_long file (block ∷ blocks) within =
     let both = length-append (block_bytes (bytes_at file block)) (all_bytes (map (bytes_at file) blocks)) in
-    let one = block_long file block (All-head (IsWithin (length file)) block blocks within) in
-    let rest = all_long file blocks (All-tail (IsWithin (length file)) block blocks within) in
+    let one = block_long file block (All-head (IsBlockWithin (length file)) block blocks within) in
+    let rest = all_long file blocks (All-tail (IsBlockWithin (length file)) block blocks within) in
     let sum = sum_by-cons length_within block blocks in
     omega arith
 

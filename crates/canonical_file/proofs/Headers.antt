@@ -4,7 +4,7 @@ use Rattle.std.proofs.lemmas.List.{length-map}
 use Rattle.heap_model.specs.Database.{Database, has_resources, header_in, resources_in, entry_offset, database_in}
 use Rattle.heap_model.specs.Files.{idle_entry, idle, block_size, block_offset, with_offsets, first_block}
 use Rattle.db_format.specs.declared.header.DbHeader.{DbHeader}
-use Rattle.db_format.specs.Headers.{HasHeader}
+use Rattle.db_format.specs.Headers.{IsHeaderOf}
 use Rattle.pdb_format.specs.Blocks.{bytes_at, length_within}
 use Rattle.pdb_format.specs.declared.blocks.Block.{Block}
 use Rattle.pdb_format.specs.ReadFiles.{entries_read, database_read}
@@ -59,10 +59,10 @@ same_offset : (at other : ℕ) (block same : Option (List ℕ)) → at ≡ other
 same_offset at other block same e f = ap (λ (n : ℕ). block_offset n block) e ∙ ap (block_offset other) f
 
 -- the header that is read, with this seed and these offsets
-pub header_placed : (file ids : List ℕ) (seed : ℕ) (blocks : List (Option Block)) (header : DbHeader) (app_at sort_at app sort : ℕ) → HasBlocks file blocks → HasHeader (database_in file) header
+pub header_placed : (file ids : List ℕ) (seed : ℕ) (blocks : List (Option Block)) (header : DbHeader) (app_at sort_at app sort : ℕ) → HasBlocks file blocks → IsHeaderOf (database_in file) header
     → app_at ≡ first_place file → sort_at ≡ app_at + length_within (get_or blocks 0 None)
     → app ≡ block_offset app_at (bytes_at file (get_or blocks 0 None)) → sort ≡ block_offset sort_at (bytes_at file (get_or blocks 1 None))
-    → HasHeader (with_offsets (first_block (database_read file ids seed)) (idle (database_read file ids seed))) (record header { seed = header.seed / 16777216 * 16777216 + seed; app_info = app; sort_info = sort })
+    → IsHeaderOf (with_offsets (first_block (database_read file ids seed)) (idle (database_read file ids seed))) (record header { seed = header.seed / 16777216 * 16777216 + seed; app_info = app; sort_info = sort })
 unfolding database_read
 header_placed file ids seed blocks header app_at sort_at app sort has read is_app_at is_sort_at is_app is_sort =
     let d : Database (Option (List ℕ)) = database_read file ids seed in

@@ -4,3 +4,10 @@ pub mod EntryTexts
 pub mod Headers
 pub mod Lengths
 pub mod Runs
+pub mod Canonicals
+pub mod Given
+pub mod Kept
+pub mod Placed
+pub mod Rising
+pub mod Tiled
+pub mod Sums

@@ -6,7 +6,7 @@ use Rattle.heap_model.specs.UniqueIds.{greatest_id, seed_in}
 use Rattle.heap_model.specs.Database.{Database, Entry, entry_with, header_in, database_in}
 use Rattle.heap_model.specs.Store.{unique_ids}
 use Rattle.heap_model.specs.Files.{HasNoFault, HaveIds, IsFirstFault, Reads, blocks_in, entries_end, idle_entry, block_bytes, block_offset, file_of}
-use Rattle.pdb_format.specs.Blocks.{bytes_at, IsWithin, length_within}
+use Rattle.pdb_format.specs.Blocks.{bytes_at, IsBlockWithin, length_within}
 use Rattle.pdb_format.specs.ReadFiles.{HasIdsFor}
 use Rattle.pdb_format.specs.declared.blocks.Block.{Block}
 use Rattle.file_ids.specs.declared.give.GivenIds.{GivenIds}
@@ -34,10 +34,10 @@ abbrev pub WroteCanonical : {W : Type 0} → List ℕ → (W → Option (List �
 WroteCanonical file contents old new count = (bytes : List ℕ) × IsCanonical file bytes × (count ≡ length bytes) × Writes contents old new bytes true
 
 -- the reason why a file has no canonical form
-abbrev pub IsFaultOf : List ℕ → CanonicalFault → Type 0
-IsFaultOf file (BadFile fault) = IsFirstFault file fault
-IsFaultOf file OutOfMemory = HasNoFault file
-IsFaultOf file Write = HasNoFault file
+abbrev pub IsCanonicalFault : List ℕ → CanonicalFault → Type 0
+IsCanonicalFault file (BadFile fault) = IsFirstFault file fault
+IsCanonicalFault file OutOfMemory = HasNoFault file
+IsCanonicalFault file Write = HasNoFault file
 
 -- ---- its parts
 
@@ -47,11 +47,11 @@ pub record HasBlocks (file : List ℕ) (blocks : List (Option Block)) : Type 0 w
   pub good : HasNoFault file
   pub short : length file ≤ most_bytes
   pub are : map (bytes_at file) blocks ≡ blocks_in file
-  pub within : All (IsWithin (length file)) blocks
+  pub within : All (IsBlockWithin (length file)) blocks
   pub total : sum_by length_within blocks ≤ length file
 
 -- the file's records get these IDs
-pub record HasIds (file : List ℕ) (given : GivenIds) : Type 0 where
+pub record GetsIds (file : List ℕ) (given : GivenIds) : Type 0 where
   pub have : HaveIds (seed_in (header_in file).seed) (unique_ids (database_in file)) given.ids.items given.seed
   pub fit : HasIdsFor file given.ids.items
   pub seed : given.seed ≤ greatest_id

@@ -4,7 +4,7 @@ ghost use Rattle.std.specs.Prelude.{◌≡◌, ◌≤◌, ◌<◌, ◌+◌, ◌+
 ghost use Rattle.std.specs.List.{flat_map, sum_by};
 ghost use Rattle.heap_model.specs.Files as files;
 ghost use Rattle.heap_model.specs.Files.{blocks_in};
-ghost use Rattle.pdb_format.specs.Blocks.{bytes_at, IsWithin, length_within};
+ghost use Rattle.pdb_format.specs.Blocks.{bytes_at, IsBlockWithin, length_within};
 ghost use Rattle.palm_text.specs.Counted.{Writes};
 ghost use Rattle.canonical_file.specs.Canonical.{Continues, HasBlocks, run_bytes};
 
@@ -14,7 +14,7 @@ use std::io::Write;
 
 /// Returns the size of a block in bytes, and 0 if there is none.
 pub(crate) fn block_length(block: Option<Block>) -> usize
-    requires { IsWithin usize.MAX block }
+    requires { IsBlockWithin usize.MAX block }
     ensures { result ≡ length_within block }
 {
     match block {
@@ -25,7 +25,7 @@ pub(crate) fn block_length(block: Option<Block>) -> usize
 
 /// Returns the size of all blocks together in bytes.
 pub(crate) fn total_length(blocks: &[Option<Block>]) -> usize
-    requires within { All (IsWithin usize.MAX) blocks.now }
+    requires within { All (IsBlockWithin usize.MAX) blocks.now }
     requires few { sum_by length_within blocks.now < 2 ^ 64 }
     ensures { result ≡ sum_by length_within blocks.now }
 {
@@ -48,7 +48,7 @@ pub(crate) fn block_offset(at: u32, block: Option<Block>) -> u32
 
 /// Returns the bytes of a block, and none if there is no block.
 fn block_bytes(file: &[u8], block: Option<Block>) -> &[u8]
-    requires { IsWithin (length file.now) block }
+    requires { IsBlockWithin (length file.now) block }
     ensures { result.now ≡ files.block_bytes (bytes_at file.now block) }
 {
     match block {
@@ -90,10 +90,10 @@ fn put_unless_next<W: Write>(
     block: Option<Block>,
     out: &mut Counted<W>,
 ) -> Result<Block, WriteFault>
-    requires run { IsWithin (length file.now) (Some run) }
-    requires block { IsWithin (length file.now) block }
+    requires run { IsBlockWithin (length file.now) (Some run) }
+    requires block { IsBlockWithin (length file.now) block }
     ensures next { IfOk result (Continues file.now W.contents out.old out.new run block) }
-    ensures within { IfOk result (λ next. IsWithin (length file.now) (Some next)) }
+    ensures within { IfOk result (λ next. IsBlockWithin (length file.now) (Some next)) }
     ensures stops { OnErr result (Writes W.contents out.old out.new (run_bytes file.now run) false) }
 {
     let Some(block) = block else {

@@ -6,7 +6,7 @@ ghost use Rattle.heap_model.specs.Files as files;
 ghost use Rattle.heap_model.specs.Files.{HasNoFault, block_bytes, blocks_in, file_of};
 ghost use Rattle.palm_text.specs.Counted.{Writes};
 ghost use Rattle.pdb_format.specs.ReadFiles.{database_read};
-ghost use Rattle.canonical_file.specs.Canonical.{HasBlocks, HasIds, IsCanonical, IsFaultOf, WritesCanonical, WroteCanonical, most_bytes};
+ghost use Rattle.canonical_file.specs.Canonical.{HasBlocks, GetsIds, IsCanonical, IsCanonicalFault, WritesCanonical, WroteCanonical, most_bytes};
 
 use crate::blocks::{append, append_blocks, put_blocks, total_length};
 use crate::entries::append_entries;
@@ -16,7 +16,7 @@ use db_format::entries_end;
 use file_ids::{GivenIds, give_ids_from};
 use heap_model::FileFault;
 use palm_text::{Counted, WriteFault, put_all};
-use pdb_format::{Block, check_file, find_blocks_from};
+use pdb_format::{Block, find_blocks_from};
 use std::alloc::AllocError;
 use std::io::Write;
 use thiserror::Error;
@@ -48,7 +48,7 @@ fn file_size(file: &[u8], blocks: &[Option<Block>]) -> usize
 /// it.
 fn append_head(file: &[u8], blocks: &[Option<Block>], given: &GivenIds, bytes: &mut Vec<u8>)
     requires blocks { HasBlocks file.now blocks.now }
-    requires ids { HasIds file.now given.now }
+    requires ids { GetsIds file.now given.now }
     requires empty { bytes.old.items ≡ [] }
     requires none { vec_len bytes.old ≡ 0 }
     requires room { files.entries_end file.now + 2 ≤ vec_capacity bytes.old }
@@ -99,7 +99,7 @@ struct Form {
 fn form_of<A: Allowance>(memory: &A, file: &[u8], given: &GivenIds) -> Result<Form, AllocError>
     requires good { HasNoFault file.now }
     requires short { length file.now ≤ most_bytes }
-    requires ids { HasIds file.now given.now }
+    requires ids { GetsIds file.now given.now }
     ensures blocks { IfOk result (λ form. HasBlocks file.now form.blocks.items) }
     ensures canonical { IfOk result (λ form. IsCanonical file.now
         (form.head.items ++ flat_map block_bytes (blocks_in file.now))) }
@@ -131,39 +131,16 @@ fn put_form<W: Write>(file: &[u8], form: &Form, out: &mut Counted<W>) -> Result<
     put_blocks(file, &form.blocks, out)
 }
 
-/// Writes the canonical form of a file, and returns its size in bytes.
+/// Writes the canonical form of a file without fault, and returns its size in bytes. Its records
+/// get the IDs of `given`.
 ///
 /// Blocks that follow each other in the original file are one write. It doesn't flush `out`. After
 /// a write fails, it writes nothing more.
 ///
 /// # Errors
 ///
-/// - `BadFile`: if the file has a fault. It contains the first one.
 /// - `OutOfMemory`: if an allocation failed.
 /// - `Write`: if a write failed, or took 0 bytes.
-pub fn put_canonical<A: Allowance, W: Write>(
-    memory: &A,
-    file: &[u8],
-    out: &mut Counted<W>,
-) -> Result<usize, CanonicalFault>
-    requires { length file.now ≤ most_bytes }
-    ensures done { IfOk result (WroteCanonical file.now W.contents out.old out.new) }
-    ensures why { IfErr result (IsFaultOf file.now) }
-    ensures untouched { IfErr result (λ fault. fault ≢ CanonicalFault.Write → out.new ≡ out.old) }
-    ensures write { result ≡ Err CanonicalFault.Write
-        → WritesCanonical file.now W.contents out.old out.new false }
-    ensures short { result ≡ Err CanonicalFault.OutOfMemory → A.is_short memory.now }
-{
-    if let Err(fault) = check_file(file) {
-        return Err(CanonicalFault::BadFile(fault));
-    }
-    match give_ids_from(memory, file) {
-        Ok(given) => put_canonical_by(memory, file, &given, out),
-        Err(_) => Err(CanonicalFault::OutOfMemory),
-    }
-}
-
-/// The same as `put_canonical`, for a file without fault and the IDs that its records get.
 pub fn put_canonical_by<A: Allowance, W: Write>(
     memory: &A,
     file: &[u8],
@@ -172,9 +149,9 @@ pub fn put_canonical_by<A: Allowance, W: Write>(
 ) -> Result<usize, CanonicalFault>
     requires good { HasNoFault file.now }
     requires short { length file.now ≤ most_bytes }
-    requires ids { HasIds file.now given.now }
+    requires ids { GetsIds file.now given.now }
     ensures done { IfOk result (WroteCanonical file.now W.contents out.old out.new) }
-    ensures why { IfErr result (IsFaultOf file.now) }
+    ensures why { IfErr result (IsCanonicalFault file.now) }
     ensures untouched { IfErr result (λ fault. fault ≢ CanonicalFault.Write → out.new ≡ out.old) }
     ensures write { result ≡ Err CanonicalFault.Write
         → WritesCanonical file.now W.contents out.old out.new false }

@@ -8,7 +8,7 @@ ghost use Rattle.pdb_format.specs.ReadFiles.{database_read};
 ghost use Rattle.canonical_file.specs.Canonical.{HasBlocks, first_place, data_place};
 
 use crate::blocks::{block_length, block_offset};
-use db_format::{DbHeader, HEADER_SIZE, SEEDS, entries_end};
+use db_format::{DATABASE_HEADER_SIZE, DbHeader, SEEDS, entries_end};
 use pdb_format::Block;
 
 /// Returns the offset of the first block: after the entries and two bytes.
@@ -38,7 +38,11 @@ pub(crate) fn data_start(file: &[u8], blocks: &[Option<Block>]) -> u32
 }
 
 /// Returns the bytes of the header, with this seed.
-pub(crate) fn header_bytes(file: &[u8], blocks: &[Option<Block>], seed: u32) -> [u8; HEADER_SIZE]
+pub(crate) fn header_bytes(
+    file: &[u8],
+    blocks: &[Option<Block>],
+    seed: u32,
+) -> [u8; DATABASE_HEADER_SIZE]
     requires blocks { HasBlocks file.now blocks.now }
     requires seed { seed ≤ greatest_id }
     ensures { (ids : List ℕ) → result ≡ header_text (database_read file.now ids seed) }

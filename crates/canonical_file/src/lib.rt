@@ -9,11 +9,62 @@
 //! ```
 //!
 //! It needs no heap: the blocks are copied from the original file.
+//!
+//! Its *changes* are the differences to the original file:
+//!
+//! ```text
+//! busy     a record is busy
+//! filler   the bytes between the entries and the first block are not exactly two zeros
+//! ids      a record gets another ID: its own is 0, or that of an earlier record
+//! name     the bytes after the name, in its field, are not all zeros
+//! order    the blocks are not in the order of the list
+//! ```
+//!
+//! If no word holds of a file, the file is its own canonical form, byte for byte. If a word holds,
+//! it isn't. So the changes of a file are found without its canonical form.
+//!
+//! Its *needs* are the size and the number of slots of the smallest new image into which it can be
+//! imported. A database takes a chunk for its header and one for each block: AppInfo, SortInfo and
+//! the data of entries. A chunk takes its bytes rounded up to a multiple of 8, 8 bytes of header,
+//! and a slot. The image has one more chunk, the directory, with four bytes for each database.
+//!
+//! ```text
+//! 88      the header of a database without entries: 78 bytes
+//! 16      the directory: 4 bytes
+//! 24      the frame, and the table of two slots
+//! ---
+//! 128     needs 128 bytes and 2 slots in a heap
+//! ```
+//!
+//! | module | does |
+//! |---|---|
+//! | `canonical` | writes the canonical form (`specs/Canonical.antt`) |
+//! | `header`, `entries`, `blocks` | its header, its entries, its blocks |
+//! | `changes` | finds the changes (`specs/Changes.antt`) |
+//! | `entry_changes`, `offsets` | finds those of entries, those of offsets |
+//! | `dropped` | counts the bytes that aren't in the canonical form (`specs/Dropped.antt`) |
+//! | `change_lines` | writes the line of the changes |
+//! | `needs`, `block_needs` | the needs of a file, of its blocks (`specs/Needs.antt`) |
+//! | `image_needs` | the needs of several files, and the smallest image for them |
 #![tactic(auto)]
 
+mod block_needs;
 mod blocks;
 mod canonical;
+mod change_lines;
+mod changes;
+mod dropped;
 mod entries;
+mod entry_changes;
 mod header;
+mod image_needs;
+mod needs;
+mod offsets;
 
-pub use canonical::{CanonicalFault, canonical_bytes, put_canonical, put_canonical_by};
+pub use block_needs::needs_of_blocks;
+pub use canonical::{CanonicalFault, canonical_bytes, put_canonical_by};
+pub use change_lines::put_changes;
+pub use changes::{Changes, changes_by, find_changes};
+pub use dropped::{dropped_filler, dropped_name};
+pub use image_needs::{ENOUGH, image_size, image_slots, needs_of_files};
+pub use needs::{Needs, needs_of};

@@ -8,7 +8,7 @@ use Rattle.laws_heap.proofs.Chunks.{length-seen}
 use Rattle.laws_heap.proofs.Frames.{length-u32_bytes, length-overwritten, overwritten-behind, u32_at-written, u32_at-below}
 use Rattle.chunk_format.specs.declared.header.Header.{Header}
 use Rattle.chunk_format.specs.declared.header.Header.TheVariants as headers
-use Rattle.chunk_format.specs.Header.{size_by, HasHeader, IsWritable, live_words, h_offset_to, header_bytes}
+use Rattle.chunk_format.specs.Header.{size_by, HasHeader, IsWritableHeader, live_words, h_offset_to, header_words}
 
 -- two words, one after the other
 pub two_words : (old one two : Memory) (at first second : ℕ) → at + 8 ≤ length old.bytes → one ≡ record old { bytes = overwritten old.bytes at (u32_bytes first) }
@@ -77,7 +77,7 @@ free_written old at size inside header whole fits =
     let len = length-overwritten old at (u32_bytes (2 ^ 31 + size)) (omega arith) in
     record { free_bit = omega arith; size_field = omega arith; header_fits = header; whole = whole; inside = omega arith }
 
-pub header_written : (old new : List ℕ) (at : ℕ) (h : Header) → at + size_by h ≤ length old → length old < 2 ^ 24 → IsWritable at h → new ≡ overwritten old at (header_bytes at h) → HasHeader new at h
+pub header_written : (old new : List ℕ) (at : ℕ) (h : Header) → at + size_by h ≤ length old → length old < 2 ^ 24 → IsWritableHeader at h → new ≡ overwritten old at (header_words at h) → HasHeader new at h
 header_written old new at (headers.Free size) inside small w is =
     subst (λ (image : List ℕ). HasHeader image at (headers.Free size)) (sym is) record { chunk = free size; spelled = free_written old at size inside w.0 w.1 w.2; header_is = refl }
 header_written old new at (headers.Movable count lock owner slot) inside small w is =

@@ -19,6 +19,12 @@ size_by (headers.Free size) = size
 size_by (headers.Movable length lock owner slot) = need length
 size_by (headers.Fixed length owner) = need length
 
+-- the size of a free chunk with this header, 0 for any other chunk
+abbrev pub free_by : Header → ℕ
+free_by (headers.Free size) = size
+free_by (headers.Movable length lock owner slot) = 0
+free_by (headers.Fixed length owner) = 0
+
 -- the header of a live chunk of `length` bytes at an offset, from its second word
 abbrev pub live_header_by : ℕ → ℕ → ℕ → Header
 live_header_by at length word =
@@ -52,11 +58,11 @@ headers_of at (chunk ∷ chunks) = (record { 0 = at + 8 }, header_of chunk) ∷ 
 
 -- the header can be written at this offset: its numbers fit their fields, and the slot is at an
 -- even distance
-abbrev pub IsWritable : ℕ → Header → Type 0
-IsWritable at (headers.Free size) = (8 ≤ size) × (size % 8 ≡ 0) × (size < 2 ^ 24)
-IsWritable at (headers.Movable length lock owner slot) =
+abbrev pub IsWritableHeader : ℕ → Header → Type 0
+IsWritableHeader at (headers.Free size) = (8 ≤ size) × (size % 8 ≡ 0) × (size < 2 ^ 24)
+IsWritableHeader at (headers.Movable length lock owner slot) =
     (need length < 2 ^ 24) × (lock < fixed_lock) × (owner ≤ data_owner) × ((lock ≡ 0) ⊎ (0 < owner)) × (slot < 2 ^ 24) × (slot % 2 ≡ at % 2)
-IsWritable at (headers.Fixed length owner) = (need length < 2 ^ 24) × (owner ≤ data_owner)
+IsWritableHeader at (headers.Fixed length owner) = (need length < 2 ^ 24) × (owner ≤ data_owner)
 
 -- a lock count and an owner that one movable chunk may have: a locked chunk has an owner
 abbrev pub MayStand : ℕ → ℕ → Type 0
@@ -99,7 +105,7 @@ h_offset_to at slot = (slot + 2 ^ 25 - at) / 2 % 2 ^ 24
 
 -- The bytes that spell a header at an offset. For a free chunk they are only the first word, in
 -- which all bits but the free bit and the size are zero.
-abbrev pub header_bytes : ℕ → Header → List ℕ
-header_bytes at (headers.Free size) = u32_bytes (2 ^ 31 + size)
-header_bytes at (headers.Movable length lock owner slot) = live_words length lock owner (h_offset_to at slot)
-header_bytes at (headers.Fixed length owner) = live_words length fixed_lock owner 0
+abbrev pub header_words : ℕ → Header → List ℕ
+header_words at (headers.Free size) = u32_bytes (2 ^ 31 + size)
+header_words at (headers.Movable length lock owner slot) = live_words length lock owner (h_offset_to at slot)
+header_words at (headers.Fixed length owner) = live_words length fixed_lock owner 0

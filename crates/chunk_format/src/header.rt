@@ -16,7 +16,7 @@ use raw_region::Region;
 const FREE_BIT: u32 = 0x8000_0000;
 
 /// The bits above the 24 bits of a size or of an hOffset are a multiple of this.
-const ABOVE_24_BITS: u32 = 0x100_0000;
+pub const ABOVE_24_BITS: u32 = 0x100_0000;
 
 /// The bits above the 28 bits of owner and hOffset are a multiple of this.
 const ABOVE_28_BITS: u32 = 0x1000_0000;
@@ -25,7 +25,7 @@ const ABOVE_28_BITS: u32 = 0x1000_0000;
 pub const HEADER_SIZE: u32 = 8;
 
 /// The offset of a header's second word, from the header's start.
-const SECOND_WORD_AT: usize = 4;
+pub const SECOND_WORD_AT: usize = 4;
 
 /// The owner of the manager's own chunks: the directory, and the headers of databases.
 pub const MANAGERS_OWNER: u8 = 0;
@@ -82,7 +82,7 @@ pub fn chunk_size(length: u32) -> Option<u32>
 }
 
 impl Header {
-    ghost use Rattle.chunk_format.specs.Header.{header_of, HasHeader, IsWritable, header_bytes};
+    ghost use Rattle.chunk_format.specs.Header.{header_of, HasHeader, IsWritableHeader, header_words};
 
     /// Reads the header of the chunk at `at`, an offset in bytes from the image's start. None if no
     /// well-formed chunk is there, or it would end after the image's end.
@@ -155,9 +155,9 @@ impl Header {
         requires inside { at + size_by self ≤ length region.old.bytes }
         requires misses { Misses region.old.lents at HEADER_SIZE }
         requires small { length region.old.bytes < 2 ^ 24 }
-        requires writable { IsWritable at self }
+        requires writable { IsWritableHeader at self }
         ensures after { region.new ≡ record region.old
-            { bytes = overwritten region.old.bytes at (header_bytes at self) } }
+            { bytes = overwritten region.old.bytes at (header_words at self) } }
         ensures len { length region.new.bytes ≡ length region.old.bytes }
         ensures spelled { HasHeader region.new.bytes at self }
     {

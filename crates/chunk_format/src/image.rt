@@ -1,7 +1,7 @@
 //! Blank images.
 #![tactic(auto, using(laws_heap::proofs::Lending::all_within, laws_heap::proofs::Lending::all_misses))]
 
-ghost use Rattle.std.specs.Prelude.{[], ◌≡◌, ◌↔◌, IfOk, Err, None, replicate};
+ghost use Rattle.std.specs.Prelude.{[], ◌≡◌, ◌↔◌, IfOk, Err, replicate};
 ghost use Rattle.heap_model.specs.Store.{Accepted, store_of};
 ghost use Rattle.chunk_format.specs.Blank.{IsRegionSize, LeavesRoom, IsPlanned, IsBlank, IsEmpty};
 ghost use Rattle.allowance.specs.Refusals.{GrowthRefused};

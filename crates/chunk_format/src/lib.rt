@@ -27,8 +27,8 @@ pub use frame::{
     size_field, slot_count,
 };
 pub use header::{
-    DATA_OWNER, FIXED_LOCK, HEADER_SIZE, Header, LiveFields, MANAGERS_OWNER, chunk_size,
-    live_fields, put_lock, put_owner, size_of_body,
+    ABOVE_24_BITS, DATA_OWNER, FIXED_LOCK, HEADER_SIZE, Header, LiveFields, MANAGERS_OWNER,
+    SECOND_WORD_AT, chunk_size, live_fields, put_lock, put_owner, size_of_body,
 };
 pub use image::{BlankFault, blank, blank_from};
 pub use laws::blank_images_are_empty;

@@ -6,12 +6,12 @@ use Rattle.palm_text.specs.Pieces.{is_printable}
 use Rattle.code_page.specs.Windows1252.{character_of}
 
 -- the code of the character that is written: U+FFFD for a control character, or for none
-abbrev pub written : Option ℕ → ℕ
-written None = 0xFFFD
-written (Some code) = if is_control code then 0xFFFD else code
+abbrev pub written_code : Option ℕ → ℕ
+written_code None = 0xFFFD
+written_code (Some code) = if is_control code then 0xFFFD else code
 
 abbrev pub shown : ℕ → ℕ
-shown byte = written (character_of byte)
+shown byte = written_code (character_of byte)
 
 abbrev pub character : ℕ → List ℕ
 character byte = encode_utf8 (shown byte)
@@ -19,11 +19,11 @@ character byte = encode_utf8 (shown byte)
 abbrev pub characters : List ℕ → List ℕ
 characters bytes = flat_map character bytes
 
-abbrev pub closed : (bytes after : List ℕ) → List ℕ
-closed bytes after = characters bytes ++ after
+abbrev pub characters_before : (bytes after : List ℕ) → List ℕ
+characters_before bytes after = characters bytes ++ after
 
 abbrev pub between : (before name after : List ℕ) → List ℕ
-between before name after = before ++ closed name after
+between before name after = before ++ characters_before name after
 
 -- the characters of a name between two texts, or nothing if scripts spell the name in quotes
 abbrev pub text_between : (before name after : List ℕ) → List ℕ

@@ -3,7 +3,7 @@
 ghost use Rattle.std.specs.Prelude.{◌≡◌, is_ok};
 ghost use Rattle.palm_text.specs.Counted.{Writes};
 ghost use Rattle.code_page.specs.Texts as words;
-ghost use Rattle.code_page.specs.Texts.{between, characters, closed, text_between};
+ghost use Rattle.code_page.specs.Texts.{between, characters, characters_before, text_between};
 
 use crate::characters::character_of;
 use palm_text::{Counted, WriteFault, are_printable, put_all};
@@ -43,7 +43,7 @@ fn put_characters<W: Write>(out: &mut Counted<W>, bytes: &[u8]) -> Result<(), Wr
 /// Writes the characters of some bytes, and a text after them.
 #[tactic(auto, using(palm_text::proofs::Parts::then, palm_text::proofs::Parts::stops))]
 fn put_closed<W: Write>(out: &mut Counted<W>, bytes: &[u8], after: &[u8]) -> Result<(), WriteFault>
-    ensures { Writes W.contents out.old out.new (closed bytes.now after.now) (is_ok result) }
+    ensures { Writes W.contents out.old out.new (characters_before bytes.now after.now) (is_ok result) }
 {
     put_characters(out, bytes)?;
     put_all(out, after)

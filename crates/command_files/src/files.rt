@@ -8,7 +8,7 @@ use crate::region_input::{SizedFault, read_sized};
 use crate::replacing::output_for_database;
 use heap_model::Bytes;
 use palm_text::{Counted, put};
-use program_io::{INPUT_LIMIT, InputFault, Noted, Status, read_input_from, report_outcome};
+use program_io::{InputFault, MOST_INPUT, Noted, Status, read_input_from, report_outcome};
 use raw_region::Region;
 use std::alloc::{AllocError, Global};
 use std::fs;
@@ -19,10 +19,10 @@ use std::rt::Files;
 /// Reads a whole file.
 ///
 /// # Errors
-/// - `ReadFault`: the file can't be read, or is longer than `INPUT_LIMIT`.
+/// - `ReadFault`: the file can't be read, or is longer than `MOST_INPUT`.
 /// - `NoMemory`: an allocation failed.
 pub fn read_file<R: Files + Eprint + AllocGlobal>(rt: &R, path: &str) -> Result<Vec<u8>, Status>
-    ensures limit { IfOk result (λ bytes. vec_len bytes ≤ INPUT_LIMIT) }
+    ensures limit { IfOk result (λ bytes. vec_len bytes ≤ MOST_INPUT) }
     ensures faults { IfErr result (λ status. (status ≡ Status.ReadFault) ⊎ (status ≡ Status.NoMemory)) }
 {
     let read = match File::open(rt, path) {
@@ -40,7 +40,7 @@ pub fn read_file_or_input<R: Files + Input + Eprint + AllocGlobal>(
     rt: &R,
     path: &str,
 ) -> Result<Vec<u8>, Status>
-    ensures limit { IfOk result (λ bytes. vec_len bytes ≤ INPUT_LIMIT) }
+    ensures limit { IfOk result (λ bytes. vec_len bytes ≤ MOST_INPUT) }
     ensures faults { IfErr result (λ status. (status ≡ Status.ReadFault) ⊎ (status ≡ Status.NoMemory)) }
 {
     if path != STANDARD_STREAM {
@@ -56,13 +56,13 @@ pub fn read_file_or_input<R: Files + Input + Eprint + AllocGlobal>(
 /// copy, unless the size of the file changes meanwhile.
 ///
 /// # Errors
-/// - `ReadFault`: the file can't be read, or is longer than `INPUT_LIMIT`.
+/// - `ReadFault`: the file can't be read, or is longer than `MOST_INPUT`.
 /// - `NoMemory`: an allocation failed.
 pub fn read_image<R: Files + Input + Eprint + AllocGlobal>(
     rt: &R,
     path: &str,
 ) -> Result<Region, Status>
-    ensures limit { IfOk result (λ region. length region.bytes ≤ INPUT_LIMIT) }
+    ensures limit { IfOk result (λ region. length region.bytes ≤ MOST_INPUT) }
     ensures whole { IfOk result (λ region. region.lents ≡ []) }
     ensures faults { IfErr result (λ status. (status ≡ Status.ReadFault) ⊎ (status ≡ Status.NoMemory)) }
 {
@@ -83,7 +83,7 @@ pub fn read_image<R: Files + Input + Eprint + AllocGlobal>(
 /// Reads some files as wholes, in order. The path `-` means standard input.
 ///
 /// # Errors
-/// - `ReadFault`: a file can't be read, or is longer than `INPUT_LIMIT`.
+/// - `ReadFault`: a file can't be read, or is longer than `MOST_INPUT`.
 /// - `NoMemory`: an allocation failed.
 pub fn read_files<R: Files + Input + Eprint + AllocGlobal>(
     rt: &R,

@@ -10,6 +10,7 @@
 //! | `region_input` | reads an image into a region |
 //! | `replacing` | output files that don't replace a file of the other kind |
 //! | `faults` | reports why a command did not start |
+//! | `line_hints` | reports what is wrong with a faulty line |
 //! | `buffered` | returns and reports the first error of a buffered writer |
 //! | `suggestions` | reports what an input looks like, which command explains a fault |
 #![tactic(auto)]
@@ -17,6 +18,7 @@
 mod buffered;
 mod faults;
 mod files;
+mod line_hints;
 mod region_input;
 mod replacing;
 mod suggestions;
@@ -30,6 +32,7 @@ pub use files::{
     read_file, read_file_or_input, read_files, read_image, report_left_files, write_file,
     write_files,
 };
+pub use line_hints::report_line_hint;
 pub use region_input::{SizedFault, read_region_from};
 pub use replacing::{output_for_database, output_for_image, output_for_picture};
 pub use suggestions::{

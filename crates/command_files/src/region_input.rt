@@ -4,16 +4,13 @@ ghost use Rattle.std.specs.Prelude.{[], ◌≡◌, ◌≢◌, ◌+◌, ◌≤◌
 ghost use Rattle.std.specs.Io.KnownBytes.{IsAtEnd, Keeps, prepend_known};
 
 use allowance::{Allowance, zeros};
-use program_io::{INPUT_LIMIT, InputFault};
+use program_io::{InputFault, MOST_INPUT, MOST_READ};
 use raw_region::Region;
 use std::alloc::AllocError;
 use std::fs;
 use std::fs::File;
 use std::io::Read;
 use std::rt::Files;
-
-/// The greatest number of bytes that one read asks for.
-const TURN: usize = 65_536;
 
 /// The reason why no region was read.
 #[derive(Clone, Copy, Debug)]
@@ -29,10 +26,10 @@ pub enum SizedFault {
 /// # Errors
 ///
 /// - `Input`: if the file can't be read, or an allocation failed.
-/// - `OtherSize`: if there is no file at the path, if it is longer than `INPUT_LIMIT`, or if its
+/// - `OtherSize`: if there is no file at the path, if it is longer than `MOST_INPUT`, or if its
 ///   size changed while it was read.
 pub(crate) fn read_sized<R: Files + AllocGlobal>(rt: &R, path: &str) -> Result<Region, SizedFault>
-    ensures limit { IfOk result (λ region. length region.bytes ≤ INPUT_LIMIT) }
+    ensures limit { IfOk result (λ region. length region.bytes ≤ MOST_INPUT) }
     ensures whole { IfOk result (λ region. region.lents ≡ []) }
 {
     let Some(size) = size_of(rt, path) else {
@@ -45,12 +42,12 @@ pub(crate) fn read_sized<R: Files + AllocGlobal>(rt: &R, path: &str) -> Result<R
 }
 
 /// Returns the size of the file at a path in bytes. Returns `None` if there is no file, or if it is
-/// longer than `INPUT_LIMIT`.
+/// longer than `MOST_INPUT`.
 fn size_of(rt: &impl Files, path: &str) -> Option<u32>
-    ensures { IfSome result (λ size. size ≤ INPUT_LIMIT) }
+    ensures { IfSome result (λ size. size ≤ MOST_INPUT) }
 {
     match fs::metadata(rt, path) {
-        Ok(found) if found.is_file() && found.len() <= INPUT_LIMIT as u64 => {
+        Ok(found) if found.is_file() && found.len() <= MOST_INPUT as u64 => {
             Some(found.len() as u32)
         }
         _ => None,
@@ -92,12 +89,12 @@ pub fn read_region_from<A: Allowance, R: Read>(
     Ok(region)
 }
 
-/// Allocates a buffer of `TURN` bytes.
+/// Allocates a buffer of `MOST_READ` bytes.
 fn buffer<A: Allowance>(memory: &A) -> Result<Vec<u8>, AllocError>
     ensures room { IfOk result (λ buffer. 0 < length buffer.items) }
     ensures short { OnErr result (A.is_short memory.now) }
 {
-    zeros(memory, TURN)
+    zeros(memory, MOST_READ)
 }
 
 /// Reads once, and writes the new bytes into the region from `at` on. Moves `at` after them, and

@@ -6,7 +6,7 @@ ghost use Rattle.std.specs.Io.KnownBytes.{Consumes};
 ghost use Rattle.hints.specs.Lookalikes as words;
 
 use crate::faults::fail;
-use hints::{HEADER_SIZE, IMAGE_HEADER_SIZE, looks_like_database, looks_like_image};
+use hints::{DATABASE_HEADER_SIZE, IMAGE_HEADER_SIZE, looks_like_database, looks_like_image};
 use program_io::{OutputFile, Status};
 use std::fs;
 use std::fs::File;
@@ -25,7 +25,7 @@ pub fn output_for_image<'a, R: Files + Eprint + AllocGlobal>(
 ) -> Result<OutputFile<'a, R>, Status>
     ensures { IfErr result (λ status. (status ≡ Status.WriteFault) ⊎ (status ≡ Status.NoMemory)) }
 {
-    let mut head = [0; HEADER_SIZE];
+    let mut head = [0; DATABASE_HEADER_SIZE];
     if has_head(rt, path, &mut head) {
         return image_over(rt, path, &head);
     }
@@ -116,7 +116,7 @@ fn is_image<R: Files>(rt: &R, path: &str) -> bool {
 
 /// Returns whether there is a file at a path that looks like a PDB or PRC file.
 fn is_database<R: Files>(rt: &R, path: &str) -> bool {
-    let mut head = [0; HEADER_SIZE];
+    let mut head = [0; DATABASE_HEADER_SIZE];
     has_head(rt, path, &mut head) && looks_like_database(&head)
 }
 

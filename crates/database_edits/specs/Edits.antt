@@ -56,5 +56,5 @@ abbrev pub HasKindHere : List ℕ → ℕ → Bool → Type 0
 HasKindHere image db resources = resources ≡ has_resources (database_here image db).header.attributes
 
 -- there is no room to make the chunk under the slot longer by the bytes of one entry
-abbrev pub HasNoRoomFor : List ℕ → ℕ → Bool → Type 0
-HasNoRoomFor image db resources = ShortFor image db (need (length (bytes_under image db) + entry_size resources))
+abbrev pub HasNoRoomForEntry : List ℕ → ℕ → Bool → Type 0
+HasNoRoomForEntry image db resources = ShortFor image db (need (length (bytes_under image db) + entry_size resources))

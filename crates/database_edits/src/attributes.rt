@@ -7,7 +7,7 @@ ghost use Rattle.mem_manager.specs.Lookup.{StandsAs};
 ghost use Rattle.database_edits.specs.Recorded.{attributes_changed};
 ghost use Rattle.database_edits.specs.Edits.{Changes, HasKindHere};
 
-use db_format::{HEADER_SIZE, RECORD_ATTRIBUTES_AT, RECORD_SIZE};
+use db_format::{DATABASE_HEADER_SIZE, RECORD_ATTRIBUTES_AT, RECORD_SIZE};
 use heap_model::{Db, Name};
 use mem_manager::{Found, Heap};
 use raw_region::ByteChange;
@@ -24,11 +24,11 @@ pub fn change_attributes<C: ByteChange>(heap: &mut Heap, db: Db, chunk: Found, c
     ensures loan { KeepsLoan heap.old heap.new }
     ensures rest { heap.new ≡ record heap.old { bytes = heap.new.bytes } }
 {
-    let entries = heap.sys_body_found(Name(db.0), chunk).len() - HEADER_SIZE;
+    let entries = heap.sys_body_found(Name(db.0), chunk).len() - DATABASE_HEADER_SIZE;
     heap.sys_change_every(
         Name(db.0),
         chunk,
-        HEADER_SIZE as u32,
+        DATABASE_HEADER_SIZE as u32,
         entries as u32,
         RECORD_ATTRIBUTES_AT as u32,
         RECORD_SIZE as u32,

@@ -8,7 +8,7 @@ ghost use Rattle.heap_model.specs.Lending.{KeepsLoan};
 ghost use Rattle.heap_model.specs.Leaving.{SpellsHere, database_here};
 ghost use Rattle.db_format.specs.EitherEntry.{entry_of, is_resource, HasFittingId};
 ghost use Rattle.mem_manager.specs.Lookup.{StandsAs};
-ghost use Rattle.database_edits.specs.Edits.{Changes, HasKindHere, HasNoRoomFor, entry_inserted};
+ghost use Rattle.database_edits.specs.Edits.{Changes, HasKindHere, HasNoRoomForEntry, entry_inserted};
 
 use crate::bodies::{grow, put_entry, slide_entries};
 use crate::headers::{heading_here, put_entry_count, put_modification_number, put_seed};
@@ -39,7 +39,7 @@ pub fn insert_entry(
     requires id { HasFittingId entry }
     ensures inserted { OnOk result
         (Changes heap.old.bytes heap.new.bytes db.0 (entry_inserted index (entry_of entry))) }
-    ensures no_room { OnErr result (HasNoRoomFor heap.old.bytes db.0 (is_resource entry)) }
+    ensures no_room { OnErr result (HasNoRoomForEntry heap.old.bytes db.0 (is_resource entry)) }
     ensures refusal { IfErr result (λ refusal. refusal ≡ Refusal.NotEnoughSpace) }
     ensures refused { OnErr result (heap.new ≡ heap.old) }
     ensures loan { KeepsLoan heap.old heap.new }

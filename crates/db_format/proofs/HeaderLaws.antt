@@ -8,7 +8,7 @@ use Rattle.heap_model.specs.Database.{DatabaseHeader, Database, name_field, head
 use Rattle.laws_store.proofs.Names.{length-name_field}
 use Rattle.laws_store.proofs.Edits.{spelled_header}
 use Rattle.db_format.specs.declared.header.DbHeader.{DbHeader}
-use Rattle.db_format.specs.Headers.{header_of, HasHeader, with_header, WritesHeader}
+use Rattle.db_format.specs.Headers.{header_values, IsHeaderOf, with_header, WritesHeader}
 
 -- ---- read
 
@@ -26,10 +26,10 @@ same_header h g a b c d e f i j k l = by h g a b c d e f i j k l where
 
 pub header_read : (h : DbHeader) (bytes : List ℕ) → h.name ≡ name_in bytes → h.attributes ≡ u16_at bytes 32 → h.version ≡ u16_at bytes 34 → h.creation_date ≡ u32_at bytes 36 → h.modification_date ≡ u32_at bytes 40
     → h.backup_date ≡ u32_at bytes 44 → h.modification_number ≡ u32_at bytes 48 → h.app_info ≡ u32_at bytes 52 → h.sort_info ≡ u32_at bytes 56 → h.kind ≡ u32_at bytes 60 → h.creator ≡ u32_at bytes 64 → h.seed ≡ u32_at bytes 68
-    → h.entry_count ≡ entry_count_in bytes → HasHeader (database_in bytes) h
+    → h.entry_count ≡ entry_count_in bytes → IsHeaderOf (database_in bytes) h
 unfolding header_in database_in
 header_read h bytes a b c d e f g app sort i j k count = record {
-  values = same_header (header_of h) (header_in bytes) a b c d e f g i j k;
+  values = same_header (header_values h) (header_in bytes) a b c d e f g i j k;
   app_info = app;
   sort_info = sort;
   entry_count = count ∙ sym (length-map-range_with_len (entry_in bytes) 0 (entry_count_in bytes));
@@ -52,13 +52,13 @@ bytes_by h app sort count = name_field h.name ++ concat (fields h app sort count
 pub bytes_same : (g h : DatabaseHeader) (a b s t m n : ℕ) → g ≡ h → a ≡ b → s ≡ t → m ≡ n → bytes_by g a s m ≡ bytes_by h b t n
 bytes_same g h a b s t m n p q r u = cc
 
-pub header_spelled : (d : Database ℕ) (h : DbHeader) (bytes : List ℕ) → bytes ≡ bytes_by (header_of h) h.app_info h.sort_info h.entry_count → HasHeader d h → bytes ≡ header_bytes d
+pub header_spelled : (d : Database ℕ) (h : DbHeader) (bytes : List ℕ) → bytes ≡ bytes_by (header_values h) h.app_info h.sort_info h.entry_count → IsHeaderOf d h → bytes ≡ header_bytes d
 unfolding header_bytes bytes_by fields
-header_spelled d h bytes is has = is ∙ bytes_same (header_of h) d.header h.app_info d.app_info h.sort_info d.sort_info h.entry_count (length d.entries) has.values has.app_info has.sort_info has.entry_count
+header_spelled d h bytes is has = is ∙ bytes_same (header_values h) d.header h.app_info d.app_info h.sort_info d.sort_info h.entry_count (length d.entries) has.values has.app_info has.sort_info has.entry_count
 
 -- the numbers of a header that is written have room in their fields
 pub record NumbersFit (h : DbHeader) : Type 0 where
-  pub header : HeaderFits (header_of h)
+  pub header : HeaderFits (header_values h)
   pub app_info : h.app_info < 2 ^ 32
   pub sort_info : h.sort_info < 2 ^ 32
   pub entry_count : h.entry_count < 2 ^ 16
@@ -73,10 +73,10 @@ with_fits d h fits numbers name kind = record {
   entry_count = fits.entry_count;
 }
 
-pub header_written : (h : DbHeader) (bytes : List ℕ) → NumbersFit h → IsDatabaseName h.name → ((d : Database ℕ) → HasHeader d h → bytes ≡ header_bytes d) → WritesHeader h bytes
+pub header_written : (h : DbHeader) (bytes : List ℕ) → NumbersFit h → IsDatabaseName h.name → ((d : Database ℕ) → IsHeaderOf d h → bytes ≡ header_bytes d) → WritesHeader h bytes
 header_written h bytes numbers name is d body spells count kind =
     let fits = with_fits d h spells.fits numbers name kind in
-    let has : HasHeader (with_header d h) h = record { values = refl; app_info = refl; sort_info = refl; entry_count = count } in
+    let has : IsHeaderOf (with_header d h) h = record { values = refl; app_info = refl; sort_info = refl; entry_count = count } in
     record {
       fits = fits;
       bytes_are = ap (overwritten body 0) (is (with_header d h) has) ∙ ap (λ (bs : List ℕ). overwritten bs 0 (header_bytes (with_header d h))) spells.bytes_are ∙ sym (spelled_header d (with_header d h) spells.fits fits refl);

@@ -10,8 +10,8 @@ use Rattle.heap_model.specs.declared.database.DbInfo.{DbInfo}
 use Rattle.db_format.specs.declared.header.DbHeader.{DbHeader}
 
 -- the values of a header that don't depend on the blocks and the entries of the database
-abbrev pub header_of : DbHeader → DatabaseHeader
-header_of header = record {
+abbrev pub header_values : DbHeader → DatabaseHeader
+header_values header = record {
   name = header.name;
   attributes = header.attributes;
   version = header.version;
@@ -41,15 +41,15 @@ info_told header = record {
 }
 
 -- this is the header of the database
-pub record HasHeader (database : Database ℕ) (header : DbHeader) : Type 0 where
-  pub values : header_of header ≡ database.header
+pub record IsHeaderOf (database : Database ℕ) (header : DbHeader) : Type 0 where
+  pub values : header_values header ≡ database.header
   pub app_info : header.app_info ≡ database.app_info
   pub sort_info : header.sort_info ≡ database.sort_info
   pub entry_count : header.entry_count ≡ length database.entries
 
 -- the database with this header instead of its own, and with the same entries
 abbrev pub with_header : Database ℕ → DbHeader → Database ℕ
-with_header database header = record database { header = header_of header; app_info = header.app_info; sort_info = header.sort_info }
+with_header database header = record database { header = header_values header; app_info = header.app_info; sort_info = header.sort_info }
 
 -- If these bytes are written over the header of a database, the database has this header, and keeps
 -- its entries. The header must have the number of the database's entries, and attributes with their
@@ -94,7 +94,7 @@ WritesField at bytes Differs =
 
 -- The bytes are a header, no further list of entries, and exactly as many entries as the header
 -- has. A valid database also has a name.
-pub record IsWhole (bytes : List ℕ) : Type 0 where
+pub record AreWholeBytes (bytes : List ℕ) : Type 0 where
   pub header : header_size ≤ length bytes
   pub next_list : u32_at bytes next_list_at ≡ 0
   pub ends : length bytes ≡ entry_offset (resources_in bytes) (entry_count_in bytes)

@@ -5,12 +5,12 @@ ghost use Rattle.heap_model.specs.Bytes.{u16_at, u32_at};
 ghost use Rattle.heap_model.specs.DatabaseFields.{header_size, attributes_at, modification_number_at, app_info_at, sort_info_at, seed_at, next_list_at};
 ghost use Rattle.heap_model.specs.Database.{resources_in, entry_count_in};
 ghost use Rattle.heap_model.specs.Database as databases;
-ghost use Rattle.db_format.specs.Headers.{IsWhole};
+ghost use Rattle.db_format.specs.Headers.{AreWholeBytes};
 
 use crate::database_attributes::DbAttrs;
 use crate::fields::{
-    APP_INFO_AT, ATTRIBUTES_AT, ENTRY_COUNT_AT, HEADER_SIZE, MODIFICATION_NUMBER_AT, NEXT_LIST_AT,
-    SEED_AT, SORT_INFO_AT, entry_offset,
+    APP_INFO_AT, ATTRIBUTES_AT, DATABASE_HEADER_SIZE, ENTRY_COUNT_AT, MODIFICATION_NUMBER_AT,
+    NEXT_LIST_AT, SEED_AT, SORT_INFO_AT, entry_offset,
 };
 use crate::words::{u16_in, u32_in};
 
@@ -102,9 +102,9 @@ pub fn entries_end(bytes: &[u8]) -> usize
 /// Returns whether the bytes are a header and exactly as many entries as the header has, with no
 /// further list of entries. If they also have a name (`has_name`), they spell a database.
 pub fn is_whole(bytes: &[u8]) -> bool
-    ensures { IsTrue result ↔ IsWhole bytes.now }
+    ensures { IsTrue result ↔ AreWholeBytes bytes.now }
 {
-    if bytes.len() < HEADER_SIZE {
+    if bytes.len() < DATABASE_HEADER_SIZE {
         return false;
     }
     if next_list(bytes) != 0 {

@@ -40,7 +40,7 @@ pub const NEXT_LIST_AT: usize = 72;
 pub const ENTRY_COUNT_AT: usize = 76;
 
 /// The size of a header in bytes. The entries follow it.
-pub const HEADER_SIZE: usize = 78;
+pub const DATABASE_HEADER_SIZE: usize = 78;
 
 /// The number of info blocks that a database may have. They come before the data of the entries:
 /// first the AppInfo block, then the SortInfo block.
@@ -81,5 +81,5 @@ pub fn entry_size(resources: bool) -> usize
 pub fn entry_offset(resources: bool, index: u16) -> usize
     ensures { result ≡ databases.entry_offset resources index }
 {
-    HEADER_SIZE + entry_size(resources) * index as usize
+    DATABASE_HEADER_SIZE + entry_size(resources) * index as usize
 }

@@ -3,11 +3,11 @@
 ghost use Rattle.std.specs.Prelude.{◌≡◌, ◌≤◌, ℕ, length, take};
 ghost use Rattle.heap_model.specs.DatabaseFields.{name_size, header_size};
 ghost use Rattle.heap_model.specs.Database.{Database, IsDatabaseName, name_field, name_in, header_bytes, database_in};
-ghost use Rattle.db_format.specs.Headers.{HasHeader, WritesHeader, info_told};
+ghost use Rattle.db_format.specs.Headers.{IsHeaderOf, WritesHeader, info_told};
 
 use crate::fields::{
-    APP_INFO_AT, ATTRIBUTES_AT, BACKUP_DATE_AT, CREATION_DATE_AT, CREATOR_AT, ENTRY_COUNT_AT,
-    HEADER_SIZE, KIND_AT, MODIFICATION_DATE_AT, MODIFICATION_NUMBER_AT, NAME_SIZE, NEXT_LIST_AT,
+    APP_INFO_AT, ATTRIBUTES_AT, BACKUP_DATE_AT, CREATION_DATE_AT, CREATOR_AT, DATABASE_HEADER_SIZE,
+    ENTRY_COUNT_AT, KIND_AT, MODIFICATION_DATE_AT, MODIFICATION_NUMBER_AT, NAME_SIZE, NEXT_LIST_AT,
     SEED_AT, SORT_INFO_AT, VERSION_AT,
 };
 use crate::name::NameField;
@@ -45,7 +45,7 @@ impl DbHeader {
     pub fn read(bytes: &[u8]) -> DbHeader
         requires header { header_size ≤ length bytes.now }
         requires name { IsDatabaseName (name_in bytes.now) }
-        ensures { HasHeader (database_in bytes.now) result }
+        ensures { IsHeaderOf (database_in bytes.now) result }
     {
         DbHeader {
             name: NameField::read(bytes),
@@ -84,8 +84,8 @@ impl DbHeader {
     }
 
     /// Returns the bytes of the header.
-    pub fn to_bytes(&self) -> [u8; HEADER_SIZE]
-        ensures is { (database : Database ℕ) → HasHeader database self.now → result ≡ header_bytes database }
+    pub fn to_bytes(&self) -> [u8; DATABASE_HEADER_SIZE]
+        ensures is { (database : Database ℕ) → IsHeaderOf database self.now → result ≡ header_bytes database }
         ensures written { WritesHeader self.now result }
     {
         let mut bytes = begin_with(self.name);
@@ -107,11 +107,11 @@ impl DbHeader {
 }
 
 /// Returns the bytes of a header that has a name and zeros in all other fields.
-fn begin_with(name: NameField) -> [u8; HEADER_SIZE]
+fn begin_with(name: NameField) -> [u8; DATABASE_HEADER_SIZE]
     ensures front { take name_size result ≡ name_field name }
     ensures valid { IsDatabaseName name }
 {
-    let mut bytes = [0; HEADER_SIZE];
+    let mut bytes = [0; DATABASE_HEADER_SIZE];
     bytes[..NAME_SIZE].copy_from_slice(&name.to_bytes());
     bytes
 }

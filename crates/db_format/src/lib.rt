@@ -43,9 +43,9 @@ pub use db_entry::DbEntry;
 pub use entries::{GREATEST_ID, RecordEntry, ResourceEntry, SEEDS, entry_slot, record_id};
 pub use entry_bytes::EntryBytes;
 pub use fields::{
-    ENTRY_COUNT_AT, HEADER_SIZE, INFO_BLOCKS, MODIFICATION_NUMBER_AT, NAME_SIZE, NEXT_LIST_AT,
-    RECORD_ATTRIBUTES_AT, RECORD_SIZE, RESOURCE_DATA_AT, RESOURCE_SIZE, SEED_AT, entry_offset,
-    entry_size,
+    DATABASE_HEADER_SIZE, ENTRY_COUNT_AT, INFO_BLOCKS, MODIFICATION_NUMBER_AT, NAME_SIZE,
+    NEXT_LIST_AT, RECORD_ATTRIBUTES_AT, RECORD_SIZE, RESOURCE_DATA_AT, RESOURCE_SIZE, SEED_AT,
+    entry_offset, entry_size,
 };
 pub use header::DbHeader;
 pub use header_fields::{

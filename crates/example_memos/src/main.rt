@@ -21,12 +21,12 @@ use std::io;
 
 /// A PDB file with one memo, `Buy milk`, of category 1. It has a header of 78 bytes, an entry of 8
 /// bytes, two zeros, and the text.
-const FILE: &[u8] =
+const FIRST_MEMO_FILE: &[u8] =
     b"MemoDB\0\0\0\0\0\0\0\0\0\0\0\0\0\0\0\0\0\0\0\0\0\0\0\0\0\0\0\0\0\0\0\0\0\0\0\0\0\0\0\0\0\0\
     \0\0\0\0\0\0\0\0\0\0\0\0DATAmemo\0\0\0\0\0\0\0\0\0\x01\0\0\0\x58\x01\0\0\x01\0\0Buy milk\0";
 
 /// The memo that is added.
-const TEXT: &[u8] = b"Call Anna";
+const NEW_MEMO: &[u8] = b"Call Anna";
 
 /// An index after all records.
 const END: u32 = 0xFFFF;
@@ -34,7 +34,7 @@ const END: u32 = 0xFFFF;
 fn main(rt: HostRuntime) -> Result<()> {
     let alloc = rt.alloc();
     let mut store = blank_store(alloc)?;
-    let db = import(alloc, &mut store, FILE)?;
+    let db = import(alloc, &mut store, FIRST_MEMO_FILE)?;
     print_replies(&rt, &add_memo(alloc, &mut store, db)?)?;
     let file = exported(&alloc, &store, db)?;
     println!(rt; "a file of {} bytes", file.as_slice().len())?;
@@ -54,8 +54,8 @@ fn blank_store(alloc: Global) -> Result<Store>
 fn add_memo(alloc: Global, store: &mut Store, db: Db) -> Result<Vec<Reply>>
     ensures { store.new.lents ≡ store.old.lents }
 {
-    let (index, name) = new_record(store, db, END, TEXT.len() as u32 + 1)?;
-    Ok(write_memo(alloc, store, Memo { db, index, name }, TEXT)?)
+    let (index, name) = new_record(store, db, END, NEW_MEMO.len() as u32 + 1)?;
+    Ok(write_memo(alloc, store, Memo { db, index, name }, NEW_MEMO)?)
 }
 
 fn print_replies(rt: &impl Print, replies: &[Reply]) -> io::Result<()> {

@@ -30,8 +30,8 @@ number_text None = []
 number_text (Some number) = decimal number ++ codes " "
 
 -- the line of a row
-abbrev pub row_line : Explanation → List ℕ
-row_line row = number_text row.0.number ++ (row.1.0.now ++ (row.1.1.0.now ++ (topic_text row.0.topic ++ (row.1.1.1.now ++ codes ".\n"))))
+abbrev pub explained_line : Explanation → List ℕ
+explained_line row = number_text row.0.number ++ (row.1.0.now ++ (row.1.1.0.now ++ (topic_text row.0.topic ++ (row.1.1.1.now ++ codes ".\n"))))
 
 -- whether a word is the number of a refusal, in decimal
 abbrev pub is_number : Option ℕ → List ℕ → Bool
@@ -43,13 +43,13 @@ abbrev pub is_asked : List ℕ → Explanation → Bool
 is_asked word row = str_eq_ignore_ascii_case row.1.0.now word || is_number row.0.number word
 
 -- the line of a row, or nothing if the word is neither its name nor its number
-abbrev pub answer : List ℕ → Explanation → List ℕ
-answer word row = cond (is_asked word row) (row_line row) []
+abbrev pub line_if_asked : List ℕ → Explanation → List ℕ
+line_if_asked word row = cond (is_asked word row) (explained_line row) []
 
 -- the lines of the rows with this name or number, in the order of the table
 abbrev pub answers : List ℕ → List Explanation → List ℕ
 answers word [] = []
-answers word (row ∷ rows) = answer word row ++ answers word rows
+answers word (row ∷ rows) = line_if_asked word row ++ answers word rows
 
 -- whether a word is the name or number of one of some rows
 abbrev pub is_among : List ℕ → List Explanation → Bool

@@ -73,7 +73,7 @@ fn put_asked<V: Write>(
     word: &[u8],
     row: &Explanation,
 ) -> Result<(), WriteFault>
-    ensures { Writes V.contents out.old out.new (words.answer word.now row.now) (is_ok result) }
+    ensures { Writes V.contents out.old out.new (words.line_if_asked word.now row.now) (is_ok result) }
 {
     if is_asked(word, row) {
         put_row(out, row)
@@ -85,7 +85,7 @@ fn put_asked<V: Write>(
 /// Writes the line of a row.
 #[tactic(auto, using(palm_text::proofs::Parts::then, palm_text::proofs::Parts::stops))]
 fn put_row<V: Write>(out: &mut Counted<V>, row: &Explanation) -> Result<(), WriteFault>
-    ensures { Writes V.contents out.old out.new (words.row_line row.now) (is_ok result) }
+    ensures { Writes V.contents out.old out.new (words.explained_line row.now) (is_ok result) }
 {
     put_number(out, row.0.number)?;
     put_pieces(

@@ -36,37 +36,37 @@ pub struct Heading {
 /// name one whose rows are structs of texts.
 pub type Explanation = (Heading, (&'static str, (&'static str, &'static str)));
 
-const IMAGE: Heading = Heading {
+const ABOUT_IMAGE: Heading = Heading {
     topic: Topic::Image,
     number: None,
 };
 
-const DATABASES: Heading = Heading {
+const ABOUT_DATABASES: Heading = Heading {
     topic: Topic::Databases,
     number: None,
 };
 
-const FILE: Heading = Heading {
+const ABOUT_FILE: Heading = Heading {
     topic: Topic::File,
     number: None,
 };
 
-const LINE: Heading = Heading {
+const ABOUT_LINE: Heading = Heading {
     topic: Topic::Line,
     number: None,
 };
 
-const BLANK: Heading = Heading {
+const ABOUT_BLANK: Heading = Heading {
     topic: Topic::Blank,
     number: None,
 };
 
-const OUTPUT: Heading = Heading {
+const ABOUT_OUTPUT: Heading = Heading {
     topic: Topic::Output,
     number: None,
 };
 
-const CHANGE: Heading = Heading {
+const ABOUT_CHANGE: Heading = Heading {
     topic: Topic::Change,
     number: None,
 };
@@ -75,7 +75,7 @@ const CHANGE: Heading = Heading {
 /// numbers.
 pub const EXPLANATIONS: [Explanation; 63] = [
     (
-        IMAGE,
+        ABOUT_IMAGE,
         (
             "TooShort",
             (
@@ -86,14 +86,14 @@ pub const EXPLANATIONS: [Explanation; 63] = [
         ),
     ),
     (
-        IMAGE,
+        ABOUT_IMAGE,
         (
             "BadMagic",
             ("", "the first four bytes are neither PHI1 nor PHI2"),
         ),
     ),
     (
-        IMAGE,
+        ABOUT_IMAGE,
         (
             "BadSize",
             (
@@ -103,7 +103,7 @@ pub const EXPLANATIONS: [Explanation; 63] = [
         ),
     ),
     (
-        IMAGE,
+        ABOUT_IMAGE,
         (
             "BadSlotCount",
             (
@@ -113,17 +113,23 @@ pub const EXPLANATIONS: [Explanation; 63] = [
             ),
         ),
     ),
-    (IMAGE, ("BadReserved", ("", "bytes 10 and 11 aren't zero"))),
-    (IMAGE, ("BadPadding", ("", "a padding byte isn't zero"))),
     (
-        IMAGE,
+        ABOUT_IMAGE,
+        ("BadReserved", ("", "bytes 10 and 11 aren't zero")),
+    ),
+    (
+        ABOUT_IMAGE,
+        ("BadPadding", ("", "a padding byte isn't zero")),
+    ),
+    (
+        ABOUT_IMAGE,
         (
             "BadChunk",
             (" o", "the first chunk out of shape is at the offset o"),
         ),
     ),
     (
-        IMAGE,
+        ABOUT_IMAGE,
         (
             "BadTable",
             (
@@ -136,7 +142,7 @@ pub const EXPLANATIONS: [Explanation; 63] = [
         ),
     ),
     (
-        IMAGE,
+        ABOUT_IMAGE,
         (
             "SlotMismatch",
             (
@@ -147,7 +153,7 @@ pub const EXPLANATIONS: [Explanation; 63] = [
         ),
     ),
     (
-        IMAGE,
+        ABOUT_IMAGE,
         (
             "ChunkWithoutSlot",
             (
@@ -158,7 +164,7 @@ pub const EXPLANATIONS: [Explanation; 63] = [
         ),
     ),
     (
-        IMAGE,
+        ABOUT_IMAGE,
         (
             "BadFixedOwner",
             (
@@ -169,7 +175,7 @@ pub const EXPLANATIONS: [Explanation; 63] = [
         ),
     ),
     (
-        IMAGE,
+        ABOUT_IMAGE,
         (
             "BadDirectory",
             (
@@ -180,7 +186,7 @@ pub const EXPLANATIONS: [Explanation; 63] = [
         ),
     ),
     (
-        DATABASES,
+        ABOUT_DATABASES,
         (
             "BadDirectorySlot",
             (
@@ -192,7 +198,7 @@ pub const EXPLANATIONS: [Explanation; 63] = [
         ),
     ),
     (
-        DATABASES,
+        ABOUT_DATABASES,
         (
             "BadHeader",
             (
@@ -204,7 +210,7 @@ pub const EXPLANATIONS: [Explanation; 63] = [
         ),
     ),
     (
-        DATABASES,
+        ABOUT_DATABASES,
         (
             "BadEntry",
             (
@@ -216,7 +222,7 @@ pub const EXPLANATIONS: [Explanation; 63] = [
         ),
     ),
     (
-        DATABASES,
+        ABOUT_DATABASES,
         (
             "SharedChunk",
             (
@@ -227,7 +233,7 @@ pub const EXPLANATIONS: [Explanation; 63] = [
         ),
     ),
     (
-        DATABASES,
+        ABOUT_DATABASES,
         (
             "StrayChunk",
             (
@@ -239,7 +245,7 @@ pub const EXPLANATIONS: [Explanation; 63] = [
         ),
     ),
     (
-        DATABASES,
+        ABOUT_DATABASES,
         (
             "BadId",
             (
@@ -250,7 +256,7 @@ pub const EXPLANATIONS: [Explanation; 63] = [
         ),
     ),
     (
-        DATABASES,
+        ABOUT_DATABASES,
         (
             "BadName",
             (
@@ -261,7 +267,7 @@ pub const EXPLANATIONS: [Explanation; 63] = [
         ),
     ),
     (
-        DATABASES,
+        ABOUT_DATABASES,
         (
             "SameName",
             (
@@ -271,7 +277,7 @@ pub const EXPLANATIONS: [Explanation; 63] = [
         ),
     ),
     (
-        FILE,
+        ABOUT_FILE,
         (
             "Truncated",
             (
@@ -281,7 +287,7 @@ pub const EXPLANATIONS: [Explanation; 63] = [
         ),
     ),
     (
-        FILE,
+        ABOUT_FILE,
         (
             "ChainedList",
             (
@@ -290,9 +296,9 @@ pub const EXPLANATIONS: [Explanation; 63] = [
             ),
         ),
     ),
-    (FILE, ("EmptyName", ("", "the first byte is zero"))),
+    (ABOUT_FILE, ("EmptyName", ("", "the first byte is zero"))),
     (
-        FILE,
+        ABOUT_FILE,
         (
             "BadInfo",
             (
@@ -303,7 +309,7 @@ pub const EXPLANATIONS: [Explanation; 63] = [
         ),
     ),
     (
-        FILE,
+        ABOUT_FILE,
         (
             "BadOffset",
             (
@@ -315,7 +321,7 @@ pub const EXPLANATIONS: [Explanation; 63] = [
         ),
     ),
     (
-        LINE,
+        ABOUT_LINE,
         (
             "UnknownCommand",
             (
@@ -326,7 +332,7 @@ pub const EXPLANATIONS: [Explanation; 63] = [
         ),
     ),
     (
-        LINE,
+        ABOUT_LINE,
         (
             "WrongCount",
             (
@@ -337,7 +343,7 @@ pub const EXPLANATIONS: [Explanation; 63] = [
         ),
     ),
     (
-        LINE,
+        ABOUT_LINE,
         (
             "BadWord",
             (
@@ -349,14 +355,14 @@ pub const EXPLANATIONS: [Explanation; 63] = [
         ),
     ),
     (
-        BLANK,
+        ABOUT_BLANK,
         (
             "BadSize",
             ("", "SIZE isn't a multiple of 8 from 64 to 16777208"),
         ),
     ),
     (
-        BLANK,
+        ABOUT_BLANK,
         (
             "BadSlotCount",
             (
@@ -367,25 +373,26 @@ pub const EXPLANATIONS: [Explanation; 63] = [
         ),
     ),
     (
-        OUTPUT,
+        ABOUT_OUTPUT,
         (
             "TooLarge",
             (
                 "",
-                "the image that migrate or import would write has more than 16777208 bytes, or \
-                    the file that pack would write more than 16777216",
+                "the image that migrate or import would write has more than 16777208 bytes, \
+                    import needs more than 65535 slots, or the file that pack would write has \
+                    more than 16777216 bytes",
             ),
         ),
     ),
     (
-        CHANGE,
+        ABOUT_CHANGE,
         (
             "busy",
             ("", "a record has the busy bit, 0x20. It is cleared"),
         ),
     ),
     (
-        CHANGE,
+        ABOUT_CHANGE,
         (
             "filler",
             (
@@ -396,7 +403,7 @@ pub const EXPLANATIONS: [Explanation; 63] = [
         ),
     ),
     (
-        CHANGE,
+        ABOUT_CHANGE,
         (
             "ids",
             (
@@ -407,7 +414,7 @@ pub const EXPLANATIONS: [Explanation; 63] = [
         ),
     ),
     (
-        CHANGE,
+        ABOUT_CHANGE,
         (
             "name",
             (
@@ -418,7 +425,7 @@ pub const EXPLANATIONS: [Explanation; 63] = [
         ),
     ),
     (
-        CHANGE,
+        ABOUT_CHANGE,
         (
             "order",
             (

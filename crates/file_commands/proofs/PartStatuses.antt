@@ -30,7 +30,7 @@ module _ {V : Type 0} (contents : V → Option (List ℕ)) where
   not_unpacked old new file NoMemory either refused fails = absurd (none_of NoMemory Refused WriteFault either (λ e. cc) (λ e. cc))
 
   pub not_listed : (old new : Writing V) (text : List ℕ) (fault : LineFault) (status : Status) → read_database text ≡ Err fault → (status ≡ Refused) ⊎ (status ≡ WriteFault) ⊎ (status ≡ NoMemory)
-      → (status ≡ Refused → lines.PutsFault fault contents old new true) → (status ≡ WriteFault → lines.PutsFault fault contents old new false) → (status ≡ NoMemory → new ≡ old) → NotListed text contents old new status
+      → (status ≡ Refused → lines.PutsScriptRefused fault contents old new true) → (status ≡ WriteFault → lines.PutsScriptRefused fault contents old new false) → (status ≡ NoMemory → new ≡ old) → NotListed text contents old new status
   not_listed old new text fault Refused is either refused fails short = (fault, is, refused refl)
   not_listed old new text fault WriteFault is either refused fails short = (fault, is, fails refl)
   not_listed old new text fault NoMemory is either refused fails short = short refl

@@ -6,7 +6,7 @@ use Rattle.palm_text.specs.Counted.{Writing, Writes, Flushes}
 use Rattle.palm_text.specs.Output.{Puts}
 use Rattle.palm_text.proofs.Parts.{then_flush}
 use Rattle.canonical_file.specs.Canonical.{IsCanonical, WritesCanonical, WroteCanonical}
-use Rattle.file_changes.specs.Changes.{AreChanges, changes_line}
+use Rattle.canonical_file.specs.Changes.{AreChanges, changes_line}
 use Rattle.file_listing.specs.FaultLines.{fault_lines}
 use Rattle.file_listing.specs.Listing.{WritesListing}
 use Rattle.file_commands.specs.declared.faults.Rewritten.{Rewritten}

@@ -6,8 +6,8 @@ use Rattle.heap_model.specs.declared.file_fault.FileFault.{FileFault}
 use Rattle.palm_text.specs.Counted.{Writing}
 use Rattle.palm_text.specs.Output.{Puts}
 use Rattle.canonical_file.specs.Canonical.{IsCanonical}
-use Rattle.file_changes.specs.declared.changes.Changes.{Changes}
-use Rattle.file_changes.specs.Changes.{AreChanges, changes_line}
+use Rattle.canonical_file.specs.declared.changes.Changes.{Changes}
+use Rattle.canonical_file.specs.Changes.{AreChanges, changes_line}
 use Rattle.file_listing.specs.Listing.{IsListing}
 use Rattle.file_listing.specs.FaultLines.{fault_lines}
 use Rattle.file_commands.specs.declared.faults.Rewritten.{Rewritten}

@@ -11,5 +11,5 @@ abbrev pub IsFaultLine : LineFault → List ℕ → Type 0
 IsFaultLine fault line = (text : List ℕ) × (line ≡ codes "line " ++ (decimal fault.line ++ (codes " " ++ (text ++ codes "\n"))))
 
 -- the line for a refused script goes to a writer
-abbrev pub PutsFault : {V : Type 0} → LineFault → (V → Option (List ℕ)) → Writing V → Writing V → Bool → Type 0
-PutsFault fault contents old new ok = (line : List ℕ) × IsFaultLine fault line × Puts contents old new line ok
+abbrev pub PutsScriptRefused : {V : Type 0} → LineFault → (V → Option (List ℕ)) → Writing V → Writing V → Bool → Type 0
+PutsScriptRefused fault contents old new ok = (line : List ℕ) × IsFaultLine fault line × Puts contents old new line ok

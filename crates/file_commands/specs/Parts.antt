@@ -25,7 +25,7 @@ NotUnpacked file contents old new ReadFault = ⊥
 
 -- the line for the first faulty line of the text of a database
 abbrev pub PutsLineFault : {V : Type 0} → List ℕ → (V → Option (List ℕ)) → Writing V → Writing V → Bool → Type 0
-PutsLineFault text contents old new ok = (fault : LineFault) × (read_database text ≡ Err fault) × lines.PutsFault fault contents old new ok
+PutsLineFault text contents old new ok = (fault : LineFault) × (read_database text ≡ Err fault) × lines.PutsScriptRefused fault contents old new ok
 
 -- what was written if the text of a database was not read, by the status
 abbrev pub NotListed : {V : Type 0} → List ℕ → (V → Option (List ℕ)) → Writing V → Writing V → Status → Type 0

@@ -8,7 +8,7 @@ ghost use Rattle.canonical_file.specs.Canonical.{most_bytes};
 ghost use Rattle.file_commands.specs.Ends.{PutsFault, count_line, rewritten_lines};
 ghost use Rattle.file_listing.specs.FaultLines.{fault_lines};
 
-use file_changes::{Changes, put_changes};
+use canonical_file::{Changes, put_changes};
 use file_listing::put_fault;
 use heap_model::FileFault;
 use itoa::Buffer;

@@ -1,7 +1,7 @@
 //! The line for a refused script, or for a refused text of a folder.
 
 ghost use Rattle.std.specs.Prelude.{◌≡◌, ◌⊎◌, IfOk, OnErr, string_bytes, true, false};
-ghost use Rattle.file_commands.specs.LineFaults.{IsFaultLine, PutsFault};
+ghost use Rattle.file_commands.specs.LineFaults.{IsFaultLine, PutsScriptRefused};
 
 use allowance::{Allowance, text_of};
 use palm_text::Counted;
@@ -19,8 +19,8 @@ pub fn say_line_fault<A: Allowance, V: Write>(
 ) -> Status
     ensures status { (result ≡ Status.Refused) ⊎ (result ≡ Status.WriteFault)
         ⊎ (result ≡ Status.NoMemory) }
-    ensures said { result ≡ Status.Refused → PutsFault fault V.contents out.old out.new true }
-    ensures fault { result ≡ Status.WriteFault → PutsFault fault V.contents out.old out.new false }
+    ensures said { result ≡ Status.Refused → PutsScriptRefused fault V.contents out.old out.new true }
+    ensures fault { result ≡ Status.WriteFault → PutsScriptRefused fault V.contents out.old out.new false }
     ensures no_memory { result ≡ Status.NoMemory → out.new ≡ out.old }
     ensures short { result ≡ Status.NoMemory → A.is_short memory.now }
 {

@@ -8,7 +8,7 @@ ghost use Rattle.pdb_format.specs.Writable.{file_size};
 ghost use Rattle.canonical_file.specs.Canonical.{IsCanonical, most_bytes};
 ghost use Rattle.file_parts.specs.Unpacking.{IsUnpacked, database_of};
 ghost use Rattle.file_parts.specs.Listed.{IsListed, database_listed};
-ghost use Rattle.file_parts.specs.Packing.{HasPartsOf, packed};
+ghost use Rattle.file_parts.specs.Packing.{HasPartsOf, database_of_parts};
 ghost use Rattle.file_parts.specs.Reading.{read_database};
 ghost use Rattle.file_commands.specs.Ends.{count_line};
 ghost use Rattle.file_commands.specs.Parts.{EndsPack, NotListed, NotUnpacked};
@@ -101,7 +101,7 @@ pub fn cmd_pack_from<A: Allowance, W: Write, V: Write>(
     out: &mut Counted<V>,
 ) -> Status
     requires { HasPartsOf listed.now parts.now }
-    ensures ends { EndsPack (packed listed.now parts.now) W.contents file_out.old file_out.new
+    ensures ends { EndsPack (database_of_parts listed.now parts.now) W.contents file_out.old file_out.new
         V.contents out.old out.new result }
     ensures short { result ≡ Status.NoMemory → A.is_short memory.now }
 {

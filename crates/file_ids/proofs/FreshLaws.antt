@@ -5,9 +5,9 @@ use Rattle.std.proofs.lemmas.Bool.{cases_lt}
 use Rattle.std.proofs.lemmas.List.{append-nil, append_assoc, take_all, drop_all, drop-set-lt}
 use Rattle.heap_model.specs.Lists.{times}
 use Rattle.heap_model.specs.UniqueIds.{greatest_id, next_id, id_behind, IsFresh}
-use Rattle.bit_sets.specs.Sets.{HasNumber, AddsNumber}
+use Rattle.bit_sets.specs.Sets.{IsInSet, AddsNumber}
 use Rattle.laws_store.proofs.Fresh.{id_behind_is, id_behind_fits, fresh_exists}
-use Rattle.file_ids.specs.Passes.{HasIds, HasRoomFor, AreFilled}
+use Rattle.file_ids.specs.Passes.{HasIds, HasRoomFor, ZerosGetFresh}
 use Rattle.file_ids.proofs.KeptLaws.{has_put}
 
 -- ---- the walk to the first that is free
@@ -17,18 +17,18 @@ pub record Passes (taken : List ℕ) (seed id : ℕ) : Type 0 where
   pub behind : ℕ
   pub below : behind < greatest_id
   pub is : id ≡ id_behind seed behind
-  pub full : (earlier : ℕ) → earlier < behind → HasNumber taken (id_behind seed earlier)
+  pub full : (earlier : ℕ) → earlier < behind → IsInSet taken (id_behind seed earlier)
 
 pub passes_first : (taken : List ℕ) (seed id : ℕ) → id ≡ next_id seed → Passes taken seed id
 passes_first taken seed id is = record { behind = 0; below = omega arith; is = is; full = λ earlier less. absurd (omega arith) }
 
-more_full : (taken : List ℕ) (seed id : ℕ) → HasNumber taken id → (p : Passes taken seed id) → (earlier : ℕ) → earlier < suc p.behind → HasNumber taken (id_behind seed earlier)
+more_full : (taken : List ℕ) (seed id : ℕ) → IsInSet taken id → (p : Passes taken seed id) → (earlier : ℕ) → earlier < suc p.behind → IsInSet taken (id_behind seed earlier)
 more_full taken seed id here p earlier less = elim (cases_lt earlier p.behind) [
   | inl before ↦ p.full earlier before
-  | inr last ↦ let e : earlier ≡ p.behind = omega arith in subst (HasNumber taken) (p.is ∙ ap (id_behind seed) (sym e)) here
+  | inr last ↦ let e : earlier ≡ p.behind = omega arith in subst (IsInSet taken) (p.is ∙ ap (id_behind seed) (sym e)) here
 ]
 
-behind_more : (taken : List ℕ) (seed id : ℕ) → seed ≤ greatest_id → HasRoomFor taken 0 → HasNumber taken id → (p : Passes taken seed id) → suc p.behind < greatest_id
+behind_more : (taken : List ℕ) (seed id : ℕ) → seed ≤ greatest_id → HasRoomFor taken 0 → IsInSet taken id → (p : Passes taken seed id) → suc p.behind < greatest_id
 behind_more taken seed id most room here p = elim (cases_lt (suc p.behind) greatest_id) [
   | inl less ↦ less
   | inr past ↦
@@ -37,7 +37,7 @@ behind_more taken seed id most room here p = elim (cases_lt (suc p.behind) great
       (room.has.are (id_behind seed n) (id_behind_fits seed n most).0).0 (more_full taken seed id here p n (omega arith))))
 ]
 
-pub passes_more : (taken : List ℕ) (seed id next : ℕ) → seed ≤ greatest_id → HasRoomFor taken 0 → HasNumber taken id → next ≡ next_id id → Passes taken seed id → Passes taken seed next
+pub passes_more : (taken : List ℕ) (seed id next : ℕ) → seed ≤ greatest_id → HasRoomFor taken 0 → IsInSet taken id → next ≡ next_id id → Passes taken seed id → Passes taken seed next
 passes_more taken seed id next most room here is p = record {
   behind = suc p.behind;
   below = behind_more taken seed id most room here p;
@@ -58,7 +58,7 @@ steps_are seed id behind most below is =
     ]
 
 -- the walk comes nearer to its end
-pub fewer_left : (taken : List ℕ) (seed id next : ℕ) → seed ≤ greatest_id → HasRoomFor taken 0 → HasNumber taken id → next ≡ next_id id → Passes taken seed id → greatest_id - steps_to seed next < greatest_id - steps_to seed id
+pub fewer_left : (taken : List ℕ) (seed id next : ℕ) → seed ≤ greatest_id → HasRoomFor taken 0 → IsInSet taken id → next ≡ next_id id → Passes taken seed id → greatest_id - steps_to seed next < greatest_id - steps_to seed id
 fewer_left taken seed id next most room here is p =
     let more = behind_more taken seed id most room here p in
     let now = steps_are seed id p.behind most p.below p.is in
@@ -74,12 +74,12 @@ passed_fits taken seed id most p =
     (omega arith, omega arith)
 
 -- at its end it has found the fresh one
-pub fresh_there : (taken ids : List ℕ) (seed id : ℕ) → seed ≤ greatest_id → (HasNumber taken id → ⊥) → Passes taken seed id → HasIds taken ids → IsFresh ids seed id
+pub fresh_there : (taken ids : List ℕ) (seed id : ℕ) → seed ≤ greatest_id → (IsInSet taken id → ⊥) → Passes taken seed id → HasIds taken ids → IsFresh ids seed id
 fresh_there taken ids seed id most absent p has = record {
   behind = p.behind;
   first = record {
     here = elim (cases_lt 0 (times (id_behind seed p.behind) ids)) [
-      | inl used ↦ absurd (absent (subst (HasNumber taken) (sym p.is) ((has.are (id_behind seed p.behind) (id_behind_fits seed p.behind most).0).1 used)))
+      | inl used ↦ absurd (absent (subst (IsInSet taken) (sym p.is) ((has.are (id_behind seed p.behind) (id_behind_fits seed p.behind most).0).1 used)))
       | inr none ↦ omega arith
     ];
     none_below = λ earlier less none. (
@@ -98,7 +98,7 @@ pub record FilledTo (known : List ℕ) (first_seed : ℕ) (old taken : List ℕ)
   pub has : HasIds taken ids
   pub few : length ids ≤ length known + index
   pub behind : drop index new ≡ drop index old
-  pub front : (given : List ℕ) (last_seed : ℕ) → AreFilled ids seed (drop index old) given last_seed → AreFilled known first_seed old (take index new ++ given) last_seed
+  pub front : (given : List ℕ) (last_seed : ℕ) → ZerosGetFresh ids seed (drop index old) given last_seed → ZerosGetFresh known first_seed old (take index new ++ given) last_seed
 
 pub filled_first : (known old taken : List ℕ) (seed : ℕ) → HasIds taken known → FilledTo known seed old taken seed old 0
 filled_first known old taken seed has = record {
@@ -111,13 +111,13 @@ filled_first known old taken seed has = record {
 
 -- one ID more is given, whether it stood there or is fresh
 front_more : (known ids more_ids : List ℕ) (first_seed seed seed_then : ℕ) (old new put : List ℕ) (index one : ℕ) → index < length old → take (suc index) put ≡ take index new ++ one ∷ []
-    → ((given : List ℕ) (last_seed : ℕ) → AreFilled more_ids seed_then (drop (suc index) old) given last_seed → AreFilled ids seed (get_or old index 0 ∷ drop (suc index) old) (one ∷ given) last_seed)
-    → ((given : List ℕ) (last_seed : ℕ) → AreFilled ids seed (drop index old) given last_seed → AreFilled known first_seed old (take index new ++ given) last_seed)
-    → (given : List ℕ) (last_seed : ℕ) → AreFilled more_ids seed_then (drop (suc index) old) given last_seed → AreFilled known first_seed old (take (suc index) put ++ given) last_seed
+    → ((given : List ℕ) (last_seed : ℕ) → ZerosGetFresh more_ids seed_then (drop (suc index) old) given last_seed → ZerosGetFresh ids seed (get_or old index 0 ∷ drop (suc index) old) (one ∷ given) last_seed)
+    → ((given : List ℕ) (last_seed : ℕ) → ZerosGetFresh ids seed (drop index old) given last_seed → ZerosGetFresh known first_seed old (take index new ++ given) last_seed)
+    → (given : List ℕ) (last_seed : ℕ) → ZerosGetFresh more_ids seed_then (drop (suc index) old) given last_seed → ZerosGetFresh known first_seed old (take (suc index) put ++ given) last_seed
 front_more known ids more_ids first_seed seed seed_then old new put index one inside is_put step front given last_seed filled =
-    let here = subst (λ (xs : List ℕ). AreFilled ids seed xs (one ∷ given) last_seed) (sym (drop-cons old index 0 inside)) (step given last_seed filled) in
+    let here = subst (λ (xs : List ℕ). ZerosGetFresh ids seed xs (one ∷ given) last_seed) (sym (drop-cons old index 0 inside)) (step given last_seed filled) in
     let all = front (one ∷ given) last_seed here in
-    subst (λ (xs : List ℕ). AreFilled known first_seed old xs last_seed) (sym (append_assoc (take index new) (one ∷ []) given) ∙ ap (λ (xs : List ℕ). xs ++ given) (sym is_put)) all
+    subst (λ (xs : List ℕ). ZerosGetFresh known first_seed old xs last_seed) (sym (append_assoc (take index new) (one ∷ []) given) ∙ ap (λ (xs : List ℕ). xs ++ given) (sym is_put)) all
 
 -- the first of the elements after the index, and the rest, are as they were
 same_here : (old new : List ℕ) (index : ℕ) → index < length old → index < length new → drop index new ≡ drop index old → (get_or new index 0 ≡ get_or old index 0) × (drop (suc index) new ≡ drop (suc index) old)
@@ -159,11 +159,11 @@ filled_fresh known first_seed old taken more seed new index one inside long none
 pub room_left : (known : List ℕ) (first_seed : ℕ) (old taken : List ℕ) (seed : ℕ) (new : List ℕ) (index : ℕ) → length known + length old < greatest_id → index < length old → FilledTo known first_seed old taken seed new index → HasRoomFor taken 0
 room_left known first_seed old taken seed new index room inside f = let few = f.few in record { ids = f.ids; has = f.has; few = omega arith }
 
-pub filled_all : (known : List ℕ) (first_seed : ℕ) (old taken : List ℕ) (seed : ℕ) (new : List ℕ) → length new ≡ length old → FilledTo known first_seed old taken seed new (length old) → AreFilled known first_seed old new seed
+pub filled_all : (known : List ℕ) (first_seed : ℕ) (old taken : List ℕ) (seed : ℕ) (new : List ℕ) → length new ≡ length old → FilledTo known first_seed old taken seed new (length old) → ZerosGetFresh known first_seed old new seed
 filled_all known first_seed old taken seed new long f =
     let none : drop (length old) old ≡ [] = drop_all (length old) old (omega arith) in
-    let last : AreFilled f.ids seed (drop (length old) old) [] seed = subst (λ (xs : List ℕ). AreFilled f.ids seed xs [] seed) (sym none) refl in
-    subst (λ (xs : List ℕ). AreFilled known first_seed old xs seed) (append-nil (take (length old) new) ∙ take_all (length old) new (omega arith)) (f.front [] seed last)
+    let last : ZerosGetFresh f.ids seed (drop (length old) old) [] seed = subst (λ (xs : List ℕ). ZerosGetFresh f.ids seed xs [] seed) (sym none) refl in
+    subst (λ (xs : List ℕ). ZerosGetFresh known first_seed old xs seed) (append-nil (take (length old) new) ∙ take_all (length old) new (omega arith)) (f.front [] seed last)
 
 -- the same, whatever IDs the set had first; and the seed is an ID, or the first seed
 pub record GivenTo (first_taken : List ℕ) (first_seed : ℕ) (old taken : List ℕ) (seed : ℕ) (new : List ℕ) (index : ℕ) : Type 0 where
@@ -185,5 +185,5 @@ given_fresh first_taken first_seed old taken more seed new index one inside long
 }
 
 pub given_all : (first_taken : List ℕ) (first_seed : ℕ) (old taken : List ℕ) (seed : ℕ) (new : List ℕ) (index : ℕ) → index ≡ length old → length new ≡ length old → GivenTo first_taken first_seed old taken seed new index
-    → (known : List ℕ) → HasIds first_taken known → AreFilled known first_seed old new seed
+    → (known : List ℕ) → HasIds first_taken known → ZerosGetFresh known first_seed old new seed
 given_all first_taken first_seed old taken seed new index all long g known has = filled_all known first_seed old taken seed new long (subst (FilledTo known first_seed old taken seed new) all (g.filled known has))

@@ -14,7 +14,7 @@ use Rattle.heap_model.specs.Files.{keeps_id, kept_ids, AreGiven, HaveIds}
 use Rattle.laws_heap.proofs.Tests.{cond-true, cond-false, true_or_false}
 use Rattle.laws_store.proofs.Times.{same-yes, same-no, times-cons, times-distinct}
 use Rattle.laws_store.proofs.Fresh.{fresh_fits}
-use Rattle.file_ids.specs.Passes.{kept_or_none, AreFilled}
+use Rattle.file_ids.specs.Passes.{kept_or_none, ZerosGetFresh}
 use Rattle.file_ids.proofs.KeptLaws.{kept_is_new, times-kept_yes, times-kept_no, kept_once}
 
 -- ---- the IDs in a file
@@ -62,7 +62,7 @@ id_there file index id records inside is =
 
 -- ---- the two passes together
 
-pub filled_given : (taken earlier : List ℕ) (seed : ℕ) (ids given : List ℕ) (last_seed : ℕ) → AreFilled taken seed (kept_or_none earlier ids) given last_seed → AreGiven taken earlier seed ids given last_seed
+pub filled_given : (taken earlier : List ℕ) (seed : ℕ) (ids given : List ℕ) (last_seed : ℕ) → ZerosGetFresh taken seed (kept_or_none earlier ids) given last_seed → AreGiven taken earlier seed ids given last_seed
 filled_given taken earlier seed [] [] last_seed filled = filled
 filled_given taken earlier seed [] (one ∷ given) last_seed filled = filled
 filled_given taken earlier seed (id ∷ ids) [] last_seed filled = filled
@@ -81,7 +81,7 @@ filled_given taken earlier seed (id ∷ ids) (one ∷ given) last_seed filled = 
 
 -- ---- what holds of them
 
-pub given_fit : (taken : List ℕ) (seed : ℕ) (ids given : List ℕ) (last_seed : ℕ) → seed ≤ greatest_id → All (λ id. id ≤ greatest_id) ids → AreFilled taken seed ids given last_seed → All (λ id. (0 < id) × (id ≤ greatest_id)) given
+pub given_fit : (taken : List ℕ) (seed : ℕ) (ids given : List ℕ) (last_seed : ℕ) → seed ≤ greatest_id → All (λ id. id ≤ greatest_id) ids → ZerosGetFresh taken seed ids given last_seed → All (λ id. (0 < id) × (id ≤ greatest_id)) given
 given_fit taken seed [] [] last_seed least most filled = All-nil (λ id. (0 < id) × (id ≤ greatest_id))
 given_fit taken seed [] (one ∷ given) last_seed least most filled = absurd filled
 given_fit taken seed (id ∷ ids) [] last_seed least most filled = absurd filled
@@ -154,5 +154,5 @@ pub given_distinct : (seed : ℕ) (ids given : List ℕ) (last_seed : ℕ) → A
 given_distinct seed ids given last_seed g = times-distinct given (λ q. (given_once q (kept_ids [] ids) [] seed ids given last_seed (λ kept some. some) g).0)
 
 -- what both passes give
-pub both_passes : (seed : ℕ) (ids kept given : List ℕ) (last_seed : ℕ) → kept ≡ kept_or_none [] ids → AreFilled (kept_ids [] ids) seed kept given last_seed → HaveIds seed ids given last_seed
-both_passes seed ids kept given last_seed is filled = filled_given (kept_ids [] ids) [] seed ids given last_seed (subst (λ (xs : List ℕ). AreFilled (kept_ids [] ids) seed xs given last_seed) is filled)
+pub both_passes : (seed : ℕ) (ids kept given : List ℕ) (last_seed : ℕ) → kept ≡ kept_or_none [] ids → ZerosGetFresh (kept_ids [] ids) seed kept given last_seed → HaveIds seed ids given last_seed
+both_passes seed ids kept given last_seed is filled = filled_given (kept_ids [] ids) [] seed ids given last_seed (subst (λ (xs : List ℕ). ZerosGetFresh (kept_ids [] ids) seed xs given last_seed) is filled)

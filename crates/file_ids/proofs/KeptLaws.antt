@@ -8,7 +8,7 @@ use Rattle.std.proofs.lemmas.List.Elements.{All-get_or, All-set}
 use Rattle.heap_model.specs.Lists.{times}
 use Rattle.heap_model.specs.UniqueIds.{greatest_id}
 use Rattle.heap_model.specs.Files.{keeps_id, kept_ids}
-use Rattle.bit_sets.specs.Sets.{HasNumber, HasNone, AddsNumber}
+use Rattle.bit_sets.specs.Sets.{IsInSet, HasNone, AddsNumber}
 use Rattle.laws_heap.proofs.Tests.{cond-true, cond-false, true_or_false}
 use Rattle.laws_store.proofs.Times.{same-yes, same-no, times-cons, times-append}
 use Rattle.file_ids.specs.Passes.{HasIds, kept_or_none}
@@ -20,7 +20,7 @@ has_put taken new ids id adds has = record {
   are = λ q some. (
       let cons = times-cons q id ids in
       elim (cases_eq q id) [
-        | inl e ↦ let one = same-yes id q (sym e) in (λ here. omega arith, λ used. subst (HasNumber new) (sym e) adds.here)
+        | inl e ↦ let one = same-yes id q (sym e) in (λ here. omega arith, λ used. subst (IsInSet new) (sym e) adds.here)
         | inr ne ↦
             let none = same-no id q (λ e. ne (sym e)) in
             let kept = adds.others q ne in
@@ -29,7 +29,7 @@ has_put taken new ids id adds has = record {
       ]);
 }
 
-pub has_already : (taken ids : List ℕ) (id : ℕ) → (id ≡ 0) ⊎ HasNumber taken id → HasIds taken ids → HasIds taken (id ∷ ids)
+pub has_already : (taken ids : List ℕ) (id : ℕ) → (id ≡ 0) ⊎ IsInSet taken id → HasIds taken ids → HasIds taken (id ∷ ids)
 has_already taken ids id already has = record {
   are = λ q some. (
       let cons = times-cons q id ids in
@@ -37,7 +37,7 @@ has_already taken ids id already has = record {
       elim (cases_eq q id) [
         | inl e ↦ elim already [
           | inl none ↦ absurd (omega arith)
-          | inr here ↦ let one = same-yes id q (sym e) in (λ has. omega arith, λ used. subst (HasNumber taken) (sym e) here)
+          | inr here ↦ let one = same-yes id q (sym e) in (λ has. omega arith, λ used. subst (IsInSet taken) (sym e) here)
         ]
         | inr ne ↦
             let none = same-no id q (λ e. ne (sym e)) in
@@ -204,7 +204,7 @@ front_more all ids new index here inside is more front =
     ∙ ap (λ (xs : List ℕ). xs ++ rest) (sym more)
 
 -- a record keeps its ID
-pub kept_here : (all taken new ids : List ℕ) (index id : ℕ) → index < length all → get_or all index 0 ≡ id → id ≢ 0 → id ≤ greatest_id → (HasNumber taken id → ⊥) → AddsNumber taken new id
+pub kept_here : (all taken new ids : List ℕ) (index id : ℕ) → index < length all → get_or all index 0 ≡ id → id ≢ 0 → id ≤ greatest_id → (IsInSet taken id → ⊥) → AddsNumber taken new id
     → KeptTo all taken ids index → KeptTo all new (set ids index id) (suc index)
 kept_here all taken new ids index id inside is some most absent adds k =
     let earlier : List ℕ = earlier_ids all index in
@@ -224,7 +224,7 @@ kept_here all taken new ids index id inside is some most absent adds k =
     }
 
 -- it doesn't
-pub kept_not : (all taken ids : List ℕ) (index id : ℕ) → index < length all → get_or all index 0 ≡ id → (id ≡ 0) ⊎ HasNumber taken id → KeptTo all taken ids index → KeptTo all taken ids (suc index)
+pub kept_not : (all taken ids : List ℕ) (index id : ℕ) → index < length all → get_or all index 0 ≡ id → (id ≡ 0) ⊎ IsInSet taken id → KeptTo all taken ids index → KeptTo all taken ids (suc index)
 kept_not all taken ids index id inside is already k =
     let earlier : List ℕ = earlier_ids all index in
     let long = k.long in

@@ -3,7 +3,7 @@
 ghost use Rattle.std.specs.Prelude.{◌≡◌, ◌<◌, ◌≤◌, ◌*◌, ℕ, List, length};
 ghost use Rattle.heap_model.specs.UniqueIds.{greatest_id, IsFresh};
 ghost use Rattle.heap_model.specs.UniqueIds as unique;
-ghost use Rattle.file_ids.specs.Passes.{HasIds, HasRoomFor, AreFilled};
+ghost use Rattle.file_ids.specs.Passes.{HasIds, HasRoomFor, ZerosGetFresh};
 
 use db_format::GREATEST_ID;
 
@@ -39,7 +39,7 @@ pub(crate) fn give_fresh(taken: &mut [u8], ids: &mut [u32], seed: u32) -> u32
     requires seed { seed ≤ greatest_id }
     requires room { HasRoomFor taken.old (length ids.old) }
     ensures given { (known : List ℕ) → HasIds taken.old known
-        → AreFilled known seed ids.old ids.new result }
+        → ZerosGetFresh known seed ids.old ids.new result }
     ensures most { result ≤ greatest_id }
 {
     let mut last = seed;

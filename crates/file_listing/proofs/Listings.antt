@@ -3,13 +3,13 @@ use Rattle.std.proofs.Common.{◌≡◌, ℕ, Bool, Option, List, ap}
 use Rattle.std.specs.Prelude.{string_bytes}
 use Rattle.heap_model.specs.Database.{DatabaseHeader, header_in, database_in}
 use Rattle.db_format.specs.declared.header.DbHeader.{DbHeader}
-use Rattle.db_format.specs.Headers.{HasHeader, header_of}
+use Rattle.db_format.specs.Headers.{IsHeaderOf, header_values}
 use Rattle.palm_text.specs.Counted.{Writing, Writes}
 use Rattle.file_listing.specs.declared.parts.Parts.{Parts}
 use Rattle.file_listing.specs.Listing.{IsListing, WritesListing}
 use Rattle.file_listing.specs.Parts.{HasParts, lines_by}
 
-pub header_is : (file : List ℕ) (header : DbHeader) → HasHeader (database_in file) header → header_of header ≡ header_in file
+pub header_is : (file : List ℕ) (header : DbHeader) → IsHeaderOf (database_in file) header → header_values header ≡ header_in file
 unfolding database_in
 header_is file header has = has.values
 
@@ -27,5 +27,5 @@ listed file header parts is has = record {
 }
 
 -- and so the listing is written
-pub written : {W : Type 0} (contents : W → Option (List ℕ)) (old new : Writing W) (file : List ℕ) (header : DbHeader) (parts : Parts) (ok : Bool) → HasHeader (database_in file) header → HasParts file parts → Writes contents old new (lines_by file (header_of header) parts) ok → WritesListing file contents old new ok
-written contents old new file header parts ok is has writes = (lines_by file (header_of header) parts, listed file (header_of header) parts (header_is file header is) has, writes)
+pub written : {W : Type 0} (contents : W → Option (List ℕ)) (old new : Writing W) (file : List ℕ) (header : DbHeader) (parts : Parts) (ok : Bool) → IsHeaderOf (database_in file) header → HasParts file parts → Writes contents old new (lines_by file (header_values header) parts) ok → WritesListing file contents old new ok
+written contents old new file header parts ok is has writes = (lines_by file (header_values header) parts, listed file (header_values header) parts (header_is file header is) has, writes)

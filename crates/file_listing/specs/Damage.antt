@@ -75,12 +75,12 @@ found_in (RecordOutside found least most) = found
 found_in (ResourceOutside found least most) = found
 
 -- the entry of the fault, if it is that of an entry, is one of the file
-abbrev pub IsOf : List ℕ → FileFault → Type 0
-IsOf file Truncated = ⊤
-IsOf file ChainedList = ⊤
-IsOf file EmptyName = ⊤
-IsOf file (BadInfo which) = ⊤
-IsOf file (BadOffset index) = index < entry_count_in file
+abbrev pub HasItsEntry : List ℕ → FileFault → Type 0
+HasItsEntry file Truncated = ⊤
+HasItsEntry file ChainedList = ⊤
+HasItsEntry file EmptyName = ⊤
+HasItsEntry file (BadInfo which) = ⊤
+HasItsEntry file (BadOffset index) = index < entry_count_in file
 
 -- A file has the fault exactly if the number at its place isn't allowed there. That number is
 -- printed then.
@@ -89,4 +89,4 @@ pub record IsExact (file : List ℕ) (fault : FileFault) : Type 0 where
   pub found : HasFault file fault → found_in (damage_of file fault) ≡ number_at file fault
 
 abbrev pub DamagesAreExact : Type 0
-DamagesAreExact = (file : List ℕ) (fault : FileFault) → AreBytes file → IsOf file fault → IsExact file fault
+DamagesAreExact = (file : List ℕ) (fault : FileFault) → AreBytes file → HasItsEntry file fault → IsExact file fault

@@ -3,8 +3,7 @@ use Rattle.std.specs.Prelude.{◌+◌, ◌++◌, ℕ, Bool, true, false, List, l
 use Rattle.heap_model.specs.DatabaseFields.{next_list_at, resource_data_at}
 use Rattle.heap_model.specs.Database.{resources_in, entry_offset}
 use Rattle.heap_model.specs.Files.{HasNoFault, IsFirstFault}
-use Rattle.heap_model.specs.declared.names.Which.{Which}
-use Rattle.heap_model.specs.declared.names.Which.TheVariants.{App, Sort}
+pub use Rattle.palm_text.specs.FaultTexts.{which_word, fault_text}
 use Rattle.heap_model.specs.declared.file_fault.FileFault.{FileFault}
 use Rattle.heap_model.specs.declared.file_fault.FileFault.TheVariants.{Truncated, ChainedList, EmptyName, BadInfo, BadOffset}
 use Rattle.db_format.specs.Headers.{info_block_at}
@@ -24,22 +23,11 @@ fault_place file EmptyName = 0
 fault_place file (BadInfo which) = info_block_at which
 fault_place file (BadOffset index) = entry_offset (resources_in file) index + data_field (resources_in file)
 
-abbrev pub which_word : Which → List ℕ
-which_word App = codes "app"
-which_word Sort = codes "sort"
-
-abbrev pub fault_text : FileFault → List ℕ
-fault_text Truncated = codes "Truncated"
-fault_text ChainedList = codes "ChainedList"
-fault_text EmptyName = codes "EmptyName"
-fault_text (BadInfo which) = codes "BadInfo " ++ which_word which
-fault_text (BadOffset index) = codes "BadOffset " ++ decimal index
-
 abbrev pub fault_lines : List ℕ → FileFault → List ℕ
 fault_lines file fault = codes "bad " ++ (fault_text fault ++ (codes "\nat " ++ (decimal (fault_place file fault) ++ codes "\n")))
 
 -- the reason why a file was not listed
-abbrev pub IsFaultOf : List ℕ → ListFault → Type 0
-IsFaultOf file (BadFile fault) = IsFirstFault file fault
-IsFaultOf file OutOfMemory = HasNoFault file
-IsFaultOf file Write = HasNoFault file
+abbrev pub IsListFault : List ℕ → ListFault → Type 0
+IsListFault file (BadFile fault) = IsFirstFault file fault
+IsListFault file OutOfMemory = HasNoFault file
+IsListFault file Write = HasNoFault file

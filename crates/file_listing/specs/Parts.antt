@@ -2,7 +2,7 @@
 use Rattle.std.specs.Prelude.{◌++◌, ℕ, List, length, string_bytes}
 use Rattle.heap_model.specs.Database.{DatabaseHeader, header_in}
 use Rattle.canonical_file.specs.Canonical.{HasBlocks}
-use Rattle.file_changes.specs.Changes.{AreChanges}
+use Rattle.canonical_file.specs.Changes.{AreChanges}
 use Rattle.file_listing.specs.declared.moments.Moments.{Moments}
 use Rattle.file_listing.specs.declared.parts.Parts.{Parts}
 use Rattle.file_listing.specs.Moments.{IsMomentText}

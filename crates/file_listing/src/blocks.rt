@@ -2,9 +2,9 @@
 
 ghost use Rattle.std.specs.Prelude.{◌≤◌, ◌++◌, codes, is_ok, length};
 ghost use Rattle.palm_text.specs.Counted.{Writes};
-ghost use Rattle.pdb_format.specs.Blocks.{IsWithin, bytes_at};
+ghost use Rattle.pdb_format.specs.Blocks.{IsBlockWithin, bytes_at};
 ghost use Rattle.canonical_file.specs.Canonical.{HasBlocks, most_bytes};
-ghost use Rattle.file_listing.specs.Listing.{info_line, info_lines, place_text};
+ghost use Rattle.file_listing.specs.Listing.{info_listing, info_listings, place_text};
 
 use db_format::{app_info, sort_info};
 use palm_text::{Counted, Piece, WriteFault, put_pieces};
@@ -20,7 +20,7 @@ fn put_info<W: Write>(
     block: Option<Block>,
 ) -> Result<(), WriteFault>
     requires short { length file.now ≤ most_bytes }
-    requires within { IsWithin (length file.now) block }
+    requires within { IsBlockWithin (length file.now) block }
     ensures { Writes W.contents out.old out.new
         (word.now ++ place_text at (bytes_at file.now block)) (is_ok result) }
 {
@@ -47,7 +47,7 @@ fn put_app<W: Write>(
     blocks: &[Option<Block>],
 ) -> Result<(), WriteFault>
     requires { HasBlocks file.now blocks.now }
-    ensures { Writes W.contents out.old out.new (info_line file.now (codes "app") 0) (is_ok result) }
+    ensures { Writes W.contents out.old out.new (info_listing file.now (codes "app") 0) (is_ok result) }
 {
     put_info(out, b"app", file, app_info(file), blocks[0])
 }
@@ -59,20 +59,20 @@ fn put_sort<W: Write>(
     blocks: &[Option<Block>],
 ) -> Result<(), WriteFault>
     requires { HasBlocks file.now blocks.now }
-    ensures { Writes W.contents out.old out.new (info_line file.now (codes "sort") 1) (is_ok result) }
+    ensures { Writes W.contents out.old out.new (info_listing file.now (codes "sort") 1) (is_ok result) }
 {
     put_info(out, b"sort", file, sort_info(file), blocks[1])
 }
 
 /// Writes the lines of the info blocks.
-#[tactic(auto, using(palm_text::proofs::Parts::then, palm_text::proofs::Parts::stops), unfolding(crate::specs::Listing::info_lines))]
+#[tactic(auto, using(palm_text::proofs::Parts::then, palm_text::proofs::Parts::stops), unfolding(crate::specs::Listing::info_listings))]
 pub(crate) fn put_infos<W: Write>(
     out: &mut Counted<W>,
     file: &[u8],
     blocks: &[Option<Block>],
 ) -> Result<(), WriteFault>
     requires { HasBlocks file.now blocks.now }
-    ensures { Writes W.contents out.old out.new (info_lines file.now) (is_ok result) }
+    ensures { Writes W.contents out.old out.new (info_listings file.now) (is_ok result) }
 {
     put_app(out, file, blocks)?;
     put_sort(out, file, blocks)

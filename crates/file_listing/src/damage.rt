@@ -9,7 +9,7 @@ ghost use Rattle.file_listing.specs.Damage as words;
 
 use crate::fault_lines::fault_place;
 use byteorder::{BigEndian, ByteOrder};
-use db_format::{HEADER_SIZE, entries_end, has_resources};
+use db_format::{DATABASE_HEADER_SIZE, entries_end, has_resources};
 use heap_model::FileFault;
 use thiserror::Error;
 
@@ -79,8 +79,8 @@ pub fn damage_of(file: &[u8], fault: FileFault) -> Damage
 fn short_of(file: &[u8]) -> Damage
     ensures { result ≡ words.short_of file.now }
 {
-    let least = if file.len() < HEADER_SIZE {
-        HEADER_SIZE
+    let least = if file.len() < DATABASE_HEADER_SIZE {
+        DATABASE_HEADER_SIZE
     } else {
         entries_end(file)
     };

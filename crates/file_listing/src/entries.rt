@@ -5,10 +5,10 @@ ghost use Rattle.heap_model.specs.Database.{entry_count_in};
 ghost use Rattle.db_format.specs.EitherEntry.{entry_of};
 ghost use Rattle.palm_text.specs.Counted.{Writes};
 ghost use Rattle.palm_text.specs.Pieces.{piece_text};
-ghost use Rattle.pdb_format.specs.Blocks.{IsWithin, bytes_at};
+ghost use Rattle.pdb_format.specs.Blocks.{IsBlockWithin, bytes_at};
 ghost use Rattle.canonical_file.specs.Canonical.{HasBlocks, most_bytes};
 ghost use Rattle.file_listing.specs.Listing as listing;
-ghost use Rattle.file_listing.specs.Listing.{count_line, entry_line, entry_lines, entry_value, list_lines};
+ghost use Rattle.file_listing.specs.Listing.{entry_count_line, entry_listing, entry_listings, entry_value, list_lines};
 
 use db_format::{DbEntry, INFO_BLOCKS, entry_count, has_resources};
 use palm_text::{Counted, Piece, WriteFault, put_pieces};
@@ -44,9 +44,9 @@ fn put_entry<W: Write>(
     block: Option<Block>,
 ) -> Result<(), WriteFault>
     requires short { length file.now ≤ most_bytes }
-    requires within { IsWithin (length file.now) block }
+    requires within { IsBlockWithin (length file.now) block }
     ensures { Writes W.contents out.old out.new
-        (entry_line index (entry_of entry) (bytes_at file.now block)) (is_ok result) }
+        (entry_listing index (entry_of entry) (bytes_at file.now block)) (is_ok result) }
 {
     match block {
         None => put_pieces(
@@ -87,7 +87,7 @@ fn put_entry_at<W: Write>(
 ) -> Result<(), WriteFault>
     requires blocks { HasBlocks file.now blocks.now }
     requires inside { index < entry_count_in file.now }
-    ensures { Writes W.contents out.old out.new (listing.line_at file.now index) (is_ok result) }
+    ensures { Writes W.contents out.old out.new (listing.entry_listing_at file.now index) (is_ok result) }
 {
     let entry = DbEntry::read(file, index);
     put_entry(
@@ -106,7 +106,7 @@ fn put_entries<W: Write>(
     blocks: &[Option<Block>],
 ) -> Result<(), WriteFault>
     requires { HasBlocks file.now blocks.now }
-    ensures { Writes W.contents out.old out.new (entry_lines file.now) (is_ok result) }
+    ensures { Writes W.contents out.old out.new (entry_listings file.now) (is_ok result) }
 {
     for index in 0..entry_count(file) {
         match put_entry_at(out, file, blocks, index) {
@@ -118,9 +118,9 @@ fn put_entries<W: Write>(
 }
 
 /// Writes the number of entries.
-#[tactic(auto, unfolding(crate::specs::Listing::count_line))]
+#[tactic(auto, unfolding(crate::specs::Listing::entry_count_line))]
 fn put_count<W: Write>(out: &mut Counted<W>, resources: bool, count: u16) -> Result<(), WriteFault>
-    ensures { Writes W.contents out.old out.new (count_line resources count) (is_ok result) }
+    ensures { Writes W.contents out.old out.new (entry_count_line resources count) (is_ok result) }
 {
     let word: &[u8] = if resources {
         b"resources "

@@ -11,8 +11,8 @@ ghost use Rattle.canonical_file.specs.Canonical.{most_bytes};
 ghost use Rattle.file_listing.specs.FaultLines as words;
 
 use db_format::{
-    HEADER_SIZE, NEXT_LIST_AT, RECORD_SIZE, RESOURCE_DATA_AT, RESOURCE_SIZE, has_resources,
-    info_block_at,
+    DATABASE_HEADER_SIZE, NEXT_LIST_AT, RECORD_SIZE, RESOURCE_DATA_AT, RESOURCE_SIZE,
+    has_resources, info_block_at,
 };
 use heap_model::{FileFault, Which};
 use palm_text::{Counted, Piece, WriteFault, put_pieces};
@@ -44,9 +44,9 @@ fn data_place(file: &[u8], index: u32) -> usize
         + words.data_field (resources_in file.now) }
 {
     if has_resources(file) {
-        HEADER_SIZE + RESOURCE_SIZE * index as usize + RESOURCE_DATA_AT
+        DATABASE_HEADER_SIZE + RESOURCE_SIZE * index as usize + RESOURCE_DATA_AT
     } else {
-        HEADER_SIZE + RECORD_SIZE * index as usize
+        DATABASE_HEADER_SIZE + RECORD_SIZE * index as usize
     }
 }
 

@@ -2,7 +2,7 @@
 
 ghost use Rattle.std.specs.Prelude.{is_ok, string_bytes};
 ghost use Rattle.palm_text.specs.Counted.{Writes};
-ghost use Rattle.db_format.specs.Headers.{header_of};
+ghost use Rattle.db_format.specs.Headers.{header_values};
 ghost use Rattle.file_listing.specs.Listing.{head_lines};
 
 use crate::moments::Moments;
@@ -17,7 +17,7 @@ pub(crate) fn put_head<'a, W: Write>(
     header: &'a DbHeader,
     moments: &'a Moments,
 ) -> Result<(), WriteFault>
-    ensures { Writes W.contents out.old out.new (head_lines size (header_of header.now)
+    ensures { Writes W.contents out.old out.new (head_lines size (header_values header.now)
         (string_bytes moments.now.created) (string_bytes moments.now.modified)
         (string_bytes moments.now.backup)) (is_ok result) }
 {

@@ -3,10 +3,10 @@
 ghost use Rattle.std.specs.Prelude.{◌≡◌, ◌≢◌, ◌≤◌, length, false, true, Err, IfErr, OnOk, is_ok};
 ghost use Rattle.canonical_file.specs.Canonical.{HasBlocks, most_bytes};
 ghost use Rattle.heap_model.specs.Files.{HasNoFault};
-ghost use Rattle.db_format.specs.Headers.{header_of};
+ghost use Rattle.db_format.specs.Headers.{header_values};
 ghost use Rattle.palm_text.specs.Counted.{Writes};
-ghost use Rattle.file_listing.specs.FaultLines.{IsFaultOf};
-ghost use Rattle.file_listing.specs.Listing.{WritesListing, body_lines, end_lines, last_lines, rest_lines};
+ghost use Rattle.file_listing.specs.FaultLines.{IsListFault};
+ghost use Rattle.file_listing.specs.Listing.{WritesListing, listing_body, end_lines, last_lines, rest_lines};
 ghost use Rattle.file_listing.specs.Parts.{lines_by};
 
 use crate::blocks::put_infos;
@@ -15,9 +15,9 @@ use crate::head::put_head;
 use crate::needs::put_needs;
 use crate::parts::{Parts, parts_of};
 use allowance::Allowance;
+use canonical_file::put_changes;
 use code_page::put_text;
 use db_format::DbHeader;
-use file_changes::put_changes;
 use heap_model::FileFault;
 use palm_text::{Counted, WriteFault};
 use pdb_format::check_file;
@@ -60,10 +60,10 @@ fn put_end<W: Write>(out: &mut Counted<W>, file: &[u8], parts: &Parts) -> Result
 }
 
 /// Writes the lines after those of the header.
-#[tactic(auto, using(palm_text::proofs::Parts::then, palm_text::proofs::Parts::stops), unfolding(crate::specs::Listing::body_lines))]
+#[tactic(auto, using(palm_text::proofs::Parts::then, palm_text::proofs::Parts::stops), unfolding(crate::specs::Listing::listing_body))]
 fn put_body<W: Write>(out: &mut Counted<W>, file: &[u8], parts: &Parts) -> Result<(), WriteFault>
     requires { HasBlocks file.now parts.now.blocks.items }
-    ensures { Writes W.contents out.old out.new (body_lines file.now parts.now.changes) (is_ok result) }
+    ensures { Writes W.contents out.old out.new (listing_body file.now parts.now.changes) (is_ok result) }
 {
     put_infos(out, file, parts.blocks.as_slice())?;
     put_end(out, file, parts)
@@ -78,7 +78,7 @@ fn put_rest<W: Write>(
     parts: &Parts,
 ) -> Result<(), WriteFault>
     requires { HasBlocks file.now parts.now.blocks.items }
-    ensures { Writes W.contents out.old out.new (rest_lines file.now (header_of header.now)
+    ensures { Writes W.contents out.old out.new (rest_lines file.now (header_values header.now)
         parts.now.changes) (is_ok result) }
 {
     put_text(out, b"text \"", header.name.name(), b"\"\n")?;
@@ -94,7 +94,7 @@ fn put_lines<W: Write>(
     parts: &Parts,
 ) -> Result<(), WriteFault>
     requires { HasBlocks file.now parts.now.blocks.items }
-    ensures { Writes W.contents out.old out.new (lines_by file.now (header_of header.now)
+    ensures { Writes W.contents out.old out.new (lines_by file.now (header_values header.now)
         parts.now) (is_ok result) }
 {
     put_head(out, file.len() as u32, header, &parts.moments)?;
@@ -120,7 +120,7 @@ pub fn put_listing<A: Allowance, W: Write>(
     requires { length file.now ≤ most_bytes }
     ensures done { OnOk result (WritesListing file.now W.contents out.old out.new true) }
     ensures good { OnOk result (HasNoFault file.now) }
-    ensures why { IfErr result (IsFaultOf file.now) }
+    ensures why { IfErr result (IsListFault file.now) }
     ensures untouched { IfErr result (λ fault. fault ≢ ListFault.Write → out.new ≡ out.old) }
     ensures write { result ≡ Err ListFault.Write
         → WritesListing file.now W.contents out.old out.new false }

@@ -1,7 +1,7 @@
 //! Moments, as they are printed.
 
 ghost use Rattle.std.specs.Prelude.{◌≡◌, ◌/◌, IfOk, OnErr, string_bytes};
-ghost use Rattle.db_format.specs.Headers.{header_of};
+ghost use Rattle.db_format.specs.Headers.{header_values};
 ghost use Rattle.file_listing.specs.Moments as moments;
 ghost use Rattle.file_listing.specs.Moments.{IsDay, IsMomentText, IsUtcText};
 ghost use Rattle.file_listing.specs.Parts.{AreMoments};
@@ -116,7 +116,7 @@ fn moment_text<A: Allowance>(memory: &A, seconds: u32) -> Result<String, AllocEr
 
 /// Returns the texts of the header's moments.
 pub(crate) fn moments_of<A: Allowance>(memory: &A, header: &DbHeader) -> Result<Moments, AllocError>
-    ensures moments { IfOk result (AreMoments (header_of header.now)) }
+    ensures moments { IfOk result (AreMoments (header_values header.now)) }
     ensures short { OnErr result (A.is_short memory.now) }
 {
     Ok(Moments {

@@ -5,7 +5,7 @@ ghost use Rattle.palm_text.specs.Counted.{Writes};
 ghost use Rattle.canonical_file.specs.Canonical.{HasBlocks};
 ghost use Rattle.file_listing.specs.Listing.{needed_size, needed_slots, needs_line, size_text, slots_text};
 
-use file_needs::{image_size, image_slots, needs_of_blocks};
+use canonical_file::{image_size, image_slots, needs_of_blocks};
 use itoa::Buffer;
 use palm_text::{Counted, Piece, WriteFault, put_pieces};
 use pdb_format::Block;

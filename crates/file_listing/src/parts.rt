@@ -3,14 +3,14 @@
 ghost use Rattle.std.specs.Prelude.{◌≡◌, ◌≤◌, length, IfOk, OnErr};
 ghost use Rattle.heap_model.specs.Database.{header_in};
 ghost use Rattle.heap_model.specs.Files.{HasNoFault};
-ghost use Rattle.db_format.specs.Headers.{header_of};
+ghost use Rattle.db_format.specs.Headers.{header_values};
 ghost use Rattle.canonical_file.specs.Canonical.{HasBlocks, most_bytes};
 ghost use Rattle.file_listing.specs.Parts.{HasParts};
 
 use crate::moments::{Moments, moments_of};
 use allowance::Allowance;
+use canonical_file::{Changes, find_changes};
 use db_format::DbHeader;
-use file_changes::{Changes, find_changes};
 use pdb_format::{Block, find_blocks_from};
 use std::alloc::AllocError;
 
@@ -40,7 +40,7 @@ pub(crate) fn parts_of<A: Allowance>(
 ) -> Result<Parts, AllocError>
     requires good { HasNoFault file.now }
     requires short { length file.now ≤ most_bytes }
-    requires header { header_of header.now ≡ header_in file.now }
+    requires header { header_values header.now ≡ header_in file.now }
     ensures parts { IfOk result (HasParts file.now) }
     ensures short { OnErr result (A.is_short memory.now) }
 {

@@ -7,7 +7,7 @@ use Rattle.pdb_format.specs.Blocks.{bytes_at}
 use Rattle.pdb_format.specs.declared.blocks.Block.{Block}
 use Rattle.pdb_format.specs.ReadFiles.{entry_read_at, entries_read}
 use Rattle.pdb_format.proofs.ReadFiles.{length-entries_read, entry_read_is}
-use Rattle.file_parts.specs.Texts.{named, entry_name, named_entries, entry_lines, part_text, entry_values, entry_line}
+use Rattle.file_parts.specs.Texts.{name_if_data, entry_name, named_entries, entry_lines, part_text, entry_values, entry_line}
 use Rattle.file_parts.specs.Unpacking.{line_at}
 
 -- the lines from an index on
@@ -41,22 +41,22 @@ five_joined a b c d e end =
 
 -- the pieces of a part
 pub part_joined : (index n : ℕ) (file : List ℕ) (found : Option Block) (block : Block) → n ≡ index → found ≡ Some block
-    → codes " " ++ (decimal (n / 10000) ++ (decimal (n / 1000 % 10) ++ (decimal (n / 100 % 10) ++ (decimal (n / 10 % 10) ++ (decimal (n % 10) ++ codes "\n"))))) ≡ part_text (named (entry_name index) (bytes_at file found))
+    → codes " " ++ (decimal (n / 10000) ++ (decimal (n / 1000 % 10) ++ (decimal (n / 100 % 10) ++ (decimal (n / 10 % 10) ++ (decimal (n % 10) ++ codes "\n"))))) ≡ part_text (name_if_data (entry_name index) (bytes_at file found))
 part_joined index n file found block is is_found =
     rw (is, is_found) (ap (λ (xs : List ℕ). codes " " ++ xs) (five_joined (decimal (index / 10000)) (decimal (index / 1000 % 10)) (decimal (index / 100 % 10)) (decimal (index / 10 % 10)) (decimal (index % 10)) (codes "\n")))
 
-values_with : (name : List ℕ) (e : Entry (Option (List ℕ))) (f : Entry ℕ) → ((part : Option (List ℕ)) → entry_with (λ _. part) f ≡ entry_with (λ _. part) e) → entry_values (entry_with (λ _. named name (entry_data e)) f) ≡ entry_values (entry_with (named name) e)
-values_with name (a_record attributes id block) f is = ap entry_values (is (named name block))
-values_with name (a_resource kind id block) f is = ap entry_values (is (named name block))
+values_with : (name : List ℕ) (e : Entry (Option (List ℕ))) (f : Entry ℕ) → ((part : Option (List ℕ)) → entry_with (λ _. part) f ≡ entry_with (λ _. part) e) → entry_values (entry_with (λ _. name_if_data name (entry_data e)) f) ≡ entry_values (entry_with (name_if_data name) e)
+values_with name (a_record attributes id block) f is = ap entry_values (is (name_if_data name block))
+values_with name (a_resource kind id block) f is = ap entry_values (is (name_if_data name block))
 
-data_with : (name : List ℕ) (e : Entry (Option (List ℕ))) → entry_data (entry_with (named name) e) ≡ named name (entry_data e)
+data_with : (name : List ℕ) (e : Entry (Option (List ℕ))) → entry_data (entry_with (name_if_data name) e) ≡ name_if_data name (entry_data e)
 data_with name (a_record attributes id block) = refl
 data_with name (a_resource kind id block) = refl
 
 -- the two parts of the line of an entry
 pub line_joined : (name : List ℕ) (e : Entry (Option (List ℕ))) (f : Entry ℕ) (block : Option (List ℕ)) → ((part : Option (List ℕ)) → entry_with (λ _. part) f ≡ entry_with (λ _. part) e) → block ≡ entry_data e
-    → entry_values (entry_with (λ _. named name (entry_data e)) f) ++ part_text (named name block) ≡ entry_line (entry_with (named name) e)
+    → entry_values (entry_with (λ _. name_if_data name (entry_data e)) f) ++ part_text (name_if_data name block) ≡ entry_line (entry_with (name_if_data name) e)
 line_joined name e f block is is_block =
-    ap (λ (xs : List ℕ). xs ++ part_text (named name block)) (values_with name e f is)
-    ∙ ap (λ (b : Option (List ℕ)). entry_values (entry_with (named name) e) ++ part_text (named name b)) is_block
-    ∙ ap (λ (b : Option (List ℕ)). entry_values (entry_with (named name) e) ++ part_text b) (sym (data_with name e))
+    ap (λ (xs : List ℕ). xs ++ part_text (name_if_data name block)) (values_with name e f is)
+    ∙ ap (λ (b : Option (List ℕ)). entry_values (entry_with (name_if_data name) e) ++ part_text (name_if_data name b)) is_block
+    ∙ ap (λ (b : Option (List ℕ)). entry_values (entry_with (name_if_data name) e) ++ part_text b) (sym (data_with name e))

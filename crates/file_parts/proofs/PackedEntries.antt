@@ -15,7 +15,7 @@ use Rattle.pdb_format.specs.FileTexts.{entries_text, data_text}
 use Rattle.file_parts.specs.declared.entries.ListedEntry.{ListedEntry}
 use Rattle.file_parts.specs.declared.listed.Listed.{Listed}
 use Rattle.file_parts.specs.Listed.{IsGoodEntry, IsListed, entry_listed, entries_listed}
-use Rattle.file_parts.specs.Packing.{filled, part_at, filled_entries, packed_entries, packed}
+use Rattle.file_parts.specs.Packing.{filled, part_at, filled_entries, packed_entries, database_of_parts}
 
 pub length-filled : (parts : List (List ℕ)) (rank : ℕ) (es : List (Entry (Option (List ℕ)))) → length (filled_entries parts rank es) ≡ length es
 length-filled parts rank [] = refl
@@ -148,7 +148,7 @@ listed_writable r (e ∷ items) all =
     All-cons (IsWritableEntry r) (entry_listed e) (entries_listed items) (All-head (IsGoodEntry r) e items all) (listed_writable r items (All-tail (IsGoodEntry r) e items all))
 
 -- a packed database has a file
-pub packed_has_file : (listed : Listed) (parts : List (List ℕ)) → IsListed listed → file_size (packed listed parts) ≤ most_bytes → HasFile (packed listed parts)
+pub packed_has_file : (listed : Listed) (parts : List (List ℕ)) → IsListed listed → file_size (database_of_parts listed parts) ≤ most_bytes → HasFile (database_of_parts listed parts)
 packed_has_file listed parts is size =
     let long = length-packed listed.entries.items parts in
     let few = is.few in
@@ -161,12 +161,12 @@ packed_has_file listed parts is size =
     }
 
 -- it has no fault
-pub packed_good : (listed : Listed) (parts : List (List ℕ)) → IsListed listed → file_size (packed listed parts) ≤ most_bytes → HasNoFault (file_of (packed listed parts))
-packed_good listed parts is size = file_good (packed listed parts) (packed_has_file listed parts is size)
+pub packed_good : (listed : Listed) (parts : List (List ℕ)) → IsListed listed → file_size (database_of_parts listed parts) ≤ most_bytes → HasNoFault (file_of (database_of_parts listed parts))
+packed_good listed parts is size = file_good (database_of_parts listed parts) (packed_has_file listed parts is size)
 
-pub packed_long : (listed : Listed) (parts : List (List ℕ)) → IsListed listed → file_size (packed listed parts) ≤ most_bytes → length (file_of (packed listed parts)) ≤ most_bytes
+pub packed_long : (listed : Listed) (parts : List (List ℕ)) → IsListed listed → file_size (database_of_parts listed parts) ≤ most_bytes → length (file_of (database_of_parts listed parts)) ≤ most_bytes
 packed_long listed parts is size =
-    let same = length-of_file (packed listed parts) (packed_has_file listed parts is size) in
+    let same = length-of_file (database_of_parts listed parts) (packed_has_file listed parts is size) in
     omega arith
 
 -- parts one after the other

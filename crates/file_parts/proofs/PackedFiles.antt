@@ -9,7 +9,7 @@ use Rattle.file_parts.specs.declared.listed.Listed.{Listed}
 use Rattle.file_parts.specs.declared.packing.PackFault.{PackFault}
 use Rattle.file_parts.specs.declared.packing.PackFault.TheVariants.{TooLarge, OutOfMemory}
 use Rattle.file_parts.specs.Listed.{entry_listed, entries_listed, database_listed}
-use Rattle.file_parts.specs.Packing.{IsRefusedFor, filled, part_at, packed}
+use Rattle.file_parts.specs.Packing.{IsRefusedFor, filled, part_at, database_of_parts}
 use Rattle.file_parts.proofs.PackedEntries.{block_filled, length-packed}
 
 -- a larger file is refused as well
@@ -26,7 +26,7 @@ sizes d =
 
 -- the block of a rank
 block_packed : (listed : Listed) (parts : List (List ℕ)) (rank : ℕ) → rank < length (data_in (database_listed listed))
-    → get_or (data_in (packed listed parts)) rank None ≡ filled (part_at parts rank) (get_or (data_in (database_listed listed)) rank None)
+    → get_or (data_in (database_of_parts listed parts)) rank None ≡ filled (part_at parts rank) (get_or (data_in (database_listed listed)) rank None)
 block_packed listed parts zero inside = refl
 block_packed listed parts (suc zero) inside = refl
 block_packed listed parts (suc (suc k)) inside =
@@ -35,9 +35,9 @@ block_packed listed parts (suc (suc k)) inside =
     block_filled parts 2 k (entries_listed listed.entries.items) (omega arith)
     ∙ ap (λ (r : ℕ). filled (part_at parts r) (get_or (map entry_data (entries_listed listed.entries.items)) k None)) next
 
-pub count_packed : (listed : Listed) (parts : List (List ℕ)) → length (data_in (packed listed parts)) ≡ length (data_in (database_listed listed))
+pub count_packed : (listed : Listed) (parts : List (List ℕ)) → length (data_in (database_of_parts listed parts)) ≡ length (data_in (database_listed listed))
 count_packed listed parts =
-    let one = length-map (packed listed parts).entries (entry_data {Data = Option (List ℕ)}) in
+    let one = length-map (database_of_parts listed parts).entries (entry_data {Data = Option (List ℕ)}) in
     let two = length-map (entries_listed listed.entries.items) (entry_data {Data = Option (List ℕ)}) in
     let three = length-packed listed.entries.items parts in
     let four = length-map listed.entries.items entry_listed in
@@ -48,16 +48,16 @@ blocks_from blocks i inside = rw (add-one, drop-cons blocks i None) refl
 
 -- the blocks from a rank on
 abbrev pub blocks_on : Listed → List (List ℕ) → ℕ → List ℕ
-blocks_on listed parts rank = all_bytes (drop rank (data_in (packed listed parts)))
+blocks_on listed parts rank = all_bytes (drop rank (data_in (database_of_parts listed parts)))
 
 pub block_here : (listed : Listed) (parts : List (List ℕ)) (rank : ℕ) (bytes : List ℕ) → rank < length (data_in (database_listed listed)) → bytes ≡ block_bytes (filled (part_at parts rank) (get_or (data_in (database_listed listed)) rank None))
     → blocks_on listed parts rank ≡ bytes ++ blocks_on listed parts (rank + 1)
 block_here listed parts rank bytes inside is =
     let count = count_packed listed parts in
-    blocks_from (data_in (packed listed parts)) rank (omega arith)
+    blocks_from (data_in (database_of_parts listed parts)) rank (omega arith)
     ∙ ap (λ (xs : List ℕ). xs ++ blocks_on listed parts (rank + 1)) (ap block_bytes (block_packed listed parts rank inside) ∙ sym is)
 
 pub blocks_end : (listed : Listed) (parts : List (List ℕ)) (rank : ℕ) → length (data_in (database_listed listed)) ≤ rank → blocks_on listed parts rank ≡ []
 blocks_end listed parts rank past =
     let count = count_packed listed parts in
-    ap all_bytes (drop_all rank (data_in (packed listed parts)) (omega arith))
+    ap all_bytes (drop_all rank (data_in (database_of_parts listed parts)) (omega arith))

@@ -8,7 +8,7 @@ use Rattle.heap_model.specs.Bytes.{AreBytes}
 use Rattle.heap_model.specs.Database.{Database, Entry, a_record, a_resource, entry_data, entry_with, data_in, has_resources, name_in}
 use Rattle.heap_model.specs.Files.{block_bytes}
 use Rattle.pdb_format.specs.Writable.{IsWritableEntry, HasFile}
-use Rattle.file_parts.specs.Texts.{app_name, sort_name, entry_name, named, named_entries, with_names, database_text}
+use Rattle.file_parts.specs.Texts.{app_name, sort_name, entry_name, name_if_data, named_entries, with_names, database_text}
 use Rattle.file_parts.specs.Words.{begins_name, is_name_byte, spelled_part}
 use Rattle.file_parts.specs.Reading.{read_database}
 use Rattle.file_parts.specs.Packing.{filled, part_at, filled_entries, with_parts}
@@ -18,11 +18,11 @@ use Rattle.file_parts.proofs.TextLaws.{texts_are_read}
 
 -- ---- the parts
 
-filled_named : (name : List ℕ) (block : Option (List ℕ)) → filled (block_bytes block) (named name block) ≡ block
+filled_named : (name : List ℕ) (block : Option (List ℕ)) → filled (block_bytes block) (name_if_data name block) ≡ block
 filled_named name None = refl
 filled_named name (Some bytes) = refl
 
-filled_entry : (name : List ℕ) (e : Entry (Option (List ℕ))) → entry_with (filled (block_bytes (entry_data e))) (entry_with (named name) e) ≡ e
+filled_entry : (name : List ℕ) (e : Entry (Option (List ℕ))) → entry_with (filled (block_bytes (entry_data e))) (entry_with (name_if_data name) e) ≡ e
 filled_entry name (a_record attributes id block) = ap (λ (b : Option (List ℕ)). a_record attributes id b) (filled_named name block)
 filled_entry name (a_resource kind id block) = ap (λ (b : Option (List ℕ)). a_resource kind id b) (filled_named name block)
 
@@ -37,7 +37,7 @@ entries_filled front index rank (e ∷ es) long =
     let more = length-append front (block ∷ []) in
     let here : part_at (front ++ block ∷ all_blocks es) rank ≡ block = ap (λ (r : ℕ). part_at (front ++ block ∷ all_blocks es) r) (sym long) ∙ get_or-append_seam front block (all_blocks es) [] in
     let joined : front ++ block ∷ all_blocks es ≡ (front ++ block ∷ []) ++ all_blocks es = sym (append_assoc front (block ∷ []) (all_blocks es)) in
-    ap (λ (bytes : List ℕ). entry_with (filled bytes) (entry_with (named (entry_name index)) e) ∷ filled_entries (front ++ block ∷ all_blocks es) (rank + 1) (named_entries (index + 1) es)) here
+    ap (λ (bytes : List ℕ). entry_with (filled bytes) (entry_with (name_if_data (entry_name index)) e) ∷ filled_entries (front ++ block ∷ all_blocks es) (rank + 1) (named_entries (index + 1) es)) here
     ∙ ap (λ (one : Entry (Option (List ℕ))). one ∷ filled_entries (front ++ block ∷ all_blocks es) (rank + 1) (named_entries (index + 1) es)) (filled_entry (entry_name index) e)
     ∙ ap (λ (parts : List (List ℕ)). e ∷ filled_entries parts (rank + 1) (named_entries (index + 1) es)) joined
     ∙ ap (λ (xs : List (Entry (Option (List ℕ)))). e ∷ xs) (entries_filled (front ++ block ∷ []) (index + 1) (rank + 1) es (omega arith))
@@ -49,8 +49,8 @@ pub parts_back : (d : Database (Option (List ℕ))) → with_parts (map block_by
 unfolding all_blocks whole
 parts_back d =
     let entries = entries_filled (block_bytes d.app_info ∷ block_bytes d.sort_info ∷ []) 0 2 d.entries refl in
-    ap (λ (es : List (Entry (Option (List ℕ)))). whole d (filled (block_bytes d.app_info) (named app_name d.app_info)) (filled (block_bytes d.sort_info) (named sort_name d.sort_info)) es) entries
-    ∙ ap (λ (app : Option (List ℕ)). whole d app (filled (block_bytes d.sort_info) (named sort_name d.sort_info)) d.entries) (filled_named app_name d.app_info)
+    ap (λ (es : List (Entry (Option (List ℕ)))). whole d (filled (block_bytes d.app_info) (name_if_data app_name d.app_info)) (filled (block_bytes d.sort_info) (name_if_data sort_name d.sort_info)) es) entries
+    ∙ ap (λ (app : Option (List ℕ)). whole d app (filled (block_bytes d.sort_info) (name_if_data sort_name d.sort_info)) d.entries) (filled_named app_name d.app_info)
     ∙ ap (λ (sort : Option (List ℕ)). whole d d.app_info sort d.entries) (filled_named sort_name d.sort_info)
 
 -- ---- the names
@@ -84,15 +84,15 @@ entry_named : (index : ℕ) → index < 100000 → spelled_part (entry_name inde
 entry_named index small =
     rw (entry_five index small) (five_named (index / 10000) (index / 1000 % 10) (index / 100 % 10) (index / 10 % 10) (index % 10) (omega arith) (omega arith) (omega arith) (omega arith) (omega arith))
 
-named_part : (name : List ℕ) (block : Option (List ℕ)) → spelled_part name ≡ Some (Some name) → IsPartName (named name block)
+named_part : (name : List ℕ) (block : Option (List ℕ)) → spelled_part name ≡ Some (Some name) → IsPartName (name_if_data name block)
 named_part name None is = tt
 named_part name (Some bytes) is = is
 
-named_none : (name : List ℕ) (block : Option (List ℕ)) → named name block ≡ None → block ≡ None
+named_none : (name : List ℕ) (block : Option (List ℕ)) → name_if_data name block ≡ None → block ≡ None
 named_none name None e = refl
 named_none name (Some bytes) e = absurd cc
 
-one_named : (r : Bool) (index : ℕ) (e : Entry (Option (List ℕ))) → index < 100000 → IsWritableEntry r e → IsNamedEntry r (entry_with (named (entry_name index)) e)
+one_named : (r : Bool) (index : ℕ) (e : Entry (Option (List ℕ))) → index < 100000 → IsWritableEntry r e → IsNamedEntry r (entry_with (name_if_data (entry_name index)) e)
 one_named false index (a_record attributes id block) small is = (is.0, is.1, named_part (entry_name index) block (entry_named index small), λ none. is.2 (named_none (entry_name index) block none))
 one_named true index (a_record attributes id block) small is = absurd is
 one_named false index (a_resource kind id block) small is = absurd is
@@ -101,7 +101,7 @@ one_named true index (a_resource kind id block) small is = (is.0, is.1, named_pa
 all_named : (r : Bool) (index : ℕ) (es : List (Entry (Option (List ℕ)))) → index + length es ≤ 100000 → All (IsWritableEntry r) es → All (IsNamedEntry r) (named_entries index es)
 all_named r index [] small all = All-nil (IsNamedEntry r)
 all_named r index (e ∷ es) small all =
-    All-cons (IsNamedEntry r) (entry_with (named (entry_name index)) e) (named_entries (index + 1) es)
+    All-cons (IsNamedEntry r) (entry_with (name_if_data (entry_name index)) e) (named_entries (index + 1) es)
     (one_named r index e (omega arith) (All-head (IsWritableEntry r) e es all))
     (all_named r (index + 1) es (omega arith) (All-tail (IsWritableEntry r) e es all))
 

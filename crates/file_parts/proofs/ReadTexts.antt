@@ -5,16 +5,16 @@ use Rattle.std.specs.Str.Lines.{lines}
 use Rattle.heap_model.specs.Database.{DatabaseHeader, Database, Entry, has_resources}
 use Rattle.script_lines.specs.declared.fault.LineFault.{LineFault}
 use Rattle.file_parts.specs.Left.{Left, left}
-use Rattle.file_parts.specs.Reading.{Read, database_with, header_with, read_database, read_entries, read_head, unless_faulty}
+use Rattle.file_parts.specs.Reading.{Read, database_with, header_with, read_database, read_entries, read_head, unless_fault}
 use Rattle.file_parts.specs.declared.header.Head.{Head}
 
 -- what comes of the entries
 go_on : Head → Left → Result (Database (Option (List ℕ))) LineFault
 go_on head rest = database_with (header_with head.title head.counts head.kinds) head.infos (read_entries (has_resources head.title.attributes) [] rest.number rest.texts)
 
-by_head : (text : List ℕ) (start : Left) (read : Read Head) → start ≡ left 0 (lines text) → read_head start ≡ read → read_database text ≡ unless_faulty read go_on
+by_head : (text : List ℕ) (start : Left) (read : Read Head) → start ≡ left 0 (lines text) → read_head start ≡ read → read_database text ≡ unless_fault read go_on
 unfolding read_database go_on
-by_head text start read is e = ap (λ (l : Left). unless_faulty (read_head l) go_on) (sym is) ∙ ap (λ (r : Read Head). unless_faulty r go_on) e
+by_head text start read is e = ap (λ (l : Left). unless_fault (read_head l) go_on) (sym is) ∙ ap (λ (r : Read Head). unless_fault r go_on) e
 
 pub head_faulty : (text : List ℕ) (start : Left) (fault : LineFault) → start ≡ left 0 (lines text) → read_head start ≡ Err fault → read_database text ≡ Err fault
 head_faulty text start fault is e = by_head text start (Err fault) is e

@@ -11,7 +11,7 @@ use Rattle.hex.specs.Hex.{encode_lower, encode_with, hex_digit_value, lower_digi
 use Rattle.hex.proofs.HexLemmas.{IsDigits-lower_digits}
 use Rattle.heap_model.specs.Bytes.{AreBytes, u16_bytes, u32_bytes}
 use Rattle.heap_model.specs.Database.{DatabaseHeader, Database, Entry, a_record, a_resource, HeaderFits, has_resources, is_deleted}
-use Rattle.palm_text.specs.Pieces.{spelled}
+use Rattle.palm_text.specs.Pieces.{script_spelled}
 use Rattle.script_lines.specs.Words.{is_passed_over, words_of, with_word}
 use Rattle.script_lines.specs.Spellings.{digit_value, hex_below, number_behind, number_below, spelled_four}
 use Rattle.script_lines.proofs.ReadBack.{texts_are_read_back, four_bytes_are_read_back}
@@ -215,10 +215,10 @@ abbrev seed_on : DatabaseHeader → List ℕ
 seed_on h = codes "seed " ++ (encode_lower (u32_bytes h.seed) ++ 10 ∷ [])
 
 abbrev creator_on : DatabaseHeader → List ℕ
-creator_on h = codes "creator " ++ (spelled (u32_bytes h.creator) ++ 10 ∷ seed_on h)
+creator_on h = codes "creator " ++ (script_spelled (u32_bytes h.creator) ++ 10 ∷ seed_on h)
 
 abbrev type_on : DatabaseHeader → List ℕ
-type_on h = codes "type " ++ (spelled (u32_bytes h.kind) ++ 10 ∷ creator_on h)
+type_on h = codes "type " ++ (script_spelled (u32_bytes h.kind) ++ 10 ∷ creator_on h)
 
 abbrev number_on : DatabaseHeader → List ℕ
 number_on h = codes "number " ++ (decimal h.modification_number ++ 10 ∷ type_on h)
@@ -239,7 +239,7 @@ abbrev attributes_on : DatabaseHeader → List ℕ
 attributes_on h = codes "attributes " ++ (encode_lower (u16_bytes h.attributes) ++ 10 ∷ version_on h)
 
 abbrev name_on : DatabaseHeader → List ℕ
-name_on h = codes "name " ++ (spelled h.name ++ 10 ∷ attributes_on h)
+name_on h = codes "name " ++ (script_spelled h.name ++ 10 ∷ attributes_on h)
 
 abbrev seed_texts : DatabaseHeader → List (List ℕ) → List (List ℕ)
 seed_texts h texts = (codes "seed " ++ encode_lower (u32_bytes h.seed)) ∷ texts
@@ -249,20 +249,20 @@ seed_lines h rest fits bytes =
     step (codes "seed ") (encode_lower (u32_bytes h.seed)) [] rest refl (hex_word_four h.seed)
 
 abbrev creator_texts : DatabaseHeader → List (List ℕ) → List (List ℕ)
-creator_texts h texts = (codes "creator " ++ spelled (u32_bytes h.creator)) ∷ seed_texts h texts
+creator_texts h texts = (codes "creator " ++ script_spelled (u32_bytes h.creator)) ∷ seed_texts h texts
 
 creator_lines : (h : DatabaseHeader) (rest : List ℕ) → HeaderFits h → AreBytes h.name → lines (creator_on h ++ rest) ≡ creator_texts h (lines rest)
 creator_lines h rest fits bytes =
-    step (codes "creator ") (spelled (u32_bytes h.creator)) (seed_on h) rest refl (text_is_word (u32_bytes h.creator) (u32_are h.creator))
-    ∙ ap (λ (texts : List (List ℕ)). (codes "creator " ++ spelled (u32_bytes h.creator)) ∷ texts) (seed_lines h rest fits bytes)
+    step (codes "creator ") (script_spelled (u32_bytes h.creator)) (seed_on h) rest refl (text_is_word (u32_bytes h.creator) (u32_are h.creator))
+    ∙ ap (λ (texts : List (List ℕ)). (codes "creator " ++ script_spelled (u32_bytes h.creator)) ∷ texts) (seed_lines h rest fits bytes)
 
 abbrev type_texts : DatabaseHeader → List (List ℕ) → List (List ℕ)
-type_texts h texts = (codes "type " ++ spelled (u32_bytes h.kind)) ∷ creator_texts h texts
+type_texts h texts = (codes "type " ++ script_spelled (u32_bytes h.kind)) ∷ creator_texts h texts
 
 type_lines : (h : DatabaseHeader) (rest : List ℕ) → HeaderFits h → AreBytes h.name → lines (type_on h ++ rest) ≡ type_texts h (lines rest)
 type_lines h rest fits bytes =
-    step (codes "type ") (spelled (u32_bytes h.kind)) (creator_on h) rest refl (text_is_word (u32_bytes h.kind) (u32_are h.kind))
-    ∙ ap (λ (texts : List (List ℕ)). (codes "type " ++ spelled (u32_bytes h.kind)) ∷ texts) (creator_lines h rest fits bytes)
+    step (codes "type ") (script_spelled (u32_bytes h.kind)) (creator_on h) rest refl (text_is_word (u32_bytes h.kind) (u32_are h.kind))
+    ∙ ap (λ (texts : List (List ℕ)). (codes "type " ++ script_spelled (u32_bytes h.kind)) ∷ texts) (creator_lines h rest fits bytes)
 
 abbrev number_texts : DatabaseHeader → List (List ℕ) → List (List ℕ)
 number_texts h texts = (codes "number " ++ decimal h.modification_number) ∷ type_texts h texts
@@ -313,12 +313,12 @@ attributes_lines h rest fits bytes =
     ∙ ap (λ (texts : List (List ℕ)). (codes "attributes " ++ encode_lower (u16_bytes h.attributes)) ∷ texts) (version_lines h rest fits bytes)
 
 abbrev name_texts : DatabaseHeader → List (List ℕ) → List (List ℕ)
-name_texts h texts = (codes "name " ++ spelled h.name) ∷ attributes_texts h texts
+name_texts h texts = (codes "name " ++ script_spelled h.name) ∷ attributes_texts h texts
 
 name_lines : (h : DatabaseHeader) (rest : List ℕ) → HeaderFits h → AreBytes h.name → lines (name_on h ++ rest) ≡ name_texts h (lines rest)
 name_lines h rest fits bytes =
-    step (codes "name ") (spelled h.name) (attributes_on h) rest refl (text_is_word h.name bytes)
-    ∙ ap (λ (texts : List (List ℕ)). (codes "name " ++ spelled h.name) ∷ texts) (attributes_lines h rest fits bytes)
+    step (codes "name ") (script_spelled h.name) (attributes_on h) rest refl (text_is_word h.name bytes)
+    ∙ ap (λ (texts : List (List ℕ)). (codes "name " ++ script_spelled h.name) ∷ texts) (attributes_lines h rest fits bytes)
 
 header_is : (h : DatabaseHeader) → header_lines h ≡ name_on h
 unfolding header_lines
@@ -330,9 +330,9 @@ title_back : (h : DatabaseHeader) (n : ℕ) (texts : List (List ℕ)) → Header
     → read_title (left n (name_texts h texts)) ≡ Ok (record { name = h.name; attributes = h.attributes; version = h.version }, left (n + 1 + 1 + 1) (created_texts h texts))
 unfolding words_of
 title_back h n texts fits bytes named =
-    let back : spelled_name (spelled h.name) ≡ Some h.name = rw (texts_are_read_back h.name bytes, named) refl in
+    let back : spelled_name (script_spelled h.name) ≡ Some h.name = rw (texts_are_read_back h.name bytes, named) refl in
     rw (
-      field_here (codes "name") (codes "name ") (spelled h.name) n (attributes_texts h texts) spelled_name h.name refl refl refl (text_is_word h.name bytes) back,
+      field_here (codes "name") (codes "name ") (script_spelled h.name) n (attributes_texts h texts) spelled_name h.name refl refl refl (text_is_word h.name bytes) back,
       field_here (codes "attributes") (codes "attributes ") (encode_lower (u16_bytes h.attributes)) (n + 1) (version_texts h texts) (hex_below (2 ^ 16)) h.attributes refl refl refl (hex_word_two h.attributes) (hex_back_two h.attributes fits.attributes),
       field_here (codes "version") (codes "version ") (decimal h.version) (n + 1 + 1) (created_texts h texts) (number_below (2 ^ 16)) h.version refl refl refl (number_is_word h.version (omega (arith, fits.version))) (number_back h.version (2 ^ 16) fits.version (omega arith)),
     ) refl
@@ -352,9 +352,9 @@ counts_back h n texts fits =
       number_here (codes "number") (codes "number ") (n + 1 + 1 + 1) h.modification_number (type_texts h texts) refl refl refl fits.modification_number,
     ) refl
 
-four_here : (word first : List ℕ) (n m : ℕ) (texts : List (List ℕ)) → is_passed_over (first ++ spelled (u32_bytes m)) ≡ false → words_of (first ++ spelled (u32_bytes m)) ≡ with_word word (words_of (spelled (u32_bytes m))) → bytes_eq word word ≡ true → m < 2 ^ 32
-    → field word spelled_four (left n ((first ++ spelled (u32_bytes m)) ∷ texts)) ≡ Ok (m, left (n + 1) texts)
-four_here word first n m texts passed words same small = field_here word first (spelled (u32_bytes m)) n texts spelled_four m passed words same (text_is_word (u32_bytes m) (u32_are m)) (four_bytes_are_read_back m small)
+four_here : (word first : List ℕ) (n m : ℕ) (texts : List (List ℕ)) → is_passed_over (first ++ script_spelled (u32_bytes m)) ≡ false → words_of (first ++ script_spelled (u32_bytes m)) ≡ with_word word (words_of (script_spelled (u32_bytes m))) → bytes_eq word word ≡ true → m < 2 ^ 32
+    → field word spelled_four (left n ((first ++ script_spelled (u32_bytes m)) ∷ texts)) ≡ Ok (m, left (n + 1) texts)
+four_here word first n m texts passed words same small = field_here word first (script_spelled (u32_bytes m)) n texts spelled_four m passed words same (text_is_word (u32_bytes m) (u32_are m)) (four_bytes_are_read_back m small)
 
 kinds_back : (h : DatabaseHeader) (n : ℕ) (texts : List (List ℕ)) → HeaderFits h
     → read_kinds (left n (type_texts h texts)) ≡ Ok (record { kind = h.kind; creator = h.creator; seed = h.seed }, left (n + 1 + 1 + 1) texts)
@@ -396,7 +396,7 @@ infos_back app sort n texts first second =
 -- the line of an entry without its end
 entry_text : Entry (Option (List ℕ)) → List ℕ
 entry_text (a_record attributes id part) = codes "record " ++ (encode_lower (attributes ∷ []) ++ 32 ∷ (decimal id ++ 32 ∷ part_word part))
-entry_text (a_resource kind id part) = codes "resource " ++ (spelled (u32_bytes kind) ++ 32 ∷ (decimal id ++ 32 ∷ part_word part))
+entry_text (a_resource kind id part) = codes "resource " ++ (script_spelled (u32_bytes kind) ++ 32 ∷ (decimal id ++ 32 ∷ part_word part))
 
 three_shown : (first a b c : List ℕ) → list_all is_shown first ≡ true → IsWord a → IsWord b → IsWord c → list_all is_shown (first ++ (a ++ 32 ∷ (b ++ 32 ∷ c))) ≡ true
 three_shown first a b c shown one two three =
@@ -425,9 +425,9 @@ entry_first false (a_record attributes id part) rest is =
 entry_first true (a_record attributes id part) rest is = absurd is
 entry_first false (a_resource kind id part) rest is = absurd is
 entry_first true (a_resource kind id part) rest is =
-    ap lines (three_joined (codes "resource ") (spelled (u32_bytes kind)) (decimal id) rest part)
+    ap lines (three_joined (codes "resource ") (script_spelled (u32_bytes kind)) (decimal id) rest part)
     ∙ line_first (entry_text (a_resource kind id part)) rest
-    (three_shown (codes "resource ") (spelled (u32_bytes kind)) (decimal id) (part_word part) refl (text_is_word (u32_bytes kind) (u32_are kind)) (number_is_word id (omega (arith, is.1))) (part_is_word part is.2))
+    (three_shown (codes "resource ") (script_spelled (u32_bytes kind)) (decimal id) (part_word part) refl (text_is_word (u32_bytes kind) (u32_are kind)) (number_is_word id (omega (arith, is.1))) (part_is_word part is.2))
 
 three_words_of : (a b c : List ℕ) → IsWord a → IsWord b → IsWord c → words_of (a ++ 32 ∷ (b ++ 32 ∷ c)) ≡ Ok (a ∷ b ∷ c ∷ [])
 three_words_of a b c one two three = one.more (b ++ 32 ∷ c) ∙ ap (with_word a) (two.more c ∙ ap (with_word b) three.alone)
@@ -444,7 +444,7 @@ entry_back false (a_record attributes id part) is =
 entry_back true (a_record attributes id part) is = absurd is
 entry_back false (a_resource kind id part) is = absurd is
 entry_back true (a_resource kind id part) is =
-    let words = three_words_of (spelled (u32_bytes kind)) (decimal id) (part_word part) (text_is_word (u32_bytes kind) (u32_are kind)) (number_is_word id (omega (arith, is.1))) (part_is_word part is.2) in
+    let words = three_words_of (script_spelled (u32_bytes kind)) (decimal id) (part_word part) (text_is_word (u32_bytes kind) (u32_are kind)) (number_is_word id (omega (arith, is.1))) (part_is_word part is.2) in
     rw (words, four_bytes_are_read_back kind is.0, number_back id (2 ^ 16) is.1 (omega arith), part_there part false (λ none. absurd (is.3 none)) is.2) refl
 
 entry_passed : (r : Bool) (e : Entry (Option (List ℕ))) → is_passed_over (entry_text e) ≡ false

@@ -4,12 +4,12 @@ use Rattle.std.specs.Prelude.{codes}
 use Rattle.heap_model.specs.Database.{DatabaseHeader}
 use Rattle.heap_model.specs.Files.{blocks_in}
 use Rattle.pdb_format.specs.ReadFiles.{header_read, entries_read, database_read}
-use Rattle.file_parts.specs.Texts.{app_name, sort_name, named, named_entries, with_names, header_lines, info_line, info_lines, entry_lines, body_lines, database_text}
+use Rattle.file_parts.specs.Texts.{app_name, sort_name, name_if_data, named_entries, with_names, header_lines, info_line, info_lines, entry_lines, body_lines, database_text}
 
 -- the lines after those of the header
 abbrev pub rest_of : List ℕ → List ℕ → List ℕ
 rest_of file ids =
-    (info_line (codes "app") (named app_name (get_or (blocks_in file) 0 None)) ++ info_line (codes "sort") (named sort_name (get_or (blocks_in file) 1 None)))
+    (info_line (codes "app") (name_if_data app_name (get_or (blocks_in file) 0 None)) ++ info_line (codes "sort") (name_if_data sort_name (get_or (blocks_in file) 1 None)))
     ++ entry_lines (named_entries 0 (entries_read file ids))
 
 pub text_is : (file ids : List ℕ) (seed : ℕ) (header : DatabaseHeader) → header ≡ header_read file seed → header_lines header ++ rest_of file ids ≡ database_text (with_names (database_read file ids seed))

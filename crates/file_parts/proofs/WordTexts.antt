@@ -11,7 +11,7 @@ use Rattle.std.proofs.lemmas.Fmt.{decimal_by_steps, length-decimal-le, decimal_n
 use Rattle.hex.specs.Hex.{encode_lower, encode_with, hex_digit_value, lower_digits}
 use Rattle.hex.proofs.HexLemmas.{IsDigits-lower_digits}
 use Rattle.heap_model.specs.Bytes.{AreBytes}
-use Rattle.palm_text.specs.Pieces.{is_printable, closed, quoted, marked_hex, spelled}
+use Rattle.palm_text.specs.Pieces.{is_printable, closed, script_quoted, marked_hex, script_spelled}
 use Rattle.script_lines.specs.Words.{is_blank, words_of, plain_word, quoted_word, with_word}
 use Rattle.script_lines.specs.Spellings.{below, digit_value, number_below, number_behind, number_in, spelled_number}
 use Rattle.script_lines.proofs.LineLaws.{feed, lines_ended, drop_next}
@@ -94,7 +94,7 @@ quoted_more front (b ∷ text) rest h =
     let parts = and_parts (is_printable b) (list_all is_printable text) h in
     rw (no_quote b parts.0) (quoted_more (front ++ b ∷ []) text rest parts.1 ∙ ap (λ (word : List ℕ). with_word word (words_of rest)) (append_assoc front (b ∷ []) (closed text)))
 
-quotes_more : (text rest : List ℕ) → list_all is_printable text ≡ true → words_of (quoted text ++ 32 ∷ rest) ≡ with_word (quoted text) (words_of rest)
+quotes_more : (text rest : List ℕ) → list_all is_printable text ≡ true → words_of (script_quoted text ++ 32 ∷ rest) ≡ with_word (script_quoted text) (words_of rest)
 unfolding words_of
 quotes_more text rest h = ap (quoted_word (34 ∷ [])) (append_assoc text (34 ∷ []) (32 ∷ rest)) ∙ quoted_more (34 ∷ []) text rest h
 
@@ -120,9 +120,9 @@ hex_plain (b ∷ bytes) h =
 marked_is_word : (bytes : List ℕ) → AreBytes bytes → IsWord (marked_hex bytes)
 marked_is_word bytes h = plain_is_word (marked_hex bytes) (omega arith) (hex_plain bytes h)
 
-pub text_is_word : (text : List ℕ) → AreBytes text → IsWord (spelled text)
+pub text_is_word : (text : List ℕ) → AreBytes text → IsWord (script_spelled text)
 text_is_word text h = by_printable (list_all is_printable text) refl where
-  by_printable : (v : Bool) → list_all is_printable text ≡ v → IsWord (spelled text)
+  by_printable : (v : Bool) → list_all is_printable text ≡ v → IsWord (script_spelled text)
   by_printable true is = record {
     alone = texts_are_words text h;
     more = λ rest. rw is (quotes_more text rest is);

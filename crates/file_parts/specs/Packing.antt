@@ -44,11 +44,11 @@ pub record HasPartsOf (listed : Listed) (parts : List (List ℕ)) : Type 0 where
   pub count : length parts ≡ length (data_in (database_listed listed))
 
 -- the database with the bytes of the parts
-abbrev pub packed : Listed → List (List ℕ) → Database (Option (List ℕ))
-packed listed parts = with_parts parts (database_listed listed)
+abbrev pub database_of_parts : Listed → List (List ℕ) → Database (Option (List ℕ))
+database_of_parts listed parts = with_parts parts (database_listed listed)
 
 -- the offsets at which the blocks of the file of a database begin
-pub record ArePlaces (database : Database (Option (List ℕ))) (places : Places) : Type 0 where
+pub record AreBlockPlaces (database : Database (Option (List ℕ))) (places : Places) : Type 0 where
   pub app : places.app ≡ first_block database
   pub sort : places.sort ≡ first_block database + block_size database.app_info
   pub entries : places.entries ≡ first_block database + block_size database.app_info + block_size database.sort_info

@@ -149,12 +149,12 @@ abbrev pub database_with : DatabaseHeader → Infos → Result (List (Entry (Opt
 database_with header infos (Err fault) = Err fault
 database_with header infos (Ok entries) = Ok (record { header = header; app_info = infos.app; sort_info = infos.sort; entries = entries })
 
-abbrev pub unless_faulty : {A : Type 0} → Read A → (A → Left → Result (Database (Option (List ℕ))) LineFault) → Result (Database (Option (List ℕ))) LineFault
-unless_faulty (Err fault) go_on = Err fault
-unless_faulty (Ok both) go_on = go_on both.0 both.1
+abbrev pub unless_fault : {A : Type 0} → Read A → (A → Left → Result (Database (Option (List ℕ))) LineFault) → Result (Database (Option (List ℕ))) LineFault
+unless_fault (Err fault) go_on = Err fault
+unless_fault (Ok both) go_on = go_on both.0 both.1
 
 -- the database of a text, or its first faulty line
 unfoldable pub read_database : List ℕ → Result (Database (Option (List ℕ))) LineFault
 read_database text =
-    unless_faulty (read_head (left 0 (lines text))) (λ head rest.
+    unless_fault (read_head (left 0 (lines text))) (λ head rest.
     database_with (header_with head.title head.counts head.kinds) head.infos (read_entries (has_resources head.title.attributes) [] rest.number rest.texts))

@@ -5,7 +5,7 @@ use Rattle.std.specs.List.{flat_map}
 use Rattle.hex.specs.Hex.{encode_lower}
 use Rattle.heap_model.specs.Bytes.{u16_bytes, u32_bytes}
 use Rattle.heap_model.specs.Database.{DatabaseHeader, Database, Entry, a_record, a_resource, entry_data, entry_with}
-use Rattle.palm_text.specs.Pieces.{spelled}
+use Rattle.palm_text.specs.Pieces.{script_spelled}
 
 -- ---- the names that parts get
 
@@ -21,21 +21,21 @@ abbrev pub entry_name : ℕ → List ℕ
 entry_name index = decimal (index / 10000) ++ (decimal (index / 1000 % 10) ++ (decimal (index / 100 % 10) ++ (decimal (index / 10 % 10) ++ decimal (index % 10))))
 
 -- a name instead of the data, if there is data
-abbrev pub named : List ℕ → Option (List ℕ) → Option (List ℕ)
-named name None = None
-named name (Some bytes) = Some name
+abbrev pub name_if_data : List ℕ → Option (List ℕ) → Option (List ℕ)
+name_if_data name None = None
+name_if_data name (Some bytes) = Some name
 
 -- entries with names instead of their data; the first entry has this index
 abbrev pub named_entries : ℕ → List (Entry (Option (List ℕ))) → List (Entry (Option (List ℕ)))
 named_entries index [] = []
-named_entries index (entry ∷ entries) = entry_with (named (entry_name index)) entry ∷ named_entries (index + 1) entries
+named_entries index (entry ∷ entries) = entry_with (name_if_data (entry_name index)) entry ∷ named_entries (index + 1) entries
 
 -- a database with names instead of its data
 abbrev pub with_names : Database (Option (List ℕ)) → Database (Option (List ℕ))
 with_names database = record {
   header = database.header;
-  app_info = named app_name database.app_info;
-  sort_info = named sort_name database.sort_info;
+  app_info = name_if_data app_name database.app_info;
+  sort_info = name_if_data sort_name database.sort_info;
   entries = named_entries 0 database.entries;
 }
 
@@ -44,15 +44,15 @@ with_names database = record {
 -- the lines of the values of a header
 unfoldable pub header_lines : DatabaseHeader → List ℕ
 header_lines header =
-    codes "name " ++ (spelled header.name
+    codes "name " ++ (script_spelled header.name
     ++ (codes "\nattributes " ++ (encode_lower (u16_bytes header.attributes)
     ++ (codes "\nversion " ++ (decimal header.version
     ++ (codes "\ncreated " ++ (decimal header.creation_date
     ++ (codes "\nmodified " ++ (decimal header.modification_date
     ++ (codes "\nbackup " ++ (decimal header.backup_date
     ++ (codes "\nnumber " ++ (decimal header.modification_number
-    ++ (codes "\ntype " ++ (spelled (u32_bytes header.kind)
-    ++ (codes "\ncreator " ++ (spelled (u32_bytes header.creator)
+    ++ (codes "\ntype " ++ (script_spelled (u32_bytes header.kind)
+    ++ (codes "\ncreator " ++ (script_spelled (u32_bytes header.creator)
     ++ (codes "\nseed " ++ (encode_lower (u32_bytes header.seed)
     ++ codes "\n")))))))))))))))))))
 
@@ -69,7 +69,7 @@ info_line word part = word ++ part_text part
 -- id of a resource
 abbrev pub entry_values : Entry (Option (List ℕ)) → List ℕ
 entry_values (a_record attributes id part) = codes "record " ++ (encode_lower (attributes ∷ []) ++ (codes " " ++ decimal id))
-entry_values (a_resource kind id part) = codes "resource " ++ (spelled (u32_bytes kind) ++ (codes " " ++ decimal id))
+entry_values (a_resource kind id part) = codes "resource " ++ (script_spelled (u32_bytes kind) ++ (codes " " ++ decimal id))
 
 -- the line of an entry
 abbrev pub entry_line : Entry (Option (List ℕ)) → List ℕ

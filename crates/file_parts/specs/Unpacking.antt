@@ -3,8 +3,8 @@ use Rattle.std.specs.Prelude.{◌≡◌, ℕ, List, zero, suc, slice_index_or, O
 use Rattle.heap_model.specs.Database.{Database, entry_with}
 use Rattle.heap_model.specs.Files.{HasNoFault, IsFirstFault, blocks_in}
 use Rattle.pdb_format.specs.ReadFiles.{database_read, entry_read_at}
-use Rattle.canonical_file.specs.Canonical.{HasBlocks, HasIds}
-use Rattle.file_parts.specs.Texts.{app_name, sort_name, entry_name, entry_line, named}
+use Rattle.canonical_file.specs.Canonical.{HasBlocks, GetsIds}
+use Rattle.file_parts.specs.Texts.{app_name, sort_name, entry_name, entry_line, name_if_data}
 use Rattle.file_parts.specs.declared.unpacked.Unpacked.{Unpacked}
 use Rattle.file_parts.specs.declared.unpacked.Part.{Part}
 use Rattle.file_parts.specs.declared.unpacked.PartName.{PartName}
@@ -15,7 +15,7 @@ use Rattle.file_parts.specs.declared.unpacked.UnpackFault.TheVariants.{BadFile, 
 -- these are the places of the blocks of a file, and the IDs that its records get
 pub record IsUnpacked (file : List ℕ) (unpacked : Unpacked) : Type 0 where
   pub blocks : HasBlocks file unpacked.blocks.items
-  pub ids : HasIds file unpacked.given
+  pub ids : GetsIds file unpacked.given
 
 -- the database that is read from the file
 abbrev pub database_of : List ℕ → Unpacked → Database (Option (List ℕ))
@@ -35,15 +35,15 @@ name_at (suc zero) = sort_name
 name_at (suc (suc index)) = entry_name index
 
 -- the part of a rank: its name, and the block
-pub record IsPart (file : List ℕ) (rank : ℕ) (part : Part) : Type 0 where
+pub record IsPartOfRank (file : List ℕ) (rank : ℕ) (part : Part) : Type 0 where
   pub name : name_text part.name ≡ name_at rank
   pub block : Some part.bytes.now ≡ slice_index_or (blocks_in file) rank None
 
 -- the reason why a file is not taken apart
-abbrev pub IsFaultOf : List ℕ → UnpackFault → Type 0
-IsFaultOf file (BadFile fault) = IsFirstFault file fault
-IsFaultOf file OutOfMemory = HasNoFault file
+abbrev pub IsUnpackFault : List ℕ → UnpackFault → Type 0
+IsUnpackFault file (BadFile fault) = IsFirstFault file fault
+IsUnpackFault file OutOfMemory = HasNoFault file
 
 -- the line of the entry at an index, as it is read, if these are the IDs of the file's records
 abbrev pub line_at : List ℕ → List ℕ → ℕ → List ℕ
-line_at file ids index = entry_line (entry_with (named (entry_name index)) (entry_read_at file ids index))
+line_at file ids index = entry_line (entry_with (name_if_data (entry_name index)) (entry_read_at file ids index))

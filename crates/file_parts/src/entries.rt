@@ -13,10 +13,10 @@ use crate::part_file::PartFile;
 use crate::words::{WordsLeft, first_word, id_of, part_unless, words_behind};
 use allowance::{Allowance, push};
 use db_format::{DbEntry, RecordAttrs, RecordEntry, ResourceEntry};
-use script_lines::{LineFault, ScriptFault, four_bytes_of, hex_byte_of, short_of};
+use script_lines::{LineFault, NO_MEMORY_FAULT, ScriptFault, four_bytes_of, hex_byte_of, short_of};
 
 /// The greatest number of entries of a database.
-const MOST_ENTRIES: usize = 65_535;
+const MOST_LISTED_ENTRIES: usize = 65_535;
 
 /// An entry, and the part with its data.
 #[derive(Drop)]
@@ -24,12 +24,6 @@ pub(crate) struct ListedEntry<'a> {
     pub(crate) entry: DbEntry,
     pub(crate) part: Option<PartFile<'a>>,
 }
-
-/// The fault if an allocation failed.
-const REFUSED: LineFault = LineFault {
-    line: 0,
-    fault: ScriptFault::OutOfMemory,
-};
 
 /// Returns a value, or the fault of the word with this number if there is no value.
 fn good_word<T: Drop>(value: Option<T>, number: usize) -> Result<T, ScriptFault>
@@ -124,7 +118,7 @@ fn read_entry<'a>(
         → reading.one_more resources front line.now ≡ Err fault) }
     ensures takes_no_memory { IfErr result (λ fault. fault ≢ ScriptFault.OutOfMemory) }
 {
-    if count == MOST_ENTRIES {
+    if count == MOST_LISTED_ENTRIES {
         return Err(ScriptFault::BadWord(1));
     }
     let word: &[u8] = if resources { b"resource" } else { b"record" };
@@ -160,7 +154,7 @@ pub(crate) fn read_entries<'a, A: Allowance>(
         };
         match push(memory, &mut entries, entry) {
             Ok(()) => {}
-            Err(_) => return Err(REFUSED),
+            Err(_) => return Err(NO_MEMORY_FAULT),
         }
     }
 }

@@ -24,8 +24,8 @@ pub struct Listed<'a> {
 
 /// Returns the header with these values, and with no blocks and no entries yet.
 fn header_of(title: Title, counts: Counts, kinds: Kinds) -> DbHeader
-    ensures is { headers.header_of result ≡ header_with title counts kinds }
-    ensures fits { HeaderFits (headers.header_of result) }
+    ensures is { headers.header_values result ≡ header_with title counts kinds }
+    ensures fits { HeaderFits (headers.header_values result) }
     ensures name { IsDatabaseName result.name }
     ensures attributes { result.attributes ≡ title.attributes }
 {

@@ -10,7 +10,7 @@ ghost use Rattle.pdb_format.specs.FileTexts.{blocks_text, data_text, entries_tex
 ghost use Rattle.canonical_file.specs.Canonical.{IsCanonical, most_bytes};
 ghost use Rattle.file_parts.specs.Laws.{UnpacksBack};
 ghost use Rattle.file_parts.specs.Listed.{IsListed, entry_listed};
-ghost use Rattle.file_parts.specs.Packing.{ArePlaces, HasPartsOf, IsRefusedFor, filled, packed, packed_entries, part_at};
+ghost use Rattle.file_parts.specs.Packing.{AreBlockPlaces, HasPartsOf, IsRefusedFor, filled, database_of_parts, packed_entries, part_at};
 
 use crate::entries::ListedEntry;
 use crate::listed::Listed;
@@ -19,7 +19,7 @@ use allowance::Allowance;
 use bitflags::Flags;
 use canonical_file::canonical_bytes;
 use db_format::{
-    DbAttrs, DbEntry, HEADER_SIZE, INFO_BLOCKS, RecordAttrs, RecordEntry, ResourceEntry,
+    DATABASE_HEADER_SIZE, DbAttrs, DbEntry, INFO_BLOCKS, RecordAttrs, RecordEntry, ResourceEntry,
     entry_offset,
 };
 use heap_model::Bytes;
@@ -92,7 +92,7 @@ fn end_of(at: u32, block: &[u8]) -> Result<u32, PackFault>
 /// Returns the offset of the first block: after the entries and two bytes.
 fn first_place(listed: &Listed<'_>) -> u32
     requires { IsListed listed.now }
-    ensures is { (parts : List (List ℕ)) → result ≡ first_block (packed listed.now parts) }
+    ensures is { (parts : List (List ℕ)) → result ≡ first_block (database_of_parts listed.now parts) }
     ensures most { result ≤ most_bytes }
 {
     let count = listed.entries.as_slice().len() as u16;
@@ -102,8 +102,8 @@ fn first_place(listed: &Listed<'_>) -> u32
 /// Returns the offsets at which the blocks of the file begin.
 fn find_places(listed: &Listed<'_>, parts: &[Bytes]) -> Result<Places, PackFault>
     requires { HasPartsOf listed.now parts.now }
-    ensures are { IfOk result (ArePlaces (packed listed.now parts.now)) }
-    ensures large { IfErr result (IsRefusedFor (file_size (packed listed.now parts.now))) }
+    ensures are { IfOk result (AreBlockPlaces (database_of_parts listed.now parts.now)) }
+    ensures large { IfErr result (IsRefusedFor (file_size (database_of_parts listed.now parts.now))) }
     ensures takes_no_memory { IfErr result (λ fault. fault ≡ PackFault.TooLarge) }
 {
     let app = first_place(listed);
@@ -121,11 +121,11 @@ fn find_entries(
     sort: u32,
 ) -> Result<Places, PackFault>
     requires parts { HasPartsOf listed.now parts.now }
-    requires app { app ≡ first_block (packed listed.now parts.now) }
-    requires sort { sort ≡ app + files.block_size (packed listed.now parts.now).app_info }
+    requires app { app ≡ first_block (database_of_parts listed.now parts.now) }
+    requires sort { sort ≡ app + files.block_size (database_of_parts listed.now parts.now).app_info }
     requires most { sort ≤ most_bytes }
-    ensures are { IfOk result (ArePlaces (packed listed.now parts.now)) }
-    ensures large { IfErr result (IsRefusedFor (file_size (packed listed.now parts.now))) }
+    ensures are { IfOk result (AreBlockPlaces (database_of_parts listed.now parts.now)) }
+    ensures large { IfErr result (IsRefusedFor (file_size (database_of_parts listed.now parts.now))) }
     ensures takes_no_memory { IfErr result (λ fault. fault ≡ PackFault.TooLarge) }
 {
     match end_of(sort, part_bytes(&listed.infos.sort, parts, 1)) {
@@ -135,10 +135,10 @@ fn find_entries(
 }
 
 /// Returns the bytes of the header of the file.
-fn header_bytes(listed: &Listed<'_>, places: Places) -> [u8; HEADER_SIZE]
+fn header_bytes(listed: &Listed<'_>, places: Places) -> [u8; DATABASE_HEADER_SIZE]
     requires { IsListed listed.now }
-    ensures { (parts : List (List ℕ)) → ArePlaces (packed listed.now parts) places
-        → result ≡ header_text (packed listed.now parts) }
+    ensures { (parts : List (List ℕ)) → AreBlockPlaces (database_of_parts listed.now parts) places
+        → result ≡ header_text (database_of_parts listed.now parts) }
 {
     let mut header = listed.header;
     header.app_info = offset_of(places.app, &listed.infos.app);
@@ -225,7 +225,7 @@ fn append_blocks<A: Allowance>(
 ) -> Result<(), PackFault>
     requires { HasPartsOf listed.now parts.now }
     ensures items { OnOk result (bytes.new.items
-        ≡ bytes.old.items ++ blocks_text (packed listed.now parts.now)) }
+        ≡ bytes.old.items ++ blocks_text (database_of_parts listed.now parts.now)) }
     ensures memory { IfErr result (λ fault. fault ≡ PackFault.OutOfMemory) }
     ensures short { IfErr result (λ _. A.is_short memory.now) }
 {
@@ -242,9 +242,9 @@ fn file_bytes<A: Allowance>(
     parts: &[Bytes],
 ) -> Result<Vec<u8>, PackFault>
     requires { HasPartsOf listed.now parts.now }
-    ensures file { IfOk result (λ bytes. bytes.items ≡ file_of (packed listed.now parts.now)) }
-    ensures most { OnOk result (file_size (packed listed.now parts.now) ≤ most_bytes) }
-    ensures large { IfErr result (IsRefusedFor (file_size (packed listed.now parts.now))) }
+    ensures file { IfOk result (λ bytes. bytes.items ≡ file_of (database_of_parts listed.now parts.now)) }
+    ensures most { OnOk result (file_size (database_of_parts listed.now parts.now) ≤ most_bytes) }
+    ensures large { IfErr result (IsRefusedFor (file_size (database_of_parts listed.now parts.now))) }
     ensures short { result ≡ Err PackFault.OutOfMemory → A.is_short memory.now }
 {
     let places = find_places(listed, parts)?;
@@ -276,11 +276,11 @@ pub fn pack<A: Allowance>(
 ) -> Result<Vec<u8>, PackFault>
     requires { HasPartsOf listed.now parts.now }
     ensures canonical { IfOk result (λ bytes.
-        IsCanonical (file_of (packed listed.now parts.now)) bytes.items) }
+        IsCanonical (file_of (database_of_parts listed.now parts.now)) bytes.items) }
     ensures unpacks { IfOk result (λ bytes.
-        UnpacksBack (packed listed.now parts.now) bytes.items) }
-    ensures fits { OnOk result (file_size (packed listed.now parts.now) ≤ most_bytes) }
-    ensures large { IfErr result (IsRefusedFor (file_size (packed listed.now parts.now))) }
+        UnpacksBack (database_of_parts listed.now parts.now) bytes.items) }
+    ensures fits { OnOk result (file_size (database_of_parts listed.now parts.now) ≤ most_bytes) }
+    ensures large { IfErr result (IsRefusedFor (file_size (database_of_parts listed.now parts.now))) }
     ensures short { result ≡ Err PackFault.OutOfMemory → A.is_short memory.now }
 {
     let file = file_bytes(memory, listed, parts)?;

@@ -3,7 +3,7 @@
 ghost use Rattle.std.specs.Prelude.{◌≡◌, ◌<◌, ◌++◌, ℕ, List, Option, None, codes, is_ok, slice_index_or};
 ghost use Rattle.heap_model.specs.Database.{Database, entry_count_in, entry_with};
 ghost use Rattle.heap_model.specs.Files.{HasNoFault, Reads, blocks_in};
-ghost use Rattle.db_format.specs.Headers.{header_of};
+ghost use Rattle.db_format.specs.Headers.{header_values};
 ghost use Rattle.db_format.specs.EitherEntry.{entry_of};
 ghost use Rattle.palm_text.specs.Counted.{Writes};
 ghost use Rattle.pdb_format.specs.ReadFiles as reading;
@@ -11,7 +11,7 @@ ghost use Rattle.pdb_format.specs.ReadFiles.{HasIdsFor, entries_read, entry_read
 ghost use Rattle.pdb_format.specs.Blocks.{bytes_at};
 ghost use Rattle.canonical_file.specs.Canonical.{HasBlocks};
 ghost use Rattle.file_parts.specs.Texts.{app_name, database_text, entry_lines, entry_name, entry_values, header_lines};
-ghost use Rattle.file_parts.specs.Texts.{info_line, named, named_entries, part_text, sort_name, with_names};
+ghost use Rattle.file_parts.specs.Texts.{info_line, name_if_data, named_entries, part_text, sort_name, with_names};
 ghost use Rattle.file_parts.specs.Unpacking.{IsUnpacked, database_of, line_at};
 
 use crate::unpacked::Unpacked;
@@ -23,7 +23,7 @@ use std::io::Write;
 
 /// Writes the lines of the values of a header.
 fn put_header<'a, W: Write>(out: &mut Counted<W>, header: &'a DbHeader) -> Result<(), WriteFault>
-    ensures { Writes W.contents out.old out.new (header_lines (header_of header.now)) (is_ok result) }
+    ensures { Writes W.contents out.old out.new (header_lines (header_values header.now)) (is_ok result) }
 {
     put_pieces(
         out,
@@ -60,7 +60,7 @@ fn put_info<W: Write>(
     block: Option<Block>,
 ) -> Result<(), WriteFault>
     ensures { (file : List ℕ) → Writes W.contents out.old out.new
-        (info_line word.now (named word.now (bytes_at file block))) (is_ok result) }
+        (info_line word.now (name_if_data word.now (bytes_at file block))) (is_ok result) }
 {
     match block {
         None => put_pieces(out, &[Piece::Text(word), Piece::Text(b" none\n")]),
@@ -110,7 +110,7 @@ fn put_part<W: Write>(
     block: Option<Block>,
 ) -> Result<(), WriteFault>
     ensures { (file : List ℕ) → Writes W.contents out.old out.new
-        (part_text (named (entry_name index) (bytes_at file block))) (is_ok result) }
+        (part_text (name_if_data (entry_name index) (bytes_at file block))) (is_ok result) }
 {
     let index = u32::from(index);
     match block {
@@ -200,7 +200,7 @@ fn put_app<W: Write>(
 ) -> Result<(), WriteFault>
     requires { HasBlocks file.now blocks.now }
     ensures { Writes W.contents out.old out.new
-        (info_line (codes "app") (named app_name (slice_index_or (blocks_in file.now) 0 None))) (is_ok result) }
+        (info_line (codes "app") (name_if_data app_name (slice_index_or (blocks_in file.now) 0 None))) (is_ok result) }
 {
     put_info(out, b"app", blocks[0])
 }
@@ -213,7 +213,7 @@ fn put_sort<W: Write>(
 ) -> Result<(), WriteFault>
     requires { HasBlocks file.now blocks.now }
     ensures { Writes W.contents out.old out.new
-        (info_line (codes "sort") (named sort_name (slice_index_or (blocks_in file.now) 1 None))) (is_ok result) }
+        (info_line (codes "sort") (name_if_data sort_name (slice_index_or (blocks_in file.now) 1 None))) (is_ok result) }
 {
     put_info(out, b"sort", blocks[1])
 }
@@ -226,8 +226,8 @@ fn put_infos<W: Write>(
 ) -> Result<(), WriteFault>
     requires { HasBlocks file.now blocks.now }
     ensures { Writes W.contents out.old out.new (info_line (codes "app")
-        (named app_name (slice_index_or (blocks_in file.now) 0 None))
-        ++ info_line (codes "sort") (named sort_name (slice_index_or (blocks_in file.now) 1 None)))
+        (name_if_data app_name (slice_index_or (blocks_in file.now) 0 None))
+        ++ info_line (codes "sort") (name_if_data sort_name (slice_index_or (blocks_in file.now) 1 None)))
         (is_ok result) }
 {
     match put_app(out, file, blocks) {
@@ -246,8 +246,8 @@ fn put_body<W: Write>(
     requires blocks { HasBlocks file.now blocks.now }
     requires ids { HasIdsFor file.now ids.now }
     ensures { Writes W.contents out.old out.new ((info_line (codes "app")
-        (named app_name (slice_index_or (blocks_in file.now) 0 None))
-        ++ info_line (codes "sort") (named sort_name (slice_index_or (blocks_in file.now) 1 None)))
+        (name_if_data app_name (slice_index_or (blocks_in file.now) 0 None))
+        ++ info_line (codes "sort") (name_if_data sort_name (slice_index_or (blocks_in file.now) 1 None)))
         ++ entry_lines (named_entries 0 (entries_read file.now ids.now))) (is_ok result) }
 {
     match put_infos(out, file, blocks) {
@@ -259,7 +259,7 @@ fn put_body<W: Write>(
 /// Returns the header as it is read: with the seed that was given last.
 fn header_read(file: &[u8], unpacked: &Unpacked) -> DbHeader
     requires { IsUnpacked file.now unpacked.now }
-    ensures { header_of result ≡ reading.header_read file.now unpacked.now.given.seed }
+    ensures { header_values result ≡ reading.header_read file.now unpacked.now.given.seed }
 {
     let mut header = DbHeader::read(file);
     header.seed = header.seed / SEEDS * SEEDS + unpacked.given.seed;

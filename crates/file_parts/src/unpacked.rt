@@ -6,7 +6,7 @@ ghost use Rattle.heap_model.specs.Bytes.{AreBytes};
 ghost use Rattle.file_parts.specs.Laws.{PacksBack};
 ghost use Rattle.canonical_file.specs.Canonical.{HasBlocks, most_bytes};
 ghost use Rattle.file_parts.specs.Unpacking as unpacking;
-ghost use Rattle.file_parts.specs.Unpacking.{IsFaultOf, IsPart, IsUnpacked, database_of};
+ghost use Rattle.file_parts.specs.Unpacking.{IsUnpackFault, IsPartOfRank, IsUnpacked, database_of};
 
 use allowance::Allowance;
 use db_format::INFO_BLOCKS;
@@ -63,7 +63,7 @@ pub fn unpack<A: Allowance>(memory: &A, file: &[u8]) -> Result<Unpacked, UnpackF
     ensures done { IfOk result (IsUnpacked file.now) }
     ensures reads { IfOk result (λ unpacked. Reads file.now (database_of file.now unpacked)) }
     ensures packs { IfOk result (λ unpacked. PacksBack (database_of file.now unpacked)) }
-    ensures why { IfErr result (IsFaultOf file.now) }
+    ensures why { IfErr result (IsUnpackFault file.now) }
     ensures short { result ≡ Err UnpackFault.OutOfMemory → A.is_short memory.now }
 {
     if let Err(fault) = check_file(file) {
@@ -111,7 +111,7 @@ impl Unpacked {
         requires unpacked { IsUnpacked file.now self.now }
         requires inside { rank < length (blocks_in file.now) }
         ensures { MatchOption result (slice_index_or (blocks_in file.now) rank None ≡ None)
-            (IsPart file.now rank) }
+            (IsPartOfRank file.now rank) }
     {
         part_of(file, self.blocks.as_slice(), rank)
     }
@@ -122,7 +122,7 @@ fn part_of<'a>(file: &'a [u8], blocks: &[Option<Block>], rank: usize) -> Option<
     requires blocks { HasBlocks file.now blocks.now }
     requires inside { rank < length (blocks_in file.now) }
     ensures { MatchOption result (slice_index_or (blocks_in file.now) rank None ≡ None)
-        (IsPart file.now rank) }
+        (IsPartOfRank file.now rank) }
 {
     match blocks[rank] {
         Some(block) => Some(Part {

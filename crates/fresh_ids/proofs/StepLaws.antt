@@ -14,9 +14,9 @@ use Rattle.heap_model.specs.UniqueIds.{id_behind, IsFresh, seed_in}
 use Rattle.laws_store.proofs.Fresh.{id_behind_is, id_behind_fits, fresh_exists}
 use Rattle.laws_store.proofs.RecordIds.{ids_upto, ids_index, index_ids}
 use Rattle.laws_store.proofs.Shapes.{spelled_shape}
-use Rattle.db_format.specs.Headers.{IsWhole}
-use Rattle.bit_sets.specs.Sets.{HasNumber, AddsNumber, IsFirstMissing}
-use Rattle.fresh_ids.specs.Steps.{IsTakenBefore, HasTaken, IsFree, IsFirstFree}
+use Rattle.db_format.specs.Headers.{AreWholeBytes}
+use Rattle.bit_sets.specs.Sets.{IsInSet, AddsNumber, IsFirstMissing}
+use Rattle.fresh_ids.specs.Steps.{IsTakenBefore, HasTaken, IsFreeStep, IsFirstFree}
 
 -- ---- one ID
 
@@ -72,7 +72,7 @@ taken_near body old new seed index id near most small len is behind room adds h 
   are = λ steps within. elim (cases_eq steps near) [
     | inl e ↦ (
       λ has. (index, omega arith, sym is ∙ ap (λ (n : ℕ). Some n) (sym behind ∙ ap (id_behind seed) (sym e))),
-      λ t. subst (HasNumber new) (sym e) adds.here,
+      λ t. subst (IsInSet new) (sym e) adds.here,
     )
     | inr ne ↦
         let kept = adds.others steps ne in
@@ -85,7 +85,7 @@ taken_near body old new seed index id near most small len is behind room adds h 
 
 -- ---- all records
 
-free_missing : (body taken : List ℕ) (seed steps : ℕ) → HasTaken body seed taken (entry_count_in body) → steps < 8 * length taken → (IsFree body seed steps ↔ (HasNumber taken steps → ⊥))
+free_missing : (body taken : List ℕ) (seed steps : ℕ) → HasTaken body seed taken (entry_count_in body) → steps < 8 * length taken → (IsFreeStep body seed steps ↔ (IsInSet taken steps → ⊥))
 unfolding database_in
 free_missing body taken seed steps h room = (
   λ free has. (
@@ -116,7 +116,7 @@ missing_within body taken seed steps most few len h m = elim (cases_lt steps (8 
 
 -- ---- the database that bytes spell
 
-pub whole_spelled : (body : List ℕ) → IsSpelled (database_in body) body → IsWhole body
+pub whole_spelled : (body : List ℕ) → IsSpelled (database_in body) body → AreWholeBytes body
 whole_spelled body spells = let shape = spelled_shape (database_in body) body spells in record { header = shape.header; next_list = shape.next_list; ends = shape.ends }
 
 ids_few : (entries : List (Entry ℕ)) → length (filter_map unique_id entries) ≤ length entries

@@ -5,12 +5,12 @@ use Rattle.heap_model.specs.UniqueIds.{greatest_id}
 use Rattle.fresh_ids.specs.declared.stretch.FreeIds.{FreeIds}
 
 -- an ID is in the range
-abbrev pub IsAmong : FreeIds → ℕ → Type 0
-IsAmong free id = (free.first ≤ id) × (id < free.end)
+abbrev pub IsInRange : FreeIds → ℕ → Type 0
+IsInRange free id = (free.first ≤ id) × (id < free.end)
 
 -- no record has an ID of the range
 abbrev pub AreFree : List ℕ → FreeIds → Type 0
-AreFree ids free = (id : ℕ) → IsAmong free id → times id ids ≡ 0
+AreFree ids free = (id : ℕ) → IsInRange free id → times id ids ≡ 0
 
 -- The end is the least of the records' IDs that is not below the first, or the number after the
 -- greatest ID if there is none.
@@ -25,5 +25,5 @@ EndAsFar ids known free = (free.end ≡ known.end) ⊎ IsEndOfFree ids free.firs
 
 -- The same range if the ID isn't in it. Otherwise the IDs of the range after it.
 pub record IsWithout (old : FreeIds) (id : ℕ) (new : FreeIds) : Type 0 where
-  pub apart : (IsAmong old id → ⊥) → new ≡ old
-  pub behind : IsAmong old id → (other : ℕ) → (IsAmong new other ↔ (IsAmong old other × (id < other)))
+  pub apart : (IsInRange old id → ⊥) → new ≡ old
+  pub behind : IsInRange old id → (other : ℕ) → (IsInRange new other ↔ (IsInRange old other × (id < other)))

@@ -4,7 +4,7 @@ use Rattle.heap_model.specs.Lists.{Least, times}
 use Rattle.heap_model.specs.Database.{entry_in, database_in}
 use Rattle.heap_model.specs.Store.{unique_id, unique_ids}
 use Rattle.heap_model.specs.UniqueIds.{greatest_id, id_behind}
-use Rattle.bit_sets.specs.Sets.{HasNumber}
+use Rattle.bit_sets.specs.Sets.{IsInSet}
 
 -- one of the records before an index has the ID that is `steps` steps after the seed
 abbrev pub IsTakenBefore : List ℕ → ℕ → ℕ → ℕ → Type 0
@@ -13,15 +13,15 @@ IsTakenBefore body seed index steps = (earlier : ℕ) × (earlier < index) × (u
 -- The set has exactly the steps from the seed to the IDs of the records before an index. Steps
 -- beyond its room are left out.
 pub record HasTaken (body : List ℕ) (seed : ℕ) (taken : List ℕ) (index : ℕ) : Type 0 where
-  pub are : (steps : ℕ) → steps < 8 * length taken → (HasNumber taken steps ↔ IsTakenBefore body seed index steps)
+  pub are : (steps : ℕ) → steps < 8 * length taken → (IsInSet taken steps ↔ IsTakenBefore body seed index steps)
 
 -- no record has the ID that is `steps` steps after the seed
-abbrev pub IsFree : List ℕ → ℕ → ℕ → Type 0
-IsFree body seed steps = times (id_behind seed steps) (unique_ids (database_in body)) ≡ 0
+abbrev pub IsFreeStep : List ℕ → ℕ → ℕ → Type 0
+IsFreeStep body seed steps = times (id_behind seed steps) (unique_ids (database_in body)) ≡ 0
 
 -- the first ID that no record has is `steps` steps after the seed
 abbrev pub IsFirstFree : List ℕ → ℕ → ℕ → Type 0
-IsFirstFree body seed steps = Least (IsFree body seed) steps
+IsFirstFree body seed steps = Least (IsFreeStep body seed) steps
 
 -- No record before an index has an ID from the first on, below the end. The end is the ID of one of
 -- those records, or the number after the greatest ID.

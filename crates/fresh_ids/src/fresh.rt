@@ -7,7 +7,7 @@ ghost use Rattle.heap_model.specs.EntrySteps.{most_entries};
 ghost use Rattle.heap_model.specs.UniqueIds.{IsFresh, greatest_id, seed_in};
 ghost use Rattle.heap_model.specs.UniqueIds as ids;
 ghost use Rattle.bit_sets.specs.Sets.{HasNone};
-ghost use Rattle.db_format.specs.Headers.{IsWhole};
+ghost use Rattle.db_format.specs.Headers.{AreWholeBytes};
 ghost use Rattle.fresh_ids.specs.Steps.{HasTaken, IsFirstFree};
 ghost use Rattle.fresh_ids.specs.FreeIds.{AreFree, EndAsFar, IsEndOfFree};
 
@@ -15,10 +15,10 @@ use crate::stretch::FreeIds;
 use db_format::{GREATEST_ID, entry_count, record_id};
 
 /// The size in bytes of a set for the IDs near the seed, which are tried first.
-const FEW: usize = 128;
+const NEAR_SET_SIZE: usize = 128;
 
 /// The size in bytes of a set with a bit for each record, and one more.
-const MANY: usize = 8192;
+const FULL_SET_SIZE: usize = 8192;
 
 /// Returns the number of IDs between a seed and an ID after it. 1 follows the greatest ID.
 #[inline]
@@ -55,7 +55,7 @@ fn id_behind(seed: u32, steps: u32) -> u32
 /// Adds the steps from the seed to the records' IDs to an empty set. Steps beyond its room are left
 /// out.
 fn put_taken(body: &[u8], seed: u32, taken: &mut [u8])
-    requires whole { IsWhole body.now }
+    requires whole { AreWholeBytes body.now }
     requires records { resources_in body.now ≡ false }
     requires seed { seed ≤ greatest_id }
     requires room { length taken.old ≤ 8192 }
@@ -76,16 +76,16 @@ fn put_taken(body: &[u8], seed: u32, taken: &mut [u8])
 
 /// Returns the steps to the first free ID, if it is near the seed.
 fn first_near(body: &[u8], seed: u32) -> Option<u32>
-    requires whole { IsWhole body.now }
+    requires whole { AreWholeBytes body.now }
     requires records { resources_in body.now ≡ false }
     requires seed { seed ≤ greatest_id }
     ensures below { IfSome result (λ steps. steps < greatest_id) }
     ensures first { IfSome result (IsFirstFree body.now seed) }
 {
-    let mut taken = [0; FEW];
+    let mut taken = [0; NEAR_SET_SIZE];
     put_taken(body, seed, &mut taken);
     let steps = bit_sets::first_missing(&taken);
-    if steps < 8 * FEW as u32 {
+    if steps < 8 * NEAR_SET_SIZE as u32 {
         Some(steps)
     } else {
         None
@@ -95,14 +95,14 @@ fn first_near(body: &[u8], seed: u32) -> Option<u32>
 /// Returns the steps to the first free ID. It passes over the records once, and has a bit for each
 /// step that may be needed.
 fn first_free(body: &[u8], seed: u32) -> u32
-    requires whole { IsWhole body.now }
+    requires whole { AreWholeBytes body.now }
     requires records { resources_in body.now ≡ false }
     requires seed { seed ≤ greatest_id }
     requires few { entry_count_in body.now < most_entries }
     ensures below { result < greatest_id }
     ensures first { IsFirstFree body.now seed result }
 {
-    let mut taken = [0; MANY];
+    let mut taken = [0; FULL_SET_SIZE];
     put_taken(body, seed, &mut taken);
     bit_sets::first_missing(&taken)
 }
@@ -129,7 +129,7 @@ fn fresh_id(body: &[u8]) -> u32
 /// Returns the least ID of a record that is not below `first`, or `greatest_id + 1` if there is
 /// none. It passes over the entries once.
 fn end_of_free(body: &[u8], first: u32) -> u32
-    requires whole { IsWhole body.now }
+    requires whole { AreWholeBytes body.now }
     requires records { resources_in body.now ≡ false }
     requires most { first ≤ greatest_id }
     ensures { IsEndOfFree (unique_ids (database_in body.now)) first result }

@@ -1,7 +1,7 @@
 //! Unique IDs that no record of a database has.
 
 ghost use Rattle.std.specs.Prelude.{◌↔◌, IsTrue};
-ghost use Rattle.fresh_ids.specs.FreeIds.{IsAmong, IsWithout};
+ghost use Rattle.fresh_ids.specs.FreeIds.{IsInRange, IsWithout};
 
 /// A range of unique IDs: from `first` on, below `end`.
 #[derive(Clone, Copy, Debug, PartialEq, Eq)]
@@ -18,7 +18,7 @@ pub const NO_IDS: FreeIds = FreeIds { first: 0, end: 0 };
 impl FreeIds {
     /// Returns whether an ID is in the range.
     pub(crate) fn has(self, id: u32) -> bool
-        ensures { IsTrue result ↔ IsAmong self id }
+        ensures { IsTrue result ↔ IsInRange self id }
     {
         self.first <= id && id < self.end
     }

@@ -15,7 +15,7 @@ use Rattle.chunk_format.specs.declared.header.Header.TheVariants as headers
 use Rattle.chunk_format.specs.Header.{header_of, size_by, HasHeader}
 use Rattle.heap_check.specs.declared.chained.Bodies.{Bodies}
 use Rattle.heap_check.specs.Survey.{movable_by, fixed_by, free_by, noted, IsFirstWithout}
-use Rattle.heap_check.specs.Chained.{Marks, ManagersBody, MayBe, IsManagersAt, is_managers, FoundBodies, managers_by, may_be_by, ManagersBodyBy, AddsMarks}
+use Rattle.heap_check.specs.Chained.{Marks, ManagersBody, MayBe, IsManagersAt, is_managers, FoundBodies, managers_by, may_be_by, ManagersBodyBy, MarksWords}
 use Rattle.heap_check.proofs.SurveyLaws.{movable_of, fixed_of, free_of, count_push, noted_more, counts_within}
 use Rattle.heap_check.proofs.WalkLaws.{HasPassed, passed_more, passed_all, passed_size}
 
@@ -76,10 +76,10 @@ pub record AddsBody (at : ℕ) (header : Header) (old new : Bodies) (before_mark
   pub free : new.free ≡ old.free + free_by header
   pub managers : new.managers ≡ old.managers + managers_by header
   pub bad_owner : new.bad_owner ≡ noted old.bad_owner at (may_be_by header)
-  pub marked : AddsMarks (λ place. ManagersBodyBy place at header) before_marks after_marks
+  pub marked : MarksWords (λ place. ManagersBodyBy place at header) before_marks after_marks
 
 -- marks of what holds of one of these chunks, or of one more
-pub marks_push : (P : ℕ → ℕ → Chunk → Type 0) (start : ℕ) (chunks : List Chunk) (c : Chunk) (at : ℕ) (old new : List ℕ) → at ≡ start + total chunks → AddsMarks (λ place. P place at c) old new → Marks old (λ place. AnyPlaced (P place) start chunks)
+pub marks_push : (P : ℕ → ℕ → Chunk → Type 0) (start : ℕ) (chunks : List Chunk) (c : Chunk) (at : ℕ) (old new : List ℕ) → at ≡ start + total chunks → MarksWords (λ place. P place at c) old new → Marks old (λ place. AnyPlaced (P place) start chunks)
     → Marks new (λ place. AnyPlaced (P place) start (chunks ++ c ∷ []))
 marks_push P start chunks c at old new there adds was word = (
   λ has. elim ((adds word).0 has) [

@@ -5,7 +5,7 @@ use Rattle.std.proofs.lemmas.Bool.{cases_eq, eqb-true, false≢true}
 use Rattle.laws_heap.proofs.Tests.{true_or_false}
 use Rattle.laws_heap.proofs.Accepted.{Decides-holds}
 use Rattle.heap_model.specs.Bytes.{u32_at}
-use Rattle.bit_sets.specs.Sets.{HasNumber, HasNone}
+use Rattle.bit_sets.specs.Sets.{IsInSet, HasNone}
 use Rattle.master_table.specs.declared.slots.Row.{Row}
 use Rattle.master_table.specs.Table.{IsRow, row_end}
 use Rattle.master_table.proofs.RowLaws.{last_end}
@@ -19,7 +19,7 @@ use Rattle.heap_model.specs.Reading.{chunks_of, holds_body}
 use Rattle.heap_check.specs.declared.fault.HeapFault.TheVariants.{SlotMismatch, ChunkWithoutSlot, BadFixedOwner}
 use Rattle.heap_check.specs.declared.chained.Bodies.{Bodies}
 use Rattle.heap_check.specs.declared.chained.Chain.{Chain}
-use Rattle.heap_check.specs.Faults.{IsFirstFault}
+use Rattle.heap_check.specs.Faults.{IsFirstHeapFault}
 use Rattle.heap_check.specs.Survey.{IsFirstWithout}
 use Rattle.heap_check.specs.Chained.{FoundBodies, Followed, Marks, MarksBefore, HeldBefore, AddsInUse, IsInUse, IsLeft}
 use Rattle.heap_check.proofs.CheckLaws.{Slotted, Named, Owned, found_first, found_none, first_slot, first_without, first_owner}
@@ -27,16 +27,16 @@ use Rattle.heap_check.proofs.CheckLaws.{Slotted, Named, Owned, found_first, foun
 pub followed_tiles : (image : List ℕ) (bodies : Bodies) (chain : Chain) (marks : List ℕ) → IsHead image → FoundBodies image bodies → Followed image chain marks → Tiles image (chunks_of image)
 followed_tiles image bodies chain marks h found followed = record { head = h; area = found.spelled; chain = followed.chain }
 
-pub left_mismatch : (image : List ℕ) (slot : ℕ) → Tiles image (chunks_of image) → FirstOne (HoldsBody image (chunks_of image)) (slots_of image) slot → IsFirstFault image (SlotMismatch slot)
+pub left_mismatch : (image : List ℕ) (slot : ℕ) → Tiles image (chunks_of image) → FirstOne (HoldsBody image (chunks_of image)) (slots_of image) slot → IsFirstHeapFault image (SlotMismatch slot)
 left_mismatch image slot t f = first_slot image slot (t, f)
 
-pub names_without : (image : List ℕ) (at : ℕ) (found : Option ℕ) → Tiles image (chunks_of image) → Slotted image → IsFirstWithout (NamesItsSlot image) (area_start image) (chunks_of image) found → found ≡ Some at → IsFirstFault image (ChunkWithoutSlot at)
+pub names_without : (image : List ℕ) (at : ℕ) (found : Option ℕ) → Tiles image (chunks_of image) → Slotted image → IsFirstWithout (NamesItsSlot image) (area_start image) (chunks_of image) found → found ≡ Some at → IsFirstHeapFault image (ChunkWithoutSlot at)
 names_without image at found t s f is = first_without image at s (t, found_first (NamesItsSlot image) (area_start image) (chunks_of image) found at f is)
 
 pub named_all : (image : List ℕ) (found : Option ℕ) → IsFirstWithout (NamesItsSlot image) (area_start image) (chunks_of image) found → found ≡ None → Named image
 named_all image found f is = found_none (NamesItsSlot image) (area_start image) (chunks_of image) found f is
 
-pub stray_owner : (image : List ℕ) (at : ℕ) (found : Option ℕ) → Tiles image (chunks_of image) → Slotted image → Named image → IsFirstWithout (IsKnownIfFixed (further_tables image)) (area_start image) (chunks_of image) found → found ≡ Some at → IsFirstFault image (BadFixedOwner at)
+pub stray_owner : (image : List ℕ) (at : ℕ) (found : Option ℕ) → Tiles image (chunks_of image) → Slotted image → Named image → IsFirstWithout (IsKnownIfFixed (further_tables image)) (area_start image) (chunks_of image) found → found ≡ Some at → IsFirstHeapFault image (BadFixedOwner at)
 stray_owner image at found t s n f is = first_owner image at s n (t, found_first (IsKnownIfFixed (further_tables image)) (area_start image) (chunks_of image) found at f is)
 
 pub owned_all : (image : List ℕ) (found : Option ℕ) → IsFirstWithout (IsKnownIfFixed (further_tables image)) (area_start image) (chunks_of image) found → found ≡ None → Owned image
@@ -64,13 +64,13 @@ marks_more image cs slot k old new t s adds m word = elim adds [
       | inr other ↦ let was = (m word).0 ((used.1.others word other).0 has) in (earlier was.0, was.1)
     ],
     λ x. elim (cases_eq word (slot / 4)) [
-      | inl own ↦ subst (λ (n : ℕ). HasNumber new n) (sym own) used.1.here
+      | inl own ↦ subst (λ (n : ℕ). IsInSet new n) (sym own) used.1.here
       | inr other ↦ (used.1.others word other).1 ((m word).1 (elim (split x.0) [ inl was ↦ was | inr own ↦ (let w = whole in absurd (other (omega arith))) ], x.1))
     ],
   )
   | inr empty ↦ (
-    λ has. let was = (m word).0 (subst (λ (l : List ℕ). HasNumber l word) empty.1 has) in (earlier was.0, was.1),
-    λ x. subst (λ (l : List ℕ). HasNumber l word) (sym empty.1) ((m word).1 (elim (split x.0) [ inl was ↦ was | inr own ↦ absurd (x.1 (ap (u32_at image) (sym own) ∙ empty.0)) ], x.1)),
+    λ has. let was = (m word).0 (subst (λ (l : List ℕ). IsInSet l word) empty.1 has) in (earlier was.0, was.1),
+    λ x. subst (λ (l : List ℕ). IsInSet l word) (sym empty.1) ((m word).1 (elim (split x.0) [ inl was ↦ was | inr own ↦ absurd (x.1 (ap (u32_at image) (sym own) ∙ empty.0)) ], x.1)),
   )
 ] where
   whole : slot % 4 ≡ 0
@@ -102,7 +102,7 @@ marks_all image row marks is last m word = (
 
 -- ---- no slot is left
 
-pub held_more : (image : List ℕ) (cs : List Chunk) (slot k : ℕ) (marks : List ℕ) → Tiles image cs → StandsBehind image slot k → Marks marks (IsLeft image) → (HasNumber marks (slot / 4) → ⊥) → HeldBefore image k → HeldBefore image (k + 1)
+pub held_more : (image : List ℕ) (cs : List Chunk) (slot k : ℕ) (marks : List ℕ) → Tiles image cs → StandsBehind image slot k → Marks marks (IsLeft image) → (IsInSet marks (slot / 4) → ⊥) → HeldBefore image k → HeldBefore image (k + 1)
 held_more image cs slot k marks t s left none held =
     let is = stands_slot image slot k s in
     let whole = (slot_facts image cs slot t is).whole in
@@ -114,7 +114,7 @@ held_more image cs slot k marks t s left none held =
     ])
 
 -- a slot that is marked holds none
-pub marked_bare : (image : List ℕ) (cs : List Chunk) (slot k : ℕ) (marks : List ℕ) → Tiles image cs → StandsBehind image slot k → Marks marks (IsLeft image) → HasNumber marks (slot / 4) → HoldsBody image (chunks_of image) slot → ⊥
+pub marked_bare : (image : List ℕ) (cs : List Chunk) (slot k : ℕ) (marks : List ℕ) → Tiles image cs → StandsBehind image slot k → Marks marks (IsLeft image) → IsInSet marks (slot / 4) → HoldsBody image (chunks_of image) slot → ⊥
 marked_bare image cs slot k marks t s left has body =
     let whole = (slot_facts image cs slot t (stands_slot image slot k s)).whole in
     let here : 4 * (slot / 4) ≡ slot = omega arith in

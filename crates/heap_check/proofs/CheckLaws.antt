@@ -19,7 +19,7 @@ use Rattle.heap_check.specs.declared.fault.HeapFault.TheVariants.{BadChunk, BadT
 use Rattle.heap_check.specs.declared.survey.Survey.{Survey}
 use Rattle.heap_check.specs.Survey.{IsFirstWithout, IsMarked, IsSurvey, IsPaired}
 use Rattle.heap_check.proofs.SlotLaws.{all_hold, first_mismatch}
-use Rattle.heap_check.specs.Faults.{IsTooShort, HasBadSize, HasBadSlotCount, IsBadChunk, Leads, IsBadTable, IsSlotMismatch, IsChunkWithoutSlot, IsBadFixedOwner, HasBadDirectory, slot_faults, area_faults, FirstBrought, IsFirstFault}
+use Rattle.heap_check.specs.Faults.{IsTooShort, HasBadSize, HasBadSlotCount, IsBadChunk, Leads, IsBadTable, IsSlotMismatch, IsChunkWithoutSlot, IsBadFixedOwner, HasBadDirectory, slot_faults, area_faults, FirstBrought, IsFirstHeapFault}
 
 -- ---- what rules a fault out
 
@@ -68,7 +68,7 @@ not_table image t number f = chain_leads image (chunks_of image) (first_next ima
 -- ---- faults in their order
 
 -- no fault of the head, and then one of the others
-past_head : (image : List ℕ) (fault : HeapFault) → IsHead image → FirstBrought (area_faults image) fault → IsFirstFault image fault
+past_head : (image : List ℕ) (fault : HeapFault) → IsHead image → FirstBrought (area_faults image) fault → IsFirstHeapFault image fault
 past_head image fault h f =
     inr (
       λ other b. not_short image h b.0,
@@ -110,28 +110,28 @@ not_owner : (image : List ℕ) → Owned image → (at : ℕ) → IsBadFixedOwne
 not_owner image o at f = FirstWithout-not (IsKnownIfFixed (further_tables image)) (area_start image) (chunks_of image) at f.1 o
 
 -- no chunk out of shape either
-past_chunks : (image : List ℕ) (fault : HeapFault) → Tiles image (chunks_of image) → FirstBrought (slot_faults image) fault → IsFirstFault image fault
+past_chunks : (image : List ℕ) (fault : HeapFault) → Tiles image (chunks_of image) → FirstBrought (slot_faults image) fault → IsFirstHeapFault image fault
 past_chunks image fault t f = past_head image fault t.head (inr (λ other b. not_chunk image t b.0 b.1, inr (λ other b. not_table image t b.0 b.1, f)))
 
 -- a chunk out of shape
-pub first_chunk : (image : List ℕ) (at : ℕ) → IsHead image → IsBadChunk image at → IsFirstFault image (BadChunk at)
+pub first_chunk : (image : List ℕ) (at : ℕ) → IsHead image → IsBadChunk image at → IsFirstHeapFault image (BadChunk at)
 first_chunk image at h f = past_head image (BadChunk at) h (inl (at, f, refl))
 
 -- or no table where one should be
-pub first_table : (image : List ℕ) (number : ℕ) → IsHead image → IsBadTable image number → IsFirstFault image (BadTable number)
+pub first_table : (image : List ℕ) (number : ℕ) → IsHead image → IsBadTable image number → IsFirstHeapFault image (BadTable number)
 first_table image number h f =
     past_head image (BadTable number) h (inr (λ other b. stuck_run image (area_start image) b.0 b.1.before (chunks_of image) b.1.spelled b.1.inside b.1.nothing f.area, inl (number, f, refl)))
 
-pub first_slot : (image : List ℕ) (slot : ℕ) → IsSlotMismatch image slot → IsFirstFault image (SlotMismatch slot)
+pub first_slot : (image : List ℕ) (slot : ℕ) → IsSlotMismatch image slot → IsFirstHeapFault image (SlotMismatch slot)
 first_slot image slot f = past_chunks image (SlotMismatch slot) f.0 (inl (slot, f, refl))
 
-pub first_without : (image : List ℕ) (at : ℕ) → Slotted image → IsChunkWithoutSlot image at → IsFirstFault image (ChunkWithoutSlot at)
+pub first_without : (image : List ℕ) (at : ℕ) → Slotted image → IsChunkWithoutSlot image at → IsFirstHeapFault image (ChunkWithoutSlot at)
 first_without image at s f = past_chunks image (ChunkWithoutSlot at) f.0 (inr (λ other b. not_mismatch image s b.0 b.1, inl (at, f, refl)))
 
-pub first_owner : (image : List ℕ) (at : ℕ) → Slotted image → Named image → IsBadFixedOwner image at → IsFirstFault image (BadFixedOwner at)
+pub first_owner : (image : List ℕ) (at : ℕ) → Slotted image → Named image → IsBadFixedOwner image at → IsFirstHeapFault image (BadFixedOwner at)
 first_owner image at s n f = past_chunks image (BadFixedOwner at) f.0 (inr (λ other b. not_mismatch image s b.0 b.1, inr (λ other b. not_without image n b.0 b.1, inl (at, f, refl))))
 
-pub first_directory : (image : List ℕ) → Slotted image → Named image → Owned image → HasBadDirectory image → IsFirstFault image BadDirectory
+pub first_directory : (image : List ℕ) → Slotted image → Named image → Owned image → HasBadDirectory image → IsFirstHeapFault image BadDirectory
 first_directory image s n o f =
     past_chunks image BadDirectory f.0
     (inr (λ other b. not_mismatch image s b.0 b.1, inr (λ other b. not_without image n b.0 b.1, inr (λ other b. not_owner image o b.0 b.1, inl (f, refl)))))
@@ -141,7 +141,7 @@ first_directory image s n o f =
 pub faultless_heap : (image : List ℕ) → Tiles image (chunks_of image) → Slotted image → Named image → Owned image → HasDirectory image (chunks_of image) → HeapAccepted image
 faultless_heap image t s n o d = (chunks_of image, record { tiles = t; tied = halves_tied image (chunks_of image) s n; fixed_are_known = o; directory = d })
 
-pub refuses : (image : List ℕ) (fault : HeapFault) → IsFirstFault image fault → HeapAccepted image → ⊥
+pub refuses : (image : List ℕ) (fault : HeapFault) → IsFirstHeapFault image fault → HeapAccepted image → ⊥
 refuses image fault f accepted = head f where
   heap : IsHeap image (chunks_of image)
   heap = heap_of_read image accepted.0 accepted.1
@@ -164,7 +164,7 @@ refuses image fault f accepted = head f where
   area : FirstBrought (area_faults image) fault → ⊥
   area f = elim f [ inl b ↦ not_chunk image heap.tiles b.0 b.1 | inr p ↦ elim p.1 [ inl b ↦ not_table image heap.tiles b.0 b.1 | inr p ↦ slots p.1 ] ]
 
-  head : IsFirstFault image fault → ⊥
+  head : IsFirstHeapFault image fault → ⊥
   head f = elim f [
     | inl b ↦ not_short image heap.tiles.head b.0
     | inr p ↦ elim p.1 [
@@ -182,7 +182,7 @@ refuses image fault f accepted = head f where
     ]
   ]
 
-pub refused_by : {A : Type 0} (image : List ℕ) (answer : Result A HeapFault) → IfErr answer (IsFirstFault image) → OnErr answer (HeapAccepted image → ⊥)
+pub refused_by : {A : Type 0} (image : List ℕ) (answer : Result A HeapFault) → IfErr answer (IsFirstHeapFault image) → OnErr answer (HeapAccepted image → ⊥)
 refused_by image (Ok x) f = tt
 refused_by image (Err fault) f = refuses image fault f
 
@@ -192,7 +192,7 @@ refused_by image (Err fault) f = refuses image fault f
 pub surveyed_tiles : (image : List ℕ) (survey : Survey) (marks : List ℕ) → is_chained image ≡ false → IsHead image → IsSurvey image survey marks → Tiles image (chunks_of image)
 surveyed_tiles image survey marks plain h s = record { head = h; area = s.spelled; chain = no_chain image (chunks_of image) plain }
 
-pub surveyed_mismatch : (image : List ℕ) (survey : Survey) (marks : List ℕ) (slot : ℕ) → is_chained image ≡ false → IsHead image → IsSurvey image survey marks → FirstOne (IsMarked image marks) (slots_of image) slot → IsFirstFault image (SlotMismatch slot)
+pub surveyed_mismatch : (image : List ℕ) (survey : Survey) (marks : List ℕ) (slot : ℕ) → is_chained image ≡ false → IsHead image → IsSurvey image survey marks → FirstOne (IsMarked image marks) (slots_of image) slot → IsFirstHeapFault image (SlotMismatch slot)
 surveyed_mismatch image survey marks slot plain h s f =
     first_slot image slot (surveyed_tiles image survey marks plain h s, first_mismatch image (chunks_of image) marks slot s.surveys.marked f)
 
@@ -207,7 +207,7 @@ pub found_none : (P : ℕ → Chunk → Type 0) (at : ℕ) (cs : List Chunk) (fo
 found_none P at cs found f is = subst (λ (o : Option ℕ). IsFirstWithout P at cs o) is f
 
 pub surveyed_without : (image : List ℕ) (survey : Survey) (marks : List ℕ) (at : ℕ) → is_chained image ≡ false → IsHead image → IsSurvey image survey marks → EveryOne (IsMarked image marks) (slots_of image) → survey.without_slot ≡ Some at
-    → IsFirstFault image (ChunkWithoutSlot at)
+    → IsFirstHeapFault image (ChunkWithoutSlot at)
 surveyed_without image survey marks at plain h s every is =
     first_without image at (surveyed_slots image survey marks s every)
     (surveyed_tiles image survey marks plain h s, found_first (NamesItsSlot image) (area_start image) (chunks_of image) survey.without_slot at s.surveys.without_slot is)
@@ -216,7 +216,7 @@ pub surveyed_names : (image : List ℕ) (survey : Survey) (marks : List ℕ) →
 surveyed_names image survey marks s none = found_none (NamesItsSlot image) (area_start image) (chunks_of image) survey.without_slot s.surveys.without_slot none
 
 pub surveyed_owner : (image : List ℕ) (survey : Survey) (marks : List ℕ) (at : ℕ) → is_chained image ≡ false → IsHead image → IsSurvey image survey marks → EveryOne (IsMarked image marks) (slots_of image) → survey.without_slot ≡ None
-    → survey.bad_owner ≡ Some at → IsFirstFault image (BadFixedOwner at)
+    → survey.bad_owner ≡ Some at → IsFirstHeapFault image (BadFixedOwner at)
 surveyed_owner image survey marks at plain h s every none is =
     first_owner image at (surveyed_slots image survey marks s every) (surveyed_names image survey marks s none)
     (surveyed_tiles image survey marks plain h s, subst (λ (ts : List Table). FirstWithout (IsKnownIfFixed ts) (area_start image) (chunks_of image) at) (sym (no_further image plain)) (found_first (IsKnownIfFixed []) (area_start image) (chunks_of image) survey.bad_owner at s.surveys.bad_owner is))
@@ -240,7 +240,7 @@ passed_paired image survey marks p = record {
   names = surveyed_names image survey marks p.surveyed p.without_slot;
 }
 
-pub passed_directory : (image : List ℕ) (survey : Survey) (marks : List ℕ) → Passed image survey marks → (HasDirectory image (chunks_of image) → ⊥) → IsFirstFault image BadDirectory
+pub passed_directory : (image : List ℕ) (survey : Survey) (marks : List ℕ) → Passed image survey marks → (HasDirectory image (chunks_of image) → ⊥) → IsFirstHeapFault image BadDirectory
 passed_directory image survey marks p none =
     let paired = passed_paired image survey marks p in
     first_directory image paired.slots paired.names (surveyed_owners image survey marks p.plain p.surveyed p.bad_owner) (paired.tiles, none)

@@ -8,7 +8,7 @@ use Rattle.heap_model.specs.Heap.{IsHead, IsChain, IsTablePlace}
 use Rattle.heap_model.specs.Reading.{chunks_of}
 use Rattle.laws_heap.proofs.Chunks.{SpelledAll-end}
 use Rattle.laws_heap.proofs.Slots.{length-slots_in_row}
-use Rattle.bit_sets.specs.Sets.{HasNumber}
+use Rattle.bit_sets.specs.Sets.{IsInSet}
 use Rattle.heap_check.specs.declared.chained.Bodies.{Bodies}
 use Rattle.heap_check.specs.declared.chained.Chain.{Chain}
 use Rattle.heap_check.specs.Faults.{Leads, IsBadTable}
@@ -43,7 +43,7 @@ followed_fits image chain next marks s f =
     omega (arith, fit, end, tables, slots)
 
 -- a table that was marked was not met
-pub table_met_first : (image : List ℕ) (met : List Table) (place : ℕ) (marks : List ℕ) → Marks marks (λ place. IsManagersAt image place × (IsTablePlace met place → ⊥)) → place % 4 ≡ 0 → HasNumber marks (place / 4) → IsTablePlace met place → ⊥
+pub table_met_first : (image : List ℕ) (met : List Table) (place : ℕ) (marks : List ℕ) → Marks marks (λ place. IsManagersAt image place × (IsTablePlace met place → ⊥)) → place % 4 ≡ 0 → IsInSet marks (place / 4) → IsTablePlace met place → ⊥
 table_met_first image met place marks marked whole has listed =
     let e : place ≡ 4 * (place / 4) = omega arith in
     ((marked (place / 4)).0 has).1 (subst (λ (n : ℕ). IsTablePlace met n) e listed)
@@ -53,7 +53,7 @@ marks_taken : (image : List ℕ) (met : List Table) (table : Table) (old new : L
 marks_taken image met table old new whole takes marked word = elim (cases_eq word (table.place / 4)) [
   | inl own ↦
       let here : table.place ≡ 4 * word = omega arith in (
-        λ has. absurd (takes.gone (subst (λ (n : ℕ). HasNumber new n) own has)),
+        λ has. absurd (takes.gone (subst (λ (n : ℕ). IsInSet new n) own has)),
         λ both. absurd (both.1 (places_right met (table ∷ []) (4 * word) (inl here))),
       )
   | inr other ↦ (

@@ -15,7 +15,7 @@ use Rattle.laws_heap.proofs.Slots.{Decides-slot, slot_stands, stands_slot, stand
 use Rattle.laws_heap.proofs.OneTable.{one_same}
 use Rattle.laws_heap.proofs.Placed.{EveryOne-like, FirstOne-like}
 use Rattle.heap_check.specs.Owners.{NoneMarked}
-use Rattle.heap_check.specs.Survey.{holds_place, AreMarks, AddsMark, MarkedAt, IsHolder, IsMarked}
+use Rattle.heap_check.specs.Survey.{holds_place, MarkTiedSlots, AddsMark, MarkedAt, IsHolder, IsMarked}
 
 -- ---- one mark more
 
@@ -70,20 +70,20 @@ said says marks number mark is below = get_or-map says marks number mark 0 below
 
 -- ---- all marks
 
-marked_like : (image : List ℕ) (cs : List Chunk) (marks : List ℕ) → AreMarks image cs marks → (slot : ℕ) → IsSlot image slot → (IsMarked image marks slot ↔ HoldsBody image cs slot)
+marked_like : (image : List ℕ) (cs : List Chunk) (marks : List ℕ) → MarkTiedSlots image cs marks → (slot : ℕ) → IsSlot image slot → (IsMarked image marks slot ↔ HoldsBody image cs slot)
 marked_like image cs marks are slot s =
     let n = slot_stands image slot s in (
       λ marked used. (are slot n.0 n.1).0 (marked used n.0 n.1),
       λ holds used k stands. (are slot k stands).1 (holds used),
     )
 
-all_like : (image : List ℕ) (cs : List Chunk) (marks : List ℕ) → AreMarks image cs marks → EveryOne (λ slot. IsMarked image marks slot ↔ HoldsBody image cs slot) (slots_of image)
+all_like : (image : List ℕ) (cs : List Chunk) (marks : List ℕ) → MarkTiedSlots image cs marks → EveryOne (λ slot. IsMarked image marks slot ↔ HoldsBody image cs slot) (slots_of image)
 all_like image cs marks are = every_slot (λ slot. IsMarked image marks slot ↔ HoldsBody image cs slot) image (marked_like image cs marks are)
 
-pub all_hold : (image : List ℕ) (cs : List Chunk) (marks : List ℕ) → AreMarks image cs marks → EveryOne (IsMarked image marks) (slots_of image) → EveryOne (HoldsBody image cs) (slots_of image)
+pub all_hold : (image : List ℕ) (cs : List Chunk) (marks : List ℕ) → MarkTiedSlots image cs marks → EveryOne (IsMarked image marks) (slots_of image) → EveryOne (HoldsBody image cs) (slots_of image)
 all_hold image cs marks are every = EveryOne-like (IsMarked image marks) (HoldsBody image cs) (slots_of image) (all_like image cs marks are) every
 
-pub first_mismatch : (image : List ℕ) (cs : List Chunk) (marks : List ℕ) (slot : ℕ) → AreMarks image cs marks → FirstOne (IsMarked image marks) (slots_of image) slot → FirstOne (HoldsBody image cs) (slots_of image) slot
+pub first_mismatch : (image : List ℕ) (cs : List Chunk) (marks : List ℕ) (slot : ℕ) → MarkTiedSlots image cs marks → FirstOne (IsMarked image marks) (slots_of image) slot → FirstOne (HoldsBody image cs) (slots_of image) slot
 first_mismatch image cs marks slot are first = FirstOne-like (IsMarked image marks) (HoldsBody image cs) (slots_of image) slot (all_like image cs marks are) first
 
 -- a slot is the first without something, if those before it have it

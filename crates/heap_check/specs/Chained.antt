@@ -8,7 +8,7 @@ use Rattle.heap_model.specs.Slots.{Table, IsSlot, StandsIn, first_slots, slots_t
 use Rattle.heap_model.specs.Heap.{TableHere, IsTablePlace, IsChain}
 use Rattle.heap_model.specs.Pairing.{HoldsBody}
 use Rattle.heap_model.specs.Reading.{chunks_of}
-use Rattle.bit_sets.specs.Sets.{HasNumber, AddsNumber}
+use Rattle.bit_sets.specs.Sets.{IsInSet, AddsNumber}
 use Rattle.chunk_format.specs.declared.header.Header.{Header}
 use Rattle.chunk_format.specs.declared.header.Header.TheVariants as headers
 use Rattle.heap_check.specs.declared.chained.Bodies.{Bodies}
@@ -17,7 +17,7 @@ use Rattle.heap_check.specs.Survey.{IsFirstWithout}
 
 -- exactly the words at the offsets that satisfy P are marked
 abbrev pub Marks : List ℕ → (ℕ → Type 0) → Type 0
-Marks marks P = (word : ℕ) → HasNumber marks word ↔ P (4 * word)
+Marks marks P = (word : ℕ) → IsInSet marks word ↔ P (4 * word)
 
 -- the chunk is a fixed one of the manager's, and has its body at this place
 abbrev pub ManagersBody : ℕ → ℕ → Chunk → Type 0
@@ -80,13 +80,13 @@ HeldBefore image count = EveryOne (HoldsBody image (chunks_of image)) (first_slo
 
 -- this word was marked and is no longer, and each other word is marked as before
 pub record Takes (number : ℕ) (old new : List ℕ) : Type 0 where
-  pub was : HasNumber old number
-  pub gone : HasNumber new number → ⊥
-  pub others : (other : ℕ) → other ≢ number → (HasNumber new other ↔ HasNumber old other)
+  pub was : IsInSet old number
+  pub gone : IsInSet new number → ⊥
+  pub others : (other : ℕ) → other ≢ number → (IsInSet new other ↔ IsInSet old other)
 
 -- the slot at this offset is marked and holds this place
 abbrev pub HoldsMarked : List ℕ → ℕ → ℕ → List ℕ → Type 0
-HoldsMarked image slot place marks = (slot % 4 ≡ 0) × HasNumber marks (slot / 4) × (u32_at image slot ≡ place)
+HoldsMarked image slot place marks = (slot % 4 ≡ 0) × IsInSet marks (slot / 4) × (u32_at image slot ≡ place)
 
 -- a table of `count` slots has its body at this place, which was marked and is no longer
 pub record TakesTable (image : List ℕ) (place : ℕ) (old new : List ℕ) (count : ℕ) : Type 0 where
@@ -95,7 +95,7 @@ pub record TakesTable (image : List ℕ) (place : ℕ) (old new : List ℕ) (cou
 
 -- no table has its body at this place, or the body isn't marked
 abbrev pub IsNoTable : List ℕ → ℕ → List ℕ → Type 0
-IsNoTable image place marks = (table : Table) → AnyPlaced (TableHere table) (area_start image) (chunks_of image) → table.place ≡ place → HasNumber marks (place / 4) → ⊥
+IsNoTable image place marks = (table : Table) → AnyPlaced (TableHere table) (area_start image) (chunks_of image) → table.place ≡ place → IsInSet marks (place / 4) → ⊥
 
 -- ---- one chunk, by its header
 
@@ -121,7 +121,7 @@ ManagersBodyBy place at (headers.Fixed length owner) = (owner ≡ managers_owner
 abbrev pub IsUnmarkedBy : List ℕ → ℕ → Header → Type 0
 IsUnmarkedBy marks at (headers.Free size) = Unit {0}
 IsUnmarkedBy marks at (headers.Movable length lock owner slot) = Unit {0}
-IsUnmarkedBy marks at (headers.Fixed length owner) = (owner < data_owner) × ((managers_owner < owner) ⊎ (HasNumber marks ((at + 8) / 4) → ⊥))
+IsUnmarkedBy marks at (headers.Fixed length owner) = (owner < data_owner) × ((managers_owner < owner) ⊎ (IsInSet marks ((at + 8) / 4) → ⊥))
 
 -- the chunk at an offset, if it is movable, names a marked slot that holds its place
 abbrev pub NamesMarkedBy : List ℕ → List ℕ → ℕ → Header → Type 0
@@ -136,9 +136,9 @@ ManagersBy slot (headers.Movable length lock owner named) = (named ≡ slot) × 
 ManagersBy slot (headers.Fixed length owner) = ⊥
 
 -- the words that satisfy P are marked too, and no others are added
-abbrev pub AddsMarks : (ℕ → Type 0) → List ℕ → List ℕ → Type 0
-AddsMarks P old new = (word : ℕ) → HasNumber new word ↔ (HasNumber old word ⊎ P (4 * word))
+abbrev pub MarksWords : (ℕ → Type 0) → List ℕ → List ℕ → Type 0
+MarksWords P old new = (word : ℕ) → IsInSet new word ↔ (IsInSet old word ⊎ P (4 * word))
 
 -- the words that satisfy P are no longer marked, and each other word is marked as before
 abbrev pub TakesMarks : (ℕ → Type 0) → List ℕ → List ℕ → Type 0
-TakesMarks P old new = (word : ℕ) → HasNumber new word ↔ (HasNumber old word × (P (4 * word) → ⊥))
+TakesMarks P old new = (word : ℕ) → IsInSet new word ↔ (IsInSet old word × (P (4 * word) → ⊥))

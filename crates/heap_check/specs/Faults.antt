@@ -124,5 +124,5 @@ FirstBrought [] fault = ⊥
 FirstBrought {Fault} (row ∷ rows) fault = row fault ⊎ (((other : Fault) → row other → ⊥) × FirstBrought rows fault)
 
 -- the image has the fault, and none of those that are tested earlier
-abbrev pub IsFirstFault : List ℕ → HeapFault → Type 0
-IsFirstFault image fault = FirstBrought (faults image) fault
+abbrev pub IsFirstHeapFault : List ℕ → HeapFault → Type 0
+IsFirstHeapFault image fault = FirstBrought (faults image) fault

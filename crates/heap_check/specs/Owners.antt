@@ -22,8 +22,8 @@ abbrev pub marks_needed : List ℕ → ℕ
 marks_needed image = if is_chained image then length image / slot_size else most_slots
 
 -- the mark of a slot that has no chunk
-abbrev pub no_owner : ℕ
-no_owner = 16
+abbrev pub no_owner_mark : ℕ
+no_owner_mark = 16
 
 -- the mark that notes this owner: the owner itself, or always the manager's if owners aren't noted
 abbrev pub noted_owner : Bool → ℕ → ℕ
@@ -33,18 +33,18 @@ noted_owner false owner = managers_owner
 -- the mark of a slot if owners aren't noted, by whether its chunk was met
 abbrev pub met_owner : Bool → ℕ
 met_owner true = managers_owner
-met_owner false = no_owner
+met_owner false = no_owner_mark
 
 -- no slot is marked
 abbrev pub NoneMarked : List ℕ → Type 0
-NoneMarked marks = (number : ℕ) → number < length marks → slice_index marks number ≡ no_owner
+NoneMarked marks = (number : ℕ) → number < length marks → slice_index marks number ≡ no_owner_mark
 
--- Each slot has a mark: the owner of its chunk, or `no_owner` if it has none. No other word is
+-- Each slot has a mark: the owner of its chunk, or `no_owner_mark` if it has none. No other word is
 -- marked.
 pub record HasOwners (image owners : List ℕ) : Type 0 where
   pub room : (number : ℕ) → IsSlot image (marked_word number) → number < length owners
   pub each : (number : ℕ) → IsSlot image (marked_word number) → slice_index owners number ≡ owner_under image (marked_word number)
-  pub others : (number : ℕ) → number < length owners → (IsSlot image (marked_word number) → ⊥) → slice_index owners number ≡ no_owner
+  pub others : (number : ℕ) → number < length owners → (IsSlot image (marked_word number) → ⊥) → slice_index owners number ≡ no_owner_mark
 
 -- the chunk, if it is movable, names a word whose mark is one of `count` marks
 abbrev pub IsRoomFor : Header → ℕ → Type 0

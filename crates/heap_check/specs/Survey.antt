@@ -8,9 +8,10 @@ use Rattle.heap_model.specs.Heap.{Tiles, IsBody, IsKnownIfFixed}
 use Rattle.heap_model.specs.Pairing.{HoldsBody, NamesItsSlot}
 use Rattle.heap_model.specs.Reading.{chunk_at, chunks_of}
 use Rattle.chunk_format.specs.declared.header.Header.{Header}
+pub use Rattle.chunk_format.specs.Header.{free_by}
 use Rattle.chunk_format.specs.declared.header.Header.TheVariants as headers
 use Rattle.heap_check.specs.declared.survey.Survey.{Survey}
-use Rattle.heap_check.specs.Owners.{no_owner, noted_owner}
+use Rattle.heap_check.specs.Owners.{no_owner_mark, noted_owner}
 
 -- ---- one chunk, by its header
 
@@ -25,12 +26,6 @@ abbrev pub fixed_by : Header → ℕ
 fixed_by (headers.Free size) = 0
 fixed_by (headers.Movable length lock owner slot) = 0
 fixed_by (headers.Fixed length owner) = 1
-
--- the size of a free chunk, 0 for any other chunk
-abbrev pub free_by : Header → ℕ
-free_by (headers.Free size) = size
-free_by (headers.Movable length lock owner slot) = 0
-free_by (headers.Fixed length owner) = 0
 
 -- whether a slot is at one offset, and holds the place of the chunk at another offset
 abbrev pub holds_place : List ℕ → ℕ → ℕ → Bool
@@ -70,11 +65,11 @@ noted None at false = Some at
 
 -- the slot with this number is marked
 abbrev pub MarkedAt : List ℕ → ℕ → Type 0
-MarkedAt marks number = slice_index marks number ≢ no_owner
+MarkedAt marks number = slice_index marks number ≢ no_owner_mark
 
 -- a slot is marked exactly if a chunk that names it has its body at the place it holds
-abbrev pub AreMarks : List ℕ → List Chunk → List ℕ → Type 0
-AreMarks image chunks marks = (slot number : ℕ) → StandsBehind image slot number → (MarkedAt marks number ↔ IsBody (area_start image) chunks slot (u32_at image slot))
+abbrev pub MarkTiedSlots : List ℕ → List Chunk → List ℕ → Type 0
+MarkTiedSlots image chunks marks = (slot number : ℕ) → StandsBehind image slot number → (MarkedAt marks number ↔ IsBody (area_start image) chunks slot (u32_at image slot))
 
 -- a movable chunk with this owner names the slot, which holds its place
 pub record IsOwnerOf (image : List ℕ) (slot owner : ℕ) : Type 0 where
@@ -117,7 +112,7 @@ pub record Surveys (image : List ℕ) (chunks : List Chunk) (survey : Survey) (m
   pub movable : survey.movable ≡ count_by is_movable chunks
   pub fixed : survey.fixed ≡ count_by is_fixed chunks
   pub free : survey.free ≡ sum_by free_size chunks
-  pub marked : AreMarks image chunks marks
+  pub marked : MarkTiedSlots image chunks marks
   pub without_slot : IsFirstWithout (NamesItsSlot image) (area_start image) chunks survey.without_slot
   pub bad_owner : IsFirstWithout (IsKnownIfFixed []) (area_start image) chunks survey.bad_owner
 

@@ -17,8 +17,8 @@ ghost use Rattle.heap_model.specs.Slots.{is_chained, HasTable, IsSlot, slots_of,
 ghost use Rattle.heap_model.specs.Heap.{IsHead, Tiles, IsKnownIfFixed, HasDirectory, HeapAccepted};
 ghost use Rattle.heap_model.specs.Pairing.{HoldsBody, NamesItsSlot};
 ghost use Rattle.heap_model.specs.Reading.{chunks_of};
-ghost use Rattle.bit_sets.specs.Sets.{HasNumber, HasNone};
-ghost use Rattle.heap_check.specs.Faults.{IsBadChunk, IsBadTable, IsFirstFault};
+ghost use Rattle.bit_sets.specs.Sets.{IsInSet, HasNone};
+ghost use Rattle.heap_check.specs.Faults.{IsBadChunk, IsBadTable, IsFirstHeapFault};
 ghost use Rattle.heap_check.specs.Summary.{Summarizes};
 ghost use Rattle.heap_check.specs.Survey.{IsFirstWithout, BodyBy};
 ghost use Rattle.master_table.specs.Table.{IsRow, row_start, row_end};
@@ -65,7 +65,7 @@ pub(crate) struct Names {
 impl Bodies {
     ghost use Rattle.std.specs.Prelude.{[], None};
     ghost use Rattle.heap_check.specs.Survey.{movable_by, fixed_by, free_by, noted};
-    ghost use Rattle.heap_check.specs.Chained.{managers_by, may_be_by, ManagersBodyBy, AddsMarks};
+    ghost use Rattle.heap_check.specs.Chained.{managers_by, may_be_by, ManagersBodyBy, MarksWords};
 
     /// Returns the counts of no chunks.
     fn new() -> Bodies
@@ -98,7 +98,7 @@ impl Bodies {
         ensures free { self.new.free ≡ self.old.free + free_by header }
         ensures managers { self.new.managers ≡ self.old.managers + managers_by header }
         ensures bad_owner { self.new.bad_owner ≡ noted self.old.bad_owner at (may_be_by header) }
-        ensures marked { AddsMarks (λ place. ManagersBodyBy place at header) marks.old marks.new }
+        ensures marked { MarksWords (λ place. ManagersBodyBy place at header) marks.old marks.new }
         ensures len { length marks.new ≡ length marks.old }
     {
         match header {
@@ -120,7 +120,7 @@ impl Bodies {
 #[inline]
 fn take(set: &mut [u8], number: u32) -> bool
     requires { number / 8 < length set.old }
-    ensures was { IsTrue result ↔ HasNumber set.old number }
+    ensures was { IsTrue result ↔ IsInSet set.old number }
     ensures taken { IsTrue result → Takes number set.old set.new }
     ensures not_taken { (IsTrue result → ⊥) → set.new ≡ set.old }
     ensures len { length set.new ≡ length set.old }
@@ -167,7 +167,7 @@ fn take_table(region: &Region, place: u32, marks: &mut [u8]) -> Option<u32>
     requires spelled { SpelledAll region.now.bytes (model_start region.now.bytes)
         (chunks_of region.now.bytes) (length region.now.bytes) }
     requires room { 524288 ≤ length marks.old }
-    requires bodies { (word : ℕ) → HasNumber marks.old word → IsManagersAt region.now.bytes (4 * word) }
+    requires bodies { (word : ℕ) → IsInSet marks.old word → IsManagersAt region.now.bytes (4 * word) }
     ensures some { IfSome result (TakesTable region.now.bytes place marks.old marks.new) }
     ensures none { IfNone result (IsNoTable region.now.bytes place marks.old) }
     ensures len { length marks.new ≡ length marks.old }
@@ -317,7 +317,7 @@ fn take_slot(region: &Region, marks: &mut [u8], slot: u32, place: u32) -> bool
     requires whole { region.now.lents ≡ [] }
     requires tiles { Tiles region.now.bytes (chunks_of region.now.bytes) }
     requires room { 524288 ≤ length marks.old }
-    requires slots { (word : ℕ) → HasNumber marks.old word → IsSlot region.now.bytes (4 * word) }
+    requires slots { (word : ℕ) → IsInSet marks.old word → IsSlot region.now.bytes (4 * word) }
     ensures held { IsTrue result ↔ HoldsMarked region.now.bytes slot place marks.old }
     ensures taken { IsTrue result → Takes (slot / 4) marks.old marks.new }
     ensures not_taken { (IsTrue result → ⊥) → marks.new ≡ marks.old }
@@ -340,7 +340,7 @@ fn take_named(region: &Region, at: u32, header: Header, marks: &mut [u8]) -> boo
     requires tiles { Tiles region.now.bytes (chunks_of region.now.bytes) }
     requires small { at + 8 < 2 ^ 24 }
     requires room { 524288 ≤ length marks.old }
-    requires slots { (word : ℕ) → HasNumber marks.old word → IsSlot region.now.bytes (4 * word) }
+    requires slots { (word : ℕ) → IsInSet marks.old word → IsSlot region.now.bytes (4 * word) }
     ensures named { IsTrue result ↔ NamesMarkedBy region.now.bytes marks.old at header }
     ensures taken { TakesMarks (λ slot. BodyBy slot (u32_at region.now.bytes slot) at header)
         marks.old marks.new }
@@ -453,7 +453,7 @@ pub(crate) fn check_chained(region: &Region) -> Result<Summary, HeapFault>
     requires chained { is_chained region.now.bytes ≡ true }
     ensures accepted { OnOk result (HeapAccepted region.now.bytes) }
     ensures summary { IfOk result (Summarizes region.now.bytes) }
-    ensures fault { IfErr result (IsFirstFault region.now.bytes) }
+    ensures fault { IfErr result (IsFirstHeapFault region.now.bytes) }
 {
     let mut marks = no_marks();
     let bodies = match find_bodies(region, &mut marks) {

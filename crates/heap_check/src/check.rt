@@ -4,7 +4,7 @@
 ghost use Rattle.std.specs.Prelude.{[], ◌≡◌, ◌≤◌, true, false, length, map, IfOk, IfErr, OnOk, OnErr, None};
 ghost use Rattle.heap_model.specs.Slots.{is_chained as model_chained};
 ghost use Rattle.heap_model.specs.Heap.{IsHead, HeapAccepted};
-ghost use Rattle.heap_check.specs.Faults.{IsFirstFault};
+ghost use Rattle.heap_check.specs.Faults.{IsFirstHeapFault};
 ghost use Rattle.heap_check.specs.Owners.{most_slots, marks_needed, NoneMarked, HasOwners};
 ghost use Rattle.heap_check.specs.Summary.{Summarizes};
 
@@ -31,7 +31,7 @@ pub fn check_heap(region: &Region) -> Result<Summary, HeapFault>
     requires { region.now.lents ≡ [] }
     ensures accepted { OnOk result (HeapAccepted region.now.bytes) }
     ensures summary { IfOk result (Summarizes region.now.bytes) }
-    ensures fault { IfErr result (IsFirstFault region.now.bytes) }
+    ensures fault { IfErr result (IsFirstHeapFault region.now.bytes) }
     ensures refused { OnErr result (HeapAccepted region.now.bytes → ⊥) }
 {
     match check_head(region) {
@@ -58,7 +58,7 @@ pub fn check_heap_noting(region: &Region, owners: &mut [u8]) -> Result<Summary, 
     requires clear { NoneMarked owners.old }
     ensures accepted { OnOk result (HeapAccepted region.now.bytes) }
     ensures summary { IfOk result (Summarizes region.now.bytes) }
-    ensures fault { IfErr result (IsFirstFault region.now.bytes) }
+    ensures fault { IfErr result (IsFirstHeapFault region.now.bytes) }
     ensures refused { OnErr result (HeapAccepted region.now.bytes → ⊥) }
     ensures owners { OnOk result (HasOwners region.now.bytes owners.new) }
     ensures len { length owners.new ≡ length owners.old }
@@ -84,7 +84,7 @@ fn check_chained_noting(region: &Region, owners: &mut [u8]) -> Result<Summary, H
     requires clear { NoneMarked owners.old }
     ensures accepted { OnOk result (HeapAccepted region.now.bytes) }
     ensures summary { IfOk result (Summarizes region.now.bytes) }
-    ensures fault { IfErr result (IsFirstFault region.now.bytes) }
+    ensures fault { IfErr result (IsFirstHeapFault region.now.bytes) }
     ensures owners { OnOk result (HasOwners region.now.bytes owners.new) }
     ensures len { length owners.new ≡ length owners.old }
 {
@@ -105,7 +105,7 @@ fn check_with_marks(region: &Region) -> Result<Summary, HeapFault>
     requires plain { model_chained region.now.bytes ≡ false }
     ensures accepted { OnOk result (HeapAccepted region.now.bytes) }
     ensures summary { IfOk result (Summarizes region.now.bytes) }
-    ensures fault { IfErr result (IsFirstFault region.now.bytes) }
+    ensures fault { IfErr result (IsFirstHeapFault region.now.bytes) }
 {
     let mut marks = [false; MOST_MARKS];
     check_area(region, &mut marks)
@@ -120,7 +120,7 @@ fn check_area<M: Mark>(region: &Region, marks: &mut [M]) -> Result<Summary, Heap
     requires clear { NoneMarked (map M.says marks.old) }
     ensures accepted { OnOk result (HeapAccepted region.now.bytes) }
     ensures summary { IfOk result (Summarizes region.now.bytes) }
-    ensures fault { IfErr result (IsFirstFault region.now.bytes) }
+    ensures fault { IfErr result (IsFirstHeapFault region.now.bytes) }
     ensures owners { M.notes ≡ true
         → OnOk result (HasOwners region.now.bytes (map M.says marks.new)) }
     ensures len { length marks.new ≡ length marks.old }

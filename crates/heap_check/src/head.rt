@@ -6,7 +6,7 @@ ghost use Rattle.heap_model.specs.Memory.{IsWithin};
 ghost use Rattle.heap_model.specs.Frame.{HasFrame};
 ghost use Rattle.heap_model.specs.Slots.{area_start as model_start};
 ghost use Rattle.heap_model.specs.Heap.{IsHead};
-ghost use Rattle.heap_check.specs.Faults.{IsTooShort, HasBadMagic, HasBadSize, HasBadSlotCount, HasBadReserved, HasBadPadding, IsFirstFault};
+ghost use Rattle.heap_check.specs.Faults.{IsTooShort, HasBadMagic, HasBadSize, HasBadSlotCount, HasBadReserved, HasBadPadding, IsFirstHeapFault};
 
 use crate::fault::HeapFault;
 use chunk_format::{
@@ -64,7 +64,7 @@ fn has_bad_padding(region: &Region) -> bool
 pub(crate) fn check_head(region: &Region) -> Result<(), HeapFault>
     requires { region.now.lents ≡ [] }
     ensures right { OnOk result (IsHead region.now.bytes) }
-    ensures fault { IfErr result (IsFirstFault region.now.bytes) }
+    ensures fault { IfErr result (IsFirstHeapFault region.now.bytes) }
 {
     if is_too_short(region) {
         return Err(HeapFault::TooShort);

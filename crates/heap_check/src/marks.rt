@@ -4,7 +4,7 @@
 
 ghost use Rattle.std.specs.Prelude.{[], ◌≡◌, ◌≢◌, ◌≤◌, ◌↔◌, ℕ, Bool, true, false, List, IsTrue, IfSome, IfNone, None};
 ghost use Rattle.heap_model.specs.Frame.{HasFrame};
-ghost use Rattle.heap_check.specs.Owners.{no_owner, noted_owner, met_owner, marked_word, marks_needed as model_needed};
+ghost use Rattle.heap_check.specs.Owners.{no_owner_mark, noted_owner, met_owner, marked_word, marks_needed as model_needed};
 
 use chunk_format::{FRAME_SIZE, SLOT_SIZE, is_chained};
 use raw_region::Region;
@@ -57,7 +57,7 @@ pub(crate) trait Mark: Copy {
 
     /// Returns whether the slot's chunk was met.
     fn is_set(self) -> bool
-        ensures { IsTrue result ↔ (says self ≢ no_owner) };
+        ensures { IsTrue result ↔ (says self ≢ no_owner_mark) };
 }
 
 /// Notes only whether the slot's chunk was met.

@@ -1,26 +1,18 @@
--- A chunk that was found, where another directory is named.
+-- A found chunk is found again after the directory was set to another name.
 use Rattle.std.proofs.Common.{◌≡◌, ◌≢◌, ℕ, ◌-◌, ◌≤◌, List, sym, ap, ◌∙◌, arith}
-use Rattle.heap_model.specs.Chunk.{need, managers_owner}
-use Rattle.heap_model.specs.Heap.{HeapAccepted, directory_of}
-use Rattle.heap_model.specs.Reading.{held}
-use Rattle.heap_model.specs.Layout.{IsSpot}
-use Rattle.heap_model.specs.Resizing.{with_length, Relocates}
+use Rattle.heap_compact.proofs.Words.{need, managers_owner, HeapAccepted, directory_of, held, IsSpot, with_length, Relocates, NamesDirectory, Found, IsOne, RelocatesFound}
 use Rattle.heap_model.specs.Store.{owner_of, owner_under}
-use Rattle.heap_model.specs.Leaving.{NamesDirectory}
 use Rattle.laws_heap.proofs.Meanings.{held-zero}
 use Rattle.laws_heap.proofs.Directory.{named_finds, directory_owned}
 use Rattle.laws_heap.proofs.Relocation.{relocate_changes}
-use Rattle.heap_place.specs.declared.found.Found.{Found}
-use Rattle.heap_place.specs.Found.{IsOne}
-use Rattle.heap_place.specs.Relocation.{RelocatesFound}
 use Rattle.heap_place.proofs.FoundLaws.{one_held, when_movable}
 
 -- it is found as it was
-abbrev pub named_one : (old new : List ℕ) (word : ℕ) (found : Found) → NamesDirectory old new word → IsOne old found → IsOne new found
-named_one old new word found n f = record {
+abbrev pub named_one : {old new : List ℕ} {word : ℕ} (found : Found) → NamesDirectory old new word → IsOne old found → IsOne new found
+named_one found n f = record {
   live = f.live;
   chunk = f.chunk;
-  finds = named_finds old new word found.name.0 f.live f.chunk _ n f.finds;
+  finds = named_finds _ _ _ _ _ _ _ n f.finds;
   behind_header = f.behind_header;
   name_is = f.name_is;
   count = f.count;
@@ -29,16 +21,16 @@ named_one old new word found n f = record {
 }
 
 -- the name 0 names no chunk that was found
-pub some_name : (image : List ℕ) (found : Found) → HeapAccepted image → IsOne image found → found.name.0 ≢ 0
-some_name image found h f none = let nothing = sym (one_held image found h f) ∙ ap (held image) none ∙ held-zero image h in absurd cc
+pub some_name : {image : List ℕ} (found : Found) → HeapAccepted image → IsOne image found → found.name.0 ≢ 0
+some_name {image} found h f none = let nothing = sym (one_held _ found h f) ∙ ap (held image) none ∙ held-zero _ h in absurd cc
 
 -- the directory's chunk is the manager's once it was moved
-pub moved_owner : (old mid new : List ℕ) (found : Found) (at size count : ℕ) → HeapAccepted old → IsOne old found → found.lock ≡ 0 → found.name.0 ≡ directory_of old → NamesDirectory old mid 0 → IsSpot mid at size → need count ≤ size → RelocatesFound mid new found at size count
+pub moved_owner : {old mid : List ℕ} (new : List ℕ) (found : Found) {at size : ℕ} (count : ℕ) → HeapAccepted old → IsOne old found → found.lock ≡ 0 → found.name.0 ≡ directory_of old → NamesDirectory old mid 0 → IsSpot mid at size → need count ≤ size → RelocatesFound mid new found at size count
     → owner_under new found.name.0 ≡ managers_owner
 unfolding owner_under
-moved_owner old mid new found at size count h f unlocked is n r fits moved =
-    let g : IsOne mid found = named_one old mid 0 found n f in
-    let owned : f.live.owner ≡ managers_owner = directory_owned old f.live h (sym (ap (held old) is) ∙ one_held old found h f) in
-    when_movable mid found.name.0 found g (λ c k. Relocates mid new (found.place.0 - 8) at size (with_length count c) → owner_of (held new found.name.0) ≡ managers_owner) (λ e. omega arith)
-    (λ bytes lock owner slot k x. ap owner_of (relocate_changes mid new found.name.0 (found.place.0 - 8) at size count f.live bytes lock owner slot n.accepted k r fits x).here ∙ owned)
+moved_owner {old} {mid} new found {at} {size} count h f unlocked is n r fits moved =
+    let g : IsOne mid found = named_one found n f in
+    let owned : f.live.owner ≡ managers_owner = directory_owned _ f.live h (sym (ap (held old) is) ∙ one_held _ found h f) in
+    when_movable _ _ _ g (λ c k. Relocates mid new (found.place.0 - 8) at size (with_length count c) → owner_of (held new found.name.0) ≡ managers_owner) (λ e. omega arith)
+    (λ bytes lock owner slot k x. ap owner_of (relocate_changes _ new _ _ _ _ count _ _ _ _ _ n.accepted k r fits x).here ∙ owned)
     (moved g)

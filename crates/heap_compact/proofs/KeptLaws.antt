@@ -1,31 +1,26 @@
--- What a space keeps beside its region: further tables stay what they are in the same frame.
+-- The remembered tables of a space stay right in the same frame, and after a table is added.
 use Rattle.std.proofs.Common.{Bool, true, false, ◌≡◌, ℕ, ◌++◌, refl, List, [], ◌∷◌, sym, ap, subst, arith, inl, inr}
 use Rattle.std.specs.Prelude.{slice_index}
 use Rattle.std.specs.Bool.{OnTrue, OnFalse}
-use Rattle.heap_model.specs.Memory.{Memory}
-use Rattle.heap_model.specs.Slots.{Table, Tables, further_tables}
-use Rattle.heap_model.specs.Placing.{SameFrame}
-use Rattle.heap_model.specs.Resizing.{GrowsInPlace}
-use Rattle.heap_model.specs.MoreTables.{gained, GainsTable}
-use Rattle.heap_model.specs.Lending.{HoldsHeap}
-use Rattle.master_table.specs.Known.{HasLongTable, KnowsTables, Remembers}
+use Rattle.heap_compact.proofs.Words.{Memory, Table, further_tables, SameFrame, GrowsInPlace, gained, GainsTable, HoldsHeap, HasLongTable, KnowsTables, Remembered, RemembersPlace}
+use Rattle.master_table.proofs.RowLaws.{starts_gained}
 use Rattle.master_table.proofs.FurtherLaws.{knows_still, knows_more}
 
-pub tables_kept : (old new places : List ℕ) → SameFrame old new → KnowsTables old places → KnowsTables new places
-tables_kept old new places f knows = knows_still old new places (ap (λ (t : Tables). t.further) f.tables) knows
+pub tables_kept : {old new : List ℕ} (known : Remembered) → SameFrame old new → KnowsTables old known → KnowsTables new known
+tables_kept {old} {new} known f knows = knows_still old new known f.tables knows
 
 -- of a region that is the value of its space
-pub viewed_kept : (old region : Memory) (new places : List ℕ) → region ≡ old → SameFrame old.bytes new → KnowsTables region.bytes places → KnowsTables new places
-viewed_kept old region new places view f knows = tables_kept old.bytes new places f (subst (λ (m : Memory). KnowsTables m.bytes places) view knows)
+pub viewed_kept : {old region : Memory} {new : List ℕ} (known : Remembered) → region ≡ old → SameFrame old.bytes new → KnowsTables region.bytes known → KnowsTables new known
+viewed_kept known view f knows = tables_kept known f (subst (λ (m : Memory). KnowsTables m.bytes known) view knows)
 
 -- so it holds the heap
-pub viewed_heap : (old region : Memory) → region ≡ old → HoldsHeap region → HoldsHeap old
-viewed_heap old region view h = subst (λ (m : Memory). HoldsHeap m) view h
+pub viewed_heap : {old region : Memory} → region ≡ old → HoldsHeap region → HoldsHeap old
+viewed_heap view h = subst (λ (m : Memory). HoldsHeap m) view h
 
 -- where a chunk grew, or nothing has changed
-pub grown_kept : (old new : Memory) (places : List ℕ) (at count : ℕ) (done : Bool) → OnTrue done (GrowsInPlace old.bytes new.bytes at count) → OnFalse done (new ≡ old) → KnowsTables old.bytes places → KnowsTables new.bytes places
-grown_kept old new places at count true grown same knows = tables_kept old.bytes new.bytes places grown.frame knows
-grown_kept old new places at count false grown same knows = subst (λ (m : Memory). KnowsTables m.bytes places) (sym same) knows
+pub grown_kept : (old new : Memory) (known : Remembered) (at count : ℕ) (done : Bool) → OnTrue done (GrowsInPlace old.bytes new.bytes at count) → OnFalse done (new ≡ old) → KnowsTables old.bytes known → KnowsTables new.bytes known
+grown_kept old new known at count true grown same knows = tables_kept known grown.frame knows
+grown_kept old new known at count false grown same knows = subst (λ (m : Memory). KnowsTables m.bytes known) (sym same) knows
 
 -- ---- where a table is added
 
@@ -37,8 +32,11 @@ added_listed : (tables : List Table) (place : ℕ) → HasLongTable (tables ++ g
 added_listed [] place = inl (refl, omega arith)
 added_listed (t ∷ tables) place = inr (added_listed tables place)
 
-pub tables_gained : (old new places after : List ℕ) (place : ℕ) → GainsTable old new place → KnowsTables old places → Remembers places after place → KnowsTables new after
-tables_gained old new places after place g knows more =
-    knows_more new places after place
-    (λ entry some. subst (λ (ts : List Table). HasLongTable ts (slice_index places entry)) (sym g.further) (still_listed (further_tables old) place (slice_index places entry) (knows entry some)))
+pub tables_gained : {old new : List ℕ} (known after : Remembered) {place : ℕ} → GainsTable old new place → KnowsTables old known → RemembersPlace known after place → KnowsTables new after
+tables_gained {old} {new} known after {place} g knows more =
+    knows_more new known after place
+    record {
+      entries = λ entry some. subst (λ (ts : List Table). HasLongTable ts (slice_index known.places entry)) (sym g.further) (still_listed (further_tables old) place (slice_index known.places entry) (knows.entries entry some));
+      latest = starts_gained old new (gained place ∷ []) known.latest.place known.latest.before g.count g.further knows.latest;
+    }
     more (subst (λ (ts : List Table). HasLongTable ts place) (sym g.further) (added_listed (further_tables old) place))

@@ -1,18 +1,9 @@
--- The greatest room of an image, as one walk finds it.
+-- One walk finds the greatest room of an image.
 use Rattle.std.proofs.Common.{◌≡◌, ℕ, zero, suc, ◌+◌, ◌≤◌, List, [], ◌∷◌, ◌++◌, length, refl, sym, ap, subst, ◌∙◌, append_assoc, append-nil, arith}
 use Rattle.std.specs.Prelude.{max, filter, sum_by}
 use Rattle.std.proofs.lemmas.List.Sums.{sum_by-cons}
-use Rattle.heap_model.specs.Chunk.{Chunk, free, movable, fixed, size_of, total, free_size}
-use Rattle.heap_model.specs.Slots.{area_start}
-use Rattle.heap_model.specs.Heap.{HeapAccepted}
-use Rattle.heap_model.specs.Reading.{chunks_of}
-use Rattle.heap_model.specs.Space.{onto_first, runs_between, has_chunk, stretches, room_of, rooms_of, rooms, greatest}
+use Rattle.heap_compact.proofs.Words.{Chunk, free, movable, fixed, size_of, total, free_size, area_start, HeapAccepted, chunks_of, onto_first, runs_between, has_chunk, stretches, room_of, rooms_of, rooms, greatest, Header, header_of, size_by, HasHeader, Passed, free_by, HeaderStays, greatest_behind, HaveRooms}
 use Rattle.laws_heap.proofs.Chunks.{total-append}
-use Rattle.chunk_format.specs.declared.header.Header.{Header}
-use Rattle.chunk_format.specs.Header.{header_of, size_by, HasHeader}
-use Rattle.heap_place.specs.Search.{Passed, free_by}
-use Rattle.heap_compact.specs.Packs.{HeaderStays}
-use Rattle.heap_compact.specs.Stretches.{greatest_behind, HaveRooms}
 use Rattle.heap_place.proofs.WalkLaws.{passed_start, passed_at, passed_more, passed_all}
 
 -- ---- the greatest of the rooms
@@ -62,50 +53,48 @@ more_total : (cs : List Chunk) (c : Chunk) → total (cs ++ c ∷ []) ≡ total 
 more_total cs c = let both = total-append cs (c ∷ []) in let none : total [] ≡ 0 = refl in omega arith
 
 -- one more chunk
-rooms_stay : (largest room : ℕ) (cs : List Chunk) (c : Chunk) → HeaderStays (header_of c) → HaveRooms largest room cs → HaveRooms (max largest room) 0 (cs ++ c ∷ [])
-rooms_stay largest room cs (free size) stay h = absurd stay
-rooms_stay largest room cs (movable bytes zero owner slot) stay h = absurd (omega (arith, stay))
-rooms_stay largest room cs (movable bytes (suc count) owner slot) stay h = record {
+rooms_stay : {largest room : ℕ} {cs : List Chunk} (c : Chunk) → HeaderStays (header_of c) → HaveRooms largest room cs → HaveRooms (max largest room) 0 (cs ++ c ∷ [])
+rooms_stay (free size) stay h = absurd stay
+rooms_stay (movable bytes zero owner slot) stay h = absurd (omega (arith, stay))
+rooms_stay {cs} (movable bytes (suc count) owner slot) stay h = record {
   on = λ others. ap (greatest_behind 0) (append_assoc cs (movable bytes (suc count) owner slot ∷ []) others) ∙ h.on (movable bytes (suc count) owner slot ∷ others) ∙ omega arith;
   fits = omega arith;
 }
-rooms_stay largest room cs (fixed bytes owner) stay h = record {
+rooms_stay {cs} (fixed bytes owner) stay h = record {
   on = λ others. ap (greatest_behind 0) (append_assoc cs (fixed bytes owner ∷ []) others) ∙ h.on (fixed bytes owner ∷ others) ∙ omega arith;
   fits = omega arith;
 }
 
-rooms_go_on : (largest room : ℕ) (cs : List Chunk) (c : Chunk) → (HeaderStays (header_of c) → ⊥) → HaveRooms largest room cs → HaveRooms largest (room + free_by (header_of c)) (cs ++ c ∷ [])
-rooms_go_on largest room cs (free size) loose h = record {
+rooms_go_on : {largest room : ℕ} {cs : List Chunk} (c : Chunk) → (HeaderStays (header_of c) → ⊥) → HaveRooms largest room cs → HaveRooms largest (room + free_by (header_of c)) (cs ++ c ∷ [])
+rooms_go_on {cs} (free size) loose h = record {
   on = λ others. ap (greatest_behind 0) (append_assoc cs (free size ∷ []) others) ∙ h.on (free size ∷ others);
   fits = let low = h.fits in let more = more_total cs (free size) in omega arith;
 }
-rooms_go_on largest room cs (movable bytes zero owner slot) loose h = record {
+rooms_go_on {largest} {room} {cs} (movable bytes zero owner slot) loose h = record {
   on = λ others.
       ap (greatest_behind 0) (append_assoc cs (movable bytes 0 owner slot ∷ []) others)
       ∙ h.on (movable bytes 0 owner slot ∷ others) ∙ ap (λ (n : ℕ). max largest (greatest_behind n others)) (let e : room ≡ room + 0 = omega arith in e);
   fits = let low = h.fits in let more = more_total cs (movable bytes 0 owner slot) in omega arith;
 }
-rooms_go_on largest room cs (movable bytes (suc count) owner slot) loose h = absurd (loose (omega arith))
-rooms_go_on largest room cs (fixed bytes owner) loose h = absurd (loose tt)
+rooms_go_on (movable bytes (suc count) owner slot) loose h = absurd (loose (omega arith))
+rooms_go_on (fixed bytes owner) loose h = absurd (loose tt)
 
-pub rooms_start : (image : List ℕ) → HeapAccepted image → Passed image (HaveRooms 0 0) (area_start image)
-rooms_start image h = passed_start image (HaveRooms 0 0) h no_rooms
+pub rooms_start : {image : List ℕ} → HeapAccepted image → Passed image (HaveRooms 0 0) (area_start image)
+rooms_start h = passed_start _ (HaveRooms 0 0) h no_rooms
 
-pub rooms_fit : (image : List ℕ) (largest room at : ℕ) → Passed image (HaveRooms largest room) at → room ≤ at
-rooms_fit image largest room at p =
-    let there = passed_at image (HaveRooms largest room) at p in
-    let low = p.holds.fits in
-    omega arith
+pub rooms_fit : {image : List ℕ} (largest room : ℕ) {at : ℕ} → Passed image (HaveRooms largest room) at → room ≤ at
+rooms_fit largest room p =
+    omega (arith, passed_at _ _ _ p, p.holds.fits)
 
-pub rooms_closed : (image : List ℕ) (largest room at : ℕ) (header : Header) → Passed image (HaveRooms largest room) at → HasHeader image at header → HeaderStays header → Passed image (HaveRooms (max largest room) 0) (at + size_by header)
-rooms_closed image largest room at header p has stay =
-    passed_more image (HaveRooms largest room) (HaveRooms (max largest room) 0) at header p has (rooms_stay largest room p.front has.chunk (subst HeaderStays has.header_is stay) p.holds)
+pub rooms_closed : {image : List ℕ} (largest room : ℕ) {at : ℕ} {header : Header} → Passed image (HaveRooms largest room) at → HasHeader image at header → HeaderStays header → Passed image (HaveRooms (max largest room) 0) (at + size_by header)
+rooms_closed largest room p has stay =
+    passed_more _ _ (HaveRooms (max largest room) 0) _ _ p has (rooms_stay has.chunk (subst HeaderStays has.header_is stay) p.holds)
 
-pub rooms_more : (image : List ℕ) (largest room at : ℕ) (header : Header) → Passed image (HaveRooms largest room) at → HasHeader image at header → (HeaderStays header → ⊥) → Passed image (HaveRooms largest (room + free_by header)) (at + size_by header)
-rooms_more image largest room at header p has loose =
-    passed_more image (HaveRooms largest room) (HaveRooms largest (room + free_by header)) at header p has
-    (subst (λ (header : Header). HaveRooms largest (room + free_by header) (p.front ++ has.chunk ∷ [])) (sym has.header_is) (rooms_go_on largest room p.front has.chunk (λ stay. loose (subst HeaderStays (sym has.header_is) stay)) p.holds))
+pub rooms_more : {image : List ℕ} (largest room : ℕ) {at : ℕ} {header : Header} → Passed image (HaveRooms largest room) at → HasHeader image at header → (HeaderStays header → ⊥) → Passed image (HaveRooms largest (room + free_by header)) (at + size_by header)
+rooms_more largest room {header} p has loose =
+    passed_more _ _ (HaveRooms largest (room + free_by header)) _ _ p has
+    (subst (λ (header : Header). HaveRooms largest (room + free_by header) (p.front ++ has.chunk ∷ [])) (sym has.header_is) (rooms_go_on has.chunk (λ stay. loose (subst HeaderStays (sym has.header_is) stay)) p.holds))
 
-pub rooms_all : (image : List ℕ) (largest room at : ℕ) → HeapAccepted image → Passed image (HaveRooms largest room) at → length image ≤ at → max largest room ≡ greatest (rooms image)
-rooms_all image largest room at h p beyond =
-    sym ((passed_all image (HaveRooms largest room) at h p beyond).on []) ∙ ap (greatest_behind 0) (append-nil (chunks_of image)) ∙ chunks_greatest (chunks_of image)
+pub rooms_all : {image : List ℕ} (largest room : ℕ) {at : ℕ} → HeapAccepted image → Passed image (HaveRooms largest room) at → length image ≤ at → max largest room ≡ greatest (rooms image)
+rooms_all {image} largest room h p beyond =
+    sym ((passed_all _ _ _ h p beyond).on []) ∙ ap (greatest_behind 0) (append-nil (chunks_of image)) ∙ chunks_greatest (chunks_of image)

@@ -1,80 +1,72 @@
--- What is lent is missed where chunks are lifted over room, and stays a body.
+-- Lifting chunks touches no lent part, and each lent part stays a body.
 use Rattle.std.proofs.Common.{◌≡◌, ℕ, ◌+◌, ◌-◌, ◌≤◌, ◌<◌, List, [], ◌∷◌, ◌++◌, length, sym, ap, subst, ◌∙◌, append_assoc, arith}
-use Rattle.heap_model.specs.Memory.{Memory, Lent, Misses, IsWithin}
-use Rattle.heap_model.specs.Chunk.{Chunk, free, total}
-use Rattle.heap_model.specs.Heap.{HeapAccepted}
-use Rattle.heap_model.specs.Slots.{IsSlot, TablesLie, HasTable, tables_of, slots_of, head_end, slot_size}
-use Rattle.heap_model.specs.Placed.{EveryOne}
-use Rattle.heap_model.specs.Reading.{chunks_of}
-use Rattle.heap_model.specs.Space.{NoneStays}
-use Rattle.heap_model.specs.Lending.{LendsBodies}
+use Rattle.heap_compact.proofs.Words.{Memory, Lent, Misses, IsWithin, Chunk, free, total, IsSlot, TablesLie, HasTable, tables_of, slots_of, head_end, slot_size, EveryOne, chunks_of, NoneStays, HoldsHeap, Lifting, HasFreeBehind, FreeBehind, Lifts, AreCarried, MendedUpTo, Walks}
 use Rattle.laws_heap.proofs.Chunks.{total-append}
 use Rattle.laws_heap.proofs.Slides.{none_stays-append}
 use Rattle.laws_heap.proofs.Slots.{each_slot, tables_lie, same_slots, ends_listed}
 use Rattle.laws_heap.proofs.Lending.{part_within, part_misses}
 use Rattle.laws_heap.proofs.LentBodies.{run_within, loose_lends}
-use Rattle.heap_compact.specs.Lifting.{Lifting, HasFreeBehind, FreeBehind, Lifts, AreCarried, Walked, Walks}
 use Rattle.heap_compact.proofs.ExactLaws.{exactly_becomes}
 use Rattle.heap_compact.proofs.LiftedWalkLaws.{some_size}
 
 -- ---- the chunks that are lifted, and the free one after them
 
-in_parts : (image : List ℕ) (before mid after : List Chunk) (start end gap : ℕ) → FreeBehind image before mid after start end gap → chunks_of image ≡ before ++ ((mid ++ free gap ∷ []) ++ after)
-in_parts image before mid after start end gap f = f.chunks ∙ ap (λ (cs : List Chunk). before ++ cs) (sym (append_assoc mid (free gap ∷ []) after))
+in_parts : {image : List ℕ} {before mid after : List Chunk} {start end gap : ℕ} → FreeBehind image before mid after start end gap → chunks_of image ≡ before ++ ((mid ++ free gap ∷ []) ++ after)
+in_parts {before} {mid} {after} {gap} f = f.chunks ∙ ap (λ (cs : List Chunk). before ++ cs) (sym (append_assoc mid (free gap ∷ []) after))
 
-none_stay : (image : List ℕ) (before mid after : List Chunk) (start end gap : ℕ) → FreeBehind image before mid after start end gap → NoneStays (mid ++ free gap ∷ [])
-none_stay image before mid after start end gap f = (none_stays-append mid (free gap ∷ [])).1 (f.loose, tt)
+none_stay : {image : List ℕ} {before mid after : List Chunk} {start end gap : ℕ} → FreeBehind image before mid after start end gap → NoneStays (mid ++ free gap ∷ [])
+none_stay {mid} {gap} f = (none_stays-append mid (free gap ∷ [])).1 (f.loose, tt)
 
-pub lifted_within : (m : Memory) (start end gap : ℕ) → HeapAccepted m.bytes → LendsBodies m → HasFreeBehind m.bytes start end gap → IsWithin m start (end - start + gap)
-lifted_within m start end gap h l b =
-    let f = b.behind in
-    let to = f.to in
-    let sizes = total-append b.mid (free gap ∷ []) in
-    part_within m start (total (b.mid ++ free gap ∷ [])) start (end - start + gap)
-    (run_within m b.before (b.mid ++ free gap ∷ []) b.after start h l (in_parts m.bytes b.before b.mid b.after start end gap f) f.from (none_stay m.bytes b.before b.mid b.after start end gap f)) (omega arith) (omega (arith, to, sizes))
-
-pub lifted_lends : (old new : Memory) (start end gap : ℕ) → LendsBodies old → new.lents ≡ old.lents → HasFreeBehind old.bytes start end gap → Lifts old.bytes new.bytes start end gap → LendsBodies new
-lifted_lends old new start end gap l same b lifts =
+pub lifted_within : {m : Memory} {start end gap : ℕ} → HoldsHeap m → HasFreeBehind m.bytes start end gap → IsWithin m start (end - start + gap)
+lifted_within {m} {start} {end} {gap} h b =
     let f = b.behind in
     let sizes = total-append b.mid (free gap ∷ []) in
-    loose_lends old new b.before (b.mid ++ free gap ∷ []) (free gap ∷ b.mid) b.after l same (in_parts old.bytes b.before b.mid b.after start end gap f)
-    (exactly_becomes old.bytes new.bytes (b.before ++ free gap ∷ (b.mid ++ b.after)) (lifts b.before b.mid b.after f)) (omega (arith, sizes)) (none_stay old.bytes b.before b.mid b.after start end gap f)
+    part_within _ _ _ start (end - start + gap)
+    (run_within m b.before (b.mid ++ free gap ∷ []) b.after _ h.accepted h.lent (in_parts f) f.from (none_stay f)) (omega arith) (omega (arith, f.to, sizes))
+
+pub lifted_holds : {old new : Memory} {start end gap : ℕ} → HoldsHeap old → new.lents ≡ old.lents → HasFreeBehind old.bytes start end gap → Lifts old.bytes new.bytes start end gap → HoldsHeap new
+lifted_holds {old} {new} {gap} h same b lifts =
+    let sizes = total-append b.mid (free gap ∷ []) in
+    let x = lifts b.before b.mid b.after b.behind in
+    record {
+      accepted = x.frame.accepted;
+      lent = loose_lends old new b.before (b.mid ++ free gap ∷ []) (free gap ∷ b.mid) b.after h.lent same (in_parts b.behind)
+          (exactly_becomes x) (omega (arith, sizes)) (none_stay b.behind);
+    }
 
 -- ---- the tables, while the chunks are mended
 
 -- in a memory as long with the same tables
-pub table_still : (old new : Memory) → HasTable old → new.lents ≡ old.lents → length new.bytes ≡ length old.bytes → tables_of new.bytes ≡ tables_of old.bytes → HasTable new
-table_still old new t same len tables = record {
-  lie = tables_lie old.bytes new.bytes len tables t.lie;
+pub table_still : {old : Memory} (new : Memory) → HasTable old → new.lents ≡ old.lents → length new.bytes ≡ length old.bytes → tables_of new.bytes ≡ tables_of old.bytes → HasTable new
+table_still {old} new t same len tables = record {
+  lie = tables_lie _ new.bytes len tables t.lie;
   first_misses = subst (λ (x : List Lent). Misses x 0 (head_end new.bytes)) (sym same) (subst (λ (n : ℕ). Misses old.lents 0 n) (sym (ends_listed old.bytes new.bytes tables)) t.first_misses);
   slots_miss = subst (λ (x : List Lent). EveryOne (λ slot. Misses x slot slot_size) (slots_of new.bytes)) (sym same)
       (subst (λ (xs : List ℕ). EveryOne (λ slot. Misses old.lents slot slot_size) xs) (sym (same_slots old.bytes new.bytes tables)) t.slots_miss);
 }
 
-pub walk_table : (first now : Memory) (gap start at end : ℕ) → Walks first.bytes now.bytes gap start at end → AreCarried first.bytes gap start end → now.lents ≡ first.lents → HasTable first → HasTable now
-walk_table first now gap start at end w a same t =
+pub walk_table : {first : Memory} (now : Memory) {gap start at end : ℕ} → Walks first.bytes now.bytes gap start at end → AreCarried first.bytes gap start end → now.lents ≡ first.lents → HasTable first → HasTable now
+walk_table now w a same t =
     let s = w a.old a.before a.done a.rest a.after a.lifting a.ends in
-    table_still first now t same (s.lifting.len ∙ sym a.lifting.len) (s.lifting.tables ∙ sym a.lifting.tables)
+    table_still now t same (s.lifting.len ∙ sym a.lifting.len) (s.lifting.tables ∙ sym a.lifting.tables)
 
 -- a slot, once the header of a chunk is written
-pub slot_again_within : (old new : Memory) (slot : ℕ) → HasTable old → IsSlot old.bytes slot → new.lents ≡ old.lents → TablesLie new.bytes → IsSlot new.bytes slot → IsWithin new slot 4
-slot_again_within old new slot t s same lie again = record {
-  inside = each_slot (λ n. n + slot_size ≤ length new.bytes) new.bytes lie.slots slot again;
-  misses = subst (λ (x : List Lent). Misses x slot 4) (sym same) (each_slot (λ n. Misses old.lents n slot_size) old.bytes t.slots_miss slot s);
+pub slot_again_within : {old : Memory} (new : Memory) {slot : ℕ} → HasTable old → IsSlot old.bytes slot → new.lents ≡ old.lents → TablesLie new.bytes → IsSlot new.bytes slot → IsWithin new slot 4
+slot_again_within {old} new {slot} t s same lie again = record {
+  inside = each_slot (λ n. n + slot_size ≤ length new.bytes) _ lie.slots _ again;
+  misses = subst (λ (x : List Lent). Misses x slot 4) (sym same) (each_slot (λ n. Misses old.lents n slot_size) _ t.slots_miss _ s);
 }
 
 -- ---- the header at which the walk has come
 
-pub walk_misses : (first image : List ℕ) (lents : List Lent) (gap start at end : ℕ) → Walks first image gap start at end → AreCarried first gap start end → at < end → Misses lents start (end - start) → Misses lents at 8
-walk_misses first image lents gap start at end w a more m = by_back s.back s.lifting s.ends where
-  s : Walked a.old image a.before a.done a.rest a.after gap at end
+pub walk_misses : {first image : List ℕ} (lents : List Lent) {gap start at end : ℕ} → Walks first image gap start at end → AreCarried first gap start end → at < end → Misses lents start (end - start) → Misses lents at 8
+walk_misses {image} lents {gap} {start} {at} {end} w a more m = by_back s.back s.lifting s.ends where
+  s : MendedUpTo a.old image a.before a.done a.rest a.after gap at end
   s = w a.old a.before a.done a.rest a.after a.lifting a.ends
 
   by_back : (back : List Chunk) → Lifting a.old image a.before (a.done ++ s.front) back a.after gap at → end ≡ at + total back → Misses lents at 8
   by_back [] l e = absurd (omega (arith, e, more))
   by_back (c ∷ back) l e =
       let was = a.lifting.there in
-      let is = l.there in
       let t = total-append a.done s.front in
-      let size = some_size a.old image a.before (a.done ++ s.front) c back a.after gap at l in
-      part_misses lents start (end - start) at 8 m (omega (arith, was, is, t)) (omega (arith, was, is, t, e, size))
+      part_misses lents start (end - start) at 8 m (omega (arith, was, l.there, t)) (omega (arith, was, l.there, t, e, some_size l))

@@ -1,3 +1,4 @@
+pub mod Words
 pub mod ResizedLaws
 pub mod MadeRoomLaws
 pub mod ByteLaws
@@ -14,10 +15,12 @@ pub mod LentLifts
 pub mod LentRuns
 pub mod LiftLaws
 pub mod LiftedWalkLaws
+pub mod MemoryLaws
 pub mod MendLaws
 pub mod PackLaws
 pub mod RelocateLaws
 pub mod RoomyLaws
 pub mod SeenLaws
+pub mod SpaceWrites
 pub mod StretchLaws
 pub mod StretchRoomLaws

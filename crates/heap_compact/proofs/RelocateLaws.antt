@@ -1,19 +1,11 @@
--- A chunk that goes to room elsewhere, step by step.
-use Rattle.std.proofs.Common.{◌≡◌, ◌≢◌, ℕ, ◌+◌, ◌-◌, ◌%◌, ◌^◌, ◌<◌, ◌≤◌, List, [], ◌∷◌, ◌++◌, length, take, drop, replicate, Bool, Option, Some, None, refl, sym, ap, subst, ◌∙◌, arith, inl, inr, length-drop}
+-- A chunk that moves to room elsewhere keeps its bytes and its name, step by step.
+use Rattle.std.proofs.Common.{◌≡◌, ◌≢◌, ℕ, ◌+◌, ◌-◌, ◌%◌, ◌^◌, ◌<◌, ◌≤◌, List, [], ◌∷◌, ◌++◌, length, take, drop, replicate, Bool, Option, Some, None, refl, sym, ap, subst, ◌∙◌, arith, inl, inr}
 use Rattle.std.proofs.lemmas.List.{length-replicate, length-take, take_all, take-take, drop-replicate}
 use Rattle.std.proofs.lemmas.Bool.{cases_lt, OnTrue_at, OnTrue_from}
 use Rattle.std.specs.Bool.{OnTrue}
 use Rattle.std.specs.Prelude.{slice_range, min}
 use Rattle.heap_model.specs.Bytes.{u32_at, u32_bytes, overwritten, sized_to}
-use Rattle.heap_model.specs.Chunk.{Chunk, free, movable, fixed, fixed_lock, need, size_of, Spelled, data_owner, total}
-use Rattle.heap_model.specs.Slots.{IsSlot, TablesLie}
-use Rattle.heap_model.specs.Heap.{IsHeap, HeapAccepted}
-use Rattle.heap_model.specs.Meaning.{LiveChunk, NamedHere}
-use Rattle.heap_model.specs.Reading.{chunks_of, held}
-use Rattle.heap_model.specs.Space.{NoRun, place_of}
-use Rattle.heap_model.specs.Placing.{Finds}
-use Rattle.heap_model.specs.Layout.{Becomes, Alters, freed, with_bytes, IsSpot, Claims, WritesPlain}
-use Rattle.heap_model.specs.Resizing.{with_length, Relocates}
+use Rattle.heap_compact.proofs.Words.{Chunk, free, movable, fixed, fixed_lock, need, size_of, Spelled, data_owner, total, IsSlot, TablesLie, HeapAccepted, LiveChunk, NamedHere, chunks_of, held, NoRun, place_of, Finds, Becomes, Alters, freed, with_bytes, IsSpot, Claims, WritesPlain, with_length, Relocates, HasHeader, live_words, h_offset_to, Found, IsOne, stand_in, KeepsFound, Copies, with_name, RelocatesToRun, Any, KeepsFree}
 use Rattle.laws_heap.proofs.FoundChunks.{held_finds, finds_spelled, finds_body}
 use Rattle.laws_heap.proofs.AlteredChunks.{finds_place, body_stays}
 use Rattle.laws_heap.proofs.Exchanges.{ChangesName}
@@ -26,17 +18,12 @@ use Rattle.laws_heap.proofs.SlidImages.{slot_unheld}
 use Rattle.laws_heap.proofs.Chunks.{Spelled-size, Spelled-same, plain-callers, plain-movable}
 use Rattle.laws_heap.proofs.Frames.{u32_at-written, length-overwritten}
 use Rattle.laws_heap.proofs.Slots.{slot_facts, named_hold_none, slot_beside}
-use Rattle.laws_heap.proofs.Writes.{WroteWithin, wrote_wider, wrote_word, WroteArea, area_replaces, area_slots, beside_same, table_kept}
+use Rattle.laws_heap.proofs.Writes.{wrote_wider, wrote_word, WroteArea, area_replaces, area_slots, beside_same, table_kept}
 use Rattle.laws_heap.proofs.FreeChunks.{OtherSlots, claimed}
 use Rattle.laws_heap.proofs.SameLayouts.{becomes_heap, slot_kept}
 use Rattle.laws_heap.proofs.Plain.{lives_plain, replaced_plain}
 use Rattle.chunk_format.specs.declared.header.Header.TheVariants as headers
-use Rattle.chunk_format.specs.Header.{HasHeader, live_words, h_offset_to}
-use Rattle.heap_place.specs.declared.found.Found.{Found}
-use Rattle.heap_place.specs.Found.{IsOne}
-use Rattle.heap_place.specs.Relocation.{stand_in, KeepsFound, Copies, with_name, RelocatesToRun}
-use Rattle.heap_place.specs.Lists.{Any, KeepsFree}
-use Rattle.heap_place.proofs.FoundLaws.{heap_in_parts, middle_of, found_inside, bytes_inside, own_slot, one_held, when_movable}
+use Rattle.heap_place.proofs.FoundLaws.{heap_in_parts, middle_of, found_inside, own_slot, one_held, when_movable}
 use Rattle.heap_place.proofs.KeepLaws.{keeps_replaced, live_apart}
 use Rattle.heap_place.proofs.WithinLaws.{keeps_body}
 use Rattle.heap_place.proofs.CutLaws.{header_movable, wrote_words}
@@ -46,8 +33,8 @@ use Rattle.heap_place.proofs.AlterLaws.{changed_there, written_there}
 
 pub found_held : (image : List ℕ) (found : Found) (live : LiveChunk) → HeapAccepted image → held image found.name.0 ≡ Some live → place_of image found.name.0 ≡ Some found.place.0 → found.length ≡ length live.bytes → found.lock ≡ live.lock → found.owner ≡ live.owner → IsOne image found
 found_held image found live h is there count lock owner =
-    let k = held_finds image found.name.0 live h is in
-    let place : found.place.0 ≡ k.at + 8 = same found.place.0 (k.at + 8) (sym there ∙ finds_place image found.name.0 live k.chunk k.at h k.finds) in
+    let k = held_finds _ found.name.0 live h is in
+    let place : found.place.0 ≡ k.at + 8 = same found.place.0 (k.at + 8) (sym there ∙ finds_place _ _ _ _ _ h k.finds) in
     let at : k.at ≡ found.place.0 - 8 = omega arith in
     record {
       live = live;
@@ -66,91 +53,90 @@ pub one_placed : (image : List ℕ) (found : Found) → HeapAccepted image → I
 one_placed image found h f =
     let low = f.behind_header in
     let there : found.place.0 - 8 + 8 ≡ found.place.0 = omega arith in
-    finds_place image found.name.0 f.live f.chunk (found.place.0 - 8) h f.finds ∙ ap some_place there where
+    finds_place _ _ _ _ _ h f.finds ∙ ap some_place there where
       some_place : ℕ → Option ℕ
       some_place n = Some n
 
 -- where another name alone changes it is found as before
-pub found_kept : (old new : List ℕ) (name : ℕ) (now : Option LiveChunk) (there : Option ℕ) (found : Found) → HeapAccepted old → ChangesName old new name now there → found.name.0 ≢ name → IsOne old found → IsOne new found
-found_kept old new name now there found h ch apart f =
-    found_held new found f.live ch.frame.accepted (ch.others found.name.0 apart ∙ one_held old found h f) (ch.places found.name.0 apart ∙ one_placed old found h f) f.count f.lock_is f.owner_is
+pub found_kept : {old new : List ℕ} {name : ℕ} {now : Option LiveChunk} {there : Option ℕ} (found : Found) → HeapAccepted old → ChangesName old new name now there → found.name.0 ≢ name → IsOne old found → IsOne new found
+found_kept found h ch apart f =
+    found_held _ found f.live ch.frame.accepted (ch.others found.name.0 apart ∙ one_held _ found h f) (ch.places found.name.0 apart ∙ one_placed _ found h f) f.count f.lock_is f.owner_is
 
 -- ---- the stand-in
 
 abbrev pub zeros_live : ℕ → LiveChunk
 zeros_live count = fixed_live (replicate count 0) 1
 
-pub stand_changes : (old new : List ℕ) (at size count : ℕ) → HeapAccepted old → IsSpot old at size → need count ≤ size → Claims old new at size (fixed (replicate count 0) 1) → ChangesName old new (fixed_name at) (Some (zeros_live count)) (Some (at + 8))
-stand_changes old new at size count h r fits x =
+pub stand_changes : {old : List ℕ} (new : List ℕ) {at size : ℕ} (count : ℕ) → HeapAccepted old → IsSpot old at size → need count ≤ size → Claims old new at size (fixed (replicate count 0) 1) → ChangesName old new (fixed_name at) (Some (zeros_live count)) (Some (at + 8))
+stand_changes new {at} count h r fits x =
     let many : length (replicate {A = ℕ} count 0) ≡ count = length-replicate count 0 in
     let takes : need (length (replicate {A = ℕ} count 0)) ≡ need count = ap need many in
-    claims_change old new at size (fixed_name at) (zeros_live count) (fixed (replicate count 0) 1) h (omega arith) r (spot_unheld old at size h (omega arith) r) x (omega arith) (fixed_has_name at (replicate count 0) 1 (omega arith))
+    claims_change _ _ _ _ (fixed_name at) (zeros_live count) (fixed (replicate count 0) 1) h (omega arith) r (spot_unheld _ _ _ h (omega arith) r) x (omega arith) (fixed_has_name at (replicate count 0) 1 (omega arith))
 
-pub stands_there : (old new : List ℕ) (at size count : ℕ) → HeapAccepted old → IsSpot old at size → need count ≤ size → Claims old new at size (fixed (replicate count 0) 1) → IsOne new (stand_in at count)
-stands_there old new at size count h r fits x =
-    let ch = stand_changes old new at size count h r fits x in
-    found_held new (stand_in at count) (zeros_live count) ch.frame.accepted ch.here ch.place (sym (length-replicate count 0)) refl refl
+pub stands_there : {old : List ℕ} (new : List ℕ) {at size : ℕ} (count : ℕ) → HeapAccepted old → IsSpot old at size → need count ≤ size → Claims old new at size (fixed (replicate count 0) 1) → IsOne new (stand_in at count)
+stands_there new {at} count h r fits x =
+    let ch = stand_changes _ count h r fits x in
+    found_held _ (stand_in at count) (zeros_live count) ch.frame.accepted ch.here ch.place (sym (length-replicate count 0)) refl refl
 
 -- nothing else has its name
-pub stand_apart : (old : List ℕ) (at size count : ℕ) (found : Found) → HeapAccepted old → IsSpot old at size → need count ≤ size → IsOne old found → found.name.0 ≢ fixed_name at
-stand_apart old at size count found h r fits f e =
-    let none = spot_unheld old at size h (omega arith) r in
-    absurd (no f.live (sym (one_held old found h f) ∙ ap (held old) e ∙ none)) where
+pub stand_apart : {old : List ℕ} {at size : ℕ} (count : ℕ) (found : Found) → HeapAccepted old → IsSpot old at size → need count ≤ size → IsOne old found → found.name.0 ≢ fixed_name at
+stand_apart {old} count found h r fits f e =
+    let none = spot_unheld _ _ _ h (omega arith) r in
+    absurd (no f.live (sym (one_held _ found h f) ∙ ap (held old) e ∙ none)) where
       no : (live : LiveChunk) → Some live ≡ None → ⊥
       no live x = absurd cc
 
-pub stand_keeps : (old new : List ℕ) (at size count : ℕ) → HeapAccepted old → IsSpot old at size → need count ≤ size → Claims old new at size (fixed (replicate count 0) 1) → KeepsFound old new
-stand_keeps old new at size count h r fits x found f = found_kept old new (fixed_name at) _ _ found h (stand_changes old new at size count h r fits x) (stand_apart old at size count found h r fits f) f
+pub stand_keeps : {old : List ℕ} (new : List ℕ) {at size : ℕ} (count : ℕ) → HeapAccepted old → IsSpot old at size → need count ≤ size → Claims old new at size (fixed (replicate count 0) 1) → KeepsFound old new
+stand_keeps new count h r fits x found f = found_kept found h (stand_changes _ count h r fits x) (stand_apart count found h r fits f) f
 
 -- ---- a fixed chunk gets the name of a slot
 
-pub named_write : (old mid new : List ℕ) (at name : ℕ) (live : LiveChunk) (bytes : List ℕ) (holder owner slot : ℕ) → HeapAccepted old → (f : Finds old name live (fixed bytes holder) at) → IsSlot old slot → u32_at old slot ≡ 0
+pub named_write : {old mid new : List ℕ} {at name : ℕ} {live : LiveChunk} {bytes : List ℕ} {holder owner slot : ℕ} → HeapAccepted old → (f : Finds old name live (fixed bytes holder) at) → IsSlot old slot → u32_at old slot ≡ 0
     → mid ≡ overwritten old at (live_words (length bytes) 0 owner (h_offset_to at slot)) → HasHeader mid at (headers.Movable (length bytes) 0 owner slot) → new ≡ overwritten mid slot (u32_bytes (at + 8))
     → Becomes old new (f.before ++ movable bytes 0 owner slot ∷ f.after) × WritesPlain old new × KeepsFree Any old new
-named_write old mid new at name live bytes holder owner slot h f s empty mid_is header new_is =
+named_write {old} {mid} {new} {at} {name} {live} {bytes} {holder} {owner} {slot} h f s empty mid_is header new_is =
     let c : Chunk = fixed bytes holder in
     let d : Chunk = movable bytes 0 owner slot in
-    let heap = heap_in_parts old (f.before ++ c ∷ f.after) h f.chunks in
-    let m = middle_of old f.before (c ∷ []) f.after at heap f.there in
+    let heap = heap_in_parts _ _ h f.chunks in
+    let m = middle_of _ f.before (c ∷ []) f.after _ heap f.there in
     let inside = m.inside in
-    let there = f.there in
-    let slot_inside = (slot_facts old h.0 slot h.1.tiles s).inside in
-    let none = named_hold_none old f.before c [] f.after name live heap (subst (λ (n : ℕ). NamedHere name live n c) f.there f.named) tt in
-    let beside = slot_beside old f.before (c ∷ []) f.after at slot heap.tiles none f.there s in
-    let first : WroteWithin old mid at (at + 8) = wrote_words old mid at (length bytes) 0 owner (h_offset_to at slot) (omega arith) mid_is in
+    let slot_inside = (slot_facts _ _ _ h.1.tiles s).inside in
+    let none = named_hold_none _ f.before c [] f.after name live heap (subst (λ (n : ℕ). NamedHere name live n c) f.there f.named) tt in
+    let beside = slot_beside _ f.before (c ∷ []) f.after _ _ heap.tiles none f.there s in
+    let first = wrote_words old _ at (length bytes) 0 owner (h_offset_to at slot) (omega arith) mid_is in
     let len = first.len in
-    let word : WroteWithin mid new slot (slot + 4) = wrote_word mid new slot (at + 8) new_is (omega arith) in
-    let was : Spelled old at c = finds_spelled old name live c at h f in
+    let word = wrote_word mid _ slot (at + 8) new_is (omega arith) in
+    let was : Spelled old at c = finds_spelled _ _ _ _ _ h f in
     let k = header_movable (length bytes) 0 owner slot header.chunk header.header_is in
     let now : Spelled mid at (movable k.0 0 owner slot) = subst (λ (x : Chunk). Spelled mid at x) k.1.0 header.spelled in
-    let same : k.0 ≡ bytes = body_stays old mid at bytes k.0 fixed_lock holder 0 0 owner now.0 (plain-callers fixed_lock holder (fixed_owned at bytes holder f.named)) (plain-movable 0 owner now.2) was now.1 k.1.1 first in
+    let same = body_stays _ _ _ _ _ _ _ _ _ _ _ (plain-callers fixed_lock holder (fixed_owned at bytes holder f.named)) (plain-movable 0 owner now.2) was now.1 k.1.1 first in
     let spelled_mid : Spelled mid at d = subst (λ (x : List ℕ). Spelled mid at (movable x 0 owner slot)) same now in
-    let spelled : Spelled new at d = Spelled-same mid new at d (beside_same mid new slot at (at + (need (length bytes) + 0)) at (at + need (length bytes)) word beside (omega arith) (omega arith) (omega arith)) word.len spelled_mid in
-    let all : WroteWithin old mid at (at + (need (length bytes) + 0)) = wrote_wider old mid at (at + 8) at (at + (need (length bytes) + 0)) first (omega arith) (omega arith) in
+    let spelled = Spelled-same mid new at d (beside_same _ _ _ at (at + (need (length bytes) + 0)) at (at + need (length bytes)) word beside (omega arith) (omega arith) (omega arith)) word.len spelled_mid in
+    let all = wrote_wider _ _ _ _ at (at + (need (length bytes) + 0)) first (omega arith) (omega arith) in
     let area : WroteArea old new at (at + (need (length bytes) + 0)) = record { mid = mid; slot = slot; area = all; word = word; is_slot = inr s; there = omega arith; fits = omega arith } in
-    let replaces = area_replaces old new f.before (c ∷ []) (d ∷ []) f.after at heap.tiles none f.there m.inside area (spelled, omega arith) in
+    let replaces = area_replaces _ _ f.before (c ∷ []) (d ∷ []) f.after _ heap.tiles none f.there m.inside area (spelled, omega arith) in
     let holds : u32_at new slot ≡ at + 8 = ap (λ (x : List ℕ). u32_at x slot) new_is ∙ u32_at-written (at + 8) slot mid (omega arith) (omega arith) in
-    let others : OtherSlots old new slot = record { same = λ t ts ne. area_slots old new f.before (c ∷ []) f.after at t heap.tiles none f.there area ts (λ e. ne (sym e)) } in
-    let done = claimed old new f.before f.after at c bytes owner slot tt heap replaces s empty holds others in (
-      becomes_heap old new (f.before ++ d ∷ f.after) replaces.head done,
-      replaced_plain old new f.before (c ∷ []) (d ∷ []) f.after at f.chunks done replaces (lives_plain new at (d ∷ []) refl),
-      λ there any b. keeps_replaced old new f.before (c ∷ []) (d ∷ []) f.after at h f.chunks done replaces there (live_apart at there c (λ size e. absurd cc)) b,
+    let others : OtherSlots old new slot = record { same = λ t ts ne. area_slots _ _ f.before (c ∷ []) f.after _ _ heap.tiles none f.there area ts (λ e. ne (sym e)) } in
+    let done = claimed _ _ _ _ _ _ _ _ _ tt heap replaces s empty holds others in (
+      becomes_heap _ _ _ replaces.head done,
+      replaced_plain _ _ _ _ _ _ _ f.chunks done replaces (lives_plain new at (d ∷ []) refl),
+      λ other any b. keeps_replaced _ _ _ _ _ _ _ h f.chunks done replaces other (live_apart at other c (λ size e. absurd cc)) b,
     )
 
 -- by what was found
-pub named_there : (old mid new : List ℕ) (there : Found) (owner slot : ℕ) → HeapAccepted old → IsOne old there → there.lock ≡ fixed_lock → IsSlot old slot → u32_at old slot ≡ 0
+pub named_there : {old mid new : List ℕ} (there : Found) {owner slot : ℕ} → HeapAccepted old → IsOne old there → there.lock ≡ fixed_lock → IsSlot old slot → u32_at old slot ≡ 0
     → mid ≡ overwritten old (there.place.0 - 8) (live_words there.length 0 owner (h_offset_to (there.place.0 - 8) slot)) → HasHeader mid (there.place.0 - 8) (headers.Movable there.length 0 owner slot) → new ≡ overwritten mid slot (u32_bytes there.place.0)
     → Alters old new (there.place.0 - 8) (with_name owner slot) × WritesPlain old new × KeepsFree Any old new
-named_there old mid new there owner slot h one is_fixed s empty mid_is header new_is =
+named_there {old} {mid} {new} there {owner} {slot} h one is_fixed s empty mid_is header new_is =
     let done = by_chunk one.live one.chunk one.finds one.count one.lock_is in
-    (changed_there old new there (with_name owner slot) h one done.0, done.1, done.2) where
+    (changed_there _ _ there (with_name owner slot) h one done.0, done.1, done.2) where
       at : ℕ
       at = there.place.0 - 8
 
       by_chunk : (live : LiveChunk) (c : Chunk) (f : Finds old there.name.0 live c at) → there.length ≡ length live.bytes → there.lock ≡ live.lock → Becomes old new (f.before ++ with_name owner slot c ∷ f.after) × WritesPlain old new × KeepsFree Any old new
       by_chunk live (free size) f count lock_is = absurd f.named
       by_chunk live (movable bytes lock holder named) f count lock_is =
-          let s : Spelled old at (movable bytes lock holder named) = finds_spelled old there.name.0 live (movable bytes lock holder named) at h f in
+          let s : Spelled old at (movable bytes lock holder named) = finds_spelled _ _ _ _ _ h f in
           let fits = s.2 in
           let e : lock ≡ live.lock = ap (λ (x : LiveChunk). x.lock) f.named.1 in
           absurd (omega (arith, is_fixed, lock_is))
@@ -158,43 +144,43 @@ named_there old mid new there owner slot h one is_fixed s empty mid_is header ne
           let same : there.length ≡ length bytes = count ∙ ap (λ (x : LiveChunk). length x.bytes) (sym (fixed_live_is at bytes holder f.named)) in
           let low = one.behind_header in
           let body : there.place.0 ≡ at + 8 = omega arith in
-          named_write old mid new at there.name.0 live bytes holder owner slot h f s empty (mid_is ∙ ap (λ (n : ℕ). overwritten old at (live_words n 0 owner (h_offset_to at slot))) same)
+          named_write h f s empty (mid_is ∙ ap (λ (n : ℕ). overwritten old at (live_words n 0 owner (h_offset_to at slot))) same)
           (subst (λ (n : ℕ). HasHeader mid at (headers.Movable n 0 owner slot)) same header) (new_is ∙ ap (λ (n : ℕ). overwritten mid slot (u32_bytes n)) body)
 
 -- its header and the slot can be written
-pub named_writable : (image : List ℕ) (there : Found) (slot : ℕ) → HeapAccepted image → IsOne image there → IsSlot image slot → (need there.length < 2 ^ 24) × (slot < 2 ^ 24) × (slot % 2 ≡ (there.place.0 - 8) % 2)
-named_writable image there slot h one s =
-    let inside = found_inside image there h one in
-    let m = middle_of image one.finds.before (one.chunk ∷ []) one.finds.after (there.place.0 - 8) (heap_in_parts image (one.finds.before ++ one.chunk ∷ one.finds.after) h one.finds.chunks) one.finds.there in
+pub named_writable : {image : List ℕ} (there : Found) {slot : ℕ} → HeapAccepted image → IsOne image there → IsSlot image slot → (need there.length < 2 ^ 24) × (slot < 2 ^ 24) × (slot % 2 ≡ (there.place.0 - 8) % 2)
+named_writable there h one s =
+    let inside = found_inside _ there h one in
+    let m = middle_of _ one.finds.before (one.chunk ∷ []) one.finds.after _ (heap_in_parts _ _ h one.finds.chunks) one.finds.there in
     let whole = m.start_whole in
     let most = m.most in
-    let facts = slot_facts image h.0 slot h.1.tiles s in
+    let facts = slot_facts _ _ _ h.1.tiles s in
     let slot_inside = facts.inside in let four = facts.whole in
     (omega arith, omega arith, omega arith)
 
 -- the header leaves the table where it is
-pub header_table : (old mid : List ℕ) (there : Found) (owner slot : ℕ) → HeapAccepted old → IsOne old there → IsSlot old slot → mid ≡ overwritten old (there.place.0 - 8) (live_words there.length 0 owner (h_offset_to (there.place.0 - 8) slot)) → TablesLie mid × IsSlot mid slot
-header_table old mid there owner slot h one s mid_is =
-    let inside = found_inside old there h one in
+pub header_table : {old mid : List ℕ} (there : Found) (owner : ℕ) {slot : ℕ} → HeapAccepted old → IsOne old there → IsSlot old slot → mid ≡ overwritten old (there.place.0 - 8) (live_words there.length 0 owner (h_offset_to (there.place.0 - 8) slot)) → TablesLie mid × IsSlot mid slot
+header_table {old} {mid} there owner {slot} h one s mid_is =
+    let inside = found_inside _ there h one in
     let f = one.finds in
     let at : ℕ = there.place.0 - 8 in
-    let heap : IsHeap old (f.before ++ ((one.chunk ∷ []) ++ f.after)) = heap_in_parts old (f.before ++ one.chunk ∷ f.after) h f.chunks in
-    let none = named_hold_none old f.before one.chunk [] f.after there.name.0 one.live heap (subst (λ (n : ℕ). NamedHere there.name.0 one.live n one.chunk) f.there f.named) tt in
-    let least = (Spelled-size old at one.chunk (finds_spelled old there.name.0 one.live one.chunk at h f)).0 in
-    let w = wrote_words old mid at there.length 0 owner (h_offset_to at slot) inside mid_is in
-    table_kept old mid f.before (one.chunk ∷ []) f.after at slot heap.tiles none f.there (wrote_wider old mid at (at + 8) at (at + total (one.chunk ∷ [])) w (omega arith) (omega arith)) s
+    let heap = heap_in_parts _ _ h f.chunks in
+    let none = named_hold_none _ f.before one.chunk [] f.after there.name.0 one.live heap (subst (λ (n : ℕ). NamedHere there.name.0 one.live n one.chunk) f.there f.named) tt in
+    let least = (Spelled-size old at one.chunk (finds_spelled _ _ _ _ _ h f)).0 in
+    let w = wrote_words old _ at there.length 0 owner (h_offset_to at slot) inside mid_is in
+    table_kept _ mid f.before (one.chunk ∷ []) f.after _ _ heap.tiles none f.there (wrote_wider _ _ _ _ at (at + total (one.chunk ∷ [])) w (omega arith) (omega arith)) s
 
 -- ---- bytes are copied
 
-found_bytes : (image : List ℕ) (found : Found) → HeapAccepted image → (f : IsOne image found) → slice_range image found.place.0 (found.place.0 + found.length) ≡ f.live.bytes
-found_bytes image found h f =
+found_bytes : {image : List ℕ} (found : Found) → HeapAccepted image → (f : IsOne image found) → slice_range image found.place.0 (found.place.0 + found.length) ≡ f.live.bytes
+found_bytes {image} found h f =
     let low = f.behind_header in
     let body : found.place.0 - 8 + 8 ≡ found.place.0 = omega arith in
-    ap (λ (n : ℕ). slice_range image found.place.0 (found.place.0 + n)) f.count ∙ ap (λ (n : ℕ). slice_range image n (n + length f.live.bytes)) (sym body) ∙ (finds_body image found.name.0 f.live f.chunk (found.place.0 - 8) h f.finds).bytes
+    ap (λ (n : ℕ). slice_range image found.place.0 (found.place.0 + n)) f.count ∙ ap (λ (n : ℕ). slice_range image n (n + length f.live.bytes)) (sym body) ∙ (finds_body _ _ _ _ _ h f.finds).bytes
 
 -- the first of them
-first_bytes : (image bytes : List ℕ) (at all n most : ℕ) → slice_range image at (at + all) ≡ bytes → length bytes ≡ all → n ≡ min all most → slice_range image at (at + n) ≡ take most bytes
-first_bytes image bytes at all n most e len is =
+first_bytes : (image : List ℕ) {bytes : List ℕ} (at : ℕ) {all n : ℕ} (most : ℕ) → slice_range image at (at + all) ≡ bytes → length bytes ≡ all → n ≡ min all most → slice_range image at (at + n) ≡ take most bytes
+first_bytes image {bytes} at {all} {n} most e len is =
     let some : at + n - at ≡ n = omega arith in
     let whole : at + all - at ≡ all = omega arith in
     let read : take all (drop at image) ≡ bytes = ap (λ (k : ℕ). take k (drop at image)) (sym whole) ∙ e in
@@ -207,33 +193,35 @@ first_bytes image bytes at all n most e len is =
 pub taken_fits : (most : ℕ) (bytes : List ℕ) → length (take most bytes) ≤ most
 taken_fits most bytes = let e = length-take most bytes in omega arith
 
-pub copied_there : (old new : List ℕ) (from to : Found) (n : ℕ) → HeapAccepted old → (f : IsOne old from) → IsOne old to → n ≡ min from.length to.length → new ≡ overwritten old to.place.0 (slice_range old from.place.0 (from.place.0 + n)) → Alters old new (to.place.0 - 8) (with_bytes 0 (take to.length f.live.bytes)) × WritesPlain old new
-copied_there old new from to n h f one is new_is =
-    let part = first_bytes old f.live.bytes from.place.0 from.length n to.length (found_bytes old from h f) (sym f.count) is in
-    let fits : length (take to.length f.live.bytes) ≤ to.length = taken_fits to.length f.live.bytes in
-    let front : to.place.0 ≡ to.place.0 + 0 = omega arith in
-    written_there old new to 0 (take to.length f.live.bytes) h one (omega arith) (new_is ∙ ap (overwritten old to.place.0) part ∙ ap (λ (k : ℕ). overwritten old k (take to.length f.live.bytes)) front)
-
-copy_changes : (old new : List ℕ) (to : Found) (part : List ℕ) → HeapAccepted old → (one : IsOne old to) → length part ≤ to.length → Alters old new (to.place.0 - 8) (with_bytes 0 part)
+copy_changes : {old : List ℕ} (new : List ℕ) (to : Found) (part : List ℕ) → HeapAccepted old → (one : IsOne old to) → length part ≤ to.length → Alters old new (to.place.0 - 8) (with_bytes 0 part)
     → ChangesName old new to.name.0 (Some (record one.live { bytes = overwritten one.live.bytes 0 part })) (Some to.place.0)
-copy_changes old new to part h one fits x = let count = one.count in bytes_changes old new to.name.0 to.place.0 0 part one.live one.chunk h one.behind_header one.finds (omega arith) x
+copy_changes new to part h one fits x = let count = one.count in bytes_changes _ new _ to.place.0 0 part _ _ h one.behind_header one.finds (omega arith) x
 
-pub copy_keeps : (old new : List ℕ) (to other : Found) (part : List ℕ) → HeapAccepted old → (one : IsOne old to) → length part ≤ to.length → Alters old new (to.place.0 - 8) (with_bytes 0 part) → other.name.0 ≢ to.name.0 → IsOne old other → IsOne new other
-copy_keeps old new to other part h one fits x apart f = found_kept old new to.name.0 _ _ other h (copy_changes old new to part h one fits x) apart f
+-- what a copy of the bytes of one chunk to another makes
+pub record CopiedTo (old new : List ℕ) (to : Found) (part : List ℕ) : Type 0 where
+  pub made : Alters old new (to.place.0 - 8) (with_bytes 0 part)
+  pub plain : WritesPlain old new
+  pub keeps : KeepsFree Any old new
+  pub stands : IsOne new to
+  pub others : (other : Found) → other.name.0 ≢ to.name.0 → IsOne old other → IsOne new other
 
-pub copy_stands : (old new : List ℕ) (to : Found) (part : List ℕ) → HeapAccepted old → IsOne old to → length part ≤ to.length → Alters old new (to.place.0 - 8) (with_bytes 0 part) → IsOne new to
-copy_stands old new to part h one fits x =
-    let ch = copy_changes old new to part h one fits x in
-    let count = one.count in
-    found_held new to (record one.live { bytes = overwritten one.live.bytes 0 part }) ch.frame.accepted ch.here ch.place (one.count ∙ sym (length-overwritten one.live.bytes 0 part (omega arith))) one.lock_is one.owner_is
-
--- no free chunk is written
-pub copied_keeps : (old new : List ℕ) (from to : Found) (n : ℕ) → HeapAccepted old → IsOne old from → IsOne old to → n ≡ min from.length to.length → new ≡ overwritten old to.place.0 (slice_range old from.place.0 (from.place.0 + n)) → KeepsFree Any old new
-copied_keeps old new from to n h f one is new_is =
-    let inside = bytes_inside old from h f in
-    let many : length (slice_range old from.place.0 (from.place.0 + n)) ≡ n = simp (length-take, length-drop) (omega arith) in
-    let front : to.place.0 ≡ to.place.0 + 0 = omega arith in
-    keeps_body old new to 0 (slice_range old from.place.0 (from.place.0 + n)) h one (omega arith) (new_is ∙ ap (λ (k : ℕ). overwritten old k (slice_range old from.place.0 (from.place.0 + n))) front)
+pub copied_there : {old new : List ℕ} (from to : Found) {n : ℕ} → HeapAccepted old → (f : IsOne old from) → IsOne old to → n ≡ min from.length to.length → new ≡ overwritten old to.place.0 (slice_range old from.place.0 (from.place.0 + n))
+    → CopiedTo old new to (take to.length f.live.bytes)
+copied_there {old} {new} from to h f one is new_is =
+    let part : List ℕ = take to.length f.live.bytes in
+    let first = first_bytes old from.place.0 to.length (found_bytes from h f) (sym f.count) is in
+    let few : length part ≤ to.length = taken_fits to.length f.live.bytes in
+    let start : to.place.0 ≡ to.place.0 + 0 = omega arith in
+    let whole = new_is ∙ ap (overwritten old to.place.0) first ∙ ap (λ (k : ℕ). overwritten old k part) start in
+    let there = written_there _ _ to 0 part h one (omega (arith, few)) whole in
+    let ch = copy_changes new to part h one few there.0 in
+    record {
+      made = there.0;
+      plain = there.1;
+      keeps = keeps_body _ _ to 0 part h one (omega (arith, few)) whole;
+      stands = found_held _ to (record one.live { bytes = overwritten one.live.bytes 0 part }) ch.frame.accepted ch.here ch.place (one.count ∙ sym (length-overwritten one.live.bytes 0 part (omega (arith, few, one.count)))) one.lock_is one.owner_is;
+      others = λ other apart g. found_kept other h ch apart g;
+    }
 
 -- ---- all steps
 
@@ -248,16 +236,16 @@ padded count bytes =
       rest k n e = drop-replicate k count 0 ∙ ap (λ (m : ℕ). replicate m 0) e
 
 -- what is found under a name twice is the same
-same_found : (old new : List ℕ) (found : Found) → HeapAccepted old → HeapAccepted new → held new found.name.0 ≡ held old found.name.0 → (f : IsOne old found) (g : IsOne new found) → g.live ≡ f.live
-same_found old new found h k e f g = same f.live g.live (sym (one_held new found k g) ∙ e ∙ one_held old found h f) where
+same_found : {old new : List ℕ} (found : Found) → HeapAccepted old → HeapAccepted new → held new found.name.0 ≡ held old found.name.0 → (f : IsOne old found) (g : IsOne new found) → g.live ≡ f.live
+same_found found h k e f g = same f.live g.live (sym (one_held _ found k g) ∙ e ∙ one_held _ found h f) where
   same : (x y : LiveChunk) → Some y ≡ Some x → y ≡ x
   same x y e = cc
 
-pub relocated_found : (s0 s1 s2 s3 s4 : List ℕ) (found there : Found) (at size count : ℕ) → HeapAccepted s0 → (f : IsOne s0 found) → found.lock ≡ 0 → IsSpot s0 at size → need count ≤ size → there ≡ stand_in at count → Claims s0 s1 at size (fixed (replicate count 0) 1) → KeepsFound s0 s1 → Copies s1 s2 found there
+pub relocated_found : {s0 : List ℕ} (s1 s2 s3 s4 : List ℕ) (found : Found) {there : Found} {at size : ℕ} (count : ℕ) → HeapAccepted s0 → (f : IsOne s0 found) → found.lock ≡ 0 → IsSpot s0 at size → need count ≤ size → there ≡ stand_in at count → Claims s0 s1 at size (fixed (replicate count 0) 1) → KeepsFound s0 s1 → Copies s1 s2 found there
     → Alters s2 s3 (found.place.0 - 8) freed → Alters s3 s4 (there.place.0 - 8) (with_name found.owner found.name.0) → Relocates s0 s4 (found.place.0 - 8) at size (with_length count f.chunk)
-relocated_found s0 s1 s2 s3 s4 found there at size count h f unlocked r fits is made keeps copied gone named = when_movable s0 found.name.0 found f (λ c g. Relocates s0 s4 (found.place.0 - 8) at size (with_length count c)) (λ e. omega arith) of_movable where
+relocated_found {s0} s1 s2 s3 s4 found {there} {at} {size} count h f unlocked r fits is made keeps copied gone named = when_movable _ _ _ f (λ c g. Relocates s0 s4 (found.place.0 - 8) at size (with_length count c)) (λ e. omega arith) of_movable where
   first : ChangesName s0 s1 (at + 8) (Some (zeros_live count)) (Some (at + 8))
-  first = stand_changes s0 s1 at size count h r fits made
+  first = stand_changes _ count h r fits made
 
   again : IsOne s1 found
   again = keeps found f
@@ -269,7 +257,7 @@ relocated_found s0 s1 s2 s3 s4 found there at size count h f unlocked r fits is 
   taken = ap (λ (x : Found). x.length) is
 
   part_is : again.live ≡ f.live
-  part_is = same_found s0 s1 found h first.frame.accepted (first.others found.name.0 (stand_apart s0 at size count found h r fits f)) f again
+  part_is = same_found found h first.frame.accepted (first.others found.name.0 (stand_apart count found h r fits f)) f again
 
   of_movable : (bytes : List ℕ) (lock owner slot : ℕ) (g : Finds s0 found.name.0 f.live (movable bytes lock owner slot) (found.place.0 - 8)) → Relocates s0 s4 (found.place.0 - 8) at size (movable (sized_to bytes count) lock owner slot)
   of_movable bytes lock owner slot g =
@@ -285,38 +273,38 @@ relocated_found s0 s1 s2 s3 s4 found there at size count h f unlocked r fits is 
       let d_takes : size_of d ≡ need count = ap need sized in
       let f_takes : size_of (fixed zeros 1) ≡ need count = ap need many in
       let e_takes : size_of (fixed (overwritten zeros 0 part) 1) ≡ need count = ap (λ (x : List ℕ). need (length x)) padded_are ∙ d_takes in
-      relocates s0 s1 s2 s3 s4 (found.place.0 - 8) at size g.before bytes lock owner slot g.after (fixed zeros 1) (fixed (overwritten zeros 0 part) 1) d (with_bytes 0 part) (with_name found.owner found.name.0) h g.chunks g.there (omega arith) (omega arith) tt tt (f_takes ∙ sym d_takes) (e_takes ∙ sym d_takes) refl
+      relocates _ _ s2 s3 s4 _ _ _ g.before bytes lock owner slot g.after (fixed zeros 1) (fixed (overwritten zeros 0 part) 1) _ (with_bytes 0 part) (with_name found.owner found.name.0) h g.chunks g.there (omega arith) (omega arith) tt tt (f_takes ∙ sym d_takes) (e_takes ∙ sym d_takes) refl
       (ap (λ (x : List ℕ). movable x 0 found.owner found.name.0) padded_are ∙ ap (λ (n : ℕ). movable (sized_to bytes count) n found.owner found.name.0) lock_zero ∙ ap (λ (n : ℕ). movable (sized_to bytes count) lock n found.name.0) owner_same ∙ ap (λ (n : ℕ). movable (sized_to bytes count) lock owner n) (sym g.named.0))
       made (subst (λ (n : ℕ). Alters s1 s2 n (with_bytes 0 part)) place (subst (λ (n : ℕ). Alters s1 s2 (there.place.0 - 8) (with_bytes 0 (take n again.live.bytes))) taken (copied again))) gone (subst (λ (n : ℕ). Alters s3 s4 n (with_name found.owner found.name.0)) place named)
 
 -- once the chunk is free its slot is empty, and the stand-in is still there
-pub slot_emptied : (old new : List ℕ) (found : Found) → HeapAccepted old → IsOne old found → found.lock ≡ 0 → Alters old new (found.place.0 - 8) freed → IsSlot new found.name.0 × (u32_at new found.name.0 ≡ 0)
-slot_emptied old new found h f unlocked x =
-    let ch = freed_changes old new found.name.0 (found.place.0 - 8) f.live f.chunk h f.finds x in
+pub slot_emptied : {old : List ℕ} (new : List ℕ) (found : Found) → HeapAccepted old → IsOne old found → found.lock ≡ 0 → Alters old new (found.place.0 - 8) freed → IsSlot new found.name.0 × (u32_at new found.name.0 ≡ 0)
+slot_emptied {old} new found h f unlocked x =
+    let ch = freed_changes _ new _ _ _ _ h f.finds x in
     let was : IsSlot old found.name.0 =
-    when_movable old found.name.0 found f (λ c g. IsSlot old found.name.0) (λ e. omega arith) (λ bytes lock owner slot g. subst (λ (n : ℕ). IsSlot old n) g.named.0 (own_slot old found.name.0 (found.place.0 - 8) f.live bytes lock owner slot h g)) in
-    let s : IsSlot new found.name.0 = slot_kept old new _ found.name.0 x was in
-    (s, (slot_unheld new found.name.0 x.frame.accepted s).1 ch.here)
+    when_movable _ _ _ f (λ c g. IsSlot old found.name.0) (λ e. omega arith) (λ bytes lock owner slot g. subst (λ (n : ℕ). IsSlot old n) g.named.0 (own_slot _ _ _ _ _ _ _ _ h g)) in
+    let s : IsSlot new found.name.0 = slot_kept _ _ _ _ x was in
+    (s, (slot_unheld _ _ x.frame.accepted s).1 ch.here)
 
-pub freed_keeps : (old new : List ℕ) (found other : Found) → HeapAccepted old → (f : IsOne old found) → Alters old new (found.place.0 - 8) freed → other.name.0 ≢ found.name.0 → IsOne old other → IsOne new other
-freed_keeps old new found other h f x apart g = found_kept old new found.name.0 _ _ other h (freed_changes old new found.name.0 (found.place.0 - 8) f.live f.chunk h f.finds x) apart g
+pub freed_keeps : {old : List ℕ} (new : List ℕ) (found other : Found) → HeapAccepted old → (f : IsOne old found) → Alters old new (found.place.0 - 8) freed → other.name.0 ≢ found.name.0 → IsOne old other → IsOne new other
+freed_keeps new found other h f x apart g = found_kept other h (freed_changes _ new _ _ _ _ h f.finds x) apart g
 
-pub owner_fits : (image : List ℕ) (found : Found) → HeapAccepted image → IsOne image found → found.owner ≤ data_owner
-owner_fits image found h f = by_chunk f.live f.chunk f.finds f.owner_is where
+pub owner_fits : {image : List ℕ} (found : Found) → HeapAccepted image → IsOne image found → found.owner ≤ data_owner
+owner_fits {image} found h f = by_chunk f.live f.chunk f.finds f.owner_is where
   by_chunk : (live : LiveChunk) (c : Chunk) (g : Finds image found.name.0 live c (found.place.0 - 8)) → found.owner ≡ live.owner → found.owner ≤ data_owner
   by_chunk live (free n) g is = absurd g.named
   by_chunk live (movable bytes lock owner slot) g is =
-      let s : Spelled image (found.place.0 - 8) (movable bytes lock owner slot) = finds_spelled image found.name.0 live (movable bytes lock owner slot) (found.place.0 - 8) h g in
+      let s = finds_spelled _ _ _ _ _ h g in
       let fits : owner < 16 = s.1.owner_fits in
       let same : owner ≡ live.owner = ap (λ (x : LiveChunk). x.owner) g.named.1 in
       omega arith
   by_chunk live (fixed bytes owner) g is =
-      let s : Spelled image (found.place.0 - 8) (fixed bytes owner) = finds_spelled image found.name.0 live (fixed bytes owner) (found.place.0 - 8) h g in
+      let s : Spelled image (found.place.0 - 8) (fixed bytes owner) = finds_spelled _ _ _ _ _ h g in
       let fits : owner < 16 = s.owner_fits in
-      let same : owner ≡ live.owner = ap (λ (x : LiveChunk). x.owner) (fixed_live_is (found.place.0 - 8) bytes owner g.named) in
+      let same = ap (λ (x : LiveChunk). x.owner) (fixed_live_is (found.place.0 - 8) bytes owner g.named) in
       omega arith
 
 -- ---- a run that had the room
 
 pub had_run : (old new : List ℕ) (found : Found) (count : ℕ) (told : Bool) → OnTrue told (RelocatesToRun old new found count) → OnTrue told (NoRun (chunks_of old) (need count) → ⊥)
-had_run old new found count told h = OnTrue_from told (NoRun (chunks_of old) (need count) → ⊥) (λ e none. let r = OnTrue_at e h in spot_is_run old r.at r.size (need count) r.room r.enough none)
+had_run old new found count told h = OnTrue_from told (NoRun (chunks_of old) (need count) → ⊥) (λ e none. let r = OnTrue_at e h in spot_is_run _ _ _ (need count) r.room r.enough none)

@@ -1,18 +1,9 @@
--- A name's chunk with another length: where it stands, elsewhere, and once a stretch has slid.
+-- A name's chunk has its new length after it grew in place, moved, or its stretch was packed.
 use Rattle.std.proofs.Common.{◌≡◌, ℕ, ◌+◌, ◌-◌, ◌<◌, ◌≤◌, List, ◌∷◌, ◌++◌, length, Bool, true, false, Option, Some, refl, sym, ap, subst, ◌∙◌, arith, inl, inr}
 use Rattle.std.proofs.lemmas.Bool.{cases_eq, OnTrue_at}
 use Rattle.std.specs.Prelude.{◌==◌, if◌then◌else◌, IsSome, IsTrue, ◌↔◌}
 use Rattle.std.specs.Bool.{OnTrue, OnFalse}
-use Rattle.heap_model.specs.Bytes.{sized_to}
-use Rattle.heap_model.specs.Chunk.{Chunk, movable, need, size_of}
-use Rattle.heap_model.specs.Heap.{HeapAccepted}
-use Rattle.heap_model.specs.Meaning.{LiveChunk}
-use Rattle.heap_model.specs.Reading.{chunks_of, held}
-use Rattle.heap_model.specs.Maps.{changed}
-use Rattle.heap_model.specs.Space.{NoRun, ShortFor, Short, FitsInPlace, MovesAlone, MovesOneStretchAnd, free_front, room_of}
-use Rattle.heap_model.specs.Layout.{IsSpot}
-use Rattle.heap_model.specs.Packing.{SlidesOneStretch, OpensBehind}
-use Rattle.heap_model.specs.Resizing.{with_length, GrowsInPlace, Relocates}
+use Rattle.heap_compact.proofs.Words.{sized_to, Chunk, movable, need, size_of, HeapAccepted, LiveChunk, chunks_of, held, changed, NoRun, ShortFor, Short, FitsInPlace, MovesAlone, MovesOneStretchAnd, free_front, room_of, IsSpot, SlidesOneStretch, OpensBehind, with_length, GrowsInPlace, Relocates, Found, Stretch, IsFound, IsOne, RelocatesFound, RelocatesToRun, TellsWhetherInPlace, IsLoose, Resized, FitsInStretch}
 use Rattle.laws_heap.proofs.SameLayouts.{frame_then}
 use Rattle.laws_heap.proofs.Exchanges.{ChangesName}
 use Rattle.laws_heap.proofs.Resizings.{live_sized, grow_changes, finds_behind, opened_behind}
@@ -23,37 +14,31 @@ use Rattle.laws_heap.proofs.Stretches.{short_for_parts, room_of-middle}
 use Rattle.laws_heap.proofs.ChangedName.{held_updated}
 use Rattle.heap_place.proofs.FoundLaws.{name_held, found_inside, middle_of, heap_in_parts, one_held, when_movable}
 use Rattle.heap_place.proofs.WalkLaws.{free_within}
-use Rattle.heap_place.specs.declared.found.Found.{Found}
-use Rattle.heap_compact.specs.declared.stretch.Stretch.{Stretch}
-use Rattle.heap_place.specs.Found.{IsFound, IsOne}
-use Rattle.heap_place.specs.Relocation.{RelocatesFound, RelocatesToRun}
-use Rattle.heap_place.specs.Resizes.{TellsWhetherInPlace}
-use Rattle.heap_compact.specs.Stretches.{IsAmong, HasRoomOf}
-use Rattle.heap_compact.specs.Resized.{IsLoose, Resized, FitsInStretch}
+use Rattle.heap_compact.specs.Stretches.{IsFoundAmong, HasRoomOf}
 
 -- what was found is the chunk of its own name
-pub one_of : (image : List ℕ) (name : ℕ) (found : Found) → IsFound image name found → IsOne image found
-one_of image name found f = subst (λ (n : ℕ). IsFound image n found) (sym f.name_is) f
+pub one_of : {image : List ℕ} {name : ℕ} {found : Found} → IsFound image name found → IsOne image found
+one_of {image} {found} f = subst (λ (n : ℕ). IsFound image n found) (sym f.name_is) f
 
 same_live : {x y : LiveChunk} → Some x ≡ Some y → x ≡ y
 same_live e = cc
 
 -- a chunk without locks is loose, and a loose one has none
-pub is_loose : (image : List ℕ) (found : Found) → HeapAccepted image → IsOne image found → found.lock ≡ 0 → IsLoose image found.name.0
-is_loose image found h f none = record { live = f.live; is_held = one_held image found h f; unlocked = sym f.lock_is ∙ none }
+pub is_loose : {image : List ℕ} (found : Found) → HeapAccepted image → IsOne image found → found.lock ≡ 0 → IsLoose image found.name.0
+is_loose found h f none = record { live = f.live; is_held = one_held _ found h f; unlocked = sym f.lock_is ∙ none }
 
-pub loose_there : (image : List ℕ) (name : ℕ) → IsLoose image name → IsSome (held image name)
-loose_there image name l = subst (λ (x : Option LiveChunk). IsSome x) (sym l.is_held) refl
+pub loose_there : {image : List ℕ} {name : ℕ} → IsLoose image name → IsSome (held image name)
+loose_there l = subst (λ (x : Option LiveChunk). IsSome x) (sym l.is_held) refl
 
-pub loose_lock : (image : List ℕ) (name : ℕ) (found : Found) → HeapAccepted image → IsLoose image name → IsFound image name found → found.lock ≡ 0
-loose_lock image name found h l f = f.lock_is ∙ ap (λ (x : LiveChunk). x.lock) (same_live (sym (name_held image name found h f) ∙ l.is_held)) ∙ l.unlocked
+pub loose_lock : {image : List ℕ} {name : ℕ} {found : Found} → HeapAccepted image → IsLoose image name → IsFound image name found → found.lock ≡ 0
+loose_lock h l f = f.lock_is ∙ ap (λ (x : LiveChunk). x.lock) (same_live (sym (name_held _ _ _ h f) ∙ l.is_held)) ∙ l.unlocked
 
 -- ---- one name has changed
 
-pub changed_resized : (old new : List ℕ) (name count : ℕ) (live : LiveChunk) (there : Option ℕ) → held old name ≡ Some live → live.lock ≡ 0 → ChangesName old new name (Some (live_sized count live)) there → Resized old new name count
-changed_resized old new name count live there e unlocked ch = record {
+pub changed_resized : {old new : List ℕ} {name : ℕ} (count : ℕ) (live : LiveChunk) {there : Option ℕ} → held old name ≡ Some live → live.lock ≡ 0 → ChangesName old new name (Some (live_sized count live)) there → Resized old new name count
+changed_resized {old} {name} count live e unlocked ch = record {
   frame = ch.frame;
-  map = λ other. held_updated old new name (Some (live_sized count live)) there ch other ∙ ap (λ (x : Option LiveChunk). if other == name then x else held old other) (ap (changed (λ (x : LiveChunk). record x { bytes = sized_to x.bytes count })) (sym e));
+  map = λ other. held_updated _ _ _ _ _ ch other ∙ ap (λ (x : Option LiveChunk). if other == name then x else held old other) (ap (changed (λ (x : LiveChunk). record x { bytes = sized_to x.bytes count })) (sym e));
   still = λ n other is locked some. elim (cases_eq n name) [
     | inl same ↦ let lock : other.lock ≡ 0 = ap (λ (x : LiveChunk). x.lock) (same_live (sym is ∙ ap (held old) same ∙ e)) ∙ unlocked in absurd (omega arith)
     | inr apart ↦ ch.places n apart
@@ -64,52 +49,52 @@ changed_resized old new name count live there e unlocked ch = record {
 pub ChangedAlone : List ℕ → List ℕ → ℕ → ℕ → Type 0
 ChangedAlone old new name count = Resized old new name count × MovesAlone old new name
 
-changed_alone : (old new : List ℕ) (name count : ℕ) (live : LiveChunk) (there : Option ℕ) → held old name ≡ Some live → live.lock ≡ 0 → ChangesName old new name (Some (live_sized count live)) there → ChangedAlone old new name count
+changed_alone : {old new : List ℕ} {name : ℕ} (count : ℕ) (live : LiveChunk) {there : Option ℕ} → held old name ≡ Some live → live.lock ≡ 0 → ChangesName old new name (Some (live_sized count live)) there → ChangedAlone old new name count
 unfolding ChangedAlone
-changed_alone old new name count live there e unlocked ch = (changed_resized old new name count live there e unlocked ch, λ other apart was is. ch.places other apart)
+changed_alone count live e unlocked ch = (changed_resized count live e unlocked ch, λ other apart was is. ch.places other apart)
 
-pub grown_resized : (old new : List ℕ) (found : Found) (count : ℕ) (told : Bool) → HeapAccepted old → IsOne old found → found.lock ≡ 0 → FitsInPlace old found.name.0 (need count) → TellsWhetherInPlace old found (need count) told → OnTrue told (GrowsInPlace old new (found.place.0 - 8) count)
+pub grown_resized : {old : List ℕ} (new : List ℕ) (found : Found) (count : ℕ) (told : Bool) → HeapAccepted old → IsOne old found → found.lock ≡ 0 → FitsInPlace old found.name.0 (need count) → TellsWhetherInPlace old found (need count) told → OnTrue told (GrowsInPlace old new (found.place.0 - 8) count)
     → ChangedAlone old new found.name.0 count
-grown_resized old new found count told h f unlocked fits tells grows =
-    let enough = fits f.live (one_held old found h f) in
-    when_movable old found.name.0 found f (λ c g. (IsTrue told ↔ (need count ≤ size_of c + free_front g.after)) → ChangedAlone old new found.name.0 count) (λ e. omega arith)
+grown_resized {old} new found count told h f unlocked fits tells grows =
+    let enough = fits f.live (one_held _ found h f) in
+    when_movable _ _ _ f (λ c g. (IsTrue told ↔ (need count ≤ size_of c + free_front g.after)) → ChangedAlone old new found.name.0 count) (λ e. omega arith)
     (λ bytes lock owner slot g tell.
-    let behind = finds_behind old found.name.0 (found.place.0 - 8) f.live bytes lock owner slot h g in
-    let same : need (length f.live.bytes) ≡ need (length bytes) = ap (λ (x : LiveChunk). need (length x.bytes)) (sym g.named.1) in
+    let behind = finds_behind _ _ _ _ _ _ _ _ h g in
+    let same = ap (λ (x : LiveChunk). need (length x.bytes)) (sym g.named.1) in
     let reaches : need count ≤ need (length bytes) + free_front g.after = omega arith in
-    changed_alone old new found.name.0 count f.live (Some found.place.0) (one_held old found h f) (sym f.lock_is ∙ unlocked)
-    (grow_changes old new found.name.0 found.place.0 count f.live (movable bytes lock owner slot) h f.behind_header g reaches (OnTrue_at (tell.1 reaches) grows)))
+    changed_alone count f.live (one_held _ found h f) (sym f.lock_is ∙ unlocked)
+    (grow_changes _ new _ found.place.0 count _ _ h f.behind_header g reaches (OnTrue_at (tell.1 reaches) grows)))
     (tells f)
 
-relocated_resized : (old new : List ℕ) (found : Found) (at size count : ℕ) → HeapAccepted old → IsOne old found → found.lock ≡ 0 → IsSpot old at size → need count ≤ size → RelocatesFound old new found at size count → ChangedAlone old new found.name.0 count
-relocated_resized old new found at size count h f unlocked r fits moved =
-    when_movable old found.name.0 found f (λ c g. Relocates old new (found.place.0 - 8) at size (with_length count c) → ChangedAlone old new found.name.0 count) (λ e. omega arith)
-    (λ bytes lock owner slot g x. changed_alone old new found.name.0 count f.live (Some (at + 8)) (one_held old found h f) (sym f.lock_is ∙ unlocked)
-    (relocate_changes old new found.name.0 (found.place.0 - 8) at size count f.live bytes lock owner slot h g r fits x))
+relocated_resized : {old : List ℕ} (new : List ℕ) (found : Found) {at size : ℕ} (count : ℕ) → HeapAccepted old → IsOne old found → found.lock ≡ 0 → IsSpot old at size → need count ≤ size → RelocatesFound old new found at size count → ChangedAlone old new found.name.0 count
+relocated_resized {old} new found {at} {size} count h f unlocked r fits moved =
+    when_movable _ _ _ f (λ c g. Relocates old new (found.place.0 - 8) at size (with_length count c) → ChangedAlone old new found.name.0 count) (λ e. omega arith)
+    (λ bytes lock owner slot g x. changed_alone count f.live (one_held _ found h f) (sym f.lock_is ∙ unlocked)
+    (relocate_changes _ new _ _ _ _ count _ _ _ _ _ h g r fits x))
     (moved f)
 
 -- of room that has the size, where there is any
-pub run_resized : (old new : List ℕ) (found : Found) (count : ℕ) → HeapAccepted old → IsOne old found → found.lock ≡ 0 → RelocatesToRun old new found count → ChangedAlone old new found.name.0 count
-run_resized old new found count h f unlocked r = relocated_resized old new found r.at r.size count h f unlocked r.room r.enough r.moved
+pub run_resized : {old new : List ℕ} {found : Found} {count : ℕ} → HeapAccepted old → IsOne old found → found.lock ≡ 0 → RelocatesToRun old new found count → ChangedAlone old new found.name.0 count
+run_resized {new} {found} {count} h f unlocked r = relocated_resized new found count h f unlocked r.room r.enough r.moved
 
-pub moved_resized : (old new : List ℕ) (found : Found) (count : ℕ) (told : Bool) → HeapAccepted old → IsOne old found → found.lock ≡ 0 → (NoRun (chunks_of old) (need count) → ⊥) → OnFalse told (NoRun (chunks_of old) (need count)) → OnTrue told (RelocatesToRun old new found count)
+pub moved_resized : {old : List ℕ} (new : List ℕ) (found : Found) (count : ℕ) (told : Bool) → HeapAccepted old → IsOne old found → found.lock ≡ 0 → (NoRun (chunks_of old) (need count) → ⊥) → OnFalse told (NoRun (chunks_of old) (need count)) → OnTrue told (RelocatesToRun old new found count)
     → ChangedAlone old new found.name.0 count
-moved_resized old new found count true h f unlocked has none moved = run_resized old new found count h f unlocked moved
-moved_resized old new found count false h f unlocked has none moved = absurd (has none)
+moved_resized new found count true h f unlocked has none moved = run_resized h f unlocked moved
+moved_resized new found count false h f unlocked has none moved = absurd (has none)
 
-pub run_not_short : (old new : List ℕ) (found : Found) (count : ℕ) → RelocatesToRun old new found count → ShortFor old found.name.0 (need count) → ⊥
-run_not_short old new found count r = spot_not_short_for old found.name.0 r.at r.size (need count) (omega arith) r.room r.enough
+pub run_not_short : {old new : List ℕ} {found : Found} {count : ℕ} → RelocatesToRun old new found count → ShortFor old found.name.0 (need count) → ⊥
+run_not_short {found} {count} r = spot_not_short_for _ found.name.0 _ _ (need count) (omega arith) r.room r.enough
 
 -- ---- a stretch has slid before
 
-pub loose_slid : (old new : List ℕ) (name : ℕ) → HeapAccepted old → SlidesOneStretch old new → IsLoose old name → IsLoose new name
-loose_slid old new name h s l = record { live = l.live; is_held = (slides_alike old new h s).holds name ∙ l.is_held; unlocked = l.unlocked }
+pub loose_slid : {old new : List ℕ} {name : ℕ} → HeapAccepted old → SlidesOneStretch old new → IsLoose old name → IsLoose new name
+loose_slid {name} h s l = record { live = l.live; is_held = (slides_alike _ _ h s).holds name ∙ l.is_held; unlocked = l.unlocked }
 
-pub slid_then : (old mid new : List ℕ) (name count : ℕ) → HeapAccepted old → SlidesOneStretch old mid → Resized mid new name count → Resized old new name count
-slid_then old mid new name count h s r =
-    let alike = slides_alike old mid h s in
+pub slid_then : {old mid : List ℕ} (new : List ℕ) (name count : ℕ) → HeapAccepted old → SlidesOneStretch old mid → Resized mid new name count → Resized old new name count
+slid_then {old} {mid} new name count h s r =
+    let alike = slides_alike _ _ h s in
     record {
-      frame = frame_then old mid new s.becomes.frame r.frame;
+      frame = frame_then _ _ _ s.becomes.frame r.frame;
       map = λ other. r.map other
           ∙ ap (λ (x : Option LiveChunk). if other == name then changed (λ (y : LiveChunk). record y { bytes = sized_to y.bytes count }) x else held mid other) (alike.holds name)
           ∙ ap (λ (x : Option LiveChunk). if other == name then changed (λ (y : LiveChunk). record y { bytes = sized_to y.bytes count }) (held old name) else x) (alike.holds other);
@@ -119,10 +104,10 @@ slid_then old mid new name count h s r =
       some_held x live e = subst (λ (y : Option LiveChunk). IsSome y) (sym e) refl
 
 -- the chunk alone moves, and others of the stretch that slid before
-pub slid_alone : (old mid new : List ℕ) (name : ℕ) → HeapAccepted old → SlidesOneStretch old mid → MovesAlone mid new name → MovesOneStretchAnd old new name
-slid_alone old mid new name h s alone =
-    let alike = slides_alike old mid h s in
-    let one = slides_move_one old mid s in
+pub slid_alone : {old mid : List ℕ} (new : List ℕ) (name : ℕ) → HeapAccepted old → SlidesOneStretch old mid → MovesAlone mid new name → MovesOneStretchAnd old new name
+slid_alone {mid} new name h s alone =
+    let alike = slides_alike _ _ h s in
+    let one = slides_move_one _ _ s in
     record {
       before = one.before;
       mid = one.mid;
@@ -136,66 +121,61 @@ slid_alone old mid new name h s alone =
 
 -- ---- in its own stretch
 
-pub opens_slides : (old new : List ℕ) (found : Found) (size : ℕ) → FitsInStretch old found size → OpensBehind old new (found.place.0 - 8) → SlidesOneStretch old new
-opens_slides old new found size k o = opens_one old new (found.place.0 - 8) k.before k.front k.bytes k.owner found.name.0 k.back k.after k.whole k.there o
+pub opens_slides : {old : List ℕ} (new : List ℕ) {found : Found} {size : ℕ} → FitsInStretch old found size → OpensBehind old new (found.place.0 - 8) → SlidesOneStretch old new
+opens_slides {old} new {found} k o = opens_one _ new _ _ k.front k.bytes k.owner found.name.0 k.back _ k.whole k.there o
 
 -- once room is opened after the chunk it fits there
-pub fits_opened : (old new : List ℕ) (found : Found) (size : ℕ) → HeapAccepted old → IsOne old found → (k : FitsInStretch old found size) → OpensBehind old new (found.place.0 - 8) → FitsInPlace new found.name.0 size
-fits_opened old new found size h f k o live e =
-    let alike = slides_alike old new h (opens_slides old new found size k o) in
-    let behind = opened_behind old new (found.place.0 - 8) k.before k.front k.bytes k.owner found.name.0 k.back k.after h k.whole k.there o in
-    let same : live ≡ f.live = same_live (sym e ∙ alike.holds found.name.0 ∙ one_held old found h f) in
+pub fits_opened : {old : List ℕ} (new : List ℕ) {found : Found} {size : ℕ} → HeapAccepted old → IsOne old found → (k : FitsInStretch old found size) → OpensBehind old new (found.place.0 - 8) → FitsInPlace new found.name.0 size
+fits_opened new {found} h f k o live e =
+    let alike = slides_alike _ _ h (opens_slides new k o) in
+    let behind = opened_behind _ new _ _ k.front k.bytes k.owner found.name.0 k.back _ h k.whole k.there o in
+    let same : live ≡ f.live = same_live (sym e ∙ alike.holds found.name.0 ∙ one_held _ found h f) in
     let many : need (length live.bytes) ≡ need (length k.bytes) = ap (λ (x : LiveChunk). need (length x.bytes)) same ∙ ap need (sym f.count ∙ k.many) in
-    let enough = k.enough in
-    omega arith
+    omega (arith, k.enough)
 
 -- the stretch that was found around it, with its room
-pub room_among_own : (image : List ℕ) (found : Found) (stretch : Stretch) (room : ℕ) → (a : IsAmong image found stretch) → HasRoomOf image stretch room → room ≡ room_of (a.front ++ a.back)
-room_among_own image found stretch room a r =
+pub room_among_own : {image : List ℕ} (found : Found) {stretch : Stretch} {room : ℕ} → (a : IsFoundAmong image found stretch) → HasRoomOf image stretch room → room ≡ room_of (a.front ++ a.back)
+room_among_own found a r =
     let is = r a.before (a.front ++ movable a.bytes 0 a.owner found.name.0 ∷ a.back) a.after a.is in
     let own = room_of-middle a.front (movable a.bytes 0 a.owner found.name.0) a.back in
     omega arith
 
-pub fits_in_stretch : (image : List ℕ) (found : Found) (stretch : Stretch) (room size : ℕ) → IsAmong image found stretch → HasRoomOf image stretch room → size ≤ need found.length + room → FitsInStretch image found size
-fits_in_stretch image found stretch room size a r enough =
-    let is = room_among_own image found stretch room a r in
+pub fits_in_stretch : {image : List ℕ} (found : Found) {stretch : Stretch} {room : ℕ} (size : ℕ) → IsFoundAmong image found stretch → HasRoomOf image stretch room → size ≤ need found.length + room → FitsInStretch image found size
+fits_in_stretch found size a r enough =
+    let is = room_among_own found a r in
     let many : need found.length ≡ need (length a.bytes) = ap need a.many in
     record { before = a.before; front = a.front; bytes = a.bytes; owner = a.owner; back = a.back; after = a.after; whole = a.is.whole; there = a.there; many = a.many; enough = omega arith }
 
-pub fits_not_short : (image : List ℕ) (found : Found) (size : ℕ) → HeapAccepted image → FitsInStretch image found size → ShortFor image found.name.0 size → ⊥
-fits_not_short image found size h k short =
-    let low = ((short_for_parts image k.before k.front k.bytes k.owner found.name.0 k.back k.after size h k.whole).0 short).1 in
+pub fits_not_short : {image : List ℕ} {found : Found} {size : ℕ} → HeapAccepted image → FitsInStretch image found size → ShortFor image found.name.0 size → ⊥
+fits_not_short {found} {size} h k short =
+    let low = ((short_for_parts _ _ k.front k.bytes k.owner found.name.0 k.back _ size h k.whole).0 short).1 in
     let enough = k.enough in
     omega arith
 
 -- where the own stretch has less the image is short for the chunk exactly where it is short
-pub short_own : (image : List ℕ) (found : Found) (stretch : Stretch) (room size : ℕ) → HeapAccepted image → IsAmong image found stretch → HasRoomOf image stretch room → need found.length + room < size → ShortFor image found.name.0 size ↔ Short image size
-short_own image found stretch room size h a r low =
-    let is = room_among_own image found stretch room a r in
+pub short_own : {image : List ℕ} (found : Found) {stretch : Stretch} {room : ℕ} (size : ℕ) → HeapAccepted image → IsFoundAmong image found stretch → HasRoomOf image stretch room → need found.length + room < size → ShortFor image found.name.0 size ↔ Short image size
+short_own found size h a r low =
+    let is = room_among_own found a r in
     let many : need found.length ≡ need (length a.bytes) = ap need a.many in
-    let parts = short_for_parts image a.before a.front a.bytes a.owner found.name.0 a.back a.after size h a.is.whole in
+    let parts = short_for_parts _ _ a.front a.bytes a.owner found.name.0 a.back _ size h a.is.whole in
     (λ s. (parts.0 s).0, λ s. parts.1 (s, omega arith))
 
 -- ---- by the name that was asked for
 
-pub resized_here : (old new : List ℕ) (name count : ℕ) (found : Found) → IsFound old name found → ChangedAlone old new found.name.0 count → Resized old new name count × MovesAlone old new name
+pub resized_here : {old : List ℕ} (new : List ℕ) {name : ℕ} (count : ℕ) {found : Found} → IsFound old name found → ChangedAlone old new found.name.0 count → Resized old new name count × MovesAlone old new name
 unfolding ChangedAlone
-resized_here old new name count found f r = subst (λ (n : ℕ). Resized old new n count × MovesAlone old new n) f.name_is r
+resized_here {old} new count f r = subst (λ (n : ℕ). Resized old new n count × MovesAlone old new n) f.name_is r
 
-pub resized_named : (old new : List ℕ) (name count : ℕ) (found : Found) → IsFound old name found → (IsOne old found → FitsInPlace old found.name.0 (need count) → ChangedAlone old new found.name.0 count) → FitsInPlace old name (need count) → Resized old new name count × MovesAlone old new name
-resized_named old new name count found f done fits = resized_here old new name count found f (done (one_of old name found f) (subst (λ (n : ℕ). FitsInPlace old n (need count)) (sym f.name_is) fits))
+pub resized_named : {old : List ℕ} (new : List ℕ) {name : ℕ} (count : ℕ) {found : Found} → IsFound old name found → (IsOne old found → FitsInPlace old found.name.0 (need count) → ChangedAlone old new found.name.0 count) → FitsInPlace old name (need count) → Resized old new name count × MovesAlone old new name
+resized_named {old} new count f done fits = resized_here new count f (done (one_of f) (subst (λ (n : ℕ). FitsInPlace old n (need count)) (sym f.name_is) fits))
 
 -- ---- what is taken and free fits into a region
 
-pub own_fits : (image : List ℕ) (found : Found) → HeapAccepted image → IsOne image found → need found.length ≤ 16777208
-own_fits image found h f = let inside = found_inside image found h f in let most = h.1.tiles.head.most in omega arith
+pub own_fits : {image : List ℕ} (found : Found) → HeapAccepted image → IsOne image found → need found.length ≤ 16777208
+own_fits found h f = let inside = found_inside _ found h f in omega (arith, h.1.tiles.head.most)
 
-pub room_fits : (image : List ℕ) (found : Found) (stretch : Stretch) (room : ℕ) → HeapAccepted image → (a : IsAmong image found stretch) → HasRoomOf image stretch room → room ≤ 16777208
-room_fits image found stretch room h a r =
+pub room_fits : {image : List ℕ} (found : Found) {stretch : Stretch} {room : ℕ} → HeapAccepted image → (a : IsFoundAmong image found stretch) → HasRoomOf image stretch room → room ≤ 16777208
+room_fits found h a r =
     let mid : List Chunk = a.front ++ movable a.bytes 0 a.owner found.name.0 ∷ a.back in
-    let is = r a.before mid a.after a.is in
-    let within = free_within mid in
-    let m = middle_of image a.before mid a.after stretch.start (heap_in_parts image (a.before ++ (mid ++ a.after)) h a.is.whole.chunks) a.is.from in
-    let inside = m.inside in
-    let most = m.most in
-    omega arith
+    let m = middle_of _ a.before mid a.after _ (heap_in_parts _ _ h a.is.whole.chunks) a.is.from in
+    omega (arith, r a.before mid a.after a.is, free_within mid, m.inside, m.most)

@@ -1,25 +1,13 @@
--- The search for the stretch around a chunk.
+-- The search finds the stretch of an unlocked chunk.
 use Rattle.std.proofs.Common.{◌≡◌, ℕ, zero, suc, ◌+◌, ◌-◌, ◌<◌, ◌≤◌, List, [], ◌∷◌, ◌++◌, length, refl, sym, ap, subst, ◌∙◌, append_assoc, arith}
 use Rattle.std.specs.Prelude.{IsTrue}
 use Rattle.std.proofs.lemmas.List.{append-nil}
-use Rattle.heap_model.specs.Chunk.{Chunk, free, movable, fixed, size_of, total, Spelled, SpelledAll}
-use Rattle.heap_model.specs.Slots.{area_start}
-use Rattle.heap_model.specs.Heap.{HeapAccepted}
-use Rattle.heap_model.specs.Reading.{chunks_of}
-use Rattle.heap_model.specs.Space.{stays, NoneStays}
-use Rattle.heap_model.specs.Packing.{EndsStaying, BeginsStaying}
-use Rattle.heap_model.specs.Meaning.{LiveChunk, NamedHere}
+use Rattle.heap_compact.proofs.Words.{Chunk, free, movable, fixed, size_of, total, Spelled, SpelledAll, area_start, HeapAccepted, chunks_of, stays_put, NoneStays, EndsStaying, BeginsStaying, LiveChunk, NamedHere, header_of, size_by, HasHeader, Header, Found, IsOne, HeaderStays, IsUnlocked, IsAmongAt, SeenUpTo}
 use Rattle.laws_heap.proofs.Slides.{none_stays-append}
 use Rattle.laws_heap.proofs.Chunks.{Spelled-size, Spelled-unique, SpelledAll-split, SpelledAll-end, SpelledAll-push, SpelledAll-rest}
 use Rattle.laws_heap.proofs.Runs.{chunk_there, chunks_after}
 use Rattle.laws_heap.proofs.FixedNames.{fixed_live_is}
-use Rattle.chunk_format.specs.Header.{header_of, size_by, HasHeader}
-use Rattle.chunk_format.specs.declared.header.Header.{Header}
 use Rattle.chunk_format.proofs.HeaderLaws.{size_by-header_of}
-use Rattle.heap_place.specs.declared.found.Found.{Found}
-use Rattle.heap_place.specs.Found.{IsOne}
-use Rattle.heap_compact.specs.Packs.{HeaderStays}
-use Rattle.heap_compact.specs.Stretches.{IsUnlocked, IsAmongAt, SeenUpTo}
 use Rattle.heap_place.proofs.FoundLaws.{heap_in_parts}
 
 -- ---- the chunk that was found
@@ -43,7 +31,7 @@ unlocked image found f none = of_chunk f.chunk f.finds.named f.finds.chunks wher
 
 -- ---- chunks that stay
 
-pub header_stay : (c : Chunk) → HeaderStays (header_of c) → IsTrue (stays c)
+pub header_stay : (c : Chunk) → HeaderStays (header_of c) → IsTrue (stays_put c)
 header_stay (free size) s = absurd s
 header_stay (movable bytes zero owner slot) s = absurd (omega (arith, s))
 header_stay (movable bytes (suc count) owner slot) s = refl
@@ -55,68 +43,62 @@ header_goes (movable bytes zero owner slot) s = tt
 header_goes (movable bytes (suc count) owner slot) s = absurd (s (let some : 0 < suc count = omega arith in some))
 header_goes (fixed bytes owner) s = absurd (s tt)
 
-pub ends_push : (xs : List Chunk) (c : Chunk) → IsTrue (stays c) → EndsStaying (xs ++ c ∷ [])
+pub ends_push : (xs : List Chunk) (c : Chunk) → IsTrue (stays_put c) → EndsStaying (xs ++ c ∷ [])
 ends_push [] c s = s
 ends_push (d ∷ []) c s = s
 ends_push (d ∷ e ∷ xs) c s = ends_push (e ∷ xs) c s
 
 -- the chunk at the offset, and those in front of it
-pub unlocked_there : (image : List ℕ) (at name count : ℕ) → HeapAccepted image → (u : IsUnlocked image at name count) → SpelledAll image (area_start image) u.before at × Spelled image at (movable u.bytes 0 u.owner name)
-unlocked_there image at name count h u =
-    let heap = heap_in_parts image (u.before ++ movable u.bytes 0 u.owner name ∷ u.after) h u.chunks in
+pub unlocked_there : {image : List ℕ} {at name count : ℕ} → HeapAccepted image → (u : IsUnlocked image at name count) → SpelledAll image (area_start image) u.before at × Spelled image at (movable u.bytes 0 u.owner name)
+unlocked_there {image} {name} h u =
+    let heap = heap_in_parts _ _ h u.chunks in
     let parts = SpelledAll-split image (area_start image) u.before (movable u.bytes 0 u.owner name ∷ u.after) (length image) heap.tiles.area in
     (subst (λ (n : ℕ). SpelledAll image (area_start image) u.before n) (sym u.there) parts.0, subst (λ (n : ℕ). Spelled image n (movable u.bytes 0 u.owner name)) (sym u.there) parts.1.0)
 
-pub seen_start : (image : List ℕ) (at name count start : ℕ) → HeapAccepted image → IsUnlocked image at name count → start ≡ area_start image → SeenUpTo image at start start
-seen_start image at name count start h u e =
-    let there = u.there in
+pub seen_start : {image : List ℕ} {at name count start : ℕ} → HeapAccepted image → IsUnlocked image at name count → start ≡ area_start image → SeenUpTo image at start start
+seen_start h u e =
     let fits = h.1.tiles.head.a_chunk_fits in
-    record { closed = []; run = []; spelled = sym e; none_stays = tt; ends = tt; from = omega (arith, e); low = omega (arith, there, e); inside = omega (arith, fits, e) }
+    record { closed = []; run = []; spelled = sym e; none_stays = tt; ends = tt; from = omega (arith, e); low = omega (arith, u.there, e); inside = omega (arith, fits, e) }
 
-pub seen_chunk : (image : List ℕ) (at start here : ℕ) → HeapAccepted image → SeenUpTo image at start here → here < length image → (c : Chunk) × Spelled image here c
-seen_chunk image at start here h s more = chunk_there image h.0 (s.closed ++ s.run) here h.1.tiles s.spelled more
+pub seen_chunk : {image : List ℕ} {at start here : ℕ} → HeapAccepted image → SeenUpTo image at start here → here < length image → (c : Chunk) × Spelled image here c
+seen_chunk {here} h s more = chunk_there _ _ (s.closed ++ s.run) here h.1.tiles s.spelled more
 
-pub seen_size : (image : List ℕ) (here size : ℕ) (header : Header) → HasHeader image here header → size ≡ size_by header → (8 ≤ size) × (here + size ≤ length image)
-seen_size image here size header f e =
+pub seen_size : {image : List ℕ} {here size : ℕ} {header : Header} → HasHeader image here header → size ≡ size_by header → (8 ≤ size) × (here + size ≤ length image)
+seen_size {image} {here} f e =
     let s = Spelled-size image here f.chunk f.spelled in
-    let least = s.0 in
-    let inside = s.1 in
     let same = e ∙ ap size_by f.header_is ∙ size_by-header_of f.chunk in
-    (omega (arith, least, same), omega (arith, inside, same))
+    (omega (arith, s.0, same), omega (arith, s.1, same))
 
 unfoldable pub seen_more : (image : List ℕ) (at start here size : ℕ) (header : Header) → SeenUpTo image at start here → HasHeader image here header → size ≡ size_by header → (HeaderStays header → ⊥) → SeenUpTo image at start (here + size)
 seen_more image at start here size header s f e goes =
     let same : size ≡ size_of f.chunk = e ∙ ap size_by f.header_is ∙ size_by-header_of f.chunk in
-    let bounds = seen_size image here size header f e in
     let next : here + size ≡ here + size_of f.chunk = ap (λ (n : ℕ). here + n) same in
     record {
       closed = s.closed;
       run = s.run ++ f.chunk ∷ [];
-      spelled = subst (λ (cs : List Chunk). SpelledAll image (area_start image) cs (here + size)) (append_assoc s.closed s.run (f.chunk ∷ [])) (SpelledAll-push image (area_start image) (s.closed ++ s.run) here f.chunk (here + size) s.spelled f.spelled next);
+      spelled = subst (λ (cs : List Chunk). SpelledAll image (area_start image) cs (here + size)) (append_assoc s.closed s.run (f.chunk ∷ [])) (SpelledAll-push image (area_start image) (s.closed ++ s.run) here f.chunk _ s.spelled f.spelled next);
       none_stays = (none_stays-append s.run (f.chunk ∷ [])).1 (s.none_stays, header_goes f.chunk (λ k. goes (subst HeaderStays (sym f.header_is) k)));
       ends = s.ends;
       from = s.from;
       low = s.low;
-      inside = bounds.1;
+      inside = (seen_size f e).1;
     }
 
 -- what stays at an offset in front of the chunk ends in front of it
-ends_before : (image : List ℕ) (here at : ℕ) (c v : Chunk) (rest : List Chunk) → SpelledAll image here rest at → Spelled image here c → Spelled image at v → IsTrue (stays c) → (IsTrue (stays v) → ⊥) → here + size_of c ≤ at
+ends_before : (image : List ℕ) (here at : ℕ) (c v : Chunk) (rest : List Chunk) → SpelledAll image here rest at → Spelled image here c → Spelled image at v → IsTrue (stays_put c) → (IsTrue (stays_put v) → ⊥) → here + size_of c ≤ at
 ends_before image here at c v [] s p q stay goes =
     let one : c ≡ v = Spelled-unique image at c v (subst (λ (n : ℕ). Spelled image n c) s p) q in
-    absurd (goes (subst (λ (x : Chunk). IsTrue (stays x)) one stay))
+    absurd (goes (subst (λ (x : Chunk). IsTrue (stays_put x)) one stay))
 ends_before image here at c v (d ∷ rest) s p q stay goes =
-    let same = ap size_of (Spelled-unique image here d c s.0 p) in
     let last = SpelledAll-end image (here + size_of d) rest at s.1 in
-    omega (arith, same, last)
+    omega (arith, ap size_of (Spelled-unique image here d c s.0 p), last)
 
 -- after one that stays
 unfoldable pub seen_closed : (image : List ℕ) (at later start here size : ℕ) (header : Header) → SeenUpTo image at start here → HasHeader image here header → size ≡ size_by header → HeaderStays header → here + size ≤ later → SeenUpTo image later (here + size) (here + size)
 seen_closed image at later start here size header s f e stay low =
     let same : size ≡ size_of f.chunk = e ∙ ap size_by f.header_is ∙ size_by-header_of f.chunk in
-    let bounds = seen_size image here size header f e in
     let next : here + size ≡ here + size_of f.chunk = ap (λ (n : ℕ). here + n) same in
-    let all : SpelledAll image (area_start image) ((s.closed ++ s.run) ++ f.chunk ∷ []) (here + size) = SpelledAll-push image (area_start image) (s.closed ++ s.run) here f.chunk (here + size) s.spelled f.spelled next in
+    let all = SpelledAll-push image (area_start image) (s.closed ++ s.run) here f.chunk _ s.spelled f.spelled next in
     let last = SpelledAll-end image (area_start image) ((s.closed ++ s.run) ++ f.chunk ∷ []) (here + size) all in
     record {
       closed = (s.closed ++ s.run) ++ f.chunk ∷ [];
@@ -126,76 +108,71 @@ seen_closed image at later start here size header s f e stay low =
       ends = ends_push (s.closed ++ s.run) f.chunk (header_stay f.chunk (subst HeaderStays f.header_is stay));
       from = last;
       low = low;
-      inside = bounds.1;
+      inside = (seen_size f e).1;
     }
-
-pub seen_stay : (image : List ℕ) (at name count start here size : ℕ) (header : Header) → HeapAccepted image → IsUnlocked image at name count → SeenUpTo image at start here → HasHeader image here header → size ≡ size_by header → HeaderStays header → here ≤ at → SeenUpTo image at (here + size) (here + size)
-seen_stay image at name count start here size header h u s f e stay low =
-    let same : size ≡ size_of f.chunk = e ∙ ap size_by f.header_is ∙ size_by-header_of f.chunk in
-    let stay_c = header_stay f.chunk (subst HeaderStays f.header_is stay) in
-    let t = unlocked_there image at name count h u in
-    let rest = SpelledAll-rest image (area_start image) (s.closed ++ s.run) u.before here at s.spelled t.0 low in
-    let fits = ends_before image here at f.chunk (movable u.bytes 0 u.owner name) rest.0 rest.2 f.spelled t.1 stay_c (λ k. cc) in
-    seen_closed image at at start here size header s f e stay (omega (arith, fits, same))
 
 -- ---- the stretch is found
 
-found_back : (image : List ℕ) (at here : ℕ) (v : Chunk) (run front rest : List Chunk) → run ≡ front ++ rest → SpelledAll image at rest here → Spelled image at v → at < here → (back : List Chunk) × (run ≡ front ++ v ∷ back)
-found_back image at here v run front [] e s p low = absurd (omega (arith, s, low))
-found_back image at here v run front (d ∷ rest) e s p low = (rest, e ∙ ap (λ (x : Chunk). front ++ x ∷ rest) (Spelled-unique image at d v s.0 p))
+found_back : (image : List ℕ) (at here : ℕ) (v : Chunk) {run : List Chunk} (front rest : List Chunk) → run ≡ front ++ rest → SpelledAll image at rest here → Spelled image at v → at < here → (back : List Chunk) × (run ≡ front ++ v ∷ back)
+found_back image at here v front [] e s p low = absurd (omega (arith, s, low))
+found_back image at here v front (d ∷ rest) e s p low = (rest, e ∙ ap (λ (x : Chunk). front ++ x ∷ rest) (Spelled-unique image at d v s.0 p))
 
--- the run has the chunk, with some in front of it and some after it
-among : (image : List ℕ) (at name count start here : ℕ) (front back after : List Chunk) → (u : IsUnlocked image at name count) → (s : SeenUpTo image at start here) → SpelledAll image (area_start image + total s.closed) front at → SpelledAll image (area_start image + total s.closed) s.run here
-    → s.run ≡ front ++ movable u.bytes 0 u.owner name ∷ back → chunks_of image ≡ (s.closed ++ s.run) ++ after → BeginsStaying after → IsAmongAt image at name count (record { start = start; end = here })
-among image at name count start here front back after u s spelled whole run_is chunks begins =
-    let from = s.from in
-    let there = SpelledAll-end image (area_start image + total s.closed) front at spelled in
-    let ends = SpelledAll-end image (area_start image + total s.closed) s.run here whole in
-    let size = ap total run_is in
-    record {
-      before = s.closed;
-      front = front;
-      bytes = u.bytes;
-      owner = u.owner;
-      back = back;
-      after = after;
-      is = record {
-        whole = record { chunks = chunks ∙ append_assoc s.closed s.run after ∙ ap (λ (cs : List Chunk). s.closed ++ (cs ++ after)) run_is; none_stays = subst NoneStays run_is s.none_stays; in_front = s.ends; behind = begins };
-        from = from;
-        to = omega (arith, ends, from, size);
-      };
-      there = there;
-      many = u.many;
-    }
-
-around : (image : List ℕ) (at name count start here : ℕ) (after : List Chunk) → HeapAccepted image → IsUnlocked image at name count → (s : SeenUpTo image at start here) → at < here → chunks_of image ≡ (s.closed ++ s.run) ++ after → BeginsStaying after → IsAmongAt image at name count (record { start = start; end = here })
-around image at name count start here after h u s low chunks begins =
-    let t = unlocked_there image at name count h u in
-    let parts = SpelledAll-split image (area_start image) s.closed s.run here s.spelled in
-    let from = s.from in
-    let low_start = s.low in
-    let front = SpelledAll-rest image (area_start image) s.closed u.before (area_start image + total s.closed) at parts.0 t.0 (omega (arith, from, low_start)) in
-    let rest = SpelledAll-rest image (area_start image + total s.closed) front.0 s.run at here front.2 parts.1 (omega (arith, low)) in
-    let back = found_back image at here (movable u.bytes 0 u.owner name) s.run front.0 rest.0 rest.1 rest.2 t.1 low in
-    among image at name count start here front.0 back.0 after u s front.2 parts.1 back.1 chunks begins
-
-pub begins_there : (image : List ℕ) (here : ℕ) (c : Chunk) (after : List Chunk) → SpelledAll image here after (length image) → Spelled image here c → IsTrue (stays c) → BeginsStaying after
+pub begins_there : (image : List ℕ) (here : ℕ) (c : Chunk) (after : List Chunk) → SpelledAll image here after (length image) → Spelled image here c → IsTrue (stays_put c) → BeginsStaying after
 begins_there image here c [] s p stay = tt
-begins_there image here c (d ∷ after) s p stay = subst (λ (x : Chunk). IsTrue (stays x)) (Spelled-unique image here c d p s.0) stay
-
-pub seen_found : (image : List ℕ) (at name count start here : ℕ) (header : Header) → HeapAccepted image → IsUnlocked image at name count → SeenUpTo image at start here → HasHeader image here header → HeaderStays header → at < here → IsAmongAt image at name count (record { start = start; end = here })
-seen_found image at name count start here header h u s f stay low =
-    let a = chunks_after image h.0 (s.closed ++ s.run) here h.1.tiles s.spelled s.inside in
-    around image at name count start here a.0 h u s low a.1 (begins_there image here f.chunk a.0 a.2 f.spelled (header_stay f.chunk (subst HeaderStays f.header_is stay)))
+begins_there image here c (d ∷ after) s p stay = subst (λ (x : Chunk). IsTrue (stays_put x)) (Spelled-unique image here c d p s.0) stay
 
 pub none_there : (image : List ℕ) (here : ℕ) (after : List Chunk) → SpelledAll image here after (length image) → length image ≤ here → BeginsStaying after
 none_there image here [] s past = tt
 none_there image here (d ∷ after) s past = let size = Spelled-size image here d s.0 in let a = size.0 in let b = size.1 in absurd (omega (arith, a, b, past))
 
-pub seen_all : (image : List ℕ) (at name count start here : ℕ) → HeapAccepted image → IsUnlocked image at name count → SeenUpTo image at start here → length image ≤ here → IsAmongAt image at name count (record { start = start; end = here })
-seen_all image at name count start here h u s past =
-    let a = chunks_after image h.0 (s.closed ++ s.run) here h.1.tiles s.spelled s.inside in
-    let size = Spelled-size image at (movable u.bytes 0 u.owner name) (unlocked_there image at name count h u).1 in
-    let least = size.0 in
-    let within = size.1 in
-    around image at name count start here a.0 h u s (omega (arith, least, within, past)) a.1 (none_there image here a.0 a.2 past)
+module _ {image : List ℕ} {at name count start here : ℕ} (h : HeapAccepted image) (u : IsUnlocked image at name count) (s : SeenUpTo image at start here) where
+  open s use {closed, run}
+
+  abbrev v : Chunk
+  v = movable u.bytes 0 u.owner name
+
+  pub seen_stay : {size : ℕ} {header : Header} → HasHeader image here header → size ≡ size_by header → HeaderStays header → here ≤ at → SeenUpTo image at (here + size) (here + size)
+  seen_stay {size} {header} f e stay low =
+      let same : size ≡ size_of f.chunk = e ∙ ap size_by f.header_is ∙ size_by-header_of f.chunk in
+      let stay_c = header_stay f.chunk (subst HeaderStays f.header_is stay) in
+      let t = unlocked_there h u in
+      let rest = SpelledAll-rest image (area_start image) (closed ++ run) u.before here at s.spelled t.0 low in
+      let fits = ends_before image here at f.chunk v rest.0 rest.2 f.spelled t.1 stay_c (λ k. cc) in
+      seen_closed image at at start here size header s f e stay (omega (arith, fits, same))
+
+  -- the run has the chunk, with some in front of it and some after it
+  around : (after : List Chunk) → at < here → chunks_of image ≡ (closed ++ run) ++ after → BeginsStaying after → IsAmongAt image at name count (record { start = start; end = here })
+  around after low chunks begins =
+      let begin : ℕ = area_start image + total closed in
+      let t = unlocked_there h u in
+      let parts = SpelledAll-split image (area_start image) closed run here s.spelled in
+      let front = SpelledAll-rest image (area_start image) closed u.before begin at parts.0 t.0 (omega (arith, s.from, s.low)) in
+      let rest = SpelledAll-rest image begin front.0 run at here front.2 parts.1 (omega (arith, low)) in
+      let back = found_back image at here v front.0 rest.0 rest.1 rest.2 t.1 low in
+      record {
+        before = closed;
+        front = front.0;
+        bytes = u.bytes;
+        owner = u.owner;
+        back = back.0;
+        after = after;
+        is = record {
+          whole = record { chunks = chunks ∙ append_assoc closed run after ∙ ap (λ (cs : List Chunk). closed ++ (cs ++ after)) back.1; none_stays = subst NoneStays back.1 s.none_stays; in_front = s.ends; behind = begins };
+          from = s.from;
+          to = omega (arith, SpelledAll-end image begin run here parts.1, s.from, ap total back.1);
+        };
+        there = SpelledAll-end image begin front.0 at front.2;
+        many = u.many;
+      }
+
+  others : (after : List Chunk) × (chunks_of image ≡ (closed ++ run) ++ after) × SpelledAll image here after (length image)
+  others = chunks_after _ _ (closed ++ run) here h.1.tiles s.spelled s.inside
+
+  pub seen_found : {header : Header} → HasHeader image here header → HeaderStays header → at < here → IsAmongAt image at name count (record { start = start; end = here })
+  seen_found f stay low =
+      around others.0 low others.1 (begins_there image here f.chunk others.0 others.2 f.spelled (header_stay f.chunk (subst HeaderStays f.header_is stay)))
+
+  pub seen_all : length image ≤ here → IsAmongAt image at name count (record { start = start; end = here })
+  seen_all past =
+      let size = Spelled-size image at v (unlocked_there h u).1 in
+      around others.0 (omega (arith, size.0, size.1, past)) others.1 (none_there image here others.0 others.2 past)

@@ -1,30 +1,16 @@
--- The chunks of a stretch are packed, and then room is opened after one of them.
+-- A stretch can be packed, and then its room can be opened after one of its chunks.
 use Rattle.std.proofs.Common.{◌≡◌, ℕ, zero, suc, ◌+◌, ◌-◌, ◌<◌, ◌≤◌, List, [], ◌∷◌, ◌++◌, length, refl, sym, ap, subst, ◌∙◌, append_assoc, arith}
 use Rattle.std.proofs.lemmas.List.{append-nil}
 use Rattle.std.proofs.lemmas.List.Sums.{sum_by-cons}
-use Rattle.heap_model.specs.Bytes.{u32_at}
-use Rattle.heap_model.specs.Chunk.{Chunk, free, movable, fixed, need, total, free_size}
-use Rattle.heap_model.specs.Slots.{IsSlot, TablesLie, area_start}
-use Rattle.heap_model.specs.Heap.{BodyHere, IsHeap, HeapAccepted}
-use Rattle.heap_model.specs.Reading.{chunks_of}
+use Rattle.heap_compact.proofs.Words.{u32_at, Chunk, free, movable, fixed, need, total, free_size, IsSlot, TablesLie, area_start, Memory, HoldsHeap, BodyHere, IsHeap, HeapAccepted, chunks_of, NoneStays, stays_put, room_of, SameFrame, Becomes, gap, merged, IsRoom, WritesPlain, packed, lives, EndsStaying, WholeStretch, opened, OpensBehind, Stretch, FreeBehind, BecomesExactly, RunOf, Packs, LeavesLastRoom, last_room, KeepsApart, StretchIs, IsStretch, IsAmongAt, HasRoomOf, OpensExactly}
 use Rattle.std.specs.Prelude.{IsTrue}
-use Rattle.heap_model.specs.Space.{NoneStays, stays, room_of}
-use Rattle.heap_model.specs.Placing.{SameFrame}
-use Rattle.heap_model.specs.Layout.{Becomes, gap, merged, IsRoom, WritesPlain}
-use Rattle.heap_model.specs.Packing.{packed, lives, EndsStaying, WholeStretch, opened, OpensBehind}
 use Rattle.laws_heap.proofs.Slots.{tiled_table}
 use Rattle.laws_heap.proofs.Chunks.{total-append, SpelledAll-split, SpelledAll-end}
 use Rattle.laws_heap.proofs.Placed.{AnyPlaced-mid}
-use Rattle.laws_heap.proofs.SlidImages.{moved_within}
 use Rattle.laws_heap.proofs.Exchanges.{gap_free, gap_total}
 use Rattle.laws_heap.proofs.Layouts.{IsNotFree}
 use Rattle.laws_heap.proofs.Slides.{lives-append, lives_total, lives_twice, none_stays-append, stretch_packed}
 use Rattle.laws_heap.proofs.Stretches.{room_of-middle, one_stretch}
-use Rattle.heap_compact.specs.declared.stretch.Stretch.{Stretch}
-use Rattle.heap_compact.specs.Lifting.{FreeBehind}
-use Rattle.heap_compact.specs.Packs.{BecomesExactly, RunOf, IsRun, Packs, MovesInRun, LeavesRoom, last_room}
-use Rattle.heap_place.specs.Search.{KeepsApart}
-use Rattle.heap_compact.specs.Stretches.{StretchIs, IsStretch, IsAmongAt, HasRoomOf, OpensExactly}
 use Rattle.heap_place.proofs.FoundLaws.{heap_in_parts}
 use Rattle.heap_compact.proofs.ExactLaws.{exactly_start, exactly_becomes, exactly_then}
 use Rattle.heap_place.proofs.RoomLaws.{live_keeps}
@@ -32,15 +18,12 @@ use Rattle.heap_compact.proofs.DropLaws.{gap_some, gap_none}
 
 -- ---- a stretch is packed
 
-pub stretch_run : (image : List ℕ) (before mid after : List Chunk) (stretch : Stretch) → StretchIs image before mid after stretch → RunOf image before mid after stretch.start stretch.end
-stretch_run image before mid after stretch s = record { chunks = s.whole.chunks; from = s.from; to = s.to }
-
-pub is_run : (image : List ℕ) (stretch : Stretch) → IsStretch image stretch → IsRun image stretch.start stretch.end
-is_run image stretch s = record { before = s.before; mid = s.mid; after = s.after; run = stretch_run image s.before s.mid s.after stretch s.is }
+pub stretch_run : {image : List ℕ} {before mid after : List Chunk} {stretch : Stretch} → StretchIs image before mid after stretch → RunOf image before mid after stretch.start stretch.end
+stretch_run s = record { chunks = s.whole.chunks; from = s.from; to = s.to }
 
 -- of a chunk that is among its own
-pub among_stretch : (image : List ℕ) (at name count : ℕ) (stretch : Stretch) → IsAmongAt image at name count stretch → IsStretch image stretch
-among_stretch image at name count stretch a = record { before = a.before; mid = a.front ++ movable a.bytes 0 a.owner name ∷ a.back; after = a.after; is = a.is }
+pub among_stretch : {image : List ℕ} {at name count : ℕ} {stretch : Stretch} → IsAmongAt image at name count stretch → IsStretch image stretch
+among_stretch {name} a = record { before = a.before; mid = a.front ++ movable a.bytes 0 a.owner name ∷ a.back; after = a.after; is = a.is }
 
 -- all room of chunks of which none stays is at their end
 loose_lives : (cs : List Chunk) → NoneStays cs → NoneStays (lives cs)
@@ -57,23 +40,13 @@ last_loose room (movable bytes zero owner slot ∷ cs) n = let e = sum_by-cons f
 last_loose room (movable bytes (suc count) owner slot ∷ cs) n = absurd n
 last_loose room (fixed bytes owner ∷ cs) n = absurd n
 
--- no more of a stretch moves than its bytes
-pub moves_few : (image : List ℕ) (stretch : Stretch) (moved : ℕ) → IsStretch image stretch → MovesInRun image stretch.start stretch.end moved → moved ≤ stretch.end - stretch.start
-moves_few image stretch moved s moves =
-    let is = moves s.before s.mid s.after (stretch_run image s.before s.mid s.after stretch s.is) in
-    let most = moved_within 0 s.mid in
-    let to = s.is.to in
-    omega (arith, is, most, to)
-
 -- the room that is left of a stretch
-pub room_left : (image : List ℕ) (stretch : Stretch) (room : ℕ) → LeavesRoom image stretch.start stretch.end room → HasRoomOf image stretch room
-room_left image stretch room leaves before mid after s =
-    let last = leaves before mid after (stretch_run image before mid after stretch s) in
-    let loose = last_loose 0 mid s.whole.none_stays in
-    omega (arith, last, loose)
+pub room_left : {image : List ℕ} (stretch : Stretch) {room : ℕ} → LeavesLastRoom image stretch.start stretch.end room → HasRoomOf image stretch room
+room_left stretch leaves before mid after s =
+    omega (arith, leaves before mid after (stretch_run s), last_loose 0 mid s.whole.none_stays)
 
 -- chunks with one that stays at their end end with it, and it keeps others apart
-stay_live : (c : Chunk) → IsTrue (stays c) → IsNotFree c
+stay_live : (c : Chunk) → IsTrue (stays_put c) → IsNotFree c
 stay_live (free size) stay = cc
 stay_live (movable bytes lock owner slot) stay = tt
 stay_live (fixed bytes owner) stay = tt
@@ -95,24 +68,20 @@ lives_keep before (movable bytes lock owner slot ∷ mid) k =
 lives_keep before (fixed bytes owner ∷ mid) k = subst KeepsApart (append_assoc before (fixed bytes owner ∷ []) (lives mid)) (lives_keep (before ++ fixed bytes owner ∷ []) mid (live_keeps before (fixed bytes owner) tt))
 
 -- the room of a packed stretch is a run of its own at its end
-pub packed_end : (old new : List ℕ) (before mid after : List Chunk) (stretch : Stretch) (room : ℕ) → StretchIs old before mid after stretch → BecomesExactly old new (before ++ (packed mid ++ after)) → room ≡ room_of mid → IsRoom new (stretch.end - room) room
-packed_end old new before mid after stretch room s b is =
+pub packed_end : {old new : List ℕ} {before mid after : List Chunk} {stretch : Stretch} {room : ℕ} → StretchIs old before mid after stretch → BecomesExactly old new (before ++ (packed mid ++ after)) → room ≡ room_of mid → IsRoom new (stretch.end - room) room
+packed_end {new} {before} {mid} {after} {room} s b is =
     let front : List Chunk = before ++ lives mid in
     let parts : chunks_of new ≡ front ++ (gap room ++ after) =
     b.exact ∙ ap (λ (cs : List Chunk). before ++ (cs ++ after)) (stretch_packed mid s.whole.none_stays ∙ ap (λ (n : ℕ). lives mid ++ gap n) (sym is)) ∙ ap (λ (cs : List Chunk). before ++ cs) (append_assoc (lives mid) (gap room) after)
     ∙ sym (append_assoc before (lives mid) (gap room ++ after)) in
-    let starts = exactly_start old new (before ++ (packed mid ++ after)) b in
-    let sizes = lives_total mid in
     let both = total-append before (lives mid) in
-    let from = s.from in
-    let to = s.to in
     record {
       before = front;
       run = gap room;
       after = after;
       chunks = parts;
       all_free = gap_free room;
-      there = omega (arith, starts, sizes, both, from, to, is);
+      there = omega (arith, exactly_start b, lives_total mid, both, s.from, s.to, is);
       sums = sym (gap_total room);
       front = ap merged parts ∙ lives_keep before mid (staying_keeps before s.whole.in_front) (gap room ++ after);
     }
@@ -132,17 +101,29 @@ regroup_around : (before xs ys gaps after : List Chunk) (v : Chunk) → before +
 regroup_around before xs ys gaps after v =
     ap (λ (cs : List Chunk). before ++ cs) (append_assoc (xs ++ v ∷ ys) gaps after ∙ append_assoc xs (v ∷ ys) (gaps ++ after)) ∙ sym (append_assoc before xs (v ∷ (ys ++ (gaps ++ after))))
 
-opened_alike : (before front : List Chunk) (c : Chunk) (back after others fore : List Chunk) (d : Chunk) (rear later : List Chunk) → before ≡ others → front ≡ fore → c ∷ back ≡ d ∷ rear → after ≡ later → others ++ (opened fore d rear ++ later) ≡ before ++ (opened front c back ++ after)
-opened_alike before front c back after others fore d rear later e f g k =
+opened_alike : {before front : List Chunk} (c : Chunk) (back : List Chunk) {after others fore : List Chunk} (d : Chunk) (rear : List Chunk) {later : List Chunk} → before ≡ others → front ≡ fore → c ∷ back ≡ d ∷ rear → after ≡ later → others ++ (opened fore d rear ++ later) ≡ before ++ (opened front c back ++ after)
+opened_alike c back d rear e f g k =
     let one : c ≡ d = cc in
     let rest : back ≡ rear = cc in
     rw (e, f, one, rest, k) refl
 
 -- ---- room is opened in a packed stretch
 
--- the chunk that was found is one of the stretch; the stretch is packed, with all of its room at
--- its end
-module _ (old mid : List ℕ) (at name count : ℕ) (stretch : Stretch) (room : ℕ) (h : HeapAccepted old) (a : IsAmongAt old at name count stretch) (packs : Packs old mid stretch.start stretch.end) (leaves : LeavesRoom old stretch.start stretch.end room) where
+-- The chunk that was found is one of the stretch; the stretch is packed, with all of its room at
+-- its end.
+pub record StretchPacked (old mid : List ℕ) (at name count : ℕ) (stretch : Stretch) (room : ℕ) : Type 0 where
+  pub accepted : HeapAccepted old
+  pub among : IsAmongAt old at name count stretch
+  pub packs : Packs old mid stretch.start stretch.end
+  pub leaves : LeavesLastRoom old stretch.start stretch.end room
+
+abbrev pub pack_facts : {old : Memory} {mid : List ℕ} {at name count : ℕ} {stretch : Stretch} {room : ℕ} → HoldsHeap old → IsAmongAt old.bytes at name count stretch
+    → Packs old.bytes mid stretch.start stretch.end → LeavesLastRoom old.bytes stretch.start stretch.end room → StretchPacked old.bytes mid at name count stretch room
+pack_facts heap among packs leaves = record { accepted = heap.accepted; among = among; packs = packs; leaves = leaves }
+
+module _ {old mid : List ℕ} {at name count : ℕ} {stretch : Stretch} {room : ℕ} (p : StretchPacked old mid at name count stretch room) where
+  open p use {accepted as h, among as a, packs, leaves}
+
   abbrev v : Chunk
   v = movable a.bytes 0 a.owner name
 
@@ -153,7 +134,7 @@ module _ (old mid : List ℕ) (at name count : ℕ) (stretch : Stretch) (room : 
   rear = lives a.back
 
   run : RunOf old a.before (a.front ++ v ∷ a.back) a.after stretch.start stretch.end
-  run = stretch_run old a.before (a.front ++ v ∷ a.back) a.after stretch a.is
+  run = stretch_run a.is
 
   packed_image : BecomesExactly old mid (a.before ++ (packed (a.front ++ v ∷ a.back) ++ a.after))
   packed_image = packs a.before (a.front ++ v ∷ a.back) a.after run
@@ -163,9 +144,8 @@ module _ (old mid : List ℕ) (at name count : ℕ) (stretch : Stretch) (room : 
 
   all_room : room ≡ room_of (a.front ++ v ∷ a.back)
   all_room =
-      let last = leaves a.before (a.front ++ v ∷ a.back) a.after run in
       let loose = last_loose 0 (a.front ++ v ∷ a.back) a.is.whole.none_stays in
-      omega (arith, last, loose)
+      omega (arith, leaves a.before (a.front ++ v ∷ a.back) a.after run, loose)
 
   room_is : room ≡ room_of (a.front ++ a.back)
   room_is = let middle = room_of-middle a.front v a.back in omega (arith, all_room, middle)
@@ -178,10 +158,10 @@ module _ (old mid : List ℕ) (at name count : ℕ) (stretch : Stretch) (room : 
   chunks_then = packed_image.exact ∙ ap (λ (cs : List Chunk). a.before ++ (cs ++ a.after)) packed_is
 
   heap_then : IsHeap mid ((a.before ++ fore) ++ v ∷ (rear ++ (gap room ++ a.after)))
-  heap_then = heap_in_parts mid ((a.before ++ fore) ++ v ∷ (rear ++ (gap room ++ a.after))) packed_frame.accepted (chunks_then ∙ regroup_around a.before fore rear (gap room) a.after v)
+  heap_then = heap_in_parts _ _ packed_frame.accepted (chunks_then ∙ regroup_around a.before fore rear (gap room) a.after v)
 
   starts : area_start mid ≡ area_start old
-  starts = exactly_start old mid (a.before ++ (packed (a.front ++ v ∷ a.back) ++ a.after)) packed_image
+  starts = exactly_start packed_image
 
   tied_then : IsSlot mid name × (u32_at mid name ≡ area_start mid + total (a.before ++ fore) + 8)
   tied_then =
@@ -192,31 +172,24 @@ module _ (old mid : List ℕ) (at name count : ℕ) (stretch : Stretch) (room : 
   slot_then = tied_then.0
 
   pub table_then : TablesLie mid
-  table_then = tiled_table mid _ heap_then.tiles
+  table_then = tiled_table _ _ heap_then.tiles
 
   place_is : u32_at mid name ≡ stretch.start + total fore + 8
   place_is =
-      let held = tied_then.1 in
-      let from = a.is.from in
-      let both = total-append a.before fore in
-      omega (arith, held, from, both, starts)
+      omega (arith, tied_then.1, a.is.from, total-append a.before fore, starts)
 
   ends : stretch.end ≡ stretch.start + total fore + need (length a.bytes) + total rear + room
   ends =
-      let to = a.is.to in
-      let sizes = lives_total (a.front ++ v ∷ a.back) in
       let parts = ap total (lives-append a.front (v ∷ a.back)) ∙ total-append fore (v ∷ rear) in
-      omega (arith, to, sizes, parts, all_room)
+      omega (arith, a.is.to, lives_total (a.front ++ v ∷ a.back), parts, all_room)
 
   inside : stretch.end ≤ length old
   inside =
-      let from = a.is.from in
-      let to = a.is.to in
-      let heap = heap_in_parts old (a.before ++ ((a.front ++ v ∷ a.back) ++ a.after)) h a.is.whole.chunks in
+      let heap = heap_in_parts _ _ h a.is.whole.chunks in
       let one = SpelledAll-split old (area_start old) a.before ((a.front ++ v ∷ a.back) ++ a.after) (length old) heap.tiles.area in
       let two = SpelledAll-split old (area_start old + total a.before) (a.front ++ v ∷ a.back) a.after (length old) one.1 in
       let last = SpelledAll-end old (area_start old + total a.before + total (a.front ++ v ∷ a.back)) a.after (length old) two.1 in
-      omega (arith, from, to, last)
+      omega (arith, a.is.from, a.is.to, last)
 
   -- what is worked out fits
   pub record OpenNumbers : Type 0 where
@@ -228,21 +201,18 @@ module _ (old mid : List ℕ) (at name count : ℕ) (stretch : Stretch) (room : 
 
   pub numbers : OpenNumbers
   numbers =
-      let many = ap need a.many in
-      let most = h.1.tiles.head.most in
-      record { behind_header = omega (arith, place_is); inside = omega (arith, place_is, ends, many); within = omega (arith, ends); most = omega (arith, inside, most); from = omega (arith, place_is) }
+      record { behind_header = omega (arith, place_is); inside = omega (arith, place_is, ends, ap need a.many); within = omega (arith, ends); most = omega (arith, inside, h.1.tiles.head.most); from = omega (arith, place_is) }
 
   pub room_behind : (start : ℕ) → 0 < room → start ≡ u32_at mid name - 8 + need count → FreeBehind mid (a.before ++ (fore ++ v ∷ [])) rear a.after start (stretch.end - room) room
   room_behind start some start_is =
       let many = ap need a.many in
-      let from = a.is.from in
       let one = total-append a.before (fore ++ v ∷ []) in
       let two = total-append fore (v ∷ []) in
       record {
         chunks = chunks_then ∙ ap (λ (g : List Chunk). a.before ++ (((fore ++ v ∷ rear) ++ g) ++ a.after)) (gap_some room some) ∙ regroup a.before fore rear a.after v (free room);
         live = lives_twice a.back;
         loose = loose_lives a.back ((none_stays-append a.front (v ∷ a.back)).0 a.is.whole.none_stays).1;
-        from = omega (arith, start_is, place_is, one, two, starts, from, many);
+        from = omega (arith, start_is, place_is, one, two, starts, a.is.from, many);
         to = omega (arith, start_is, place_is, ends, many);
       }
 
@@ -255,7 +225,7 @@ module _ (old mid : List ℕ) (at name count : ℕ) (stretch : Stretch) (room : 
 
   whole_opened : (new : List ℕ) → BecomesExactly old new (a.before ++ (opened a.front v a.back ++ a.after)) → OpensRoom new
   whole_opened new b = record {
-    opened_behind = λ before front bytes owner slot back after whole there. subst (λ (cs : List Chunk). Becomes old new cs) (parts before front bytes owner slot back after whole there) (exactly_becomes old new (a.before ++ (opened a.front v a.back ++ a.after)) b);
+    opened_behind = λ before front bytes owner slot back after whole there. subst (λ (cs : List Chunk). Becomes old new cs) (parts before front bytes owner slot back after whole there) (exactly_becomes b);
     exact = λ before front bytes owner slot back after whole there. b.exact ∙ parts before front bytes owner slot back after whole there;
     frame = b.frame;
     plain = b.plain;
@@ -263,19 +233,19 @@ module _ (old mid : List ℕ) (at name count : ℕ) (stretch : Stretch) (room : 
     parts : (before front : List Chunk) (bytes : List ℕ) (owner slot : ℕ) (back after : List Chunk) → WholeStretch old before (front ++ movable bytes 0 owner slot ∷ back) after → at ≡ area_start old + total before + total front
         → a.before ++ (opened a.front v a.back ++ a.after) ≡ before ++ (opened front (movable bytes 0 owner slot) back ++ after)
     parts before front bytes owner slot back after whole there =
-        let alike = one_stretch old before front (movable bytes 0 owner slot) back after a.before a.front v a.back a.after at h whole there a.is.whole a.there in
-        opened_alike before front (movable bytes 0 owner slot) back after a.before a.front v a.back a.after alike.in_front alike.first_part alike.rest alike.behind
+        let alike = one_stretch _ _ front (movable bytes 0 owner slot) back _ _ a.front v a.back _ _ h whole there a.is.whole a.there in
+        opened_alike (movable bytes 0 owner slot) back v a.back alike.in_front alike.first_part alike.rest alike.behind
 
   pub opened_some : (new : List ℕ) → 0 < room → BecomesExactly mid new ((a.before ++ (fore ++ v ∷ [])) ++ free room ∷ (rear ++ a.after)) → OpensRoom new
   opened_some new some b =
       let g : free room ∷ [] ≡ gap (room_of (a.front ++ a.back)) = sym (gap_some room some) ∙ ap gap room_is in
       let e : (a.before ++ (fore ++ v ∷ [])) ++ free room ∷ (rear ++ a.after) ≡ a.before ++ (opened a.front v a.back ++ a.after) =
       regroup_open a.before fore rear a.after v (free room) ∙ ap (λ (cs : List Chunk). a.before ++ ((fore ++ v ∷ (cs ++ rear)) ++ a.after)) g in
-      whole_opened new (exactly_then old mid new _ (a.before ++ (opened a.front v a.back ++ a.after)) packed_image (subst (λ (cs : List Chunk). BecomesExactly mid new cs) e b))
+      whole_opened new (exactly_then packed_image (subst (λ (cs : List Chunk). BecomesExactly mid new cs) e b))
 
   pub opened_none : room ≡ 0 → OpensRoom mid
   opened_none none =
-      let g : [] ≡ gap (room_of (a.front ++ a.back)) = sym (gap_none (room_of (a.front ++ a.back)) (sym room_is ∙ none)) in
+      let g : [] ≡ gap (room_of (a.front ++ a.back)) = sym (gap_none (sym room_is ∙ none)) in
       let e : packed (a.front ++ v ∷ a.back) ≡ opened a.front v a.back =
-      packed_is ∙ ap (λ (cs : List Chunk). (fore ++ v ∷ rear) ++ cs) (gap_none room none) ∙ append-nil (fore ++ v ∷ rear) ∙ ap (λ (cs : List Chunk). fore ++ v ∷ (cs ++ rear)) g in
+      packed_is ∙ ap (λ (cs : List Chunk). (fore ++ v ∷ rear) ++ cs) (gap_none none) ∙ append-nil (fore ++ v ∷ rear) ∙ ap (λ (cs : List Chunk). fore ++ v ∷ (cs ++ rear)) g in
       whole_opened mid (subst (λ (cs : List Chunk). BecomesExactly old mid (a.before ++ (cs ++ a.after))) e packed_image)

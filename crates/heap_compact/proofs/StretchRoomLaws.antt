@@ -1,27 +1,18 @@
--- The walk that sums up the room of one stretch.
+-- The walk over a stretch sums up its room.
 use Rattle.std.proofs.Common.{◌≡◌, ℕ, ◌+◌, ◌<◌, ◌≤◌, List, [], ◌∷◌, ◌++◌, length, refl, sym, ap, subst, ◌∙◌, append_assoc, arith}
 use Rattle.std.proofs.lemmas.List.{append-nil}
 use Rattle.std.proofs.lemmas.List.Sums.{sum_by-append, sum_by-cons}
-use Rattle.heap_model.specs.Chunk.{Chunk, size_of, total, free_size, Spelled, SpelledAll}
-use Rattle.heap_model.specs.Heap.{HeapAccepted}
-use Rattle.heap_model.specs.Space.{room_of}
+use Rattle.heap_compact.proofs.Words.{Chunk, size_of, total, free_size, Spelled, SpelledAll, HeapAccepted, room_of, header_of, size_by, HasHeader, Header, Memory, Misses, HoldsHeap, Stretch, free_by, StretchIs, IsStretch, Summed, SumsUpTo, HasRoomOf}
 use Rattle.laws_heap.proofs.Chunks.{Spelled-size, Spelled-unique, total-append, SpelledAll-split}
-use Rattle.chunk_format.specs.Header.{header_of, size_by, HasHeader}
-use Rattle.chunk_format.specs.declared.header.Header.{Header}
 use Rattle.chunk_format.proofs.HeaderLaws.{size_by-header_of}
-use Rattle.heap_model.specs.Memory.{Memory, Misses}
-use Rattle.heap_model.specs.Lending.{LendsBodies}
 use Rattle.heap_place.proofs.LentLaws.{row_misses}
-use Rattle.heap_compact.specs.declared.stretch.Stretch.{Stretch}
-use Rattle.heap_place.specs.Search.{free_by}
-use Rattle.heap_compact.specs.Stretches.{StretchIs, IsStretch, Summed, SumsUpTo, HasRoomOf}
 use Rattle.heap_place.proofs.FoundLaws.{middle_of, heap_in_parts}
 use Rattle.heap_place.proofs.WalkLaws.{free_of, free_within}
 
 -- the chunks of the stretch, as they are spelled
-mid_spelled : (image : List ℕ) (before mid after : List Chunk) (stretch : Stretch) → HeapAccepted image → StretchIs image before mid after stretch → SpelledAll image stretch.start mid (stretch.start + total mid) × (stretch.start + total mid ≤ length image)
-mid_spelled image before mid after stretch h s =
-    let m = middle_of image before mid after stretch.start (heap_in_parts image _ h s.whole.chunks) s.from in
+mid_spelled : {image : List ℕ} {before mid after : List Chunk} {stretch : Stretch} → HeapAccepted image → StretchIs image before mid after stretch → SpelledAll image stretch.start mid (stretch.start + total mid) × (stretch.start + total mid ≤ length image)
+mid_spelled {before} {mid} {after} h s =
+    let m = middle_of _ before mid after _ (heap_in_parts _ _ h s.whole.chunks) s.from in
     (m.spelled, m.inside)
 
 -- what stands where the walk has come
@@ -33,8 +24,8 @@ record Next (image : List ℕ) (mid : List Chunk) (start at room : ℕ) : Type 0
   spelled : Spelled image at chunk
   inside : at + size_of chunk ≤ length image
 
-next_of : (image : List ℕ) (mid : List Chunk) (start at room : ℕ) → SpelledAll image start mid (start + total mid) → start + total mid ≤ length image → at < start + total mid → Summed mid start at room → Next image mid start at room
-next_of image mid start at room s inside low w = by_rest w.rest refl where
+next_of : (image : List ℕ) {mid : List Chunk} {start at room : ℕ} → SpelledAll image start mid (start + total mid) → start + total mid ≤ length image → at < start + total mid → Summed mid start at room → Next image mid start at room
+next_of image {mid} {start} {at} {room} s inside low w = by_rest w.rest refl where
   split : (rest : List Chunk) → w.rest ≡ rest → SpelledAll image at rest (start + total mid)
   split rest e = subst (λ (n : ℕ). SpelledAll image n rest (start + total mid)) (sym w.there) (SpelledAll-split image start w.front rest (start + total mid) (subst (λ (cs : List Chunk). SpelledAll image start cs (start + total mid)) (w.parts ∙ ap (λ (cs : List Chunk). w.front ++ cs) e) s)).1
 
@@ -44,29 +35,27 @@ next_of image mid start at room s inside low w = by_rest w.rest refl where
       let here = (split (c ∷ later) e).0 in
       record { summed = w; chunk = c; later = later; rest_is = e; spelled = here; inside = (Spelled-size image at c here).1 }
 
-pub summed_chunk : (image : List ℕ) (stretch : Stretch) (at room : ℕ) → HeapAccepted image → IsStretch image stretch → SumsUpTo image stretch at room → at < stretch.end → (c : Chunk) × Spelled image at c
-summed_chunk image stretch at room h s w low =
-    let m = mid_spelled image s.before s.mid s.after stretch h s.is in
+pub summed_chunk : {image : List ℕ} {stretch : Stretch} {at room : ℕ} → HeapAccepted image → IsStretch image stretch → SumsUpTo image stretch at room → at < stretch.end → (c : Chunk) × Spelled image at c
+summed_chunk {image} h s w low =
+    let m = mid_spelled h s.is in
     let to = s.is.to in
-    let n = next_of image s.mid stretch.start at room m.0 m.1 (omega arith) (w s.before s.mid s.after s.is) in
+    let n = next_of image m.0 m.1 (omega arith) (w s.before s.mid s.after s.is) in
     (n.chunk, n.spelled)
 
-pub summed_misses : (m : Memory) (stretch : Stretch) (at room : ℕ) → HeapAccepted m.bytes → LendsBodies m → IsStretch m.bytes stretch → SumsUpTo m.bytes stretch at room → at < stretch.end → Misses m.lents at 8
-summed_misses m stretch at room h l s w low =
-    let ms = mid_spelled m.bytes s.before s.mid s.after stretch h s.is in
+pub summed_misses : {m : Memory} {stretch : Stretch} {at room : ℕ} → HoldsHeap m → IsStretch m.bytes stretch → SumsUpTo m.bytes stretch at room → at < stretch.end → Misses m.lents at 8
+summed_misses {m} {at} h s w low =
+    let ms = mid_spelled h.accepted s.is in
     let to = s.is.to in
-    let from = s.is.from in
-    let n = next_of m.bytes s.mid stretch.start at room ms.0 ms.1 (omega arith) (w s.before s.mid s.after s.is) in
-    let there = n.summed.there in
-    row_misses m s.before n.summed.front n.chunk n.later s.after at h l
-    (s.is.whole.chunks ∙ ap (λ (cs : List Chunk). s.before ++ (cs ++ s.after)) (n.summed.parts ∙ ap (λ (cs : List Chunk). n.summed.front ++ cs) n.rest_is)) (omega (arith, there, from))
+    let n = next_of m.bytes ms.0 ms.1 (omega arith) (w s.before s.mid s.after s.is) in
+    row_misses m s.before n.summed.front n.chunk n.later s.after at h.accepted h.lent
+    (s.is.whole.chunks ∙ ap (λ (cs : List Chunk). s.before ++ (cs ++ s.after)) (n.summed.parts ∙ ap (λ (cs : List Chunk). n.summed.front ++ cs) n.rest_is)) (omega (arith, n.summed.there, s.is.from))
 
 -- the room so far is no more than what was passed
-pub summed_fits : (image : List ℕ) (stretch : Stretch) (at room : ℕ) (header : Header) → HeapAccepted image → IsStretch image stretch → SumsUpTo image stretch at room → at < stretch.end → HasHeader image at header → (room ≤ at) × (at + size_by header ≤ length image)
-summed_fits image stretch at room header h s w low found =
-    let m = mid_spelled image s.before s.mid s.after stretch h s.is in
+pub summed_fits : {image : List ℕ} {stretch : Stretch} {at room : ℕ} {header : Header} → HeapAccepted image → IsStretch image stretch → SumsUpTo image stretch at room → at < stretch.end → HasHeader image at header → (room ≤ at) × (at + size_by header ≤ length image)
+summed_fits {image} {at} {header} h s w low found =
+    let m = mid_spelled h s.is in
     let to = s.is.to in
-    let n = next_of image s.mid stretch.start at room m.0 m.1 (omega arith) (w s.before s.mid s.after s.is) in
+    let n = next_of image m.0 m.1 (omega arith) (w s.before s.mid s.after s.is) in
     let there = n.summed.there in
     let sums = n.summed.sums in
     let within = free_within n.summed.front in
@@ -74,11 +63,11 @@ summed_fits image stretch at room header h s w low found =
     let size : size_by header ≡ size_of found.chunk = ap size_by found.header_is ∙ size_by-header_of found.chunk in
     (omega arith, omega arith)
 
-pub summed_more : (image : List ℕ) (stretch : Stretch) (at room size more : ℕ) (header : Header) → HeapAccepted image → SumsUpTo image stretch at room → at < stretch.end → HasHeader image at header → size ≡ size_by header → more ≡ free_by header → SumsUpTo image stretch (at + size) (room + more)
-summed_more image stretch at room size more header h w low found size_is more_is before mid after s =
-    let m = mid_spelled image before mid after stretch h s in
+pub summed_more : {image : List ℕ} {stretch : Stretch} {at room size more : ℕ} {header : Header} → HeapAccepted image → SumsUpTo image stretch at room → at < stretch.end → HasHeader image at header → size ≡ size_by header → more ≡ free_by header → SumsUpTo image stretch (at + size) (room + more)
+summed_more {image} {at} {size} {more} {header} h w low found size_is more_is before mid after s =
+    let m = mid_spelled h s in
     let to = s.to in
-    let n = next_of image mid stretch.start at room m.0 m.1 (omega arith) (w before mid after s) in
+    let n = next_of image m.0 m.1 (omega arith) (w before mid after s) in
     let same : header ≡ header_of n.chunk = found.header_is ∙ ap header_of (Spelled-unique image at found.chunk n.chunk found.spelled n.spelled) in
     let taken : size ≡ size_of n.chunk = size_is ∙ ap size_by same ∙ size_by-header_of n.chunk in
     let gained : more ≡ free_size n.chunk = more_is ∙ ap free_by same ∙ free_of n.chunk in
@@ -96,11 +85,10 @@ summed_more image stretch at room size more header h w low found size_is more_is
       sums = omega arith;
     }
 
-pub summed_all : (image : List ℕ) (stretch : Stretch) (at room : ℕ) → HeapAccepted image → SumsUpTo image stretch at room → stretch.end ≤ at → HasRoomOf image stretch room
-summed_all image stretch at room h w past before mid after s =
+pub summed_all : {image : List ℕ} {stretch : Stretch} {at room : ℕ} → HeapAccepted image → SumsUpTo image stretch at room → stretch.end ≤ at → HasRoomOf image stretch room
+summed_all {image} {stretch} {at} {room} h w past before mid after s =
     let k = w before mid after s in
-    let m = mid_spelled image before mid after stretch h s in
-    by_rest k k.rest refl m.0 where
+    by_rest k k.rest refl (mid_spelled h s).0 where
       by_rest : (k : Summed mid stretch.start at room) (rest : List Chunk) → k.rest ≡ rest → SpelledAll image stretch.start mid (stretch.start + total mid) → room ≡ room_of mid
       by_rest k [] e spelled = k.sums ∙ ap room_of (sym (append-nil k.front) ∙ ap (λ (cs : List Chunk). k.front ++ cs) (sym e) ∙ sym k.parts)
       by_rest k (c ∷ rest) e spelled =

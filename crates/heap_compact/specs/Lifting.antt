@@ -97,7 +97,7 @@ abbrev pub Lifts : List ℕ → List ℕ → ℕ → ℕ → ℕ → Type 0
 Lifts old new start end gap = (before mid after : List Chunk) → FreeBehind old before mid after start end gap → BecomesExactly old new (before ++ free gap ∷ (mid ++ after))
 
 -- of the chunks `rest`, which were not mended, the first ones, up to `at`, are mended now
-pub record Walked (old image : List ℕ) (before done rest after : List Chunk) (gap at end : ℕ) : Type 0 where
+pub record MendedUpTo (old image : List ℕ) (before done rest after : List Chunk) (gap at end : ℕ) : Type 0 where
   pub front : List Chunk
   pub back : List Chunk
   pub parts : rest ≡ front ++ back
@@ -107,4 +107,4 @@ pub record Walked (old image : List ℕ) (before done rest after : List Chunk) (
 -- the walk from `start` up to `end` is at `at`
 abbrev pub Walks : List ℕ → List ℕ → ℕ → ℕ → ℕ → ℕ → Type 0
 Walks first image gap start at end =
-    (old : List ℕ) (before done rest after : List Chunk) → Lifting old first before done rest after gap start → end ≡ start + total rest → Walked old image before done rest after gap at end
+    (old : List ℕ) (before done rest after : List Chunk) → Lifting old first before done rest after gap start → end ≡ start + total rest → MendedUpTo old image before done rest after gap at end

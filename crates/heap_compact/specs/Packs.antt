@@ -50,8 +50,8 @@ last_room room (movable bytes (suc count) owner slot ∷ chunks) = last_room 0 c
 last_room room (fixed bytes owner ∷ chunks) = last_room 0 chunks
 
 -- `room` bytes of room are at the end of the chunks from `start` up to `end` when they are packed
-abbrev pub LeavesRoom : List ℕ → ℕ → ℕ → ℕ → Type 0
-LeavesRoom image start end room = (before mid after : List Chunk) → RunOf image before mid after start end → room ≡ last_room 0 mid
+abbrev pub LeavesLastRoom : List ℕ → ℕ → ℕ → ℕ → Type 0
+LeavesLastRoom image start end room = (before mid after : List Chunk) → RunOf image before mid after start end → room ≡ last_room 0 mid
 
 -- ---- one chunk
 
@@ -130,8 +130,8 @@ pub record IsDroppable (image : List ℕ) (at room : ℕ) : Type 0 where
   pub drops : Droppable image before bytes lock owner slot after at room
 
 -- the movable chunk at `at` goes down over the free one before it
-abbrev pub Drops : List ℕ → List ℕ → ℕ → ℕ → Type 0
-Drops old new at room =
+abbrev pub MovesDown : List ℕ → List ℕ → ℕ → ℕ → Type 0
+MovesDown old new at room =
     (before : List Chunk) (bytes : List ℕ) (lock owner slot : ℕ) (after : List Chunk) → Droppable old before bytes lock owner slot after at room → BecomesExactly old new (before ++ movable bytes lock owner slot ∷ free room ∷ after)
 
 -- ---- the loop

@@ -10,7 +10,7 @@ use Rattle.heap_model.specs.Space.{room_of}
 use Rattle.heap_model.specs.Leaving.{Leaves}
 use Rattle.heap_model.specs.Packing.{WholeStretch}
 use Rattle.heap_place.specs.declared.found.Found.{Found}
-use Rattle.heap_place.specs.Found.{header_at}
+use Rattle.heap_place.specs.Found.{header_offset}
 
 -- a movable chunk without locks has this name
 pub record IsLoose (image : List ℕ) (name : ℕ) : Type 0 where
@@ -32,6 +32,6 @@ pub record FitsInStretch (image : List ℕ) (found : Found) (size : ℕ) : Type 
   pub back : List Chunk
   pub after : List Chunk
   pub whole : WholeStretch image before (front ++ movable bytes 0 owner found.name.0 ∷ back) after
-  pub there : header_at found ≡ area_start image + total before + total front
+  pub there : header_offset found ≡ area_start image + total before + total front
   pub many : found.length ≡ length bytes
   pub enough : size ≤ need (length bytes) + room_of (front ++ back)

@@ -7,7 +7,7 @@ use Rattle.heap_model.specs.Space.{NoneStays, room_of, rooms_of, stretches}
 use Rattle.heap_model.specs.Layout.{Becomes, IsRoom}
 use Rattle.heap_model.specs.Packing.{packed, moved_by_packing, EndsStaying, WholeStretch, opened}
 use Rattle.heap_place.specs.declared.found.Found.{Found}
-use Rattle.heap_place.specs.Found.{header_at}
+use Rattle.heap_place.specs.Found.{header_offset}
 use Rattle.heap_compact.specs.declared.stretch.Stretch.{Stretch}
 
 -- the chunks `mid` are a whole stretch, and `stretch` has its start and end
@@ -64,8 +64,8 @@ pub record IsAmongAt (image : List ℕ) (at name count : ℕ) (stretch : Stretch
   pub many : count ≡ length bytes
 
 -- the same for a chunk that was found
-abbrev pub IsAmong : List ℕ → Found → Stretch → Type 0
-IsAmong image found stretch = IsAmongAt image (header_at found) found.name.0 found.length stretch
+abbrev pub IsFoundAmong : List ℕ → Found → Stretch → Type 0
+IsFoundAmong image found stretch = IsAmongAt image (header_offset found) found.name.0 found.length stretch
 
 -- The room of its stretch is directly after the movable chunk without locks at `at`. The image has
 -- exactly these chunks, so that the room is one free chunk.

@@ -7,7 +7,7 @@ ghost use Rattle.heap_model.specs.Reading.{chunks_of};
 ghost use Rattle.heap_model.specs.Space.{NoRun, ShortFor, FitsInPlace, MovesAlone, MovesOneStretchAnd};
 ghost use Rattle.heap_model.specs.Lending.{HoldsHeap};
 ghost use Rattle.heap_place.specs.Found.{IsOne};
-ghost use Rattle.heap_compact.specs.Stretches.{IsAmong};
+ghost use Rattle.heap_compact.specs.Stretches.{IsFoundAmong};
 ghost use Rattle.heap_compact.specs.Resized.{IsLoose, Resized, FitsInStretch};
 
 use crate::making::room_by_packing;
@@ -95,7 +95,7 @@ fn relocate_named(space: &mut Space, name: Name, count: u32)
 fn grow_in_stretch(space: &mut Space, found: Found, stretch: Stretch, count: u32)
     requires found { IsOne space.old.bytes found }
     requires unlocked { found.lock ≡ 0 }
-    requires among { IsAmong space.old.bytes found stretch }
+    requires among { IsFoundAmong space.old.bytes found stretch }
     requires fits { FitsInStretch space.old.bytes found (need count) }
     ensures resized { Resized space.old.bytes space.new.bytes found.name.0 count }
     ensures one_stretch { MovesOneStretchAnd space.old.bytes space.new.bytes found.name.0 }

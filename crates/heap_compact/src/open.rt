@@ -6,8 +6,8 @@ ghost use Rattle.heap_model.specs.Placing.{SameFrame};
 ghost use Rattle.heap_model.specs.Layout.{WritesPlain};
 ghost use Rattle.heap_model.specs.Packing.{OpensBehind};
 ghost use Rattle.heap_model.specs.Lending.{HoldsHeap};
-ghost use Rattle.heap_place.specs.Found.{header_at};
-ghost use Rattle.heap_compact.specs.Stretches.{IsAmong, OpensExactly};
+ghost use Rattle.heap_place.specs.Found.{header_offset};
+ghost use Rattle.heap_compact.specs.Stretches.{IsFoundAmong, OpensExactly};
 ghost use Rattle.heap_place.specs.Lists.{HasLists};
 
 use crate::lift::lift;
@@ -24,10 +24,10 @@ use raw_region::Region;
 /// this one are slid once more. Then only that free chunk is in a list.
 pub(crate) fn open_in(region: &mut Region, lists: &mut Lists, stretch: Stretch, found: Found)
     requires heap { HoldsHeap region.old }
-    requires among { IsAmong region.old.bytes found stretch }
+    requires among { IsFoundAmong region.old.bytes found stretch }
     ensures lists { HasLists region.new.bytes lists.new }
-    ensures opened { OpensBehind region.old.bytes region.new.bytes (header_at found) }
-    ensures exact { OpensExactly region.old.bytes region.new.bytes (header_at found) }
+    ensures opened { OpensBehind region.old.bytes region.new.bytes (header_offset found) }
+    ensures exact { OpensExactly region.old.bytes region.new.bytes (header_offset found) }
     ensures frame { SameFrame region.old.bytes region.new.bytes }
     ensures plain { WritesPlain region.old.bytes region.new.bytes }
     ensures out { region.new.lents ≡ region.old.lents }

@@ -11,7 +11,7 @@ ghost use Rattle.heap_model.specs.Layout.{Becomes, WritesPlain};
 ghost use Rattle.heap_model.specs.Packing.{packed};
 ghost use Rattle.heap_model.specs.Lending.{HoldsHeap};
 ghost use Rattle.heap_compact.specs.Stretches.{IsStretch, PacksStretch, RoomAtEnd, SlidesStretch};
-ghost use Rattle.heap_compact.specs.Packs.{IsRun, Packs, MovesInRun, LeavesRoom, IsBehindRoom, PacksOne, IsDroppable, Drops, HeaderStays, slot_by};
+ghost use Rattle.heap_compact.specs.Packs.{IsRun, Packs, MovesInRun, LeavesLastRoom, IsBehindRoom, PacksOne, IsDroppable, MovesDown, HeaderStays, slot_by};
 ghost use Rattle.heap_place.specs.Lists.{AreLists, HasLists, KeepsFree};
 ghost use Rattle.heap_place.specs.Gathers.{Before};
 ghost use Rattle.chunk_format.specs.Header.{HasHeader, size_by};
@@ -75,7 +75,7 @@ pub(crate) fn pack(region: &mut Region, lists: &mut Lists, start: u32, end: u32)
     ensures lists { HasLists region.new.bytes lists.new }
     ensures packed { Packs region.old.bytes region.new.bytes start end }
     ensures moved { MovesInRun region.old.bytes start end result.slid }
-    ensures room { LeavesRoom region.old.bytes start end result.room }
+    ensures room { LeavesLastRoom region.old.bytes start end result.room }
     ensures out { region.new.lents ≡ region.old.lents }
     ensures slid { region.new.slid ≡ region.old.slid + result.slid }
     ensures heap { HoldsHeap region.new }
@@ -162,7 +162,7 @@ fn drop_one(region: &mut Region, header: Header, at: u32, size: u32, room: u32)
     requires loose { HeaderStays header → ⊥ }
     requires header { HasHeader region.old.bytes at header }
     requires size { size ≡ size_by header }
-    ensures dropped { Drops region.old.bytes region.new.bytes at room }
+    ensures dropped { MovesDown region.old.bytes region.new.bytes at room }
     ensures keeps { KeepsFree (Before (at - room)) region.old.bytes region.new.bytes }
     ensures out { region.new.lents ≡ region.old.lents }
     ensures slid { region.new.slid ≡ region.old.slid + size }

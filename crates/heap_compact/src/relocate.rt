@@ -12,7 +12,7 @@ ghost use Rattle.heap_model.specs.Reading.{chunks_of};
 ghost use Rattle.heap_model.specs.Space.{NoRun};
 ghost use Rattle.heap_model.specs.Placing.{SameFrame};
 ghost use Rattle.heap_model.specs.Layout.{Alters, Claims, IsSpot, WritesPlain};
-ghost use Rattle.heap_place.specs.Found.{IsOne, header_at};
+ghost use Rattle.heap_place.specs.Found.{IsOne, header_offset};
 ghost use Rattle.heap_place.specs.Relocation.{stand_in, KeepsFound, Copies, with_name, RelocatesFound, RelocatesToRun};
 ghost use Rattle.heap_place.specs.Lists.{Any, KeepsFree, HasLists};
 
@@ -185,7 +185,7 @@ fn take_name(region: &mut Region, there: Found, slot: Name, owner: u8)
     requires slot { IsSlot region.old.bytes slot.0 }
     requires empty { u32_at region.old.bytes slot.0 ≡ 0 }
     requires owner { owner ≤ data_owner }
-    ensures made { Alters region.old.bytes region.new.bytes (header_at there)
+    ensures made { Alters region.old.bytes region.new.bytes (header_offset there)
         (with_name owner slot.0) }
     ensures keeps { KeepsFree Any region.old.bytes region.new.bytes }
     ensures plain { WritesPlain region.old.bytes region.new.bytes }

@@ -7,7 +7,7 @@ ghost use Rattle.heap_model.specs.Chunk.{need};
 ghost use Rattle.heap_model.specs.Lending.{LendsOther, HoldsHeap};
 ghost use Rattle.heap_model.specs.Layout.{WritesPlain};
 ghost use Rattle.heap_model.specs.Resizing.{GrowsInPlace};
-ghost use Rattle.heap_place.specs.Found.{IsOne, header_at};
+ghost use Rattle.heap_place.specs.Found.{IsOne, header_offset};
 ghost use Rattle.heap_place.specs.Lists.{HasLists, Outside, IsFreeChunk, KeepsFree};
 ghost use Rattle.heap_place.specs.Resizes.{sized_header, RunBehind, Resizes, TellsWhetherInPlace};
 
@@ -29,8 +29,8 @@ fn resize_at(region: &mut Region, found: Found, count: u32, behind: u32) -> u32
     requires fits { need count ≤ need found.length + behind }
     ensures resized { Resizes region.old.bytes region.new.bytes found count behind }
     ensures left { result ≡ need found.length + behind - need count }
-    ensures chunk { 0 < result → IsFreeChunk region.new.bytes (header_at found + need count) result }
-    ensures keeps { KeepsFree (Outside (header_at found) (need found.length + behind))
+    ensures chunk { 0 < result → IsFreeChunk region.new.bytes (header_offset found + need count) result }
+    ensures keeps { KeepsFree (Outside (header_offset found) (need found.length + behind))
         region.old.bytes region.new.bytes }
     ensures plain { WritesPlain region.old.bytes region.new.bytes }
     ensures rest { region.new ≡ record region.old { bytes = region.new.bytes } }
@@ -118,7 +118,7 @@ pub(crate) fn grow_in_place_at(
     requires lists { HasLists region.old.bytes lists.old }
     ensures lists { HasLists region.new.bytes lists.new }
     ensures grown { OnTrue result
-        (GrowsInPlace region.old.bytes region.new.bytes (header_at found) count) }
+        (GrowsInPlace region.old.bytes region.new.bytes (header_offset found) count) }
     ensures refused { OnFalse result (region.new ≡ region.old) }
     ensures tells { TellsWhetherInPlace region.old.bytes found (need count) result }
     ensures plain { WritesPlain region.old.bytes region.new.bytes }

@@ -8,7 +8,7 @@ ghost use Rattle.heap_model.specs.Memory.{without};
 ghost use Rattle.std.specs.Bool.{OnTrue, OnFalse};
 ghost use Rattle.heap_model.specs.Bytes.{u32_at};
 ghost use Rattle.heap_model.specs.Chunk.{movable, fixed, need, fixed_lock, is_owned_by, managers_owner, data_owner};
-ghost use Rattle.heap_model.specs.Slots.{IsSlot, is_chained};
+ghost use Rattle.heap_model.specs.Slots.{IsSlot, is_chained, slots_total as model_total};
 ghost use Rattle.heap_model.specs.MoreTables.{table_need, PutsTable};
 ghost use Rattle.heap_model.specs.Meaning.{LiveChunk};
 ghost use Rattle.heap_model.specs.Lending.{LendsOther, LendsNoneOf, HoldsHeap};
@@ -23,10 +23,10 @@ ghost use Rattle.heap_model.specs.Leaving.{NamesDirectory};
 ghost use Rattle.heap_model.specs.Layout.{Becomes, layout_of, owned_freed, Alters, freed, with_lock, with_owner, with_bytes, FreeUpTo, IsSpot, Claims, WritesPlain};
 ghost use Rattle.heap_compact.specs.ByteChanges.{ChangesEvery};
 ghost use Rattle.master_table.specs.Table.{HoldsNothing};
-ghost use Rattle.heap_place.specs.Found.{IsFound, IsOne, NothingAt, CanGoTo, SlidesWithin, header_at};
+ghost use Rattle.heap_place.specs.Found.{IsFound, IsOne, NothingAt, CanGoTo, SlidesWithin, header_offset};
 ghost use Rattle.heap_place.specs.Resizes.{TellsWhetherInPlace};
 ghost use Rattle.heap_place.specs.Relocation.{RelocatesToRun};
-ghost use Rattle.heap_compact.specs.Stretches.{IsStretch, IsAmong, HasRoom, HasRoomOf, OpensExactly, PacksStretch, RoomAtEnd, SlidesStretch};
+ghost use Rattle.heap_compact.specs.Stretches.{IsStretch, IsFoundAmong, HasRoom, HasRoomOf, OpensExactly, PacksStretch, RoomAtEnd, SlidesStretch};
 
 use crate::open::open_in;
 use crate::pack::{compact, pack_stretch};
@@ -61,8 +61,8 @@ use std::marker::Model;
 pub struct Space {
     region: Region,
     lists: Lists,
-    /// Further tables that are remembered, so that their slots are found without a walk along the
-    /// chain.
+    /// Further tables that are remembered, so that their slots and the end of the chain are found
+    /// without a walk along it.
     tables: KnownTables,
 }
 
@@ -285,9 +285,18 @@ impl Space {
             room,
             size_of_body(TABLE_LENGTH),
         );
-        claim_table_at(&mut self.region, room.at);
+        let start = self.tables.move_to_last(&self.region);
+        claim_table_at(&mut self.region, room.at, start);
         self.tables.remember(Place(room.at + HEADER_SIZE));
         build_unless_packed(&mut self.region, &mut self.lists);
+    }
+
+    /// Returns how many slots there are. It walks only along the tables after the one that was the
+    /// last when the last one was looked for.
+    pub fn slots_total(&self) -> u32
+        ensures { result ≡ model_total self.now.bytes }
+    {
+        self.tables.slots_total(&self.region)
     }
 
     /// Makes a live chunk free, and returns the number of free bytes from its header up to the next
@@ -297,8 +306,8 @@ impl Space {
         requires found { IsOne self.old.bytes found }
         requires other { LendsOther self.old found.place.0 }
         requires no_directory { found.name.0 ≢ directory_of self.old.bytes }
-        ensures gone { Alters self.old.bytes self.new.bytes (header_at found) freed }
-        ensures free { FreeUpTo self.new.bytes (header_at found) (header_at found + result) }
+        ensures gone { Alters self.old.bytes self.new.bytes (header_offset found) freed }
+        ensures free { FreeUpTo self.new.bytes (header_offset found) (header_offset found + result) }
         ensures plain { WritesPlain self.old.bytes self.new.bytes }
         ensures rest { self.new ≡ record self.old { bytes = self.new.bytes } }
         ensures heap { HoldsHeap self.new }
@@ -333,7 +342,7 @@ impl Space {
         requires lock { lock < fixed_lock }
         requires stays { (0 < lock) ⊎ LendsOther self.old found.place.0 }
         requires owned { (lock ≡ 0) ⊎ (0 < found.owner) }
-        ensures made { Alters self.old.bytes self.new.bytes (header_at found) (with_lock lock) }
+        ensures made { Alters self.old.bytes self.new.bytes (header_offset found) (with_lock lock) }
         ensures plain { WritesPlain self.old.bytes self.new.bytes }
         ensures rest { self.new ≡ record self.old { bytes = self.new.bytes } }
         ensures heap { HoldsHeap self.new }
@@ -346,7 +355,7 @@ impl Space {
     pub fn reown(&mut self, found: Found, owner: u8)
         requires found { IsOne self.old.bytes found }
         requires owner { CanGoTo self.old.bytes found owner }
-        ensures made { Alters self.old.bytes self.new.bytes (header_at found) (with_owner owner) }
+        ensures made { Alters self.old.bytes self.new.bytes (header_offset found) (with_owner owner) }
         ensures plain { WritesPlain self.old.bytes self.new.bytes }
         ensures rest { self.new ≡ record self.old { bytes = self.new.bytes } }
         ensures heap { HoldsHeap self.new }
@@ -360,7 +369,7 @@ impl Space {
         requires found { IsOne self.old.bytes found }
         requires other { LendsOther self.old found.place.0 }
         requires within { at + length bytes.now ≤ found.length }
-        ensures made { Alters self.old.bytes self.new.bytes (header_at found)
+        ensures made { Alters self.old.bytes self.new.bytes (header_offset found)
             (with_bytes at bytes.now) }
         ensures plain { WritesPlain self.old.bytes self.new.bytes }
         ensures rest { self.new ≡ record self.old { bytes = self.new.bytes } }
@@ -376,7 +385,7 @@ impl Space {
         requires found { IsOne self.old.bytes found }
         requires other { LendsOther self.old found.place.0 }
         requires within { at + length bytes.now + 1 ≤ found.length }
-        ensures made { Alters self.old.bytes self.new.bytes (header_at found)
+        ensures made { Alters self.old.bytes self.new.bytes (header_offset found)
             (with_bytes at (bytes.now ++ 0 ∷ [])) }
         ensures plain { WritesPlain self.old.bytes self.new.bytes }
         ensures rest { self.new ≡ record self.old { bytes = self.new.bytes } }
@@ -392,7 +401,7 @@ impl Space {
         requires found { IsOne self.old.bytes found }
         requires other { LendsOther self.old found.place.0 }
         requires within { at + count ≤ found.length }
-        ensures made { Alters self.old.bytes self.new.bytes (header_at found)
+        ensures made { Alters self.old.bytes self.new.bytes (header_offset found)
             (with_bytes at (replicate count byte)) }
         ensures plain { WritesPlain self.old.bytes self.new.bytes }
         ensures rest { self.new ≡ record self.old { bytes = self.new.bytes } }
@@ -452,7 +461,7 @@ impl Space {
         requires found { IsOne self.old.bytes found }
         requires stays { 0 < found.lock }
         ensures part { result.bytes ≡ slice_range self.old.bytes found.place.0 (found.place.0 + found.length) }
-        ensures made { Alters self.old.bytes self.new.bytes (header_at found)
+        ensures made { Alters self.old.bytes self.new.bytes (header_offset found)
             (with_bytes 0 (replicate found.length 0)) }
         ensures plain { WritesPlain self.old.bytes self.new.bytes }
         ensures out { self.new.lents ≡ record
@@ -469,7 +478,7 @@ impl Space {
         requires out { IsOut self.old.lents found.place.0 part }
         requires found { IsOne self.old.bytes found }
         requires whole { length part.bytes ≡ found.length }
-        ensures made { Alters self.old.bytes self.new.bytes (header_at found)
+        ensures made { Alters self.old.bytes self.new.bytes (header_offset found)
             (with_bytes 0 part.bytes) }
         ensures plain { WritesPlain self.old.bytes self.new.bytes }
         ensures rest { self.new
@@ -523,7 +532,7 @@ impl Space {
         requires found { IsOne self.old.bytes found }
         requires other { LendsOther self.old found.place.0 }
         requires fits { need count ≤ need found.length }
-        ensures made { Shrinks self.old.bytes self.new.bytes (header_at found) count }
+        ensures made { Shrinks self.old.bytes self.new.bytes (header_offset found) count }
         ensures plain { WritesPlain self.old.bytes self.new.bytes }
         ensures rest { self.new ≡ record self.old { bytes = self.new.bytes } }
         ensures heap { HoldsHeap self.new }
@@ -539,7 +548,7 @@ impl Space {
         requires found { IsOne self.old.bytes found }
         requires other { LendsOther self.old found.place.0 }
         ensures made { OnTrue result
-            (GrowsInPlace self.old.bytes self.new.bytes (header_at found) count) }
+            (GrowsInPlace self.old.bytes self.new.bytes (header_offset found) count) }
         ensures refused { OnFalse result (self.new ≡ self.old) }
         ensures tells { TellsWhetherInPlace self.old.bytes found (need count) result }
         ensures plain { WritesPlain self.old.bytes self.new.bytes }
@@ -568,7 +577,7 @@ impl Space {
     pub fn stretch_around(&self, found: Found) -> Stretch
         requires found { IsOne self.now.bytes found }
         requires unlocked { found.lock ≡ 0 }
-        ensures around { IsAmong self.now.bytes found result }
+        ensures around { IsFoundAmong self.now.bytes found result }
         ensures stretch { IsStretch self.now.bytes result }
     {
         stretch_around(&self.region, found)
@@ -612,9 +621,9 @@ impl Space {
     /// chunks of the stretch become one, directly after the chunk. A `Found` of a chunk of the
     /// stretch may be out of date afterwards.
     pub fn open_behind(&mut self, found: Found, stretch: Stretch)
-        requires among { IsAmong self.old.bytes found stretch }
-        ensures opened { OpensBehind self.old.bytes self.new.bytes (header_at found) }
-        ensures exact { OpensExactly self.old.bytes self.new.bytes (header_at found) }
+        requires among { IsFoundAmong self.old.bytes found stretch }
+        ensures opened { OpensBehind self.old.bytes self.new.bytes (header_offset found) }
+        ensures exact { OpensExactly self.old.bytes self.new.bytes (header_offset found) }
         ensures frame { SameFrame self.old.bytes self.new.bytes }
         ensures plain { WritesPlain self.old.bytes self.new.bytes }
         ensures few { self.new.slid ≤ self.old.slid + 2 * (stretch.end - stretch.start) }

@@ -6,7 +6,7 @@ ghost use Rattle.heap_model.specs.Slots.{area_start};
 ghost use Rattle.heap_model.specs.Space.{Short, rooms, greatest};
 ghost use Rattle.heap_model.specs.Lending.{HoldsHeap};
 ghost use Rattle.heap_place.specs.Found.{IsOne};
-ghost use Rattle.heap_compact.specs.Stretches.{IsStretch, IsAmong, HasRoom, HasRoomOf};
+ghost use Rattle.heap_compact.specs.Stretches.{IsStretch, IsFoundAmong, HasRoom, HasRoomOf};
 
 use crate::pack::stays;
 use chunk_format::{HEADER_SIZE, Header, area_start};
@@ -35,7 +35,7 @@ pub(crate) fn stretch_around(region: &Region, found: Found) -> Stretch
     requires heap { HoldsHeap region.now }
     requires found { IsOne region.now.bytes found }
     requires unlocked { found.lock ≡ 0 }
-    ensures around { IsAmong region.now.bytes found result }
+    ensures around { IsFoundAmong region.now.bytes found result }
     ensures stretch { IsStretch region.now.bytes result }
 {
     let at = found.place.0 - HEADER_SIZE;

@@ -18,7 +18,7 @@ use Rattle.chunk_format.specs.Header.{header_of, size_by, HasHeader}
 use Rattle.chunk_format.proofs.HeaderLaws.{size_by-header_of}
 use Rattle.heap_check.specs.Owners.{IsRoomFor}
 use Rattle.heap_check.proofs.WalkLaws.{HasPassed, passed_step, passed_more}
-use Rattle.store_check.specs.Naming.{HasRoom}
+use Rattle.store_check.specs.Naming.{AreEnoughMarks}
 use Rattle.store_check.proofs.SlotWords.{slot_word}
 use Rattle.heap_map.specs.declared.cells.Cells.{Cells}
 use Rattle.heap_map.specs.Marks.{free_mark, mark_of, mark_by, cell_byte}
@@ -27,7 +27,7 @@ use Rattle.heap_model.specs.Store.{Accepted}
 use Rattle.laws_store.proofs.Numbers.{numbered_more}
 use Rattle.store_check.proofs.IndexLaws.{length-numbered}
 use Rattle.heap_map.specs.Cells.{marks as image_marks}
-use Rattle.heap_map.specs.Cells.{area_size, cell_size, cell_count, mark_at, in_cell, mark_here, first_mark, free_here, free_within, free_by, drawn_by, IsClear, HoldChunks, AddsChunk}
+use Rattle.heap_map.specs.Cells.{area_size, cell_size, cell_count, mark_at, in_cell, mark_here, first_mark, free_here, free_within, free_taken, drawn_by, IsClear, HoldChunks, AddsChunk}
 
 -- ---- the cells that have some bytes
 
@@ -143,7 +143,7 @@ drawn image (free size) = refl
 drawn image (movable bytes lock owner slot) = refl
 drawn image (fixed bytes owner) = refl
 
-freed : (c : Chunk) → free_by (header_of c) (size_of c) ≡ free_size c
+freed : (c : Chunk) → free_taken (header_of c) (size_of c) ≡ free_size c
 freed (free size) = refl
 freed (movable bytes lock owner slot) = refl
 freed (fixed bytes owner) = refl
@@ -167,7 +167,7 @@ record Adds (image : List ℕ) (old new : Cells) (cs : List Chunk) (c : Chunk) :
 added : (image : List ℕ) (old new : Cells) (cs : List Chunk) (c : Chunk) (header : Header) (mark at taken : ℕ) → header ≡ header_of c → mark ≡ mark_by image header → at ≡ total cs → taken ≡ size_of c → AddsChunk old new header mark at taken → Adds image old new cs c
 added image old new cs c header mark at taken is is_mark there takes a =
     let drawn_is : drawn_by header mark ≡ mark_of image c = ap (λ (m : ℕ). drawn_by header m) is_mark ∙ ap (λ (x : Header). drawn_by x (mark_by image x)) is ∙ drawn image c in
-    let free_is : free_by header taken ≡ free_size c = ap (λ (n : ℕ). free_by header n) takes ∙ ap (λ (x : Header). free_by x (size_of c)) is ∙ freed c in
+    let free_is : free_taken header taken ≡ free_size c = ap (λ (n : ℕ). free_taken header n) takes ∙ ap (λ (x : Header). free_taken x (size_of c)) is ∙ freed c in
     record {
       size = a.size;
       marks = λ k below most.
@@ -237,7 +237,7 @@ free_few image cells at k p below =
     omega arith
 
 -- a movable chunk's slot has a word in a table
-pub header_room : (image : List ℕ) (P : List Chunk → Type 0) (at : ℕ) (header : Header) (count : ℕ) → HeapAccepted image → HasPassed image P at → HasHeader image at header → HasRoom image count → IsRoomFor header count
+pub header_room : (image : List ℕ) (P : List Chunk → Type 0) (at : ℕ) (header : Header) (count : ℕ) → HeapAccepted image → HasPassed image P at → HasHeader image at header → AreEnoughMarks image count → IsRoomFor header count
 header_room image P at header count h p f room = (passed_step image P (λ chunks. IsRoomFor header count) at header (read_heap image h).tiles p f (λ chunks after there parts was. by chunks after f.chunk parts f.header_is)).holds where
   by : (chunks after : List Chunk) (c : Chunk) → chunks_of image ≡ chunks ++ c ∷ after → header ≡ header_of c → IsRoomFor header count
   by chunks after (free size) parts is = subst (λ (x : Header). IsRoomFor x count) (sym is) tt

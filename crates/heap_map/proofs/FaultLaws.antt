@@ -4,9 +4,9 @@ use Rattle.heap_model.specs.Store.{Accepted}
 use Rattle.store_check.specs.declared.fault.StoreFault.{StoreFault}
 use Rattle.store_check.specs.declared.fault.StoreFault.TheVariants as checks
 use Rattle.store_check.specs.Checks.{IsAnswered, IsRefusal}
-use Rattle.store_check.specs.Faults.{IsFirstFault}
+use Rattle.store_check.specs.Faults.{IsFirstStoreFault}
 use Rattle.heap_map.specs.declared.picture.MapFault.TheVariants.{BadImage, OutOfMemory, Write}
-use Rattle.heap_map.specs.Pictures.{map_fault, IsFaultOf}
+use Rattle.heap_map.specs.Pictures.{map_fault, IsMapFault}
 
 pub other_fault : (fault : StoreFault) → (fault ≡ checks.OutOfMemory → ⊥) → BadImage fault ≡ map_fault fault
 other_fault (checks.Heap fault) ne = refl
@@ -20,10 +20,10 @@ other_fault (checks.BadName db) ne = refl
 other_fault (checks.SameName db) ne = refl
 other_fault checks.OutOfMemory ne = absurd (ne refl)
 
-bad : (image : List ℕ) (fault : StoreFault) → (fault ≡ checks.OutOfMemory → ⊥) → IsAnswered image fault → IsRefusal image fault → (Accepted image → ⊥) × IsFirstFault image fault
+bad : (image : List ℕ) (fault : StoreFault) → (fault ≡ checks.OutOfMemory → ⊥) → IsAnswered image fault → IsRefusal image fault → (Accepted image → ⊥) × IsFirstStoreFault image fault
 bad image fault ne answered refusal = (elim refusal [ inl short ↦ absurd (ne short) | inr refused ↦ refused ], elim answered [ inl short ↦ absurd (ne short.0) | inr first ↦ first ])
 
-pub fault_of : (image : List ℕ) (fault : StoreFault) → IsAnswered image fault → IsRefusal image fault → IsFaultOf image (map_fault fault)
+pub fault_of : (image : List ℕ) (fault : StoreFault) → IsAnswered image fault → IsRefusal image fault → IsMapFault image (map_fault fault)
 fault_of image (checks.Heap fault) answered refusal = bad image (checks.Heap fault) (λ e. cc) answered refusal
 fault_of image (checks.BadDirectorySlot index) answered refusal = bad image (checks.BadDirectorySlot index) (λ e. cc) answered refusal
 fault_of image (checks.BadHeader db) answered refusal = bad image (checks.BadHeader db) (λ e. cc) answered refusal

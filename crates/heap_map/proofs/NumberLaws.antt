@@ -10,7 +10,7 @@ use Rattle.heap_model.specs.Store.{Accepted, listed}
 use Rattle.heap_check.specs.Owners.{marked_word}
 use Rattle.store_check.specs.Listing.{header_at, listed_at, listed_count}
 use Rattle.store_check.proofs.IndexLaws.{length-numbered}
-use Rattle.heap_map.specs.Numbers.{has_slot, number_below, database_number, HasNumbers, NotesSlots}
+use Rattle.heap_map.specs.Numbers.{has_slot, last_naming_below, database_number, HasNumbers, NotesSlots}
 
 -- ---- one slot
 
@@ -56,7 +56,7 @@ pub few_listed : (image : List ℕ) → Accepted image → listed_count image �
 unfolding listed
 few_listed image a = let few = a.few in let count = length-numbered (listed_at image) (listed_count image) in omega arith
 
-pub number_more : (image header table new : List ℕ) (db number : ℕ) → header ≡ header_at image db → number ≡ db + 1 → length new ≡ length table → HasNumbers (number_below image db) table → NotesSlots (data_in (database_in header)) number table new → HasNumbers (number_below image (db + 1)) new
+pub number_more : (image header table new : List ℕ) (db number : ℕ) → header ≡ header_at image db → number ≡ db + 1 → length new ≡ length table → HasNumbers (last_naming_below image db) table → NotesSlots (data_in (database_in header)) number table new → HasNumbers (last_naming_below image (db + 1)) new
 number_more image header table new db number is is_number len before notes k below =
     let q : ℕ = marked_word k in
     let inside : k < length table = omega arith in
@@ -66,8 +66,8 @@ number_more image header table new db number is is_number len before notes k bel
     ∙ ap (λ (b : List ℕ). cond (has_slot (data_in (database_in b)) q) number (slice_index table k)) is
     ∙ ap (λ (n : ℕ). cond (has_slot (data_in (database_in (header_at image db))) q) n (slice_index table k)) last
     ∙ ap (λ (n : ℕ). cond (has_slot (data_in (database_in (header_at image db))) q) (suc db) n) (before k inside)
-    ∙ ap (λ (n : ℕ). number_below image n q) more
+    ∙ ap (λ (n : ℕ). last_naming_below image n q) more
 
-pub numbers_all : (image table : List ℕ) (count : ℕ) → count ≡ listed_count image → HasNumbers (number_below image count) table → HasNumbers (database_number image) table
+pub numbers_all : (image table : List ℕ) (count : ℕ) → count ≡ listed_count image → HasNumbers (last_naming_below image count) table → HasNumbers (database_number image) table
 unfolding database_number
-numbers_all image table count e h k below = h k below ∙ ap (λ (n : ℕ). number_below image n (marked_word k)) e
+numbers_all image table count e h k below = h k below ∙ ap (λ (n : ℕ). last_naming_below image n (marked_word k)) e

@@ -17,7 +17,7 @@ use Rattle.chunk_format.specs.Header.{header_of, size_by, HasHeader}
 use Rattle.heap_check.proofs.WalkLaws.{HasPassed, passed_none, passed_more}
 use Rattle.heap_map.specs.declared.pieces.Pieces.{Pieces}
 use Rattle.heap_map.specs.Text.{free_sizes, free_pieces}
-use Rattle.heap_map.specs.Pieces.{free_by, run_size, with_header, with_run}
+use Rattle.heap_map.specs.Pieces.{free_by, run_size, pieces_after, with_run}
 
 -- the chunk is live
 abbrev pub IsLiveChunk : Chunk → Type 0
@@ -109,10 +109,10 @@ ended (Some run) count largest cs c l h = record {
 pub met_live : (pieces new : Pieces) (cs : List Chunk) (c : Chunk) → IsLiveChunk c → new ≡ with_run pieces.run pieces → HaveMet pieces cs → HaveMet new (cs ++ c ∷ [])
 met_live pieces new cs c l is h = subst (λ (p : Pieces). HaveMet p (cs ++ c ∷ [])) (sym is) (ended pieces.run pieces.count pieces.largest cs c l h)
 
-met_more : (pieces new : Pieces) (cs : List Chunk) (c : Chunk) (header : Header) → header ≡ header_of c → new ≡ with_header header pieces → HaveMet pieces cs → HaveMet new (cs ++ c ∷ [])
-met_more pieces new cs (free size) header is e h = subst (λ (p : Pieces). HaveMet p (cs ++ free size ∷ [])) (sym (e ∙ ap (λ (x : Header). with_header x pieces) is)) (met_free pieces cs size h)
-met_more pieces new cs (movable bytes lock owner slot) header is e h = met_live pieces new cs (movable bytes lock owner slot) tt (e ∙ ap (λ (x : Header). with_header x pieces) is) h
-met_more pieces new cs (fixed bytes owner) header is e h = met_live pieces new cs (fixed bytes owner) tt (e ∙ ap (λ (x : Header). with_header x pieces) is) h
+met_more : (pieces new : Pieces) (cs : List Chunk) (c : Chunk) (header : Header) → header ≡ header_of c → new ≡ pieces_after header pieces → HaveMet pieces cs → HaveMet new (cs ++ c ∷ [])
+met_more pieces new cs (free size) header is e h = subst (λ (p : Pieces). HaveMet p (cs ++ free size ∷ [])) (sym (e ∙ ap (λ (x : Header). pieces_after x pieces) is)) (met_free pieces cs size h)
+met_more pieces new cs (movable bytes lock owner slot) header is e h = met_live pieces new cs (movable bytes lock owner slot) tt (e ∙ ap (λ (x : Header). pieces_after x pieces) is) h
+met_more pieces new cs (fixed bytes owner) header is e h = met_live pieces new cs (fixed bytes owner) tt (e ∙ ap (λ (x : Header). pieces_after x pieces) is) h
 
 -- ---- the walk
 
@@ -133,7 +133,7 @@ free_size_by (headers.Free size) = omega arith
 free_size_by (headers.Movable length lock owner slot) = omega arith
 free_size_by (headers.Fixed length owner) = omega arith
 
-pub met_step : (image : List ℕ) (pieces new : Pieces) (at : ℕ) (header : Header) → HasPassed image (HaveMet pieces) at → HasHeader image at header → new ≡ with_header header pieces → HasPassed image (HaveMet new) (at + size_by header)
+pub met_step : (image : List ℕ) (pieces new : Pieces) (at : ℕ) (header : Header) → HasPassed image (HaveMet pieces) at → HasHeader image at header → new ≡ pieces_after header pieces → HasPassed image (HaveMet new) (at + size_by header)
 met_step image pieces new at header p f e = passed_more image (HaveMet pieces) (HaveMet new) at header p f (λ cs there h. met_more pieces new cs f.chunk header f.header_is e h)
 
 -- at the end

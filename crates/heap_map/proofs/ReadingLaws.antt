@@ -9,7 +9,7 @@ use Rattle.heap_model.specs.Store.{StoredDatabase, Accepted, IsHeaderSlot, IsDat
 use Rattle.laws_heap.proofs.FoundChunks.{InSlot, finds_held, finds_spelled, finds_body}
 use Rattle.laws_store.proofs.Shapes.{spelled_shape}
 use Rattle.chunk_format.specs.Header.{HasLive}
-use Rattle.db_format.specs.Headers.{IsWhole}
+use Rattle.db_format.specs.Headers.{AreWholeBytes}
 use Rattle.store_check.specs.Listing.{listed_at, listed_count, header_at}
 use Rattle.store_check.proofs.IndexLaws.{length-numbered, numbered_at, numbered_all}
 
@@ -44,7 +44,7 @@ unfolding header_at
 header_bytes image db slot is = ap (bytes_under image) is
 
 -- and its bytes
-pub header_whole : (image : List ℕ) (db : ℕ) → Accepted image → db < listed_count image → IsWhole (header_at image db)
+pub header_whole : (image : List ℕ) (db : ℕ) → Accepted image → db < listed_count image → AreWholeBytes (header_at image db)
 unfolding databases listed header_at
 header_whole image db a below =
     let slots : List ℕ = numbered (listed_at image) (listed_count image) in

@@ -39,11 +39,7 @@ free_within size k at (chunk ∷ chunks) = free_here size k at chunk + free_with
 abbrev pub area_size : List ℕ → ℕ
 area_size image = length image - area_start image
 
--- the most cells of a picture: 32 rows of 64
-abbrev pub most_cells : ℕ
-most_cells = 2048
-
--- the size of a cell: the least multiple of 8 with which there are at most `most_cells` cells
+-- the size of a cell: the least multiple of 8 with which there are at most 2048 cells, 32 rows of 64
 abbrev pub cell_size : List ℕ → ℕ
 cell_size image = 8 * ((area_size image + 16383) / 16384)
 
@@ -89,10 +85,10 @@ abbrev pub ArePainted : List ℕ → Cells → Type 0
 ArePainted image cells = HoldChunks image cells (chunks_of image)
 
 -- how many of the bytes that a chunk with this header takes are free
-abbrev pub free_by : Header → ℕ → ℕ
-free_by (headers.Free size) taken = taken
-free_by (headers.Movable length lock owner slot) taken = 0
-free_by (headers.Fixed length owner) taken = 0
+abbrev pub free_taken : Header → ℕ → ℕ
+free_taken (headers.Free size) taken = taken
+free_taken (headers.Movable length lock owner slot) taken = 0
+free_taken (headers.Fixed length owner) taken = 0
 
 -- the mark that a chunk with this header draws: this mark if it is live, and else that of free
 -- space
@@ -109,4 +105,4 @@ pub record AddsChunk (old new : Cells) (header : Header) (mark at taken : ℕ) :
   pub free_count : length new.free.items ≡ length old.free.items
   pub marks : (k : ℕ) → k < length old.marks.items → slice_index old.marks.items k ≤ free_mark
       → slice_index new.marks.items k ≡ (if nat_lt 0 (in_cell old.size k at (at + taken)) then min (drawn_by header mark) (slice_index old.marks.items k) else slice_index old.marks.items k)
-  pub free : (k : ℕ) → k < length old.free.items → slice_index new.free.items k ≡ slice_index old.free.items k + in_cell old.size k at (at + free_by header taken)
+  pub free : (k : ℕ) → k < length old.free.items → slice_index new.free.items k ≡ slice_index old.free.items k + in_cell old.size k at (at + free_taken header taken)

@@ -15,14 +15,14 @@ named_slots image db = data_in (database_in (header_at image db))
 
 -- Of the databases with numbers up to this one, the number of the last that names a slot. It is 0
 -- if none of them does.
-abbrev pub number_below : List ℕ → ℕ → ℕ → ℕ
-number_below image zero slot = 0
-number_below image (suc db) slot = if has_slot (named_slots image db) slot then suc db else number_below image db slot
+abbrev pub last_naming_below : List ℕ → ℕ → ℕ → ℕ
+last_naming_below image zero slot = 0
+last_naming_below image (suc db) slot = if has_slot (named_slots image db) slot then suc db else last_naming_below image db slot
 
 -- The number of the database that names a slot, or 0 if none does. In an accepted image no two
 -- databases name the same slot.
 unfoldable pub database_number : List ℕ → ℕ → ℕ
-database_number image slot = number_below image (listed_count image) slot
+database_number image slot = last_naming_below image (listed_count image) slot
 
 -- each entry of a table is the number that a function gives for the entry's word
 abbrev pub HasNumbers : (ℕ → ℕ) → List ℕ → Type 0

@@ -1,7 +1,7 @@
 -- The picture of an image before its lines are written, and the faults for which none is written.
 use Rattle.std.specs.Prelude.{◌≡◌, ℕ, List}
 use Rattle.heap_model.specs.Store.{Accepted}
-use Rattle.store_check.specs.Faults.{IsFirstFault}
+use Rattle.store_check.specs.Faults.{IsFirstStoreFault}
 use Rattle.store_check.specs.declared.fault.StoreFault.{StoreFault}
 use Rattle.store_check.specs.declared.fault.StoreFault.TheVariants as checks
 use Rattle.heap_map.specs.declared.picture.Picture.{Picture}
@@ -28,7 +28,7 @@ map_fault (checks.SameName db) = BadImage (checks.SameName db)
 map_fault checks.OutOfMemory = OutOfMemory
 
 -- this fault is why no picture was written, or not all of it
-abbrev pub IsFaultOf : List ℕ → MapFault → Type 0
-IsFaultOf image (BadImage fault) = (Accepted image → ⊥) × IsFirstFault image fault
-IsFaultOf image OutOfMemory = Unit {0}
-IsFaultOf image Write = Accepted image
+abbrev pub IsMapFault : List ℕ → MapFault → Type 0
+IsMapFault image (BadImage fault) = (Accepted image → ⊥) × IsFirstStoreFault image fault
+IsMapFault image OutOfMemory = Unit {0}
+IsMapFault image Write = Accepted image

@@ -1,6 +1,7 @@
 -- The free pieces that a walk has met.
 use Rattle.std.specs.Prelude.{◌+◌, max, ℕ, Option, Some, None}
 use Rattle.chunk_format.specs.declared.header.Header.{Header}
+pub use Rattle.chunk_format.specs.Header.{free_by}
 use Rattle.chunk_format.specs.declared.header.Header.TheVariants as headers
 use Rattle.heap_map.specs.declared.pieces.Pieces.{Pieces}
 
@@ -16,13 +17,7 @@ with_run (Some size) pieces = record { run = None; count = pieces.count + 1; lar
 
 -- the pieces after a chunk with this header: a free chunk extends the piece, and any other chunk
 -- ends it
-abbrev pub with_header : Header → Pieces → Pieces
-with_header (headers.Free size) pieces = record pieces { run = Some (run_size pieces.run + size) }
-with_header (headers.Movable length lock owner slot) pieces = with_run pieces.run pieces
-with_header (headers.Fixed length owner) pieces = with_run pieces.run pieces
-
--- how many bytes of a chunk with this header are free
-abbrev pub free_by : Header → ℕ
-free_by (headers.Free size) = size
-free_by (headers.Movable length lock owner slot) = 0
-free_by (headers.Fixed length owner) = 0
+abbrev pub pieces_after : Header → Pieces → Pieces
+pieces_after (headers.Free size) pieces = record pieces { run = Some (run_size pieces.run + size) }
+pieces_after (headers.Movable length lock owner slot) pieces = with_run pieces.run pieces
+pieces_after (headers.Fixed length owner) pieces = with_run pieces.run pieces

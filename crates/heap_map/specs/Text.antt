@@ -8,7 +8,7 @@ use Rattle.heap_model.specs.Lists.{numbered}
 use Rattle.heap_model.specs.Reading.{chunks_of}
 use Rattle.heap_model.specs.Slots.{area_start, slots_of}
 use Rattle.heap_model.specs.Space.{free_total, greatest}
-use Rattle.palm_text.specs.Pieces.{spelled}
+use Rattle.palm_text.specs.Pieces.{script_spelled}
 use Rattle.store_check.specs.Listing.{header_at, listed_count}
 use Rattle.heap_map.specs.Marks.{letter_of}
 use Rattle.heap_map.specs.Cells.{cell_size, marks}
@@ -83,16 +83,16 @@ kind_text true = codes " resources\n"
 kind_text false = codes " records\n"
 
 -- the rest of a database's line: its name, and how many entries it has
-unfoldable pub entries_text : List ℕ → List ℕ
-entries_text header = codes " " ++ (spelled (name_in header) ++ (codes " " ++ (decimal (entry_count_in header) ++ kind_text (resources_in header))))
+unfoldable pub name_and_count : List ℕ → List ℕ
+name_and_count header = codes " " ++ (script_spelled (name_in header) ++ (codes " " ++ (decimal (entry_count_in header) ++ kind_text (resources_in header))))
 
 -- the line of a database: its letter, its name, and how many entries it has
-unfoldable pub database_text : ℕ → List ℕ → List ℕ
-database_text number header = (letter_of number ∷ []) ++ entries_text header
+unfoldable pub map_database_line : ℕ → List ℕ → List ℕ
+map_database_line number header = (letter_of number ∷ []) ++ name_and_count header
 
 -- the line of the database with an index
 abbrev pub database_line : List ℕ → ℕ → List ℕ
-database_line image db = database_text (db + 1) (header_at image db)
+database_line image db = map_database_line (db + 1) (header_at image db)
 
 -- the lines of all databases, in the order of the directory
 unfoldable pub database_lines : List ℕ → List ℕ
@@ -105,9 +105,9 @@ unfoldable pub tail_lines : List ℕ → List ℕ
 tail_lines image = free_line image ++ database_lines image
 
 -- the lines after the first one
-unfoldable pub body_lines : List ℕ → List ℕ
-body_lines image = row_lines (area_start image) (cell_size image) (marks image) ++ tail_lines image
+unfoldable pub map_body : List ℕ → List ℕ
+map_body image = row_lines (area_start image) (cell_size image) (marks image) ++ tail_lines image
 
 -- the picture of an image
 unfoldable pub map_text : List ℕ → List ℕ
-map_text image = head_line image ++ body_lines image
+map_text image = head_line image ++ map_body image

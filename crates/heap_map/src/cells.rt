@@ -3,7 +3,7 @@
 
 ghost use Rattle.std.specs.Prelude.{[], ◌≡◌, ◌≤◌, ◌<◌, ◌+◌, ◌*◌, ◌/◌, ◌^◌, ◌⊎◌, min, nat_lt, if◌then◌else◌, ℕ, length, slice_index, IfOk, OnErr};
 ghost use Rattle.heap_model.specs.Store.{Accepted};
-ghost use Rattle.store_check.specs.Naming.{HasRoom};
+ghost use Rattle.store_check.specs.Naming.{AreEnoughMarks};
 ghost use Rattle.heap_map.specs.Cells.{in_cell, cell_size as model_size, cell_count as model_count, Covers, IsClear, ArePainted, AddsChunk};
 ghost use Rattle.heap_map.specs.Cells.{marks as model_marks};
 ghost use Rattle.heap_map.specs.Numbers.{database_number, HasNumbers};
@@ -112,7 +112,7 @@ fn paint(region: &Region, table: &[u16], cells: &mut Cells)
     requires whole { region.now.lents ≡ [] }
     requires accepted { Accepted region.now.bytes }
     requires numbers { HasNumbers (database_number region.now.bytes) table.now }
-    requires room { HasRoom region.now.bytes (length table.now) }
+    requires room { AreEnoughMarks region.now.bytes (length table.now) }
     requires covers { Covers region.now.bytes cells.old }
     requires clear { IsClear (length cells.old.marks.items) cells.old }
     ensures painted { ArePainted region.now.bytes cells.new }
@@ -146,7 +146,7 @@ pub(crate) fn cells_of<A: Allowance>(
     requires whole { region.now.lents ≡ [] }
     requires accepted { Accepted region.now.bytes }
     requires numbers { HasNumbers (database_number region.now.bytes) table.now }
-    requires room { HasRoom region.now.bytes (length table.now) }
+    requires room { AreEnoughMarks region.now.bytes (length table.now) }
     ensures size { IfOk result (λ cells. cells.size ≡ model_size region.now.bytes) }
     ensures count { IfOk result (λ cells. length cells.marks.items ≡ model_count region.now.bytes) }
     ensures painted { IfOk result (ArePainted region.now.bytes) }

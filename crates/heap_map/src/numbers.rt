@@ -5,8 +5,8 @@ ghost use Rattle.std.specs.Prelude.{◌≡◌, ◌<◌, ◌≤◌, [], ◌∷◌
 ghost use Rattle.heap_model.specs.Database.{data_in, database_in};
 ghost use Rattle.heap_model.specs.Heap.{HeapAccepted};
 ghost use Rattle.heap_model.specs.Store.{Accepted};
-ghost use Rattle.db_format.specs.Headers.{IsWhole};
-ghost use Rattle.store_check.specs.Naming.{HasRoom};
+ghost use Rattle.db_format.specs.Headers.{AreWholeBytes};
+ghost use Rattle.store_check.specs.Naming.{AreEnoughMarks};
 ghost use Rattle.heap_map.specs.Numbers.{database_number, HasNumbers, NotesSlots};
 
 use crate::reading::{directory_in, header_in};
@@ -31,7 +31,7 @@ fn note(slot: u32, number: u16, table: &mut [u16])
 
 /// Gives each slot that a database names a number.
 fn note_database(header: &[u8], number: u16, table: &mut [u16])
-    requires { IsWhole header.now }
+    requires { AreWholeBytes header.now }
     ensures { NotesSlots (data_in (database_in header.now)) number table.old table.new }
 {
     note(app_info(header), number, table);
@@ -61,7 +61,7 @@ fn note_databases(region: &Region, table: &mut [u16])
 fn word_count(region: &Region) -> usize
     requires whole { region.now.lents ≡ [] }
     requires accepted { HeapAccepted region.now.bytes }
-    ensures { HasRoom region.now.bytes result }
+    ensures { AreEnoughMarks region.now.bytes result }
 {
     if is_chained(region) {
         marks_needed(region)
@@ -76,7 +76,7 @@ pub fn database_numbers<A: Allowance>(memory: &A, region: &Region) -> Result<Vec
     requires whole { region.now.lents ≡ [] }
     requires accepted { Accepted region.now.bytes }
     ensures numbers { IfOk result (λ table. HasNumbers (database_number region.now.bytes) table.items) }
-    ensures room { IfOk result (λ table. HasRoom region.now.bytes (length table.items)) }
+    ensures room { IfOk result (λ table. AreEnoughMarks region.now.bytes (length table.items)) }
     ensures short { OnErr result (A.is_short memory.now) }
 {
     let mut table = filled(memory, 0u16, word_count(region))?;

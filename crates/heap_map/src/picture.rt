@@ -4,11 +4,11 @@
 ghost use Rattle.std.specs.Prelude.{[], ◌≡◌, ◌≢◌, Err, IfOk, IfErr, OnOk, OnErr, is_ok, true, false};
 ghost use Rattle.heap_model.specs.Store.{Accepted};
 ghost use Rattle.heap_check.specs.Summary as heaps;
-ghost use Rattle.store_check.specs.Checks.{Summarizes};
+ghost use Rattle.store_check.specs.Checks.{SummarizesStore};
 ghost use Rattle.palm_text.specs.Counted.{Writes};
 ghost use Rattle.heap_map.specs.Pictures as pictures;
-ghost use Rattle.heap_map.specs.Pictures.{IsPicture, IsFaultOf};
-ghost use Rattle.heap_map.specs.Text.{map_text, body_lines, tail_lines};
+ghost use Rattle.heap_map.specs.Pictures.{IsPicture, IsMapFault};
+ghost use Rattle.heap_map.specs.Text.{map_text, map_body, tail_lines};
 
 use crate::cells::{cells_of, marks_of};
 use crate::numbers::database_numbers;
@@ -56,8 +56,8 @@ fn map_fault(fault: StoreFault) -> MapFault
 pub fn check_image<A: Allowance>(memory: &A, region: &Region) -> Result<StoreSummary, MapFault>
     requires whole { region.now.lents ≡ [] }
     ensures accepted { OnOk result (Accepted region.now.bytes) }
-    ensures summary { IfOk result (Summarizes region.now.bytes) }
-    ensures why { IfErr result (IsFaultOf region.now.bytes) }
+    ensures summary { IfOk result (SummarizesStore region.now.bytes) }
+    ensures why { IfErr result (IsMapFault region.now.bytes) }
     ensures before { result ≢ Err MapFault.Write }
     ensures short { result ≡ Err MapFault.OutOfMemory → A.is_short memory.now }
 {
@@ -95,7 +95,7 @@ fn checked<A: Allowance>(memory: &A, region: &Region) -> Result<(Summary, Pictur
     ensures accepted { OnOk result (Accepted region.now.bytes) }
     ensures summary { IfOk result (λ both. heaps.Summarizes region.now.bytes both.0) }
     ensures picture { IfOk result (λ both. IsPicture region.now.bytes both.1) }
-    ensures why { IfErr result (IsFaultOf region.now.bytes) }
+    ensures why { IfErr result (IsMapFault region.now.bytes) }
     ensures before { result ≢ Err MapFault.Write }
     ensures short { result ≡ Err MapFault.OutOfMemory → A.is_short memory.now }
 {
@@ -124,7 +124,7 @@ fn put_tail<W: Write>(
 }
 
 /// Writes the rows, and the lines after them.
-#[tactic(auto, using(laws_heap::proofs::Lending::all_within, palm_text::proofs::Parts::then, palm_text::proofs::Parts::stops), unfolding(crate::specs::Text::body_lines))]
+#[tactic(auto, using(laws_heap::proofs::Lending::all_within, palm_text::proofs::Parts::then, palm_text::proofs::Parts::stops), unfolding(crate::specs::Text::map_body))]
 fn put_body<W: Write>(
     out: &mut Counted<W>,
     region: &Region,
@@ -135,7 +135,7 @@ fn put_body<W: Write>(
     requires accepted { Accepted region.now.bytes }
     requires summary { heaps.Summarizes region.now.bytes summary.now }
     requires picture { IsPicture region.now.bytes picture.now }
-    ensures { Writes W.contents out.old out.new (body_lines region.now.bytes) (is_ok result) }
+    ensures { Writes W.contents out.old out.new (map_body region.now.bytes) (is_ok result) }
 {
     put_rows(out, area_start(region), picture.size, &picture.marks)?;
     put_tail(out, region, summary)
@@ -179,7 +179,7 @@ pub fn put_map<A: Allowance, W: Write>(
     requires whole { region.now.lents ≡ [] }
     ensures accepted { OnOk result (Accepted region.now.bytes) }
     ensures done { OnOk result (Writes W.contents out.old out.new (map_text region.now.bytes) true) }
-    ensures why { IfErr result (IsFaultOf region.now.bytes) }
+    ensures why { IfErr result (IsMapFault region.now.bytes) }
     ensures untouched { IfErr result (λ fault. fault ≢ MapFault.Write → out.new ≡ out.old) }
     ensures write { result ≡ Err MapFault.Write
         → Writes W.contents out.old out.new (map_text region.now.bytes) false }

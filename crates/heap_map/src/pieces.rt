@@ -5,7 +5,7 @@ ghost use Rattle.std.specs.Prelude.{[], ◌≡◌, ◌≤◌, ◌<◌, ◌+◌, 
 ghost use Rattle.heap_model.specs.Heap.{HeapAccepted};
 ghost use Rattle.heap_model.specs.Space.{greatest};
 ghost use Rattle.heap_map.specs.Text.{free_pieces};
-ghost use Rattle.heap_map.specs.Pieces.{free_by, run_size, with_header, with_run};
+ghost use Rattle.heap_map.specs.Pieces.{free_by, run_size, pieces_after, with_run};
 
 use chunk_format::{Header, area_start};
 use raw_region::Region;
@@ -48,7 +48,7 @@ impl Pieces {
     fn add(&mut self, header: Header)
         requires few { self.old.count < 2 ^ 31 }
         requires fits { run_size self.old.run + free_by header < 2 ^ 32 }
-        ensures { self.new ≡ with_header header self.old }
+        ensures { self.new ≡ pieces_after header self.old }
     {
         match header {
             Header::Free { size } => self.run = Some(self.run.unwrap_or(0) + size),

@@ -3,9 +3,9 @@
 ghost use Rattle.std.specs.Prelude.{[], ◌≡◌, ◌≤◌, ◌<◌, ◌+◌, ◌*◌, ◌^◌, ℕ, length, replicate, is_ok};
 ghost use Rattle.heap_model.specs.Store.{Accepted};
 ghost use Rattle.palm_text.specs.Counted.{Writes};
-ghost use Rattle.db_format.specs.Headers.{IsWhole};
+ghost use Rattle.db_format.specs.Headers.{AreWholeBytes};
 ghost use Rattle.heap_map.specs.Text as texts;
-ghost use Rattle.heap_map.specs.Text.{padded, row_text, row_lines, database_lines, database_text, entries_text, head_text, free_text};
+ghost use Rattle.heap_map.specs.Text.{padded, row_text, row_lines, database_lines, map_database_line, name_and_count, head_text, free_text};
 
 use crate::marks::letter_of;
 use crate::reading::{directory_in, header_in};
@@ -140,10 +140,10 @@ fn kind_text(resources: bool) -> &'static [u8]
 }
 
 /// Writes the name of a database, and how many entries it has.
-#[tactic(auto, unfolding(crate::specs::Text::entries_text))]
+#[tactic(auto, unfolding(crate::specs::Text::name_and_count))]
 fn put_entries<W: Write>(out: &mut Counted<W>, header: &[u8]) -> Result<(), WriteFault>
-    requires { IsWhole header.now }
-    ensures { Writes W.contents out.old out.new (entries_text header.now) (is_ok result) }
+    requires { AreWholeBytes header.now }
+    ensures { Writes W.contents out.old out.new (name_and_count header.now) (is_ok result) }
 {
     put_pieces(
         out,
@@ -158,15 +158,15 @@ fn put_entries<W: Write>(out: &mut Counted<W>, header: &[u8]) -> Result<(), Writ
 }
 
 /// Writes the letter of a database, its name, and how many entries it has.
-#[tactic(auto, using(palm_text::proofs::Parts::then, palm_text::proofs::Parts::stops), unfolding(crate::specs::Text::database_text))]
+#[tactic(auto, using(palm_text::proofs::Parts::then, palm_text::proofs::Parts::stops), unfolding(crate::specs::Text::map_database_line))]
 fn put_database<W: Write>(
     out: &mut Counted<W>,
     number: u32,
     header: &[u8],
 ) -> Result<(), WriteFault>
     requires number { 1 ≤ number }
-    requires whole { IsWhole header.now }
-    ensures { Writes W.contents out.old out.new (database_text number header.now) (is_ok result) }
+    requires whole { AreWholeBytes header.now }
+    ensures { Writes W.contents out.old out.new (map_database_line number header.now) (is_ok result) }
 {
     put_all(out, &[letter_of(number)])?;
     put_entries(out, header)

@@ -15,7 +15,7 @@ use Rattle.laws_heap.proofs.Runs.{chunk_there, chunks_of-area}
 use Rattle.chunk_format.specs.declared.header.Header.{Header}
 use Rattle.chunk_format.specs.Header.{header_of, size_by, HasHeader}
 use Rattle.chunk_format.proofs.HeaderLaws.{size_by-header_of}
-use Rattle.heap_migration.specs.Writing.{AreSame, movable_by, WroteChunk, WroteUpTo, WroteChunks}
+use Rattle.heap_migration.specs.Writing.{AreSame, is_movable_header, WroteChunk, WroteUpTo, WroteChunks}
 use Rattle.heap_migration.proofs.HeadLaws.{same_word, copied_at}
 
 -- ---- one chunk
@@ -43,12 +43,12 @@ stands_movable old was new by at bytes lock owner slot few len copied s e =
       w,
     )
 
-pub chunk_lowered : (old was new : List ℕ) (by at : ℕ) (header : Header) → by ≤ 8 → length was ≡ length old + by → StandFurther old was by at (length old) → HasHeader old at header → movable_by header ≡ true
+pub chunk_lowered : (old was new : List ℕ) (by at : ℕ) (header : Header) → by ≤ 8 → length was ≡ length old + by → StandFurther old was by at (length old) → HasHeader old at header → is_movable_header header ≡ true
     → new ≡ overwritten was (at + 4 + by) (u32_bytes (lowered_word by (u32_at old (at + 4)))) → WroteChunk old was new by at (size_by header)
 chunk_lowered old was new by at header few len copied found is e = by_chunk found.chunk found.spelled found.header_is where
   by_chunk : (c : Chunk) → Spelled old at c → header ≡ header_of c → WroteChunk old was new by at (size_by header)
-  by_chunk (free size) s h = let no : true ≡ false = sym is ∙ ap movable_by h in absurd cc
-  by_chunk (fixed bytes owner) s h = let no : true ≡ false = sym is ∙ ap movable_by h in absurd cc
+  by_chunk (free size) s h = let no : true ≡ false = sym is ∙ ap is_movable_header h in absurd cc
+  by_chunk (fixed bytes owner) s h = let no : true ≡ false = sym is ∙ ap is_movable_header h in absurd cc
   by_chunk (movable bytes lock owner slot) s h =
       let m = stands_movable old was new by at bytes lock owner slot few len copied s e in
       let size : size_by header ≡ need (length bytes) = ap size_by h ∙ size_by-header_of (movable bytes lock owner slot) in
@@ -62,7 +62,7 @@ chunk_lowered old was new by at header few len copied found is e = by_chunk foun
         back = λ k low high. sym (m.1.above.same k (omega arith) (omega arith));
       }
 
-pub chunk_copied : (old was : List ℕ) (by at : ℕ) (header : Header) → StandFurther old was by at (length old) → HasHeader old at header → movable_by header ≡ false → WroteChunk old was was by at (size_by header)
+pub chunk_copied : (old was : List ℕ) (by at : ℕ) (header : Header) → StandFurther old was by at (length old) → HasHeader old at header → is_movable_header header ≡ false → WroteChunk old was was by at (size_by header)
 chunk_copied old was by at header copied found is = by_chunk found.chunk found.spelled found.header_is where
   all_of : (c : Chunk) → Spelled old at c → header ≡ header_of c → StandsFurther old was by at c → WroteChunk old was was by at (size_by header)
   all_of c s h f = record { chunk = c; spelled = s; size_is = ap size_by h ∙ size_by-header_of c; further = f; len = refl; front = λ k low high. refl; back = λ k low high. refl }
@@ -70,7 +70,7 @@ chunk_copied old was by at header copied found is = by_chunk found.chunk found.s
   by_chunk : (c : Chunk) → Spelled old at c → header ≡ header_of c → WroteChunk old was was by at (size_by header)
   by_chunk (free size) s h = let inside = s.inside in all_of (free size) s h (λ k low high. copied k low (omega arith))
   by_chunk (fixed bytes owner) s h = let inside = s.inside in all_of (fixed bytes owner) s h (λ k low high. copied k low (omega arith))
-  by_chunk (movable bytes lock owner slot) s h = let no : true ≡ false = sym (ap movable_by h) ∙ is in absurd cc
+  by_chunk (movable bytes lock owner slot) s h = let no : true ≡ false = sym (ap is_movable_header h) ∙ is in absurd cc
 
 -- ---- chunks before the bytes that are written
 

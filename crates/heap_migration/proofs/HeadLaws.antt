@@ -13,7 +13,7 @@ use Rattle.laws_heap.proofs.Tables.{none_behind}
 use Rattle.laws_heap.proofs.OneTable.{one_stands, one_number, one_total}
 use Rattle.laws_heap.proofs.Slots.{stands_slot, slot_stands, stands_below}
 use Rattle.laws_heap.proofs.Bodies.{IsBody-high}
-use Rattle.heap_migration.specs.Writing.{AreSame, raised, HasHead, WroteFrame, RaisedUpTo, RaisedSlots}
+use Rattle.heap_migration.specs.Writing.{AreSame, raised_place, HasHead, WroteFrame, RaisedUpTo, RaisedSlots}
 
 -- ---- bytes that are the same
 
@@ -83,7 +83,7 @@ slot_fits image slot h plain low whole high = elim (cases_eq (u32_at image slot)
       omega arith
 ]
 
-pub raised_fits : (by place : ℕ) → by ≤ 8 → place < 2 ^ 24 → raised by place < 2 ^ 32
+pub raised_fits : (by place : ℕ) → by ≤ 8 → place < 2 ^ 24 → raised_place by place < 2 ^ 32
 raised_fits by place few small = by_test (place == 0) where
   by_test : (b : Bool) → (if b then 0 else place + by) < 2 ^ 32
   by_test true = omega arith
@@ -100,13 +100,13 @@ raised_none old was by = record {
   slots = λ slot low whole high. absurd (omega arith);
 }
 
-pub raised_more : (old was now new : List ℕ) (by slot : ℕ) → RaisedUpTo old was now by slot → slot < table_end old → table_end old ≤ length was → raised by (u32_at old slot) < 2 ^ 32 → new ≡ overwritten now slot (u32_bytes (raised by (u32_at old slot)))
+pub raised_more : (old was now new : List ℕ) (by slot : ℕ) → RaisedUpTo old was now by slot → slot < table_end old → table_end old ≤ length was → raised_place by (u32_at old slot) < 2 ^ 32 → new ≡ overwritten now slot (u32_bytes (raised_place by (u32_at old slot)))
     → RaisedUpTo old was new by (slot + 4)
 raised_more old was now new by slot r here inside fits e =
     let len = r.len in
     let low = r.low in
     let whole = r.whole in
-    let w : WroteWithin now new slot (slot + 4) = wrote_word now new slot (raised by (u32_at old slot)) e (omega arith) in
+    let w : WroteWithin now new slot (slot + 4) = wrote_word now new slot (raised_place by (u32_at old slot)) e (omega arith) in
     record {
       len = w.len ∙ r.len;
       low = omega arith;
@@ -115,7 +115,7 @@ raised_more old was now new by slot r here inside fits e =
       front = λ k a b. sym (w.below.same k (omega arith) (omega arith)) ∙ r.front k a b;
       back = λ k a b. sym (w.above.same k (omega arith) (omega arith)) ∙ r.back k (omega arith) b;
       slots = λ s a b c. elim (cases_eq s slot) [
-        | inl is ↦ subst (λ (n : ℕ). u32_at new n ≡ raised by (u32_at old n)) (sym is) (ap (λ (xs : List ℕ). u32_at xs slot) e ∙ u32_at-written (raised by (u32_at old slot)) slot now (omega arith) fits)
+        | inl is ↦ subst (λ (n : ℕ). u32_at new n ≡ raised_place by (u32_at old n)) (sym is) (ap (λ (xs : List ℕ). u32_at xs slot) e ∙ u32_at-written (raised_place by (u32_at old slot)) slot now (omega arith) fits)
         | inr other ↦ wrote_word_apart now new slot (slot + 4) s w (inl (omega arith)) ∙ r.slots s a b (omega arith)
       ];
     }

@@ -15,8 +15,8 @@ abbrev pub AreSame : List ℕ → List ℕ → ℕ → ℕ → Type 0
 AreSame old new start end = (at : ℕ) → start ≤ at → at < end → slice_index new at ≡ slice_index old at
 
 -- the new word of a slot: an empty slot stays empty, and a place rises
-abbrev pub raised : ℕ → ℕ → ℕ
-raised by place = if place == 0 then 0 else place + by
+abbrev pub raised_place : ℕ → ℕ → ℕ
+raised_place by place = if place == 0 then 0 else place + by
 
 -- The frame and the slots are written. Zeros follow up to the chunks.
 pub record HasHead (old new : List ℕ) (by : ℕ) : Type 0 where
@@ -24,7 +24,7 @@ pub record HasHead (old new : List ℕ) (by : ℕ) : Type 0 where
   pub magic : u32_at new magic_at ≡ chained_magic
   pub size : u32_at new size_at ≡ length new
   pub frame : AreSame old new slot_count_at frame_size
-  pub slots : (slot : ℕ) → IsSlot old slot → u32_at new slot ≡ raised by (u32_at old slot)
+  pub slots : (slot : ℕ) → IsSlot old slot → u32_at new slot ≡ raised_place by (u32_at old slot)
   pub zeros : (at : ℕ) → table_end old ≤ at → at < area_start old + by → slice_index new at ≡ 0
 
 -- The frame is written, and nothing else.
@@ -43,16 +43,16 @@ pub record RaisedUpTo (old was new : List ℕ) (by end : ℕ) : Type 0 where
   pub whole : end % slot_size ≡ 0
   pub front : AreSame was new 0 frame_size
   pub back : AreSame was new end (length was)
-  pub slots : (slot : ℕ) → frame_size ≤ slot → slot % slot_size ≡ 0 → slot < end → u32_at new slot ≡ raised by (u32_at old slot)
+  pub slots : (slot : ℕ) → frame_size ≤ slot → slot % slot_size ≡ 0 → slot < end → u32_at new slot ≡ raised_place by (u32_at old slot)
 
 abbrev pub RaisedSlots : List ℕ → List ℕ → List ℕ → ℕ → Type 0
 RaisedSlots old was new by = RaisedUpTo old was new by (table_end old)
 
 -- whether a header is that of a movable chunk
-abbrev pub movable_by : Header → Bool
-movable_by (headers.Free size) = false
-movable_by (headers.Movable length lock owner slot) = true
-movable_by (headers.Fixed length owner) = false
+abbrev pub is_movable_header : Header → Bool
+is_movable_header (headers.Free size) = false
+is_movable_header (headers.Movable length lock owner slot) = true
+is_movable_header (headers.Fixed length owner) = false
 
 -- The chunk at an offset of the old image is further on in the new one. Only the bytes of this
 -- chunk were written.

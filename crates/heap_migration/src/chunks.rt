@@ -1,21 +1,15 @@
 //! The chunks of an image, written further on in a new one.
 #![tactic(auto, using(laws_heap::proofs::Lending::all_within, laws_heap::proofs::Lending::all_misses))]
 
-ghost use Rattle.std.specs.Prelude.{[], ◌≡◌, ◌≤◌, ◌<◌, ◌+◌, ◌^◌, None, length};
+ghost use Rattle.std.specs.Prelude.{[], ◌≡◌, ◌≤◌, ◌<◌, ◌+◌, ◌^◌, length};
 ghost use Rattle.heap_model.specs.Chunk.{HasChunk};
 ghost use Rattle.heap_model.specs.Heap.{HeapAccepted};
 ghost use Rattle.heap_model.specs.Slots.{area_start as model_start};
 ghost use Rattle.heap_model.specs.Migration.{StandFurther, lowered_word};
-ghost use Rattle.heap_migration.specs.Writing.{WroteChunks, WroteChunk, movable_by};
+ghost use Rattle.heap_migration.specs.Writing.{WroteChunks, WroteChunk, is_movable_header};
 
-use chunk_format::{Header, area_start};
+use chunk_format::{ABOVE_24_BITS, Header, SECOND_WORD_AT, area_start};
 use raw_region::Region;
-
-/// The offset of a header's second word, from the header's start.
-const SECOND_WORD_AT: usize = 4;
-
-/// The bits above the 24 bits of an hOffset are a multiple of this.
-const ABOVE_24_BITS: u32 = 0x100_0000;
 
 /// Writes all chunks `by` bytes further on. Their hOffsets lead to the slots at the slots' new
 /// offsets.
@@ -74,7 +68,7 @@ fn lower_offset(image: &Region, grown: &mut Region, at: u32, by: u32) -> u32
 
 /// Returns whether a header is that of a movable chunk, locked or not.
 fn is_movable(header: Header) -> bool
-    ensures { result ≡ movable_by header }
+    ensures { result ≡ is_movable_header header }
 {
     matches!(header, Header::Movable { .. })
 }

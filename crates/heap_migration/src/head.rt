@@ -1,11 +1,11 @@
 //! The bytes before the chunks: the frame, the slots and the word `next`.
 #![tactic(auto, using(laws_heap::proofs::Lending::all_within, laws_heap::proofs::Lending::all_misses))]
 
-ghost use Rattle.std.specs.Prelude.{[], ◌≡◌, ◌≤◌, ◌<◌, ◌+◌, ◌^◌, None, length, replicate, false};
+ghost use Rattle.std.specs.Prelude.{[], ◌≡◌, ◌≤◌, ◌<◌, ◌+◌, ◌^◌, length, replicate, false};
 ghost use Rattle.heap_model.specs.Heap.{HeapAccepted};
 ghost use Rattle.heap_model.specs.Slots.{is_chained};
 ghost use Rattle.heap_migration.specs.Growth.{growth as model_growth};
-ghost use Rattle.heap_migration.specs.Writing.{raised, HasHead, WroteFrame, RaisedSlots};
+ghost use Rattle.heap_migration.specs.Writing.{raised_place, HasHead, WroteFrame, RaisedSlots};
 
 use chunk_format::{CHAINED_MAGIC, FRAME_SIZE, MAGIC_AT, SIZE_AT, SLOT_SIZE, head_end};
 use raw_region::Region;
@@ -70,7 +70,7 @@ fn raise_slots(image: &Region, grown: &mut Region, by: u32)
 #[inline]
 fn raise(place: u32, by: u32) -> u32
     requires { place + by < 2 ^ 32 }
-    ensures { result ≡ raised by place }
+    ensures { result ≡ raised_place by place }
 {
     if place == 0 { 0 } else { place + by }
 }

@@ -1,7 +1,7 @@
 //! The image that results from a migration.
 #![tactic(auto, using(laws_heap::proofs::Lending::all_within, laws_heap::proofs::Lending::all_misses))]
 
-ghost use Rattle.std.specs.Prelude.{[], ◌≡◌, ◌<◌, ◌+◌, ◌≢◌, ◌↔◌, IfOk, IfErr, OnOk, OnErr, Err, None, length, true, false};
+ghost use Rattle.std.specs.Prelude.{[], ◌≡◌, ◌<◌, ◌+◌, ◌≢◌, ◌↔◌, IfOk, IfErr, OnOk, OnErr, Err, length, true, false};
 ghost use Rattle.heap_model.specs.Frame.{most_size};
 ghost use Rattle.heap_model.specs.Heap.{HeapAccepted};
 ghost use Rattle.heap_model.specs.Slots.{is_chained as model_chained};

@@ -9,9 +9,9 @@ use Rattle.heap_model.specs.DatabaseFields.{header_size}
 use Rattle.heap_model.specs.Database.{DatabaseHeader, Database, data_in, IsDatabaseName, with_resources_of}
 use Rattle.heap_model.specs.Maps.{reowned}
 use Rattle.heap_model.specs.Store.{StoredDatabase, Store, directory_bytes, numbers_of, names_of, most_databases, listed_size}
-use Rattle.heap_model.specs.Rooms.{Part, making, growth}
+use Rattle.heap_model.specs.Rooms.{Part, making, growth_part}
 use Rattle.heap_model.specs.Refusals.{Check, ◌brings◌}
-use Rattle.heap_model.specs.Steps.{Row, done, number, named}
+use Rattle.heap_model.specs.Steps.{Row, done, a_number, a_name}
 use Rattle.heap_model.specs.MemorySteps.{Of, IsLocked, no_owner}
 use Rattle.heap_model.specs.EntrySteps.{raised, giving_checks}
 use Rattle.heap_model.specs.StoreWords.{with_changed, without_database, all_gone, with_number, In, no_database, read_only, may_run_out, becomes, becomes_with, stays, next_modification}
@@ -34,16 +34,16 @@ DatabaseCall = given.DatabaseCall Name Db
 
 -- the same call, with its chunk and its database given another way
 abbrev pub database_call : {One Other ThisOne ThisOther : Type 0} → (One → Other) → (ThisOne → ThisOther) → given.DatabaseCall One ThisOne → given.DatabaseCall Other ThisOther
-database_call chunk number (Create name kind creator resources date) = Create name kind creator resources date
-database_call chunk number (Delete db) = Delete (number db)
-database_call chunk number (Find name) = Find name
-database_call chunk number (Nth index) = Nth index
-database_call chunk number Count = Count
-database_call chunk number (Info db) = Info (number db)
-database_call chunk number (SetInfo db info) = SetInfo (number db) info
-database_call chunk number (SetInfoBlock db which name) = SetInfoBlock (number db) which (chunk name)
-database_call chunk number (TakeInfoBlock db which owner) = TakeInfoBlock (number db) which owner
-database_call chunk number (InfoBlock db which) = InfoBlock (number db) which
+database_call chunk a_number (Create name kind creator resources date) = Create name kind creator resources date
+database_call chunk a_number (Delete db) = Delete (a_number db)
+database_call chunk a_number (Find name) = Find name
+database_call chunk a_number (Nth index) = Nth index
+database_call chunk a_number Count = Count
+database_call chunk a_number (Info db) = Info (a_number db)
+database_call chunk a_number (SetInfo db info) = SetInfo (a_number db) info
+database_call chunk a_number (SetInfoBlock db which name) = SetInfoBlock (a_number db) which (chunk name)
+database_call chunk a_number (TakeInfoBlock db which owner) = TakeInfoBlock (a_number db) which owner
+database_call chunk a_number (InfoBlock db which) = InfoBlock (a_number db) which
 
 -- ---- words of the rows
 
@@ -115,7 +115,7 @@ abbrev pub create_parts : List ℕ → List Part
 create_parts image =
     if directory_of image == 0
     then (making header_size ∷ making listed_size ∷ [])
-    else (making header_size ∷ growth image (directory_of image) (length (directory_bytes image) + listed_size) ∷ [])
+    else (making header_size ∷ growth_part image (directory_of image) (length (directory_bytes image) + listed_size) ∷ [])
 
 -- how many slots a new database takes
 abbrev pub create_slots : List ℕ → ℕ
@@ -226,7 +226,7 @@ database_row old store (Nth index) = record {
 database_row old store Count = record {
   only_asks = true;
   refusals = [];
-  answers = number (λ count. count ≡ length store.databases);
+  answers = a_number (λ count. count ≡ length store.databases);
   effect = stays;
 }
 database_row old store (Info db) = record {
@@ -262,12 +262,12 @@ database_row old store (TakeInfoBlock db which owner) = record {
       ∷ no_block store db which
       ∷ no_owner owner
       ∷ [];
-  answers = named (λ name. name.0 ≡ info_block_under store db which);
+  answers = a_name (λ name. name.0 ≡ info_block_under store db which);
   effect = becomes (λ before. raised (info_block_taken before db which owner) db);
 }
 database_row old store (InfoBlock db which) = record {
   only_asks = true;
   refusals = no_database store db ∷ no_block store db which ∷ [];
-  answers = named (λ name. name.0 ≡ info_block_under store db which);
+  answers = a_name (λ name. name.0 ≡ info_block_under store db which);
   effect = stays;
 }

@@ -15,7 +15,7 @@ use Rattle.heap_model.specs.DatabaseFields.{entry_size}
 use Rattle.heap_model.specs.Database.{DatabaseHeader, Entry, a_record, a_resource, Database, entry_data, entry_with, has_resources}
 use Rattle.heap_model.specs.UniqueIds.{IsFresh, seed_in, with_seed}
 use Rattle.heap_model.specs.Store.{StoredDatabase, Store, bytes_under, unique_id, unique_ids, Accepted, store_of}
-use Rattle.heap_model.specs.Rooms.{Part, making, growth}
+use Rattle.heap_model.specs.Rooms.{Part, making, growth_part}
 use Rattle.heap_model.specs.Refusals.{Check, ◌brings◌}
 use Rattle.heap_model.specs.MemorySteps.{Of, IsLocked, unknown, where_it}
 use Rattle.heap_model.specs.StoreWords.{SameStore, with_changed, with_number, In, may_run_out, next_modification}
@@ -56,13 +56,13 @@ data_of_entry (Some entry) = entry_data entry
 abbrev pub data_under : Store → Db → ℕ → ℕ
 data_under store db index = data_of_entry (entry_under store db index)
 
-abbrev pub kind_of : Option StoredDatabase → Bool
-kind_of None = false
-kind_of (Some one) = has_resources one.database.header.attributes
+abbrev pub holds_resources : Option StoredDatabase → Bool
+holds_resources None = false
+holds_resources (Some one) = has_resources one.database.header.attributes
 
 -- a database has resources; otherwise it has records
 abbrev pub resources_under : Store → Db → Bool
-resources_under store db = kind_of (with_number store db.0)
+resources_under store db = holds_resources (with_number store db.0)
 
 -- the ID is the one for a new record of the database
 abbrev pub IsFreshIn : Store → Db → ℕ → Type 0
@@ -249,7 +249,7 @@ full store db = (most_entries ≤ length (entries_in store db)) brings TooManyEn
 
 -- the header of a database grows by an entry
 abbrev pub entry_growth : List ℕ → Store → Db → Part
-entry_growth image store db = growth image db.0 (length (bytes_under image db.0) + entry_size (resources_under store db))
+entry_growth image store db = growth_part image db.0 (length (bytes_under image db.0) + entry_size (resources_under store db))
 
 -- The checks for an entry with new data of `size` bytes: the data takes a chunk, and the header has
 -- to grow.

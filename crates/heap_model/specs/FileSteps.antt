@@ -12,7 +12,7 @@ use Rattle.heap_model.specs.Lists.{times}
 use Rattle.heap_model.specs.Database.{Database, data_in, name_in}
 use Rattle.heap_model.specs.Files.{entries_end, HasFault, file_faults, blocks_in, Reads, file_of}
 use Rattle.heap_model.specs.Store.{Store, directory_bytes, most_databases, content, listed_size}
-use Rattle.heap_model.specs.Rooms.{Part, making, growth}
+use Rattle.heap_model.specs.Rooms.{Part, making, growth_part}
 use Rattle.heap_model.specs.Refusals.{Check, ◌brings◌, ◌may_bring◌}
 use Rattle.heap_model.specs.Steps.{Row, data_of}
 use Rattle.heap_model.specs.MemorySteps.{Of}
@@ -48,7 +48,7 @@ makings (Some size ∷ sizes) = making size ∷ makings sizes
 -- the part that takes one database more into the directory: it is made if there is none, and
 -- otherwise it grows
 abbrev pub listing_part : List ℕ → Part
-listing_part image = if directory_of image == 0 then making listed_size else growth image (directory_of image) (length (directory_bytes image) + listed_size)
+listing_part image = if directory_of image == 0 then making listed_size else growth_part image (directory_of image) (length (directory_bytes image) + listed_size)
 
 abbrev pub listing_slots : List ℕ → ℕ
 listing_slots image = if directory_of image == 0 then 1 else 0

@@ -14,7 +14,7 @@ use Rattle.heap_model.specs.Space.{free_total, free_slots, Short, ShortFor, free
 use Rattle.heap_model.specs.Placing.{SameFrame}
 use Rattle.heap_model.specs.MoreTables.{gained_count, HasNoMore, GainsTable}
 use Rattle.heap_model.specs.Refusals.{Check, ◌brings◌, ◌may_bring◌}
-use Rattle.heap_model.specs.Steps.{Row, StepBy, done, number, named, locked, data_of, becomes, becomes_named, stays}
+use Rattle.heap_model.specs.Steps.{Row, StepBy, done, a_number, a_name, locked, data_of, becomes, becomes_named, stays}
 use Rattle.heap_model.specs.declared.names.Name.{Name}
 use Rattle.heap_model.specs.declared.call.MemoryCall as given
 use Rattle.heap_model.specs.declared.call.MemoryCall.TheVariants.{HandleNew, PtrNew, Free, Lock, Unlock, Size, Owner, Locks, Read, Write, Set, StrCopy, Resize, SetOwner, Recover, FreeByOwner, FreeBytes, LargestStretch, Compact, MoreSlots}
@@ -117,7 +117,7 @@ row old map (HandleNew size owner) = record {
       no_owner owner
       ∷ (((free_slots old.bytes ≡ 0) ⊎ Short old.bytes (need size)) brings NotEnoughSpace)
       ∷ [];
-  answers = named (λ name. held old.bytes name.0 ≡ None);
+  answers = a_name (λ name. held old.bytes name.0 ≡ None);
   effect = becomes_named (λ name all. made all name.0 size owner 0);
 }
 row old map (PtrNew size owner) = record {
@@ -126,7 +126,7 @@ row old map (PtrNew size owner) = record {
       no_owner owner
       ∷ (Short old.bytes (need size) brings NotEnoughSpace)
       ∷ [];
-  answers = named (λ name. held old.bytes name.0 ≡ None);
+  answers = a_name (λ name. held old.bytes name.0 ≡ None);
   effect = becomes_named (λ name all. made all name.0 size owner fixed_lock);
 }
 row old map (Free name) = record {
@@ -158,25 +158,25 @@ row old map (Unlock name) = record {
       ∷ where_it map name.0 (λ live. live.lock ≡ 0) ChunkNotLocked
       ∷ lent_out old map name.0
       ∷ [];
-  answers = number (λ count. Of (map name.0) (λ live. count ≡ live.lock - 1));
+  answers = a_number (λ count. Of (map name.0) (λ live. count ≡ live.lock - 1));
   effect = becomes (λ all. relocked all name.0 (λ lock. lock - 1));
 }
 row old map (Size name) = record {
   only_asks = true;
   refusals = unknown map name.0 ∷ [];
-  answers = number (λ size. Of (map name.0) (λ live. size ≡ length live.bytes));
+  answers = a_number (λ size. Of (map name.0) (λ live. size ≡ length live.bytes));
   effect = stays;
 }
 row old map (Owner name) = record {
   only_asks = true;
   refusals = unknown map name.0 ∷ [];
-  answers = number (λ owner. Of (map name.0) (λ live. owner ≡ live.owner));
+  answers = a_number (λ owner. Of (map name.0) (λ live. owner ≡ live.owner));
   effect = stays;
 }
 row old map (Locks name) = record {
   only_asks = true;
   refusals = unknown map name.0 ∷ [];
-  answers = number (λ count. Of (map name.0) (λ live. count ≡ live.lock));
+  answers = a_number (λ count. Of (map name.0) (λ live. count ≡ live.lock));
   effect = stays;
 }
 row old map (Read name at count) = record {
@@ -246,7 +246,7 @@ row old map (SetOwner name owner) = record {
 row old map (Recover place) = record {
   only_asks = true;
   refusals = (IsNowhere old.bytes map place.0 brings InvalidHandle) ∷ [];
-  answers = named (λ name. Of (map name.0) (λ live. place_of old.bytes name.0 ≡ Some place.0));
+  answers = a_name (λ name. Of (map name.0) (λ live. place_of old.bytes name.0 ≡ Some place.0));
   effect = stays;
 }
 row old map (FreeByOwner owner) = record {
@@ -255,25 +255,25 @@ row old map (FreeByOwner owner) = record {
       no_owner owner
       ∷ (LendsOf old map owner brings Lent)
       ∷ [];
-  answers = number (λ count. count ≡ count_by (is_owned_by owner) (chunks_of old.bytes));
+  answers = a_number (λ count. count ≡ count_by (is_owned_by owner) (chunks_of old.bytes));
   effect = becomes (λ all. without_owner all owner);
 }
 row old map FreeBytes = record {
   only_asks = true;
   refusals = [];
-  answers = number (λ count. count ≡ free_total old.bytes);
+  answers = a_number (λ count. count ≡ free_total old.bytes);
   effect = stays;
 }
 row old map LargestStretch = record {
   only_asks = true;
   refusals = [];
-  answers = number (λ count. count ≡ greatest (rooms old.bytes));
+  answers = a_number (λ count. count ≡ greatest (rooms old.bytes));
   effect = stays;
 }
 row old map Compact = record {
   only_asks = false;
   refusals = [];
-  answers = λ reply new. number (λ count. count ≡ moved_bytes old.bytes new.bytes) reply new;
+  answers = λ reply new. a_number (λ count. count ≡ moved_bytes old.bytes new.bytes) reply new;
   effect = stays;
 }
 row old map MoreSlots = record {

@@ -4,7 +4,7 @@ use Rattle.std.specs.Prelude.{◌≡◌, ◌+◌, ◌++◌, ◌==◌, if◌then�
 use Rattle.heap_model.specs.Chunk.{Chunk, free, movable, fixed, need, total}
 use Rattle.heap_model.specs.Slots.{area_start}
 use Rattle.heap_model.specs.Reading.{chunks_of}
-use Rattle.heap_model.specs.Space.{stays, NoneStays, stretches, room_of}
+use Rattle.heap_model.specs.Space.{stays_put, NoneStays, stretches, room_of}
 use Rattle.heap_model.specs.Layout.{Becomes, gap}
 
 -- ---- what is to be reached
@@ -73,13 +73,13 @@ moved_by_packing chunks = moved_behind 0 chunks
 -- the last of these chunks stays, if there is one
 abbrev pub EndsStaying : List Chunk → Type 0
 EndsStaying [] = Unit {0}
-EndsStaying (chunk ∷ []) = IsTrue (stays chunk)
+EndsStaying (chunk ∷ []) = IsTrue (stays_put chunk)
 EndsStaying (chunk ∷ next ∷ chunks) = EndsStaying (next ∷ chunks)
 
 -- the first of these chunks stays, if there is one
 abbrev pub BeginsStaying : List Chunk → Type 0
 BeginsStaying [] = Unit {0}
-BeginsStaying (chunk ∷ chunks) = IsTrue (stays chunk)
+BeginsStaying (chunk ∷ chunks) = IsTrue (stays_put chunk)
 
 -- between the chunks before it and those after it, `stretch` is a whole stretch of the image
 pub record WholeStretch (image : List ℕ) (before stretch after : List Chunk) : Type 0 where

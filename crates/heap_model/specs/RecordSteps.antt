@@ -8,7 +8,7 @@ use Rattle.heap_model.specs.Lists.{moved}
 use Rattle.heap_model.specs.Database.{Entry, a_record, a_resource, has_resources, is_deleted}
 use Rattle.heap_model.specs.Store.{Store}
 use Rattle.heap_model.specs.Refusals.{Check, ◌brings◌}
-use Rattle.heap_model.specs.Steps.{Row, done, number, named}
+use Rattle.heap_model.specs.Steps.{Row, done, a_number, a_name}
 use Rattle.heap_model.specs.MemorySteps.{Of, IsLocked, no_owner, growth_checks}
 use Rattle.heap_model.specs.StoreWords.{SameStore, all_gone, In, no_database, read_only, becomes, stays}
 use Rattle.heap_model.specs.EntrySteps.{entries_in, entry_under, OfEntry, data_under, IsFreshIn, HasId, HasOther, IsInfoOf, NoneFrom, IsFirstFrom, made_at, becomes_made, index_for, with_attributes, deleted_bit, with_entries, with_chunks, entry_made, entry_changed, data_freed, entry_attached, entry_dropped, entry_handed_over, entry_swapped, raised, no_entry, locked_entry, making_checks, attaching_checks, giving_checks}
@@ -30,27 +30,27 @@ RecordCall = given.RecordCall Name Db
 
 -- the same call, with its chunk and its database given in another way
 abbrev pub record_call : {One Other ThisOne ThisOther : Type 0} → (One → Other) → (ThisOne → ThisOther) → given.RecordCall One ThisOne → given.RecordCall Other ThisOther
-record_call chunk number (New db at size) = New (number db) at size
-record_call chunk number (Delete db index) = Delete (number db) index
-record_call chunk number (Archive db index) = Archive (number db) index
-record_call chunk number (Remove db index) = Remove (number db) index
-record_call chunk number (Move db from to) = Move (number db) from to
-record_call chunk number (Get db index) = Get (number db) index
-record_call chunk number (Query db index) = Query (number db) index
-record_call chunk number (Release db index dirty) = Release (number db) index dirty
-record_call chunk number (Info db index) = Info (number db) index
-record_call chunk number (Resize db index size) = Resize (number db) index size
-record_call chunk number (Count db) = Count (number db)
-record_call chunk number (Attach db at name) = Attach (number db) at (chunk name)
-record_call chunk number (AttachReplacing db index name owner) = AttachReplacing (number db) index (chunk name) owner
-record_call chunk number (Detach db index owner) = Detach (number db) index owner
-record_call chunk number (SetInfo db index attributes id) = SetInfo (number db) index attributes id
-record_call chunk number (FindById db id) = FindById (number db) id
-record_call chunk number (CountInCategory db category) = CountInCategory (number db) category
-record_call chunk number (NextInCategory db from category) = NextInCategory (number db) from category
-record_call chunk number (PositionInCategory db index category) = PositionInCategory (number db) index category
-record_call chunk number (MoveCategory db to from dirty) = MoveCategory (number db) to from dirty
-record_call chunk number (DeleteCategory db category) = DeleteCategory (number db) category
+record_call chunk a_number (New db at size) = New (a_number db) at size
+record_call chunk a_number (Delete db index) = Delete (a_number db) index
+record_call chunk a_number (Archive db index) = Archive (a_number db) index
+record_call chunk a_number (Remove db index) = Remove (a_number db) index
+record_call chunk a_number (Move db from to) = Move (a_number db) from to
+record_call chunk a_number (Get db index) = Get (a_number db) index
+record_call chunk a_number (Query db index) = Query (a_number db) index
+record_call chunk a_number (Release db index dirty) = Release (a_number db) index dirty
+record_call chunk a_number (Info db index) = Info (a_number db) index
+record_call chunk a_number (Resize db index size) = Resize (a_number db) index size
+record_call chunk a_number (Count db) = Count (a_number db)
+record_call chunk a_number (Attach db at name) = Attach (a_number db) at (chunk name)
+record_call chunk a_number (AttachReplacing db index name owner) = AttachReplacing (a_number db) index (chunk name) owner
+record_call chunk a_number (Detach db index owner) = Detach (a_number db) index owner
+record_call chunk a_number (SetInfo db index attributes id) = SetInfo (a_number db) index attributes id
+record_call chunk a_number (FindById db id) = FindById (a_number db) id
+record_call chunk a_number (CountInCategory db category) = CountInCategory (a_number db) category
+record_call chunk a_number (NextInCategory db from category) = NextInCategory (a_number db) from category
+record_call chunk a_number (PositionInCategory db index category) = PositionInCategory (a_number db) index category
+record_call chunk a_number (MoveCategory db to from dirty) = MoveCategory (a_number db) to from dirty
+record_call chunk a_number (DeleteCategory db category) = DeleteCategory (a_number db) category
 
 -- ---- attributes
 
@@ -79,16 +79,16 @@ attributes_set given attributes = bit_or (bit_and attributes 0xA0) (bit_and give
 
 -- the unique ID in a number: its low 24 bits
 abbrev pub id_in : ℕ → ℕ
-id_in number = number % 2 ^ 24
+id_in a_number = a_number % 2 ^ 24
 
 -- the unique ID of a record that is given a number; if the number is 0, the record keeps its ID
 abbrev pub id_set : ℕ → ℕ → ℕ
-id_set number id = if id_in number == 0 then id else id_in number
+id_set a_number id = if id_in a_number == 0 then id else id_in a_number
 
 -- a record that is given attributes and a number
 abbrev pub with_record_info : ℕ → ℕ → Entry ℕ → Entry ℕ
-with_record_info given number (a_record attributes id slot) = a_record (attributes_set given attributes) (id_set number id) slot
-with_record_info given number (a_resource kind id slot) = a_resource kind id slot
+with_record_info given a_number (a_record attributes id slot) = a_record (attributes_set given attributes) (id_set a_number id) slot
+with_record_info given a_number (a_resource kind id slot) = a_resource kind id slot
 
 -- ---- words of the checks
 
@@ -201,7 +201,7 @@ record_row old store (Get db index) = record {
       ∷ deleted store db index
       ∷ busy store db index
       ∷ [];
-  answers = named (λ name. name.0 ≡ data_under store db index);
+  answers = a_name (λ name. name.0 ≡ data_under store db index);
   effect = becomes (λ before. entry_changed before db index (with_attributes (λ attributes. bit_or attributes busy_bit)));
 }
 record_row old store (Query db index) = record {
@@ -212,7 +212,7 @@ record_row old store (Query db index) = record {
       ∷ no_entry store db index
       ∷ deleted store db index
       ∷ [];
-  answers = named (λ name. name.0 ≡ data_under store db index);
+  answers = a_name (λ name. name.0 ≡ data_under store db index);
   effect = stays;
 }
 record_row old store (Release db index dirty) = record {
@@ -242,7 +242,7 @@ record_row old store (Resize db index size) = record {
 record_row old store (Count db) = record {
   only_asks = true;
   refusals = no_database store db ∷ no_records store db ∷ [];
-  answers = number (λ count. count ≡ length (entries_in store db));
+  answers = a_number (λ count. count ≡ length (entries_in store db));
   effect = stays;
 }
 record_row old store (Attach db at name) = record {
@@ -252,7 +252,7 @@ record_row old store (Attach db at name) = record {
       ∷ no_records store db
       ∷ read_only store db
       ∷ giving_checks store.map name.0 (attaching_checks old.bytes store db);
-  answers = number (λ index. index ≡ index_for at (entries_in store db));
+  answers = a_number (λ index. index ≡ index_for at (entries_in store db));
   effect = λ reply before after.
       (id : ℕ) × IsFreshIn before db id × SameStore after (raised (entry_attached before db (index_for at (entries_in before db)) (a_record dirty_bit id name.0)) db);
 }
@@ -265,7 +265,7 @@ record_row old store (AttachReplacing db index name owner) = record {
       ∷ no_entry store db index
       ∷ deleted store db index
       ∷ giving_checks store.map name.0 (no_owner owner ∷ []);
-  answers = named (λ old. old.0 ≡ data_under store db index);
+  answers = a_name (λ old. old.0 ≡ data_under store db index);
   effect = becomes
       (λ before. raised (entry_swapped before db index (with_attributes (λ attributes. bit_or attributes dirty_bit)) name.0 owner) db);
 }
@@ -279,7 +279,7 @@ record_row old store (Detach db index owner) = record {
       ∷ deleted store db index
       ∷ no_owner owner
       ∷ [];
-  answers = named (λ name. name.0 ≡ data_under store db index);
+  answers = a_name (λ name. name.0 ≡ data_under store db index);
   effect = becomes (λ before. raised (entry_handed_over before db index owner) db);
 }
 record_row old store (SetInfo db index attributes id) = record {
@@ -301,13 +301,13 @@ record_row old store (FindById db id) = record {
       ∷ no_records store db
       ∷ (NoneFrom store db 0 (HasId id) brings UniqueIdNotFound)
       ∷ [];
-  answers = number (λ index. OfEntry (entry_under store db index) (HasId id));
+  answers = a_number (λ index. OfEntry (entry_under store db index) (HasId id));
   effect = stays;
 }
 record_row old store (CountInCategory db category) = record {
   only_asks = true;
   refusals = no_database store db ∷ no_records store db ∷ no_categories category ∷ [];
-  answers = number (λ count. count ≡ count_by (is_of category) (entries_in store db));
+  answers = a_number (λ count. count ≡ count_by (is_of category) (entries_in store db));
   effect = stays;
 }
 record_row old store (NextInCategory db from category) = record {
@@ -318,13 +318,13 @@ record_row old store (NextInCategory db from category) = record {
       ∷ no_categories category
       ∷ (NoneFrom store db from (IsOf category) brings IndexOutOfRange)
       ∷ [];
-  answers = number (IsFirstFrom store db from (IsOf category));
+  answers = a_number (IsFirstFrom store db from (IsOf category));
   effect = stays;
 }
 record_row old store (PositionInCategory db index category) = record {
   only_asks = true;
   refusals = no_database store db ∷ no_records store db ∷ no_categories category ∷ no_entry store db index ∷ [];
-  answers = number (λ count. count ≡ count_by (is_of category) (take index (entries_in store db)));
+  answers = a_number (λ count. count ≡ count_by (is_of category) (take index (entries_in store db)));
   effect = stays;
 }
 record_row old store (MoveCategory db to from dirty) = record {

@@ -6,7 +6,7 @@ use Rattle.heap_model.specs.Maps.{sized}
 use Rattle.heap_model.specs.Database.{Entry, a_record, a_resource, has_resources}
 use Rattle.heap_model.specs.Store.{Store}
 use Rattle.heap_model.specs.Refusals.{Check, ◌brings◌}
-use Rattle.heap_model.specs.Steps.{Row, done, number, named}
+use Rattle.heap_model.specs.Steps.{Row, done, a_number, a_name}
 use Rattle.heap_model.specs.MemorySteps.{no_owner, growth_checks}
 use Rattle.heap_model.specs.StoreWords.{SameStore, In, no_database, read_only, becomes, stays}
 use Rattle.heap_model.specs.EntrySteps.{entries_in, entry_under, OfEntry, data_under, IsResourceInfoOf, NoneFrom, IsFirstFrom, made_at, becomes_made, with_chunks, entry_made, entry_changed, entry_attached, entry_dropped, entry_handed_over, raised, no_entry, locked_entry, making_checks, attaching_checks, giving_checks}
@@ -27,16 +27,16 @@ ResourceCall = given.ResourceCall Name Db
 
 -- the same call, with its chunk and its database given in another way
 abbrev pub resource_call : {One Other ThisOne ThisOther : Type 0} → (One → Other) → (ThisOne → ThisOther) → given.ResourceCall One ThisOne → given.ResourceCall Other ThisOther
-resource_call chunk number (New db kind id size) = New (number db) kind id size
-resource_call chunk number (Attach db kind id name) = Attach (number db) kind id (chunk name)
-resource_call chunk number (Detach db index owner) = Detach (number db) index owner
-resource_call chunk number (Remove db index) = Remove (number db) index
-resource_call chunk number (Resize db index size) = Resize (number db) index size
-resource_call chunk number (Info db index) = Info (number db) index
-resource_call chunk number (SetInfo db index kind id) = SetInfo (number db) index kind id
-resource_call chunk number (Find db kind id) = Find (number db) kind id
-resource_call chunk number (FindType db kind nth) = FindType (number db) kind nth
-resource_call chunk number (Count db) = Count (number db)
+resource_call chunk a_number (New db kind id size) = New (a_number db) kind id size
+resource_call chunk a_number (Attach db kind id name) = Attach (a_number db) kind id (chunk name)
+resource_call chunk a_number (Detach db index owner) = Detach (a_number db) index owner
+resource_call chunk a_number (Remove db index) = Remove (a_number db) index
+resource_call chunk a_number (Resize db index size) = Resize (a_number db) index size
+resource_call chunk a_number (Info db index) = Info (a_number db) index
+resource_call chunk a_number (SetInfo db index kind id) = SetInfo (a_number db) index kind id
+resource_call chunk a_number (Find db kind id) = Find (a_number db) kind id
+resource_call chunk a_number (FindType db kind nth) = FindType (a_number db) kind nth
+resource_call chunk a_number (Count db) = Count (a_number db)
 
 -- ---- types and ids
 
@@ -47,13 +47,13 @@ has_type given (a_resource kind id slot) = kind == given
 
 -- the entry is a resource of this type and this ID
 abbrev pub HasTypeAndId : ℕ → ℕ → Entry ℕ → Type 0
-HasTypeAndId given number (a_record attributes id slot) = ⊥
-HasTypeAndId given number (a_resource kind id slot) = (kind ≡ given) × (id ≡ number)
+HasTypeAndId given a_number (a_record attributes id slot) = ⊥
+HasTypeAndId given a_number (a_resource kind id slot) = (kind ≡ given) × (id ≡ a_number)
 
 -- a resource with another type and ID
 abbrev pub with_type_and_id : ℕ → ℕ → Entry ℕ → Entry ℕ
-with_type_and_id given number (a_record attributes id slot) = a_record attributes id slot
-with_type_and_id given number (a_resource kind id slot) = a_resource given number slot
+with_type_and_id given a_number (a_record attributes id slot) = a_record attributes id slot
+with_type_and_id given a_number (a_resource kind id slot) = a_resource given a_number slot
 
 -- ---- a check that rows share
 
@@ -89,7 +89,7 @@ resource_row old store (Attach db kind id name) = record {
       ∷ no_resources store db
       ∷ read_only store db
       ∷ giving_checks store.map name.0 (attaching_checks old.bytes store db);
-  answers = number (λ index. index ≡ length (entries_in store db));
+  answers = a_number (λ index. index ≡ length (entries_in store db));
   effect = becomes (λ before. raised (entry_attached before db (length (entries_in before db)) (a_resource kind id name.0)) db);
 }
 resource_row old store (Detach db index owner) = record {
@@ -101,7 +101,7 @@ resource_row old store (Detach db index owner) = record {
       ∷ no_entry store db index
       ∷ no_owner owner
       ∷ [];
-  answers = named (λ name. name.0 ≡ data_under store db index);
+  answers = a_name (λ name. name.0 ≡ data_under store db index);
   effect = becomes (λ before. raised (entry_handed_over before db index owner) db);
 }
 resource_row old store (Remove db index) = record {
@@ -151,7 +151,7 @@ resource_row old store (Find db kind id) = record {
       ∷ no_resources store db
       ∷ (NoneFrom store db 0 (HasTypeAndId kind id) brings ResourceNotFound)
       ∷ [];
-  answers = number (IsFirstFrom store db 0 (HasTypeAndId kind id));
+  answers = a_number (IsFirstFrom store db 0 (HasTypeAndId kind id));
   effect = stays;
 }
 resource_row old store (FindType db kind nth) = record {
@@ -161,12 +161,12 @@ resource_row old store (FindType db kind nth) = record {
       ∷ no_resources store db
       ∷ ((count_by (has_type kind) (entries_in store db) ≤ nth) brings ResourceNotFound)
       ∷ [];
-  answers = number (IsNthOfType store db kind nth);
+  answers = a_number (IsNthOfType store db kind nth);
   effect = stays;
 }
 resource_row old store (Count db) = record {
   only_asks = true;
   refusals = no_database store db ∷ no_resources store db ∷ [];
-  answers = number (λ count. count ≡ length (entries_in store db));
+  answers = a_number (λ count. count ≡ length (entries_in store db));
   effect = stays;
 }

@@ -51,8 +51,8 @@ abbrev pub making : ℕ → Part
 making count = makes (need count)
 
 -- the part in which a name's chunk grows to `count` bytes
-abbrev pub growth : List ℕ → ℕ → ℕ → Part
-growth image name count = grows (stretch_of image name) (need (length (bytes_under image name))) (need count)
+abbrev pub growth_part : List ℕ → ℕ → ℕ → Part
+growth_part image name count = grows (stretch_of image name) (need (length (bytes_under image name))) (need count)
 
 -- the room that a part takes
 abbrev pub taken_by : Part → ℕ

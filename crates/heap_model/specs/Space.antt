@@ -31,11 +31,11 @@ NoRun chunks size = (before run after : List Chunk) → chunks ≡ before ++ (ru
 -- ---- stretches: longest runs of neighbouring chunks without one that stays
 
 -- a chunk that stays where it is: it is fixed, or has a lock
-abbrev pub stays : Chunk → Bool
-stays (free size) = false
-stays (movable bytes zero owner slot) = false
-stays (movable bytes (suc count) owner slot) = true
-stays (fixed bytes owner) = true
+abbrev pub stays_put : Chunk → Bool
+stays_put (free size) = false
+stays_put (movable bytes zero owner slot) = false
+stays_put (movable bytes (suc count) owner slot) = true
+stays_put (fixed bytes owner) = true
 
 -- none of these chunks stays
 abbrev pub NoneStays : List Chunk → Type 0
@@ -53,7 +53,7 @@ onto_first chunk (run ∷ runs) = (chunk ∷ run) ∷ runs
 -- the runs between chunks that stay; some runs may be empty
 abbrev pub runs_between : List Chunk → List (List Chunk)
 runs_between [] = [] ∷ []
-runs_between (chunk ∷ chunks) = if stays chunk then [] ∷ runs_between chunks else onto_first chunk (runs_between chunks)
+runs_between (chunk ∷ chunks) = if stays_put chunk then [] ∷ runs_between chunks else onto_first chunk (runs_between chunks)
 
 abbrev pub has_chunk : List Chunk → Bool
 has_chunk [] = false

@@ -34,13 +34,13 @@ abbrev pub done : Reply → Memory → Type 0
 done Done new = Unit {0}
 done reply new = ⊥
 
-abbrev pub number : (ℕ → Type 0) → Reply → Memory → Type 0
-number P (Number count) new = P count
-number P reply new = ⊥
+abbrev pub a_number : (ℕ → Type 0) → Reply → Memory → Type 0
+a_number P (Number count) new = P count
+a_number P reply new = ⊥
 
-abbrev pub named : (Name → Type 0) → Reply → Memory → Type 0
-named P (Named name) new = P name
-named P reply new = ⊥
+abbrev pub a_name : (Name → Type 0) → Reply → Memory → Type 0
+a_name P (Named name) new = P name
+a_name P reply new = ⊥
 
 abbrev pub locked : (Place → ℕ → Memory → Type 0) → Reply → Memory → Type 0
 locked P (Locked place count) new = P place count new

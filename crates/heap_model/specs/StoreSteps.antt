@@ -85,26 +85,26 @@ HasMade (calls.File (Import file)) (replies.Database db) = Unit {0}
 HasMade call reply = ⊥
 
 -- the calls that may slide bytes: of chunks that move, or within one chunk
-abbrev pub may_slide : Call → Bool
-may_slide (calls.Memory call) = memory.may_slide call
-may_slide (calls.Database (Create name kind creator resources date)) = true
-may_slide (calls.Database (Delete db)) = true
-may_slide (calls.Database call) = false
-may_slide (calls.Record (records.New db at size)) = true
-may_slide (calls.Record (records.Remove db index)) = true
-may_slide (calls.Record (records.Move db from to)) = true
-may_slide (calls.Record (records.Resize db index size)) = true
-may_slide (calls.Record (records.Attach db at name)) = true
-may_slide (calls.Record (records.Detach db index owner)) = true
-may_slide (calls.Record call) = false
-may_slide (calls.Resource (resources.New db kind id size)) = true
-may_slide (calls.Resource (resources.Attach db kind id name)) = true
-may_slide (calls.Resource (resources.Detach db index owner)) = true
-may_slide (calls.Resource (resources.Remove db index)) = true
-may_slide (calls.Resource (resources.Resize db index size)) = true
-may_slide (calls.Resource call) = false
-may_slide (calls.File (Import file)) = true
-may_slide (calls.File (Export db)) = false
+abbrev pub may_slide_bytes : Call → Bool
+may_slide_bytes (calls.Memory call) = memory.may_slide call
+may_slide_bytes (calls.Database (Create name kind creator resources date)) = true
+may_slide_bytes (calls.Database (Delete db)) = true
+may_slide_bytes (calls.Database call) = false
+may_slide_bytes (calls.Record (records.New db at size)) = true
+may_slide_bytes (calls.Record (records.Remove db index)) = true
+may_slide_bytes (calls.Record (records.Move db from to)) = true
+may_slide_bytes (calls.Record (records.Resize db index size)) = true
+may_slide_bytes (calls.Record (records.Attach db at name)) = true
+may_slide_bytes (calls.Record (records.Detach db index owner)) = true
+may_slide_bytes (calls.Record call) = false
+may_slide_bytes (calls.Resource (resources.New db kind id size)) = true
+may_slide_bytes (calls.Resource (resources.Attach db kind id name)) = true
+may_slide_bytes (calls.Resource (resources.Detach db index owner)) = true
+may_slide_bytes (calls.Resource (resources.Remove db index)) = true
+may_slide_bytes (calls.Resource (resources.Resize db index size)) = true
+may_slide_bytes (calls.Resource call) = false
+may_slide_bytes (calls.File (Import file)) = true
+may_slide_bytes (calls.File (Export db)) = false
 
 -- The tables after a call are those before it, in the same order, and so are the slots. An accepted
 -- `MoreSlots` adds a table at the end. A chain stays a chain, and no call makes one.
@@ -128,4 +128,4 @@ pub record DoesInStore (old : Memory) (call : Call) (reply : Reply) (new : Memor
   pub still : Still old.bytes new.bytes
   pub loan : KeepsLoan old new
   pub asks : OnTrue (row_of old call).only_asks (new ≡ old)
-  pub rest : new ≡ record old { bytes = new.bytes; slid = if may_slide call then new.slid else old.slid }
+  pub rest : new ≡ record old { bytes = new.bytes; slid = if may_slide_bytes call then new.slid else old.slid }

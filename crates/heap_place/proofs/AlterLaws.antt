@@ -1,31 +1,11 @@
 -- A live chunk of an accepted heap gets another lock count, another owner or other bytes.
-use Rattle.std.proofs.Common.{◌≡◌, ℕ, zero, suc, ◌+◌, ◌-◌, ◌<◌, ◌≤◌, List, [], ◌∷◌, ◌++◌, length, replicate, refl, sym, ap, subst, ◌∙◌, arith, inl, inr, length-append, length-take, length-drop}
-use Rattle.std.specs.Prelude.{◌⊎◌, slice_range}
-use Rattle.std.proofs.lemmas.List.{length-replicate}
-use Rattle.heap_model.specs.Memory.{Memory}
-use Rattle.heap_model.specs.Bytes.{u32_bytes, overwritten}
-use Rattle.heap_model.specs.Chunk.{Chunk, free, movable, fixed, fixed_lock, Spelled}
-use Rattle.heap_model.specs.Heap.{HeapAccepted}
-use Rattle.heap_model.specs.Meaning.{LiveChunk}
-use Rattle.heap_model.specs.Placing.{Finds}
-use Rattle.heap_model.specs.Layout.{Becomes, Alters, with_lock, with_owner, with_bytes, WritesPlain}
-use Rattle.laws_heap.proofs.Frames.{overwritten-behind}
-use Rattle.laws_heap.proofs.Writes.{WroteWithin, wrote_word, wrote_wider}
-use Rattle.laws_heap.proofs.FixedNames.{fixed_live_is, fixed_owned}
-use Rattle.laws_heap.proofs.FoundChunks.{finds_spelled}
-use Rattle.laws_heap.proofs.Exchanges.{exchanges_parts}
-use Rattle.laws_heap.proofs.ExchangedNames.{named_live_chunk}
-use Rattle.laws_heap.proofs.AlteredChunks.{body_written, movable_relabelled, fixed_relabelled}
-use Rattle.chunk_format.specs.Header.{Relocks, Reowns}
-use Rattle.heap_place.specs.declared.found.Found.{Found}
-use Rattle.heap_place.specs.Found.{IsOne, CanGoTo, SlidesWithin}
+use Rattle.heap_place.proofs.Words.{◌≡◌, ℕ, zero, suc, ◌+◌, ◌-◌, ◌<◌, ◌≤◌, List, [], ◌∷◌, ◌++◌, length, replicate, refl, sym, ap, subst, ◌∙◌, arith, inl, inr, length-append, length-take, length-drop, ◌⊎◌, slice_range, length-replicate, Memory, u32_bytes, overwritten, Chunk, free, movable, fixed, fixed_lock, HeapAccepted, LiveChunk, Finds, Becomes, Alters, with_lock, with_owner, with_bytes, WritesPlain, overwritten-behind, WroteWithin, wrote_word, wrote_wider, fixed_live_is, fixed_owned, finds_spelled, exchanges_parts, named_live_chunk, body_written, movable_relabelled, fixed_relabelled, Relocks, Reowns, Found, IsOne, CanGoTo, SlidesWithin, same_lock, same_owner}
 use Rattle.heap_place.proofs.FoundLaws.{Fields, fields_of, bytes_inside}
 
 -- the second word was written
-wrote_second : (old new : List ℕ) (found : Found) (word : ℕ) → HeapAccepted old → IsOne old found → new ≡ overwritten old (found.place.0 - 8 + 4) (u32_bytes word) → WroteWithin old new (found.place.0 - 8) (found.place.0 - 8 + 8)
-wrote_second old new found word h f is =
+wrote_second : {old new : List ℕ} {found : Found} (word : ℕ) → HeapAccepted old → IsOne old found → new ≡ overwritten old (found.place.0 - 8 + 4) (u32_bytes word) → WroteWithin old new (found.place.0 - 8) (found.place.0 - 8 + 8)
+wrote_second {old} {new} {found} word h f is =
     let at : ℕ = found.place.0 - 8 in
-    let low = f.behind_header in
     let inside = bytes_inside old found h f in
     wrote_wider old new (at + 4) (at + 4 + 4) at (at + 8) (wrote_word old new (at + 4) word is (omega arith)) (omega arith) (omega arith)
 
@@ -33,64 +13,62 @@ wrote_second old new found word h f is =
 pub changed_there : (old new : List ℕ) (found : Found) (change : Chunk → Chunk) → HeapAccepted old → (f : IsOne old found) → Becomes old new (f.finds.before ++ change f.chunk ∷ f.finds.after) → Alters old new (found.place.0 - 8) change
 changed_there old new found change h f b =
     let at : ℕ = found.place.0 - 8 in
-    (exchanges_parts old new at (λ chunk. change chunk ∷ []) f.finds.before f.chunk f.finds.after h (named_live_chunk found.name.0 at f.live f.chunk f.finds.named) f.finds.chunks f.finds.there).1 b
+    (exchanges_parts old new at (λ chunk. change chunk ∷ []) f.finds.before f.chunk _ h (named_live_chunk found.name.0 at f.live f.chunk f.finds.named) f.finds.chunks f.finds.there).1 b
 
 -- ---- another lock count
 
-relocks : (old new : List ℕ) (name at lock : ℕ) (found : Found) (live : LiveChunk) (c : Chunk) → HeapAccepted old → (f : Finds old name live c at) → Fields name live found → found.lock < fixed_lock → (lock ≡ 0) ⊎ (0 < found.owner) → Relocks old new at lock → WroteWithin old new at (at + 8)
+relocks : {old new : List ℕ} {name at lock : ℕ} {found : Found} {live : LiveChunk} (c : Chunk) → HeapAccepted old → (f : Finds old name live c at) → Fields name live found → found.lock < fixed_lock → (lock ≡ 0) ⊎ (0 < found.owner) → Relocks old new at lock → WroteWithin old new at (at + 8)
     → Becomes old new (f.before ++ with_lock lock c ∷ f.after) × WritesPlain old new
-relocks old new name at lock found live (free size) h f k loose owned re w = absurd f.named
-relocks old new name at lock found live (movable bytes count holder slot) h f k loose owned re w =
-    let s : Spelled old at (movable bytes count holder slot) = finds_spelled old name live (movable bytes count holder slot) at h f in
-    let same : found.owner ≡ holder = k.owner_is ∙ ap (λ (x : LiveChunk). x.owner) (sym f.named.1) in
-    movable_relabelled old new name at live bytes bytes count holder slot lock holder h f (λ directory none. none) w (re bytes count holder slot (subst (λ (n : ℕ). (lock ≡ 0) ⊎ (0 < n)) same owned) s) refl
-relocks old new name at lock found live (fixed bytes holder) h f k loose owned re w = let e : fixed_lock ≡ live.lock = ap (λ (x : LiveChunk). x.lock) (fixed_live_is at bytes holder f.named) in let same = k.lock_is in absurd (omega arith)
+relocks (free size) h f k loose owned re w = absurd f.named
+relocks {old} {new} {name} {at} {lock} {found} {live} (movable bytes count holder slot) h f k loose owned re w =
+    let s = finds_spelled old name live (movable bytes count holder slot) at h f in
+    let same : found.owner ≡ holder = k.owner_is ∙ same_owner (sym f.named.1) in
+    movable_relabelled old new name at live bytes bytes count holder slot lock holder h f (λ directory none. none) w (re bytes count holder slot (subst (λ n. (lock ≡ 0) ⊎ (0 < n)) same owned) s) refl
+relocks {at} {live} (fixed bytes holder) h f k loose owned re w = let e : fixed_lock ≡ live.lock = same_lock (fixed_live_is at bytes holder f.named) in absurd (omega arith)
 
-pub relocked_there : (old new : List ℕ) (found : Found) (lock word : ℕ) → HeapAccepted old → IsOne old found → found.lock < fixed_lock → (lock ≡ 0) ⊎ (0 < found.owner) → Relocks old new (found.place.0 - 8) lock → new ≡ overwritten old (found.place.0 - 8 + 4) (u32_bytes word) → Alters old new (found.place.0 - 8) (with_lock lock) × WritesPlain old new
-relocked_there old new found lock word h f loose owned re is =
-    let done = relocks old new found.name.0 (found.place.0 - 8) lock found f.live f.chunk h f.finds (fields_of old found.name.0 found f) loose owned re (wrote_second old new found word h f is) in
+pub relocked_there : {old new : List ℕ} {found : Found} {lock : ℕ} (word : ℕ) → HeapAccepted old → IsOne old found → found.lock < fixed_lock → (lock ≡ 0) ⊎ (0 < found.owner) → Relocks old new (found.place.0 - 8) lock → new ≡ overwritten old (found.place.0 - 8 + 4) (u32_bytes word) → Alters old new (found.place.0 - 8) (with_lock lock) × WritesPlain old new
+relocked_there {old} {new} {found} {lock} word h f loose owned re is =
+    let done = relocks f.chunk h f.finds (fields_of f) loose owned re (wrote_second word h f is) in
     (changed_there old new found (with_lock lock) h f done.0, done.1)
 
 -- ---- another owner
 
-may_stand : (count lock owner : ℕ) → lock ≡ count → (0 < lock → 0 < owner) → (count ≡ 0) ⊎ (0 < owner)
-may_stand zero lock owner e locked = inl refl
-may_stand (suc count) lock owner e locked = inr (locked (omega arith))
+may_stand : (count : ℕ) {lock : ℕ} (owner : ℕ) → lock ≡ count → (0 < lock → 0 < owner) → (count ≡ 0) ⊎ (0 < owner)
+may_stand zero owner e locked = inl refl
+may_stand (suc count) owner e locked = inr (locked (omega arith))
 
-reowns : (old new : List ℕ) (name at owner : ℕ) (found : Found) (live : LiveChunk) (c : Chunk) → HeapAccepted old → (f : Finds old name live c at) → Fields name live found → CanGoTo old found owner → Reowns old new at owner → WroteWithin old new at (at + 8) → Becomes old new (f.before ++ with_owner owner c ∷ f.after) × WritesPlain old new
-reowns old new name at owner found live (free size) h f k can re w = absurd f.named
-reowns old new name at owner found live (movable bytes count holder slot) h f k can re w =
-    let s : Spelled old at (movable bytes count holder slot) = finds_spelled old name live (movable bytes count holder slot) at h f in
-    let same : found.lock ≡ count = k.lock_is ∙ ap (λ (x : LiveChunk). x.lock) (sym f.named.1) in
+reowns : {old new : List ℕ} {name at owner : ℕ} {found : Found} {live : LiveChunk} (c : Chunk) → HeapAccepted old → (f : Finds old name live c at) → Fields name live found → CanGoTo old found owner → Reowns old new at owner → WroteWithin old new at (at + 8) → Becomes old new (f.before ++ with_owner owner c ∷ f.after) × WritesPlain old new
+reowns (free size) h f k can re w = absurd f.named
+reowns {old} {new} {name} {at} {owner} {found} {live} (movable bytes count holder slot) h f k can re w =
+    let s = finds_spelled old name live (movable bytes count holder slot) at h f in
+    let same : found.lock ≡ count = k.lock_is ∙ same_lock (sym f.named.1) in
     movable_relabelled old new name at live bytes bytes count holder slot count owner h f (λ at_directory none. can.directory (k.name_is ∙ sym f.named.0 ∙ at_directory)) w
-    (re.movable_too bytes count holder slot (may_stand count found.lock owner same can.locked) s) refl
-reowns old new name at owner found live (fixed bytes holder) h f k can re w =
-    let s : Spelled old at (fixed bytes holder) = finds_spelled old name live (fixed bytes holder) at h f in
-    let is : found.lock ≡ fixed_lock = k.lock_is ∙ ap (λ (x : LiveChunk). x.lock) (sym (fixed_live_is at bytes holder f.named)) in
+    (re.movable_too bytes count holder slot (may_stand count owner same can.locked) s) refl
+reowns {old} {new} {name} {at} {owner} {found} {live} (fixed bytes holder) h f k can re w =
+    let s = finds_spelled old name live (fixed bytes holder) at h f in
+    let is : found.lock ≡ fixed_lock = k.lock_is ∙ same_lock (sym (fixed_live_is at bytes holder f.named)) in
     fixed_relabelled old new name at live bytes bytes holder owner h f (can.locked (omega arith)) (can.fixed is) w (re.fixed_too bytes holder (fixed_owned at bytes holder f.named) (can.locked (omega arith)) s) refl
 
-pub reowned_there : (old new : List ℕ) (found : Found) (owner word : ℕ) → HeapAccepted old → IsOne old found → CanGoTo old found owner → Reowns old new (found.place.0 - 8) owner → new ≡ overwritten old (found.place.0 - 8 + 4) (u32_bytes word) → Alters old new (found.place.0 - 8) (with_owner owner) × WritesPlain old new
-reowned_there old new found owner word h f can re is =
-    let done = reowns old new found.name.0 (found.place.0 - 8) owner found f.live f.chunk h f.finds (fields_of old found.name.0 found f) can re (wrote_second old new found word h f is) in
+pub reowned_there : {old new : List ℕ} {found : Found} {owner : ℕ} (word : ℕ) → HeapAccepted old → IsOne old found → CanGoTo old found owner → Reowns old new (found.place.0 - 8) owner → new ≡ overwritten old (found.place.0 - 8 + 4) (u32_bytes word) → Alters old new (found.place.0 - 8) (with_owner owner) × WritesPlain old new
+reowned_there {old} {new} {found} {owner} word h f can re is =
+    let done = reowns f.chunk h f.finds (fields_of f) can re (wrote_second word h f is) in
     (changed_there old new found (with_owner owner) h f done.0, done.1)
 
 -- ---- bytes of a body
 
 pub written_there : (old new : List ℕ) (found : Found) (at : ℕ) (part : List ℕ) → HeapAccepted old → IsOne old found → at + length part ≤ found.length → new ≡ overwritten old (found.place.0 + at) part → Alters old new (found.place.0 - 8) (with_bytes at part) × WritesPlain old new
 written_there old new found at part h f within is =
-    let low = f.behind_header in
-    let len = f.count in
     let there : found.place.0 - 8 + 8 ≡ found.place.0 = omega arith in
     let place : ℕ = found.place.0 - 8 in
-    let done = body_written old new found.name.0 place at f.live f.chunk part h f.finds (omega arith) (is ∙ ap (λ (n : ℕ). overwritten old (n + at) part) (sym there)) in
+    let done = body_written old new _ place at f.live f.chunk part h f.finds (omega arith) (is ∙ ap (λ n. overwritten old (n + at) part) (sym there)) in
     (changed_there old new found (with_bytes at part) h f done.0, done.1)
 
 pub slid_there : (old region : Memory) (new : List ℕ) (found : Found) (from to count : ℕ) → region ≡ old → HeapAccepted old.bytes → IsOne old.bytes found → from + count ≤ found.length → to + count ≤ found.length
     → new ≡ overwritten region.bytes (found.place.0 + to) (slice_range region.bytes (found.place.0 + from) (found.place.0 + from + count)) → SlidesWithin old.bytes new found from to count × WritesPlain old.bytes new
 slid_there old region new found from to count same h f in_from in_to is =
-    let inside = bytes_inside old.bytes found h f in
+    let inside = bytes_inside _ found h f in
     let many : length (slice_range old.bytes (found.place.0 + from) (found.place.0 + from + count)) ≡ count = simp (length-take, length-drop) (omega arith) in
-    written_there old.bytes new found to (slice_range old.bytes (found.place.0 + from) (found.place.0 + from + count)) h f (omega arith)
+    written_there _ new found to (slice_range old.bytes (found.place.0 + from) (found.place.0 + from + count)) h f (omega arith)
     (is ∙ ap (λ (m : Memory). overwritten m.bytes (found.place.0 + to) (slice_range m.bytes (found.place.0 + from) (found.place.0 + from + count))) same)
 
 pub filled_there : (old new : List ℕ) (found : Found) (at count byte : ℕ) → HeapAccepted old → IsOne old found → at + count ≤ found.length → new ≡ overwritten old (found.place.0 + at) (replicate count byte) → Alters old new (found.place.0 - 8) (with_bytes at (replicate count byte)) × WritesPlain old new
@@ -103,4 +81,4 @@ pub ended_there : (old mid new : List ℕ) (found : Found) (at : ℕ) (part : Li
 ended_there old mid new found at part h f within mid_is new_is =
     let inside = bytes_inside old found h f in
     let more : length (part ++ 0 ∷ []) ≡ length part + 1 = length-append part (0 ∷ []) in
-    written_there old new found at (part ++ 0 ∷ []) h f (omega arith) (new_is ∙ ap (λ (x : List ℕ). overwritten x (found.place.0 + at + length part) (0 ∷ [])) mid_is ∙ overwritten-behind old (found.place.0 + at) part (0 ∷ []) (found.place.0 + at + length part) refl (omega arith))
+    written_there old new found at (part ++ 0 ∷ []) h f (omega arith) (new_is ∙ ap (λ x. overwritten x (found.place.0 + at + length part) (0 ∷ [])) mid_is ∙ overwritten-behind old (found.place.0 + at) part (0 ∷ []) (found.place.0 + at + length part) refl (omega arith))

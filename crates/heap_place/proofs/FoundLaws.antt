@@ -1,24 +1,12 @@
 -- A live chunk that was found: its chunk, its header, and where its bytes lie.
-use Rattle.std.proofs.Common.{◌≡◌, ◌≢◌, ℕ, ◌+◌, ◌-◌, ◌%◌, ◌≤◌, List, [], ◌∷◌, ◌++◌, length, Some, refl, sym, ap, subst, ◌∙◌, arith}
-use Rattle.heap_model.specs.Chunk.{Chunk, need, free, movable, fixed, fixed_lock, size_of, total, SpelledAll}
-use Rattle.heap_model.specs.Slots.{IsSlot, area_start}
-use Rattle.heap_model.specs.Heap.{BodyHere, IsHeap, HeapAccepted}
-use Rattle.heap_model.specs.Meaning.{LiveChunk}
-use Rattle.heap_model.specs.Reading.{chunks_of, held}
-use Rattle.heap_model.specs.Placing.{Finds}
-use Rattle.laws_heap.proofs.Chunks.{Spelled-size, SpelledAll-split, SpelledAll-end}
-use Rattle.laws_heap.proofs.Placed.{AnyPlaced-mid}
+use Rattle.heap_place.proofs.Words.{◌≡◌, ◌≢◌, ℕ, ◌+◌, ◌-◌, ◌%◌, ◌≤◌, List, [], ◌∷◌, ◌++◌, length, Some, refl, sym, ap, subst, ◌∙◌, arith, Chunk, need, free, movable, fixed, fixed_lock, size_of, total, SpelledAll, IsSlot, area_start, BodyHere, IsHeap, HeapAccepted, LiveChunk, chunks_of, held, Finds, Spelled-size, SpelledAll-split, SpelledAll-end, AnyPlaced-mid, fixed_live_is, finds_held, named_size, finds_spelled, finds_body, Found, IsFound, IsOne, same_lock, IsFreeChunk, HoldNoSlots, NamedHere, fixed_owned}
 use Rattle.laws_heap.proofs.Accepted.{heap_of_read}
-use Rattle.laws_heap.proofs.FixedNames.{fixed_live_is}
-use Rattle.laws_heap.proofs.FoundChunks.{finds_held, named_size, finds_spelled, finds_body}
-use Rattle.heap_place.specs.declared.found.Found.{Found}
-use Rattle.heap_place.specs.Found.{IsFound, IsOne}
 
 -- ---- chunks of a heap
 
 -- the chunks that are read off an accepted heap, in parts
 pub heap_in_parts : (image : List ℕ) (cs : List Chunk) → HeapAccepted image → chunks_of image ≡ cs → IsHeap image cs
-heap_in_parts image cs h e = subst (λ (xs : List Chunk). IsHeap image xs) e (heap_of_read image h.0 h.1)
+heap_in_parts image cs h e = subst (λ xs. IsHeap image xs) e (heap_of_read image h.0 h.1)
 
 pub total_whole : (image : List ℕ) (at : ℕ) (cs : List Chunk) (end : ℕ) → SpelledAll image at cs end → total cs % 8 ≡ 0
 total_whole image at [] end s = refl
@@ -46,13 +34,21 @@ middle_of image before mid after at h e =
     let front = total_whole image start before (start + total before) a.0 in
     record {
       there = e;
-      spelled = subst (λ (n : ℕ). SpelledAll image n mid (n + total mid)) (sym e) b.0;
-      behind = subst (λ (n : ℕ). SpelledAll image (n + total mid) after (length image)) (sym e) b.1;
+      spelled = subst (λ n. SpelledAll image n mid (n + total mid)) (sym e) b.0;
+      behind = subst (λ n. SpelledAll image (n + total mid) after (length image)) (sym e) b.1;
       inside = omega arith;
       whole = total_whole image (start + total before) mid (start + total before + total mid) b.0;
       most = h.tiles.head.most;
       start_whole = omega arith;
     }
+
+-- a free chunk, where it stands
+pub chunk_middle : {image : List ℕ} {at size : ℕ} → HeapAccepted image → (f : IsFreeChunk image at size) → Middle image f.before (free size ∷ []) f.after at
+chunk_middle {image} {at} {size} h f = middle_of image f.before (free size ∷ []) f.after at (heap_in_parts image (f.before ++ free size ∷ f.after) h f.chunks) f.there
+
+-- a chunk of a name, where it stands
+pub finds_middle : {image : List ℕ} {name at : ℕ} {live : LiveChunk} {c : Chunk} → HeapAccepted image → (f : Finds image name live c at) → Middle image f.before (c ∷ []) f.after at
+finds_middle {image} {at} {c} h f = middle_of image f.before (c ∷ []) f.after at (heap_in_parts image (f.before ++ c ∷ f.after) h f.chunks) f.there
 
 -- the slot of a movable chunk
 pub own_slot : (image : List ℕ) (name at : ℕ) (live : LiveChunk) (bytes : List ℕ) (lock owner slot : ℕ) → HeapAccepted image → Finds image name live (movable bytes lock owner slot) at → IsSlot image slot
@@ -61,6 +57,12 @@ own_slot image name at live bytes lock owner slot h f =
     let place : ℕ = area_start image + total f.before + 8 in
     let here : BodyHere slot place (area_start image + total f.before) (movable bytes lock owner slot) = (refl, refl) in
     ((heap.tied slot place (omega arith)).1 (AnyPlaced-mid (BodyHere slot place) (area_start image) f.before (movable bytes lock owner slot) f.after here)).0
+
+-- a chunk of a name is no table
+pub no_slots : (name : ℕ) (live : LiveChunk) (at : ℕ) (c : Chunk) → NamedHere name live at c → HoldNoSlots (c ∷ [])
+no_slots name live at (free size) n = absurd n
+no_slots name live at (movable bytes lock owner slot) n = tt
+no_slots name live at (fixed bytes owner) n = (fixed_owned at bytes owner n, tt)
 
 -- ---- its fields
 
@@ -71,8 +73,8 @@ pub record Fields (name : ℕ) (live : LiveChunk) (found : Found) : Type 0 where
   pub lock_is : found.lock ≡ live.lock
   pub owner_is : found.owner ≡ live.owner
 
-pub fields_of : (image : List ℕ) (name : ℕ) (found : Found) → (f : IsFound image name found) → Fields name f.live found
-fields_of image name found f = record { name_is = f.name_is; count = f.count; lock_is = f.lock_is; owner_is = f.owner_is }
+pub fields_of : {image : List ℕ} {name : ℕ} {found : Found} → (f : IsFound image name found) → Fields name f.live found
+fields_of f = record { name_is = f.name_is; count = f.count; lock_is = f.lock_is; owner_is = f.owner_is }
 
 -- what the whole chunk takes
 pub found_size : (image : List ℕ) (found : Found) → (f : IsOne image found) → need found.length ≡ size_of f.chunk
@@ -82,15 +84,15 @@ found_size image found f = ap need f.count ∙ named_size found.name.0 f.live (f
 pub found_inside : (image : List ℕ) (found : Found) → HeapAccepted image → IsOne image found → found.place.0 - 8 + need found.length ≤ length image
 found_inside image found h f =
     let size = found_size image found f in
-    let inside = (Spelled-size image (found.place.0 - 8) f.chunk (finds_spelled image found.name.0 f.live f.chunk (found.place.0 - 8) h f.finds)).1 in
+    let inside = (Spelled-size image (found.place.0 - 8) f.chunk (finds_spelled image _ f.live f.chunk _ h f.finds)).1 in
     omega arith
 
 -- what its name stands for
 pub name_held : (image : List ℕ) (name : ℕ) (found : Found) → HeapAccepted image → (f : IsFound image name found) → held image name ≡ Some f.live
-name_held image name found h f = finds_held image name f.live f.chunk (found.place.0 - 8) h f.finds
+name_held image name found h f = finds_held image name f.live f.chunk _ h f.finds
 
 pub one_held : (image : List ℕ) (found : Found) → HeapAccepted image → (f : IsOne image found) → held image found.name.0 ≡ Some f.live
-one_held image found h f = name_held image found.name.0 found h f
+one_held image found h f = name_held image _ found h f
 
 -- where it isn't fixed it is movable
 pub when_movable : (image : List ℕ) (name : ℕ) (found : Found) (f : IsFound image name found) (P : (c : Chunk) → Finds image name f.live c (found.place.0 - 8) → Type 0) → found.lock ≢ fixed_lock
@@ -99,16 +101,11 @@ when_movable image name found f P loose of_movable = by_chunk f.chunk f.finds wh
   by_chunk : (c : Chunk) (g : Finds image name f.live c (found.place.0 - 8)) → P c g
   by_chunk (free size) g = absurd g.named
   by_chunk (movable bytes lock owner slot) g = of_movable bytes lock owner slot g
-  by_chunk (fixed bytes owner) g = absurd (loose (f.lock_is ∙ ap (λ (x : LiveChunk). x.lock) (sym (fixed_live_is (found.place.0 - 8) bytes owner g.named))))
+  by_chunk (fixed bytes owner) g = absurd (loose (f.lock_is ∙ same_lock (sym (fixed_live_is (found.place.0 - 8) bytes owner g.named))))
 
 -- ---- its bytes
 
-body_inside : (image : List ℕ) (at name : ℕ) (live : LiveChunk) (chunk : Chunk) → HeapAccepted image → Finds image name live chunk at → at + 8 + length live.bytes ≤ length image
-body_inside image at name live chunk h f = let inside = (finds_body image name live chunk at h f).inside in omega arith
-
 pub bytes_inside : (image : List ℕ) (found : Found) → HeapAccepted image → IsOne image found → found.place.0 + found.length ≤ length image
 bytes_inside image found h f =
-    let low = f.behind_header in
-    let len = f.count in
-    let inside = body_inside image (found.place.0 - 8) found.name.0 f.live f.chunk h f.finds in
+    let inside = (finds_body image found.name.0 f.live f.chunk (found.place.0 - 8) h f.finds).inside in
     omega arith

@@ -1,3 +1,4 @@
+pub mod Words
 pub mod FoundLaws
 pub mod WalkLaws
 pub mod LookupLaws

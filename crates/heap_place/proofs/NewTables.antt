@@ -1,27 +1,12 @@
 -- A free chunk becomes a table, which is added to the chain.
-use Rattle.std.proofs.Common.{true, ◌≡◌, ℕ, ◌+◌, ◌-◌, ◌*◌, ◌^◌, List, [], ◌∷◌, ◌++◌, length, take, drop, replicate, refl, sym, ap, subst, ◌∙◌, arith, inl, inr}
-use Rattle.std.specs.Prelude.{slice_range}
-use Rattle.std.proofs.lemmas.List.{length-replicate}
-use Rattle.heap_model.specs.Bytes.{u32_bytes, overwritten}
-use Rattle.heap_model.specs.Chunk.{Chunk, free, fixed_lock, need, seen, IsLive, Spelled}
-use Rattle.heap_model.specs.Slots.{area_start, is_chained}
-use Rattle.heap_model.specs.Heap.{HeapAccepted, Tiles}
-use Rattle.heap_model.specs.Reading.{chunks_of}
-use Rattle.heap_model.specs.Placed.{AnyPlaced}
-use Rattle.heap_model.specs.Layout.{IsFreeAt, WritesPlain}
+use Rattle.heap_place.proofs.Words.{true, ◌≡◌, ℕ, ◌+◌, ◌-◌, ◌*◌, ◌^◌, List, [], ◌∷◌, ◌++◌, length, take, drop, replicate, refl, sym, ap, subst, ◌∙◌, arith, inl, inr, slice_range, length-replicate, u32_bytes, overwritten, Chunk, free, fixed_lock, need, Spelled, area_start, is_chained, HeapAccepted, Tiles, chunks_of, AnyPlaced, IsFreeAt, WritesPlain, slice-overwritten, chunks_of-tiled, replaced_total, same_start, wrote_part, wrote_wider, wrote_then, wrote_word_apart, free_word, lives_plain, middle_plain, plain_then, HasHeader, header_words, IsFreeChunk, KeepsFree, ButAt, Any}
+use Rattle.heap_model.specs.Chunk.{seen}
 use Rattle.heap_model.specs.MoreTables.{last_next, PutsTable}
-use Rattle.laws_heap.proofs.Frames.{slice-overwritten}
-use Rattle.laws_heap.proofs.Runs.{chunks_of-tiled}
-use Rattle.laws_heap.proofs.Replacements.{replaced_total, same_start}
-use Rattle.laws_heap.proofs.Writes.{WroteWithin, wrote_part, wrote_wider, wrote_then, wrote_word_apart}
-use Rattle.laws_heap.proofs.Plain.{free_word, lives_plain, middle_plain, plain_then}
 use Rattle.laws_heap.proofs.AlikeTables.{alike_back, any_alike, free_tells}
 use Rattle.laws_heap.proofs.Relinked.{SpellsAlike}
 use Rattle.laws_heap.proofs.AddedTables.{stays_start}
 use Rattle.laws_heap.proofs.MoreTables.{table_chunk, WritesTable, LaysTable, lays_table}
 use Rattle.chunk_format.specs.declared.header.Header.TheVariants as headers
-use Rattle.chunk_format.specs.Header.{HasHeader, header_bytes}
-use Rattle.heap_place.specs.Lists.{IsFreeChunk, KeepsFree, ButAt, Any}
 use Rattle.heap_place.proofs.FoundLaws.{heap_in_parts}
 use Rattle.heap_place.proofs.KeepLaws.{keeps_tiled, other_apart}
 use Rattle.heap_place.proofs.CutLaws.{cut_facts, header_fixed, wrote_words}
@@ -32,19 +17,17 @@ seen_zeros : seen 15 0 (replicate 64 0) ≡ replicate 64 0
 unfolding seen
 seen_zeros = refl
 
-pub table_written : (old h z : List ℕ) (at : ℕ) → HeapAccepted old → is_chained old ≡ true → (r : IsFreeChunk old at 72) → h ≡ overwritten old at (header_bytes at (headers.Fixed 64 0)) → HasHeader h at (headers.Fixed 64 0) → z ≡ overwritten h (at + 8) (replicate 64 0)
+pub table_written : {old h z : List ℕ} {at : ℕ} → HeapAccepted old → is_chained old ≡ true → (r : IsFreeChunk old at 72) → h ≡ overwritten old at (header_words at (headers.Fixed 64 0)) → HasHeader h at (headers.Fixed 64 0) → z ≡ overwritten h (at + 8) (replicate 64 0)
     → WritesTable old z r.before r.after at
-table_written old h z at accepted chained r h_is header z_is =
-    let facts = cut_facts old 72 at accepted r in
+table_written {old} {h} {z} {at} accepted chained r h_is header z_is =
+    let facts = cut_facts accepted r in
     let inside = facts.0 in
     let zeros : length (replicate {A = ℕ} 64 0) ≡ 64 = length-replicate {A = ℕ} 64 0 in
-    let head : WroteWithin old h at (at + 8) = wrote_words old h at 64 fixed_lock 0 0 inside h_is in
-    let long = head.len in
-    let body : WroteWithin h z (at + 8) (at + 8 + length (replicate {A = ℕ} 64 0)) = wrote_part h z (at + 8) (replicate 64 0) z_is (omega arith) in
-    let len = body.len in
-    let part : slice_range z (at + 8) (at + 8 + 64) ≡ replicate 64 0 = ap (λ (x : List ℕ). take (at + 8 + 64 - (at + 8)) (drop (at + 8) x)) z_is ∙ slice-overwritten h (at + 8) (replicate 64 0) 64 zeros (omega arith) in
+    let head = wrote_words old h at 64 fixed_lock 0 0 inside h_is in
+    let body = wrote_part h z (at + 8) (replicate 64 0) z_is (omega arith) in
+    let part : slice_range z (at + 8) (at + 8 + 64) ≡ replicate 64 0 = ap (λ x. take (at + 8 + 64 - (at + 8)) (drop (at + 8) x)) z_is ∙ slice-overwritten h (at + 8) (replicate 64 0) 64 zeros (omega arith) in
     let m = header_fixed 64 0 header.chunk header.header_is in
-    let s : IsLive h at m.0 15 0 0 = subst (λ (c : Chunk). Spelled h at c) m.1.0 header.spelled in
+    let s = subst (λ c. Spelled h at c) m.1.0 header.spelled in
     let many : length m.0 ≡ 64 = m.1.1 in
     let same : length (replicate {A = ℕ} 64 0) ≡ length m.0 = zeros ∙ sym many in
     let first = wrote_word_apart h z (at + 8) (at + 8 + length (replicate {A = ℕ} 64 0)) at body (inl (omega arith)) in
@@ -53,15 +36,15 @@ table_written old h z at accepted chained r h_is header z_is =
       chained = chained;
       heap = heap_in_parts old (r.before ++ free 72 ∷ r.after) accepted r.chunks;
       there = r.there;
-      wrote = wrote_then old h z at (at + 72) (wrote_wider old h at (at + 8) at (at + 72) head (omega arith) (omega arith)) (wrote_wider h z (at + 8) (at + 8 + length (replicate {A = ℕ} 64 0)) at (at + 72) body (omega arith) (omega arith));
+      wrote = wrote_then old h z at _ (wrote_wider old h at (at + 8) at (at + 72) head (omega arith) (omega arith)) (wrote_wider h z (at + 8) (at + 8 + length (replicate {A = ℕ} 64 0)) at (at + 72) body (omega arith) (omega arith));
       spelled = record {
-        first_word = first ∙ s.first_word ∙ ap (λ (n : ℕ). (need n - 8 - n) * 2 ^ 24 + need n) (sym same);
+        first_word = first ∙ s.first_word ∙ ap (λ n. (need n - 8 - n) * 2 ^ 24 + need n) (sym same);
         size_fits = omega arith;
         second_word = second ∙ s.second_word;
         lock_fits = omega arith;
         owner_fits = omega arith;
         h_offset_fits = omega arith;
-        body = ap (seen 15 0) (ap (λ (n : ℕ). slice_range z (at + 8) (at + 8 + n)) zeros ∙ part) ∙ seen_zeros;
+        body = ap (seen 15 0) (ap (λ n. slice_range z (at + 8) (at + 8 + n)) zeros ∙ part) ∙ seen_zeros;
         inside = omega arith;
       };
       zeros = part;
@@ -69,20 +52,20 @@ table_written old h z at accepted chained r h_is header z_is =
 
 -- ---- free chunks, while tables change
 
-alike_keeps : (old new : List ℕ) (cs ds : List Chunk) → Tiles old cs → Tiles new ds → area_start new ≡ area_start old → SpellsAlike old new (area_start old) cs ds → KeepsFree Any old new
-alike_keeps old new cs ds t u start s there any b =
-    let found : AnyPlaced (IsFreeAt there) (area_start old) cs = subst (λ (xs : List Chunk). AnyPlaced (IsFreeAt there) (area_start old) xs) (chunks_of-tiled old cs t) b in
+alike_keeps : {old new : List ℕ} {cs ds : List Chunk} → Tiles old cs → Tiles new ds → area_start new ≡ area_start old → SpellsAlike old new (area_start old) cs ds → KeepsFree Any old new
+alike_keeps {old} {new} {cs} {ds} t u start s there any b =
+    let found = subst (λ xs. AnyPlaced (IsFreeAt there) (area_start old) xs) (chunks_of-tiled old cs t) b in
     record {
-      begins = subst (λ (n : ℕ). AnyPlaced (IsFreeAt there) n (chunks_of new)) (sym start) (subst (λ (xs : List Chunk). AnyPlaced (IsFreeAt there) (area_start old) xs) (sym (chunks_of-tiled new ds u)) (any_alike (IsFreeAt there) (free_tells there) (area_start old) cs ds s.alike found));
+      begins = subst (λ n. AnyPlaced (IsFreeAt there) n (chunks_of new)) (sym start) (subst (λ xs. AnyPlaced (IsFreeAt there) (area_start old) xs) (sym (chunks_of-tiled new ds u)) (any_alike (IsFreeAt there) (free_tells there) (area_start old) cs ds s.alike found));
       first = free_word old new there (area_start old) cs s.words found;
       second = s.seconds there found;
     }
 
-alike_plain : (old new : List ℕ) (cs ds : List Chunk) → Tiles old cs → Tiles new ds → area_start new ≡ area_start old → SpellsAlike old new (area_start old) cs ds → WritesPlain old new
-alike_plain old new cs ds t u start s there b =
-    let found : AnyPlaced (IsFreeAt there) (area_start old) ds = subst (λ (xs : List Chunk). AnyPlaced (IsFreeAt there) (area_start old) xs) (chunks_of-tiled new ds u) (subst (λ (n : ℕ). AnyPlaced (IsFreeAt there) n (chunks_of new)) start b) in
+alike_plain : {old new : List ℕ} {cs ds : List Chunk} → Tiles old cs → Tiles new ds → area_start new ≡ area_start old → SpellsAlike old new (area_start old) cs ds → WritesPlain old new
+alike_plain {old} {new} {cs} {ds} t u start s there b =
+    let found = subst (λ xs. AnyPlaced (IsFreeAt there) (area_start old) xs) (chunks_of-tiled new ds u) (subst (λ n. AnyPlaced (IsFreeAt there) n (chunks_of new)) start b) in
     let was = any_alike (IsFreeAt there) (free_tells there) (area_start old) ds cs (alike_back cs ds s.alike) found in
-    inr (subst (λ (xs : List Chunk). AnyPlaced (IsFreeAt there) (area_start old) xs) (sym (chunks_of-tiled old cs t)) was, free_word old new there (area_start old) cs s.words was)
+    inr (subst (λ xs. AnyPlaced (IsFreeAt there) (area_start old) xs) (sym (chunks_of-tiled old cs t)) was, free_word old new there (area_start old) cs s.words was)
 
 -- ---- together
 
@@ -92,17 +75,17 @@ pub record TableClaimed (old new : List ℕ) (at : ℕ) : Type 0 where
   pub keeps : KeepsFree (ButAt at) old new
   pub plain : WritesPlain old new
 
-pub table_lays : (old h z new : List ℕ) (at : ℕ) → HeapAccepted old → is_chained old ≡ true → (r : IsFreeChunk old at 72) → h ≡ overwritten old at (header_bytes at (headers.Fixed 64 0)) → HasHeader h at (headers.Fixed 64 0) → z ≡ overwritten h (at + 8) (replicate 64 0)
+pub table_lays : {old h z new : List ℕ} {at : ℕ} → HeapAccepted old → is_chained old ≡ true → (r : IsFreeChunk old at 72) → h ≡ overwritten old at (header_words at (headers.Fixed 64 0)) → HasHeader h at (headers.Fixed 64 0) → z ≡ overwritten h (at + 8) (replicate 64 0)
     → new ≡ overwritten z (last_next z) (u32_bytes (at + 8)) → LaysTable old z new r.before r.after at
-table_lays old h z new at accepted chained r h_is header z_is new_is = record { first = table_written old h z at accepted chained r h_is header z_is; word = new_is }
+table_lays accepted chained r h_is header z_is new_is = record { first = table_written accepted chained r h_is header z_is; word = new_is }
 
-pub table_claimed : (old z new : List ℕ) (at : ℕ) → (r : IsFreeChunk old at 72) → LaysTable old z new r.before r.after at → TableClaimed old new at
-table_claimed old z new at r l =
+pub table_claimed : {old z new : List ℕ} {at : ℕ} → (r : IsFreeChunk old at 72) → LaysTable old z new r.before r.after at → TableClaimed old new at
+table_claimed {old} {z} {new} {at} r l =
     let d = lays_table old z new r.before r.after at l in
     let ms : List Chunk = r.before ++ table_chunk ∷ r.after in
     let start = stays_start z new d.added.head in
-    let first = keeps_tiled old z r.before (free 72 ∷ []) (table_chunk ∷ []) r.after at r.chunks d.tiles d.replaces in
-    let second = alike_keeps z new ms d.added.chunks d.tiles d.added.tiles start d.added.alike in
+    let first = keeps_tiled r.chunks d.tiles d.replaces in
+    let second = alike_keeps d.tiles d.added.tiles start d.added.alike in
     record {
       puts = d.puts;
       keeps = λ there apart b.
@@ -112,5 +95,5 @@ table_claimed old z new at r l =
       plain = plain_then old z new
           (middle_plain old z r.before (free 72 ∷ []) (table_chunk ∷ []) r.after at r.chunks d.tiles (same_start old z d.replaces.head) d.replaces.there (replaced_total old z r.before (free 72 ∷ []) (table_chunk ∷ []) r.after at d.replaces)
           d.replaces.front.words d.replaces.back.words (lives_plain z at (table_chunk ∷ []) refl))
-          (alike_plain z new ms d.added.chunks d.tiles d.added.tiles start d.added.alike);
+          (alike_plain d.tiles d.added.tiles start d.added.alike);
     }

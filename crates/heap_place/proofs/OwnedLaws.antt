@@ -1,39 +1,16 @@
 -- The walk that makes an owner's chunks free.
-use Rattle.std.proofs.Common.{◌≡◌, ◌≢◌, ℕ, ◌+◌, ◌-◌, ◌<◌, ◌≤◌, Bool, true, false, cond, List, [], ◌∷◌, ◌++◌, length, Option, Some, None, refl, sym, ap, subst, ◌∙◌, append_assoc, arith, inl, inr}
-use Rattle.std.proofs.lemmas.Bool.{cases_eq, eqb-true, eq-eqb}
+use Rattle.heap_place.proofs.Words.{◌≡◌, ◌≢◌, ℕ, ◌+◌, ◌-◌, ◌<◌, ◌≤◌, Bool, true, false, cond, List, [], ◌∷◌, ◌++◌, length, Option, Some, None, refl, sym, ap, subst, ◌∙◌, append_assoc, arith, inl, inr, cases_eq, eqb-true, eq-eqb, ◌==◌, IsTrue, Chunk, free, movable, fixed, fixed_lock, size_of, total, is_owned_by, Spelled, SpelledAll, Memory, Lent, EachLent, LendsOther, LendsNoneOf, area_start, directory_of, HeapAccepted, EveryPlaced, AnyPlaced, LiveChunk, NamedHere, chunks_of, AllFree, Finds, merged, layout_of, Becomes, Alters, FreeUpTo, freed, owned_freed, WritesPlain, cond-true, cond-false, true_or_false, total-append, SpelledAll-split, SpelledAll-end, plain_same, plain_then, TakesBytes, SpelledAll-takes, AnyPlaced-left, AnyPlaced-split, EveryPlaced-split, EveryPlaced-push, fixed_live, fixed_has_name, read_heap, finds_held, IsNotFree, any-merged, same_frame, frame_then, becomes_start, exchanges_parts, Header, header_of, size_by, HasHeader, Found, IsOne, owned_by, Passed, NoneOwned, NoneLentAmong, Freeing, HasChunk, some_same}
 use Rattle.std.proofs.lemmas.List.Sums.{sum_by-append, sum_by-cons}
-use Rattle.std.specs.Prelude.{◌==◌, IsTrue}
-use Rattle.heap_model.specs.Chunk.{Chunk, free, movable, fixed, fixed_lock, size_of, total, is_owned_by, Spelled, SpelledAll}
-use Rattle.heap_model.specs.Memory.{Memory, Lent, EachLent}
 use Rattle.raw_region.specs.Marks.{BeginsAt}
-use Rattle.heap_model.specs.Lending.{LendsOther, LendsNoneOf}
-use Rattle.heap_model.specs.Slots.{area_start}
-use Rattle.heap_model.specs.Heap.{directory_of, HeapAccepted}
-use Rattle.heap_model.specs.Placed.{EveryPlaced, AnyPlaced}
-use Rattle.heap_model.specs.Meaning.{LiveChunk, NamedHere}
-use Rattle.heap_model.specs.Reading.{chunks_of}
-use Rattle.heap_model.specs.Space.{AllFree}
-use Rattle.heap_model.specs.Placing.{Finds}
-use Rattle.heap_model.specs.Layout.{merged, layout_of, Becomes, Alters, FreeUpTo, freed, owned_freed, WritesPlain}
-use Rattle.laws_heap.proofs.Tests.{cond-true, cond-false, true_or_false}
-use Rattle.laws_heap.proofs.Chunks.{total-append, SpelledAll-split, SpelledAll-end}
-use Rattle.laws_heap.proofs.Plain.{plain_same, plain_then}
-use Rattle.laws_heap.proofs.Placed.{TakesBytes, SpelledAll-takes, AnyPlaced-left, AnyPlaced-split, EveryPlaced-split, EveryPlaced-push}
-use Rattle.laws_heap.proofs.FixedNames.{fixed_live, fixed_has_name}
-use Rattle.laws_heap.proofs.FoundChunks.{read_heap, finds_held}
-use Rattle.laws_heap.proofs.Layouts.{IsNotFree, any-merged}
-use Rattle.laws_heap.proofs.SameLayouts.{same_frame, frame_then, becomes_start}
-use Rattle.laws_heap.proofs.Exchanges.{exchanges_parts}
 use Rattle.laws_heap.proofs.OwnedChunks.{owned, counted_one, owned-merged, freed_if, owned_freed-append, owned_freed-merged, owned_freed-layout, owned_freed-none, not_directory}
-use Rattle.chunk_format.specs.declared.header.Header.{Header}
 use Rattle.chunk_format.specs.declared.header.Header.TheVariants as headers
-use Rattle.chunk_format.specs.Header.{header_of, size_by, HasHeader}
-use Rattle.heap_place.specs.declared.found.Found.{Found}
-use Rattle.heap_place.specs.Found.{IsOne, owned_by}
-use Rattle.heap_place.specs.Search.{Passed, NoneOwned, NoneLentAmong, Freeing}
-use Rattle.heap_place.proofs.WalkLaws.{passed_start, passed_there, passed_at, passed_more, passed_all, passed_parts}
+use Rattle.heap_place.proofs.WalkLaws.{passed_start, passed_chunk, passed_at, passed_more, passed_all, passed_parts}
 use Rattle.heap_place.proofs.LookupLaws.{placed}
 use Rattle.heap_place.proofs.LentOwners.{owned_not_lent}
+
+-- the header at an offset is that of an owner's chunk
+abbrev pub FindsOwned : Header → ℕ → ℕ → Found → Type 0
+FindsOwned header at owner found = owned_by header (placed (at + 8)) owner ≡ Some found
 
 -- ---- an owner's chunk
 
@@ -49,98 +26,72 @@ record OwnedAs (at owner : ℕ) (c : Chunk) (found : Found) : Type 0 where
   own : found.owner ≡ owner
   is : is_owned_by owner c ≡ true
 
-owned_named : (at owner : ℕ) (header : Header) (c : Chunk) (found : Found) → header ≡ header_of c → owned_by header (placed (at + 8)) owner ≡ Some found → OwnedAs at owner c found
-owned_named at owner header (free size) found e f = let g : owned_by (headers.Free size) (placed (at + 8)) owner ≡ Some found = subst (λ (h : Header). owned_by h (placed (at + 8)) owner ≡ Some found) e f in absurd cc
-owned_named at owner header (movable bytes lock own slot) found e f = by_test (own == owner) refl g where
-  chunk : Found
-  chunk = record { name = record { 0 = slot }; place = placed (at + 8); length = length bytes; lock = lock; owner = owner }
-
-  g : owned_by (headers.Movable (length bytes) lock own slot) (placed (at + 8)) owner ≡ Some found
-  g = subst (λ (h : Header). owned_by h (placed (at + 8)) owner ≡ Some found) e f
-
-  made : own ≡ owner → OwnedAs at owner (movable bytes lock own slot) chunk
-  made same = record { live = record { bytes = bytes; lock = lock; owner = own }; named = λ some. (refl, refl); is_live = tt; place = refl; count = refl; lock_is = refl; owner_is = sym same; own = refl; is = eq-eqb own owner same }
-
-  one : Some chunk ≡ Some found → chunk ≡ found
-  one s = cc
-
-  by_test : (t : Bool) → (own == owner) ≡ t → cond t (Some chunk) None ≡ Some found → OwnedAs at owner (movable bytes lock own slot) found
-  by_test true is s = subst (λ (x : Found). OwnedAs at owner (movable bytes lock own slot) x) (one s) (made (eqb-true own owner is))
+-- what the test of a chunk's owner says
+own_test : (own owner : ℕ) (chunk found : Found) → cond (own == owner) (Some chunk) None ≡ Some found → (own ≡ owner) × (chunk ≡ found)
+own_test own owner chunk found e = by_test (own == owner) refl e where
+  by_test : (t : Bool) → (own == owner) ≡ t → cond t (Some chunk) None ≡ Some found → (own ≡ owner) × (chunk ≡ found)
+  by_test true is s = (eqb-true own owner is, some_same s)
   by_test false is s = absurd cc
-owned_named at owner header (fixed bytes own) found e f = by_test (own == owner) refl g where
-  chunk : Found
-  chunk = record { name = record { 0 = at + 8 }; place = placed (at + 8); length = length bytes; lock = fixed_lock; owner = owner }
 
-  g : owned_by (headers.Fixed (length bytes) own) (placed (at + 8)) owner ≡ Some found
-  g = subst (λ (h : Header). owned_by h (placed (at + 8)) owner ≡ Some found) e f
+other_test : (t : Bool) (chunk : Found) → cond t (Some chunk) None ≡ None → t ≡ false
+other_test true chunk s = absurd cc
+other_test false chunk s = refl
 
-  made : own ≡ owner → OwnedAs at owner (fixed bytes own) chunk
-  made same = record { live = fixed_live bytes own; named = λ some. fixed_has_name at bytes own (subst (λ (n : ℕ). 0 < n) (sym same) some); is_live = tt; place = refl; count = refl; lock_is = refl; owner_is = sym same; own = refl; is = eq-eqb own owner same }
-
-  one : Some chunk ≡ Some found → chunk ≡ found
-  one s = cc
-
-  by_test : (t : Bool) → (own == owner) ≡ t → cond t (Some chunk) None ≡ Some found → OwnedAs at owner (fixed bytes own) found
-  by_test true is s = subst (λ (x : Found). OwnedAs at owner (fixed bytes own) x) (one s) (made (eqb-true own owner is))
-  by_test false is s = absurd cc
+owned_named : (at owner : ℕ) {header : Header} (c : Chunk) {found : Found} → header ≡ header_of c → FindsOwned header at owner found → OwnedAs at owner c found
+owned_named at owner (free size) {found} e f = let g = subst (λ h. owned_by h (placed (at + 8)) owner ≡ Some found) e f in absurd cc
+owned_named at owner (movable bytes lock own slot) {found} e f =
+    let t = own_test own owner (record { name = record { 0 = slot }; place = placed (at + 8); length = length bytes; lock = lock; owner = owner }) found (subst (λ h. owned_by h (placed (at + 8)) owner ≡ Some found) e f) in
+    subst (λ x. OwnedAs at owner (movable bytes lock own slot) x) t.1
+    record { live = record { bytes = bytes; lock = lock; owner = own }; named = λ some. (refl, refl); is_live = tt; place = refl; count = refl; lock_is = refl; owner_is = sym t.0; own = refl; is = eq-eqb own owner t.0 }
+owned_named at owner (fixed bytes own) {found} e f =
+    let t = own_test own owner (record { name = record { 0 = at + 8 }; place = placed (at + 8); length = length bytes; lock = fixed_lock; owner = owner }) found (subst (λ h. owned_by h (placed (at + 8)) owner ≡ Some found) e f) in
+    let named = λ (some : 0 < owner). fixed_has_name at bytes own (subst (λ n. 0 < n) (sym t.0) some) in
+    subst (λ x. OwnedAs at owner (fixed bytes own) x) t.1
+    record { live = fixed_live bytes own; named = named; is_live = tt; place = refl; count = refl; lock_is = refl; owner_is = sym t.0; own = refl; is = eq-eqb own owner t.0 }
 
 -- any other chunk is not the owner's
 not_owned_named : (at owner : ℕ) (c : Chunk) → owned_by (header_of c) (placed (at + 8)) owner ≡ None → is_owned_by owner c ≡ false
 not_owned_named at owner (free size) e = refl
-not_owned_named at owner (movable bytes lock own slot) e = by_test (own == owner) e where
-  chunk : Option Found
-  chunk = Some (record { name = record { 0 = slot }; place = placed (at + 8); length = length bytes; lock = lock; owner = owner })
-
-  by_test : (t : Bool) → cond t chunk None ≡ None → t ≡ false
-  by_test true s = absurd cc
-  by_test false s = refl
-not_owned_named at owner (fixed bytes own) e = by_test (own == owner) e where
-  chunk : Option Found
-  chunk = Some (record { name = record { 0 = at + 8 }; place = placed (at + 8); length = length bytes; lock = fixed_lock; owner = owner })
-
-  by_test : (t : Bool) → cond t chunk None ≡ None → t ≡ false
-  by_test true s = absurd cc
-  by_test false s = refl
+not_owned_named at owner (movable bytes lock own slot) e = other_test (own == owner) (record { name = record { 0 = slot }; place = placed (at + 8); length = length bytes; lock = lock; owner = owner }) e
+not_owned_named at owner (fixed bytes own) e = other_test (own == owner) (record { name = record { 0 = at + 8 }; place = placed (at + 8); length = length bytes; lock = fixed_lock; owner = owner }) e
 
 -- it is found where the walk has come to
-pub owned_one : (image : List ℕ) (P : List Chunk → Type 0) (at owner : ℕ) (header : Header) (found : Found) → HeapAccepted image → 0 < owner → Passed image P at → HasHeader image at header → owned_by header (placed (at + 8)) owner ≡ Some found → IsOne image found
-owned_one image P at owner header found h some p has is =
-    let o = owned_named at owner header has.chunk found has.header_is is in
-    let parts = passed_parts image P at header h p has in
-    let place = o.place in
+pub owned_one : {image : List ℕ} (P : List Chunk → Type 0) {at : ℕ} (owner : ℕ) {header : Header} {found : Found} → HeapAccepted image → 0 < owner → Passed image P at → HasHeader image at header → FindsOwned header at owner found → IsOne image found
+owned_one {image} P {at} owner {found} h some p has is =
+    let o = owned_named at owner has.chunk has.header_is is in
+    let parts = passed_parts P h p has in
     let back : found.place.0 - 8 ≡ at = omega arith in
     let finds : Finds image found.name.0 o.live has.chunk at = record { before = p.front; after = parts.0; chunks = parts.1; there = passed_at image P at p; named = o.named some } in
-    record { live = o.live; chunk = has.chunk; finds = subst (λ (n : ℕ). Finds image found.name.0 o.live has.chunk n) (sym back) finds; behind_header = omega arith; name_is = refl; count = o.count; lock_is = o.lock_is; owner_is = o.owner_is }
+    record { live = o.live; chunk = has.chunk; finds = subst (λ n. Finds image found.name.0 o.live has.chunk n) (sym back) finds; behind_header = omega arith; name_is = refl; count = o.count; lock_is = o.lock_is; owner_is = o.owner_is }
 
 -- and is not the directory
-pub owned_apart : (image : List ℕ) (at owner : ℕ) (header : Header) (found : Found) → HeapAccepted image → (f : IsOne image found) → HasHeader image at header → owned_by header (placed (at + 8)) owner ≡ Some found → 0 < owner → found.name.0 ≢ directory_of image
-owned_apart image at owner header found h f has is some =
-    let own = (owned_named at owner header has.chunk found has.header_is is).own in
-    let owner_is = f.owner_is in
-    not_directory image found.name.0 f.live h (finds_held image found.name.0 f.live f.chunk (found.place.0 - 8) h f.finds) (λ none. let z : f.live.owner ≡ 0 = none in omega arith)
+pub owned_apart : {image : List ℕ} {at : ℕ} (owner : ℕ) {header : Header} {found : Found} → HeapAccepted image → (f : IsOne image found) → HasHeader image at header → FindsOwned header at owner found → 0 < owner → found.name.0 ≢ directory_of image
+owned_apart {image} {at} owner {found} h f has is some =
+    let own = (owned_named at owner has.chunk has.header_is is).own in
+    not_directory image found.name.0 f.live h (finds_held image _ f.live f.chunk _ h f.finds) (λ none. let z : f.live.owner ≡ 0 = none in omega arith)
 
 -- nor lent, if no chunk of that owner is
-pub owned_other : (m : Memory) (at owner : ℕ) (header : Header) (found : Found) → LendsNoneOf m owner → (f : IsOne m.bytes found) → HasHeader m.bytes at header → owned_by header (placed (at + 8)) owner ≡ Some found → LendsOther m found.place.0
-owned_other m at owner header found none f has is = owned_not_lent m owner found none f (owned_named at owner header has.chunk found has.header_is is).own
+pub owned_other : (m : Memory) {at : ℕ} (owner : ℕ) {header : Header} {found : Found} → LendsNoneOf m owner → (f : IsOne m.bytes found) → HasHeader m.bytes at header → FindsOwned header at owner found → LendsOther m found.place.0
+owned_other m {at} owner none f has is = owned_not_lent m none f (owned_named at owner has.chunk has.header_is is).own
 
 -- ---- whether one is lent
 
-lent_pushed : (m : Memory) (at owner : ℕ) (header : Header) → Passed m.bytes (NoneLentAmong m owner) at → (has : HasHeader m.bytes at header) → (IsTrue (is_owned_by owner has.chunk) → LendsOther m (at + 8)) → Passed m.bytes (NoneLentAmong m owner) (at + size_by header)
-lent_pushed m at owner header p has other = passed_more m.bytes (NoneLentAmong m owner) (NoneLentAmong m owner) at header p has
+lent_pushed : (m : Memory) {at : ℕ} (owner : ℕ) {header : Header} → Passed m.bytes (NoneLentAmong m owner) at → (has : HasHeader m.bytes at header) → (IsTrue (is_owned_by owner has.chunk) → LendsOther m (at + 8)) → Passed m.bytes (NoneLentAmong m owner) (at + size_by header)
+lent_pushed m {at} owner {header} p has other = passed_more m.bytes (NoneLentAmong m owner) (NoneLentAmong m owner) at header p has
     (EveryPlaced-push (λ k c. IsTrue (is_owned_by owner c) → LendsOther m (k + 8)) (area_start m.bytes) p.front has.chunk at (passed_at m.bytes (NoneLentAmong m owner) at p) p.holds other)
 
 -- another owner's chunk is passed
-pub lent_not_owned : (m : Memory) (at owner : ℕ) (header : Header) → Passed m.bytes (NoneLentAmong m owner) at → HasHeader m.bytes at header → owned_by header (placed (at + 8)) owner ≡ None → Passed m.bytes (NoneLentAmong m owner) (at + size_by header)
-lent_not_owned m at owner header p has e = lent_pushed m at owner header p has (λ own.
-    let isnt : is_owned_by owner has.chunk ≡ false = not_owned_named at owner has.chunk (subst (λ (h : Header). owned_by h (placed (at + 8)) owner ≡ None) has.header_is e) in
+pub lent_not_owned : (m : Memory) {at : ℕ} (owner : ℕ) {header : Header} → Passed m.bytes (NoneLentAmong m owner) at → HasHeader m.bytes at header → owned_by header (placed (at + 8)) owner ≡ None → Passed m.bytes (NoneLentAmong m owner) (at + size_by header)
+lent_not_owned m {at} owner p has e = lent_pushed m owner p has (λ own.
+    let isnt = not_owned_named at owner has.chunk (subst (λ h. owned_by h (placed (at + 8)) owner ≡ None) has.header_is e) in
     absurd (let bad = sym own ∙ isnt in cc))
 
 -- and one that isn't lent
-pub lent_elsewhere : (m : Memory) (at owner : ℕ) (header : Header) (found : Found) → Passed m.bytes (NoneLentAmong m owner) at → HasHeader m.bytes at header → found.place.0 ≡ at + 8 → LendsOther m found.place.0 → Passed m.bytes (NoneLentAmong m owner) (at + size_by header)
-lent_elsewhere m at owner header found p has place other = lent_pushed m at owner header p has (λ own. subst (λ (n : ℕ). LendsOther m n) place other)
+pub lent_elsewhere : (m : Memory) {at : ℕ} (owner : ℕ) {header : Header} (found : Found) → Passed m.bytes (NoneLentAmong m owner) at → HasHeader m.bytes at header → found.place.0 ≡ at + 8 → LendsOther m found.place.0 → Passed m.bytes (NoneLentAmong m owner) (at + size_by header)
+lent_elsewhere m owner found p has place other = lent_pushed m owner p has (λ own. subst (λ n. LendsOther m n) place other)
 
-pub owned_place : (image : List ℕ) (at owner : ℕ) (header : Header) (found : Found) → HasHeader image at header → owned_by header (placed (at + 8)) owner ≡ Some found → (found.place.0 ≡ at + 8) × (found.owner ≡ owner)
-owned_place image at owner header found has is = let o = owned_named at owner header has.chunk found has.header_is is in (o.place, o.own)
+pub owned_place : {image : List ℕ} {at : ℕ} (owner : ℕ) {header : Header} {found : Found} → HasHeader image at header → FindsOwned header at owner found → (found.place.0 ≡ at + 8) × (found.owner ≡ owner)
+owned_place {at} owner has is = let o = owned_named at owner has.chunk has.header_is is in (o.place, o.own)
 
 no_begin : (at : ℕ) (lents : List Lent) → (BeginsAt at lents → ⊥) → EachLent (λ l. l.at ≢ at) lents
 no_begin at [] none = tt
@@ -150,23 +101,19 @@ pub begins_other : (m : Memory) (place : ℕ) → (BeginsAt place m.lents → �
 begins_other m place none = no_begin place m.lents none
 
 none_by : (m : Memory) (owner start : ℕ) (before : List Chunk) (c : Chunk) (after : List Chunk) → EveryPlaced (λ k d. IsTrue (is_owned_by owner d) → LendsOther m (k + 8)) start (before ++ c ∷ after) → IsTrue (is_owned_by owner c) → LendsOther m (start + total before + 8)
-none_by m owner start [] c after e own = subst (λ (n : ℕ). LendsOther m n) (let z : start + 8 ≡ start + total [] + 8 = omega arith in z) (e.0 own)
-none_by m owner start (b ∷ bs) c after e own = subst (λ (n : ℕ). LendsOther m n) (let z : start + size_of b + total bs + 8 ≡ start + total (b ∷ bs) + 8 = omega arith in z) (none_by m owner (start + size_of b) bs c after e.1 own)
+none_by m owner start [] c after e own = subst (λ n. LendsOther m n) (let z : start + 8 ≡ start + total [] + 8 = omega arith in z) (e.0 own)
+none_by m owner start (b ∷ bs) c after e own = subst (λ n. LendsOther m n) (let z : start + size_of b + total bs + 8 ≡ start + total (b ∷ bs) + 8 = omega arith in z) (none_by m owner (start + size_of b) bs c after e.1 own)
 
-pub none_of_owner : (m : Memory) (owner at : ℕ) → HeapAccepted m.bytes → Passed m.bytes (NoneLentAmong m owner) at → length m.bytes ≤ at → LendsNoneOf m owner
-none_of_owner m owner at h p beyond = λ before chunk after e own.
-    none_by m owner (area_start m.bytes) before chunk after (subst (λ (cs : List Chunk). EveryPlaced (λ k d. IsTrue (is_owned_by owner d) → LendsOther m (k + 8)) (area_start m.bytes) cs) e (passed_all m.bytes (NoneLentAmong m owner) at h p beyond)) own
-
-pub whole_none : (m : Memory) (owner : ℕ) → m.lents ≡ [] → LendsNoneOf m owner
-whole_none m owner none = λ before chunk after e own. subst (λ (x : List Lent). EachLent (λ l. l.at ≢ area_start m.bytes + total before + 8) x) (sym none) tt
+pub none_of_owner : (m : Memory) (owner : ℕ) {at : ℕ} → HeapAccepted m.bytes → Passed m.bytes (NoneLentAmong m owner) at → length m.bytes ≤ at → LendsNoneOf m owner
+none_of_owner m owner {at} h p beyond = λ before chunk after e own.
+    none_by m owner (area_start m.bytes) before chunk after (subst (λ cs. EveryPlaced (λ k d. IsTrue (is_owned_by owner d) → LendsOther m (k + 8)) (area_start m.bytes) cs) e (passed_all m.bytes (NoneLentAmong m owner) at h p beyond)) own
 
 -- ---- how many there are
 
 none_free : (owner : ℕ) (run : List Chunk) → AllFree run → NoneOwned owner run
 none_free owner [] f = refl
-none_free owner (free size ∷ run) f = let e : owned owner (free size ∷ run) ≡ 0 + owned owner run = sum_by-cons (λ (x : Chunk). cond (is_owned_by owner x) 1 0) (free size) run in let ih : owned owner run ≡ 0 = none_free owner run f in omega arith
-none_free owner (movable bytes lock own slot ∷ run) f = absurd f
-none_free owner (fixed bytes own ∷ run) f = absurd f
+none_free owner (free size ∷ run) f = let e : owned owner (free size ∷ run) ≡ 0 + owned owner run = sum_by-cons (λ (x : Chunk). cond (is_owned_by owner x) 1 0) (free size) run in let ih = none_free owner run f in omega arith
+none_free owner (c ∷ run) f = absurd f
 
 -- the owner's chunk begins in front of an offset
 abbrev OwnedBelow : ℕ → ℕ → ℕ → Chunk → Type 0
@@ -175,7 +122,6 @@ OwnedBelow owner limit at c = (at < limit) × (is_owned_by owner c ≡ true)
 owned_any : (owner limit at : ℕ) (cs : List Chunk) → EveryPlaced TakesBytes at cs → at + total cs ≤ limit → (NoneOwned owner cs → ⊥) → AnyPlaced (OwnedBelow owner limit) at cs
 owned_any owner limit at [] takes inside some = absurd (some refl)
 owned_any owner limit at (c ∷ cs) takes inside some =
-    let least = takes.0 in
     elim (true_or_false (is_owned_by owner c)) [
       | inl is ↦ inl (omega arith, is)
       | inr other ↦ inr (owned_any owner limit (at + size_of c) cs takes.1 (omega arith) (λ none. some (none_front owner c cs other none)))
@@ -195,28 +141,28 @@ none_any owner limit at (c ∷ cs) none h =
 
 none_beyond : (owner limit at : ℕ) (cs : List Chunk) → limit ≤ at → AnyPlaced (OwnedBelow owner limit) at cs → ⊥
 none_beyond owner limit at [] past h = h
-none_beyond owner limit at (c ∷ cs) past h = elim h [ inl here ↦ let low = here.0 in omega arith | inr later ↦ none_beyond owner limit (at + size_of c) cs (omega arith) later ]
+none_beyond owner limit at (c ∷ cs) past h = elim h [ inl here ↦ omega arith | inr later ↦ none_beyond owner limit (at + size_of c) cs (omega arith) later ]
 
 -- of a layout none of the owner's chunks begins in front of an offset, where none did
-none_in_front : (now new : List ℕ) (owner at : ℕ) (front rest before after : List Chunk) → Becomes now new (front ++ rest) → at ≡ area_start now + total front → NoneOwned owner front → chunks_of new ≡ before ++ after → area_start new + total before ≤ at → NoneOwned owner before
-none_in_front now new owner at front rest before after b there none parts low = elim (cases_eq (owned owner before) 0) [ inl zero_there ↦ zero_there | inr some ↦ absurd (not_one some) ] where
+none_in_front : {now new : List ℕ} (owner : ℕ) {at : ℕ} (front rest before after : List Chunk) → Becomes now new (front ++ rest) → at ≡ area_start now + total front → NoneOwned owner front → chunks_of new ≡ before ++ after → area_start new + total before ≤ at → NoneOwned owner before
+none_in_front {now} {new} owner {at} front rest before after b there none parts low = elim (cases_eq (owned owner before) 0) [ inl zero_there ↦ zero_there | inr some ↦ absurd (not_one some) ] where
   start : area_start new ≡ area_start now
   start = becomes_start now new (front ++ rest) b
 
   takes : EveryPlaced TakesBytes (area_start new) (before ++ after)
-  takes = subst (λ (cs : List Chunk). EveryPlaced TakesBytes (area_start new) cs) parts (SpelledAll-takes new (area_start new) (chunks_of new) (length new) (read_heap new b.frame.accepted).tiles.area)
+  takes = subst (λ cs. EveryPlaced TakesBytes (area_start new) cs) parts (SpelledAll-takes new (area_start new) (chunks_of new) (length new) (read_heap new b.frame.accepted).tiles.area)
 
   P : ℕ → Chunk → Type 0
   P = OwnedBelow owner at
 
   not_free : (k size : ℕ) → OwnedBelow owner at k (free size) → ⊥
-  not_free k size h = let e = h.1 in absurd cc
+  not_free k size h = absurd cc
 
   not_one : (NoneOwned owner before → ⊥) → ⊥
   not_one some =
-      let one : AnyPlaced (OwnedBelow owner at) (area_start new) (before ++ after) = AnyPlaced-left (OwnedBelow owner at) (area_start new) before after (owned_any owner at (area_start new) before (EveryPlaced-split TakesBytes (area_start new) before after takes).0 low some) in
-      let read : AnyPlaced (OwnedBelow owner at) (area_start now) (chunks_of new) = subst (λ (n : ℕ). AnyPlaced (OwnedBelow owner at) n (chunks_of new)) start (subst (λ (cs : List Chunk). AnyPlaced (OwnedBelow owner at) (area_start new) cs) (sym parts) one) in
-      let laid : AnyPlaced (OwnedBelow owner at) (area_start now) (merged (front ++ rest)) = subst (λ (cs : List Chunk). AnyPlaced (OwnedBelow owner at) (area_start now) cs) b.layout ((any-merged (OwnedBelow owner at) not_free (area_start now) (chunks_of new)).1 read) in
+      let one = AnyPlaced-left (OwnedBelow owner at) (area_start new) before after (owned_any owner at (area_start new) before (EveryPlaced-split TakesBytes (area_start new) before after takes).0 low some) in
+      let read = subst (λ n. AnyPlaced (OwnedBelow owner at) n (chunks_of new)) start (subst (λ cs. AnyPlaced (OwnedBelow owner at) (area_start new) cs) (sym parts) one) in
+      let laid = subst (λ cs. AnyPlaced (OwnedBelow owner at) (area_start now) cs) b.layout ((any-merged (OwnedBelow owner at) not_free (area_start now) (chunks_of new)).1 read) in
       elim (AnyPlaced-split (OwnedBelow owner at) (area_start now) front rest ((any-merged (OwnedBelow owner at) not_free (area_start now) (front ++ rest)).0 laid)) [
         | inl left ↦ none_any owner at (area_start now) front none left
         | inr right ↦ none_beyond owner at (area_start now + total front) rest (omega arith) right
@@ -228,8 +174,8 @@ none_more owner front c none not_own = counted_one owner front c [] ∙ (let one
 
 -- ---- the walk
 
-pub freeing_start : (image : List ℕ) (owner : ℕ) → HeapAccepted image → Freeing image image owner (area_start image) 0
-freeing_start image owner h = record {
+pub freeing_start : {image : List ℕ} (owner : ℕ) → HeapAccepted image → Freeing image image owner (area_start image) 0
+freeing_start {image} owner h = record {
   frame = same_frame image h;
   same = sym (owned_freed-merged owner (chunks_of image));
   passed = passed_start image (NoneOwned owner) h refl;
@@ -238,58 +184,52 @@ freeing_start image owner h = record {
   plain = plain_same image;
 }
 
-pub freeing_there : (old now : List ℕ) (owner at count : ℕ) → Freeing old now owner at count → at < length now → (c : Chunk) × Spelled now at c
-freeing_there old now owner at count f inside = passed_there now (NoneOwned owner) at f.frame.accepted f.passed inside
+pub freeing_there : {old now : List ℕ} {owner at count : ℕ} → Freeing old now owner at count → at < length now → HasChunk now at
+freeing_there f inside = passed_chunk f.frame.accepted f.passed inside
 
-pub freeing_kept : (old now : List ℕ) (owner at count : ℕ) (header : Header) (size : ℕ) → Freeing old now owner at count → HasHeader now at header → owned_by header (placed (at + 8)) owner ≡ None → size ≡ size_by header → Freeing old now owner (at + size) count
-freeing_kept old now owner at count header size f has not_own is =
-    let other = not_owned_named at owner has.chunk (subst (λ (h : Header). owned_by h (placed (at + 8)) owner ≡ None) has.header_is not_own) in
-    subst (λ (n : ℕ). Freeing old now owner (at + n) count) (sym is) record {
+pub freeing_kept : {old now : List ℕ} {owner at count : ℕ} {header : Header} {size : ℕ} → Freeing old now owner at count → HasHeader now at header → owned_by header (placed (at + 8)) owner ≡ None → size ≡ size_by header → Freeing old now owner (at + size) count
+freeing_kept {old} {now} {owner} {at} {count} {header} f has not_own is =
+    let other = not_owned_named at owner has.chunk (subst (λ h. owned_by h (placed (at + 8)) owner ≡ None) has.header_is not_own) in
+    subst (λ n. Freeing old now owner (at + n) count) (sym is) record {
       frame = f.frame;
       same = f.same;
       passed = passed_more now (NoneOwned owner) (NoneOwned owner) at header f.passed has (none_more owner f.passed.front has.chunk f.passed.holds other);
       counted = f.counted;
-      few = let few = f.few in omega arith;
+      few = omega arith;
       plain = f.plain;
     }
 
 -- one more was given back
-pub freeing_more : (old now new : List ℕ) (owner at count size : ℕ) (header : Header) (found : Found) → Freeing old now owner at count → (has : HasHeader now at header) → owned_by header (placed (at + 8)) owner ≡ Some found → Alters now new (found.place.0 - 8) freed
+pub freeing_more : {old now new : List ℕ} {owner at count : ℕ} (size : ℕ) {header : Header} {found : Found} → Freeing old now owner at count → (has : HasHeader now at header) → FindsOwned header at owner found → Alters now new (found.place.0 - 8) freed
     → FreeUpTo new (found.place.0 - 8) (found.place.0 - 8 + size) → WritesPlain now new → Freeing old new owner (at + size) (count + 1) × (at + size ≤ length now) × (8 ≤ size)
-freeing_more old now new owner at count size header found f has is x v p =
-    let o = owned_named at owner header has.chunk found has.header_is is in
-    let place = o.place in
+freeing_more {old} {now} {new} {owner} {at} size {found} f has is x v p =
+    let o = owned_named at owner has.chunk has.header_is is in
     let back : found.place.0 - 8 ≡ at = omega arith in
-    let parts = passed_parts now (NoneOwned owner) at header f.frame.accepted f.passed has in
+    let parts = passed_parts (NoneOwned owner) f.frame.accepted f.passed has in
     let there = passed_at now (NoneOwned owner) at f.passed in
     let front : List Chunk = f.passed.front in
     let after : List Chunk = parts.0 in
     let c : Chunk = has.chunk in
-    let b = (exchanges_parts now new at (λ chunk. freed chunk ∷ []) front c after f.frame.accepted o.is_live parts.1 there).0 (subst (λ (n : ℕ). Alters now new n freed) back x) in
+    let b = (exchanges_parts now new at (λ chunk. freed chunk ∷ []) front c after f.frame.accepted o.is_live parts.1 there).0 (subst (λ n. Alters now new n freed) back x) in
     let one : cond {A = ℕ} (is_owned_by owner c) 1 0 ≡ 1 = cond-true (is_owned_by owner c) 1 0 o.is in
     let before_is : owned owner (chunks_of now) ≡ owned owner front + (cond {A = ℕ} (is_owned_by owner c) 1 0 + owned owner after) = ap (owned owner) parts.1 ∙ counted_one owner front c after in
     let now_is : owned owner (chunks_of new) ≡ owned owner front + (0 + owned owner after) = sym (owned-merged owner (chunks_of new)) ∙ ap (owned owner) b.layout ∙ owned-merged owner (front ++ freed c ∷ after) ∙ counted_one owner front (freed c) after in
-    let counted = f.counted in
-    let few = f.few in
-    let u : FreeUpTo new at (at + size) = subst (λ (n : ℕ). FreeUpTo new n (n + size)) back v in
-    let least = u.least in
-    let to = u.to in
-    let len = b.frame.len in
+    let u = subst (λ n. FreeUpTo new n (n + size)) back v in
     let sizes = total-append u.before u.run in
     let split : chunks_of new ≡ (u.before ++ u.run) ++ u.after = u.chunks ∙ sym (append_assoc u.before u.run u.after) in
-    let area : SpelledAll new (area_start new) ((u.before ++ u.run) ++ u.after) (length new) = subst (λ (cs : List Chunk). SpelledAll new (area_start new) cs (length new)) split (read_heap new b.frame.accepted).tiles.area in
+    let area = subst (λ cs. SpelledAll new (area_start new) cs (length new)) split (read_heap new b.frame.accepted).tiles.area in
     let s = SpelledAll-split new (area_start new) (u.before ++ u.run) u.after (length new) area in
     let end = SpelledAll-end new (area_start new + total (u.before ++ u.run)) u.after (length new) s.1 in
-    let none_before : owned owner u.before ≡ 0 = none_in_front now new owner at front (freed c ∷ after) u.before (u.run ++ u.after) b there f.passed.holds u.chunks u.from in
-    let none_run : owned owner u.run ≡ 0 = none_free owner u.run u.all_free in
+    let none_before = none_in_front owner front (freed c ∷ after) u.before (u.run ++ u.after) b there f.passed.holds u.chunks u.from in
+    let none_run = none_free owner u.run u.all_free in
     let freed_c : freed_if owner c ≡ freed c = cond-true (is_owned_by owner c) (freed c) c o.is in
-    let lists : owned_freed owner (front ++ freed c ∷ after) ≡ owned_freed owner (front ++ c ∷ after) = owned_freed-append owner front (freed c ∷ after) ∙ ap (λ (d : Chunk). owned_freed owner front ++ d ∷ owned_freed owner after) (sym freed_c) ∙ sym (owned_freed-append owner front (c ∷ after)) in (
+    let lists : owned_freed owner (front ++ freed c ∷ after) ≡ owned_freed owner (front ++ c ∷ after) = owned_freed-append owner front (freed c ∷ after) ∙ ap (λ d. owned_freed owner front ++ d ∷ owned_freed owner after) (sym freed_c) ∙ sym (owned_freed-append owner front (c ∷ after)) in (
       record {
         frame = frame_then old now new f.frame b.frame;
-        same = owned_freed-layout owner (chunks_of new) (front ++ freed c ∷ after) b.layout ∙ ap merged lists ∙ sym (ap (λ (cs : List Chunk). merged (owned_freed owner cs)) parts.1) ∙ f.same;
+        same = owned_freed-layout owner (chunks_of new) (front ++ freed c ∷ after) b.layout ∙ ap merged lists ∙ sym (ap (λ cs. merged (owned_freed owner cs)) parts.1) ∙ f.same;
         passed = record {
           front = u.before ++ u.run;
-          spelled = subst (λ (n : ℕ). SpelledAll new (area_start new) (u.before ++ u.run) n) (let e : area_start new + total (u.before ++ u.run) ≡ at + size = omega arith in e) s.0;
+          spelled = subst (λ n. SpelledAll new (area_start new) (u.before ++ u.run) n) (let e : area_start new + total (u.before ++ u.run) ≡ at + size = omega arith in e) s.0;
           inside = omega arith;
           holds = sum_by-append (λ (d : Chunk). cond (is_owned_by owner d) 1 0) u.before u.run ∙ (let e : owned owner u.before + owned owner u.run ≡ 0 = omega arith in e);
         };
@@ -301,8 +241,7 @@ freeing_more old now new owner at count size header found f has is x v p =
       omega arith,
     )
 
-pub freeing_all : (old now : List ℕ) (owner at count : ℕ) → Freeing old now owner at count → length now ≤ at → Becomes old now (owned_freed owner (layout_of old)) × (count ≡ owned owner (layout_of old)) × WritesPlain old now
-freeing_all old now owner at count f beyond =
-    let none : owned owner (chunks_of now) ≡ 0 = passed_all now (NoneOwned owner) at f.frame.accepted f.passed beyond in
-    let counted = f.counted in
+pub freeing_all : {old now : List ℕ} {owner at count : ℕ} → Freeing old now owner at count → length now ≤ at → Becomes old now (owned_freed owner (layout_of old)) × (count ≡ owned owner (layout_of old)) × WritesPlain old now
+freeing_all {now} {owner} {at} f beyond =
+    let none = passed_all now (NoneOwned owner) at f.frame.accepted f.passed beyond in
     (record { frame = f.frame; layout = ap merged (sym (owned_freed-none owner (chunks_of now) none)) ∙ f.same }, omega arith, f.plain)

@@ -1,39 +1,10 @@
 -- A live chunk of an accepted heap is made free, with the free chunk after it.
-use Rattle.std.proofs.Common.{◌≡◌, ◌≢◌, ℕ, ◌+◌, ◌-◌, ◌%◌, ◌^◌, ◌<◌, ◌≤◌, List, [], ◌∷◌, ◌++◌, length, refl, sym, ap, subst, ◌∙◌, arith, inl, inr}
-use Rattle.heap_model.specs.Bytes.{u32_at, u32_bytes, overwritten}
-use Rattle.heap_model.specs.Chunk.{Chunk, need, free, movable, fixed, fixed_lock, size_of, total, Spelled, SpelledAll}
-use Rattle.heap_model.specs.Slots.{IsSlot, TablesLie, area_start}
-use Rattle.heap_model.specs.Heap.{ManagersHere, directory_of, IsHeap, HeapAccepted}
-use Rattle.heap_model.specs.Meaning.{LiveChunk, NamedHere}
-use Rattle.heap_model.specs.Reading.{chunks_of}
-use Rattle.heap_model.specs.Space.{AllFree}
-use Rattle.heap_model.specs.Placed.{AnyPlaced}
-use Rattle.heap_model.specs.Layout.{merged, Alters, FreeUpTo, freed, WritesPlain, IsFreeAt, BeginsFree}
-use Rattle.laws_heap.proofs.Placed.{At, one_at, SpelledAll-takes, AnyPlaced-map, AnyPlaced-mid}
-use Rattle.heap_place.specs.Lists.{AreLists, HasLists, Any, ButAt, IsFreeChunk, KeepsFree, Pushes}
+use Rattle.heap_place.proofs.Words.{◌≡◌, ◌≢◌, ℕ, ◌+◌, ◌-◌, ◌%◌, ◌^◌, ◌<◌, ◌≤◌, List, [], ◌∷◌, ◌++◌, length, refl, sym, ap, subst, ◌∙◌, arith, inl, inr, u32_at, u32_bytes, overwritten, Chunk, need, free, movable, fixed, fixed_lock, size_of, total, Spelled, SpelledAll, IsSlot, TablesLie, area_start, ManagersHere, directory_of, IsHeap, HeapAccepted, LiveChunk, NamedHere, chunks_of, AllFree, AnyPlaced, Alters, FreeUpTo, freed, WritesPlain, IsFreeAt, BeginsFree, At, one_at, SpelledAll-takes, AnyPlaced-map, AnyPlaced-mid, HasLists, Any, ButAt, IsFreeChunk, KeepsFree, Pushes, Finds, u32_at-written, Spelled-size, Spelled-same, chunk_at-spelled, chunk_at-none, chunks_of-tiled, slot_facts, free_hold_none, named_hold_none, slot_beside, same_start, merged-middle, runs-merged, becomes_heap, becomes_alike, finds_spelled, exchanges_parts, named_live_chunk, WroteWithin, wrote_none, wrote_word, wrote_wider, WroteArea, area_replaces, wrote_slot, area_slots, beside_same, beside_word, table_kept, free_plain, replaced_plain, OtherSlots, ClearsSlot, released, fixed_live_is, HasHeader, Found, IsOne, size_if_free, free_size_at, Emptied, Memory, HoldsHeap, IsWithin, slot_still_within, same_lock, apart, in_front, one, behind, size_field}
+use Rattle.heap_place.proofs.WithinLaws.{named_apart}
 use Rattle.heap_place.proofs.ListLaws.{lists_weaker, lists_kept, push_lists}
 use Rattle.heap_place.proofs.KeepLaws.{NotAmong, keeps_replaced, live_apart, free_there}
-use Rattle.heap_model.specs.Placing.{Finds}
-use Rattle.laws_heap.proofs.Frames.{u32_at-written}
-use Rattle.laws_heap.proofs.Chunks.{Spelled-size, Spelled-same}
-use Rattle.laws_heap.proofs.Shapes.{chunk_at-spelled, chunk_at-none}
-use Rattle.laws_heap.proofs.Runs.{chunks_of-tiled}
-use Rattle.laws_heap.proofs.Slots.{slot_facts, free_hold_none, named_hold_none, slot_beside}
-use Rattle.laws_heap.proofs.Replacements.{Replaces, same_start}
-use Rattle.laws_heap.proofs.Layouts.{merged-middle, runs-merged}
-use Rattle.laws_heap.proofs.SameLayouts.{becomes_heap, becomes_alike}
-use Rattle.laws_heap.proofs.FoundChunks.{finds_spelled}
-use Rattle.laws_heap.proofs.Exchanges.{exchanges_parts}
-use Rattle.laws_heap.proofs.ExchangedNames.{named_live_chunk}
-use Rattle.laws_heap.proofs.Writes.{WroteWithin, wrote_none, wrote_word, wrote_wider, WroteArea, area_replaces, wrote_slot, area_slots, beside_same, beside_word, table_kept}
-use Rattle.laws_heap.proofs.Plain.{free_plain, replaced_plain}
-use Rattle.laws_heap.proofs.FreeChunks.{OtherSlots, ClearsSlot, released}
-use Rattle.laws_heap.proofs.FixedNames.{fixed_live_is}
 use Rattle.chunk_format.specs.declared.header.Header.TheVariants as headers
-use Rattle.chunk_format.specs.Header.{HasHeader}
-use Rattle.heap_place.specs.declared.found.Found.{Found}
-use Rattle.heap_place.specs.Found.{IsOne}
-use Rattle.heap_place.specs.Search.{size_if_free, free_size_at, Emptied}
+use Rattle.heap_place.proofs.TakeLaws.{begun_chunk, chunk_inside}
 use Rattle.heap_place.proofs.FoundLaws.{heap_in_parts, Middle, middle_of, own_slot, found_size}
 use Rattle.heap_place.proofs.CutLaws.{has_free}
 
@@ -47,11 +18,10 @@ record Behind (image : List ℕ) (at : ℕ) (after : List Chunk) : Type 0 where
   pub all_free : AllFree run
   pub sums : free_size_at image at ≡ total run
 
-behind : (image : List ℕ) (at : ℕ) (after : List Chunk) → SpelledAll image at after (length image) → Behind image at after
-behind image at [] s = record { run = []; rest = []; parts = refl; all_free = tt; sums = ap size_if_free (chunk_at-none image at (λ c spelled. let size = Spelled-size image at c spelled in let least = size.0 in let inside = size.1 in omega arith)) }
-behind image at (free size ∷ after) s = record { run = free size ∷ []; rest = after; parts = refl; all_free = tt; sums = let here : free_size_at image at ≡ size = ap size_if_free (chunk_at-spelled image at (free size) s.0) in omega arith }
-behind image at (movable bytes lock owner slot ∷ after) s = record { run = []; rest = movable bytes lock owner slot ∷ after; parts = refl; all_free = tt; sums = ap size_if_free (chunk_at-spelled image at (movable bytes lock owner slot) s.0) }
-behind image at (fixed bytes owner ∷ after) s = record { run = []; rest = fixed bytes owner ∷ after; parts = refl; all_free = tt; sums = ap size_if_free (chunk_at-spelled image at (fixed bytes owner) s.0) }
+free_behind : (image : List ℕ) (at : ℕ) (after : List Chunk) → SpelledAll image at after (length image) → Behind image at after
+free_behind image at [] s = record { run = []; rest = []; parts = refl; all_free = tt; sums = ap size_if_free (chunk_at-none image at (λ c spelled. let size = Spelled-size image at c spelled in omega arith)) }
+free_behind image at (free size ∷ after) s = record { run = free size ∷ []; rest = after; parts = refl; all_free = tt; sums = let here : free_size_at image at ≡ size = ap size_if_free (chunk_at-spelled image at (free size) s.0) in omega arith }
+free_behind image at (c ∷ after) s = record { run = []; rest = c ∷ after; parts = refl; all_free = tt; sums = ap size_if_free (chunk_at-spelled image at c s.0) }
 
 -- a chunk that is found at an offset, and the free chunk after it
 pub record Giving (image : List ℕ) (at : ℕ) (chunk : Chunk) : Type 0 where
@@ -67,40 +37,37 @@ pub record Giving (image : List ℕ) (at : ℕ) (chunk : Chunk) : Type 0 where
 -- alone
 unfoldable pub alone : (image : List ℕ) (at name : ℕ) (live : LiveChunk) (chunk : Chunk) → HeapAccepted image → Finds image name live chunk at → Giving image at chunk
 alone image at name live chunk accepted f =
-    let heap : IsHeap image (f.before ++ ((chunk ∷ []) ++ f.after)) = heap_in_parts image (f.before ++ chunk ∷ f.after) accepted f.chunks in
+    let heap = heap_in_parts image (f.before ++ chunk ∷ f.after) accepted f.chunks in
     let m = middle_of image f.before (chunk ∷ []) f.after at heap f.there in
     record { before = f.before; run = []; rest = f.after; chunks = f.chunks; heap = heap; all_free = tt; middle = m; spelled = m.spelled.0 }
 
 -- with the free chunk after it
-pub giving : (image : List ℕ) (at name : ℕ) (live : LiveChunk) (chunk : Chunk) → HeapAccepted image → Finds image name live chunk at → (g : Giving image at chunk) × (free_size_at image (at + size_of chunk) ≡ total g.run)
-giving image at name live chunk accepted f =
+pub giving : {image : List ℕ} {at name : ℕ} {live : LiveChunk} {chunk : Chunk} → HeapAccepted image → Finds image name live chunk at → (g : Giving image at chunk) × (free_size_at image (at + size_of chunk) ≡ total g.run)
+giving {image} {at} {chunk} accepted f =
     let first = middle_of image f.before (chunk ∷ []) f.after at (heap_in_parts image (f.before ++ chunk ∷ f.after) accepted f.chunks) f.there in
-    let b = behind image (at + size_of chunk) f.after (subst (λ (n : ℕ). SpelledAll image n f.after (length image)) (let e : at + (size_of chunk + 0) ≡ at + size_of chunk = omega arith in e) first.behind) in
-    let chunks : chunks_of image ≡ f.before ++ ((chunk ∷ b.run) ++ b.rest) = subst (λ (xs : List Chunk). chunks_of image ≡ f.before ++ chunk ∷ xs) b.parts f.chunks in
-    let heap : IsHeap image (f.before ++ ((chunk ∷ b.run) ++ b.rest)) = heap_in_parts image (f.before ++ chunk ∷ (b.run ++ b.rest)) accepted chunks in
+    let b = free_behind image (at + size_of chunk) f.after (subst (λ n. SpelledAll image n f.after (length image)) (let e : at + (size_of chunk + 0) ≡ at + size_of chunk = omega arith in e) first.behind) in
+    let chunks = subst (λ xs. chunks_of image ≡ f.before ++ chunk ∷ xs) b.parts f.chunks in
+    let heap = heap_in_parts image (f.before ++ chunk ∷ (b.run ++ b.rest)) accepted chunks in
     (record { before = f.before; run = b.run; rest = b.rest; chunks = chunks; heap = heap; all_free = b.all_free; middle = middle_of image f.before (chunk ∷ b.run) b.rest at heap f.there; spelled = first.spelled.0 }, b.sums)
 
 -- ---- the writes
 
 -- only the header is written before the slot is emptied
-first_word : (old mid : List ℕ) (at all : ℕ) (chunk : Chunk) → (g : Giving old at chunk) → mid ≡ overwritten old at (u32_bytes (2 ^ 31 + all)) → WroteWithin old mid at (at + total (chunk ∷ g.run))
-first_word old mid at all chunk g is =
-    let inside = g.middle.inside in
+first_word : {old mid : List ℕ} {at : ℕ} (all : ℕ) {chunk : Chunk} → (g : Giving old at chunk) → mid ≡ overwritten old at (u32_bytes (2 ^ 31 + all)) → WroteWithin old mid at (at + total (chunk ∷ g.run))
+first_word {old} {mid} {at} all {chunk} g is =
     let least = (Spelled-size old at chunk g.spelled).0 in
     wrote_wider old mid at (at + 4) at (at + total (chunk ∷ g.run)) (wrote_word old mid at (2 ^ 31 + all) is (omega arith)) (omega arith) (omega arith)
 
-slot_stays : (old mid : List ℕ) (at all name : ℕ) (live : LiveChunk) (chunk : Chunk) → HeapAccepted old → Finds old name live chunk at → live.lock ≢ fixed_lock → mid ≡ overwritten old at (u32_bytes (2 ^ 31 + all)) → TablesLie mid × IsSlot mid name
-slot_stays old mid at all name live (free size) accepted f loose is = absurd f.named
-slot_stays old mid at all name live (fixed bytes o) accepted f loose is = absurd (loose (ap (λ (x : LiveChunk). x.lock) (sym (fixed_live_is at bytes o f.named))))
-slot_stays old mid at all name live (movable bytes l o s) accepted f loose is =
+slot_stays : {old mid : List ℕ} {at : ℕ} (all : ℕ) {name : ℕ} {live : LiveChunk} (chunk : Chunk) → HeapAccepted old → Finds old name live chunk at → live.lock ≢ fixed_lock → mid ≡ overwritten old at (u32_bytes (2 ^ 31 + all)) → TablesLie mid × IsSlot mid name
+slot_stays all (free size) accepted f loose is = absurd f.named
+slot_stays {at} all (fixed bytes o) accepted f loose is = absurd (loose (same_lock (sym (fixed_live_is at bytes o f.named))))
+slot_stays {old} {mid} {at} all {name} {live} (movable bytes l o s) accepted f loose is =
     let g = alone old at name live (movable bytes l o s) accepted f in
-    let inside = g.middle.inside in
-    let there = g.middle.there in
-    table_kept old mid g.before (movable bytes l o s ∷ g.run) g.rest at name g.heap.tiles (free_hold_none g.run g.all_free) g.middle.there (first_word old mid at all (movable bytes l o s) g is) (subst (λ (n : ℕ). IsSlot old n) f.named.0 (own_slot old name at live bytes l o s accepted f))
+    table_kept old mid g.before (movable bytes l o s ∷ g.run) g.rest at name g.heap.tiles (free_hold_none g.run g.all_free) g.middle.there (first_word all g is) (subst (λ n. IsSlot old n) f.named.0 (own_slot old name at live bytes l o s accepted f))
 
 -- the word that is written for the free chunk
-first_is : (old mid : List ℕ) (at all : ℕ) → mid ≡ overwritten old at (u32_bytes (2 ^ 31 + all)) → at + 4 ≤ length old → all < 2 ^ 24 → u32_at mid at ≡ 2 ^ 31 + all
-first_is old mid at all is inside small = ap (λ (x : List ℕ). u32_at x at) is ∙ u32_at-written (2 ^ 31 + all) at old inside (omega arith)
+first_is : (old : List ℕ) {mid : List ℕ} (at all : ℕ) → mid ≡ overwritten old at (u32_bytes (2 ^ 31 + all)) → at + 4 ≤ length old → all < 2 ^ 24 → u32_at mid at ≡ 2 ^ 31 + all
+first_is old at all is inside small = ap (λ x. u32_at x at) is ∙ u32_at-written (2 ^ 31 + all) at old inside (omega arith)
 
 -- the two writes: one among the chunks, and one to the slot
 record Given (old new : List ℕ) (at all name : ℕ) (chunk : Chunk) (g : Giving old at chunk) : Type 0 where
@@ -110,43 +77,38 @@ record Given (old new : List ℕ) (at all name : ℕ) (chunk : Chunk) (g : Givin
   pub spelled : Spelled new at (free all)
   pub word : u32_at new at ≡ 2 ^ 31 + all
 
-given : (old mid new : List ℕ) (at all name : ℕ) (live : LiveChunk) (chunk : Chunk) → HeapAccepted old → (g : Giving old at chunk) → Finds old name live chunk at → all ≡ total (chunk ∷ g.run)
+given : {old mid : List ℕ} (new : List ℕ) {at : ℕ} (all : ℕ) {name : ℕ} {live : LiveChunk} (chunk : Chunk) → HeapAccepted old → (g : Giving old at chunk) → Finds old name live chunk at → all ≡ total (chunk ∷ g.run)
     → mid ≡ overwritten old at (u32_bytes (2 ^ 31 + all)) → HasHeader mid at (headers.Free all) → Emptied mid chunk new → Given old new at all name chunk g
-given old mid new at all name live (free size) accepted g f sums is header emptied = absurd f.named
-given old mid new at all name live (movable bytes lock owner slot) accepted g f sums is header emptied =
+given new all (free size) accepted g f sums is header emptied = absurd f.named
+given {old} {mid} new {at} all {name} {live} (movable bytes lock owner slot) accepted g f sums is header emptied =
     let c : Chunk = movable bytes lock owner slot in
-    let s : IsSlot old slot = own_slot old name at live bytes lock owner slot accepted f in
-    let slot_inside = (slot_facts old accepted.0 slot accepted.1.tiles s).inside in
+    let s = own_slot old name at live bytes lock owner slot accepted f in
+    let slot_inside = (slot_facts old _ slot accepted.1.tiles s).inside in
     let none = free_hold_none g.run g.all_free in
     let beside = slot_beside old g.before (c ∷ g.run) g.rest at slot g.heap.tiles none g.middle.there s in
-    let inside = g.middle.inside in
-    let there = g.middle.there in
     let least = (Spelled-size old at c g.spelled).0 in
-    let first : WroteWithin old mid at (at + total (c ∷ g.run)) = first_word old mid at all c g is in
-    let len = first.len in
-    let word : WroteWithin mid new slot (slot + 4) = wrote_word mid new slot 0 emptied (omega arith) in
+    let first = first_word all g is in
+    let word = wrote_word mid new slot 0 emptied (omega arith) in
     let area : WroteArea old new at (at + total (c ∷ g.run)) = record { mid = mid; slot = slot; area = first; word = word; is_slot = inr s; there = omega arith; fits = omega arith } in
     record {
       area = area;
-      clears = ap (λ (x : List ℕ). u32_at x slot) emptied ∙ u32_at-written 0 slot mid (omega arith) (omega arith);
+      clears = ap (λ x. u32_at x slot) emptied ∙ u32_at-written 0 slot mid (omega arith) (omega arith);
       others = record { same = λ t ts ne. area_slots old new g.before (c ∷ g.run) g.rest at t g.heap.tiles none g.middle.there area ts (λ e. ne (sym e ∙ f.named.0)) };
       spelled = Spelled-same mid new at (free all) (beside_same mid new slot at (at + total (c ∷ g.run)) at (at + all) word beside (omega arith) (omega arith) (omega arith)) word.len (has_free mid at all header);
-      word = beside_word mid new slot at (at + total (c ∷ g.run)) at word beside (omega arith) (omega arith) (omega arith) ∙ first_is old mid at all is (omega arith) (omega arith);
+      word = beside_word mid new slot at (at + total (c ∷ g.run)) at word beside (omega arith) (omega arith) (omega arith) ∙ first_is old at all is (omega arith) (omega arith);
     }
-given old mid new at all name live (fixed bytes owner) accepted g f sums is header emptied =
+given {old} {mid} new {at} all {name} {live} (fixed bytes owner) accepted g f sums is header emptied =
     let c : Chunk = fixed bytes owner in
-    let none = named_hold_none old g.before c g.run g.rest name live g.heap (subst (λ (n : ℕ). NamedHere name live n c) g.middle.there f.named) g.all_free in
-    let inside = g.middle.inside in
-    let there = g.middle.there in
+    let none = named_hold_none old g.before c g.run g.rest name live g.heap (subst (λ n. NamedHere name live n c) g.middle.there f.named) g.all_free in
     let least = (Spelled-size old at c g.spelled).0 in
-    let first : WroteWithin old new at (at + total (c ∷ g.run)) = first_word old new at all c g (emptied ∙ is) in
+    let first = first_word all g (emptied ∙ is) in
     let area : WroteArea old new at (at + total (c ∷ g.run)) = record { mid = new; slot = at; area = first; word = wrote_none new at (at + 4); is_slot = inl refl; there = omega arith; fits = omega arith } in
     record {
       area = area;
       clears = tt;
       others = record { same = λ t ts ne. wrote_slot old new g.before (c ∷ g.run) g.rest at t g.heap.tiles none g.middle.there first ts };
-      spelled = subst (λ (image : List ℕ). Spelled image at (free all)) (sym emptied) (has_free mid at all header);
-      word = ap (λ (x : List ℕ). u32_at x at) emptied ∙ first_is old mid at all is (omega arith) (omega arith);
+      spelled = subst (λ image. Spelled image at (free all)) (sym emptied) (has_free mid at all header);
+      word = ap (λ x. u32_at x at) emptied ∙ first_is old at all is (omega arith) (omega arith);
     }
 
 -- the chunk of another name is not the directory
@@ -155,17 +117,17 @@ not_directory image at name live (free size) apart n m = m
 not_directory image at name live (movable bytes lock owner slot) apart n m = apart (sym n.0 ∙ m.0)
 not_directory image at name live (fixed bytes owner) apart n m = m
 
-pub gave_back : (old mid new : List ℕ) (at all name : ℕ) (live : LiveChunk) (chunk : Chunk) → HeapAccepted old → name ≢ directory_of old → Finds old name live chunk at → (g : Giving old at chunk) → all ≡ total (chunk ∷ g.run)
+pub gave_back : {old mid : List ℕ} (new : List ℕ) {at : ℕ} (all : ℕ) {name : ℕ} {live : LiveChunk} {chunk : Chunk} → HeapAccepted old → name ≢ directory_of old → Finds old name live chunk at → (g : Giving old at chunk) → all ≡ total (chunk ∷ g.run)
     → mid ≡ overwritten old at (u32_bytes (2 ^ 31 + all)) → HasHeader mid at (headers.Free all) → Emptied mid chunk new → Alters old new at freed × IsFreeChunk new at all × KeepsFree (NotAmong at (chunk ∷ g.run)) old new × WritesPlain old new
-gave_back old mid new at all name live chunk accepted own f g sums is header emptied =
+gave_back {old} new {at} all {name} {live} {chunk} accepted own f g sums is header emptied =
     let least = (Spelled-size old at chunk g.spelled).0 in
-    let w = given old mid new at all name live chunk accepted g f (omega arith) is header emptied in
-    let none = named_hold_none old g.before chunk g.run g.rest name live g.heap (subst (λ (n : ℕ). NamedHere name live n chunk) g.middle.there f.named) g.all_free in
-    let replaces : Replaces old new g.before (chunk ∷ g.run) (free all ∷ []) g.rest at = area_replaces old new g.before (chunk ∷ g.run) (free all ∷ []) g.rest at g.heap.tiles none g.middle.there g.middle.inside w.area (w.spelled, omega arith) in
+    let w = given new all chunk accepted g f (omega arith) is header emptied in
+    let none = named_hold_none old g.before chunk g.run g.rest name live g.heap (subst (λ n. NamedHere name live n chunk) g.middle.there f.named) g.all_free in
+    let replaces = area_replaces old new g.before (chunk ∷ g.run) (free all ∷ []) g.rest at g.heap.tiles none g.middle.there g.middle.inside w.area (w.spelled, omega arith) in
     let heap = released old new g.before chunk g.run g.rest at all name live g.heap replaces g.all_free f.named (not_directory old at name live chunk own f.named) w.clears w.others in
     let there = g.middle.there in
-    let start : area_start new ≡ area_start old = same_start old new replaces.head in
-    let alike : merged (g.before ++ free all ∷ g.rest) ≡ merged (g.before ++ free (size_of chunk) ∷ (g.run ++ g.rest)) =
+    let start = same_start old new replaces.head in
+    let alike =
     merged-middle g.before (free all ∷ []) (free (size_of chunk) ∷ g.run) g.rest (runs-merged (free all ∷ []) (free (size_of chunk) ∷ g.run) tt g.all_free (omega arith) (omega arith)) in (
       (exchanges_parts old new at (λ c. freed c ∷ []) g.before chunk (g.run ++ g.rest) accepted (named_live_chunk name at live chunk f.named) g.chunks there).1
           (becomes_alike old new (g.before ++ free all ∷ g.rest) (g.before ++ free (size_of chunk) ∷ (g.run ++ g.rest)) alike (becomes_heap old new (g.before ++ free all ∷ g.rest) replaces.head heap)),
@@ -175,114 +137,108 @@ gave_back old mid new at all name live chunk accepted own f g sums is header emp
     )
 
 -- a free chunk is free up to its end
-pub chunk_up_to : (image : List ℕ) (at size : ℕ) → HeapAccepted image → IsFreeChunk image at size → FreeUpTo image at (at + size)
-chunk_up_to image at size h f =
-    let there = f.there in
+pub chunk_up_to : {image : List ℕ} {at size : ℕ} → HeapAccepted image → IsFreeChunk image at size → FreeUpTo image at (at + size)
+chunk_up_to {image} {at} {size} h f =
     let least = (free_there image at size h f).header_fits in
     record { before = f.before; run = free size ∷ []; after = f.after; chunks = f.chunks; all_free = tt; from = omega arith; to = omega arith; least = omega arith }
 
 -- ---- of a chunk that was found
 
 -- how much becomes free
-pub given_size : (image : List ℕ) (found : Found) (size more : ℕ) → HeapAccepted image → IsOne image found → size ≡ need found.length → more ≡ free_size_at image (found.place.0 - 8 + size)
+pub given_size : {image : List ℕ} {found : Found} {size more : ℕ} → HeapAccepted image → IsOne image found → size ≡ need found.length → more ≡ free_size_at image (found.place.0 - 8 + size)
     → (8 ≤ size) × (found.place.0 - 8 + (size + more) ≤ length image) × ((size + more) % 8 ≡ 0) × (length image ≤ 16777208)
-given_size image found size more h f size_is more_is =
+given_size {image} {found} {size} {more} h f size_is more_is =
     let at : ℕ = found.place.0 - 8 in
-    let both = giving image at found.name.0 f.live f.chunk h f.finds in
+    let both = giving h f.finds in
     let g = both.0 in
     let is : size ≡ size_of f.chunk = size_is ∙ found_size image found f in
-    let sums : more ≡ total g.run = more_is ∙ ap (λ (n : ℕ). free_size_at image (at + n)) is ∙ both.1 in
+    let sums : more ≡ total g.run = more_is ∙ ap (λ n. free_size_at image (at + n)) is ∙ both.1 in
     let least = (Spelled-size image at f.chunk g.spelled).0 in
-    let inside = g.middle.inside in
-    let whole = g.middle.whole in
     (omega arith, omega arith, omega arith, g.middle.most)
 
-pub alone_size : (image : List ℕ) (found : Found) (size : ℕ) → HeapAccepted image → IsOne image found → size ≡ need found.length
+pub alone_size : {image : List ℕ} {found : Found} {size : ℕ} → HeapAccepted image → IsOne image found → size ≡ need found.length
     → (8 ≤ size) × (found.place.0 - 8 + size ≤ length image) × (size % 8 ≡ 0) × (length image ≤ 16777208)
-alone_size image found size h f size_is =
+alone_size {image} {found} {size} h f size_is =
     let at : ℕ = found.place.0 - 8 in
-    let s = finds_spelled image found.name.0 f.live f.chunk at h f.finds in
+    let s = finds_spelled image _ f.live f.chunk at h f.finds in
     let is : size ≡ size_of f.chunk = size_is ∙ found_size image found f in
     let t = Spelled-size image at f.chunk s in
-    let least = t.0 in
-    let inside = t.1 in
-    (omega arith, omega arith, subst (λ (n : ℕ). n % 8 ≡ 0) (sym is) t.2, h.1.tiles.head.most)
+    (omega arith, omega arith, subst (λ n. n % 8 ≡ 0) (sym is) t.2, h.1.tiles.head.most)
 
-pub own_slot_stays : (old mid : List ℕ) (found : Found) (all : ℕ) → HeapAccepted old → (f : IsOne old found) → found.lock ≢ fixed_lock → mid ≡ overwritten old (found.place.0 - 8) (u32_bytes (2 ^ 31 + all)) → TablesLie mid × IsSlot mid found.name.0
-own_slot_stays old mid found all h f loose is = slot_stays old mid (found.place.0 - 8) all found.name.0 f.live f.chunk h f.finds (λ e. loose (f.lock_is ∙ e)) is
+own_slot_stays : {old mid : List ℕ} {found : Found} (all : ℕ) → HeapAccepted old → (f : IsOne old found) → found.lock ≢ fixed_lock → mid ≡ overwritten old (found.place.0 - 8) (u32_bytes (2 ^ 31 + all)) → TablesLie mid × IsSlot mid found.name.0
+own_slot_stays all h f loose is = slot_stays all f.chunk h f.finds (λ e. loose (f.lock_is ∙ e)) is
 
 -- the slot of a movable chunk is emptied, and a fixed one has none
-pub emptied_movable : (mid new : List ℕ) (at name : ℕ) (live : LiveChunk) (c : Chunk) → NamedHere name live at c → live.lock ≢ fixed_lock → new ≡ overwritten mid name (u32_bytes 0) → Emptied mid c new
-emptied_movable mid new at name live (free size) n loose is = absurd n
-emptied_movable mid new at name live (movable bytes lock owner slot) n loose is = is ∙ ap (λ (k : ℕ). overwritten mid k (u32_bytes 0)) (sym n.0)
-emptied_movable mid new at name live (fixed bytes owner) n loose is = absurd (loose (ap (λ (x : LiveChunk). x.lock) (sym (fixed_live_is at bytes owner n))))
+emptied_movable : (mid : List ℕ) {new : List ℕ} (at name : ℕ) (live : LiveChunk) (c : Chunk) → NamedHere name live at c → live.lock ≢ fixed_lock → new ≡ overwritten mid name (u32_bytes 0) → Emptied mid c new
+emptied_movable mid at name live (free size) n loose is = absurd n
+emptied_movable mid at name live (movable bytes lock owner slot) n loose is = is ∙ ap (λ k. overwritten mid k (u32_bytes 0)) (sym n.0)
+emptied_movable mid at name live (fixed bytes owner) n loose is = absurd (loose (same_lock (sym (fixed_live_is at bytes owner n))))
 
-pub emptied_fixed : (image mid : List ℕ) (at name : ℕ) (live : LiveChunk) (c : Chunk) → HeapAccepted image → Finds image name live c at → live.lock ≡ fixed_lock → Emptied mid c mid
-emptied_fixed image mid at name live (free size) h f is = absurd f.named
-emptied_fixed image mid at name live (movable bytes lock owner slot) h f is =
+emptied_fixed : {image : List ℕ} (mid : List ℕ) {at name : ℕ} {live : LiveChunk} (c : Chunk) → HeapAccepted image → Finds image name live c at → live.lock ≡ fixed_lock → Emptied mid c mid
+emptied_fixed mid (free size) h f is = absurd f.named
+emptied_fixed {image} mid {at} {name} {live} (movable bytes lock owner slot) h f is =
     let s : Spelled image at (movable bytes lock owner slot) = (alone image at name live (movable bytes lock owner slot) h f).spelled in
-    let same : lock ≡ live.lock = ap (λ (x : LiveChunk). x.lock) f.named.1 in
-    let low = s.2 in
+    let same : lock ≡ live.lock = same_lock f.named.1 in
     absurd (omega arith)
-emptied_fixed image mid at name live (fixed bytes owner) h f is = refl
+emptied_fixed mid (fixed bytes owner) h f is = refl
 
-pub gave_back_found : (old mid new : List ℕ) (found : Found) (size more : ℕ) → HeapAccepted old → (f : IsOne old found) → found.name.0 ≢ directory_of old → size ≡ need found.length → more ≡ free_size_at old (found.place.0 - 8 + size)
+pub emptied_loose : {old : List ℕ} (mid : List ℕ) {new : List ℕ} {found : Found} → (f : IsOne old found) → found.lock ≢ fixed_lock → new ≡ overwritten mid found.name.0 (u32_bytes 0) → Emptied mid f.chunk new
+emptied_loose mid {found} f loose is = emptied_movable mid (found.place.0 - 8) found.name.0 f.live f.chunk f.finds.named (λ e. loose (f.lock_is ∙ e)) is
+
+pub emptied_locked : {old : List ℕ} (mid : List ℕ) {found : Found} → HeapAccepted old → (f : IsOne old found) → found.lock ≡ fixed_lock → Emptied mid f.chunk mid
+emptied_locked mid h f is = emptied_fixed mid f.chunk h f.finds (sym f.lock_is ∙ is)
+
+pub gave_back_found : {old mid : List ℕ} (new : List ℕ) {found : Found} {size more : ℕ} → HeapAccepted old → (f : IsOne old found) → found.name.0 ≢ directory_of old → size ≡ need found.length → more ≡ free_size_at old (found.place.0 - 8 + size)
     → mid ≡ overwritten old (found.place.0 - 8) (u32_bytes (2 ^ 31 + (size + more))) → HasHeader mid (found.place.0 - 8) (headers.Free (size + more)) → Emptied mid f.chunk new
     → Alters old new (found.place.0 - 8) freed × FreeUpTo new (found.place.0 - 8) (found.place.0 - 8 + (size + more)) × WritesPlain old new
-gave_back_found old mid new found size more h f apart size_is more_is is header emptied =
+gave_back_found {old} new {found} {size} {more} h f apart size_is more_is is header emptied =
     let at : ℕ = found.place.0 - 8 in
     let sizes : size ≡ size_of f.chunk = size_is ∙ found_size old found f in
-    let mores : more ≡ free_size_at old (at + size_of f.chunk) = more_is ∙ ap (λ (n : ℕ). free_size_at old (at + n)) sizes in
-    let g = giving old at found.name.0 f.live f.chunk h f.finds in
-    let sums = g.1 in
-    let done = gave_back old mid new at (size + more) found.name.0 f.live f.chunk h apart f.finds g.0 (omega arith) is header emptied in
-    (done.0, chunk_up_to new at (size + more) done.0.frame.accepted done.1, done.3)
-
-named_free : (name at : ℕ) (live : LiveChunk) (c : Chunk) (n : ℕ) → NamedHere name live at c → c ≡ free n → ⊥
-named_free name at live c n named e = subst (λ (d : Chunk). NamedHere name live at d) e named
+    let mores : more ≡ free_size_at old (at + size_of f.chunk) = more_is ∙ ap (λ n. free_size_at old (at + n)) sizes in
+    let g = giving h f.finds in
+    let done = gave_back new (size + more) h apart f.finds g.0 (omega arith) is header emptied in
+    (done.0, chunk_up_to done.0.frame.accepted done.1, done.3)
 
 -- of the chunk alone
-pub gave_back_alone : (old mid new : List ℕ) (found : Found) (size : ℕ) → HeapAccepted old → (f : IsOne old found) → found.name.0 ≢ directory_of old → size ≡ need found.length
+pub gave_back_alone : {old mid : List ℕ} (new : List ℕ) {found : Found} {size : ℕ} → HeapAccepted old → (f : IsOne old found) → found.name.0 ≢ directory_of old → size ≡ need found.length
     → mid ≡ overwritten old (found.place.0 - 8) (u32_bytes (2 ^ 31 + size)) → HasHeader mid (found.place.0 - 8) (headers.Free size) → Emptied mid f.chunk new
     → Alters old new (found.place.0 - 8) freed × IsFreeChunk new (found.place.0 - 8) size × KeepsFree Any old new × WritesPlain old new
 unfolding alone
-gave_back_alone old mid new found size h f apart size_is is header emptied =
+gave_back_alone {old} new {found} {size} h f apart size_is is header emptied =
     let at : ℕ = found.place.0 - 8 in
     let sizes : size ≡ size_of f.chunk = size_is ∙ found_size old found f in
-    let done = gave_back old mid new at size found.name.0 f.live f.chunk h apart f.finds (alone old at found.name.0 f.live f.chunk h f.finds) (let e : size ≡ size_of f.chunk + 0 = omega arith in e) is header emptied in
-    (done.0, done.1, λ there any b. done.2 there (live_apart at there f.chunk (λ n e. named_free found.name.0 at f.live f.chunk n f.finds.named e)) b, done.3)
+    let done = gave_back new size h apart f.finds (alone old at _ f.live f.chunk h f.finds) (let e : size ≡ size_of f.chunk + 0 = omega arith in e) is header emptied in
+    (done.0, done.1, λ there any b. done.2 there (live_apart at there f.chunk (λ n e. named_apart found.name.0 at f.live f.finds.named e)) b, done.3)
 
 -- where it stood no free chunk began
-pub none_there : (image : List ℕ) (found : Found) (there : ℕ) → HeapAccepted image → IsOne image found → BeginsFree image there → there ≢ found.place.0 - 8
-none_there image found there h f b same = live_only f.chunk f.finds.chunks (λ n e. named_free found.name.0 (found.place.0 - 8) f.live f.chunk n f.finds.named e) where
-  at_there : (at : ℕ) (d : Chunk) → IsFreeAt there at d → at ≡ there
-  at_there at (free n) k = k
-  at_there at (movable bytes lock owner slot) k = absurd k
-  at_there at (fixed bytes owner) k = absurd k
-
-  free_not : (d : Chunk) → IsFreeAt there there d → ((n : ℕ) → d ≡ free n → ⊥) → ⊥
-  free_not (free n) k live = live n refl
-  free_not (movable bytes lock owner slot) k live = k
-  free_not (fixed bytes owner) k live = k
-
-  live_only : (c : Chunk) → chunks_of image ≡ f.finds.before ++ c ∷ f.finds.after → ((n : ℕ) → c ≡ free n → ⊥) → ⊥
-  live_only c e live =
-      let both = one_at (IsFreeAt there) (λ at d. d ≡ c) there (area_start image) (chunks_of image) (SpelledAll-takes image (area_start image) (chunks_of image) (length image) (heap_in_parts image (chunks_of image) h refl).tiles.area)
-      (AnyPlaced-map (IsFreeAt there) (At there (IsFreeAt there)) (λ at d free_there. (at_there at d free_there, free_there)) (area_start image) (chunks_of image) b)
-      (subst (λ (cs : List Chunk). AnyPlaced (At there (λ at d. d ≡ c)) (area_start image) cs) (sym e) (AnyPlaced-mid (At there (λ at d. d ≡ c)) (area_start image) f.finds.before c f.finds.after (sym f.finds.there ∙ sym same, refl))) in
-      free_not both.0 both.1 (λ n is. live n (sym both.2 ∙ is))
+pub none_there : {image : List ℕ} {found : Found} (there : ℕ) → HeapAccepted image → IsOne image found → BeginsFree image there → there ≢ found.place.0 - 8
+none_there {image} {found} there h f b same =
+    let size = found_size image found f in
+    let k = begun_chunk there h b in
+    let least = chunk_inside h k in
+    elim (apart f.finds.before f.chunk f.finds.after k.before (free (size_field (u32_at image there))) k.after (sym f.finds.chunks ∙ k.chunks)) [
+      | in_front x ↦ omega arith
+      | one t is ↦ named_apart found.name.0 (found.place.0 - 8) f.live f.finds.named is
+      | behind x ↦ omega arith
+    ]
 
 -- the lists, with the chunk that was made free
-pub given_lists : (old mid new heads after : List ℕ) (found : Found) → HeapAccepted old → IsOne old found → KeepsFree Any old mid → Pushes mid new heads after (found.place.0 - 8) → HasLists old heads → HasLists new after
-given_lists old mid new heads after found h f keeps p lists =
+pub given_lists : {old mid new heads after : List ℕ} {found : Found} → HeapAccepted old → IsOne old found → KeepsFree Any old mid → Pushes mid new heads after (found.place.0 - 8) → HasLists old heads → HasLists new after
+given_lists {old} {mid} {heads} {found} h f keeps p lists =
     let at : ℕ = found.place.0 - 8 in
-    let others : AreLists (ButAt at) old heads = lists_weaker Any (ButAt at) old heads (λ x b any. none_there old found x h f b) lists in
-    push_lists (ButAt at) Any mid new heads after at (lists_kept (ButAt at) old mid heads (λ x apart b. keeps x tt b) others) (λ x b apart. (tt, apart)) tt p
+    let others = lists_weaker Any (ButAt at) old heads (λ x b any. none_there x h f b) lists in
+    push_lists (ButAt at) Any (lists_kept (ButAt at) old mid heads (λ x apart b. keeps x tt b) others) (λ x b apart. (tt, apart)) tt p
 
 -- its own slot
-pub own_slot_is : (old : List ℕ) (found : Found) → HeapAccepted old → (f : IsOne old found) → found.lock ≢ fixed_lock → IsSlot old found.name.0
-own_slot_is old found h f loose = by_chunk f.chunk f.finds where
+own_slot_is : {old : List ℕ} {found : Found} → HeapAccepted old → (f : IsOne old found) → found.lock ≢ fixed_lock → IsSlot old found.name.0
+own_slot_is {old} {found} h f loose = by_chunk f.chunk f.finds where
   by_chunk : (c : Chunk) → Finds old found.name.0 f.live c (found.place.0 - 8) → IsSlot old found.name.0
   by_chunk (free size) g = absurd g.named
-  by_chunk (fixed bytes o) g = absurd (loose (f.lock_is ∙ ap (λ (x : LiveChunk). x.lock) (sym (fixed_live_is (found.place.0 - 8) bytes o g.named))))
-  by_chunk (movable bytes l o s) g = subst (λ (n : ℕ). IsSlot old n) g.named.0 (own_slot old found.name.0 (found.place.0 - 8) f.live bytes l o s h g)
+  by_chunk (fixed bytes o) g = absurd (loose (f.lock_is ∙ same_lock (sym (fixed_live_is (found.place.0 - 8) bytes o g.named))))
+  by_chunk (movable bytes l o s) g = subst (λ n. IsSlot old n) g.named.0 (own_slot old _ _ f.live bytes l o s h g)
+
+pub own_slot_within : {old : Memory} (new : Memory) {found : Found} (all : ℕ) → HoldsHeap old → (f : IsOne old.bytes found) → found.lock ≢ fixed_lock → new.lents ≡ old.lents → new.bytes ≡ overwritten old.bytes (found.place.0 - 8) (u32_bytes (2 ^ 31 + all))
+    → IsWithin new found.name.0 4 × IsSlot new.bytes found.name.0
+own_slot_within {old} new all h f loose lents is =
+    let t = own_slot_stays all h.accepted f loose is in
+    (slot_still_within old new _ h.accepted h.lent (own_slot_is h.accepted f loose) lents t.0 t.1, t.1)

@@ -1,40 +1,9 @@
 -- A live chunk of an accepted heap gets another length in its place.
-use Rattle.std.proofs.Common.{◌≡◌, ℕ, ◌+◌, ◌-◌, ◌%◌, ◌^◌, ◌<◌, ◌≤◌, List, [], ◌∷◌, ◌++◌, length, take, drop, replicate, refl, sym, ap, subst, ◌∙◌, arith, inl, inr}
-use Rattle.std.specs.Prelude.{◌==◌, slice_range}
-use Rattle.std.proofs.lemmas.Bool.{cases_lt, eq-eqb}
+use Rattle.heap_place.proofs.Words.{◌≡◌, ℕ, ◌+◌, ◌-◌, ◌%◌, ◌^◌, ◌<◌, ◌≤◌, List, [], ◌∷◌, ◌++◌, length, take, drop, replicate, refl, sym, ap, subst, ◌∙◌, arith, inl, inr, ◌==◌, slice_range, cases_lt, eq-eqb, length-replicate, length-take-le, length-drop, take_all, take-take, drop_all, append-nil, sized_to, Chunk, free, movable, fixed, fixed_lock, need, size_of, total, Spelled, SpelledAll, IsCallersIfFixed, ManagersHere, directory_of, HeapAccepted, IsHeap, LiveChunk, NamedHere, AnyPlaced, Finds, Becomes, gap, IsFreeAt, WritesPlain, with_length, shrunk, Shrinks, cond-true, cond-false, SameBetween, SameBetween-then, slice-same, slice-overwritten-within, IsNotFree, fixed_live_is, fixed_owned, finds_spelled, named_live_chunk, WroteWithin, wrote_part, wrote_wider, wrote_then, wrote_apart, becomes_heap, Replaces, exchanges_parts, gap_free, TiedAlike, rewritten, finds_callers, lives_plain, replaced_plain, length-sized_to, size_of-with_length, Header, header_of, size_by, HasHeader, IsWritableHeader, header_words, h_offset_to, Found, IsOne, WroteRest, sized_header, RunBehind, Resizes, slot_facts, HoldNoSlots, movable_body, callers_body, same_lock, same_owner, same_length}
 use Rattle.std.proofs.lemmas.Bool.Decides.{nat_tests}
-use Rattle.std.proofs.lemmas.List.{length-replicate, length-take-le, length-drop, take_all, take-take, drop_all, append-nil}
-use Rattle.heap_model.specs.Bytes.{overwritten, sized_to}
-use Rattle.heap_model.specs.Chunk.{Chunk, free, movable, fixed, fixed_lock, need, size_of, total, Spelled, SpelledAll}
-use Rattle.heap_model.specs.Heap.{IsCallersIfFixed, ManagersHere, directory_of, HeapAccepted, IsHeap}
-use Rattle.heap_model.specs.Meaning.{LiveChunk, NamedHere}
-use Rattle.heap_model.specs.Placed.{AnyPlaced}
-use Rattle.heap_model.specs.Placing.{Finds}
+use Rattle.heap_model.specs.Bytes.{overwritten}
 use Rattle.heap_model.specs.Packing.{lives}
-use Rattle.heap_model.specs.Layout.{Becomes, gap, IsFreeAt, WritesPlain}
-use Rattle.heap_model.specs.Resizing.{with_length, shrunk, Shrinks}
-use Rattle.laws_heap.proofs.Tests.{cond-true, cond-false}
-use Rattle.laws_heap.proofs.Frames.{SameBetween, SameBetween-then, slice-same, slice-overwritten-within}
-use Rattle.laws_heap.proofs.Layouts.{IsNotFree}
-use Rattle.laws_heap.proofs.FixedNames.{fixed_live_is, fixed_owned}
-use Rattle.laws_heap.proofs.FoundChunks.{finds_spelled}
-use Rattle.laws_heap.proofs.ExchangedNames.{named_live_chunk}
-use Rattle.laws_heap.proofs.Writes.{WroteWithin, wrote_part, wrote_wider, wrote_then, wrote_apart}
-use Rattle.laws_heap.proofs.SameLayouts.{becomes_heap}
-use Rattle.laws_heap.proofs.Replacements.{Replaces}
-use Rattle.laws_heap.proofs.Exchanges.{exchanges_parts, gap_free}
-use Rattle.laws_heap.proofs.AlteredChunks.{TiedAlike, rewritten, finds_callers}
-use Rattle.laws_heap.proofs.Plain.{lives_plain, replaced_plain}
-use Rattle.laws_heap.proofs.Resizings.{length-sized_to, size_of-with_length}
-use Rattle.chunk_format.specs.declared.header.Header.{Header}
-use Rattle.chunk_format.specs.Header.{header_of, size_by, HasHeader, IsWritable, header_bytes, h_offset_to}
-use Rattle.heap_place.specs.declared.found.Found.{Found}
-use Rattle.heap_place.specs.Found.{IsOne}
-use Rattle.heap_place.specs.Search.{WroteRest}
-use Rattle.heap_place.specs.Resizes.{sized_header, RunBehind, Resizes}
-use Rattle.heap_place.proofs.FoundLaws.{heap_in_parts, Middle, middle_of, own_slot, Fields, fields_of, found_size, bytes_inside}
-use Rattle.laws_heap.proofs.Slots.{slot_facts, HoldNoSlots}
-use Rattle.laws_heap.proofs.Chunks.{movable_body, callers_body}
+use Rattle.heap_place.proofs.FoundLaws.{heap_in_parts, Middle, middle_of, own_slot, Fields, fields_of, found_size, bytes_inside, no_slots}
 use Rattle.heap_place.proofs.CutLaws.{gap_spelled, gap_plain, rest_within, header_movable, header_fixed, wrote_words}
 
 -- ---- where the chunk and the free ones after it lie
@@ -46,54 +15,49 @@ pub record RunFacts (image : List ℕ) (found : Found) (behind : ℕ) : Type 0 w
   pub most : length image ≤ 16777208
   pub body : found.place.0 + found.length ≤ length image
 
-pub run_middle : (image : List ℕ) (found : Found) (behind : ℕ) → HeapAccepted image → (r : RunBehind image found behind) → Middle image r.one.finds.before (r.one.chunk ∷ r.run) r.rest (found.place.0 - 8)
-run_middle image found behind h r =
+pub run_middle : {image : List ℕ} {found : Found} {behind : ℕ} → HeapAccepted image → (r : RunBehind image found behind) → Middle image r.one.finds.before (r.one.chunk ∷ r.run) r.rest (found.place.0 - 8)
+run_middle {image} h r =
     let f = r.one.finds in
     let c : Chunk = r.one.chunk in
-    middle_of image f.before (c ∷ r.run) r.rest (found.place.0 - 8) (heap_in_parts image (f.before ++ ((c ∷ r.run) ++ r.rest)) h (f.chunks ∙ ap (λ (cs : List Chunk). f.before ++ c ∷ cs) r.parts)) f.there
+    middle_of image f.before (c ∷ r.run) r.rest _ (heap_in_parts image (f.before ++ ((c ∷ r.run) ++ r.rest)) h (f.chunks ∙ ap (λ cs. f.before ++ c ∷ cs) r.parts)) f.there
 
 pub run_facts : (image : List ℕ) (found : Found) (behind : ℕ) → HeapAccepted image → RunBehind image found behind → RunFacts image found behind
 run_facts image found behind h r =
-    let m = run_middle image found behind h r in
+    let m = run_middle h r in
     let size = found_size image found r.one in
-    let sums = r.sums in
-    let inside = m.inside in
-    let whole = m.whole in
     record { low = r.one.behind_header; inside = omega arith; whole = omega arith; most = m.most; body = bytes_inside image found h r.one }
 
 -- ---- the header
 
-header_by : (image : List ℕ) (name at count : ℕ) (live : LiveChunk) (c : Chunk) (found : Found) → HeapAccepted image → Finds image name live c at → Fields name live found → sized_header found count ≡ header_of (with_length count c)
-header_by image name at count live (free size) found h f k = absurd f.named
-header_by image name at count live (movable bytes lock owner slot) found h f k =
-    let s : Spelled image at (movable bytes lock owner slot) = finds_spelled image name live (movable bytes lock owner slot) at h f in
-    let small = s.2 in
-    let a : found.lock ≡ lock = k.lock_is ∙ ap (λ (x : LiveChunk). x.lock) (sym f.named.1) in
-    let b : found.owner ≡ owner = k.owner_is ∙ ap (λ (x : LiveChunk). x.owner) (sym f.named.1) in
+header_by : {image : List ℕ} {name at : ℕ} (count : ℕ) {live : LiveChunk} (c : Chunk) {found : Found} → HeapAccepted image → Finds image name live c at → Fields name live found → sized_header found count ≡ header_of (with_length count c)
+header_by count (free size) h f k = absurd f.named
+header_by {image} {name} {at} count {live} (movable bytes lock owner slot) {found} h f k =
+    let s = finds_spelled image name live (movable bytes lock owner slot) at h f in
+    let a : found.lock ≡ lock = k.lock_is ∙ same_lock (sym f.named.1) in
+    let b : found.owner ≡ owner = k.owner_is ∙ same_owner (sym f.named.1) in
     let n : found.name.0 ≡ slot = k.name_is ∙ sym f.named.0 in
     let len = length-sized_to bytes count in
     cond-false (found.lock == fixed_lock) _ _ (grind (arith, nat_tests)) ∙ cc
-header_by image name at count live (fixed bytes owner) found h f k =
+header_by {at} count (fixed bytes owner) {found} h f k =
     let is = fixed_live_is at bytes owner f.named in
-    let a : found.lock ≡ fixed_lock = k.lock_is ∙ ap (λ (x : LiveChunk). x.lock) (sym is) in
-    let b : found.owner ≡ owner = k.owner_is ∙ ap (λ (x : LiveChunk). x.owner) (sym is) in
+    let a : found.lock ≡ fixed_lock = k.lock_is ∙ same_lock (sym is) in
+    let b : found.owner ≡ owner = k.owner_is ∙ same_owner (sym is) in
     let len = length-sized_to bytes count in
     cond-true (found.lock == fixed_lock) _ _ (eq-eqb found.lock fixed_lock a) ∙ cc
 
-header_sized : (image : List ℕ) (found : Found) (count : ℕ) → HeapAccepted image → (f : IsOne image found) → sized_header found count ≡ header_of (with_length count f.chunk)
-header_sized image found count h f = header_by image found.name.0 (found.place.0 - 8) count f.live f.chunk found h f.finds (fields_of image found.name.0 found f)
+header_sized : {image : List ℕ} {found : Found} (count : ℕ) → HeapAccepted image → (f : IsOne image found) → sized_header found count ≡ header_of (with_length count f.chunk)
+header_sized count h f = header_by count f.chunk h f.finds (fields_of f)
 
-writable_by : (image : List ℕ) (name at count : ℕ) (live : LiveChunk) (c : Chunk) → HeapAccepted image → Finds image name live c at → at % 8 ≡ 0 → need count < 2 ^ 24 → IsWritable at (header_of (with_length count c))
-writable_by image name at count live (free size) h f whole small = absurd f.named
-writable_by image name at count live (movable bytes lock owner slot) h f whole small =
-    let s : Spelled image at (movable bytes lock owner slot) = finds_spelled image name live (movable bytes lock owner slot) at h f in
+writable_by : {image : List ℕ} {name at : ℕ} (count : ℕ) {live : LiveChunk} (c : Chunk) → HeapAccepted image → Finds image name live c at → at % 8 ≡ 0 → need count < 2 ^ 24 → IsWritableHeader at (header_of (with_length count c))
+writable_by count (free size) h f whole small = absurd f.named
+writable_by {image} {name} {at} count {live} (movable bytes lock owner slot) h f whole small =
+    let s = finds_spelled image name live (movable bytes lock owner slot) at h f in
     let facts = slot_facts image h.0 slot h.1.tiles (own_slot image name at live bytes lock owner slot h f) in
-    let slot_inside = facts.inside in let four = facts.whole in let most = h.1.tiles.head.most in
     let own : owner < 16 = s.1.owner_fits in
     let len = length-sized_to bytes count in
     (omega arith, s.2, omega arith, s.3, omega arith, omega arith)
-writable_by image name at count live (fixed bytes owner) h f whole small =
-    let s : Spelled image at (fixed bytes owner) = finds_spelled image name live (fixed bytes owner) at h f in
+writable_by {image} {name} {at} count {live} (fixed bytes owner) h f whole small =
+    let s = finds_spelled image name live (fixed bytes owner) at h f in
     let own : owner < 16 = s.owner_fits in
     let len = length-sized_to bytes count in
     (omega arith, omega arith)
@@ -104,23 +68,21 @@ size_by_sized (movable bytes lock owner slot) count n = ap need (length-sized_to
 size_by_sized (fixed bytes owner) count n = ap need (length-sized_to bytes count)
 
 -- it can be written, and says what the chunk takes
-pub sized_writable : (image : List ℕ) (found : Found) (count behind : ℕ) → HeapAccepted image → (r : RunBehind image found behind) → need count ≤ need found.length + behind → IsWritable (found.place.0 - 8) (sized_header found count) × (size_by (sized_header found count) ≡ need count)
+pub sized_writable : (image : List ℕ) (found : Found) (count behind : ℕ) → HeapAccepted image → (r : RunBehind image found behind) → need count ≤ need found.length + behind → IsWritableHeader (found.place.0 - 8) (sized_header found count) × (size_by (sized_header found count) ≡ need count)
 sized_writable image found count behind h r fits =
     let at : ℕ = found.place.0 - 8 in
     let f = r.one in
     let facts = run_facts image found behind h r in
-    let inside = facts.inside in
-    let most = facts.most in
-    let e = header_sized image found count h f in
-    (rw e (writable_by image found.name.0 at count f.live f.chunk h f.finds (run_middle image found behind h r).start_whole (omega arith)), ap size_by e ∙ size_by_sized f.chunk count (named_live_chunk found.name.0 at f.live f.chunk f.finds.named))
+    let e = header_sized count h f in
+    (rw e (writable_by count f.chunk h f.finds (run_middle h r).start_whole (omega arith)), ap size_by e ∙ size_by_sized f.chunk count (named_live_chunk found.name.0 at f.live f.chunk f.finds.named))
 
 -- ---- the bytes
 
 -- bytes at an offset, where zeros were written after them if there are to be more
-sized_body : (old filled new : List ℕ) (at count : ℕ) (bytes : List ℕ) → slice_range old (at + 8) (at + 8 + length bytes) ≡ bytes → at + 8 + length bytes ≤ length old → at + 8 + count ≤ length old → filled ≡ overwritten old (at + 8 + length bytes) (replicate (count - length bytes) 0)
+sized_body : (old : List ℕ) {filled new : List ℕ} (at count : ℕ) {bytes : List ℕ} → slice_range old (at + 8) (at + 8 + length bytes) ≡ bytes → at + 8 + length bytes ≤ length old → at + 8 + count ≤ length old → filled ≡ overwritten old (at + 8 + length bytes) (replicate (count - length bytes) 0)
     → SameBetween (at + 8) (at + 8 + count) filled new → length filled ≡ length old → length new ≡ length old → slice_range new (at + 8) (at + 8 + count) ≡ sized_to bytes count
 unfolding overwritten
-sized_body old filled new at count bytes body inside fits is same len_filled len_new =
+sized_body old {filled} {new} at count {bytes} body inside fits is same len_filled len_new =
     sym (slice-same (at + 8) (at + 8 + count) filled new same (omega arith) (omega arith)) ∙ elim (cases_lt (length bytes) count) [ inl more ↦ longer more | inr less ↦ shorter less ] where
       zeros : List ℕ
       zeros = replicate (count - length bytes) 0
@@ -135,31 +97,31 @@ sized_body old filled new at count bytes body inside fits is same len_filled len
       whole n = omega arith
 
       was : take (length bytes) (drop start old) ≡ bytes
-      was = ap (λ (n : ℕ). take n (drop start old)) (sym (whole (length bytes))) ∙ body
+      was = ap (λ n. take n (drop start old)) (sym (whole (length bytes))) ∙ body
 
       longer : length bytes < count → slice_range filled start (start + count) ≡ sized_to bytes count
       longer more =
           let zeros_are = many in
           let size : length (take count (drop start old)) ≡ count = length-take-le count (drop start old) (let n = length-drop start old in omega arith) in
           let kept : take (length bytes) (take count (drop start old)) ≡ bytes = take-take (length bytes) count (drop start old) (omega arith) ∙ was in
-          ap (λ (x : List ℕ). take (start + count - start) (drop start x)) is
+          ap (λ x. take (start + count - start) (drop start x)) is
           ∙ slice-overwritten-within old start (length bytes) count zeros (omega arith) (omega arith)
-          ∙ ap (λ (n : ℕ). overwritten (take n (drop start old)) (length bytes) zeros) (whole count)
-          ∙ ap (λ (x : List ℕ). take (length bytes) (take count (drop start old)) ++ zeros ++ x) (drop_all (length bytes + length zeros) (take count (drop start old)) (omega arith))
+          ∙ ap (λ n. overwritten (take n (drop start old)) (length bytes) zeros) (whole count)
+          ∙ ap (λ x. take (length bytes) (take count (drop start old)) ++ zeros ++ x) (drop_all (length bytes + length zeros) (take count (drop start old)) (omega arith))
           ∙ append-nil (take (length bytes) (take count (drop start old)) ++ zeros)
-          ∙ ap (λ (x : List ℕ). x ++ zeros) (kept ∙ sym (take_all count bytes (omega arith)))
+          ∙ ap (λ x. x ++ zeros) (kept ∙ sym (take_all count bytes (omega arith)))
 
       shorter : count ≤ length bytes → slice_range filled start (start + count) ≡ sized_to bytes count
       shorter less =
           let zeros_are = many in
           let none : count - length bytes ≡ 0 = omega arith in
           let w = wrote_part old filled (start + length bytes) zeros is (omega arith) in
-          sym (slice-same start (start + count) old filled (wrote_apart old filled (start + length bytes) (start + length bytes + length zeros) start (start + count) w (inl (omega arith))) (omega arith) (omega arith))
-          ∙ ap (λ (n : ℕ). take n (drop start old)) (whole count)
+          sym (slice-same start _ old filled (wrote_apart old filled (start + length bytes) (start + length bytes + length zeros) start (start + count) w (inl (omega arith))) (omega arith) (omega arith))
+          ∙ ap (λ n. take n (drop start old)) (whole count)
           ∙ sym (take-take count (length bytes) (drop start old) less)
           ∙ ap (take count) was
           ∙ sym (append-nil (take count bytes))
-          ∙ ap (λ (n : ℕ). take count bytes ++ replicate n 0) (sym none)
+          ∙ ap (λ n. take count bytes ++ replicate n 0) (sym none)
 
 -- the bytes of a live chunk
 abbrev pub body_of : Chunk → List ℕ
@@ -168,69 +130,45 @@ body_of (movable bytes lock owner slot) = bytes
 body_of (fixed bytes owner) = bytes
 
 -- the chunk of a header, and these bytes
-pub sized_spelled : (new : List ℕ) (at count : ℕ) (c : Chunk) → IsNotFree c → HoldNoSlots (c ∷ []) → slice_range new (at + 8) (at + 8 + count) ≡ sized_to (body_of c) count → HasHeader new at (header_of (with_length count c)) → Spelled new at (with_length count c)
-sized_spelled new at count (free size) live none body has = absurd live
-sized_spelled new at count (movable bytes lock owner slot) live none body has =
+pub sized_spelled : {new : List ℕ} {at : ℕ} (count : ℕ) (c : Chunk) → IsNotFree c → HoldNoSlots (c ∷ []) → slice_range new (at + 8) (at + 8 + count) ≡ sized_to (body_of c) count → HasHeader new at (header_of (with_length count c)) → Spelled new at (with_length count c)
+sized_spelled count (free size) live none body has = absurd live
+sized_spelled {new} {at} count (movable bytes lock owner slot) live none body has =
     let sized : List ℕ = sized_to bytes count in
-    let len : length sized ≡ count = length-sized_to bytes count in
+    let len = length-sized_to bytes count in
     let m = header_movable (length sized) lock owner slot has.chunk has.header_is in
-    let t : Spelled new at (movable m.0 lock owner slot) = subst (λ (x : Chunk). Spelled new at x) m.1.0 has.spelled in
-    let same_bytes : m.0 ≡ sized = sym (movable_body new at m.0 lock owner t.0 t.1 t.2) ∙ ap (λ (k : ℕ). slice_range new (at + 8) (at + 8 + k)) (m.1.1 ∙ len) ∙ body in
-    subst (λ (x : List ℕ). Spelled new at (movable x lock owner slot)) same_bytes t
-sized_spelled new at count (fixed bytes owner) live none body has =
+    let t = subst (λ x. Spelled new at x) m.1.0 has.spelled in
+    let same_bytes : m.0 ≡ sized = sym (movable_body new at m.0 lock owner t.0 t.1 t.2) ∙ ap (λ k. slice_range new (at + 8) (at + 8 + k)) (m.1.1 ∙ len) ∙ body in
+    subst (λ x. Spelled new at (movable x lock owner slot)) same_bytes t
+sized_spelled {new} {at} count (fixed bytes owner) live none body has =
     let sized : List ℕ = sized_to bytes count in
-    let len : length sized ≡ count = length-sized_to bytes count in
+    let len = length-sized_to bytes count in
     let m = header_fixed (length sized) owner has.chunk has.header_is in
-    let t : Spelled new at (fixed m.0 owner) = subst (λ (x : Chunk). Spelled new at x) m.1.0 has.spelled in
-    let same_bytes : m.0 ≡ sized = sym (callers_body new at m.0 fixed_lock owner 0 t none.0) ∙ ap (λ (k : ℕ). slice_range new (at + 8) (at + 8 + k)) (m.1.1 ∙ len) ∙ body in
-    subst (λ (x : List ℕ). Spelled new at (fixed x owner)) same_bytes t
+    let t = subst (λ x. Spelled new at x) m.1.0 has.spelled in
+    let same_bytes : m.0 ≡ sized = sym (callers_body new at m.0 _ owner 0 t none.0) ∙ ap (λ k. slice_range new (at + 8) (at + 8 + k)) (m.1.1 ∙ len) ∙ body in
+    subst (λ x. Spelled new at (fixed x owner)) same_bytes t
 
 -- where it stands in the image
-pub found_body : (image : List ℕ) (found : Found) → HeapAccepted image → (f : IsOne image found) → (slice_range image (found.place.0 - 8 + 8) (found.place.0 - 8 + 8 + length (body_of f.chunk)) ≡ body_of f.chunk) × (length (body_of f.chunk) ≡ found.length)
-found_body image found h f = let b = by_chunk f.live f.chunk (finds_spelled image found.name.0 f.live f.chunk (found.place.0 - 8) h f.finds) f.finds.named in (b.0, b.1 refl) where
+pub found_body : {image : List ℕ} {found : Found} → HeapAccepted image → (f : IsOne image found) → (slice_range image (found.place.0 - 8 + 8) (found.place.0 - 8 + 8 + length (body_of f.chunk)) ≡ body_of f.chunk) × (length (body_of f.chunk) ≡ found.length)
+found_body {image} {found} h f = let b = by_chunk f.live f.chunk (finds_spelled image _ f.live f.chunk _ h f.finds) f.finds.named in (b.0, b.1 refl) where
   by_chunk : (live : LiveChunk) (c : Chunk) → Spelled image (found.place.0 - 8) c → NamedHere found.name.0 live (found.place.0 - 8) c
       → (slice_range image (found.place.0 - 8 + 8) (found.place.0 - 8 + 8 + length (body_of c)) ≡ body_of c) × (live ≡ f.live → length (body_of c) ≡ found.length)
   by_chunk live (free size) s named = absurd named
-  by_chunk live (movable bytes lock owner slot) s named = (movable_body image (found.place.0 - 8) bytes lock owner s.0 s.1 s.2, λ e. ap (λ (x : LiveChunk). length x.bytes) (named.1 ∙ e) ∙ sym f.count)
-  by_chunk live (fixed bytes owner) s named = (callers_body image (found.place.0 - 8) bytes fixed_lock owner 0 s (fixed_owned (found.place.0 - 8) bytes owner named), λ e. ap (λ (x : LiveChunk). length x.bytes) (fixed_live_is (found.place.0 - 8) bytes owner named ∙ e) ∙ sym f.count)
-
--- a chunk of a name is no table
-none_held : (name : ℕ) (live : LiveChunk) (at : ℕ) (c : Chunk) → NamedHere name live at c → HoldNoSlots (c ∷ [])
-none_held name live at (free size) n = absurd n
-none_held name live at (movable bytes lock owner slot) n = tt
-none_held name live at (fixed bytes owner) n = (fixed_owned at bytes owner n, tt)
+  by_chunk live (movable bytes lock owner slot) s named = (movable_body image _ bytes lock owner s.0 s.1 s.2, λ e. same_length (named.1 ∙ e) ∙ sym f.count)
+  by_chunk live (fixed bytes owner) s named = (callers_body image _ bytes _ owner 0 s (fixed_owned (found.place.0 - 8) bytes owner named), λ e. same_length (fixed_live_is (found.place.0 - 8) bytes owner named ∙ e) ∙ sym f.count)
 
 -- ---- the chunk with another length
 
-sized_live : (c : Chunk) (count : ℕ) → IsNotFree c → IsNotFree (with_length count c)
-sized_live (free size) count n = n
-sized_live (movable bytes lock owner slot) count n = n
-sized_live (fixed bytes owner) count n = n
+-- it stays what it is
+sized_kind : (slot at count : ℕ) (c : Chunk) → IsNotFree c → IsNotFree (with_length count c) × TiedAlike c (with_length count c) × (ManagersHere slot at c → ManagersHere slot at (with_length count c))
+    × (IsCallersIfFixed at c → IsCallersIfFixed at (with_length count c)) × (lives (with_length count c ∷ []) ≡ with_length count c ∷ [])
+sized_kind slot at count (free size) n = absurd n
+sized_kind slot at count (movable bytes lock owner named) n = (n, refl, λ m. m, λ m. m, refl)
+sized_kind slot at count (fixed bytes owner) n = (n, tt, λ m. m, λ m. m, refl)
 
-sized_alike : (c : Chunk) (count : ℕ) → IsNotFree c → TiedAlike c (with_length count c)
-sized_alike (free size) count n = absurd n
-sized_alike (movable bytes lock owner slot) count n = refl
-sized_alike (fixed bytes owner) count n = tt
-
-sized_managers : (slot at count : ℕ) (c : Chunk) → ManagersHere slot at c → ManagersHere slot at (with_length count c)
-sized_managers slot at count (free size) m = m
-sized_managers slot at count (movable bytes lock owner named) m = m
-sized_managers slot at count (fixed bytes owner) m = m
-
-sized_callers : (at count : ℕ) (c : Chunk) → IsCallersIfFixed at c → IsCallersIfFixed at (with_length count c)
-sized_callers at count (free size) m = m
-sized_callers at count (movable bytes lock owner named) m = m
-sized_callers at count (fixed bytes owner) m = m
-
-one_live : (c : Chunk) → IsNotFree c → lives (c ∷ []) ≡ c ∷ []
-one_live (free size) n = absurd n
-one_live (movable bytes lock owner slot) n = refl
-one_live (fixed bytes owner) n = refl
-
-wrote_header : (old new : List ℕ) (at : ℕ) (c : Chunk) → IsNotFree c → at + size_of c ≤ length old → new ≡ overwritten old at (header_bytes at (header_of c)) → WroteWithin old new at (at + 8)
-wrote_header old new at (free size) n inside is = absurd n
-wrote_header old new at (movable bytes lock owner slot) n inside is = wrote_words old new at (length bytes) lock owner (h_offset_to at slot) inside is
-wrote_header old new at (fixed bytes owner) n inside is = wrote_words old new at (length bytes) fixed_lock owner 0 inside is
+wrote_header : (old : List ℕ) {new : List ℕ} (at : ℕ) (c : Chunk) → IsNotFree c → at + size_of c ≤ length old → new ≡ overwritten old at (header_words at (header_of c)) → WroteWithin old new at (at + 8)
+wrote_header old at (free size) n inside is = absurd n
+wrote_header old {new} at (movable bytes lock owner slot) n inside is = wrote_words old new at (length bytes) lock owner (h_offset_to at slot) inside is
+wrote_header old {new} at (fixed bytes owner) n inside is = wrote_words old new at (length bytes) fixed_lock owner 0 inside is
 
 -- ---- the writes
 
@@ -241,58 +179,56 @@ pub record WasResized (old new : List ℕ) (found : Found) (count behind : ℕ) 
   pub heap : IsHeap new (r.one.finds.before ++ ((with_length count r.one.chunk ∷ gap (size_of r.one.chunk + behind - need count)) ++ r.rest))
   pub replaces : Replaces old new r.one.finds.before (r.one.chunk ∷ r.run) (with_length count r.one.chunk ∷ gap (size_of r.one.chunk + behind - need count)) r.rest (found.place.0 - 8)
 
-pub resized : (old filled mid new : List ℕ) (found : Found) (count behind : ℕ) → HeapAccepted old → (r : RunBehind old found behind) → need count ≤ need found.length + behind → filled ≡ overwritten old (found.place.0 + found.length) (replicate (count - found.length) 0)
-    → WroteRest filled mid (found.place.0 - 8 + need count) (need found.length + behind - need count) → new ≡ overwritten mid (found.place.0 - 8) (header_bytes (found.place.0 - 8) (sized_header found count)) → HasHeader new (found.place.0 - 8) (sized_header found count)
+pub resized : {old filled : List ℕ} (mid : List ℕ) {new : List ℕ} {found : Found} (count : ℕ) {behind : ℕ} → HeapAccepted old → (r : RunBehind old found behind) → need count ≤ need found.length + behind → filled ≡ overwritten old (found.place.0 + found.length) (replicate (count - found.length) 0)
+    → WroteRest filled mid (found.place.0 - 8 + need count) (need found.length + behind - need count) → new ≡ overwritten mid (found.place.0 - 8) (header_words (found.place.0 - 8) (sized_header found count)) → HasHeader new (found.place.0 - 8) (sized_header found count)
     → WasResized old new found count behind r
-resized old filled mid new found count behind h r fits filled_is wrote is has =
+resized {old} {filled} mid {new} {found} count {behind} h r fits filled_is wrote is has =
     let at : ℕ = found.place.0 - 8 in
     let one = r.one in
     let f = one.finds in
     let c : Chunk = one.chunk in
     let d : Chunk = with_length count c in
-    let live : IsNotFree c = named_live_chunk found.name.0 at one.live c f.named in
+    let live = named_live_chunk found.name.0 at one.live c f.named in
     let facts = run_facts old found behind h r in
-    let low = facts.low in let inside = facts.inside in let whole = facts.whole in let most = facts.most in let body = facts.body in
     let own = found_size old found one in
-    let sums = r.sums in
     let taken = size_of-with_length c count live in
     let all : ℕ = need found.length + behind in
     let left : ℕ = size_of c + behind - need count in
     let rest_is : need found.length + behind - need count ≡ left = omega arith in
-    let wrote_left : WroteRest filled mid (at + need count) left = subst (λ (n : ℕ). WroteRest filled mid (at + need count) n) rest_is wrote in
+    let wrote_left = subst (λ n. WroteRest filled mid (at + need count) n) rest_is wrote in
     let zeros : List ℕ = replicate (count - found.length) 0 in
     let many : length zeros ≡ count - found.length = length-replicate (count - found.length) 0 in
-    let w0 : WroteWithin old filled (found.place.0 + found.length) (found.place.0 + found.length + length zeros) = wrote_part old filled (found.place.0 + found.length) zeros filled_is (omega arith) in
-    let w1 : WroteWithin old filled at (at + all) = wrote_wider old filled (found.place.0 + found.length) (found.place.0 + found.length + length zeros) at (at + all) w0 (omega arith) (omega arith) in
-    let len1 = w1.len in
-    let w2 : WroteWithin filled mid (at + need count) (at + all) = rest_within filled mid (at + need count) left (at + need count) (at + all) wrote_left (omega arith) (omega arith) (omega arith) (omega arith) in
+    let w0 = wrote_part old filled (found.place.0 + found.length) zeros filled_is (omega arith) in
+    let w1 = wrote_wider old filled _ (found.place.0 + found.length + length zeros) at (at + all) w0 (omega arith) (omega arith) in
+    let w2 = rest_within filled mid (at + need count) left (at + need count) (at + all) wrote_left (omega arith) (omega arith) (omega arith) (omega arith) in
     let len2 = w2.len in
-    let e = header_sized old found count h one in
-    let now : new ≡ overwritten mid at (header_bytes at (header_of d)) = is ∙ ap (λ x. overwritten mid at (header_bytes at x)) e in
-    let header : HasHeader new at (header_of d) = subst (λ x. HasHeader new at x) e has in
-    let live_now : IsNotFree d = sized_live c count live in
-    let w3 : WroteWithin mid new at (at + 8) = wrote_header mid new at d live_now (omega arith) now in
+    let e = header_sized count h one in
+    let now : new ≡ overwritten mid at (header_words at (header_of d)) = is ∙ ap (λ x. overwritten mid at (header_words at x)) e in
+    let header = subst (λ x. HasHeader new at x) e has in
+    let kind = sized_kind (directory_of old) at count c live in
+    let live_now = kind.0 in
+    let w3 = wrote_header mid at d live_now (omega arith) now in
     let len3 = w3.len in
-    let w : WroteWithin old new at (at + all) = wrote_then old mid new at (at + all) (wrote_then old filled mid at (at + all) w1 (wrote_wider filled mid (at + need count) (at + all) at (at + all) w2 (omega arith) (omega arith))) (wrote_wider mid new at (at + 8) at (at + all) w3 (omega arith) (omega arith)) in
-    let same : SameBetween (at + 8) (at + 8 + count) filled new =
-    SameBetween-then (at + 8) (at + 8 + count) filled mid new (wrote_apart filled mid (at + need count) (at + all) (at + 8) (at + 8 + count) w2 (inl (omega arith))) (wrote_apart mid new at (at + 8) (at + 8) (at + 8 + count) w3 (inr (omega arith, omega arith))) in
+    let w = wrote_then old mid new at _ (wrote_then old filled mid at _ w1 (wrote_wider filled mid (at + need count) _ at (at + all) w2 (omega arith) (omega arith))) (wrote_wider mid new at (at + 8) at (at + all) w3 (omega arith) (omega arith)) in
+    let same =
+    SameBetween-then (at + 8) (at + 8 + count) filled mid new (wrote_apart filled mid (at + need count) _ (at + 8) (at + 8 + count) w2 (inl (omega arith))) (wrote_apart mid new at (at + 8) (at + 8) (at + 8 + count) w3 (inr (omega arith, omega arith))) in
     let place : at + 8 ≡ found.place.0 = omega arith in
-    let was = found_body old found h one in
+    let was = found_body h one in
     let many_bytes = was.1 in
-    let spelled : Spelled new at d =
-    sized_spelled new at count c live (none_held found.name.0 one.live at c f.named)
-    (sized_body old filled new at count (body_of c) was.0 (omega arith) (omega arith) (filled_is ∙ ap (λ (n : ℕ). overwritten old n zeros) (let e : found.place.0 + found.length ≡ at + 8 + length (body_of c) = omega arith in e) ∙ ap (λ (n : ℕ). overwritten old (at + 8 + length (body_of c)) (replicate (count - n) 0)) (sym many_bytes)) same (omega arith) (omega arith)) header in
+    let spelled =
+    sized_spelled count c live (no_slots found.name.0 one.live at c f.named)
+    (sized_body old at count was.0 (omega arith) (omega arith) (filled_is ∙ ap (λ n. overwritten old n zeros) (let e : found.place.0 + found.length ≡ at + 8 + length (body_of c) = omega arith in e) ∙ ap (λ n. overwritten old (at + 8 + length (body_of c)) (replicate (count - n) 0)) (sym many_bytes)) same (omega arith) (omega arith)) header in
     let end : at + all ≡ at + total (c ∷ r.run) = omega arith in
-    let behind_it : SpelledAll new (at + size_of d) (gap left) (at + total (c ∷ r.run)) =
-    subst (λ (n : ℕ). SpelledAll new n (gap left) (at + total (c ∷ r.run))) (ap (λ (n : ℕ). at + n) (sym taken))
-    (gap_spelled filled mid new at (need count) (at + need count) left (at + total (c ∷ r.run)) refl (omega arith) (omega arith) (omega arith) len3 w3 wrote_left) in
-    let done = rewritten old new found.name.0 at one.live c r.run d (gap left) r.rest h f r.parts r.all_free (gap_free left) (subst (λ (n : ℕ). WroteWithin old new at n) end w) (spelled, behind_it) (sized_alike c count live) (sized_managers (directory_of old) at count c)
-    (sized_callers at count c (finds_callers old found.name.0 one.live c at h f)) in record {
+    let behind_it =
+    subst (λ n. SpelledAll new n (gap left) (at + total (c ∷ r.run))) (ap (λ n. at + n) (sym taken))
+    (gap_spelled filled (need count) (at + need count) left (at + total (c ∷ r.run)) refl (omega arith) (omega arith) (omega arith) len3 w3 wrote_left) in
+    let done = rewritten old new _ at one.live c r.run d (gap left) r.rest h f r.parts r.all_free (gap_free left) (subst (λ n. WroteWithin old new at n) end w) (spelled, behind_it) kind.1 kind.2
+    (kind.3 (finds_callers old _ one.live c at h f)) in record {
       becomes = becomes_heap old new (f.before ++ ((d ∷ gap left) ++ r.rest)) done.replaces.head done.heap;
-      plain = replaced_plain old new f.before (c ∷ r.run) (d ∷ gap left) r.rest at (f.chunks ∙ ap (λ (cs : List Chunk). f.before ++ c ∷ cs) r.parts) done.heap done.replaces (λ there p. elim p [
-        | inl here ↦ lives_plain new at (d ∷ []) (one_live d live_now) there (inl here)
-        | inr later ↦ gap_plain filled mid new at (need count) (at + need count) left refl (omega arith) (omega arith) (omega arith) (omega arith) w3 wrote_left len2 there
-            (subst (λ (n : ℕ). AnyPlaced (IsFreeAt there) n (gap left)) (ap (λ (n : ℕ). at + n) taken) later)
+      plain = replaced_plain old new f.before (c ∷ r.run) (d ∷ gap left) r.rest at (f.chunks ∙ ap (λ cs. f.before ++ c ∷ cs) r.parts) done.heap done.replaces (λ there p. elim p [
+        | inl here ↦ lives_plain new at (d ∷ []) kind.4 there (inl here)
+        | inr later ↦ gap_plain filled (need count) (at + need count) left refl (omega arith) (omega arith) (omega arith) (omega arith) w3 wrote_left len2 there
+            (subst (λ n. AnyPlaced (IsFreeAt there) n (gap left)) (ap (λ n. at + n) taken) later)
       ]);
       heap = done.heap;
       replaces = done.replaces;
@@ -300,13 +236,13 @@ resized old filled mid new found count behind h r fits filled_is wrote is has =
 
 -- by what the writes were given
 pub resized_by : (old filled mid new : List ℕ) (found : Found) (count behind size own gained : ℕ) (header : Header) → HeapAccepted old → (r : RunBehind old found behind) → need count ≤ need found.length + behind → size ≡ need count → own ≡ need found.length → gained ≡ count - found.length
-    → header ≡ sized_header found count → filled ≡ overwritten old (found.place.0 + found.length) (replicate gained 0) → WroteRest filled mid (found.place.0 - 8 + size) (own + behind - size) → new ≡ overwritten mid (found.place.0 - 8) (header_bytes (found.place.0 - 8) header) → HasHeader new (found.place.0 - 8) header
+    → header ≡ sized_header found count → filled ≡ overwritten old (found.place.0 + found.length) (replicate gained 0) → WroteRest filled mid (found.place.0 - 8 + size) (own + behind - size) → new ≡ overwritten mid (found.place.0 - 8) (header_words (found.place.0 - 8) header) → HasHeader new (found.place.0 - 8) header
     → WasResized old new found count behind r
 resized_by old filled mid new found count behind size own gained header h r fits a b g e filled_is wrote is has =
     let at : ℕ = found.place.0 - 8 in
-    resized old filled mid new found count behind h r fits (filled_is ∙ ap (λ (n : ℕ). overwritten old (found.place.0 + found.length) (replicate n 0)) g)
-    (subst (λ (n : ℕ). WroteRest filled mid (at + need count) (n + behind - need count)) b (subst (λ (n : ℕ). WroteRest filled mid (at + n) (own + behind - n)) a wrote))
-    (is ∙ ap (λ (x : Header). overwritten mid at (header_bytes at x)) e) (subst (λ (x : Header). HasHeader new at x) e has)
+    resized mid count h r fits (filled_is ∙ ap (λ n. overwritten old (found.place.0 + found.length) (replicate n 0)) g)
+    (subst (λ n. WroteRest filled mid (at + need count) (n + behind - need count)) b (subst (λ n. WroteRest filled mid (at + n) (own + behind - n)) a wrote))
+    (is ∙ ap (λ x. overwritten mid at (header_words at x)) e) (subst (λ x. HasHeader new at x) e has)
 
 -- ---- shrinking
 
@@ -319,7 +255,7 @@ shrinks old new found count h one x =
     let at : ℕ = found.place.0 - 8 in
     let f = one.finds in
     let c : Chunk = one.chunk in
-    let live : IsNotFree c = named_live_chunk found.name.0 at one.live c f.named in
+    let live = named_live_chunk found.name.0 at one.live c f.named in
     let taken = size_of-with_length c count live in
     let left : size_of c + 0 - need count ≡ size_of c - size_of (with_length count c) = omega arith in
-    (exchanges_parts old new at (shrunk count) f.before c f.after h live f.chunks f.there).1 (subst (λ (n : ℕ). Becomes old new (f.before ++ ((with_length count c ∷ gap n) ++ f.after))) left (x (none_behind old found one)))
+    (exchanges_parts old new at (shrunk count) f.before c f.after h live f.chunks f.there).1 (subst (λ n. Becomes old new (f.before ++ ((with_length count c ∷ gap n) ++ f.after))) left (x (none_behind old found one)))

@@ -1,63 +1,43 @@
 -- The search for room, step by step.
-use Rattle.std.proofs.Common.{◌≡◌, ℕ, ◌+◌, ◌-◌, ◌<◌, ◌≤◌, List, [], ◌∷◌, ◌++◌, length, refl, sym, ap, subst, ◌∙◌, append_assoc, append-nil, arith}
-use Rattle.heap_model.specs.Chunk.{Chunk, free, movable, fixed, size_of, total, Spelled, SpelledAll}
-use Rattle.heap_model.specs.Slots.{area_start}
-use Rattle.heap_model.specs.Heap.{HeapAccepted}
-use Rattle.heap_model.specs.Reading.{chunks_of}
-use Rattle.heap_model.specs.Space.{AllFree, NoRun}
-use Rattle.heap_model.specs.Layout.{merged, IsRoom}
-use Rattle.laws_heap.proofs.Chunks.{total-append, Spelled-size, SpelledAll-end, SpelledAll-push}
-use Rattle.laws_heap.proofs.Runs.{chunk_there, chunks_after, chunks_of-area}
-use Rattle.laws_heap.proofs.FreeChunks.{free_sum}
-use Rattle.laws_heap.proofs.Layouts.{IsNotFree, merged-live}
-use Rattle.chunk_format.specs.declared.header.Header.{Header}
+use Rattle.heap_place.proofs.Words.{◌≡◌, ℕ, ◌+◌, ◌-◌, ◌<◌, ◌≤◌, List, [], ◌∷◌, ◌++◌, length, refl, sym, ap, subst, ◌∙◌, append_assoc, append-nil, arith, Chunk, free, movable, fixed, size_of, total, Spelled, SpelledAll, area_start, HeapAccepted, chunks_of, AllFree, NoRun, merged, IsRoom, total-append, Spelled-size, SpelledAll-end, SpelledAll-push, chunk_there, chunks_after, chunks_of-area, free_sum, IsNotFree, merged-live, Header, header_of, size_by, HasHeader, size_by-header_of, StaysBelow, run_behind, KeepsApart, Searched, run_by, HasChunk}
 use Rattle.chunk_format.specs.declared.header.Header.TheVariants as headers
-use Rattle.chunk_format.specs.Header.{header_of, size_by, HasHeader}
-use Rattle.chunk_format.proofs.HeaderLaws.{size_by-header_of}
-use Rattle.heap_place.specs.Search.{StaysBelow, run_behind, KeepsApart, Searched, run_by}
 
 -- ---- runs that stay below a size
 
 below_prefix : (size begun : ℕ) (c : Chunk) (run after : List Chunk) → AllFree (c ∷ run) → StaysBelow size begun ((c ∷ run) ++ after) → begun + total (c ∷ run) < size
-below_prefix size begun (free n) [] after f b = let h = b.0 in omega arith
+below_prefix size begun (free n) [] after f b = omega arith
 below_prefix size begun (free n) (d ∷ run) after f b = let ih = below_prefix size (begun + n) d run after f b.1 in omega arith
-below_prefix size begun (movable bytes lock owner slot) run after f b = absurd f
-below_prefix size begun (fixed bytes owner) run after f b = absurd f
+below_prefix size begun c run after f b = absurd f
 
 below_any : (size begun : ℕ) (before : List Chunk) (c : Chunk) (run after : List Chunk) → AllFree (c ∷ run) → StaysBelow size begun (before ++ ((c ∷ run) ++ after)) → total (c ∷ run) < size
 below_any size begun [] c run after f b = let h = below_prefix size begun c run after f b in omega arith
 below_any size begun (free n ∷ before) c run after f b = below_any size (begun + n) before c run after f b.1
-below_any size begun (movable bytes lock owner slot ∷ before) c run after f b = below_any size 0 before c run after f b
-below_any size begun (fixed bytes owner ∷ before) c run after f b = below_any size 0 before c run after f b
+below_any size begun (d ∷ before) c run after f b = below_any size 0 before c run after f b
 
 below_no_run : (size : ℕ) (cs : List Chunk) → 0 < size → StaysBelow size 0 cs → NoRun cs size
 below_no_run size cs some b before [] after e f = some
 below_no_run size cs some b before (c ∷ run) after e f =
     let sums = free_sum (c ∷ run) f in
-    let low = below_any size 0 before c run after f (subst (λ (xs : List Chunk). StaysBelow size 0 xs) e b) in
+    let low = below_any size 0 before c run after f (subst (λ xs. StaysBelow size 0 xs) e b) in
     omega arith
 
 below_push : (size begun : ℕ) (cs : List Chunk) (c : Chunk) → StaysBelow size begun cs → StaysBelow size (run_behind begun cs) (c ∷ []) → StaysBelow size begun (cs ++ c ∷ [])
 below_push size begun [] c b last = last
 below_push size begun (free n ∷ cs) c b last = (b.0, below_push size (begun + n) cs c b.1 last)
-below_push size begun (movable bytes lock owner slot ∷ cs) c b last = below_push size 0 cs c b last
-below_push size begun (fixed bytes owner ∷ cs) c b last = below_push size 0 cs c b last
+below_push size begun (d ∷ cs) c b last = below_push size 0 cs c b last
 
 behind_push : (begun : ℕ) (cs : List Chunk) (c : Chunk) → run_behind begun (cs ++ c ∷ []) ≡ run_behind (run_behind begun cs) (c ∷ [])
 behind_push begun [] c = refl
 behind_push begun (free n ∷ cs) c = behind_push (begun + n) cs c
-behind_push begun (movable bytes lock owner slot ∷ cs) c = behind_push 0 cs c
-behind_push begun (fixed bytes owner ∷ cs) c = behind_push 0 cs c
+behind_push begun (d ∷ cs) c = behind_push 0 cs c
 
 behind_one : (begun : ℕ) (c : Chunk) → run_behind begun (c ∷ []) ≡ run_by begun (header_of c)
 behind_one begun (free n) = refl
-behind_one begun (movable bytes lock owner slot) = refl
-behind_one begun (fixed bytes owner) = refl
+behind_one begun c = refl
 
 below_one : (size begun : ℕ) (c : Chunk) → run_by begun (header_of c) < size → StaysBelow size begun (c ∷ [])
 below_one size begun (free n) lt = (lt, tt)
-below_one size begun (movable bytes lock owner slot) lt = tt
-below_one size begun (fixed bytes owner) lt = tt
+below_one size begun c lt = tt
 
 -- ---- the walk
 
@@ -73,52 +53,43 @@ pub record EndsInRun (image : List ℕ) (at run_size : ℕ) (cs : List Chunk) : 
 -- after a live chunk
 pub live_keeps : (cs : List Chunk) (c : Chunk) → IsNotFree c → KeepsApart (cs ++ c ∷ [])
 live_keeps cs c live others =
-    ap merged (append_assoc cs (c ∷ []) others) ∙ merged-live cs c others live ∙ sym (append_assoc (merged cs) (c ∷ []) (merged others)) ∙ ap (λ (xs : List Chunk). xs ++ merged others) (sym (merged-live cs c [] live))
+    ap merged (append_assoc cs (c ∷ []) others) ∙ merged-live cs c others live ∙ sym (append_assoc (merged cs) (c ∷ []) (merged others)) ∙ ap (λ xs. xs ++ merged others) (sym (merged-live cs c [] live))
 
 pub free_push : (run : List Chunk) (n : ℕ) → AllFree run → AllFree (run ++ free n ∷ [])
 free_push [] n f = tt
 free_push (free m ∷ run) n f = free_push run n f
-free_push (movable bytes lock owner slot ∷ run) n f = absurd f
-free_push (fixed bytes owner ∷ run) n f = absurd f
+free_push (c ∷ run) n f = absurd f
 
 run_push : (image : List ℕ) (at run_size : ℕ) (cs : List Chunk) (c : Chunk) (next : ℕ) → EndsInRun image at run_size cs → EndsInRun image next (run_by run_size (header_of c)) (cs ++ c ∷ [])
 run_push image at run_size cs (free n) next e = record {
   front = e.front;
   run = e.run ++ free n ∷ [];
-  parts = ap (λ (xs : List Chunk). xs ++ free n ∷ []) e.parts ∙ append_assoc e.front e.run (free n ∷ []);
+  parts = ap (λ xs. xs ++ free n ∷ []) e.parts ∙ append_assoc e.front e.run (free n ∷ []);
   all_free = free_push e.run n e.all_free;
-  sums = let t = total-append e.run (free n ∷ []) in let s = e.sums in omega arith;
+  sums = let t = total-append e.run (free n ∷ []) in omega arith;
   apart = e.apart;
 }
-run_push image at run_size cs (movable bytes lock owner slot) next e = record { front = cs ++ movable bytes lock owner slot ∷ []; run = []; parts = sym append-nil-of; all_free = tt; sums = refl; apart = live_keeps cs (movable bytes lock owner slot) tt } where
-  append-nil-of : (cs ++ movable bytes lock owner slot ∷ []) ++ [] ≡ cs ++ movable bytes lock owner slot ∷ []
-  append-nil-of = append-nil _
-run_push image at run_size cs (fixed bytes owner) next e = record { front = cs ++ fixed bytes owner ∷ []; run = []; parts = sym append-nil-of; all_free = tt; sums = refl; apart = live_keeps cs (fixed bytes owner) tt } where
-  append-nil-of : (cs ++ fixed bytes owner ∷ []) ++ [] ≡ cs ++ fixed bytes owner ∷ []
-  append-nil-of = append-nil _
+run_push image at run_size cs c next e = record { front = cs ++ c ∷ []; run = []; parts = sym (append-nil _); all_free = tt; sums = refl; apart = live_keeps cs c tt }
 
 pub search_start : (image : List ℕ) (size : ℕ) → 0 < size → area_start image ≤ length image → Searched image size (area_start image) 0
 search_start image size some inside = record { front = []; run = []; spelled = refl; all_free = tt; sums = refl; below = tt; ends = refl; inside = inside; small = some; apart = λ others. refl }
 
 -- a chunk stands where the search has come to
-pub search_there : (image : List ℕ) (size at run_size : ℕ) → HeapAccepted image → Searched image size at run_size → at < length image → (c : Chunk) × Spelled image at c
-search_there image size at run_size h s inside = chunk_there image h.0 (s.front ++ s.run) at h.1.tiles s.spelled inside
+pub search_there : {image : List ℕ} {size at run_size : ℕ} → HeapAccepted image → Searched image size at run_size → at < length image → HasChunk image at
+search_there {image} {at} h s inside = let c = chunk_there image h.0 (s.front ++ s.run) at h.1.tiles s.spelled inside in record { chunk = c.0; spelled = c.1 }
 
-pub search_fits : (image : List ℕ) (size at run_size : ℕ) → Searched image size at run_size → run_size ≤ at
-search_fits image size at run_size s =
+pub search_fits : {image : List ℕ} {size at run_size : ℕ} → Searched image size at run_size → run_size ≤ at
+search_fits {image} {at} s =
     let e = SpelledAll-end image (area_start image) (s.front ++ s.run) at s.spelled in
     let t = total-append s.front s.run in
-    let sums = s.sums in
     omega arith
 
-pub search_size : (image : List ℕ) (size at run_size : ℕ) (h : Header) → Searched image size at run_size → HasHeader image at h → (8 ≤ size_by h) × (at + size_by h ≤ length image) × (run_by run_size h ≤ at + size_by h)
-search_size image size at run_size h s found =
+pub search_size : {image : List ℕ} {size at run_size : ℕ} {h : Header} → Searched image size at run_size → HasHeader image at h → (8 ≤ size_by h) × (at + size_by h ≤ length image) × (run_by run_size h ≤ at + size_by h)
+search_size {image} {at} {run_size} {h} s found =
     let c = found.chunk in
     let e : size_by h ≡ size_of c = ap size_by found.header_is ∙ size_by-header_of c in
     let z = Spelled-size image at c found.spelled in
-    let fits = search_fits image size at run_size s in
-    let z0 = z.0 in
-    let z1 = z.1 in
+    let fits = search_fits s in
     (omega arith, omega arith, within h fits) where
       within : (g : Header) → run_size ≤ at → run_by run_size g ≤ at + size_by g
       within (headers.Free n) fits = omega arith
@@ -126,65 +97,63 @@ search_size image size at run_size h s found =
       within (headers.Fixed count owner) fits = omega arith
 
 -- the walk goes on after a chunk
-pushed : (image : List ℕ) (size at run_size : ℕ) (h : Header) → (s : Searched image size at run_size) → (found : HasHeader image at h) → SpelledAll image (area_start image) ((s.front ++ s.run) ++ found.chunk ∷ []) (at + size_by h)
-pushed image size at run_size h s found =
-    SpelledAll-push image (area_start image) (s.front ++ s.run) at found.chunk (at + size_by h) s.spelled found.spelled (ap (λ (n : ℕ). at + n) (ap size_by found.header_is ∙ size_by-header_of found.chunk))
+pushed : {image : List ℕ} {size at run_size : ℕ} {h : Header} → (s : Searched image size at run_size) → (found : HasHeader image at h) → SpelledAll image (area_start image) ((s.front ++ s.run) ++ found.chunk ∷ []) (at + size_by h)
+pushed {image} {at} {h} s found =
+    SpelledAll-push image (area_start image) (s.front ++ s.run) at found.chunk (at + size_by h) s.spelled found.spelled (ap (λ n. at + n) (ap size_by found.header_is ∙ size_by-header_of found.chunk))
 
-pushed_run : (image : List ℕ) (size at run_size : ℕ) (h : Header) → (s : Searched image size at run_size) → (found : HasHeader image at h) → EndsInRun image (at + size_by h) (run_by run_size h) ((s.front ++ s.run) ++ found.chunk ∷ [])
-pushed_run image size at run_size h s found =
-    subst (λ (g : Header). EndsInRun image (at + size_by h) (run_by run_size g) ((s.front ++ s.run) ++ found.chunk ∷ [])) (sym found.header_is)
+pushed_run : {image : List ℕ} {size at run_size : ℕ} {h : Header} → (s : Searched image size at run_size) → (found : HasHeader image at h) → EndsInRun image (at + size_by h) (run_by run_size h) ((s.front ++ s.run) ++ found.chunk ∷ [])
+pushed_run {image} {at} {run_size} {h} s found =
+    subst (λ g. EndsInRun image (at + size_by h) (run_by run_size g) ((s.front ++ s.run) ++ found.chunk ∷ [])) (sym found.header_is)
     (run_push image at run_size (s.front ++ s.run) found.chunk (at + size_by h) record { front = s.front; run = s.run; parts = refl; all_free = s.all_free; sums = s.sums; apart = s.apart })
 
-pub search_more : (image : List ℕ) (size at run_size : ℕ) (h : Header) → Searched image size at run_size → HasHeader image at h → run_by run_size h < size → Searched image size (at + size_by h) (run_by run_size h)
-search_more image size at run_size h s found small =
+pub search_more : {image : List ℕ} {size at run_size : ℕ} {h : Header} → Searched image size at run_size → HasHeader image at h → run_by run_size h < size → Searched image size (at + size_by h) (run_by run_size h)
+search_more {image} {size} {at} {run_size} {h} s found small =
     let c : Chunk = found.chunk in
     let cs : List Chunk = s.front ++ s.run in
-    let r = pushed_run image size at run_size h s found in
-    let z = search_size image size at run_size h s found in
-    let low : run_by run_size (header_of c) < size = subst (λ (g : Header). run_by run_size g < size) found.header_is small in
-    let last : StaysBelow size (run_behind 0 cs) (c ∷ []) = subst (λ (n : ℕ). StaysBelow size n (c ∷ [])) (sym s.ends) (below_one size run_size c low) in
-    let ends : run_behind 0 (cs ++ c ∷ []) ≡ run_by run_size h = behind_push 0 cs c ∙ ap (λ (n : ℕ). run_behind n (c ∷ [])) s.ends ∙ behind_one run_size c ∙ sym (ap (run_by run_size) found.header_is) in
+    let r = pushed_run s found in
+    let z = search_size s found in
+    let low = subst (λ g. run_by run_size g < size) found.header_is small in
+    let last = subst (λ n. StaysBelow size n (c ∷ [])) (sym s.ends) (below_one size run_size c low) in
+    let ends : run_behind 0 (cs ++ c ∷ []) ≡ run_by run_size h = behind_push 0 cs c ∙ ap (λ n. run_behind n (c ∷ [])) s.ends ∙ behind_one run_size c ∙ sym (ap (run_by run_size) found.header_is) in
     record {
       front = r.front;
       run = r.run;
-      spelled = subst (λ (xs : List Chunk). SpelledAll image (area_start image) xs (at + size_by h)) r.parts (pushed image size at run_size h s found);
+      spelled = subst (λ xs. SpelledAll image (area_start image) xs (at + size_by h)) r.parts (pushed s found);
       all_free = r.all_free;
       sums = r.sums;
-      below = subst (λ (xs : List Chunk). StaysBelow size 0 xs) r.parts (below_push size 0 cs c s.below last);
+      below = subst (λ xs. StaysBelow size 0 xs) r.parts (below_push size 0 cs c s.below last);
       ends = ap (run_behind 0) (sym r.parts) ∙ ends;
       inside = z.1;
       small = small;
       apart = r.apart;
     }
 
-pub search_found : (image : List ℕ) (size at run_size : ℕ) (h : Header) → HeapAccepted image → Searched image size at run_size → HasHeader image at h → IsRoom image (at + size_by h - run_by run_size h) (run_by run_size h)
-search_found image size at run_size h accepted s found =
+pub search_found : {image : List ℕ} {size at run_size : ℕ} {h : Header} → HeapAccepted image → Searched image size at run_size → HasHeader image at h → IsRoom image (at + size_by h - run_by run_size h) (run_by run_size h)
+search_found {image} {at} {h} accepted s found =
     let c : Chunk = found.chunk in
     let cs : List Chunk = s.front ++ s.run in
-    let r = pushed_run image size at run_size h s found in
-    let z = search_size image size at run_size h s found in
-    let spelled = pushed image size at run_size h s found in
-    let after = chunks_after image accepted.0 (cs ++ c ∷ []) (at + size_by h) accepted.1.tiles spelled z.1 in
-    let end : at + size_by h ≡ area_start image + total (cs ++ c ∷ []) = SpelledAll-end image (area_start image) (cs ++ c ∷ []) (at + size_by h) spelled in
+    let r = pushed_run s found in
+    let z = search_size s found in
+    let spelled = pushed s found in
+    let after = chunks_after image _ (cs ++ c ∷ []) (at + size_by h) accepted.1.tiles spelled z.1 in
+    let end = SpelledAll-end image (area_start image) (cs ++ c ∷ []) (at + size_by h) spelled in
     let split : total (cs ++ c ∷ []) ≡ total r.front + total r.run = ap total r.parts ∙ total-append r.front r.run in
-    let sums = r.sums in
     record {
       before = r.front;
       run = r.run;
       after = after.0;
-      chunks = after.1 ∙ ap (λ (xs : List Chunk). xs ++ after.0) r.parts ∙ append_assoc r.front r.run after.0;
+      chunks = after.1 ∙ ap (λ xs. xs ++ after.0) r.parts ∙ append_assoc r.front r.run after.0;
       all_free = r.all_free;
       there = omega arith;
       sums = r.sums;
-      front = ap merged (after.1 ∙ ap (λ (xs : List Chunk). xs ++ after.0) r.parts ∙ append_assoc r.front r.run after.0) ∙ r.apart (r.run ++ after.0);
+      front = ap merged (after.1 ∙ ap (λ xs. xs ++ after.0) r.parts ∙ append_assoc r.front r.run after.0) ∙ r.apart (r.run ++ after.0);
     }
 
 -- at the end none was found
-pub search_none : (image : List ℕ) (size at run_size : ℕ) → HeapAccepted image → 0 < size → Searched image size at run_size → length image ≤ at → NoRun (chunks_of image) size
-search_none image size at run_size accepted some s beyond =
-    let inside = s.inside in
+pub search_none : {image : List ℕ} {size at run_size : ℕ} → HeapAccepted image → 0 < size → Searched image size at run_size → length image ≤ at → NoRun (chunks_of image) size
+search_none {image} {size} {at} accepted some s beyond =
     let end : at ≡ length image = omega arith in
     let cs : List Chunk = s.front ++ s.run in
-    let all : SpelledAll image (area_start image) cs (length image) = subst (λ (n : ℕ). SpelledAll image (area_start image) cs n) end s.spelled in
-    let is : chunks_of image ≡ cs = chunks_of-area image cs all in
-    below_no_run size (chunks_of image) some (subst (λ (xs : List Chunk). StaysBelow size 0 xs) (sym is) s.below)
+    let all = subst (λ n. SpelledAll image (area_start image) cs n) end s.spelled in
+    let is = chunks_of-area image cs all in
+    below_no_run size (chunks_of image) some (subst (λ xs. StaysBelow size 0 xs) (sym is) s.below)

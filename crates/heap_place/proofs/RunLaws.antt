@@ -1,25 +1,5 @@
 -- The free chunks directly after a live one are found, and it grows over them.
-use Rattle.std.proofs.Common.{◌≡◌, ℕ, ◌+◌, ◌-◌, ◌<◌, ◌≤◌, true, false, List, [], ◌∷◌, ◌++◌, length, Some, refl, sym, ap, subst, ◌∙◌, append_assoc, arith}
-use Rattle.heap_model.specs.Chunk.{Chunk, need, free, movable, fixed, size_of, HasChunk, SpelledAll}
-use Rattle.heap_model.specs.Slots.{area_start}
-use Rattle.heap_model.specs.Heap.{HeapAccepted}
-use Rattle.heap_model.specs.Reading.{chunks_of, chunk_at}
-use Rattle.heap_model.specs.Space.{free_front}
-use Rattle.heap_model.specs.Layout.{Becomes, gap}
-use Rattle.heap_model.specs.Resizing.{with_length, behind_front, GrowsInPlace}
-use Rattle.laws_heap.proofs.Chunks.{total-append, Spelled-size, SpelledAll-split}
-use Rattle.laws_heap.proofs.Shapes.{chunk_at-spelled, chunk_at-none}
-use Rattle.laws_heap.proofs.ExchangedNames.{named_live_chunk}
-use Rattle.laws_heap.proofs.Resizings.{front_parts, grows_parts}
-use Rattle.chunk_format.specs.Header.{header_of, HasHeader}
-use Rattle.chunk_format.specs.declared.header.Header.{Header}
-use Rattle.heap_model.specs.Memory.{Memory, Misses}
-use Rattle.heap_model.specs.Lending.{LendsBodies}
-use Rattle.laws_heap.proofs.LentBodies.{walked_misses}
-use Rattle.heap_place.specs.declared.found.Found.{Found}
-use Rattle.heap_place.specs.Found.{IsOne}
-use Rattle.heap_place.specs.Search.{size_if_free, free_size_at, free_by, ChunksFrom}
-use Rattle.heap_place.specs.Resizes.{RunBehind, Resizes, Ends, IsBound, BeginsWithFree, TellsWhetherInPlace, RunsUpTo}
+use Rattle.heap_place.proofs.Words.{◌≡◌, ℕ, ◌+◌, ◌-◌, ◌<◌, ◌≤◌, true, false, List, [], ◌∷◌, ◌++◌, length, Some, refl, sym, ap, subst, ◌∙◌, append_assoc, arith, Chunk, need, free, movable, fixed, size_of, HasChunk, SpelledAll, area_start, HeapAccepted, chunks_of, chunk_at, free_front, Becomes, gap, with_length, behind_front, GrowsInPlace, total-append, Spelled-size, SpelledAll-split, chunk_at-spelled, chunk_at-none, named_live_chunk, front_parts, grows_parts, header_of, HasHeader, Header, Memory, Misses, LendsBodies, walked_misses, Found, IsOne, size_if_free, free_size_at, free_by, ChunksFrom, RunBehind, Resizes, Ends, IsBound, BeginsWithFree, TellsWhetherInPlace, RunsUpTo, HoldsHeap}
 use Rattle.heap_place.proofs.FoundLaws.{heap_in_parts, found_size}
 use Rattle.heap_place.proofs.ResizeLaws.{run_facts}
 
@@ -34,100 +14,92 @@ record Reads (image : List ℕ) (at : ℕ) (cs : List Chunk) (size : ℕ) : Type
   inside : at + size ≤ length image
 
 reads : (image : List ℕ) (at : ℕ) (cs : List Chunk) → SpelledAll image at cs (length image) → Reads image at cs (free_size_at image at)
-reads image at [] s = subst (λ (n : ℕ). Reads image at [] n) (sym none) record { rest = []; spelled = λ p. absurd (omega arith); sums = λ p. absurd (omega arith); none = λ e. refl; inside = omega arith } where
+reads image at [] s = subst (λ n. Reads image at [] n) (sym none) record { rest = []; spelled = λ p. absurd (omega arith); sums = λ p. absurd (omega arith); none = λ e. refl; inside = omega arith } where
   none : free_size_at image at ≡ 0
-  none = ap size_if_free (chunk_at-none image at (λ c spelled. let size = Spelled-size image at c spelled in let least = size.0 in let inside = size.1 in omega arith))
-reads image at (free size ∷ cs) s = subst (λ (n : ℕ). Reads image at (free size ∷ cs) n) (sym (ap size_if_free (chunk_at-spelled image at (free size) s.0)))
+  none = ap size_if_free (chunk_at-none image at (λ c spelled. let size = Spelled-size image at c spelled in omega arith))
+reads image at (free size ∷ cs) s = subst (λ n. Reads image at (free size ∷ cs) n) (sym (ap size_if_free (chunk_at-spelled image at (free size) s.0)))
     record { rest = cs; spelled = λ p. s.1; sums = λ p. refl; none = λ e. let least = (Spelled-size image at (free size) s.0).0 in absurd (omega arith); inside = (Spelled-size image at (free size) s.0).1 }
-reads image at (movable bytes lock owner slot ∷ cs) s = subst (λ (n : ℕ). Reads image at (movable bytes lock owner slot ∷ cs) n) (sym (ap size_if_free (chunk_at-spelled image at (movable bytes lock owner slot) s.0)))
-    record { rest = []; spelled = λ p. absurd (omega arith); sums = λ p. absurd (omega arith); none = λ e. refl; inside = let i = (Spelled-size image at (movable bytes lock owner slot) s.0).1 in omega arith }
-reads image at (fixed bytes owner ∷ cs) s = subst (λ (n : ℕ). Reads image at (fixed bytes owner ∷ cs) n) (sym (ap size_if_free (chunk_at-spelled image at (fixed bytes owner) s.0)))
-    record { rest = []; spelled = λ p. absurd (omega arith); sums = λ p. absurd (omega arith); none = λ e. refl; inside = let i = (Spelled-size image at (fixed bytes owner) s.0).1 in omega arith }
+reads image at (c ∷ cs) s = subst (λ n. Reads image at (c ∷ cs) n) (sym (ap size_if_free (chunk_at-spelled image at c s.0)))
+    record { rest = []; spelled = λ p. absurd (omega arith); sums = λ p. absurd (omega arith); none = λ e. refl; inside = let i = (Spelled-size image at c s.0).1 in omega arith }
 
 -- chunks stand from there on
-pub from_bound : (image : List ℕ) (at : ℕ) → HeapAccepted image → IsBound image at → ChunksFrom image at
-from_bound image at h b = record {
+pub from_bound : {image : List ℕ} {at : ℕ} → HeapAccepted image → IsBound image at → ChunksFrom image at
+from_bound {image} h b = record {
   rest = b.after;
-  spelled = subst (λ (n : ℕ). SpelledAll image n b.after (length image)) (sym b.ends.there) (SpelledAll-split image (area_start image) b.before b.after (length image) (heap_in_parts image (b.before ++ b.after) h b.ends.chunks).tiles.area).1;
+  spelled = subst (λ n. SpelledAll image n b.after (length image)) (sym b.ends.there) (SpelledAll-split image (area_start image) b.before b.after (length image) (heap_in_parts image (b.before ++ b.after) h b.ends.chunks).tiles.area).1;
 }
 
-pub from_running : (image : List ℕ) (at end size : ℕ) → IsBound image at → RunsUpTo image at end size → 0 < size → ChunksFrom image (end + size)
-from_running image at end size b r some =
+pub from_running : {image : List ℕ} {at end size : ℕ} → IsBound image at → RunsUpTo image at end size → 0 < size → ChunksFrom image (end + size)
+from_running {image} {end} b r some =
     let k = r.runs b.before b.after b.ends in
     let n = reads image end k.rest k.spelled in
     let is = r.there in
-    let here : 0 < free_size_at image end = omega (arith, is, some) in
-    record { rest = n.rest; spelled = subst (λ (m : ℕ). SpelledAll image (end + m) n.rest (length image)) (sym is) (n.spelled here) }
+    let here : 0 < free_size_at image end = omega arith in
+    record { rest = n.rest; spelled = subst (λ m. SpelledAll image (end + m) n.rest (length image)) (sym is) (n.spelled here) }
 
-pub a_chunk_there : (image : List ℕ) (at : ℕ) → ChunksFrom image at → at < length image → HasChunk image at
-a_chunk_there image at f inside = by_rest f.rest f.spelled where
+pub a_chunk_there : {image : List ℕ} {at : ℕ} → ChunksFrom image at → at < length image → HasChunk image at
+a_chunk_there {image} {at} f inside = by_rest f.rest f.spelled where
   by_rest : (cs : List Chunk) → SpelledAll image at cs (length image) → HasChunk image at
-  by_rest [] s = absurd (omega (arith, s, inside))
+  by_rest [] s = absurd (omega arith)
   by_rest (c ∷ cs) s = record { chunk = c; spelled = s.0 }
 
 -- what is read there
 free_of : (c : Chunk) → size_if_free (Some c) ≡ free_by (header_of c)
 free_of (free size) = refl
-free_of (movable bytes lock owner slot) = refl
-free_of (fixed bytes owner) = refl
+free_of c = refl
 
-pub free_read : (image : List ℕ) (at : ℕ) (header : Header) → HasHeader image at header → free_by header ≡ free_size_at image at
-free_read image at header f = ap free_by f.header_is ∙ sym (free_of f.chunk) ∙ sym (ap size_if_free (chunk_at-spelled image at f.chunk f.spelled))
+pub free_read : {image : List ℕ} {at : ℕ} {header : Header} → HasHeader image at header → free_by header ≡ free_size_at image at
+free_read {image} {at} f = ap free_by f.header_is ∙ sym (free_of f.chunk) ∙ sym (ap size_if_free (chunk_at-spelled image at f.chunk f.spelled))
 
 pub none_at_the_end : (image : List ℕ) (at : ℕ) → length image ≤ at → 0 ≡ free_size_at image at
-none_at_the_end image at past = sym (ap size_if_free (chunk_at-none image at (λ c spelled. let size = Spelled-size image at c spelled in let least = size.0 in let inside = size.1 in omega arith)))
+none_at_the_end image at past = sym (ap size_if_free (chunk_at-none image at (λ c spelled. let size = Spelled-size image at c spelled in omega arith)))
 
-pub run_start : (image : List ℕ) (at size : ℕ) → HeapAccepted image → size ≡ free_size_at image at → RunsUpTo image at at size
-run_start image at size h e = record {
-  runs = λ before after x. record { rest = after; spelled = subst (λ (n : ℕ). SpelledAll image n after (length image)) (sym x.there) (SpelledAll-split image (area_start image) before after (length image) (heap_in_parts image (before ++ after) h x.chunks).tiles.area).1; sums = refl };
+pub run_start : {image : List ℕ} (at : ℕ) {size : ℕ} → HeapAccepted image → size ≡ free_size_at image at → RunsUpTo image at at size
+run_start {image} at h e = record {
+  runs = λ before after x. record { rest = after; spelled = subst (λ n. SpelledAll image n after (length image)) (sym x.there) (SpelledAll-split image (area_start image) before after (length image) (heap_in_parts image (before ++ after) h x.chunks).tiles.area).1; sums = refl };
   there = e;
   behind = omega arith;
 }
 
 -- the free chunk that stands there lies within the image
-pub run_inside : (image : List ℕ) (at end size : ℕ) → IsBound image at → RunsUpTo image at end size → (end + size ≤ length image) × (at ≤ end)
-run_inside image at end size b r =
+pub run_inside : {image : List ℕ} {at end size : ℕ} → IsBound image at → RunsUpTo image at end size → (end + size ≤ length image) × (at ≤ end)
+run_inside {image} {end} b r =
     let x = r.runs b.before b.after b.ends in
-    let is = r.there in
     let inside = (reads image end x.rest x.spelled).inside in
     (omega arith, r.behind)
 
-pub run_more : (image : List ℕ) (at end size more : ℕ) → RunsUpTo image at end size → 0 < size → more ≡ free_size_at image (end + size) → RunsUpTo image at (end + size) more
-run_more image at end size more r some e = record {
+pub run_more : {image : List ℕ} {at end size more : ℕ} → RunsUpTo image at end size → 0 < size → more ≡ free_size_at image (end + size) → RunsUpTo image at (end + size) more
+run_more {image} {end} r some e = record {
   runs = λ before after x.
       let k = r.runs before after x in
       let n = reads image end k.rest k.spelled in
       let is = r.there in
       let here : 0 < free_size_at image end = omega arith in
       let sum = n.sums here in
-      let all = k.sums in
-      record { rest = n.rest; spelled = subst (λ (m : ℕ). SpelledAll image (end + m) n.rest (length image)) (sym is) (n.spelled here); sums = omega arith };
+      record { rest = n.rest; spelled = subst (λ m. SpelledAll image (end + m) n.rest (length image)) (sym is) (n.spelled here); sums = omega arith };
   there = e;
-  behind = let low = r.behind in omega arith;
+  behind = omega arith;
 }
 
-pub run_done : (image : List ℕ) (at end size : ℕ) → RunsUpTo image at end size → size ≡ 0 → BeginsWithFree image at (end - at)
-run_done image at end size r none before after x =
+pub run_done : {image : List ℕ} {at end size : ℕ} → RunsUpTo image at end size → size ≡ 0 → BeginsWithFree image at (end - at)
+run_done {image} {end} r none before after x =
     let k = r.runs before after x in
-    let is = r.there in
     let empty = (reads image end k.rest k.spelled).none (omega arith) in
-    let all = k.sums in
     omega arith
 
 -- ---- after a chunk that was found
 
-pub ends_behind : (image : List ℕ) (found : Found) (own : ℕ) → own ≡ need found.length → (f : IsOne image found) → Ends image (found.place.0 - 8 + own) (f.finds.before ++ f.chunk ∷ []) f.finds.after
-ends_behind image found own e f =
+pub ends_behind : {image : List ℕ} {found : Found} {own : ℕ} → own ≡ need found.length → (f : IsOne image found) → Ends image (found.place.0 - 8 + own) (f.finds.before ++ f.chunk ∷ []) f.finds.after
+ends_behind {image} {found} e f =
     let sum = total-append f.finds.before (f.chunk ∷ []) in
     let size = found_size image found f in
-    let there = f.finds.there in
     record { chunks = f.finds.chunks ∙ sym (append_assoc f.finds.before (f.chunk ∷ []) f.finds.after); there = omega arith }
 
 pub bound_behind : (image : List ℕ) (found : Found) (own : ℕ) → own ≡ need found.length → IsOne image found → IsBound image (found.place.0 - 8 + own)
-bound_behind image found own e f = record { before = f.finds.before ++ f.chunk ∷ []; after = f.finds.after; ends = ends_behind image found own e f }
+bound_behind image found own e f = record { before = f.finds.before ++ f.chunk ∷ []; after = f.finds.after; ends = ends_behind e f }
 
 pub free_behind_found : (image : List ℕ) (found : Found) (own behind : ℕ) → own ≡ need found.length → (f : IsOne image found) → BeginsWithFree image (found.place.0 - 8 + own) behind → behind ≡ free_front f.finds.after
-free_behind_found image found own behind e f b = b (f.finds.before ++ f.chunk ∷ []) f.finds.after (ends_behind image found own e f)
+free_behind_found image found own behind e f b = b (f.finds.before ++ f.chunk ∷ []) f.finds.after (ends_behind e f)
 
 -- all of the free chunks with which those after it begin
 pub all_behind : (image : List ℕ) (found : Found) (behind : ℕ) → (f : IsOne image found) → behind ≡ free_front f.finds.after → RunBehind image found behind
@@ -138,15 +110,14 @@ unfolding all_behind
 grows old new found count behind h one e x =
     let f = one.finds in
     let c : Chunk = one.chunk in
-    grows_parts old new (found.place.0 - 8) count f.before c f.after h (named_live_chunk found.name.0 (found.place.0 - 8) one.live c f.named) f.chunks f.there
-    (subst (λ (n : ℕ). Becomes old new (f.before ++ ((with_length count c ∷ gap (size_of c + n - need count)) ++ behind_front f.after))) e (x (all_behind old found behind one e)))
+    grows_parts old new _ count f.before c f.after h (named_live_chunk found.name.0 (found.place.0 - 8) one.live c f.named) f.chunks f.there
+    (subst (λ n. Becomes old new (f.before ++ ((with_length count c ∷ gap (size_of c + n - need count)) ++ behind_front f.after))) e (x (all_behind old found behind one e)))
 
 -- ---- whether they suffice
 
 pub in_place_facts : (image : List ℕ) (found : Found) (own behind : ℕ) → HeapAccepted image → IsOne image found → own ≡ need found.length → BeginsWithFree image (found.place.0 - 8 + own) behind → (found.place.0 - 8 + (own + behind) ≤ length image) × (length image ≤ 16777208)
 in_place_facts image found own behind h f e b =
     let facts = run_facts image found behind h (all_behind image found behind f (free_behind_found image found own behind e f b)) in
-    let inside = facts.inside in
     (omega arith, facts.most)
 
 pub in_place_yes : (image : List ℕ) (found : Found) (count own behind : ℕ) → own ≡ need found.length → BeginsWithFree image (found.place.0 - 8 + own) behind → need count ≤ own + behind → TellsWhetherInPlace image found (need count) true
@@ -162,24 +133,23 @@ in_place_no image found count own behind e b short f =
     (λ yes. absurd cc, λ enough. absurd (omega arith))
 
 -- the header there
-pub bound_misses : (m : Memory) (at : ℕ) → HeapAccepted m.bytes → LendsBodies m → IsBound m.bytes at → at < length m.bytes → Misses m.lents at 8
-bound_misses m at h l b inside =
-    walked_misses m b.before at h l (subst (λ (n : ℕ). SpelledAll m.bytes (area_start m.bytes) b.before n) (sym b.ends.there) (SpelledAll-split m.bytes (area_start m.bytes) b.before b.after (length m.bytes) (heap_in_parts m.bytes (b.before ++ b.after) h b.ends.chunks).tiles.area).0) inside
+pub bound_misses : {m : Memory} {at : ℕ} → HoldsHeap m → IsBound m.bytes at → at < length m.bytes → Misses m.lents at 8
+bound_misses {m} {at} h b inside =
+    walked_misses m b.before at h.accepted h.lent (subst (λ n. SpelledAll m.bytes (area_start m.bytes) b.before n) (sym b.ends.there) (SpelledAll-split m.bytes (area_start m.bytes) b.before b.after (length m.bytes) (heap_in_parts m.bytes (b.before ++ b.after) h.accepted b.ends.chunks).tiles.area).0) inside
 
 -- and after a free chunk that stands there
-pub bound_on : (image : List ℕ) (at size : ℕ) → HeapAccepted image → IsBound image at → size ≡ free_size_at image at → 0 < size → IsBound image (at + size)
-bound_on image at size h b is some = by_rest b.after b.ends.chunks (subst (λ (n : ℕ). SpelledAll image n b.after (length image)) (sym b.ends.there) (SpelledAll-split image (area_start image) b.before b.after (length image) (heap_in_parts image (b.before ++ b.after) h b.ends.chunks).tiles.area).1) where
+pub bound_on : {image : List ℕ} {at size : ℕ} → HeapAccepted image → IsBound image at → size ≡ free_size_at image at → 0 < size → IsBound image (at + size)
+bound_on {image} {at} {size} h b is some = by_rest b.after b.ends.chunks (subst (λ n. SpelledAll image n b.after (length image)) (sym b.ends.there) (SpelledAll-split image (area_start image) b.before b.after (length image) (heap_in_parts image (b.before ++ b.after) h b.ends.chunks).tiles.area).1) where
   on : (c : Chunk) (cs : List Chunk) → chunks_of image ≡ b.before ++ c ∷ cs → chunk_at image at ≡ Some c → IsBound image (at + size)
   on (free n) cs e r =
       let same : size ≡ n = is ∙ ap size_if_free r in
-      let there = b.ends.there in
       let t = total-append b.before (free n ∷ []) in
-      record { before = b.before ++ free n ∷ []; after = cs; ends = record { chunks = e ∙ sym (append_assoc b.before (free n ∷ []) cs); there = omega (arith, same, there, t) } }
-  on (movable bytes lock owner slot) cs e r = let none : size ≡ 0 = is ∙ ap size_if_free r in absurd (omega (arith, none, some))
-  on (fixed bytes owner) cs e r = let none : size ≡ 0 = is ∙ ap size_if_free r in absurd (omega (arith, none, some))
+      record { before = b.before ++ free n ∷ []; after = cs; ends = record { chunks = e ∙ sym (append_assoc b.before (free n ∷ []) cs); there = omega arith } }
+  on (movable bytes lock owner slot) cs e r = let none : size ≡ 0 = is ∙ ap size_if_free r in absurd (omega arith)
+  on (fixed bytes owner) cs e r = let none : size ≡ 0 = is ∙ ap size_if_free r in absurd (omega arith)
 
   by_rest : (cs : List Chunk) → chunks_of image ≡ b.before ++ cs → SpelledAll image at cs (length image) → IsBound image (at + size)
   by_rest [] e s =
-      let none : size ≡ 0 = is ∙ ap size_if_free (chunk_at-none image at (λ c t. let inside = (Spelled-size image at c t).1 in let least = (Spelled-size image at c t).0 in omega (arith, inside, least, s))) in
-      absurd (omega (arith, none, some))
+      let none : size ≡ 0 = is ∙ ap size_if_free (chunk_at-none image at (λ c t. let inside = (Spelled-size image at c t).1 in let least = (Spelled-size image at c t).0 in omega arith)) in
+      absurd (omega arith)
   by_rest (c ∷ cs) e s = on c cs e (chunk_at-spelled image at c s.0)

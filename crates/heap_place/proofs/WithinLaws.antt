@@ -1,33 +1,10 @@
 -- What is written in a live chunk after its first word, and in front of the chunks, keeps the free
 -- chunks.
-use Rattle.std.proofs.Common.{◌≡◌, ℕ, ◌+◌, ◌-◌, ◌≤◌, List, [], ◌∷◌, ◌++◌, length, replicate, refl, sym, ap, subst, ◌∙◌, arith, inl, inr, length-append, length-take, length-drop}
-use Rattle.std.specs.Prelude.{slice_range}
-use Rattle.std.proofs.lemmas.List.{length-replicate}
-use Rattle.heap_model.specs.Memory.{Memory}
-use Rattle.heap_model.specs.Bytes.{u32_at, u32_bytes, overwritten}
-use Rattle.heap_model.specs.Chunk.{Chunk, free, movable, fixed, need, size_of, total, Spelled, SpelledAll}
-use Rattle.heap_model.specs.Slots.{area_start}
-use Rattle.heap_model.specs.Heap.{HeapAccepted, IsHeap, Tiles}
+use Rattle.heap_place.proofs.Words.{◌≡◌, ℕ, ◌+◌, ◌-◌, ◌≤◌, List, [], ◌∷◌, ◌++◌, length, replicate, refl, sym, ap, subst, ◌∙◌, arith, inl, inr, length-append, length-take, length-drop, slice_range, length-replicate, Memory, u32_at, u32_bytes, overwritten, Chunk, free, movable, fixed, need, size_of, total, Spelled, SpelledAll, area_start, HeapAccepted, LiveChunk, NamedHere, chunks_of, size_field, AnyPlaced, IsFreeAt, overwritten-behind, Spelled-size, SpelledAll-split, SpelledAll-same, SpelledAll-end, chunk_there, chunks_of-tiled, read_heap, SpelledAll-takes, free_inside, same_start, replaced_tiles, WroteWithin, wrote_none, wrote_part, wrote_word, wrote_wider, wrote_apart, wrote_word_apart, WroteArea, area_replaces, wrote_head, Found, IsOne, Any, KeepsFree, HasLists, HoldNoSlots, named_hold_none}
 use Rattle.heap_model.specs.Frame.{directory_at}
-use Rattle.heap_model.specs.Meaning.{LiveChunk, NamedHere}
-use Rattle.heap_model.specs.Reading.{chunks_of, size_field}
-use Rattle.heap_model.specs.Placed.{AnyPlaced}
-use Rattle.heap_model.specs.Layout.{IsFreeAt}
 use Rattle.heap_model.specs.Leaving.{NamesDirectory}
 use Rattle.laws_heap.proofs.Directory.{named_start}
-use Rattle.laws_heap.proofs.Frames.{overwritten-behind}
-use Rattle.laws_heap.proofs.Chunks.{Spelled-size, SpelledAll-split, SpelledAll-same, SpelledAll-end}
-use Rattle.laws_heap.proofs.Runs.{chunk_there, chunks_of-tiled}
-use Rattle.laws_heap.proofs.FoundChunks.{read_heap}
-use Rattle.laws_heap.proofs.Placed.{SpelledAll-takes}
-use Rattle.laws_heap.proofs.Plain.{free_inside}
-use Rattle.laws_heap.proofs.Replacements.{SameHead, same_start, Replaces, replaced_tiles}
-use Rattle.laws_heap.proofs.Writes.{WroteWithin, wrote_none, wrote_part, wrote_word, wrote_wider, wrote_apart, wrote_word_apart, WroteArea, area_replaces, wrote_head}
-use Rattle.heap_place.specs.declared.found.Found.{Found}
-use Rattle.heap_place.specs.Found.{IsOne}
-use Rattle.heap_place.specs.Lists.{Any, KeepsFree, HasLists}
-use Rattle.heap_place.proofs.FoundLaws.{heap_in_parts, middle_of, found_size, bytes_inside}
-use Rattle.laws_heap.proofs.Slots.{HoldNoSlots, named_hold_none}
+use Rattle.heap_place.proofs.FoundLaws.{heap_in_parts, middle_of, found_size, bytes_inside, no_slots}
 use Rattle.heap_place.proofs.AlterLaws.{written_there}
 use Rattle.heap_place.proofs.ListLaws.{lists_kept}
 use Rattle.heap_place.proofs.KeepLaws.{NotAmong, keeps_replaced, live_apart}
@@ -35,68 +12,58 @@ use Rattle.heap_place.proofs.KeepLaws.{NotAmong, keeps_replaced, live_apart}
 -- the size of a chunk is that of its first word
 pub first_size : (image : List ℕ) (at : ℕ) (c : Chunk) → Spelled image at c → size_of c ≡ size_field (u32_at image at)
 first_size image at (free size) s = sym s.size_field
-first_size image at (movable bytes lock owner slot) s = let word = s.1.first_word in let fits = s.1.size_fits in omega arith
-first_size image at (fixed bytes owner) s = let word = s.first_word in let fits = s.size_fits in omega arith
+first_size image at c s = omega arith
 
-pub keeps_within : (old new : List ℕ) (before : List Chunk) (c : Chunk) (after : List Chunk) (at : ℕ) → HeapAccepted old → HeapAccepted new → chunks_of old ≡ before ++ c ∷ after → at ≡ area_start old + total before → HoldNoSlots (c ∷ []) → WroteWithin old new (at + 4) (at + size_of c)
+pub keeps_within : {old new : List ℕ} (before : List Chunk) (c : Chunk) (after : List Chunk) {at : ℕ} → HeapAccepted old → HeapAccepted new → chunks_of old ≡ before ++ c ∷ after → at ≡ area_start old + total before → HoldNoSlots (c ∷ []) → WroteWithin old new (at + 4) (at + size_of c)
     → KeepsFree (NotAmong at (c ∷ [])) old new
-keeps_within old new before c after at h g was is none w =
-    let heap : IsHeap old (before ++ ((c ∷ []) ++ after)) = heap_in_parts old (before ++ c ∷ after) h was in
+keeps_within {old} {new} before c after {at} h g was is none w =
+    let heap = heap_in_parts old (before ++ c ∷ after) h was in
     let m = middle_of old before (c ∷ []) after at heap is in
-    let inside = m.inside in
     let size = Spelled-size old at c m.spelled.0 in
-    let least = size.0 in
     let len = w.len in
-    let wide : WroteWithin old new at (at + (size_of c + 0)) = wrote_wider old new (at + 4) (at + size_of c) at (at + (size_of c + 0)) w (omega arith) (omega arith) in
-    let same : SameHead old new = wrote_head old new before (c ∷ []) after at heap.tiles none is wide in
-    let start : area_start new ≡ area_start old = same_start old new same in
-    let front : SpelledAll old (area_start old) before at = subst (λ (n : ℕ). SpelledAll old (area_start old) before n) (sym is) (SpelledAll-split old (area_start old) before (c ∷ after) (length old) heap.tiles.area).0 in
-    let front_now : SpelledAll new (area_start old) before at = SpelledAll-same old new (area_start old) before at (wrote_apart old new (at + 4) (at + size_of c) (area_start old) at w (inl (omega arith))) len front in
-    let there = chunk_there new (chunks_of new) before at (read_heap new g).tiles (subst (λ (n : ℕ). SpelledAll new n before at) (sym start) front_now) (omega arith) in
-    let word : u32_at new at ≡ u32_at old at = wrote_word_apart old new (at + 4) (at + size_of c) at w (inl (omega arith)) in
+    let wide = wrote_wider old new (at + 4) (at + size_of c) at (at + (size_of c + 0)) w (omega arith) (omega arith) in
+    let same = wrote_head old new before (c ∷ []) after at heap.tiles none is wide in
+    let start = same_start old new same in
+    let front = subst (λ n. SpelledAll old (area_start old) before n) (sym is) (SpelledAll-split old (area_start old) before (c ∷ after) (length old) heap.tiles.area).0 in
+    let front_now = SpelledAll-same old new (area_start old) before at (wrote_apart old new (at + 4) (at + size_of c) (area_start old) at w (inl (omega arith))) len front in
+    let there = chunk_there new (chunks_of new) before at (read_heap new g).tiles (subst (λ n. SpelledAll new n before at) (sym start) front_now) (omega arith) in
+    let word = wrote_word_apart old new (at + 4) (at + size_of c) at w (inl (omega arith)) in
     let sizes : size_of there.0 ≡ size_of c = first_size new at there.0 there.1 ∙ ap size_field word ∙ sym (first_size old at c m.spelled.0) in
     let area : WroteArea old new at (at + (size_of c + 0)) = record { mid = new; slot = at; area = wide; word = wrote_none new at (at + 4); is_slot = inl refl; there = omega arith; fits = omega arith } in
-    let r : Replaces old new before (c ∷ []) (there.0 ∷ []) after at = area_replaces old new before (c ∷ []) (there.0 ∷ []) after at heap.tiles none is m.inside area (there.1, omega arith) in
-    let tiles : Tiles new (before ++ ((there.0 ∷ []) ++ after)) = replaced_tiles old new before (c ∷ []) (there.0 ∷ []) after at heap.tiles r in
+    let r = area_replaces old new before (c ∷ []) (there.0 ∷ []) after at heap.tiles none is m.inside area (there.1, omega arith) in
+    let tiles = replaced_tiles old new before (c ∷ []) (there.0 ∷ []) after at heap.tiles r in
     keeps_replaced old new before (c ∷ []) (there.0 ∷ []) after at h was (heap_in_parts new (before ++ ((there.0 ∷ []) ++ after)) g (chunks_of-tiled new (before ++ ((there.0 ∷ []) ++ after)) tiles)) r
 
 -- ---- of a chunk that was found
 
-pub named_apart : (name at : ℕ) (live : LiveChunk) (c : Chunk) (size : ℕ) → NamedHere name live at c → c ≡ free size → ⊥
-named_apart name at live c size n e = subst (λ (d : Chunk). NamedHere name live at d) e n
+pub named_apart : (name at : ℕ) (live : LiveChunk) {c : Chunk} {size : ℕ} → NamedHere name live at c → c ≡ free size → ⊥
+named_apart name at live n e = subst (λ d. NamedHere name live at d) e n
 
-found_hold_none : (image : List ℕ) (found : Found) → HeapAccepted image → (f : IsOne image found) → HoldNoSlots (f.chunk ∷ [])
-found_hold_none image found h f =
-    let heap : IsHeap image (f.finds.before ++ ((f.chunk ∷ []) ++ f.finds.after)) = heap_in_parts image (f.finds.before ++ f.chunk ∷ f.finds.after) h f.finds.chunks in
-    named_hold_none image f.finds.before f.chunk [] f.finds.after found.name.0 f.live heap (subst (λ (n : ℕ). NamedHere found.name.0 f.live n f.chunk) f.finds.there f.finds.named) tt
-
-pub keeps_found : (old new : List ℕ) (found : Found) → HeapAccepted old → HeapAccepted new → (f : IsOne old found) → WroteWithin old new (found.place.0 - 8 + 4) (found.place.0 - 8 + need found.length) → KeepsFree Any old new
-keeps_found old new found h g f w there any b =
+pub keeps_found : {old new : List ℕ} {found : Found} → HeapAccepted old → HeapAccepted new → (f : IsOne old found) → WroteWithin old new (found.place.0 - 8 + 4) (found.place.0 - 8 + need found.length) → KeepsFree Any old new
+keeps_found {old} {new} {found} h g f w there any b =
     let at : ℕ = found.place.0 - 8 in
-    keeps_within old new f.finds.before f.chunk f.finds.after at h g f.finds.chunks f.finds.there (found_hold_none old found h f) (subst (λ (n : ℕ). WroteWithin old new (at + 4) (at + n)) (found_size old found f) w) there
-    (live_apart at there f.chunk (λ size e. named_apart found.name.0 at f.live f.chunk size f.finds.named e)) b
+    keeps_within f.finds.before f.chunk _ h g f.finds.chunks f.finds.there (no_slots found.name.0 f.live at f.chunk f.finds.named) (subst (λ n. WroteWithin old new (at + 4) (at + n)) (found_size old found f) w) there
+    (live_apart at there f.chunk (λ size e. named_apart found.name.0 at f.live f.finds.named e)) b
 
 -- its second word
-pub keeps_second : (old new : List ℕ) (found : Found) (word : ℕ) → HeapAccepted old → HeapAccepted new → IsOne old found → new ≡ overwritten old (found.place.0 - 8 + 4) (u32_bytes word) → KeepsFree Any old new
-keeps_second old new found word h g f is =
+pub keeps_second : {old new : List ℕ} {found : Found} (word : ℕ) → HeapAccepted old → HeapAccepted new → IsOne old found → new ≡ overwritten old (found.place.0 - 8 + 4) (u32_bytes word) → KeepsFree Any old new
+keeps_second {old} {new} {found} word h g f is =
     let at : ℕ = found.place.0 - 8 in
-    let low = f.behind_header in
     let inside = bytes_inside old found h f in
-    keeps_found old new found h g f (wrote_wider old new (at + 4) (at + 4 + 4) (at + 4) (at + need found.length) (wrote_word old new (at + 4) word is (omega arith)) (omega arith) (omega arith))
+    keeps_found h g f (wrote_wider old new (at + 4) (at + 4 + 4) (at + 4) (at + need found.length) (wrote_word old new (at + 4) word is (omega arith)) (omega arith) (omega arith))
 
 -- a part of its body
 pub keeps_body : (old new : List ℕ) (found : Found) (at : ℕ) (part : List ℕ) → HeapAccepted old → IsOne old found → at + length part ≤ found.length → new ≡ overwritten old (found.place.0 + at) part → KeepsFree Any old new
 keeps_body old new found at part h f within is =
-    let low = f.behind_header in
     let inside = bytes_inside old found h f in
     let there : ℕ = found.place.0 - 8 in
-    keeps_found old new found h (written_there old new found at part h f within is).0.frame.accepted f
-    (wrote_wider old new (found.place.0 + at) (found.place.0 + at + length part) (there + 4) (there + need found.length) (wrote_part old new (found.place.0 + at) part is (omega arith)) (omega arith) (omega arith))
+    keeps_found h (written_there old new found at part h f within is).0.frame.accepted f
+    (wrote_wider old new _ (found.place.0 + at + length part) (there + 4) (there + need found.length) (wrote_part old new (found.place.0 + at) part is (omega arith)) (omega arith) (omega arith))
 
 -- so the lists stay, where the region's value was the space's
 pub body_lists : (old region : Memory) (new heads : List ℕ) (found : Found) (at : ℕ) (part : List ℕ) → region ≡ old → HeapAccepted old.bytes → IsOne old.bytes found → at + length part ≤ found.length → new ≡ overwritten region.bytes (found.place.0 + at) part → HasLists region.bytes heads → HasLists new heads
 body_lists old region new heads found at part same h f within is lists =
-    lists_kept Any old.bytes new heads (keeps_body old.bytes new found at part h f within (is ∙ ap (λ (m : Memory). overwritten m.bytes (found.place.0 + at) part) same)) (subst (λ (m : Memory). HasLists m.bytes heads) same lists)
+    lists_kept Any _ new heads (keeps_body _ new found at part h f within (is ∙ ap (λ (m : Memory). overwritten m.bytes (found.place.0 + at) part) same)) (subst (λ (m : Memory). HasLists m.bytes heads) same lists)
 
 pub filled_lists : (old region : Memory) (new heads : List ℕ) (found : Found) (at count byte : ℕ) → region ≡ old → HeapAccepted old.bytes → IsOne old.bytes found → at + count ≤ found.length → new ≡ overwritten region.bytes (found.place.0 + at) (replicate count byte) → HasLists region.bytes heads → HasLists new heads
 filled_lists old region new heads found at count byte same h f within is lists =
@@ -106,7 +73,7 @@ filled_lists old region new heads found at count byte same h f within is lists =
 pub slid_lists : (old region : Memory) (new heads : List ℕ) (found : Found) (from to count : ℕ) → region ≡ old → HeapAccepted old.bytes → IsOne old.bytes found → from + count ≤ found.length → to + count ≤ found.length
     → new ≡ overwritten region.bytes (found.place.0 + to) (slice_range region.bytes (found.place.0 + from) (found.place.0 + from + count)) → HasLists region.bytes heads → HasLists new heads
 slid_lists old region new heads found from to count same h f in_from in_to is lists =
-    let inside = bytes_inside old.bytes found h f in
+    let inside = bytes_inside _ found h f in
     let len : length region.bytes ≡ length old.bytes = ap (λ (m : Memory). length m.bytes) same in
     let many : length (slice_range region.bytes (found.place.0 + from) (found.place.0 + from + count)) ≡ count = simp (length-take, length-drop) (omega arith) in
     body_lists old region new heads found to (slice_range region.bytes (found.place.0 + from) (found.place.0 + from + count)) same h f (omega arith) is lists
@@ -114,25 +81,23 @@ slid_lists old region new heads found from to count same h f in_from in_to is li
 pub ended_lists : (old region : Memory) (mid new heads : List ℕ) (found : Found) (at : ℕ) (part : List ℕ) → region ≡ old → HeapAccepted old.bytes → IsOne old.bytes found → at + length part + 1 ≤ found.length → mid ≡ overwritten region.bytes (found.place.0 + at) part
     → new ≡ overwritten mid (found.place.0 + at + length part) (0 ∷ []) → HasLists region.bytes heads → HasLists new heads
 ended_lists old region mid new heads found at part same h f within mid_is new_is lists =
-    let inside = bytes_inside old.bytes found h f in
+    let inside = bytes_inside _ found h f in
     let len : length region.bytes ≡ length old.bytes = ap (λ (m : Memory). length m.bytes) same in
     let more : length (part ++ 0 ∷ []) ≡ length part + 1 = length-append part (0 ∷ []) in
     body_lists old region new heads found at (part ++ 0 ∷ []) same h f (omega arith)
-    (new_is ∙ ap (λ (x : List ℕ). overwritten x (found.place.0 + at + length part) (0 ∷ [])) mid_is ∙ overwritten-behind region.bytes (found.place.0 + at) part (0 ∷ []) (found.place.0 + at + length part) refl (omega arith)) lists
+    (new_is ∙ ap (λ x. overwritten x (found.place.0 + at + length part) (0 ∷ [])) mid_is ∙ overwritten-behind region.bytes (found.place.0 + at) part (0 ∷ []) (found.place.0 + at + length part) refl (omega arith)) lists
 
 -- ---- the directory word
 
-pub keeps_directory : (old new : List ℕ) (word : ℕ) → HeapAccepted old → new ≡ overwritten old directory_at (u32_bytes word) → NamesDirectory old new word → KeepsFree Any old new
-keeps_directory old new word h is names there any b =
+pub keeps_directory : {old new : List ℕ} {word : ℕ} → HeapAccepted old → new ≡ overwritten old directory_at (u32_bytes word) → NamesDirectory old new word → KeepsFree Any old new
+keeps_directory {old} {new} {word} h is names there any b =
     let heap = read_heap old h in
-    let fits = heap.tiles.head.a_chunk_fits in
-    let w : WroteWithin old new 12 (12 + 4) = wrote_word old new 12 word is (omega arith) in
+    let w = wrote_word old new 12 word is (omega arith) in
     let f = free_inside there (area_start old) (chunks_of old) (SpelledAll-takes old (area_start old) (chunks_of old) (length old) heap.tiles.area) b in
-    let low = f.0 in let high = f.1 in
     let all = SpelledAll-end old (area_start old) (chunks_of old) (length old) heap.tiles.area in
     let start = named_start old new word names in
     record {
-      begins = subst (λ (n : ℕ). AnyPlaced (IsFreeAt there) n (chunks_of new)) (sym start) (subst (λ (cs : List Chunk). AnyPlaced (IsFreeAt there) (area_start old) cs) (sym names.chunks) b);
+      begins = subst (λ n. AnyPlaced (IsFreeAt there) n (chunks_of new)) (sym start) (subst (λ cs. AnyPlaced (IsFreeAt there) (area_start old) cs) (sym names.chunks) b);
       first = wrote_word_apart old new 12 (12 + 4) there w (inr (omega arith, omega arith));
       second = wrote_word_apart old new 12 (12 + 4) (there + 4) w (inr (omega arith, omega arith));
     }

@@ -16,14 +16,14 @@ use Rattle.chunk_format.specs.declared.header.Header.TheVariants as headers
 use Rattle.heap_place.specs.declared.found.Found.{Found}
 
 -- the offset of the header of a found chunk
-abbrev pub header_at : Found → ℕ
-header_at found = found.place.0 - 8
+abbrev pub header_offset : Found → ℕ
+header_offset found = found.place.0 - 8
 
 -- `found` describes the chunk of a name, whoever owns it
 pub record IsFound (image : List ℕ) (name : ℕ) (found : Found) : Type 0 where
   pub live : LiveChunk
   pub chunk : Chunk
-  pub finds : Finds image name live chunk (header_at found)
+  pub finds : Finds image name live chunk (header_offset found)
   pub behind_header : 8 ≤ found.place.0
   pub name_is : found.name.0 ≡ name
   pub count : found.length ≡ length live.bytes
@@ -57,21 +57,21 @@ pub record CanGoTo (image : List ℕ) (found : Found) (owner : ℕ) : Type 0 whe
 -- `count` bytes of the body of a found chunk, from offset `from` on, are copied to offset `to`
 -- within it; the copy has the bytes from before
 abbrev pub SlidesWithin : List ℕ → List ℕ → Found → ℕ → ℕ → ℕ → Type 0
-SlidesWithin old new found from to count = Alters old new (header_at found) (with_bytes to (slice_range old (found.place.0 + from) (found.place.0 + from + count)))
+SlidesWithin old new found from to count = Alters old new (header_offset found) (with_bytes to (slice_range old (found.place.0 + from) (found.place.0 + from + count)))
 
 -- the movable chunk whose body is at a place, by its header; None if the header is not a movable
 -- one's
-abbrev pub movable_by : Header → Place → Option Found
-movable_by (headers.Free size) place = None
-movable_by (headers.Movable length lock owner slot) place = Some (record { name = record { 0 = slot }; place = place; length = length; lock = lock; owner = owner })
-movable_by (headers.Fixed length owner) place = None
+abbrev pub found_if_movable : Header → Place → Option Found
+found_if_movable (headers.Free size) place = None
+found_if_movable (headers.Movable length lock owner slot) place = Some (record { name = record { 0 = slot }; place = place; length = length; lock = lock; owner = owner })
+found_if_movable (headers.Fixed length owner) place = None
 
 -- the fixed chunk of this name whose body is at a place, by its header; None for every other
 -- header, and for a chunk of the manager's
-abbrev pub fixed_by : Header → Place → Name → Option Found
-fixed_by (headers.Free size) place name = None
-fixed_by (headers.Movable length lock owner slot) place name = None
-fixed_by (headers.Fixed length owner) place name = if (place.0 == name.0) && nat_lt managers_owner owner then Some (record { name = name; place = place; length = length; lock = fixed_lock; owner = owner }) else None
+abbrev pub found_if_fixed : Header → Place → Name → Option Found
+found_if_fixed (headers.Free size) place name = None
+found_if_fixed (headers.Movable length lock owner slot) place name = None
+found_if_fixed (headers.Fixed length owner) place name = if (place.0 == name.0) && nat_lt managers_owner owner then Some (record { name = name; place = place; length = length; lock = fixed_lock; owner = owner }) else None
 
 -- none of the chunks is a fixed one of this name
 abbrev pub NoneFixedAs : List ℕ → ℕ → List Chunk → Type 0

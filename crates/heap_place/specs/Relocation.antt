@@ -5,7 +5,7 @@ use Rattle.heap_model.specs.Chunk.{Chunk, free, movable, fixed, fixed_lock, need
 use Rattle.heap_model.specs.Layout.{Alters, with_bytes, IsSpot}
 use Rattle.heap_model.specs.Resizing.{with_length, Relocates}
 use Rattle.heap_place.specs.declared.found.Found.{Found}
-use Rattle.heap_place.specs.Found.{IsOne, header_at}
+use Rattle.heap_place.specs.Found.{IsOne, header_offset}
 
 -- the stand-in of `count` bytes that begins at `at`, as a found chunk
 abbrev pub stand_in : ℕ → ℕ → Found
@@ -17,7 +17,7 @@ KeepsFound old new = (found : Found) → IsOne old found → IsOne new found
 
 -- the chunk `to` has got the first bytes of the chunk `from`, as many as it has room for
 abbrev pub Copies : List ℕ → List ℕ → Found → Found → Type 0
-Copies old new from to = (f : IsOne old from) → Alters old new (header_at to) (with_bytes 0 (take to.length f.live.bytes))
+Copies old new from to = (f : IsOne old from) → Alters old new (header_offset to) (with_bytes 0 (take to.length f.live.bytes))
 
 -- a fixed chunk as a movable one without locks, with this owner, which names `slot`; any other
 -- chunk as it is
@@ -28,7 +28,7 @@ with_name owner slot (fixed bytes holder) = movable bytes 0 owner slot
 
 -- the chunk that was found is now at the start of the room, with `count` bytes
 abbrev pub RelocatesFound : List ℕ → List ℕ → Found → ℕ → ℕ → ℕ → Type 0
-RelocatesFound old new found there room count = (f : IsOne old found) → Relocates old new (header_at found) there room (with_length count f.chunk)
+RelocatesFound old new found there room count = (f : IsOne old found) → Relocates old new (header_offset found) there room (with_length count f.chunk)
 
 -- the chunk that was found is now at the start of neighbouring free chunks that had the room
 pub record RelocatesToRun (old new : List ℕ) (found : Found) (count : ℕ) : Type 0 where

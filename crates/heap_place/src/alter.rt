@@ -5,7 +5,7 @@ ghost use Rattle.std.specs.Prelude.{◌≡◌, ◌<◌, ◌-◌, ◌⊎◌};
 ghost use Rattle.heap_model.specs.Chunk.{fixed_lock};
 ghost use Rattle.heap_model.specs.Lending.{LendsOther, HoldsHeap};
 ghost use Rattle.heap_model.specs.Layout.{Alters, with_lock, with_owner, WritesPlain};
-ghost use Rattle.heap_place.specs.Found.{IsOne, CanGoTo, header_at};
+ghost use Rattle.heap_place.specs.Found.{IsOne, CanGoTo, header_offset};
 ghost use Rattle.heap_place.specs.Lists.{Any, KeepsFree};
 
 use crate::found::Found;
@@ -20,7 +20,7 @@ pub fn relock_at(region: &mut Region, found: Found, lock: u8)
     requires lock { lock < fixed_lock }
     requires owned { (lock ≡ 0) ⊎ (0 < found.owner) }
     requires stays { (0 < lock) ⊎ LendsOther region.old found.place.0 }
-    ensures made { Alters region.old.bytes region.new.bytes (header_at found) (with_lock lock) }
+    ensures made { Alters region.old.bytes region.new.bytes (header_offset found) (with_lock lock) }
     ensures keeps { KeepsFree Any region.old.bytes region.new.bytes }
     ensures plain { WritesPlain region.old.bytes region.new.bytes }
     ensures rest { region.new ≡ record region.old { bytes = region.new.bytes } }
@@ -35,7 +35,7 @@ pub fn reown_at(region: &mut Region, found: Found, owner: u8)
     requires heap { HoldsHeap region.old }
     requires found { IsOne region.old.bytes found }
     requires owner { CanGoTo region.old.bytes found owner }
-    ensures made { Alters region.old.bytes region.new.bytes (header_at found) (with_owner owner) }
+    ensures made { Alters region.old.bytes region.new.bytes (header_offset found) (with_owner owner) }
     ensures keeps { KeepsFree Any region.old.bytes region.new.bytes }
     ensures plain { WritesPlain region.old.bytes region.new.bytes }
     ensures rest { region.new ≡ record region.old { bytes = region.new.bytes } }

@@ -10,13 +10,14 @@ ghost use Rattle.heap_model.specs.MoreTables.{table_need, PutsTable};
 ghost use Rattle.heap_model.specs.Reading.{chunks_of};
 ghost use Rattle.heap_model.specs.Layout.{Becomes, IsSpot, WritesPlain};
 ghost use Rattle.heap_model.specs.Lending.{HoldsHeap};
+ghost use Rattle.master_table.specs.Table.{IsStart};
 ghost use Rattle.heap_place.specs.Search.{WroteRest};
 ghost use Rattle.heap_place.specs.Lists.{IsFreeChunk, KeepsFree, Outside, ButAt, CutsRoom, Fills};
 
 use crate::room::Room;
 use chunk_format::{HEADER_SIZE, Header, MANAGERS_OWNER, TABLE_LENGTH};
 use heap_model::{Name, Place};
-use master_table::add_table;
+use master_table::{TableStart, add_table};
 use raw_region::Region;
 
 /// Makes the start of a run of free chunks one free chunk of `size` bytes, and the rest another.
@@ -99,11 +100,13 @@ pub fn claim_fixed_at(region: &mut Region, at: u32, count: u32, owner: u8)
     region.fill(body, count as usize, 0);
 }
 
-/// Makes the free chunk at `at` a table of empty slots, the last of the chain.
-pub fn claim_table_at(region: &mut Region, at: u32)
+/// Makes the free chunk at `at` a table of empty slots, the last of the chain. The end of the chain
+/// is looked for from the table `start` on.
+pub fn claim_table_at(region: &mut Region, at: u32, start: TableStart)
     requires heap { HoldsHeap region.old }
     requires free { IsFreeChunk region.old.bytes at table_need }
     requires chained { is_chained region.old.bytes ≡ true }
+    requires start { IsStart region.old.bytes start }
     ensures made { PutsTable region.old.bytes region.new.bytes (at + 8) }
     ensures keeps { KeepsFree (ButAt at) region.old.bytes region.new.bytes }
     ensures plain { WritesPlain region.old.bytes region.new.bytes }
@@ -117,5 +120,5 @@ pub fn claim_table_at(region: &mut Region, at: u32)
     header.write(region, at);
     let body = at + HEADER_SIZE;
     region.fill(body as usize, TABLE_LENGTH as usize, 0);
-    add_table(region, Place(body));
+    add_table(region, start, Place(body));
 }

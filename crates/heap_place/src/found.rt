@@ -1,7 +1,7 @@
 //! A live chunk that was found.
 
 ghost use Rattle.std.specs.Prelude.{◌≡◌, ◌<◌, ◌^◌};
-ghost use Rattle.heap_place.specs.Found.{movable_by, fixed_by};
+ghost use Rattle.heap_place.specs.Found.{found_if_movable, found_if_fixed};
 
 use chunk_format::{FIXED_LOCK, Header, MANAGERS_OWNER};
 use heap_model::{Name, Place};
@@ -20,7 +20,7 @@ pub struct Found {
 /// Returns the chunk whose body is at a place, if its header is a movable one's.
 #[inline]
 pub fn as_movable(header: Header, place: Place) -> Option<Found>
-    ensures { result ≡ movable_by header place }
+    ensures { result ≡ found_if_movable header place }
 {
     match header {
         Header::Movable {
@@ -43,7 +43,7 @@ pub fn as_movable(header: Header, place: Place) -> Option<Found>
 /// is not returned.
 #[inline]
 pub fn as_fixed(header: Header, place: Place, name: Name) -> Option<Found>
-    ensures { result ≡ fixed_by header place name }
+    ensures { result ≡ found_if_fixed header place name }
 {
     match header {
         Header::Fixed { length, owner } if place.0 == name.0 && owner > MANAGERS_OWNER => Some(

@@ -10,7 +10,6 @@ ghost use Rattle.master_table.specs.Table.{HoldsNothing, HoldsPlace};
 ghost use Rattle.heap_model.specs.Lending.{HoldsHeap};
 ghost use Rattle.heap_place.specs.Found.{IsFound, IsOne, IsFixed, NothingAt, NoSlotHolds};
 ghost use Rattle.raw_region.specs.Marks.{BeginsAt, IsNextLent, NoneBeginsAbove};
-ghost use Rattle.std.specs.Bool.{OnTrue};
 
 use crate::found::{Found, as_fixed, as_movable};
 use crate::walks::{find_fixed, may_read_header};
@@ -144,7 +143,7 @@ pub fn find_placed(region: &Region, tables: &KnownTables, place: Place) -> Optio
     ensures there { IfSome result (λ found. found.place.0 ≡ place.0) }
     ensures none { IfNone result (NothingAt region.now.bytes place.0) }
 {
-    if is_lent_at(region, place) {
+    if region.lends_from(place.0) {
         return Some(lent_chunk(region, place));
     }
     match in_slot_at(region, tables, place) {
@@ -179,17 +178,6 @@ fn in_slot_at(region: &Region, tables: &KnownTables, place: Place) -> Option<Fou
         Some(held) if held.0 == place.0 => Some(found),
         _ => None,
     }
-}
-
-/// Returns whether a place is known to be that of a lent body.
-#[inline]
-fn is_lent_at(region: &Region, place: Place) -> bool
-    ensures { OnTrue result (BeginsAt place.0 region.now.lents) }
-{
-    if region.is_whole() || place.0 == 0 || place.0 % 8 != 0 || place.0 as usize > region.len() {
-        return false;
-    }
-    region.lends_at(place.0)
 }
 
 /// Returns the chunk whose body is lent from a place on. Only its header is read.

@@ -6,7 +6,7 @@ ghost use Rattle.heap_model.specs.Memory.{Misses};
 ghost use Rattle.heap_model.specs.Lending.{LendsOther, HoldsHeap};
 ghost use Rattle.heap_model.specs.Heap.{directory_of};
 ghost use Rattle.heap_model.specs.Layout.{Alters, FreeUpTo, freed, WritesPlain};
-ghost use Rattle.heap_place.specs.Found.{IsOne, header_at};
+ghost use Rattle.heap_place.specs.Found.{IsOne, header_offset};
 ghost use Rattle.heap_place.specs.Search.{free_size_at, ChunksFrom};
 ghost use Rattle.heap_place.specs.Resizes.{IsBound, BeginsWithFree};
 ghost use Rattle.heap_place.specs.Lists.{Any, IsFreeChunk, KeepsFree, HasLists};
@@ -24,8 +24,8 @@ pub fn release(region: &mut Region, found: Found) -> u32
     requires found { IsOne region.old.bytes found }
     requires other { LendsOther region.old found.place.0 }
     requires no_directory { found.name.0 ≢ directory_of region.old.bytes }
-    ensures gone { Alters region.old.bytes region.new.bytes (header_at found) freed }
-    ensures free { FreeUpTo region.new.bytes (header_at found) (header_at found + result) }
+    ensures gone { Alters region.old.bytes region.new.bytes (header_offset found) freed }
+    ensures free { FreeUpTo region.new.bytes (header_offset found) (header_offset found + result) }
     ensures plain { WritesPlain region.old.bytes region.new.bytes }
     ensures rest { region.new ≡ record region.old { bytes = region.new.bytes } }
     ensures heap { HoldsHeap region.new }
@@ -48,8 +48,8 @@ pub fn release_alone(region: &mut Region, found: Found) -> u32
     requires found { IsOne region.old.bytes found }
     requires other { LendsOther region.old found.place.0 }
     requires no_directory { found.name.0 ≢ directory_of region.old.bytes }
-    ensures gone { Alters region.old.bytes region.new.bytes (header_at found) freed }
-    ensures chunk { IsFreeChunk region.new.bytes (header_at found) result }
+    ensures gone { Alters region.old.bytes region.new.bytes (header_offset found) freed }
+    ensures chunk { IsFreeChunk region.new.bytes (header_offset found) result }
     ensures keeps { KeepsFree Any region.old.bytes region.new.bytes }
     ensures plain { WritesPlain region.old.bytes region.new.bytes }
     ensures rest { region.new ≡ record region.old { bytes = region.new.bytes } }
@@ -73,8 +73,8 @@ pub fn release_listed(region: &mut Region, lists: &mut Lists, found: Found) -> u
     requires other { LendsOther region.old found.place.0 }
     requires no_directory { found.name.0 ≢ directory_of region.old.bytes }
     requires lists { HasLists region.old.bytes lists.old }
-    ensures gone { Alters region.old.bytes region.new.bytes (header_at found) freed }
-    ensures free { FreeUpTo region.new.bytes (header_at found) (header_at found + result) }
+    ensures gone { Alters region.old.bytes region.new.bytes (header_offset found) freed }
+    ensures free { FreeUpTo region.new.bytes (header_offset found) (header_offset found + result) }
     ensures lists { HasLists region.new.bytes lists.new }
     ensures plain { WritesPlain region.old.bytes region.new.bytes }
     ensures rest { region.new ≡ record region.old { bytes = region.new.bytes } }

@@ -15,7 +15,7 @@ use Rattle.heap_map.specs.Text.{free_sizes, free_pieces}
 use Rattle.heap_map.specs.Pieces.{run_size}
 use Rattle.heap_map.proofs.PieceLaws.{IsLiveChunk, sizes_behind, behind_free, live_sizes, onto_live}
 use Rattle.heap_svg.specs.declared.pieces.PieceSizes.{PieceSizes}
-use Rattle.heap_svg.specs.Pieces.{run_list, EndsRun, GoesOn, AddsHeader}
+use Rattle.heap_svg.specs.Pieces.{run_list, EndsPiece, LengthensPiece, AddsHeader}
 
 -- what a walk has met, of which others follow
 pub record HaveSizes (pieces : PieceSizes) (cs : List Chunk) : Type 0 where
@@ -37,7 +37,7 @@ sizes_more : (cs others : List Chunk) (c : Chunk) → free_sizes (merged ((cs ++
 sizes_more cs others c = ap (λ (ds : List Chunk). free_sizes (merged ds)) (append_assoc cs (c ∷ []) others)
 
 -- a free chunk
-sizes_free : (old new : PieceSizes) (cs : List Chunk) (size : ℕ) → GoesOn old new size → HaveSizes old cs → HaveSizes new (cs ++ free size ∷ [])
+sizes_free : (old new : PieceSizes) (cs : List Chunk) (size : ℕ) → LengthensPiece old new size → HaveSizes old cs → HaveSizes new (cs ++ free size ∷ [])
 sizes_free old new cs size g h = record {
   same = λ others.
       sizes_more cs others (free size) ∙ h.same (free size ∷ others)
@@ -55,7 +55,7 @@ behind_live : (run : Option ℕ) (c : Chunk) (others : List Chunk) → IsLiveChu
 behind_live None c others l = live_sizes c others l
 behind_live (Some run) c others l = onto_live run c others l
 
-sizes_live : (old new : PieceSizes) (cs : List Chunk) (c : Chunk) → IsLiveChunk c → EndsRun old new → HaveSizes old cs → HaveSizes new (cs ++ c ∷ [])
+sizes_live : (old new : PieceSizes) (cs : List Chunk) (c : Chunk) → IsLiveChunk c → EndsPiece old new → HaveSizes old cs → HaveSizes new (cs ++ c ∷ [])
 sizes_live old new cs c l e h = record {
   same = λ others.
       sizes_more cs others c ∙ h.same (c ∷ others)

@@ -19,7 +19,7 @@ use Rattle.heap_check.proofs.WalkLaws.{HasPassed, passed_none, passed_more}
 use Rattle.heap_svg.specs.declared.rooms.Room.{Room}
 use Rattle.heap_svg.specs.declared.rooms.MetRooms.{MetRooms}
 use Rattle.heap_map.specs.Text.{free_sizes}
-use Rattle.heap_svg.specs.Rooms.{compact_pieces, kept, rooms_from, rooms_of, sizes, AddsChunk}
+use Rattle.heap_svg.specs.Rooms.{compact_pieces, kept, rooms_from, rooms_drawn, sizes, AddsToRooms}
 
 -- ---- rooms are the pieces that a compact leaves
 
@@ -50,8 +50,8 @@ rooms_packed start size at (movable bytes zero owner slot ∷ cs) = rooms_packed
 rooms_packed start size at (movable bytes (suc count) owner slot ∷ cs) = kept_gap start size (movable bytes (suc count) owner slot ∷ packed_behind 0 cs) _ (rooms_packed (at + need (length bytes)) 0 (at + need (length bytes)) cs)
 rooms_packed start size at (fixed bytes owner ∷ cs) = kept_gap start size (fixed bytes owner ∷ packed_behind 0 cs) _ (rooms_packed (at + need (length bytes)) 0 (at + need (length bytes)) cs)
 
-pub sizes_packed : (image : List ℕ) → sizes (rooms_of image) ≡ free_sizes (packed (chunks_of image))
-unfolding rooms_of
+pub sizes_packed : (image : List ℕ) → sizes (rooms_drawn image) ≡ free_sizes (packed (chunks_of image))
+unfolding rooms_drawn
 sizes_packed image = rooms_packed (area_start image) 0 (area_start image) (chunks_of image)
 
 pub length-sizes : (rs : List Room) → length (sizes rs) ≡ length rs
@@ -132,7 +132,7 @@ ends image old new cs c end there step met empty h =
 same_size : (room : Room) → room ≡ record room { size = room.size + 0 }
 same_size room = let e : room.size ≡ room.size + 0 = omega arith in ap (λ (n : ℕ). let r : Room = record { start = room.start; size = n } in r) e
 
-rooms_add : (image : List ℕ) (old new : MetRooms) (cs : List Chunk) (c : Chunk) (end : ℕ) → end ≡ area_start image + total cs + size_of c → AddsChunk old new (header_of c) end → HaveRooms image old cs → HaveRooms image new (cs ++ c ∷ [])
+rooms_add : (image : List ℕ) (old new : MetRooms) (cs : List Chunk) (c : Chunk) (end : ℕ) → end ≡ area_start image + total cs + size_of c → AddsToRooms old new (header_of c) end → HaveRooms image old cs → HaveRooms image new (cs ++ c ∷ [])
 rooms_add image old new cs (free size) end there a h = elim a [
   | inl e ↦ absurd (let stays : false ≡ true = e.stays in cc)
   | inr g ↦ goes_on image old new cs (free size) size (omega arith) (λ room at others. refl) g.met g.last h
@@ -155,11 +155,11 @@ rooms_start image rooms at h start none last =
     let fits = (read_heap image h).tiles.head.a_chunk_fits in
     passed_none image (HaveRooms image rooms) at start (omega arith) (rooms_none image rooms none (last ∙ ap (λ (n : ℕ). let r : Room = record { start = n; size = 0 } in r) start))
 
-pub rooms_step : (image : List ℕ) (old new : MetRooms) (at taken : ℕ) (header : Header) → HasPassed image (HaveRooms image old) at → HasHeader image at header → taken ≡ size_by header → AddsChunk old new header (at + taken) → HasPassed image (HaveRooms image new) (at + taken)
+pub rooms_step : (image : List ℕ) (old new : MetRooms) (at taken : ℕ) (header : Header) → HasPassed image (HaveRooms image old) at → HasHeader image at header → taken ≡ size_by header → AddsToRooms old new header (at + taken) → HasPassed image (HaveRooms image new) (at + taken)
 rooms_step image old new at taken header p f takes a =
     let size : size_by header ≡ size_of f.chunk = ap size_by f.header_is ∙ size_by-header_of f.chunk in
     subst (λ (n : ℕ). HasPassed image (HaveRooms image new) (at + n)) (sym takes)
-    (passed_more image (HaveRooms image old) (HaveRooms image new) at header p f (λ cs there h. rooms_add image old new cs f.chunk (at + taken) (omega arith) (subst (λ (x : Header). AddsChunk old new x (at + taken)) f.header_is a) h))
+    (passed_more image (HaveRooms image old) (HaveRooms image new) at header p f (λ cs there h. rooms_add image old new cs f.chunk (at + taken) (omega arith) (subst (λ (x : Header). AddsToRooms old new x (at + taken)) f.header_is a) h))
 
 pub rooms_small : (image : List ℕ) (rooms : MetRooms) (at : ℕ) → HasPassed image (HaveRooms image rooms) at → rooms.last.size ≤ at
 rooms_small image rooms at p =
@@ -167,8 +167,8 @@ rooms_small image rooms at p =
     let fits = p.holds.fits in
     omega arith
 
-pub rooms_end : (image : List ℕ) (rooms : MetRooms) (met : List Room) → met ≡ rooms.met.items ++ kept rooms.last → HaveRooms image rooms (chunks_of image) → met ≡ rooms_of image
-unfolding rooms_of
+pub rooms_end : (image : List ℕ) (rooms : MetRooms) (met : List Room) → met ≡ rooms.met.items ++ kept rooms.last → HaveRooms image rooms (chunks_of image) → met ≡ rooms_drawn image
+unfolding rooms_drawn
 rooms_end image rooms met is h = is ∙ sym (h.same []) ∙ ap (from_start image) (append-nil (chunks_of image))
 
 -- ---- how many rooms there are, and how large they may be
@@ -208,15 +208,15 @@ rooms_most start size at (fixed bytes owner ∷ cs) =
 all_inside : (image : List ℕ) → HeapAccepted image → area_start image + total (chunks_of image) ≡ length image
 all_inside image h = sym (SpelledAll-end image (area_start image) (chunks_of image) (length image) (read_heap image h).tiles.area)
 
-pub few_rooms : (image : List ℕ) → HeapAccepted image → length (rooms_of image) ≤ length image
-unfolding rooms_of
+pub few_rooms : (image : List ℕ) → HeapAccepted image → length (rooms_drawn image) ≤ length image
+unfolding rooms_drawn
 few_rooms image h =
     let inside = all_inside image h in
     let few = rooms_few (area_start image) 0 (area_start image) (chunks_of image) in
     omega arith
 
-pub small_rooms : (image : List ℕ) → HeapAccepted image → greatest (sizes (rooms_of image)) ≤ length image
-unfolding rooms_of
+pub small_rooms : (image : List ℕ) → HeapAccepted image → greatest (sizes (rooms_drawn image)) ≤ length image
+unfolding rooms_drawn
 small_rooms image h =
     let inside = all_inside image h in
     let most = rooms_most (area_start image) 0 (area_start image) (chunks_of image) in
@@ -224,8 +224,8 @@ small_rooms image h =
 
 -- ---- what a compact leaves
 
-pub count_packed : (image : List ℕ) (rooms : List Room) → rooms ≡ rooms_of image → length rooms ≡ length (compact_pieces image)
-count_packed image rooms are = ap length are ∙ sym (length-sizes (rooms_of image)) ∙ ap length (sizes_packed image)
+pub count_packed : (image : List ℕ) (rooms : List Room) → rooms ≡ rooms_drawn image → length rooms ≡ length (compact_pieces image)
+count_packed image rooms are = ap length are ∙ sym (length-sizes (rooms_drawn image)) ∙ ap length (sizes_packed image)
 
-pub largest_packed : (image : List ℕ) (rooms : List Room) → rooms ≡ rooms_of image → greatest (sizes rooms) ≡ greatest (compact_pieces image)
+pub largest_packed : (image : List ℕ) (rooms : List Room) → rooms ≡ rooms_drawn image → greatest (sizes rooms) ≡ greatest (compact_pieces image)
 largest_packed image rooms are = ap (λ (rs : List Room). greatest (sizes rs)) are ∙ ap greatest (sizes_packed image)

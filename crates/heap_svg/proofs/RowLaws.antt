@@ -9,16 +9,16 @@ use Rattle.heap_svg.specs.Strips.{ShowImage}
 use Rattle.std.specs.List.{flat_map}
 use Rattle.std.proofs.Math.Nat.{mul-le-mul_left, mul-le-mul_right, mul-div-le}
 use Rattle.heap_svg.specs.declared.rooms.Room.{Room}
-use Rattle.heap_svg.specs.Rows.{doubled, IsRow, rows_in, sizes_in}
+use Rattle.heap_svg.specs.Rows.{doubled, IsRowSize, rows_in, sizes_in}
 
 doubled_low : (times : ℕ) → 64 ≤ doubled times
 doubled_low zero = omega arith
 doubled_low (suc times) = let ih = doubled_low times in omega arith
 
-pub row_low : (size line : ℕ) → IsRow size line → 64 ≤ line
+pub row_low : (size line : ℕ) → IsRowSize size line → 64 ≤ line
 row_low size line r = let low = doubled_low r.times in let is = r.line_is in omega arith
 
-pub row_small : (size line : ℕ) → size ≤ 16777208 → IsRow size line → line < 2097152
+pub row_small : (size line : ℕ) → size ≤ 16777208 → IsRowSize size line → line < 2097152
 row_small size line most r = elim (cases_lt 64 line) [
   | inl more ↦ let least = r.least more in omega arith
   | inr few ↦ omega arith

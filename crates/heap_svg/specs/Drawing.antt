@@ -5,25 +5,55 @@ use Rattle.heap_model.specs.Reading.{chunks_of}
 use Rattle.heap_model.specs.Slots.{slots_of}
 use Rattle.heap_model.specs.Space.{free_total, greatest}
 use Rattle.heap_model.specs.Store.{listed}
-use Rattle.heap_svg.specs.Rooms.{compact_pieces, rooms_of}
+use Rattle.heap_svg.specs.Rooms.{compact_pieces, rooms_drawn}
 use Rattle.heap_map.specs.Text.{free_pieces}
 use Rattle.palm_text.specs.Counted.{Writing, Writes}
-use Rattle.heap_svg.specs.declared.frame.TheConstants.{STYLE}
 use Rattle.heap_svg.specs.declared.strips.Strip.{Strip}
 use Rattle.heap_svg.specs.Strips.{strips_of, ShowImage}
-use Rattle.heap_svg.specs.Rows.{IsRow, rows_in, pitch, thin_below, strips_text, labels_text, rights_text}
+use Rattle.heap_svg.specs.Rows.{IsRowSize, rows_in, pitch, thin_below, strips_text, labels_text, rights_text}
 use Rattle.heap_svg.specs.Legend.{kinds_text, databases_note, sizes_at, pieces_text}
 
 -- ---- the head
 
--- the first lines: the height of the picture, the styles, and a white ground
+-- the first line, with the height of the picture
+unfoldable pub first_line : ℕ → List ℕ
+first_line height =
+    codes "<svg xmlns=\"http://www.w3.org/2000/svg\" width=\"1224\" height=\"" ++ (decimal height ++ (codes "\" viewBox=\"0 0 1224 " ++ (decimal height ++ codes "\" font-family=\"sans-serif\" font-size=\"12\">\n")))
+
+-- the styles: the colours of the kinds of chunks and of databases, and a white background
+unfoldable pub style_text : List ℕ
+style_text =
+    codes "<style>\n"
+    ++ (codes "svg{overflow:visible}\n"
+    ++ (codes "path{stroke:#fff;stroke-width:.8;vector-effect:non-scaling-stroke}\n"
+    ++ (codes ".s{stroke:none}\n"
+    ++ (codes ".t{font-size:16px;font-weight:bold}\n"
+    ++ (codes ".n{font-size:10px;fill:#666;text-anchor:end}\n"
+    ++ (codes ".r{font-size:10px;fill:#060}\n"
+    ++ (codes ".c0{fill:#d62728;stroke:#a00;stroke-width:1.4}\n"
+    ++ (codes ".c1{fill:#ffb3a7;stroke:#c00;stroke-width:1.4}\n"
+    ++ (codes ".c2{fill:#111}\n"
+    ++ (codes ".c3{fill:#bcbd22}\n"
+    ++ (codes ".c4{fill:#cfe6cf}\n"
+    ++ (codes ".c5{fill:#444}\n"
+    ++ (codes ".c6{fill:#4e79a7}\n"
+    ++ (codes ".c7{fill:#f28e2b}\n"
+    ++ (codes ".c8{fill:#59a14f}\n"
+    ++ (codes ".c9{fill:#b07aa1}\n"
+    ++ (codes ".c10{fill:#9c755f}\n"
+    ++ (codes ".c11{fill:#76b7b2}\n"
+    ++ (codes ".c12{fill:#edc948}\n"
+    ++ (codes ".c13{fill:#ff9da7}\n"
+    ++ (codes "</style>\n"
+    ++ (codes "<rect width=\"100%\" height=\"100%\" fill=\"#fff\"/>\n"))))))))))))))))))))))
+
+-- the head of the picture
 unfoldable pub open_text : ℕ → List ℕ
-open_text height =
-    codes "<svg xmlns=\"http://www.w3.org/2000/svg\" width=\"1224\" height=\"" ++ (decimal height ++ (codes "\" viewBox=\"0 0 1224 " ++ (decimal height ++ STYLE.now)))
+open_text height = first_line height ++ style_text
 
 -- the size of the image, and its slots
-unfoldable pub slots_text : ℕ → ℕ → ℕ → List ℕ
-slots_text size used slots =
+unfoldable pub used_slots_text : ℕ → ℕ → ℕ → List ℕ
+used_slots_text size used slots =
     codes "<text x=\"74\" y=\"22\" class=\"t\">" ++ (decimal size ++ (codes " bytes, " ++ (decimal used ++ (codes " of " ++ (decimal slots ++ codes " slots in use</text>\n")))))
 
 -- what is free
@@ -96,7 +126,7 @@ height_of rows count = sizes_at rows count + 70
 unfoldable pub top_text : List ℕ → ℕ → List ℕ
 top_text image rows =
     open_text (height_of rows (length (listed image)))
-    ++ slots_text (length image) (count_by is_movable (chunks_of image)) (length (slots_of image))
+    ++ used_slots_text (length image) (count_by is_movable (chunks_of image)) (length (slots_of image))
 
 unfoldable pub compact_notes : List ℕ → List ℕ
 compact_notes image =
@@ -107,7 +137,7 @@ unfoldable pub notes_text : List ℕ → List ℕ
 notes_text image = free_note (free_total image) (length (free_pieces image)) (greatest (free_pieces image)) ++ compact_notes image
 
 unfoldable pub middle_text : List ℕ → ℕ → ℕ → List ℕ
-middle_text image line rows = framed_text line rows (strips_of image (thin_below line)) ++ rights_text line (rooms_of image) rows
+middle_text image line rows = framed_text line rows (strips_of image (thin_below line)) ++ rights_text line (rooms_drawn image) rows
 
 unfoldable pub closing_text : List ℕ → ℕ → List ℕ
 closing_text image rows = pieces_text (sizes_at rows (length (listed image))) (free_pieces image) ++ codes "</svg>\n"
@@ -131,7 +161,7 @@ drawing_text image line rows = top_text image rows ++ inner_text image line rows
 -- show the image.
 pub record IsDrawing (image text : List ℕ) : Type 0 where
   pub line : ℕ
-  pub line_is : IsRow (length image) line
+  pub line_is : IsRowSize (length image) line
   pub text_is : text ≡ drawing_text image line (rows_in (length image) line)
   pub shown : ShowImage image (strips_of image (thin_below line))
 

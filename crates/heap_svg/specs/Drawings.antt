@@ -1,23 +1,23 @@
 -- What is drawn of an image before its lines are written.
 use Rattle.std.specs.Prelude.{◌≡◌, ◌<◌, ◌^◌, ℕ, List, length}
 use Rattle.heap_model.specs.Space.{greatest}
-use Rattle.store_check.specs.Checks.{Summarizes}
-use Rattle.heap_svg.specs.Rooms.{compact_pieces, rooms_of}
+use Rattle.store_check.specs.Checks.{SummarizesStore}
+use Rattle.heap_svg.specs.Rooms.{compact_pieces, rooms_drawn}
 use Rattle.heap_map.specs.Text.{free_pieces}
 use Rattle.heap_svg.specs.declared.drawing.Drawing.{Drawing}
-use Rattle.heap_svg.specs.Rows.{IsRow, thin_below}
+use Rattle.heap_svg.specs.Rows.{IsRowSize, thin_below}
 use Rattle.heap_svg.specs.Strips.{strips_of, ShowImage}
 
 -- the counts of an image, its free pieces, its rooms, its rows and its strips
 pub record HasDrawing (image : List ℕ) (drawing : Drawing) : Type 0 where
-  pub summary : Summarizes image drawing.summary
+  pub summary : SummarizesStore image drawing.summary
   pub pieces : drawing.pieces.items ≡ free_pieces image
   pub count : drawing.free.count ≡ length (free_pieces image)
   pub few : drawing.free.count < 2 ^ 32
   pub largest : drawing.free.largest ≡ greatest (free_pieces image)
-  pub rooms : drawing.rooms.all.items ≡ rooms_of image
+  pub rooms : drawing.rooms.all.items ≡ rooms_drawn image
   pub left_count : drawing.rooms.count ≡ length (compact_pieces image)
   pub left_largest : drawing.rooms.largest ≡ greatest (compact_pieces image)
-  pub line : IsRow (length image) drawing.line
+  pub line : IsRowSize (length image) drawing.line
   pub strips : drawing.strips.items ≡ strips_of image (thin_below drawing.line)
   pub shown : ShowImage image drawing.strips.items

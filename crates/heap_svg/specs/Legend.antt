@@ -1,12 +1,10 @@
 -- The legend: the kinds of chunks, the databases, and the free pieces by size.
-use Rattle.std.specs.Prelude.{◌+◌, ◌*◌, ◌/◌, ◌%◌, ◌++◌, ◌==◌, ◌&&◌, ◌||◌, nat_le, nat_lt, if◌then◌else◌, ℕ, Bool, true, false, List, [], ◌∷◌, slice_index, count_by, codes, decimal}
+use Rattle.std.specs.Prelude.{◌+◌, ◌*◌, ◌/◌, ◌%◌, ◌^◌, ◌++◌, ◌==◌, ◌&&◌, ◌||◌, nat_le, nat_lt, if◌then◌else◌, ℕ, Bool, true, false, List, [], ◌∷◌, count_by, codes, decimal}
 use Rattle.std.specs.List.{concat, flat_map}
 use Rattle.heap_model.specs.Database.{name_in, resources_in, entry_count_in}
 use Rattle.heap_model.specs.Lists.{numbered}
 use Rattle.store_check.specs.Listing.{header_at, listed_count}
 use Rattle.heap_map.specs.Marks.{letter_of}
-use Rattle.heap_svg.specs.declared.legend.TheConstants.{KINDS}
-use Rattle.heap_svg.specs.declared.sizes.TheConstants.{LEAST_SIZES}
 use Rattle.heap_svg.specs.Rows.{pitch}
 
 -- where the legend begins
@@ -15,7 +13,15 @@ legend_at rows = pitch * rows + 88
 
 -- the kinds and their colours
 unfoldable pub kinds_text : ℕ → List ℕ
-kinds_text rows = codes "<g transform=\"translate(74 " ++ (decimal (legend_at rows) ++ (codes ")\">\n" ++ KINDS.now))
+kinds_text rows =
+    codes "<g transform=\"translate(74 " ++ (decimal (legend_at rows) ++ (codes ")\">\n"
+    ++ (codes "<path class=\"c5\" d=\"M0 0h12v12h-12z\"/><text x=\"17\" y=\"10\">head and slots</text>\n"
+    ++ (codes "<path class=\"c2\" d=\"M140 0h12v12h-12z\"/><text x=\"157\" y=\"10\">directory and headers</text>\n"
+    ++ (codes "<path class=\"c3\" d=\"M320 0h12v12h-12z\"/><text x=\"337\" y=\"10\">other movable chunks</text>\n"
+    ++ (codes "<path class=\"c0\" d=\"M500 0h12v12h-12z\"/><text x=\"517\" y=\"10\">fixed</text>\n"
+    ++ (codes "<path class=\"c1\" d=\"M590 0h12v12h-12z\"/><text x=\"607\" y=\"10\">locked</text>\n"
+    ++ (codes "<path class=\"c4\" d=\"M690 0h12v12h-12z\"/><text x=\"707\" y=\"10\">free</text>\n"
+    ++ (codes "</g>\n")))))))))
 
 -- ---- databases
 
@@ -23,8 +29,8 @@ kinds_text rows = codes "<g transform=\"translate(74 " ++ (decimal (legend_at ro
 abbrev pub is_by_number : ℕ → Bool
 is_by_number byte = (byte == 38) || (byte == 60) || (byte == 62) || nat_le 160 byte
 
-unfoldable pub number_text : ℕ → List ℕ
-number_text byte = codes "&#" ++ (decimal byte ++ codes ";")
+unfoldable pub byte_reference : ℕ → List ℕ
+byte_reference byte = codes "&#" ++ (decimal byte ++ codes ";")
 
 -- a byte that is printed in ASCII
 abbrev pub is_printed : ℕ → Bool
@@ -35,7 +41,7 @@ plain_byte byte = if is_printed byte then byte ∷ [] else codes "?"
 
 -- a byte of a name: by its number, or as it is if it is printed, and else as a question mark
 abbrev pub escaped_byte : ℕ → List ℕ
-escaped_byte byte = if is_by_number byte then number_text byte else plain_byte byte
+escaped_byte byte = if is_by_number byte then byte_reference byte else plain_byte byte
 
 unfoldable pub escaped : List ℕ → List ℕ
 escaped name = flat_map escaped_byte name
@@ -79,23 +85,26 @@ unfoldable pub sizes_at : ℕ → ℕ → ℕ
 sizes_at rows count = 22 * ((count + 1) / 2) + (legend_at rows + 44)
 
 -- the piece has at least `least` bytes, and fewer than twice as many
-abbrev pub is_of : ℕ → ℕ → Bool
-is_of least size = nat_le least size && nat_lt size (2 * least)
+abbrev pub is_of_size : ℕ → ℕ → Bool
+is_of_size least size = nat_le least size && nat_lt size (2 * least)
 
 -- how many pieces there are of a size; the sizes stand in rows of seven
-unfoldable pub size_text : ℕ → ℕ → ℕ → ℕ → List ℕ
-size_text top index least count =
+unfoldable pub piece_size_text : ℕ → ℕ → ℕ → ℕ → List ℕ
+piece_size_text top index least count =
     codes "<text x=\"" ++ (decimal (142 * (index % 7) + 74) ++ (codes "\" y=\"" ++ (decimal (18 * (index / 7) + (top + 18)) ++ (codes "\">" ++ (decimal least ++ (codes ": " ++ (decimal count ++ codes "</text>\n")))))))
 
 unfoldable pub size_note : ℕ → ℕ → ℕ → ℕ → List ℕ
-size_note top index least count = if count == 0 then [] else size_text top index least count
+size_note top index least count = if count == 0 then [] else piece_size_text top index least count
 
--- the size of an index, of the powers of two from 8 on
-abbrev pub size_at : ℕ → List ℕ → ℕ → List ℕ
-size_at top pieces index = size_note top index (slice_index LEAST_SIZES index) (count_by (is_of (slice_index LEAST_SIZES index)) pieces)
+-- the least size of a class: the powers of two from 8 on
+abbrev pub least_of : ℕ → ℕ
+least_of index = 8 * 2 ^ index
+
+abbrev pub size_note_at : ℕ → List ℕ → ℕ → List ℕ
+size_note_at top pieces index = size_note top index (least_of index) (count_by (is_of_size (least_of index)) pieces)
 
 unfoldable pub size_notes : ℕ → List ℕ → List ℕ
-size_notes top pieces = concat (numbered (size_at top pieces) 21)
+size_notes top pieces = concat (numbered (size_note_at top pieces) 21)
 
 unfoldable pub sizes_head : ℕ → List ℕ
 sizes_head top = codes "<text x=\"74\" y=\"" ++ (decimal top ++ codes "\">free pieces by size, from:</text>\n")

@@ -11,17 +11,17 @@ run_list None = []
 run_list (Some size) = size ∷ []
 
 -- the piece that went on has ended
-pub record EndsRun (old new : PieceSizes) : Type 0 where
+pub record EndsPiece (old new : PieceSizes) : Type 0 where
   pub met : new.met.items ≡ old.met.items ++ run_list old.run
   pub run : new.run ≡ None
 
 -- the piece is `size` bytes longer
-pub record GoesOn (old new : PieceSizes) (size : ℕ) : Type 0 where
+pub record LengthensPiece (old new : PieceSizes) (size : ℕ) : Type 0 where
   pub met : new.met.items ≡ old.met.items
   pub run : new.run ≡ Some (run_size old.run + size)
 
 -- a chunk with this header follows
 abbrev pub AddsHeader : PieceSizes → PieceSizes → Header → Type 0
-AddsHeader old new (headers.Free size) = GoesOn old new size
-AddsHeader old new (headers.Movable length lock owner slot) = EndsRun old new
-AddsHeader old new (headers.Fixed length owner) = EndsRun old new
+AddsHeader old new (headers.Free size) = LengthensPiece old new size
+AddsHeader old new (headers.Movable length lock owner slot) = EndsPiece old new
+AddsHeader old new (headers.Fixed length owner) = EndsPiece old new

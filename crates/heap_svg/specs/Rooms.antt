@@ -25,8 +25,8 @@ rooms_from room at (movable bytes (suc count) owner slot ∷ chunks) = kept room
 rooms_from room at (fixed bytes owner ∷ chunks) = kept room ++ rooms_from (record { start = at + need (length bytes); size = 0 }) (at + need (length bytes)) chunks
 
 -- the rooms of an image, in order, each with the offset at which its stretch begins
-unfoldable pub rooms_of : List ℕ → List Room
-rooms_of image = rooms_from (record { start = area_start image; size = 0 }) (area_start image) (chunks_of image)
+unfoldable pub rooms_drawn : List ℕ → List Room
+rooms_drawn image = rooms_from (record { start = area_start image; size = 0 }) (area_start image) (chunks_of image)
 
 abbrev pub sizes : List Room → List ℕ
 sizes [] = []
@@ -57,5 +57,5 @@ pub record GoesOn (old new : MetRooms) (header : Header) : Type 0 where
   pub last : new.last ≡ record old.last { size = old.last.size + free_by header }
 
 -- a chunk with this header is added, which ends at an offset
-abbrev pub AddsChunk : MetRooms → MetRooms → Header → ℕ → Type 0
-AddsChunk old new header end = EndsStretch old new header end ⊎ GoesOn old new header
+abbrev pub AddsToRooms : MetRooms → MetRooms → Header → ℕ → Type 0
+AddsToRooms old new header end = EndsStretch old new header end ⊎ GoesOn old new header

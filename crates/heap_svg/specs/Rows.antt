@@ -17,7 +17,7 @@ doubled zero = 64
 doubled (suc times) = 2 * doubled times
 
 -- The bytes of a row: the least power of two, from 64 on, with which there are 32 rows at most.
-pub record IsRow (size line : ℕ) : Type 0 where
+pub record IsRowSize (size line : ℕ) : Type 0 where
   pub times : ℕ
   pub line_is : line ≡ doubled times
   pub enough : size ≤ 32 * line

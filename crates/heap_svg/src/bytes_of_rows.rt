@@ -2,7 +2,7 @@
 
 ghost use Rattle.std.specs.Prelude.{◌≡◌, ◌≤◌, ◌<◌, ◌+◌, ◌*◌, ◌^◌};
 ghost use Rattle.heap_svg.specs.Rows as models;
-ghost use Rattle.heap_svg.specs.Rows.{IsRow};
+ghost use Rattle.heap_svg.specs.Rows.{IsRowSize};
 
 /// The height of a row with the space to the next one, in pixels.
 pub(crate) const PITCH: u32 = 17;
@@ -14,7 +14,7 @@ const PIXELS: u32 = 1000;
 /// gives at most 32 rows.
 pub(crate) fn row_size(size: u32) -> u32
     requires { size < 2 ^ 24 }
-    ensures { IsRow size result }
+    ensures { IsRowSize size result }
 {
     let mut line = 64;
     while 32 * line < size {

@@ -3,8 +3,8 @@
 ghost use Rattle.std.specs.Prelude.{[], ◌≡◌, ◌≢◌, ◌<◌, ◌^◌, Err, IfOk, IfErr, OnOk, OnErr, is_ok, true, false};
 ghost use Rattle.heap_model.specs.Store.{Accepted};
 ghost use Rattle.palm_text.specs.Counted.{Writes};
-ghost use Rattle.store_check.specs.Checks.{Summarizes};
-ghost use Rattle.heap_map.specs.Pictures.{IsFaultOf};
+ghost use Rattle.store_check.specs.Checks.{SummarizesStore};
+ghost use Rattle.heap_map.specs.Pictures.{IsMapFault};
 ghost use Rattle.heap_svg.specs.Legend.{sizes_at};
 ghost use Rattle.heap_svg.specs.Strips.{strips_of as strips_model, ShowImage};
 ghost use Rattle.heap_svg.specs.Rows as rows_of;
@@ -63,7 +63,7 @@ fn draw<A: Allowance>(
 ) -> Result<Drawing, AllocError>
     requires whole { region.now.lents ≡ [] }
     requires accepted { Accepted region.now.bytes }
-    requires summary { Summarizes region.now.bytes summary }
+    requires summary { SummarizesStore region.now.bytes summary }
     ensures drawing { IfOk result (HasDrawing region.now.bytes) }
     ensures short { OnErr result (A.is_short memory.now) }
 {
@@ -312,7 +312,7 @@ fn drawn<A: Allowance>(memory: &A, region: &Region) -> Result<Drawing, MapFault>
     requires whole { region.now.lents ≡ [] }
     ensures accepted { OnOk result (Accepted region.now.bytes) }
     ensures drawing { IfOk result (HasDrawing region.now.bytes) }
-    ensures why { IfErr result (IsFaultOf region.now.bytes) }
+    ensures why { IfErr result (IsMapFault region.now.bytes) }
     ensures before { result ≢ Err MapFault.Write }
     ensures short { result ≡ Err MapFault.OutOfMemory → A.is_short memory.now }
 {
@@ -337,7 +337,7 @@ pub fn put_svg<A: Allowance, W: Write>(
     requires whole { region.now.lents ≡ [] }
     ensures accepted { OnOk result (Accepted region.now.bytes) }
     ensures done { OnOk result (WritesDrawing region.now.bytes W.contents out.old out.new true) }
-    ensures why { IfErr result (IsFaultOf region.now.bytes) }
+    ensures why { IfErr result (IsMapFault region.now.bytes) }
     ensures untouched { IfErr result (λ fault. fault ≢ MapFault.Write → out.new ≡ out.old) }
     ensures write { result ≡ Err MapFault.Write
         → WritesDrawing region.now.bytes W.contents out.old out.new false }

@@ -2,7 +2,7 @@
 
 ghost use Rattle.std.specs.Prelude.{◌≡◌, ◌≤◌, ◌<◌, ◌+◌, ◌-◌, ◌*◌, ◌^◌, All, is_ok};
 ghost use Rattle.palm_text.specs.Counted.{Writes};
-ghost use Rattle.heap_svg.specs.Drawing.{all_parts, bar_open, bar_part, bar_text, closed_strips, compact_note, compact_part, frame_text, framed_text, free_note, free_parts, labelled_strips, largest_part, last_parts, open_text, other_part, slots_text, used_part};
+ghost use Rattle.heap_svg.specs.Drawing.{all_parts, bar_open, bar_part, bar_text, closed_strips, compact_note, compact_part, first_line, frame_text, framed_text, free_note, free_parts, labelled_strips, largest_part, last_parts, open_text, other_part, used_slots_text, style_text, used_part};
 
 use crate::bytes_of_rows::PITCH;
 use crate::rectangles::put_strips;
@@ -11,37 +11,10 @@ use crate::strips::Strip;
 use palm_text::{Counted, Piece, WriteFault, put_all, put_pieces};
 use std::io::Write;
 
-/// The end of the first tag, the styles, and a white background.
-const STYLE: &[u8] = b"\" font-family=\"sans-serif\" font-size=\"12\">
-<style>
-svg{overflow:visible}
-path{stroke:#fff;stroke-width:.8;vector-effect:non-scaling-stroke}
-.s{stroke:none}
-.t{font-size:16px;font-weight:bold}
-.n{font-size:10px;fill:#666;text-anchor:end}
-.r{font-size:10px;fill:#060}
-.c0{fill:#d62728;stroke:#a00;stroke-width:1.4}
-.c1{fill:#ffb3a7;stroke:#c00;stroke-width:1.4}
-.c2{fill:#111}
-.c3{fill:#bcbd22}
-.c4{fill:#cfe6cf}
-.c5{fill:#444}
-.c6{fill:#4e79a7}
-.c7{fill:#f28e2b}
-.c8{fill:#59a14f}
-.c9{fill:#b07aa1}
-.c10{fill:#9c755f}
-.c11{fill:#76b7b2}
-.c12{fill:#edc948}
-.c13{fill:#ff9da7}
-</style>
-<rect width=\"100%\" height=\"100%\" fill=\"#fff\"/>
-";
-
-/// Writes the first lines of a picture of this height.
-#[tactic(auto, unfolding(crate::specs::Drawing::open_text))]
-pub(crate) fn put_open<W: Write>(out: &mut Counted<W>, height: u32) -> Result<(), WriteFault>
-    ensures { Writes W.contents out.old out.new (open_text height) (is_ok result) }
+/// Writes the first line of a picture of this height.
+#[tactic(auto, unfolding(crate::specs::Drawing::first_line))]
+fn put_first_line<W: Write>(out: &mut Counted<W>, height: u32) -> Result<(), WriteFault>
+    ensures { Writes W.contents out.old out.new (first_line height) (is_ok result) }
 {
     put_pieces(
         out,
@@ -50,20 +23,64 @@ pub(crate) fn put_open<W: Write>(out: &mut Counted<W>, height: u32) -> Result<()
             Piece::Number(height),
             Piece::Text(b"\" viewBox=\"0 0 1224 "),
             Piece::Number(height),
-            Piece::Text(STYLE),
+            Piece::Text(b"\" font-family=\"sans-serif\" font-size=\"12\">\n"),
         ],
     )
 }
 
+/// Writes the styles: the colours of the kinds of chunks and of databases, and a white background.
+#[tactic(auto, unfolding(crate::specs::Drawing::style_text))]
+fn put_style<W: Write>(out: &mut Counted<W>) -> Result<(), WriteFault>
+    ensures { Writes W.contents out.old out.new style_text (is_ok result) }
+{
+    put_pieces(
+        out,
+        &[
+            Piece::Text(b"<style>\n"),
+            Piece::Text(b"svg{overflow:visible}\n"),
+            Piece::Text(b"path{stroke:#fff;stroke-width:.8;vector-effect:non-scaling-stroke}\n"),
+            Piece::Text(b".s{stroke:none}\n"),
+            Piece::Text(b".t{font-size:16px;font-weight:bold}\n"),
+            Piece::Text(b".n{font-size:10px;fill:#666;text-anchor:end}\n"),
+            Piece::Text(b".r{font-size:10px;fill:#060}\n"),
+            Piece::Text(b".c0{fill:#d62728;stroke:#a00;stroke-width:1.4}\n"),
+            Piece::Text(b".c1{fill:#ffb3a7;stroke:#c00;stroke-width:1.4}\n"),
+            Piece::Text(b".c2{fill:#111}\n"),
+            Piece::Text(b".c3{fill:#bcbd22}\n"),
+            Piece::Text(b".c4{fill:#cfe6cf}\n"),
+            Piece::Text(b".c5{fill:#444}\n"),
+            Piece::Text(b".c6{fill:#4e79a7}\n"),
+            Piece::Text(b".c7{fill:#f28e2b}\n"),
+            Piece::Text(b".c8{fill:#59a14f}\n"),
+            Piece::Text(b".c9{fill:#b07aa1}\n"),
+            Piece::Text(b".c10{fill:#9c755f}\n"),
+            Piece::Text(b".c11{fill:#76b7b2}\n"),
+            Piece::Text(b".c12{fill:#edc948}\n"),
+            Piece::Text(b".c13{fill:#ff9da7}\n"),
+            Piece::Text(b"</style>\n"),
+            Piece::Text(b"<rect width=\"100%\" height=\"100%\" fill=\"#fff\"/>\n"),
+        ],
+    )
+}
+
+/// Writes the head of a picture of this height.
+#[tactic(auto, using(palm_text::proofs::Parts::then, palm_text::proofs::Parts::stops), unfolding(crate::specs::Drawing::open_text))]
+pub(crate) fn put_open<W: Write>(out: &mut Counted<W>, height: u32) -> Result<(), WriteFault>
+    ensures { Writes W.contents out.old out.new (open_text height) (is_ok result) }
+{
+    put_first_line(out, height)?;
+    put_style(out)
+}
+
 /// Writes the size of the image, and its slots.
-#[tactic(auto, unfolding(crate::specs::Drawing::slots_text))]
+#[tactic(auto, unfolding(crate::specs::Drawing::used_slots_text))]
 pub(crate) fn put_slots<W: Write>(
     out: &mut Counted<W>,
     size: u32,
     used: u32,
     slots: u32,
 ) -> Result<(), WriteFault>
-    ensures { Writes W.contents out.old out.new (slots_text size used slots) (is_ok result) }
+    ensures { Writes W.contents out.old out.new (used_slots_text size used slots) (is_ok result) }
 {
     put_pieces(
         out,

@@ -2,10 +2,10 @@
 
 ghost use Rattle.std.specs.Prelude.{[], ◌≡◌, ◌≤◌, ◌<◌, ◌^◌, is_ok};
 ghost use Rattle.heap_model.specs.Store.{Accepted};
-ghost use Rattle.db_format.specs.Headers.{IsWhole};
+ghost use Rattle.db_format.specs.Headers.{AreWholeBytes};
 ghost use Rattle.palm_text.specs.Counted.{Writes};
 ghost use Rattle.heap_svg.specs.Legend as texts;
-ghost use Rattle.heap_svg.specs.Legend.{count_note, database_note, databases_note, entries_note, escaped, escaped_byte, kinds_text, letter_note, number_text, square_text};
+ghost use Rattle.heap_svg.specs.Legend.{count_note, database_note, databases_note, entries_note, escaped, escaped_byte, kinds_text, letter_note, byte_reference, square_text};
 
 use crate::bytes_of_rows::PITCH;
 use chunk_format::SLOT_SIZE;
@@ -14,17 +14,6 @@ use heap_map::{directory_in, header_in, letter_of};
 use palm_text::{Counted, Piece, WriteFault, put_all, put_pieces};
 use raw_region::Region;
 use std::io::Write;
-
-/// The kinds of chunks with their colours, and the end of their group.
-const KINDS: &[u8] =
-    b"<path class=\"c5\" d=\"M0 0h12v12h-12z\"/><text x=\"17\" y=\"10\">head and slots</text>
-<path class=\"c2\" d=\"M140 0h12v12h-12z\"/><text x=\"157\" y=\"10\">directory and headers</text>
-<path class=\"c3\" d=\"M320 0h12v12h-12z\"/><text x=\"337\" y=\"10\">other movable chunks</text>
-<path class=\"c0\" d=\"M500 0h12v12h-12z\"/><text x=\"517\" y=\"10\">fixed</text>
-<path class=\"c1\" d=\"M590 0h12v12h-12z\"/><text x=\"607\" y=\"10\">locked</text>
-<path class=\"c4\" d=\"M690 0h12v12h-12z\"/><text x=\"707\" y=\"10\">free</text>
-</g>
-";
 
 /// Writes the kinds and their colours.
 #[tactic(auto, unfolding(crate::specs::Legend::kinds_text))]
@@ -38,7 +27,25 @@ pub(crate) fn put_kinds<W: Write>(out: &mut Counted<W>, rows: u32) -> Result<(),
             Piece::Text(b"<g transform=\"translate(74 "),
             Piece::Number(PITCH * rows + 88),
             Piece::Text(b")\">\n"),
-            Piece::Text(KINDS),
+            Piece::Text(
+                b"<path class=\"c5\" d=\"M0 0h12v12h-12z\"/><text x=\"17\" y=\"10\">head and slots</text>\n",
+            ),
+            Piece::Text(
+                b"<path class=\"c2\" d=\"M140 0h12v12h-12z\"/><text x=\"157\" y=\"10\">directory and headers</text>\n",
+            ),
+            Piece::Text(
+                b"<path class=\"c3\" d=\"M320 0h12v12h-12z\"/><text x=\"337\" y=\"10\">other movable chunks</text>\n",
+            ),
+            Piece::Text(
+                b"<path class=\"c0\" d=\"M500 0h12v12h-12z\"/><text x=\"517\" y=\"10\">fixed</text>\n",
+            ),
+            Piece::Text(
+                b"<path class=\"c1\" d=\"M590 0h12v12h-12z\"/><text x=\"607\" y=\"10\">locked</text>\n",
+            ),
+            Piece::Text(
+                b"<path class=\"c4\" d=\"M690 0h12v12h-12z\"/><text x=\"707\" y=\"10\">free</text>\n",
+            ),
+            Piece::Text(b"</g>\n"),
         ],
     )
 }
@@ -52,9 +59,9 @@ fn is_by_number(byte: u8) -> bool
 }
 
 /// Writes a byte as a number.
-#[tactic(auto, unfolding(crate::specs::Legend::number_text))]
+#[tactic(auto, unfolding(crate::specs::Legend::byte_reference))]
 fn put_number<W: Write>(out: &mut Counted<W>, byte: u8) -> Result<(), WriteFault>
-    ensures { Writes W.contents out.old out.new (number_text byte) (is_ok result) }
+    ensures { Writes W.contents out.old out.new (byte_reference byte) (is_ok result) }
 {
     put_pieces(
         out,
@@ -124,7 +131,7 @@ fn kind_note(resources: bool) -> &'static [u8]
 /// Writes the number of entries of a database.
 #[tactic(auto, unfolding(crate::specs::Legend::count_note))]
 fn put_count_note<W: Write>(out: &mut Counted<W>, header: &[u8]) -> Result<(), WriteFault>
-    requires { IsWhole header.now }
+    requires { AreWholeBytes header.now }
     ensures { Writes W.contents out.old out.new (count_note header.now) (is_ok result) }
 {
     put_pieces(
@@ -140,7 +147,7 @@ fn put_count_note<W: Write>(out: &mut Counted<W>, header: &[u8]) -> Result<(), W
 /// Writes the name of a database, and the number of its entries.
 #[tactic(auto, using(palm_text::proofs::Parts::then, palm_text::proofs::Parts::stops), unfolding(crate::specs::Legend::entries_note))]
 fn put_entries_note<W: Write>(out: &mut Counted<W>, header: &[u8]) -> Result<(), WriteFault>
-    requires { IsWhole header.now }
+    requires { AreWholeBytes header.now }
     ensures { Writes W.contents out.old out.new (entries_note header.now) (is_ok result) }
 {
     put_escaped(out, name_in(header))?;
@@ -171,7 +178,7 @@ fn put_square<W: Write>(out: &mut Counted<W>, rows: u32, db: u32) -> Result<(), 
 /// Writes the letter of a database, its name, and the number of its entries.
 fn put_letter_note<W: Write>(out: &mut Counted<W>, db: u32, header: &[u8]) -> Result<(), WriteFault>
     requires db { db < 2 ^ 16 }
-    requires whole { IsWhole header.now }
+    requires whole { AreWholeBytes header.now }
     ensures { Writes W.contents out.old out.new (letter_note db header.now) (is_ok result) }
 {
     match put_all(out, &[letter_of(db + 1), b' ']) {
@@ -190,7 +197,7 @@ fn put_database_note<W: Write>(
 ) -> Result<(), WriteFault>
     requires rows { rows < 2 ^ 26 }
     requires db { db < 2 ^ 16 }
-    requires whole { IsWhole header.now }
+    requires whole { AreWholeBytes header.now }
     ensures { Writes W.contents out.old out.new (database_note rows db header.now) (is_ok result) }
 {
     put_square(out, rows, db)?;

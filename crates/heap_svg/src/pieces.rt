@@ -5,7 +5,7 @@ ghost use Rattle.std.specs.Prelude.{◌≡◌, ◌<◌, ◌+◌, ◌^◌, [], If
 ghost use Rattle.heap_model.specs.Heap.{HeapAccepted};
 ghost use Rattle.heap_map.specs.Text.{free_pieces};
 ghost use Rattle.heap_map.specs.Pieces.{free_by, run_size};
-ghost use Rattle.heap_svg.specs.Pieces.{AddsHeader, EndsRun};
+ghost use Rattle.heap_svg.specs.Pieces.{AddsHeader, EndsPiece};
 
 use allowance::{Allowance, push, room_for};
 use chunk_format::{Header, area_start};
@@ -35,7 +35,7 @@ impl PieceSizes {
 
     /// Ends the piece that goes on, if there is one.
     fn end<A: Allowance>(&mut self, memory: &A) -> Result<(), AllocError>
-        ensures ended { OnOk result (EndsRun self.old self.new) }
+        ensures ended { OnOk result (EndsPiece self.old self.new) }
         ensures short { OnErr result (A.is_short memory.now) }
     {
         if let Some(size) = self.run {

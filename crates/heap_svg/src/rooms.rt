@@ -5,7 +5,7 @@ ghost use Rattle.std.specs.Prelude.{◌≡◌, ◌<◌, ◌≤◌, ◌+◌, ◌^
 ghost use Rattle.heap_model.specs.Heap.{HeapAccepted};
 ghost use Rattle.heap_model.specs.Space.{greatest};
 ghost use Rattle.heap_map.specs.Pieces.{free_by};
-ghost use Rattle.heap_svg.specs.Rooms.{AddsChunk, compact_pieces, kept, rooms_of, sizes, stays_by};
+ghost use Rattle.heap_svg.specs.Rooms.{AddsToRooms, compact_pieces, kept, rooms_drawn, sizes, stays_by};
 
 use allowance::{Allowance, push, room_for};
 use chunk_format::{Header, area_start};
@@ -76,7 +76,7 @@ impl MetRooms {
     /// stretch.
     fn add<A: Allowance>(&mut self, memory: &A, header: Header, end: u32) -> Result<(), AllocError>
         requires { self.old.last.size + free_by header < 2 ^ 32 }
-        ensures added { OnOk result (AddsChunk self.old self.new header end) }
+        ensures added { OnOk result (AddsToRooms self.old self.new header end) }
         ensures short { OnErr result (A.is_short memory.now) }
     {
         if stays(header) {
@@ -96,7 +96,7 @@ impl MetRooms {
 fn room_list<A: Allowance>(memory: &A, region: &Region) -> Result<Vec<Room>, AllocError>
     requires whole { region.now.lents ≡ [] }
     requires accepted { HeapAccepted region.now.bytes }
-    ensures rooms { IfOk result (λ rooms. rooms.items ≡ rooms_of region.now.bytes) }
+    ensures rooms { IfOk result (λ rooms. rooms.items ≡ rooms_drawn region.now.bytes) }
     ensures short { OnErr result (A.is_short memory.now) }
 {
     let mut at = area_start(region);
@@ -134,7 +134,7 @@ pub(crate) struct Rooms {
 pub(crate) fn find_rooms<A: Allowance>(memory: &A, region: &Region) -> Result<Rooms, AllocError>
     requires whole { region.now.lents ≡ [] }
     requires accepted { HeapAccepted region.now.bytes }
-    ensures all { IfOk result (λ rooms. rooms.all.items ≡ rooms_of region.now.bytes) }
+    ensures all { IfOk result (λ rooms. rooms.all.items ≡ rooms_drawn region.now.bytes) }
     ensures count { IfOk result (λ rooms. rooms.count ≡ length (compact_pieces region.now.bytes)) }
     ensures largest { IfOk result (λ rooms.
         rooms.largest ≡ greatest (compact_pieces region.now.bytes)) }

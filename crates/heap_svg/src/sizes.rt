@@ -1,33 +1,27 @@
 //! Free pieces by size.
 
-ghost use Rattle.std.specs.Prelude.{◌≡◌, ◌<◌, ◌≤◌, ◌+◌, ◌*◌, ◌^◌, count_by, length, slice_index, is_ok};
+ghost use Rattle.std.specs.Prelude.{◌≡◌, ◌<◌, ◌≤◌, ◌+◌, ◌*◌, ◌^◌, count_by, length, is_ok};
 ghost use Rattle.palm_text.specs.Counted.{Writes};
 ghost use Rattle.heap_svg.specs.Legend as texts;
-ghost use Rattle.heap_svg.specs.Legend.{pieces_text, size_note, size_notes, size_text, sizes_head};
+ghost use Rattle.heap_svg.specs.Legend.{least_of, pieces_text, size_note, size_notes, piece_size_text, sizes_head};
 
 use palm_text::{Counted, Piece, WriteFault, put_pieces};
 use std::io::Write;
 
-/// The classes of pieces by size. A piece of a class has at least the bytes of the class, and fewer
-/// than twice as many.
-const LEAST_SIZES: [u32; 21] = [
-    8, 16, 32, 64, 128, 256, 512, 1024, 2048, 4096, 8192, 16384, 32768, 65536, 131072, 262144,
-    524288, 1048576, 2097152, 4194304, 8388608,
-];
-
-/// Returns the least size of the class with an index.
+/// Returns the least size of the class with an index: a piece of the class has at least these bytes,
+/// and fewer than twice as many.
 fn least_size(index: u32) -> u32
     requires { index < 21 }
-    ensures is { result ≡ slice_index LEAST_SIZES index }
+    ensures is { result ≡ least_of index }
     ensures small { result < 2 ^ 31 }
 {
-    LEAST_SIZES[index as usize]
+    8 << index
 }
 
 /// Returns whether a piece of this size belongs to a class.
-fn is_of(least: u32, size: u32) -> bool
+fn is_of_size(least: u32, size: u32) -> bool
     requires { least < 2 ^ 31 }
-    ensures { result ≡ texts.is_of least size }
+    ensures { result ≡ texts.is_of_size least size }
 {
     least <= size && size < 2 * least
 }
@@ -37,11 +31,11 @@ fn is_of(least: u32, size: u32) -> bool
 fn count_of(pieces: &[u32], least: u32) -> u32
     requires least { least < 2 ^ 31 }
     requires few { length pieces.now < 2 ^ 32 }
-    ensures { result ≡ count_by (texts.is_of least) pieces.now }
+    ensures { result ≡ count_by (texts.is_of_size least) pieces.now }
 {
     let mut count = 0;
     for size in pieces {
-        if is_of(least, *size) {
+        if is_of_size(least, *size) {
             count += 1;
         }
     }
@@ -49,7 +43,7 @@ fn count_of(pieces: &[u32], least: u32) -> u32
 }
 
 /// Writes the number of pieces of a class, at the place of an index.
-#[tactic(auto, unfolding(crate::specs::Legend::size_text))]
+#[tactic(auto, unfolding(crate::specs::Legend::piece_size_text))]
 fn put_size<W: Write>(
     out: &mut Counted<W>,
     top: u32,
@@ -59,7 +53,7 @@ fn put_size<W: Write>(
 ) -> Result<(), WriteFault>
     requires top { top < 2 ^ 31 }
     requires index { index < 21 }
-    ensures { Writes W.contents out.old out.new (size_text top index least count) (is_ok result) }
+    ensures { Writes W.contents out.old out.new (piece_size_text top index least count) (is_ok result) }
 {
     put_pieces(
         out,

@@ -3,7 +3,7 @@
 
 ghost use Rattle.std.specs.Prelude.{◌≡◌, ◌≤◌, ◌<◌, ◌+◌, ◌^◌, [], length, false, IfOk, OnOk, OnErr};
 ghost use Rattle.heap_model.specs.Store.{Accepted};
-ghost use Rattle.store_check.specs.Naming.{HasRoom};
+ghost use Rattle.store_check.specs.Naming.{AreEnoughMarks};
 ghost use Rattle.heap_map.specs.Numbers.{database_number, HasNumbers};
 ghost use Rattle.heap_svg.specs.Strips as models;
 ghost use Rattle.heap_svg.specs.Strips.{AddsBytes, ShowImage, all_strips, end_of, head_mark};
@@ -109,7 +109,7 @@ pub(crate) fn strips_of<A: Allowance>(
     requires whole { region.now.lents ≡ [] }
     requires accepted { Accepted region.now.bytes }
     requires numbers { HasNumbers (database_number region.now.bytes) table.now }
-    requires room { HasRoom region.now.bytes (length table.now) }
+    requires room { AreEnoughMarks region.now.bytes (length table.now) }
     ensures exact { IfOk result (λ strips. strips.items ≡ models.strips_of region.now.bytes thin) }
     ensures shown { IfOk result (λ strips. ShowImage region.now.bytes strips.items) }
     ensures short { OnErr result (A.is_short memory.now) }

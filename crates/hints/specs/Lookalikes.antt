@@ -1,4 +1,4 @@
--- Files that look like PDB or PRC files, and files that look like heap images.
+-- Files that look like PDB or PRC files, like heap images, or like what a transfer makes of them.
 use Rattle.std.specs.Prelude.{ℕ, Bool, ◌&&◌, ◌||◌, ◌==◌, not, nat_le, if◌then◌else◌, ◌-◌, List, [], ◌∷◌, length, take, codes, slice_index, slice_range}
 use Rattle.std.specs.List.{list_all}
 use Rattle.std.specs.Str.{bytes_eq}
@@ -53,3 +53,29 @@ looks_like_database file =
     nat_le header_size (length file)
     && not (looks_like_image file)
     && has_header file
+
+-- ---- what a transfer made of a file
+
+-- the file begins as a page of the web does
+abbrev pub looks_like_page : List ℕ → Bool
+looks_like_page file =
+    bytes_eq (take 5 file) (codes "<html")
+    || bytes_eq (take 5 file) (codes "<HTML")
+    || bytes_eq (take 9 file) (codes "<!doctype")
+    || bytes_eq (take 9 file) (codes "<!DOCTYPE")
+
+-- the number of bytes that MacBinary puts before a file
+abbrev pub mac_header_size : ℕ
+mac_header_size = 128
+
+-- The file has the header of MacBinary: a zero byte, the length of a name of 1 to 63 bytes, and
+-- zeros at 74 and 82. After it comes a file that looks like a database.
+abbrev pub looks_like_mac : List ℕ → Bool
+looks_like_mac file =
+    nat_le mac_header_size (length file)
+    && (slice_index file 0 == 0)
+    && nat_le 1 (slice_index file 1)
+    && nat_le (slice_index file 1) 63
+    && (slice_index file 74 == 0)
+    && (slice_index file 82 == 0)
+    && looks_like_database (slice_range file mac_header_size (length file))

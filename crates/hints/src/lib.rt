@@ -1,17 +1,24 @@
 //! Hints for standard error. They name the lines of a script that import a file that was not given,
-//! and files that look like PDB or PRC files, or like heap images.
+//! say what is wrong with a faulty line, and name files that look like PDB or PRC files, or like heap
+//! images.
 //!
 //! | module | does |
 //! |---|---|
 //! | `numbers` | finds the numbers of the lines of a script that are run |
+//! | `faulty_lines` | finds what is wrong with a faulty line of a script, or of the text for `pack` |
 //! | `imports` | finds the lines that import a file that was not given |
-//! | `lookalikes` | finds whether a file looks like a PDB or PRC file, or like a heap image |
+//! | `lookalikes` | finds what a file looks like |
 #![tactic(auto)]
 
+mod faulty_lines;
 mod imports;
 mod lookalikes;
 mod numbers;
 
+pub use faulty_lines::{LineHint, parts_hint, script_hint};
 pub use imports::{MissingFile, missing_files};
-pub use lookalikes::{HEADER_SIZE, IMAGE_HEADER_SIZE, looks_like_database, looks_like_image};
+pub use lookalikes::{
+    DATABASE_HEADER_SIZE, IMAGE_HEADER_SIZE, MAC_HEADER_SIZE, looks_like_database,
+    looks_like_image, looks_like_mac, looks_like_page,
+};
 pub use numbers::line_numbers;

@@ -1,13 +1,14 @@
-//! Files that look like PDB or PRC files, and files that look like heap images.
+//! Files that look like PDB or PRC files, like heap images, or like what a transfer makes of them.
 
-ghost use Rattle.std.specs.Prelude.{◌≡◌, ◌≤◌, length};
+ghost use Rattle.std.specs.Prelude.{◌≡◌, ◌≤◌, length, take};
+ghost use Rattle.std.specs.Str.{bytes_eq};
 ghost use Rattle.std.specs.List.{list_all};
 ghost use Rattle.hints.specs.Lookalikes as words;
 
 use palm_text::are_printable;
 
 /// The size of a database file's header. By these bytes a file looks like a database file.
-pub const HEADER_SIZE: usize = 78;
+pub const DATABASE_HEADER_SIZE: usize = 78;
 
 /// The size of the field of its name, which comes first.
 const NAME_SIZE: usize = 32;
@@ -46,12 +47,12 @@ const NO_KINDS: [u8; 8] = [0; 8];
 pub fn looks_like_database(file: &[u8]) -> bool
     ensures { result ≡ words.looks_like_database file.now }
 {
-    file.len() >= HEADER_SIZE && !looks_like_image(file) && has_header(file)
+    file.len() >= DATABASE_HEADER_SIZE && !looks_like_image(file) && has_header(file)
 }
 
 /// Returns whether two parts of a header are those of a PDB or PRC file.
 fn has_header(file: &[u8]) -> bool
-    requires { HEADER_SIZE ≤ length file.now }
+    requires { DATABASE_HEADER_SIZE ≤ length file.now }
     ensures { result ≡ words.has_header file.now }
 {
     let is_one_list = file[NEXT_LIST_AT..ENTRY_COUNT_AT] == ZERO[..];
@@ -100,4 +101,41 @@ fn begins_as_image(file: &[u8]) -> bool
     ensures { result ≡ words.begins_as_image file.now }
 {
     file[..4] == MAGIC[..] || file[..4] == CHAINED_MAGIC[..]
+}
+
+/// Returns whether a file begins with a word.
+fn begins_with(file: &[u8], word: &[u8]) -> bool
+    ensures { result ≡ bytes_eq (take (length word.now) file.now) word.now }
+{
+    file.len() >= word.len() && &file[..word.len()] == word
+}
+
+/// Returns whether a file looks like a page of the web, as a server sends in place of a file that it
+/// doesn't have.
+pub fn looks_like_page(file: &[u8]) -> bool
+    ensures { result ≡ words.looks_like_page file.now }
+{
+    begins_with(file, b"<html")
+        || begins_with(file, b"<HTML")
+        || begins_with(file, b"<!doctype")
+        || begins_with(file, b"<!DOCTYPE")
+}
+
+/// The number of bytes that MacBinary puts before a file.
+pub const MAC_HEADER_SIZE: usize = 128;
+
+/// The greatest length of the name in a header of MacBinary.
+const MOST_MAC_NAME: u8 = 63;
+
+/// Returns whether a file is a PDB or PRC file with a header of MacBinary before it.
+pub fn looks_like_mac(file: &[u8]) -> bool
+    ensures { result ≡ words.looks_like_mac file.now }
+{
+    file.len() >= MAC_HEADER_SIZE
+        && file[0] == 0
+        && file[1] >= 1
+        && file[1] <= MOST_MAC_NAME
+        && file[74] == 0
+        && file[82] == 0
+        && looks_like_database(&file[MAC_HEADER_SIZE..])
 }

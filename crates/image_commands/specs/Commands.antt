@@ -6,8 +6,8 @@ use Rattle.heap_model.specs.Store.{Accepted}
 use Rattle.chunk_format.specs.Blank.{IsBlank}
 use Rattle.heap_check.specs.declared.summary.Summary.{Summary}
 use Rattle.store_check.specs.declared.summary.StoreSummary.{StoreSummary}
-use Rattle.store_check.specs.Checks.{Summarizes}
-use Rattle.image_faults.specs.Lines.{PutsBadImage, PutsNoImage}
+use Rattle.store_check.specs.Checks.{SummarizesStore}
+use Rattle.image_commands.specs.FaultLines.{PutsBadImage, PutsNoImage}
 use Rattle.palm_text.specs.Output.{Puts}
 use Rattle.program_io.specs.declared.status.Status.{Status}
 use Rattle.program_io.specs.declared.status.Status.TheVariants.{Done, Refused, BadWords, ReadFault, WriteFault, NoMemory}
@@ -29,7 +29,7 @@ module _ {W : Type 0} where
 
   -- the output is the lines for an accepted image
   abbrev pub PutsSummary : List ℕ → (W → Option (List ℕ)) → Writing W → Writing W → Bool → Type 0
-  PutsSummary image contents old new ok = (summary : StoreSummary) × Summarizes image summary × Puts contents old new (summary_lines summary) ok
+  PutsSummary image contents old new ok = (summary : StoreSummary) × SummarizesStore image summary × Puts contents old new (summary_lines summary) ok
 
 -- A write or a flush failed in `new`, and nothing was written after it. There are three cases. It
 -- failed for the image, and nothing was printed. Or it failed for `ok`, after the whole image. Or

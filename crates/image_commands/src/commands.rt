@@ -5,10 +5,10 @@ ghost use Rattle.image_commands.specs.Commands.{EndsCheck, EndsNew, heap_line, s
 ghost use Rattle.allowance.specs.Refusals.{GrowthRefused};
 ghost use Rattle.palm_text.specs.Output.{Puts};
 
+use crate::fault_lines::say_bad_image;
 use allowance::{Allowance, text_of};
 use chunk_format::{BlankFault, blank_from};
 use heap_check::Summary;
-use image_faults::say_bad_image;
 use palm_text::{Counted, WriteFault, put};
 use program_io::{Status, say, say_text};
 use raw_region::Region;

@@ -1,22 +1,47 @@
-//! The commands `new` and `check`, which work on an image.
+//! The commands `new` and `check`, which work on an image, and the first fault of an image as text:
+//! its name, its numbers, the line and the JSON document that are written for it.
 //!
-//! Each is a function over bytes and counted writers. Its contract states when each status is
-//! returned, what was written by then, and after which bytes a write failed. Each also has a form
-//! over any `Allowance`, which reports out of memory only if an allocation failed. Start at
+//! Each command is a function over bytes and counted writers. Its contract states when each status
+//! is returned, what was written by then, and after which bytes a write failed. Each also has a
+//! form over any `Allowance`, which reports out of memory only if an allocation failed. Start at
 //! `cmd_new`.
 //!
-//! `new` and `check` are the commands over paths: they read and write the files, and report on
-//! standard error which file failed and why. Their clauses state only the statuses with which they
-//! end.
+//! `check --json` prints the facts that `check` prints as text. `json_text` describes what all
+//! documents have in common, and `json_documents` has those of files.
+//!
+//! ```text
+//! {"size":128,"slots":4,"movable":0,"fixed":0,"free":96,"databases":0}
+//! ```
+//!
+//! `new`, `check` and `check_json` are the commands over paths: they read and write the files, and
+//! report on standard error which file failed and why. Their clauses state only the statuses with
+//! which they end.
 //!
 //! | module | does |
 //! |---|---|
 //! | `commands` | the commands over bytes |
 //! | `images` | the commands over files |
+//! | `fault_names` | the name and the numbers of a fault (`specs/FaultNames.antt`) |
+//! | `fault_lines` | the line for a fault |
+//! | `fault_documents` | the document for a fault |
+//! | `summary_documents` | the document of the counts of an image |
+//! | `json_check` | the command `check --json`, over bytes (`specs/JsonEnds.antt`) |
+//! | `json_images` | the command `check --json`, over files |
 #![tactic(auto)]
 
 mod commands;
+mod fault_documents;
+mod fault_lines;
+mod fault_names;
 mod images;
+mod json_check;
+mod json_images;
+mod summary_documents;
 
 pub use commands::{check_region_from, cmd_check, cmd_check_from, cmd_new, cmd_new_from};
+pub use fault_documents::say_image_fault;
+pub use fault_lines::say_bad_image;
+pub use fault_names::{Numbers, image_fault_name, image_fault_numbers};
 pub use images::{check, new};
+pub use json_check::{check_json_region_from, cmd_check_json, cmd_check_json_from};
+pub use json_images::check_json;

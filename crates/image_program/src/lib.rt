@@ -1,6 +1,6 @@
-//! The program `palmheap_images`, as a function over a runtime and the words of the command line. It
-//! has only the commands `new`, `check` and `explain` of `palmheap`. So a first call of one of them
-//! proves the fewest crates.
+//! The program `palmheap_images`, as a function over a runtime and the words of the command line.
+//! It has the commands of `palmheap` that need neither the managers nor the pictures. So a first
+//! call of one of them proves fewer crates.
 //!
 //! All functions call the system. Start with `run`.
 //!
@@ -15,5 +15,5 @@ mod meanings;
 mod requests;
 mod words;
 
-pub use requests::{answer, fail_to_find, fulfil, run};
+pub use requests::{answer, fulfil, run};
 pub use words::read_words;

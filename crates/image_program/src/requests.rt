@@ -6,10 +6,10 @@ ghost use Rattle.clap.specs.Values.{kind_of};
 use crate::meanings::explain;
 use clap::error::ErrorKind;
 use command_files::{STANDARD_OUTPUT, fail};
-use image_commands::{check, new};
-use image_documents::check_json;
+use file_commands::{canonical, list, list_json, pack, unpack};
+use image_commands::{check, check_json, new};
 use program_io::command_line::{self, BaseRequest, Form, Request};
-use program_io::{Status, report_write_fault};
+use program_io::{Status, report_outcome};
 use std::io::Input;
 use std::rt::Files;
 
@@ -17,7 +17,7 @@ use std::rt::Files;
 /// first word is the program's own name. If the run fails, standard error has the reason.
 ///
 /// No contract can relate the status to the files. The stored runs of `test_program` test `fulfil`
-/// and `answer`, which the larger programs call too.
+/// and `answer`, which `palmheap_program` calls too.
 pub fn run<R: Files + Input + Print + Eprint + AllocGlobal>(rt: &R, words: &[String]) -> Status {
     match command_line::parse(rt.alloc(), words) {
         Ok(Request::Base(request)) => fulfil(rt, request),
@@ -26,7 +26,7 @@ pub fn run<R: Files + Input + Print + Eprint + AllocGlobal>(rt: &R, words: &[Str
     }
 }
 
-/// Runs the command of a request. If it is none of this crate, reports that and returns `BadWords`.
+/// Runs the command of a request.
 pub fn fulfil<R: Files + Input + Print + Eprint + AllocGlobal>(
     rt: &R,
     request: BaseRequest,
@@ -35,10 +35,10 @@ pub fn fulfil<R: Files + Input + Print + Eprint + AllocGlobal>(
         BaseRequest::New { size, slots, out } => new(rt, size, slots, out),
         BaseRequest::Check { image, form } => check_as(rt, image, form),
         BaseRequest::Explain { word } => explain(rt, word),
-        BaseRequest::List { .. }
-        | BaseRequest::Canonical { .. }
-        | BaseRequest::Unpack { .. }
-        | BaseRequest::Pack { .. } => fail_to_find(rt),
+        BaseRequest::List { file, form } => list_as(rt, file, form),
+        BaseRequest::Canonical { file, out } => canonical(rt, file, out),
+        BaseRequest::Unpack { file, folder } => unpack(rt, file, folder),
+        BaseRequest::Pack { folder, out } => pack(rt, folder, out),
     }
 }
 
@@ -56,8 +56,22 @@ fn check_as<R: Files + Input + Print + Eprint + AllocGlobal>(
     }
 }
 
-/// Reports on standard error that the command is one of a larger program.
-pub fn fail_to_find<R: Eprint>(rt: &R) -> Status
+/// Runs `list`, and prints in this form.
+fn list_as<R: Files + Input + Print + Eprint + AllocGlobal>(
+    rt: &R,
+    file: &str,
+    form: Form,
+) -> Status
+    ensures { result ≢ Status.BadWords }
+{
+    match form {
+        Form::Text => list(rt, file),
+        Form::Json => list_json(rt, file),
+    }
+}
+
+/// Reports on standard error that the command is one of the whole program.
+fn fail_to_find<R: Eprint>(rt: &R) -> Status
     ensures { result ≡ Status.BadWords }
 {
     let _ = eprintln!(rt;
@@ -85,7 +99,7 @@ pub fn answer<R: Print + Eprint>(rt: &R, error: &clap::Error) -> Status
         _ if error.use_stderr() => Status::BadWords,
         Ok(()) => Status::Done,
         Err(reason) => {
-            report_write_fault(rt, STANDARD_OUTPUT, reason);
+            report_outcome(rt, Status::WriteFault, &[(STANDARD_OUTPUT, Some(reason))]);
             Status::WriteFault
         }
     }

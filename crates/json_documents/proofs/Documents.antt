@@ -5,7 +5,7 @@ use Rattle.heap_model.specs.Database.{DatabaseHeader, header_in, database_in}
 use Rattle.heap_model.specs.Files.{HasNoFault, IsFirstFault}
 use Rattle.heap_model.specs.declared.file_fault.FileFault.{FileFault}
 use Rattle.db_format.specs.declared.header.DbHeader.{DbHeader}
-use Rattle.db_format.specs.Headers.{HasHeader, header_of}
+use Rattle.db_format.specs.Headers.{IsHeaderOf, header_values}
 use Rattle.palm_text.specs.Counted.{Writing, Writes, Flushes}
 use Rattle.palm_text.specs.Output.{Puts}
 use Rattle.palm_text.proofs.Parts.{then_flush}
@@ -13,13 +13,13 @@ use Rattle.json_documents.specs.declared.parts.Parts.{Parts}
 use Rattle.json_documents.specs.FileDocument.{IsFileDocument}
 use Rattle.json_documents.specs.Faults.{file_fault_json}
 use Rattle.json_documents.specs.Ends.{PutsDocument, PutsFileFault}
-use Rattle.json_documents.specs.Parts.{HasParts, WritesDocument, document_by}
+use Rattle.json_documents.specs.Parts.{HasDocumentParts, WritesDocument, document_by}
 
-pub header_is : (file : List ℕ) (header : DbHeader) → HasHeader (database_in file) header → header_of header ≡ header_in file
+pub header_is : (file : List ℕ) (header : DbHeader) → IsHeaderOf (database_in file) header → header_values header ≡ header_in file
 unfolding database_in
 header_is file header has = has.values
 
-documented : (file : List ℕ) (header : DatabaseHeader) (parts : Parts) → header ≡ header_in file → HasParts file parts → IsFileDocument file (document_by file header parts)
+documented : (file : List ℕ) (header : DatabaseHeader) (parts : Parts) → header ≡ header_in file → HasDocumentParts file parts → IsFileDocument file (document_by file header parts)
 documented file header parts is has = record {
   created = string_bytes parts.moments.created;
   modified = string_bytes parts.moments.modified;
@@ -34,8 +34,8 @@ documented file header parts is has = record {
 
 module _ {W : Type 0} (contents : W → Option (List ℕ)) where
   -- and so the document is written
-  pub written : (old new : Writing W) (file : List ℕ) (header : DbHeader) (parts : Parts) (ok : Bool) → HasHeader (database_in file) header → HasParts file parts → Writes contents old new (document_by file (header_of header) parts) ok → WritesDocument file contents old new ok
-  written old new file header parts ok is has writes = (document_by file (header_of header) parts, documented file (header_of header) parts (header_is file header is) has, writes)
+  pub written : (old new : Writing W) (file : List ℕ) (header : DbHeader) (parts : Parts) (ok : Bool) → IsHeaderOf (database_in file) header → HasDocumentParts file parts → Writes contents old new (document_by file (header_values header) parts) ok → WritesDocument file contents old new ok
+  written old new file header parts ok is has writes = (document_by file (header_values header) parts, documented file (header_values header) parts (header_is file header is) has, writes)
 
   -- a document, and the flush after it
   pub puts_document : (old between new : Writing W) (file : List ℕ) (ok : Bool) → HasNoFault file → WritesDocument file contents old between true → Flushes contents between new ok → PutsDocument file contents old new ok

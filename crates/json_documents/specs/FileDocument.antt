@@ -5,8 +5,8 @@ use Rattle.heap_model.specs.Bytes.{u32_bytes}
 use Rattle.heap_model.specs.Lists.{numbered}
 use Rattle.heap_model.specs.Database.{DatabaseHeader, Entry, a_record, a_resource, entry_data, header_in, resources_in, entry_count_in, entry_in}
 use Rattle.heap_model.specs.Files.{offsets_in, blocks_in}
-use Rattle.file_changes.specs.declared.changes.Changes.{Changes}
-use Rattle.file_changes.specs.Changes.{AreChanges, word}
+use Rattle.canonical_file.specs.declared.changes.Changes.{Changes}
+use Rattle.canonical_file.specs.Changes.{AreChanges, word}
 use Rattle.file_listing.specs.Moments.{IsUtcText}
 use Rattle.file_listing.specs.Listing.{needed_slots, needed_size}
 use Rattle.json_text.specs.Strings.{string, hex_string}
@@ -60,11 +60,11 @@ block_json at None = codes "null,"
 block_json at (Some bytes) = codes "{\"offset\":" ++ (decimal at ++ (codes ",\"length\":" ++ (decimal (length bytes) ++ codes "},")))
 
 -- AppInfo has the rank 0, and SortInfo the rank 1
-unfoldable pub info_json : List ℕ → (key : List ℕ) → ℕ → List ℕ
-info_json file key rank = key ++ block_json (slice_index (offsets_in file) rank) (slice_index_or (blocks_in file) rank None)
+unfoldable pub info_block_json : List ℕ → (key : List ℕ) → ℕ → List ℕ
+info_block_json file key rank = key ++ block_json (slice_index (offsets_in file) rank) (slice_index_or (blocks_in file) rank None)
 
 unfoldable pub infos_json : List ℕ → List ℕ
-infos_json file = info_json file (codes "\"app\":") 0 ++ info_json file (codes "\"sort\":") 1
+infos_json file = info_block_json file (codes "\"app\":") 0 ++ info_block_json file (codes "\"sort\":") 1
 
 -- an entry after the first has a comma before it
 abbrev pub comma : ℕ → List ℕ
@@ -92,11 +92,11 @@ fields_json entry block = value_json entry ++ data_json (entry_data entry) block
 unfoldable pub entry_json : ℕ → Entry ℕ → Option (List ℕ) → List ℕ
 entry_json index entry block = index_json index ++ fields_json entry block
 
-abbrev pub entry_at : List ℕ → ℕ → List ℕ
-entry_at file index = entry_json index (entry_in file index) (slice_index_or (blocks_in file) (2 + index) None)
+abbrev pub entry_json_at : List ℕ → ℕ → List ℕ
+entry_json_at file index = entry_json index (entry_in file index) (slice_index_or (blocks_in file) (2 + index) None)
 
 abbrev pub entries_json : List ℕ → List ℕ
-entries_json file = concat (numbered (entry_at file) (entry_count_in file))
+entries_json file = concat (numbered (entry_json_at file) (entry_count_in file))
 
 -- the kind of the entries
 abbrev pub kind_json : Bool → List ℕ

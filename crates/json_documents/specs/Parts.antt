@@ -3,7 +3,7 @@ use Rattle.std.specs.Prelude.{ℕ, Bool, List, Option, string_bytes}
 use Rattle.heap_model.specs.Database.{DatabaseHeader, header_in}
 use Rattle.heap_model.specs.Files.{HasNoFault, IsFirstFault}
 use Rattle.canonical_file.specs.Canonical.{HasBlocks}
-use Rattle.file_changes.specs.Changes.{AreChanges}
+use Rattle.canonical_file.specs.Changes.{AreChanges}
 use Rattle.palm_text.specs.Counted.{Writing, Writes}
 use Rattle.json_documents.specs.declared.parts.Parts.{Parts}
 use Rattle.json_documents.specs.declared.parts.Moments.{Moments}
@@ -12,15 +12,15 @@ use Rattle.json_documents.specs.declared.file_document.DocumentFault.TheVariants
 use Rattle.json_documents.specs.FileDocument.{IsUtcJson, IsFileDocument, document}
 
 -- these are the UTC texts of the moments of a header
-pub record AreMoments (header : DatabaseHeader) (moments : Moments) : Type 0 where
+pub record AreUtcMoments (header : DatabaseHeader) (moments : Moments) : Type 0 where
   pub created : IsUtcJson header.creation_date (string_bytes moments.created)
   pub modified : IsUtcJson header.modification_date (string_bytes moments.modified)
   pub backup : IsUtcJson header.backup_date (string_bytes moments.backup)
 
 -- these are the blocks of a file, the texts of its moments, and its changes
-pub record HasParts (file : List ℕ) (parts : Parts) : Type 0 where
+pub record HasDocumentParts (file : List ℕ) (parts : Parts) : Type 0 where
   pub blocks : HasBlocks file parts.blocks.items
-  pub moments : AreMoments (header_in file) parts.moments
+  pub moments : AreUtcMoments (header_in file) parts.moments
   pub changes : AreChanges file parts.changes
 
 -- the document of a file with this header and these parts
@@ -32,7 +32,7 @@ abbrev pub WritesDocument : {W : Type 0} → List ℕ → (W → Option (List �
 WritesDocument file contents old new ok = (text : List ℕ) × IsFileDocument file text × Writes contents old new text ok
 
 -- the reason why a file has no document
-abbrev pub IsFaultOf : List ℕ → DocumentFault → Type 0
-IsFaultOf file (BadFile fault) = IsFirstFault file fault
-IsFaultOf file OutOfMemory = HasNoFault file
-IsFaultOf file Write = HasNoFault file
+abbrev pub IsDocumentFault : List ℕ → DocumentFault → Type 0
+IsDocumentFault file (BadFile fault) = IsFirstFault file fault
+IsDocumentFault file OutOfMemory = HasNoFault file
+IsDocumentFault file Write = HasNoFault file

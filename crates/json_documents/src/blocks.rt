@@ -2,9 +2,9 @@
 
 ghost use Rattle.std.specs.Prelude.{◌≤◌, ◌++◌, codes, is_ok, length};
 ghost use Rattle.palm_text.specs.Counted.{Writes};
-ghost use Rattle.pdb_format.specs.Blocks.{IsWithin, bytes_at};
+ghost use Rattle.pdb_format.specs.Blocks.{IsBlockWithin, bytes_at};
 ghost use Rattle.canonical_file.specs.Canonical.{HasBlocks, most_bytes};
-ghost use Rattle.json_documents.specs.FileDocument.{block_json, info_json, infos_json};
+ghost use Rattle.json_documents.specs.FileDocument.{block_json, info_block_json, infos_json};
 
 use db_format::{app_info, sort_info};
 use json_text::{JsonPiece, put_json};
@@ -21,7 +21,7 @@ fn put_info<W: Write>(
     block: Option<Block>,
 ) -> Result<(), WriteFault>
     requires short { length file.now ≤ most_bytes }
-    requires within { IsWithin (length file.now) block }
+    requires within { IsBlockWithin (length file.now) block }
     ensures { Writes W.contents out.old out.new
         (key.now ++ block_json at (bytes_at file.now block)) (is_ok result) }
 {
@@ -48,7 +48,7 @@ fn put_app<W: Write>(
     blocks: &[Option<Block>],
 ) -> Result<(), WriteFault>
     requires { HasBlocks file.now blocks.now }
-    ensures { Writes W.contents out.old out.new (info_json file.now (codes "\"app\":") 0)
+    ensures { Writes W.contents out.old out.new (info_block_json file.now (codes "\"app\":") 0)
         (is_ok result) }
 {
     put_info(out, b"\"app\":", file, app_info(file), blocks[0])
@@ -61,7 +61,7 @@ fn put_sort<W: Write>(
     blocks: &[Option<Block>],
 ) -> Result<(), WriteFault>
     requires { HasBlocks file.now blocks.now }
-    ensures { Writes W.contents out.old out.new (info_json file.now (codes "\"sort\":") 1)
+    ensures { Writes W.contents out.old out.new (info_block_json file.now (codes "\"sort\":") 1)
         (is_ok result) }
 {
     put_info(out, b"\"sort\":", file, sort_info(file), blocks[1])

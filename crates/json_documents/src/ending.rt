@@ -3,13 +3,13 @@
 
 ghost use Rattle.std.specs.Prelude.{◌≡◌, ◌&&◌, ◌||◌, is_ok};
 ghost use Rattle.canonical_file.specs.Canonical.{HasBlocks};
-ghost use Rattle.file_changes.specs.Changes as changes;
+ghost use Rattle.canonical_file.specs.Changes as changes;
 ghost use Rattle.palm_text.specs.Counted.{Writes};
 ghost use Rattle.json_documents.specs.FileDocument.{changes_json, comma_if, last_json, needs_json, size_json, slots_json};
 ghost use Rattle.json_text.specs.Pieces.{json_text};
 
 use crate::parts::Parts;
-use file_changes::Changes;
+use canonical_file::Changes;
 use file_listing::size_and_slots;
 use itoa::Buffer;
 use json_text::{JsonPiece, put_json};

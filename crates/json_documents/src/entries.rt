@@ -4,10 +4,10 @@ ghost use Rattle.std.specs.Prelude.{◌≡◌, ◌≤◌, ◌<◌, is_ok, length
 ghost use Rattle.heap_model.specs.Database.{entry_count_in};
 ghost use Rattle.db_format.specs.EitherEntry.{entry_of};
 ghost use Rattle.palm_text.specs.Counted.{Writes};
-ghost use Rattle.pdb_format.specs.Blocks.{IsWithin, bytes_at};
+ghost use Rattle.pdb_format.specs.Blocks.{IsBlockWithin, bytes_at};
 ghost use Rattle.canonical_file.specs.Canonical.{HasBlocks, most_bytes};
 ghost use Rattle.json_documents.specs.FileDocument as words;
-ghost use Rattle.json_documents.specs.FileDocument.{data_json, entries_json, entry_at, entry_json, fields_json, index_json, kind_json, value_json};
+ghost use Rattle.json_documents.specs.FileDocument.{data_json, entries_json, entry_json_at, entry_json, fields_json, index_json, kind_json, value_json};
 ghost use Rattle.json_text.specs.Pieces.{json_text};
 
 use db_format::{DbEntry, INFO_BLOCKS, entry_count};
@@ -81,7 +81,7 @@ fn put_data<W: Write>(
     block: Option<Block>,
 ) -> Result<(), WriteFault>
     requires short { length file.now ≤ most_bytes }
-    requires within { IsWithin (length file.now) block }
+    requires within { IsBlockWithin (length file.now) block }
     ensures { Writes W.contents out.old out.new (data_json at (bytes_at file.now block)) (is_ok result) }
 {
     match block {
@@ -108,7 +108,7 @@ fn put_fields<W: Write>(
     block: Option<Block>,
 ) -> Result<(), WriteFault>
     requires short { length file.now ≤ most_bytes }
-    requires within { IsWithin (length file.now) block }
+    requires within { IsBlockWithin (length file.now) block }
     ensures { Writes W.contents out.old out.new
         (fields_json (entry_of entry) (bytes_at file.now block)) (is_ok result) }
 {
@@ -126,7 +126,7 @@ fn put_entry<W: Write>(
     block: Option<Block>,
 ) -> Result<(), WriteFault>
     requires short { length file.now ≤ most_bytes }
-    requires within { IsWithin (length file.now) block }
+    requires within { IsBlockWithin (length file.now) block }
     ensures { Writes W.contents out.old out.new
         (entry_json index (entry_of entry) (bytes_at file.now block)) (is_ok result) }
 {
@@ -143,7 +143,7 @@ fn put_entry_at<W: Write>(
 ) -> Result<(), WriteFault>
     requires blocks { HasBlocks file.now blocks.now }
     requires inside { index < entry_count_in file.now }
-    ensures { Writes W.contents out.old out.new (entry_at file.now index) (is_ok result) }
+    ensures { Writes W.contents out.old out.new (entry_json_at file.now index) (is_ok result) }
 {
     let entry = DbEntry::read(file, index);
     put_entry(

@@ -3,10 +3,10 @@
 ghost use Rattle.std.specs.Prelude.{◌≡◌, ◌≢◌, ◌≤◌, length, false, true, Err, IfErr, OnOk, is_ok, string_bytes};
 ghost use Rattle.canonical_file.specs.Canonical.{HasBlocks, most_bytes};
 ghost use Rattle.heap_model.specs.Files.{HasNoFault};
-ghost use Rattle.db_format.specs.Headers.{header_of};
+ghost use Rattle.db_format.specs.Headers.{header_values};
 ghost use Rattle.palm_text.specs.Counted.{Writes};
 ghost use Rattle.json_documents.specs.FileDocument.{body_json, dated_json, ending_json, list_json, rest_json};
-ghost use Rattle.json_documents.specs.Parts.{IsFaultOf, WritesDocument, document_by};
+ghost use Rattle.json_documents.specs.Parts.{IsDocumentFault, WritesDocument, document_by};
 
 use crate::blocks::put_infos;
 use crate::ending::put_last;
@@ -71,7 +71,7 @@ fn put_rest<W: Write>(
 ) -> Result<(), WriteFault>
     requires { HasBlocks file.now parts.now.blocks.items }
     ensures { Writes W.contents out.old out.new
-        (rest_json file.now (header_of header.now) parts.now.changes) (is_ok result) }
+        (rest_json file.now (header_values header.now) parts.now.changes) (is_ok result) }
 {
     put_marks(out, header)?;
     put_body(out, file, parts)
@@ -86,7 +86,7 @@ fn put_dated<W: Write>(
     parts: &Parts,
 ) -> Result<(), WriteFault>
     requires { HasBlocks file.now parts.now.blocks.items }
-    ensures { Writes W.contents out.old out.new (dated_json file.now (header_of header.now)
+    ensures { Writes W.contents out.old out.new (dated_json file.now (header_values header.now)
         (string_bytes parts.now.moments.created) (string_bytes parts.now.moments.modified)
         (string_bytes parts.now.moments.backup) parts.now.changes) (is_ok result) }
 {
@@ -103,7 +103,7 @@ fn put_parts<W: Write>(
     parts: &Parts,
 ) -> Result<(), WriteFault>
     requires { HasBlocks file.now parts.now.blocks.items }
-    ensures { Writes W.contents out.old out.new (document_by file.now (header_of header.now)
+    ensures { Writes W.contents out.old out.new (document_by file.now (header_values header.now)
         parts.now) (is_ok result) }
 {
     put_head(out, file.len() as u32, header)?;
@@ -129,7 +129,7 @@ pub fn put_file_document<A: Allowance, W: Write>(
     requires { length file.now ≤ most_bytes }
     ensures done { OnOk result (WritesDocument file.now W.contents out.old out.new true) }
     ensures good { OnOk result (HasNoFault file.now) }
-    ensures why { IfErr result (IsFaultOf file.now) }
+    ensures why { IfErr result (IsDocumentFault file.now) }
     ensures untouched { IfErr result (λ fault. fault ≢ DocumentFault.Write → out.new ≡ out.old) }
     ensures write { result ≡ Err DocumentFault.Write
         → WritesDocument file.now W.contents out.old out.new false }

@@ -16,21 +16,21 @@ use palm_text::{Counted, WriteFault};
 use program_io::{Status, flushed};
 use std::io::Write;
 
-const NOTHING: JsonPiece<'static> = JsonPiece::Text(b"");
+const NO_JSON: JsonPiece<'static> = JsonPiece::Text(b"");
 
 /// Returns the name of a fault, the word of its info block, and the index of its entry.
 fn fault_pieces(fault: FileFault) -> (&'static [u8], JsonPiece<'static>)
     ensures { result.0.now ++ json_text result.1 ≡ file_fault_fields fault }
 {
     match fault {
-        FileFault::Truncated => (b"\"Truncated\",\"numbers\":[", NOTHING),
-        FileFault::ChainedList => (b"\"ChainedList\",\"numbers\":[", NOTHING),
-        FileFault::EmptyName => (b"\"EmptyName\",\"numbers\":[", NOTHING),
+        FileFault::Truncated => (b"\"Truncated\",\"numbers\":[", NO_JSON),
+        FileFault::ChainedList => (b"\"ChainedList\",\"numbers\":[", NO_JSON),
+        FileFault::EmptyName => (b"\"EmptyName\",\"numbers\":[", NO_JSON),
         FileFault::BadInfo(Which::App) => {
-            (b"\"BadInfo\",\"block\":\"app\",\"numbers\":[", NOTHING)
+            (b"\"BadInfo\",\"block\":\"app\",\"numbers\":[", NO_JSON)
         }
         FileFault::BadInfo(Which::Sort) => {
-            (b"\"BadInfo\",\"block\":\"sort\",\"numbers\":[", NOTHING)
+            (b"\"BadInfo\",\"block\":\"sort\",\"numbers\":[", NO_JSON)
         }
         FileFault::BadOffset(index) => (b"\"BadOffset\",\"numbers\":[", JsonPiece::Number(index)),
     }

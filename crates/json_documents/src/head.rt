@@ -2,7 +2,7 @@
 
 ghost use Rattle.std.specs.Prelude.{is_ok, string_bytes};
 ghost use Rattle.palm_text.specs.Counted.{Writes};
-ghost use Rattle.db_format.specs.Headers.{header_of};
+ghost use Rattle.db_format.specs.Headers.{header_values};
 ghost use Rattle.json_documents.specs.FileDocument.{head_json, marks_json, moments_json};
 
 use crate::parts::Moments;
@@ -17,7 +17,7 @@ pub(crate) fn put_head<W: Write>(
     size: u32,
     header: &DbHeader,
 ) -> Result<(), WriteFault>
-    ensures { Writes W.contents out.old out.new (head_json size (header_of header.now)) (is_ok result) }
+    ensures { Writes W.contents out.old out.new (head_json size (header_values header.now)) (is_ok result) }
 {
     put_json(
         out,
@@ -43,7 +43,7 @@ pub(crate) fn put_moments<'a, W: Write>(
     header: &'a DbHeader,
     moments: &'a Moments,
 ) -> Result<(), WriteFault>
-    ensures { Writes W.contents out.old out.new (moments_json (header_of header.now)
+    ensures { Writes W.contents out.old out.new (moments_json (header_values header.now)
         (string_bytes moments.now.created) (string_bytes moments.now.modified)
         (string_bytes moments.now.backup)) (is_ok result) }
 {
@@ -70,7 +70,7 @@ pub(crate) fn put_moments<'a, W: Write>(
 /// Writes the last values of the header.
 #[tactic(auto, unfolding(crate::specs::FileDocument::marks_json))]
 pub(crate) fn put_marks<W: Write>(out: &mut Counted<W>, header: &DbHeader) -> Result<(), WriteFault>
-    ensures { Writes W.contents out.old out.new (marks_json (header_of header.now)) (is_ok result) }
+    ensures { Writes W.contents out.old out.new (marks_json (header_values header.now)) (is_ok result) }
 {
     put_json(
         out,

@@ -1,4 +1,4 @@
-//! JSON documents with the facts that `list` prints as text. `image_documents` has those of images.
+//! JSON documents with the facts that `list` prints as text. `image_commands` has those of images.
 //! `json_text` describes what all documents have in common.
 //!
 //! ```text

@@ -4,7 +4,7 @@ ghost use Rattle.std.specs.Prelude.{◌≡◌, ◌≢◌, ◌≤◌, length, tru
 ghost use Rattle.allowance.specs.Refusals.{GrowthRefused};
 ghost use Rattle.canonical_file.specs.Canonical.{most_bytes};
 ghost use Rattle.json_documents.specs.Ends.{EndsListJson, PutsDocument};
-ghost use Rattle.json_documents.specs.Parts.{IsFaultOf};
+ghost use Rattle.json_documents.specs.Parts.{IsDocumentFault};
 
 use crate::file_document::{DocumentFault, put_file_document};
 use crate::file_fault::say_file_fault;
@@ -50,7 +50,7 @@ fn put_flushed<A: Allowance, V: Write>(
 ) -> Result<(), DocumentFault>
     requires { length file.now ≤ most_bytes }
     ensures done { OnOk result (PutsDocument file.now V.contents out.old out.new true) }
-    ensures why { IfErr result (IsFaultOf file.now) }
+    ensures why { IfErr result (IsDocumentFault file.now) }
     ensures untouched { IfErr result (λ fault. fault ≢ DocumentFault.Write → out.new ≡ out.old) }
     ensures write { result ≡ Err DocumentFault.Write
         → PutsDocument file.now V.contents out.old out.new false }

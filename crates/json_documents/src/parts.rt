@@ -3,15 +3,15 @@
 ghost use Rattle.std.specs.Prelude.{◌≡◌, ◌≤◌, length, IfOk, OnErr, string_bytes};
 ghost use Rattle.heap_model.specs.Database.{header_in};
 ghost use Rattle.heap_model.specs.Files.{HasNoFault};
-ghost use Rattle.db_format.specs.Headers.{header_of};
+ghost use Rattle.db_format.specs.Headers.{header_values};
 ghost use Rattle.canonical_file.specs.Canonical.{HasBlocks, most_bytes};
 ghost use Rattle.json_documents.specs.FileDocument as document;
 ghost use Rattle.json_documents.specs.FileDocument.{IsQuotedUtc, IsUtcJson};
-ghost use Rattle.json_documents.specs.Parts.{AreMoments, HasParts};
+ghost use Rattle.json_documents.specs.Parts.{AreUtcMoments, HasDocumentParts};
 
 use allowance::{Allowance, text_of};
+use canonical_file::{Changes, find_changes};
 use db_format::DbHeader;
-use file_changes::{Changes, find_changes};
 use file_listing::utc_text;
 use pdb_format::{Block, find_blocks_from};
 use std::alloc::AllocError;
@@ -63,7 +63,7 @@ fn utc_json<A: Allowance>(memory: &A, seconds: u32) -> Result<String, AllocError
 
 /// Returns the UTC texts of the header's moments.
 fn moments_of<A: Allowance>(memory: &A, header: &DbHeader) -> Result<Moments, AllocError>
-    ensures moments { IfOk result (AreMoments (header_of header.now)) }
+    ensures moments { IfOk result (AreUtcMoments (header_values header.now)) }
     ensures short { OnErr result (A.is_short memory.now) }
 {
     Ok(Moments {
@@ -91,8 +91,8 @@ pub(crate) fn parts_of<A: Allowance>(
 ) -> Result<Parts, AllocError>
     requires good { HasNoFault file.now }
     requires short { length file.now ≤ most_bytes }
-    requires header { header_of header.now ≡ header_in file.now }
-    ensures parts { IfOk result (HasParts file.now) }
+    requires header { header_values header.now ≡ header_in file.now }
+    ensures parts { IfOk result (HasDocumentParts file.now) }
     ensures short { OnErr result (A.is_short memory.now) }
 {
     Ok(Parts {

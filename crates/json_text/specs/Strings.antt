@@ -11,25 +11,25 @@ abbrev pub code_of : ℕ → ℕ
 code_of b = unwrap_or (character_of b) b
 
 -- a byte that stands in a string as it is: a character from space to `~`, except `"` and `\`
-abbrev pub is_plain : ℕ → Bool
-is_plain b = nat_le 32 b && nat_le b 126 && not (b == 34) && not (b == 92)
+abbrev pub is_plain_in_string : ℕ → Bool
+is_plain_in_string b = nat_le 32 b && nat_le b 126 && not (b == 34) && not (b == 92)
 
 -- any other one as `\u` and its code in four hex digits
-abbrev pub escaped : ℕ → List ℕ
-escaped b = codes "\\u" ++ encode_lower (u16_bytes (code_of b))
+abbrev pub escape_of : ℕ → List ℕ
+escape_of b = codes "\\u" ++ encode_lower (u16_bytes (code_of b))
 
-abbrev pub character : ℕ → List ℕ
-character b = if is_plain b then b ∷ [] else escaped b
+abbrev pub string_character : ℕ → List ℕ
+string_character b = if is_plain_in_string b then b ∷ [] else escape_of b
 
-abbrev pub characters : List ℕ → List ℕ
-characters bytes = flat_map character bytes
+abbrev pub string_characters : List ℕ → List ℕ
+string_characters bytes = flat_map string_character bytes
 
 -- the string of some bytes: their characters in quotes
-abbrev pub closed : List ℕ → List ℕ
-closed bytes = characters bytes ++ codes "\""
+abbrev pub closed_string : List ℕ → List ℕ
+closed_string bytes = string_characters bytes ++ codes "\""
 
 abbrev pub string : List ℕ → List ℕ
-string bytes = codes "\"" ++ closed bytes
+string bytes = codes "\"" ++ closed_string bytes
 
 -- the string of their hex digits
 abbrev pub hex_string : List ℕ → List ℕ

@@ -3,7 +3,7 @@
 ghost use Rattle.std.specs.Prelude.{◌≡◌, ◌++◌, ◌∷◌, [], codes, is_ok};
 ghost use Rattle.palm_text.specs.Counted.{Writes};
 ghost use Rattle.json_text.specs.Strings as words;
-ghost use Rattle.json_text.specs.Strings.{character, characters, closed, escaped, hex_string, string};
+ghost use Rattle.json_text.specs.Strings.{string_character, string_characters, closed_string, escape_of, hex_string, string};
 
 use code_page::character_of;
 use palm_text::{Counted, Piece, WriteFault, put_all, put_pieces};
@@ -21,7 +21,7 @@ pub(crate) fn put_string<W: Write>(out: &mut Counted<W>, bytes: &[u8]) -> Result
 
 /// Writes the characters of some bytes, and the quote after them.
 fn put_closed<W: Write>(out: &mut Counted<W>, bytes: &[u8]) -> Result<(), WriteFault>
-    ensures { Writes W.contents out.old out.new (closed bytes.now) (is_ok result) }
+    ensures { Writes W.contents out.old out.new (closed_string bytes.now) (is_ok result) }
 {
     match put_characters(out, bytes) {
         Ok(()) => put_all(out, b"\""),
@@ -31,7 +31,7 @@ fn put_closed<W: Write>(out: &mut Counted<W>, bytes: &[u8]) -> Result<(), WriteF
 
 /// Writes the characters of some bytes.
 fn put_characters<W: Write>(out: &mut Counted<W>, bytes: &[u8]) -> Result<(), WriteFault>
-    ensures { Writes W.contents out.old out.new (characters bytes.now) (is_ok result) }
+    ensures { Writes W.contents out.old out.new (string_characters bytes.now) (is_ok result) }
 {
     for byte in bytes {
         match put_character(out, *byte) {
@@ -44,7 +44,7 @@ fn put_characters<W: Write>(out: &mut Counted<W>, bytes: &[u8]) -> Result<(), Wr
 
 /// Writes the character of a byte.
 fn put_character<W: Write>(out: &mut Counted<W>, byte: u8) -> Result<(), WriteFault>
-    ensures { Writes W.contents out.old out.new (character byte) (is_ok result) }
+    ensures { Writes W.contents out.old out.new (string_character byte) (is_ok result) }
 {
     if is_plain(byte) {
         put_all(out, &[byte])
@@ -55,7 +55,7 @@ fn put_character<W: Write>(out: &mut Counted<W>, byte: u8) -> Result<(), WriteFa
 
 /// Writes the escape of a byte.
 fn put_escaped<W: Write>(out: &mut Counted<W>, byte: u8) -> Result<(), WriteFault>
-    ensures { Writes W.contents out.old out.new (escaped byte) (is_ok result) }
+    ensures { Writes W.contents out.old out.new (escape_of byte) (is_ok result) }
 {
     let code = code_of(byte);
     put_pieces(out, &[Piece::Text(b"\\u"), Piece::Hex16(code)])
@@ -63,7 +63,7 @@ fn put_escaped<W: Write>(out: &mut Counted<W>, byte: u8) -> Result<(), WriteFaul
 
 /// Returns whether a byte stands in a string as it is.
 fn is_plain(byte: u8) -> bool
-    ensures { result ≡ words.is_plain byte }
+    ensures { result ≡ words.is_plain_in_string byte }
 {
     byte >= b' ' && byte <= b'~' && byte != b'"' && byte != b'\\'
 }

@@ -11,7 +11,7 @@ use Rattle.heap_model.specs.Meaning.{LiveChunk, NamedHere}
 use Rattle.heap_model.specs.Heap.{TableHere, Tiles, HeapAccepted}
 use Rattle.heap_model.specs.Reading.{chunks_of}
 use Rattle.heap_model.specs.Placing.{Finds}
-use Rattle.heap_model.specs.Space.{stays, NoneStays, AllFree}
+use Rattle.heap_model.specs.Space.{stays_put, NoneStays, AllFree}
 use Rattle.heap_model.specs.Layout.{Becomes, Exchanges, Alters, IsSpot, with_lock, with_owner}
 use Rattle.heap_model.specs.Lending.{LentHere, IsLentBody, LendsBodies, LendsOther}
 use Rattle.laws_heap.proofs.Chunks.{Spelled-size, SpelledAll-split, SpelledAll-end, total-append}
@@ -65,7 +65,7 @@ none_lends memory none = subst (λ (lents : List Lent). EachLent (IsLentBody mem
 pub record Stays (lent : Lent) (at : ℕ) (c : Chunk) : Type 0 where
   pub there : lent.at ≡ at + 8
   pub fits : 8 + lent.count ≤ size_of c
-  pub one : IsTrue (stays c)
+  pub one : IsTrue (stays_put c)
 
 pub stays_here : (lent : Lent) (at : ℕ) (c : Chunk) → LentHere lent at c → Stays lent at c
 stays_here lent at (free size) h = absurd h
@@ -106,20 +106,20 @@ apart (x ∷ b) c a (y ∷ b') c' a' e =
     ]
 
 -- and a run of chunks of which none stays is next to one that stays
-loose_heads : (m : Chunk) (mid : List Chunk) → NoneStays (m ∷ mid) → (IsTrue (stays m) → ⊥) × NoneStays mid
+loose_heads : (m : Chunk) (mid : List Chunk) → NoneStays (m ∷ mid) → (IsTrue (stays_put m) → ⊥) × NoneStays mid
 loose_heads (free size) mid n = (λ s. absurd cc, n)
 loose_heads (movable bytes zero owner slot) mid n = (λ s. absurd cc, n)
 loose_heads (movable bytes (suc lock) owner slot) mid n = absurd n
 loose_heads (fixed bytes owner) mid n = absurd n
 
-stays_size : (c : Chunk) → IsTrue (stays c) → 8 ≤ size_of c
+stays_size : (c : Chunk) → IsTrue (stays_put c) → 8 ≤ size_of c
 stays_size (free size) s = absurd cc
 stays_size (movable bytes lock owner slot) s = omega arith
 stays_size (fixed bytes owner) s = omega arith
 
-pub run_apart : (b mid a b' : List Chunk) (c' : Chunk) (a' : List Chunk) → b ++ (mid ++ a) ≡ b' ++ c' ∷ a' → NoneStays mid → IsTrue (stays c') → (total b' + size_of c' ≤ total b) ⊎ (total b + total mid ≤ total b')
+pub run_apart : (b mid a b' : List Chunk) (c' : Chunk) (a' : List Chunk) → b ++ (mid ++ a) ≡ b' ++ c' ∷ a' → NoneStays mid → IsTrue (stays_put c') → (total b' + size_of c' ≤ total b) ⊎ (total b + total mid ≤ total b')
 run_apart [] [] a b' c' a' e n s = inr (omega arith)
-run_apart [] (m ∷ mid) a [] c' a' e n s = absurd ((loose_heads m mid n).0 (subst (λ (x : Chunk). IsTrue (stays x)) (sym (heads e).0) s))
+run_apart [] (m ∷ mid) a [] c' a' e n s = absurd ((loose_heads m mid n).0 (subst (λ (x : Chunk). IsTrue (stays_put x)) (sym (heads e).0) s))
 run_apart [] (m ∷ mid) a (x ∷ b') c' a' e n s =
     let same : size_of m ≡ size_of x = ap size_of (heads e).0 in
     let size = stays_size c' s in
@@ -408,7 +408,7 @@ other_lends old new name live chunk at change h l same f x sizes other =
 -- one that gets another lock
 pub relocked_lends : (old new : Memory) (name : ℕ) (live : LiveChunk) (chunk : Chunk) (at lock : ℕ) → HeapAccepted old.bytes → LendsBodies old → new.lents ≡ old.lents → (f : Finds old.bytes name live chunk at) → Alters old.bytes new.bytes at (with_lock lock)
     → (0 < lock) ⊎ LendsOther old (at + 8) → LendsBodies new
-relocked_lends old new name live chunk at lock h l same f x stays =
+relocked_lends old new name live chunk at lock h l same f x stays_put =
     altered_lends old new name live chunk at (λ c. with_lock lock c ∷ []) h l same f x (same_size chunk) (each chunk) where
       same_size : (c : Chunk) → size_of (with_lock lock c) + 0 ≡ size_of c
       same_size (free size) = omega arith
@@ -422,7 +422,7 @@ relocked_lends old new name live chunk at lock h l same f x stays =
       each : (c : Chunk) (lent : Lent) → IsAmong lent old.lents → LentHere lent at c → AnyPlaced (LentHere lent) at (with_lock lock c ∷ [])
       each (free size) lent is here = absurd here
       each (movable bytes zero owner slot) lent is here = absurd here
-      each (movable bytes (suc count) owner slot) lent is here = elim stays [
+      each (movable bytes (suc count) owner slot) lent is here = elim stays_put [
         | inl some ↦ inl (locked lent bytes lock owner slot some here)
         | inr other ↦ let o : lent.at ≢ at + 8 = each_of (λ y. y.at ≢ at + 8) lent old.lents other is in absurd (o here.0)
       ]

@@ -10,7 +10,7 @@ use Rattle.heap_model.specs.Slots.{area_start}
 use Rattle.heap_model.specs.Heap.{HeapAccepted}
 use Rattle.heap_model.specs.Meaning.{LiveChunk}
 use Rattle.heap_model.specs.Reading.{chunks_of, live_under, is_fixed_name}
-use Rattle.heap_model.specs.Space.{stays, NoneStays, onto_first, runs_between, has_chunk, stretches, room_of, rooms_of, rooms, with_freed, Short, ShortFor}
+use Rattle.heap_model.specs.Space.{stays_put, NoneStays, onto_first, runs_between, has_chunk, stretches, room_of, rooms_of, rooms, with_freed, Short, ShortFor}
 use Rattle.heap_model.specs.Packing.{EndsStaying, BeginsStaying, WholeStretch}
 use Rattle.laws_heap.proofs.Tests.{cond-true, none_some}
 use Rattle.laws_heap.proofs.Chunks.{total-append, SpelledAll-split, SpelledAll-unique}
@@ -27,7 +27,7 @@ record Closed (cs : List Chunk) : Type 0 where
   others : List (List Chunk)
   before : (ds : List Chunk) → runs_between (cs ++ ds) ≡ (first ∷ others) ++ runs_between ds
 
-one_closed : (c : Chunk) → IsTrue (stays c) → Closed (c ∷ [])
+one_closed : (c : Chunk) → IsTrue (stays_put c) → Closed (c ∷ [])
 one_closed (free size) s = absurd (no_true s)
 one_closed (movable bytes zero owner slot) s = absurd (no_true s)
 one_closed (movable bytes (suc count) owner slot) s = record { first = []; others = []; before = λ ds. refl }
@@ -90,7 +90,7 @@ stretch_among before c cs after n in_front behind =
 
 -- ---- the stretch around any chunks of which none stays
 
-none_stays-cons : (c : Chunk) (cs : List Chunk) → stays c ≡ false → NoneStays cs → NoneStays (c ∷ cs)
+none_stays-cons : (c : Chunk) (cs : List Chunk) → stays_put c ≡ false → NoneStays cs → NoneStays (c ∷ cs)
 none_stays-cons (free size) cs e n = n
 none_stays-cons (movable bytes zero owner slot) cs e n = n
 none_stays-cons (movable bytes (suc count) owner slot) cs e n = absurd cc
@@ -106,8 +106,8 @@ pub record LooseBehind (cs : List Chunk) : Type 0 where
 
 pub loose_behind : (cs : List Chunk) → LooseBehind cs
 loose_behind [] = record { back = []; later = []; parts = refl; loose = tt; begins = tt }
-loose_behind (c ∷ cs) = by (stays c) refl (loose_behind cs) where
-  by : (b : Bool) → stays c ≡ b → LooseBehind cs → LooseBehind (c ∷ cs)
+loose_behind (c ∷ cs) = by (stays_put c) refl (loose_behind cs) where
+  by : (b : Bool) → stays_put c ≡ b → LooseBehind cs → LooseBehind (c ∷ cs)
   by true e rest = record { back = []; later = c ∷ cs; parts = refl; loose = tt; begins = e }
   by false e rest = record { back = c ∷ rest.back; later = rest.later; parts = ap (λ (ds : List Chunk). c ∷ ds) rest.parts; loose = none_stays-cons c rest.back e rest.loose; begins = rest.begins }
 
@@ -122,12 +122,12 @@ pub record LooseFront (cs : List Chunk) : Type 0 where
 pub loose_front : (cs : List Chunk) → LooseFront cs
 loose_front [] = record { earlier = []; front = []; parts = refl; loose = tt; ends = tt }
 loose_front (c ∷ cs) = by (loose_front cs) where
-  first : (b : Bool) → stays c ≡ b → (front : List Chunk) → cs ≡ front → NoneStays front → LooseFront (c ∷ cs)
+  first : (b : Bool) → stays_put c ≡ b → (front : List Chunk) → cs ≡ front → NoneStays front → LooseFront (c ∷ cs)
   first true e front parts loose = record { earlier = c ∷ []; front = front; parts = ap (λ (ds : List Chunk). c ∷ ds) parts; loose = loose; ends = e }
   first false e front parts loose = record { earlier = []; front = c ∷ front; parts = ap (λ (ds : List Chunk). c ∷ ds) parts; loose = none_stays-cons c front e loose; ends = tt }
 
   more : (earlier front : List Chunk) → cs ≡ earlier ++ front → NoneStays front → EndsStaying earlier → LooseFront (c ∷ cs)
-  more [] front parts loose ends = first (stays c) refl front parts loose
+  more [] front parts loose ends = first (stays_put c) refl front parts loose
   more (d ∷ earlier) front parts loose ends = record { earlier = c ∷ d ∷ earlier; front = front; parts = ap (λ (ds : List Chunk). c ∷ ds) parts; loose = loose; ends = ends }
 
   by : LooseFront cs → LooseFront (c ∷ cs)
@@ -170,7 +170,7 @@ stretch_between before after =
 
 -- ---- the stretch around a chunk is one alone
 
-no_stay : (c : Chunk) (cs : List Chunk) → NoneStays (c ∷ cs) → IsTrue (stays c) → ⊥
+no_stay : (c : Chunk) (cs : List Chunk) → NoneStays (c ∷ cs) → IsTrue (stays_put c) → ⊥
 no_stay (free size) cs n s = no_true s
 no_stay (movable bytes zero owner slot) cs n s = no_true s
 no_stay (movable bytes (suc count) owner slot) cs n s = n

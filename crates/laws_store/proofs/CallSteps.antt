@@ -10,7 +10,7 @@ use Rattle.heap_model.specs.Refusals.{FirstBrings}
 use Rattle.heap_model.specs.MemorySteps.{reply_of}
 use Rattle.heap_model.specs.StoreWords.{SameStore}
 use Rattle.heap_model.specs.EntrySteps.{LeavesStore}
-use Rattle.heap_model.specs.StoreSteps.{Call, StoreStep, may_slide, row_of, LeavesTables, DoesInStore}
+use Rattle.heap_model.specs.StoreSteps.{Call, StoreStep, may_slide_bytes, row_of, LeavesTables, DoesInStore}
 use Rattle.heap_model.specs.Slots.{Tables, tables_of}
 use Rattle.heap_model.specs.declared.call.MemoryCall.TheVariants.{MoreSlots}
 use Rattle.heap_model.specs.declared.call.Call.TheVariants as calls
@@ -39,7 +39,7 @@ asks region call reply a step = record {
   still = λ name live held locked there. refl;
   loan = keeps_itself region;
   asks = unchanged (row_of region call).only_asks;
-  rest = none_slid (may_slide call);
+  rest = none_slid (may_slide_bytes call);
 } where
   unchanged : (asks : Bool) → OnTrue asks (region ≡ region)
   unchanged true = refl
@@ -60,7 +60,7 @@ handed_on {A} {old} {new} f call (Err refusal) is does = subst (λ (r : Refusal)
 
 -- a call that leaves some store, and makes no table
 pub changes : (old new : Memory) (call : Call) (reply : Reply) (store : Store) → ((tables : Tables) → LeavesTables call reply tables tables) → Accepted old.bytes → LeavesStore old.bytes new.bytes store → StoreStep old call reply new → KeepsLoan old new → OnTrue (row_of old call).only_asks (new ≡ old)
-    → new ≡ record old { bytes = new.bytes; slid = if may_slide call then new.slid else old.slid } → DoesInStore old call reply new
+    → new ≡ record old { bytes = new.bytes; slid = if may_slide_bytes call then new.slid else old.slid } → DoesInStore old call reply new
 changes old new call reply store none a leaves step loan asks rest = record {
   before = a;
   step = step;

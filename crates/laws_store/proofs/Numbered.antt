@@ -11,7 +11,7 @@ use Rattle.heap_model.specs.Lists.{times}
 use Rattle.heap_model.specs.Database.{Database, Entry, a_record, a_resource, entry_data, has_resources, EntryFits, IsSpelled}
 use Rattle.heap_model.specs.Store.{StoredDatabase, HasData, IsDatabase, owner_of, bytes_under, owner_under, listed, database_under, databases, IsHeaderSlot, Accepted, store_of}
 use Rattle.heap_model.specs.StoreWords.{OfDatabase, with_number, In}
-use Rattle.heap_model.specs.EntrySteps.{entries_of, entries_in, entry_under, data_of_entry, data_under, kind_of, resources_under}
+use Rattle.heap_model.specs.EntrySteps.{entries_of, entries_in, entry_under, data_of_entry, data_under, holds_resources, resources_under}
 use Rattle.heap_model.specs.declared.names.Db.{Db}
 use Rattle.heap_model.specs.Counts.{NamesData, IsWhole, IsSound}
 use Rattle.heap_model.specs.Leaving.{database_here, SpellsHere}
@@ -131,7 +131,7 @@ pub data_here : (image : List ℕ) (db : Db) (index : ℕ) (e : Entry ℕ) → I
 data_here image db index e has at = ap data_of_entry (entry_here image db index has ∙ at)
 
 pub kind_here : (image : List ℕ) (db : Db) → IsSome (with_number (store_of image) db.0) → resources_under (store_of image) db ≡ has_resources (database_here image db.0).header.attributes
-kind_here image db has = ap kind_of (number_here image db.0 has)
+kind_here image db has = ap holds_resources (number_here image db.0 has)
 
 -- ---- an entry of it
 

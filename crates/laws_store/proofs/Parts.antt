@@ -15,9 +15,9 @@ use Rattle.heap_model.specs.Slots.{area_start}
 use Rattle.heap_model.specs.Heap.{HeapAccepted}
 use Rattle.heap_model.specs.Meaning.{LiveChunk, NamedHere}
 use Rattle.heap_model.specs.Reading.{chunks_of, live_under, held, is_fixed_name}
-use Rattle.heap_model.specs.Space.{stays, NoneStays, onto_first, runs_between, has_chunk, stretches, room_of, rooms_of, rooms, with_freed, Short, ShortFor}
+use Rattle.heap_model.specs.Space.{stays_put, NoneStays, onto_first, runs_between, has_chunk, stretches, room_of, rooms_of, rooms, with_freed, Short, ShortFor}
 use Rattle.heap_model.specs.Store.{bytes_of, bytes_under}
-use Rattle.heap_model.specs.Rooms.{is_movable_as, stretch_of, KeepsStretches, Lowers, Part, makes, grows, growth, rooms_for, Stuck}
+use Rattle.heap_model.specs.Rooms.{is_movable_as, stretch_of, KeepsStretches, Lowers, Part, makes, grows, growth_part, rooms_for, Stuck}
 use Rattle.laws_heap.proofs.Tests.{none_some}
 use Rattle.laws_heap.proofs.FixedNames.{fixed_live_is}
 use Rattle.laws_heap.proofs.FoundChunks.{held_finds}
@@ -36,7 +36,7 @@ or_false true b e = absurd cc
 
 runs_without : (name : ℕ) (cs : List Chunk) → Without name cs → All (Without name) (runs_between cs)
 runs_without name [] e = All-cons (Without name) [] [] refl (All-nil (Without name))
-runs_without name (c ∷ cs) e = by (stays c) (runs_without name cs (or_false (is_movable_as name c) (list_any (is_movable_as name) cs) e).1) where
+runs_without name (c ∷ cs) e = by (stays_put c) (runs_without name cs (or_false (is_movable_as name c) (list_any (is_movable_as name) cs) e).1) where
   parts : (is_movable_as name c ≡ false) × Without name cs
   parts = or_false (is_movable_as name c) (list_any (is_movable_as name) cs) e
 
@@ -144,7 +144,7 @@ around image name live h e unlocked =
 
 -- the rooms for a chunk that grows are those where the chunk is free
 pub growth_rooms : (image : List ℕ) (name count : ℕ) (live : LiveChunk) → HeapAccepted image → held image name ≡ Some live → live.lock ≡ 0
-    → rooms_for (rooms image) (growth image name count) ≡ rooms_of (stretches (with_freed (chunks_of image) name))
+    → rooms_for (rooms image) (growth_part image name count) ≡ rooms_of (stretches (with_freed (chunks_of image) name))
 unfolding bytes_under
 growth_rooms image name count live h e unlocked =
     let a = around image name live h e unlocked in
@@ -167,7 +167,7 @@ growth_rooms image name count live h e unlocked =
 pub one_made : (image : List ℕ) (size : ℕ) → (Stuck (rooms image) (makes size ∷ []) ↔ Short image size)
 one_made image size = (λ s. elim s [ inl all ↦ all | inr more ↦ absurd more.2 ], λ all. inl all)
 
-pub one_grown : (image : List ℕ) (name count : ℕ) (live : LiveChunk) → HeapAccepted image → held image name ≡ Some live → live.lock ≡ 0 → (Stuck (rooms image) (growth image name count ∷ []) ↔ ShortFor image name (need count))
+pub one_grown : (image : List ℕ) (name count : ℕ) (live : LiveChunk) → HeapAccepted image → held image name ≡ Some live → live.lock ≡ 0 → (Stuck (rooms image) (growth_part image name count ∷ []) ↔ ShortFor image name (need count))
 one_grown image name count live h e unlocked =
     let same = growth_rooms image name count live h e unlocked in
     let P : List ℕ → Type 0 = λ left. All (λ room. room < need count) left in (
@@ -182,7 +182,7 @@ unfolding bytes_under
 bytes_same old new name live e f = ap bytes_of (f ∙ sym e)
 
 -- a chunk that grows is in its old stretch, after another was made
-growth_kept : (old mid : List ℕ) (name count : ℕ) (live : LiveChunk) → KeepsStretches old mid → held old name ≡ Some live → held mid name ≡ Some live → growth mid name count ≡ growth old name count
+growth_kept : (old mid : List ℕ) (name count : ℕ) (live : LiveChunk) → KeepsStretches old mid → held old name ≡ Some live → held mid name ≡ Some live → growth_part mid name count ≡ growth_part old name count
 growth_kept old mid name count live kept e f =
     let stretch = kept name (ap is_some e) (ap is_some f) in
     let bytes = bytes_same old mid name live e f in
@@ -192,7 +192,7 @@ growth_kept old mid name count live kept e f =
 -- where a chunk was made, and then there is no room for another to grow, the two parts run out of
 -- room
 pub made_then_short : (old mid : List ℕ) (size name count : ℕ) (live : LiveChunk) → HeapAccepted mid → Lowers old mid size → held old name ≡ Some live → held mid name ≡ Some live → live.lock ≡ 0 → ShortFor mid name (need count)
-    → Stuck (rooms old) (makes size ∷ growth old name count ∷ [])
+    → Stuck (rooms old) (makes size ∷ growth_part old name count ∷ [])
 made_then_short old mid size name count live heap lowers e f unlocked short =
     let grown = (one_grown mid name count live heap f unlocked).1 short in
     inr (rooms mid, lowers.room, subst (λ (part : Part). Stuck (rooms mid) (part ∷ [])) (growth_kept old mid name count live lowers.kept e f) grown)

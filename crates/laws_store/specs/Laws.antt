@@ -16,7 +16,7 @@ use Rattle.heap_model.specs.UniqueIds.{greatest_id, IsFresh}
 use Rattle.heap_model.specs.Store.{StoredDatabase, Store, owner_of, owner_under, databases, numbers_of, unique_id, unique_ids, IsHeaderSlot, Accepted, Means, store_of, bytes_under}
 use Rattle.heap_model.specs.Counts.{NamesData, HasDatabases, IsSound}
 use Rattle.heap_model.specs.Leaving.{Leaves, rewritten, Respells, database_here, SpellsHere}
-use Rattle.heap_model.specs.Rooms.{Lowers, makes, growth, Stuck}
+use Rattle.heap_model.specs.Rooms.{Lowers, makes, growth_part, Stuck}
 use Rattle.heap_model.specs.Memory.{Memory}
 use Rattle.heap_model.specs.MemorySteps.{MemoryCall, AsBefore, Does}
 use Rattle.heap_model.specs.declared.names.Db.{Db}
@@ -267,11 +267,11 @@ abbrev pub OnePartIsShort : Type 0
 OnePartIsShort =
     ((image : List ℕ) (size : ℕ) → (Stuck (rooms image) (makes size ∷ []) ↔ Short image size))
     × ((image : List ℕ) (name count : ℕ) (live : LiveChunk) → HeapAccepted image → held image name ≡ Some live → live.lock ≡ 0
-    → (Stuck (rooms image) (growth image name count ∷ []) ↔ ShortFor image name (need count)))
+    → (Stuck (rooms image) (growth_part image name count ∷ []) ↔ ShortFor image name (need count)))
 
 -- If a chunk was made, and then an unlocked chunk finds no room to grow, a call of these two parts
 -- can run out of room.
 abbrev pub MadeThenShort : Type 0
 MadeThenShort =
     (old mid : List ℕ) (size name count : ℕ) (live : LiveChunk) → HeapAccepted mid → Lowers old mid size → held old name ≡ Some live → held mid name ≡ Some live → live.lock ≡ 0 → ShortFor mid name (need count)
-    → Stuck (rooms old) (makes size ∷ growth old name count ∷ [])
+    → Stuck (rooms old) (makes size ∷ growth_part old name count ∷ [])

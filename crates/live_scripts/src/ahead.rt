@@ -5,7 +5,7 @@ ghost use Rattle.std.specs.Io.{StartsWith};
 ghost use Rattle.std.specs.Io.KnownBytes.{IsAtEnd, Keeps, prepend_known};
 
 use allowance::Allowance;
-use program_io::{INPUT_LIMIT, InputFault, read_turn};
+use program_io::{InputFault, MOST_INPUT, read_turn};
 use std::io::Read;
 
 /// Reads until the new bytes contain a line feed, or to the end. It appends them, and returns
@@ -13,7 +13,7 @@ use std::io::Read;
 ///
 /// # Errors
 /// - `Read`: if a read failed.
-/// - `TooLong`: if there are more than `INPUT_LIMIT` bytes.
+/// - `TooLong`: if there are more than `MOST_INPUT` bytes.
 /// - `Memory`: if an allocation failed.
 pub(crate) fn read_ahead<A: Allowance, R: Read>(
     memory: &A,
@@ -22,8 +22,8 @@ pub(crate) fn read_ahead<A: Allowance, R: Read>(
     text: &mut Vec<u8>,
 ) -> Result<bool, InputFault>
     requires room { 0 < length turn.old }
-    requires limit { vec_len text.old ≤ INPUT_LIMIT }
-    ensures limit { OnOk result (vec_len text.new ≤ INPUT_LIMIT) }
+    requires limit { vec_len text.old ≤ MOST_INPUT }
+    ensures limit { OnOk result (vec_len text.new ≤ MOST_INPUT) }
     ensures more { OnOk result (StartsWith text.new.items text.old.items) }
     ensures kept { OnOk result (Keeps
         (prepend_known text.old.items (R.remaining reader.old))
@@ -32,7 +32,7 @@ pub(crate) fn read_ahead<A: Allowance, R: Read>(
     ensures longer { result ≡ Ok false → vec_len text.old < vec_len text.new }
     ensures too_long { result ≡ Err InputFault.TooLong
         → IfSome (prepend_known text.old.items (R.remaining reader.old))
-        (λ all. INPUT_LIMIT < length all) }
+        (λ all. MOST_INPUT < length all) }
     ensures no_memory { result ≡ Err InputFault.Memory → A.is_short memory.now }
 {
     loop {

@@ -3,6 +3,7 @@
 ghost use Rattle.std.specs.Prelude.{◌≡◌, ◌<◌, [], Err, IfOk, IfErr, IfSome, OnOk, Some, length, true, false};
 ghost use Rattle.std.specs.Io.KnownBytes.{IsAtEnd};
 ghost use Rattle.palm_text.specs.Counted.{Flushes};
+ghost use Rattle.palm_script.specs.Loans.{LoanStays};
 ghost use Rattle.live_scripts.specs.Live.{ReadStops, RunsText};
 ghost use Rattle.live_scripts.specs.Sessions.{IsReadFault};
 
@@ -13,12 +14,9 @@ use allowance::{Allowance, zeros};
 use heap_model::Bytes;
 use palm_store::Store;
 use palm_text::Counted;
-use program_io::{INPUT_LIMIT, InputFault};
+use program_io::{InputFault, MOST_INPUT, MOST_READ};
 use std::cell::Cell;
 use std::io::{Read, Write};
-
-/// The greatest number of bytes that one read asks for.
-const TURN: usize = 65_536;
 
 /// What the lines of a script are run with.
 #[derive(Clone, Copy)]
@@ -35,7 +33,7 @@ pub struct LiveInputs<'a> {
 ///
 /// # Errors
 /// - `Line`: if a line is faulty. It is the first faulty line of the script.
-/// - `Input`: if the script can't be read to its end, or is longer than `INPUT_LIMIT`.
+/// - `Input`: if the script can't be read to its end, or is longer than `MOST_INPUT`.
 /// - `Memory`: if an allocation failed.
 /// - `Write`: if a write or a flush failed.
 ///
@@ -54,13 +52,13 @@ pub fn run_read<A: Allowance, R: Read, W: Write>(
     ensures flushed { OnOk result (out.new.flushed ≡ Some true) }
     ensures text { OnOk result (IfSome (R.remaining reader.old) (λ all. text.new.items ≡ all)) }
     ensures end { OnOk result (IsAtEnd (R.remaining reader.new)) }
-    ensures lent { store.new.lents ≡ store.old.lents }
+    ensures stays { LoanStays store.old store.new }
     ensures fault { IfErr result (λ fault. ReadStops (A.is_short memory.now) W.contents
         inputs.entry.files.now (R.remaining reader.old) store.old out.old fault store.new out.new) }
     ensures too_long { result ≡ Err (LiveFault.Input InputFault.TooLong)
-        → IfSome (R.remaining reader.old) (λ all. INPUT_LIMIT < length all) }
+        → IfSome (R.remaining reader.old) (λ all. MOST_INPUT < length all) }
 {
-    let Ok(mut turn) = zeros(memory, TURN) else {
+    let Ok(mut turn) = zeros(memory, MOST_READ) else {
         return Err(LiveFault::Memory);
     };
     let mut session = Session::new(memory.allocator());

@@ -9,6 +9,7 @@ ghost use Rattle.script_lines.specs.Numbering.{none_numbered};
 ghost use Rattle.script_lines.specs.Views.{numberings};
 ghost use Rattle.script_calls.specs.Lines.{unbound};
 ghost use Rattle.script_lines.specs.Cuts.{IsUnended};
+ghost use Rattle.palm_script.specs.Loans.{LoanStays};
 ghost use Rattle.live_scripts.specs.Sessions.{EndsOn, FailsLine, LineStops, ReadsLine, Replies};
 ghost use Rattle.live_scripts.specs.Sessions.{RunsLine, RunsOn, StopsAt, StopsOn, bound_in};
 
@@ -69,6 +70,7 @@ impl Session {
     }
 
     /// Reads one line from its text, and runs it.
+    #[tactic(auto, using(palm_script::proofs::LoanLaws::stays_itself))]
     fn run_text<A: Allowance, W: Write>(
         &mut self,
         memory: &A,
@@ -81,7 +83,7 @@ impl Session {
         ensures ok { OnOk result (ReadsLine (A.is_short memory.now) W.contents inputs.entry.files.now
             text.now self.old store.old out.old self.new store.new out.new) }
         ensures count { OnOk result (self.new.count ≡ self.old.count + 1) }
-        ensures lent { store.new.lents ≡ store.old.lents }
+        ensures stays { LoanStays store.old store.new }
         ensures fault { IfErr result (λ fault. LineStops (A.is_short memory.now) W.contents
             inputs.entry.files.now fault text.now self.old store.old out.old self.new store.new out.new) }
         ensures reads_all { result ≢ Err (LiveFault.Input TooLong) }
@@ -111,6 +113,7 @@ impl Session {
     /// # Errors
     /// - `OutOfMemory`: if an allocation failed. The line was not run, or its file was lost.
     /// - `Write`: if the reply line could not be written.
+    #[tactic(auto, using(palm_script::proofs::LoanLaws::stays_itself))]
     fn run_line<A: Allowance, W: Write>(
         &mut self,
         memory: &A,
@@ -123,7 +126,7 @@ impl Session {
             (bound_in self.old) self.old.files.items store.old out.old self.new store.new out.new) }
         ensures count { self.new.count ≡ self.old.count }
         ensures labels { self.new.labels ≡ self.old.labels }
-        ensures lent { store.new.lents ≡ store.old.lents }
+        ensures stays { LoanStays store.old store.new }
         ensures write { result ≡ Err RunFault.Write → FailsLine (A.is_short memory.now) W.contents
             inputs.now line.now (bound_in self.old) store.old out.old store.new out.new }
         ensures short { result ≡ Err RunFault.OutOfMemory → A.is_short memory.now }
@@ -181,7 +184,7 @@ impl Session {
             (take n text.now) self.old store.old out.old self.new store.new out.new) }
         ensures last { IfOk result (λ n. IsUnended (drop n text.now)) }
         ensures count { IfOk result (λ n. self.new.count ≤ self.old.count + n) }
-        ensures lent { store.new.lents ≡ store.old.lents }
+        ensures stays { LoanStays store.old store.new }
         ensures fault { IfErr result (λ fault. StopsOn (A.is_short memory.now) W.contents
             inputs.entry.files.now fault text.now self.old store.old out.old store.new out.new) }
         ensures reads_all { result ≢ Err (LiveFault.Input TooLong) }
@@ -207,7 +210,7 @@ impl Session {
         requires last { IsUnended text.now }
         ensures ok { OnOk result (EndsOn (A.is_short memory.now) W.contents inputs.entry.files.now
             text.now self.old store.old out.old self.new store.new out.new) }
-        ensures lent { store.new.lents ≡ store.old.lents }
+        ensures stays { LoanStays store.old store.new }
         ensures fault { IfErr result (λ fault. StopsAt (A.is_short memory.now) W.contents
             inputs.entry.files.now fault text.now self.old store.old out.old store.new out.new) }
         ensures reads_all { result ≢ Err (LiveFault.Input TooLong) }

@@ -4,11 +4,11 @@ use Rattle.heap_model.specs.Store.{Accepted}
 use Rattle.store_check.specs.declared.fault.StoreFault.{StoreFault}
 use Rattle.heap_map.specs.declared.picture.MapFault.{MapFault}
 use Rattle.heap_map.specs.declared.picture.MapFault.TheVariants.{BadImage}
-use Rattle.heap_map.specs.Pictures.{IsFaultOf}
+use Rattle.heap_map.specs.Pictures.{IsMapFault}
 use Rattle.palm_text.specs.Counted.{Writing, Writes, Flushes}
 use Rattle.palm_text.specs.Output.{Puts}
 use Rattle.palm_text.proofs.Parts.{then_flush}
-use Rattle.image_faults.specs.Lines.{PutsBadImage, fault_line}
+use Rattle.image_commands.specs.FaultLines.{PutsBadImage, fault_line}
 use Rattle.heap_map.specs.Text.{map_text}
 use Rattle.map_commands.specs.Mapping.{PutsMap}
 
@@ -25,9 +25,9 @@ pub stops : {V : Type 0} (image : List ℕ) (contents : V → Option (List ℕ))
 stops image contents old new writes = inl writes
 
 -- the line for a fault of an image that is its first one
-pub puts_first : {V : Type 0} (contents : V → Option (List ℕ)) (old new : Writing V) (image : List ℕ) (fault : MapFault) (first : StoreFault) (ok : Bool) → fault ≡ BadImage first → IsFaultOf image fault → Puts contents old new (fault_line first) ok → PutsBadImage image contents old new ok
-puts_first contents old new image fault first ok is why puts = (first, (subst (IsFaultOf image) is why).1, puts)
+pub puts_first : {V : Type 0} (contents : V → Option (List ℕ)) (old new : Writing V) (image : List ℕ) (fault : MapFault) (first : StoreFault) (ok : Bool) → fault ≡ BadImage first → IsMapFault image fault → Puts contents old new (fault_line first) ok → PutsBadImage image contents old new ok
+puts_first contents old new image fault first ok is why puts = (first, (subst (IsMapFault image) is why).1, puts)
 
 -- an image with a fault is not accepted
-pub not_accepted : (image : List ℕ) (fault : MapFault) (first : StoreFault) → fault ≡ BadImage first → IsFaultOf image fault → Accepted image → ⊥
-not_accepted image fault first is why = (subst (IsFaultOf image) is why).0
+pub not_accepted : (image : List ℕ) (fault : MapFault) (first : StoreFault) → fault ≡ BadImage first → IsMapFault image fault → Accepted image → ⊥
+not_accepted image fault first is why = (subst (IsMapFault image) is why).0

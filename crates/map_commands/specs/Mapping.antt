@@ -5,7 +5,7 @@ use Rattle.heap_model.specs.Store.{Accepted}
 use Rattle.heap_map.specs.Text.{map_text}
 use Rattle.palm_text.specs.Counted.{Writing}
 use Rattle.palm_text.specs.Output.{Puts}
-use Rattle.image_faults.specs.Lines.{PutsBadImage}
+use Rattle.image_commands.specs.FaultLines.{PutsBadImage}
 use Rattle.program_io.specs.declared.status.Status.{Status}
 use Rattle.program_io.specs.declared.status.Status.TheVariants.{Done, Refused, BadWords, ReadFault, WriteFault, NoMemory}
 

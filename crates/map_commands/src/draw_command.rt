@@ -2,37 +2,22 @@
 
 ghost use Rattle.std.specs.Prelude.{[], ◌≡◌, ◌≢◌, Err, IfErr, OnOk, true, false};
 ghost use Rattle.heap_model.specs.Store.{Accepted};
-ghost use Rattle.heap_map.specs.Pictures.{IsFaultOf};
+ghost use Rattle.heap_map.specs.Pictures.{IsMapFault};
 ghost use Rattle.map_commands.specs.Drawing.{EndsDraw, PutsDrawing};
-ghost use Rattle.allowance.specs.Refusals.{GrowthRefused};
 
 use allowance::Allowance;
 use heap_map::MapFault;
 use heap_svg::put_svg;
-use image_faults::say_bad_image;
+use image_commands::say_bad_image;
 use palm_text::Counted;
 use program_io::{Status, say};
 use raw_region::Region;
-use std::alloc::Global;
 use std::io::Write;
 
 /// Writes the picture of an image as SVG to `file_out`, and then `ok` to `out`.
 ///
 /// If the image is refused, prints `bad` and its first fault, and writes nothing to `file_out`.
-pub fn cmd_draw<W: Write, V: Write>(
-    alloc: Global,
-    image: &[u8],
-    file_out: &mut Counted<W>,
-    out: &mut Counted<V>,
-) -> Status
-    ensures ends { EndsDraw image.now W.contents file_out.old file_out.new
-        V.contents out.old out.new result }
-    ensures short { result ≡ Status.NoMemory → GrowthRefused }
-{
-    cmd_draw_from(&alloc, image, file_out, out)
-}
-
-/// Does the same as `cmd_draw`, with memory from an allowance.
+/// Each allocation asks `memory` for a grant.
 pub fn cmd_draw_from<A: Allowance, W: Write, V: Write>(
     memory: &A,
     image: &[u8],
@@ -80,7 +65,7 @@ fn put_flushed<A: Allowance, W: Write>(
     ensures accepted { OnOk result (Accepted region.now.bytes) }
     ensures done { OnOk result
         (PutsDrawing region.now.bytes W.contents file_out.old file_out.new true) }
-    ensures why { IfErr result (IsFaultOf region.now.bytes) }
+    ensures why { IfErr result (IsMapFault region.now.bytes) }
     ensures untouched { IfErr result (λ fault. fault ≢ MapFault.Write → file_out.new ≡ file_out.old) }
     ensures write { result ≡ Err MapFault.Write
         → PutsDrawing region.now.bytes W.contents file_out.old file_out.new false }

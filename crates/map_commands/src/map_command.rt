@@ -2,43 +2,19 @@
 
 ghost use Rattle.std.specs.Prelude.{[], ◌≡◌, ◌≢◌, Err, IfErr, OnOk, true, false};
 ghost use Rattle.heap_model.specs.Store.{Accepted};
-ghost use Rattle.heap_map.specs.Pictures.{IsFaultOf};
+ghost use Rattle.heap_map.specs.Pictures.{IsMapFault};
 ghost use Rattle.map_commands.specs.Mapping.{EndsMap, PutsMap};
-ghost use Rattle.allowance.specs.Refusals.{GrowthRefused};
 
 use allowance::Allowance;
 use heap_map::{MapFault, put_map};
-use image_faults::say_bad_image;
+use image_commands::say_bad_image;
 use palm_text::Counted;
 use program_io::Status;
 use raw_region::Region;
-use std::alloc::Global;
 use std::io::Write;
 
-/// Prints the picture of an image. If the image is refused, prints `bad` and its first fault.
-pub fn cmd_map<V: Write>(alloc: Global, image: &[u8], out: &mut Counted<V>) -> Status
-    ensures ends { EndsMap image.now V.contents out.old out.new result }
-    ensures short { result ≡ Status.NoMemory → GrowthRefused }
-{
-    cmd_map_from(&alloc, image, out)
-}
-
-/// Does the same as `cmd_map`, with memory from an allowance.
-pub fn cmd_map_from<A: Allowance, V: Write>(
-    memory: &A,
-    image: &[u8],
-    out: &mut Counted<V>,
-) -> Status
-    ensures ends { EndsMap image.now V.contents out.old out.new result }
-    ensures short { result ≡ Status.NoMemory → A.is_short memory.now }
-{
-    match Region::copied_from(memory, image) {
-        Ok(region) => map_region_from(memory, &region, out),
-        Err(_) => Status::NoMemory,
-    }
-}
-
-/// Does the same as `cmd_map_from` for an image in a region.
+/// Prints the picture of an image. If the image is refused, prints `bad` and its first fault. Each
+/// allocation asks `memory` for a grant.
 pub fn map_region_from<A: Allowance, V: Write>(
     memory: &A,
     region: &Region,
@@ -66,7 +42,7 @@ fn put_flushed<A: Allowance, V: Write>(
     requires whole { region.now.lents ≡ [] }
     ensures accepted { OnOk result (Accepted region.now.bytes) }
     ensures done { OnOk result (PutsMap region.now.bytes V.contents out.old out.new true) }
-    ensures why { IfErr result (IsFaultOf region.now.bytes) }
+    ensures why { IfErr result (IsMapFault region.now.bytes) }
     ensures untouched { IfErr result (λ fault. fault ≢ MapFault.Write → out.new ≡ out.old) }
     ensures write { result ≡ Err MapFault.Write
         → PutsMap region.now.bytes V.contents out.old out.new false }

@@ -4,14 +4,15 @@ use Rattle.std.specs.Prelude.{◌%◌, ◌^◌, slice_index}
 use Rattle.std.proofs.lemmas.Bool.{cases_lt}
 use Rattle.heap_model.specs.Bytes.{u32_at}
 use Rattle.heap_model.specs.Chunk.{Chunk}
-use Rattle.heap_model.specs.Slots.{Table, table_at, first_next, further_tables, slot_count, slots_in_row, slots_further, slots_of, IsSlot, StandsIn}
+use Rattle.heap_model.specs.Slots.{Table, Tables, tables_of, table_at, first_next, further_tables, slot_count, slots_in_row, slots_further, slots_of, IsSlot, StandsIn}
 use Rattle.heap_model.specs.Heap.{IsTablePlace, IsChain, Tiles}
 use Rattle.laws_heap.proofs.Slots.{stands_left, stands_right, row_stands}
 use Rattle.laws_heap.proofs.Tables.{ChainStep, chain_step}
 use Rattle.chunk_format.specs.Header.{HasLive}
-use Rattle.master_table.specs.Table.{IsTiled, tables_from}
-use Rattle.master_table.specs.Known.{KnowsNone, HasLongTable, KnowsTables, Remembers, IsEntry, IsWordOf}
-use Rattle.master_table.proofs.RowLaws.{TableStands, table_there}
+use Rattle.master_table.specs.declared.slots.TableStart.{TableStart}
+use Rattle.master_table.specs.Table.{IsTiled, IsStart, tables_from}
+use Rattle.master_table.specs.Known.{Remembered, KnowsNone, HasLongTable, KnowsTables, RemembersPlace, IsEntry, IsWordOf}
+use Rattle.master_table.proofs.RowLaws.{TableStands, table_there, starts_still}
 
 -- ---- a walk
 
@@ -88,15 +89,15 @@ long_slots (table ∷ tables) place k h below = elim h [
   | inr later ↦ stands_right (slots_in_row (table.place + 4) table.count) (slots_further tables) (place + 4 + 4 * k) (long_slots tables place k later below)
 ]
 
-pub word_is_slot : (image places : List ℕ) (place slot : ℕ) → KnowsTables image places → IsEntry places place → IsWordOf place slot → IsSlot image slot
+pub word_is_slot : (image : List ℕ) (known : Remembered) (place slot : ℕ) → KnowsTables image known → IsEntry known.places place → IsWordOf place slot → IsSlot image slot
 unfolding slots_of
-word_is_slot image places place slot knows entry w =
+word_is_slot image known place slot knows entry w =
     let some = w.some in
     let behind = w.behind in
     let near = w.near in
     let whole = w.whole in
     let is = entry.1 in
-    let long : HasLongTable (further_tables image) place = subst (λ (p : ℕ). HasLongTable (further_tables image) p) (sym is) (knows entry.0 (omega (arith, is, some))) in
+    let long : HasLongTable (further_tables image) place = subst (λ (p : ℕ). HasLongTable (further_tables image) p) (sym is) (knows.entries entry.0 (omega (arith, is, some))) in
     let k : ℕ = (slot - place) / 4 - 1 in
     let there : place + 4 + 4 * k ≡ slot = omega arith in
     record {
@@ -123,9 +124,9 @@ word_after place slot bytes words far after before whole broken few = elim (case
       ]
 ]
 
-pub slot_after : (image inside places : List ℕ) (entry slot bytes words : ℕ) → inside ≡ places → 64 ≤ slot → (slice_index inside entry ≤ slot - 4 → slice_index inside entry + bytes ≡ slot - 4) → (slot - 4 < slice_index inside entry → slot - 4 < bytes) → (bytes % 4 ≡ 0 → 4 * words ≡ bytes) → (bytes % 4 ≢ 0 → 2 ^ 30 ≤ words) → words < 15 → KnowsTables image places → IsSlot image slot
-slot_after image inside places entry slot bytes words view far after before whole broken few knows =
-    word_is_slot image places (slice_index inside entry) slot knows (entry, ap (λ (ps : List ℕ). slice_index ps entry) view)
+pub slot_after : (image inside : List ℕ) (known : Remembered) (entry slot bytes words : ℕ) → inside ≡ known.places → 64 ≤ slot → (slice_index inside entry ≤ slot - 4 → slice_index inside entry + bytes ≡ slot - 4) → (slot - 4 < slice_index inside entry → slot - 4 < bytes) → (bytes % 4 ≡ 0 → 4 * words ≡ bytes) → (bytes % 4 ≢ 0 → 2 ^ 30 ≤ words) → words < 15 → KnowsTables image known → IsSlot image slot
+slot_after image inside known entry slot bytes words view far after before whole broken few knows =
+    word_is_slot image known (slice_index inside entry) slot knows (entry, ap (λ (ps : List ℕ). slice_index ps entry) view)
     (word_after (slice_index inside entry) slot bytes words far after before whole broken few)
 
 -- ---- what is remembered
@@ -135,15 +136,28 @@ none_in_zeros zero entry = refl
 none_in_zeros (suc n) zero = refl
 none_in_zeros (suc n) (suc entry) = none_in_zeros n entry
 
-pub knows_none : (places : List ℕ) (image : List ℕ) → KnowsNone places → KnowsTables image places
-knows_none places image none entry some = let zero_there = none entry in absurd (omega (arith, zero_there, some))
+pub knows_none : (known : Remembered) (image : List ℕ) → KnowsNone known.places → IsStart image known.latest → KnowsTables image known
+knows_none known image none latest = record { entries = λ entry some. (let zero_there = none entry in absurd (omega (arith, zero_there, some))); latest = latest }
 
-pub knows_more : (image old new : List ℕ) (place : ℕ) → KnowsTables image old → Remembers old new place → HasLongTable (further_tables image) place → KnowsTables image new
-knows_more image old new place knows more here entry some = elim (more entry) [
-  | inl same ↦ subst (λ (p : ℕ). HasLongTable (further_tables image) p) (sym same) (knows entry (subst (λ (p : ℕ). 0 < p) same some))
-  | inr is ↦ subst (λ (p : ℕ). HasLongTable (further_tables image) p) (sym is) here
-]
+pub knows_more : (image : List ℕ) (old new : Remembered) (place : ℕ) → KnowsTables image old → RemembersPlace old new place → HasLongTable (further_tables image) place → KnowsTables image new
+knows_more image old new place knows more here = record {
+  entries = λ entry some. elim (more.entries entry) [
+    | inl same ↦ subst (λ (p : ℕ). HasLongTable (further_tables image) p) (sym same) (knows.entries entry (subst (λ (p : ℕ). 0 < p) same some))
+    | inr is ↦ subst (λ (p : ℕ). HasLongTable (further_tables image) p) (sym is) here
+  ];
+  latest = subst (λ (s : TableStart). IsStart image s) (sym more.latest) knows.latest;
+}
 
--- if the further tables are the same
-pub knows_still : (old new places : List ℕ) → further_tables new ≡ further_tables old → KnowsTables old places → KnowsTables new places
-knows_still old new places same knows entry some = subst (λ (ts : List Table). HasLongTable ts (slice_index places entry)) (sym same) (knows entry some)
+-- with another start
+pub knows_later : (image : List ℕ) (old new : Remembered) → KnowsTables image old → new.places ≡ old.places → IsStart image new.latest → KnowsTables image new
+knows_later image old new knows same latest = record {
+  entries = subst (λ (ps : List ℕ). (entry : ℕ) → 0 < slice_index ps entry → HasLongTable (further_tables image) (slice_index ps entry)) (sym same) knows.entries;
+  latest = latest;
+}
+
+-- if the tables are the same
+pub knows_still : (old new : List ℕ) (known : Remembered) → tables_of new ≡ tables_of old → KnowsTables old known → KnowsTables new known
+knows_still old new known same knows = record {
+  entries = λ entry some. subst (λ (ts : List Table). HasLongTable ts (slice_index known.places entry)) (sym (ap (λ (t : Tables). t.further) same)) (knows.entries entry some);
+  latest = starts_still old new known.latest.place known.latest.before same knows.latest;
+}

@@ -1,14 +1,16 @@
 -- What is lent is no part of the head, of a table's header, of a word `next` or of a slot.
-use Rattle.std.proofs.Common.{◌≢◌, ℕ, subst}
+use Rattle.std.proofs.Common.{true, ◌≡◌, ◌≢◌, ℕ, zero, suc, subst, arith}
 use Rattle.heap_model.specs.Memory.{Memory, IsWithin}
 use Rattle.heap_model.specs.Frame.{HasFrame}
-use Rattle.heap_model.specs.Slots.{HasTable, table_at, head_end, first_next, further_tables}
+use Rattle.heap_model.specs.Slots.{HasTable, is_chained, table_at, table_end, head_end, first_next, further_tables}
 use Rattle.heap_model.specs.Heap.{IsTablePlace}
 use Rattle.heap_model.specs.Lending.{LendsBodies}
 use Rattle.laws_heap.proofs.ChainReads.{chain_table}
 use Rattle.laws_heap.proofs.LentBodies.{tiled_frame, tiled_tables, head_within, ReadsTable, reads_table}
-use Rattle.master_table.specs.Table.{IsTiled}
-use Rattle.master_table.proofs.RowLaws.{NextStands}
+use Rattle.laws_heap.proofs.Lending.{part_within}
+use Rattle.laws_heap.proofs.Tables.{chained_behind}
+use Rattle.master_table.specs.Table.{IsTiled, StartsAt, next_word}
+use Rattle.master_table.proofs.RowLaws.{NextStands, further_start, start_stands}
 use Rattle.master_table.proofs.ChainLaws.{LeadsTo, next_step}
 use Rattle.master_table.proofs.FurtherLaws.{WalksTables, step_of}
 
@@ -36,3 +38,11 @@ pub further_reads : (memory : Memory) (place : ℕ) → IsTiled memory.bytes →
 further_reads memory place t l there =
     let c = chain_table memory.bytes t.0 (first_next memory.bytes) (further_tables memory.bytes) place t.1.chain there in
     subst (λ (n : ℕ). ReadsTable memory n) c.place (reads_table memory t.0 c.table t.1 l c.there)
+
+-- the word `next` of a table that is known
+pub word_within : (memory : Memory) (place before : ℕ) → is_chained memory.bytes ≡ true → IsTiled memory.bytes → LendsBodies memory → StartsAt memory.bytes place before → IsWithin memory (next_word memory.bytes place) 4
+word_within memory zero before chained t l s =
+    let four = chained_behind memory.bytes chained in
+    part_within memory 0 (head_end memory.bytes) (table_end memory.bytes) 4 (head_of memory t l) (omega arith) (omega (arith, four))
+word_within memory (suc low) before chained t l s =
+    (next_reads memory (suc low) t l (start_stands memory.bytes (suc low) before t (further_start memory.bytes (suc low) before s (λ e. absurd (omega (arith, e))))).next).next

@@ -1,13 +1,18 @@
 -- In a heap the word before a slot is a slot's, the directory word or a word `next`: none is
 -- greater than a place.
-use Rattle.std.proofs.Common.{◌≡◌, ℕ, zero, suc, ◌+◌, ◌-◌, ◌*◌, ◌^◌, ◌<◌, ◌≤◌, List, [], ◌∷◌, ◌++◌, length, refl, subst, arith, inl, inr}
+use Rattle.std.proofs.Common.{◌≡◌, ℕ, zero, suc, ◌+◌, ◌-◌, ◌*◌, ◌^◌, ◌<◌, ◌≤◌, List, [], ◌∷◌, ◌++◌, length, refl, sym, subst, arith, inl, inr}
+use Rattle.heap_model.specs.Memory.{Memory, Lent}
 use Rattle.heap_model.specs.Bytes.{u32_at}
-use Rattle.heap_model.specs.Chunk.{Chunk, free, movable, fixed, total}
+use Rattle.heap_model.specs.Chunk.{Chunk, free, movable, fixed, total, Spelled, SpelledAll}
 use Rattle.heap_model.specs.Slots.{Table, further_tables, first_next, slot_count, slots_in_row, slots_further, slots_of, area_start, IsSlot, StandsIn}
 use Rattle.heap_model.specs.Heap.{BodyHere, ManagersHere, IsChain, Tiles, IsHeap, HeapAccepted, directory_of}
+use Rattle.heap_model.specs.Lending.{LentHere, IsLentBody, LendsBodies}
+use Rattle.raw_region.specs.Marks.{BeginsAt}
+use Rattle.laws_heap.proofs.Chunks.{SpelledAll-split}
+use Rattle.laws_heap.proofs.LentBodies.{some_gives, lent_chunk}
 use Rattle.laws_heap.proofs.Slots.{stands_split, stands_left, stands_right, row_slot, row_stands, slot_facts}
 use Rattle.laws_heap.proofs.Placed.{AnyPlaced-parts, AnyPlaced-mid}
-use Rattle.laws_heap.proofs.FoundChunks.{in_slot, finds_body}
+use Rattle.laws_heap.proofs.FoundChunks.{read_heap, in_slot, finds_body}
 use Rattle.master_table.proofs.RowLaws.{table_there}
 
 slot_word : (image : List ℕ) (slot word : ℕ) → HeapAccepted image → IsSlot image slot → u32_at image slot ≡ word → u32_at image slot < 2 ^ 24
@@ -83,3 +88,22 @@ slot_front image slot h s = elim (stands_split first further slot s.listed) [
 
   further : List ℕ
   further = slots_further (further_tables image)
+
+-- ---- the word before a lent body
+
+stays_word : (image : List ℕ) (lent : Lent) (at : ℕ) (c : Chunk) → LentHere lent at c → Spelled image at c → 2 ^ 24 ≤ u32_at image (at + 4)
+stays_word image lent at (free size) h s = absurd h
+stays_word image lent at (movable bytes zero owner slot) h s = absurd h
+stays_word image lent at (movable bytes (suc lock) owner slot) h s = let word = s.1.second_word in omega (arith, word)
+stays_word image lent at (fixed bytes owner) h s = let word = s.second_word in omega (arith, word)
+
+-- so a lent body begins at no slot
+pub lent_no_slot : (memory : Memory) (at : ℕ) → HeapAccepted memory.bytes → LendsBodies memory → BeginsAt at memory.lents → IsSlot memory.bytes at → ⊥
+lent_no_slot memory at h l begins slot = some_gives (λ lent. lent.at ≡ at) (IsLentBody memory.bytes) memory.lents l begins (λ lent body is.
+    let p = lent_chunk memory.bytes lent body in
+    let place = p.is.there in
+    let area : SpelledAll memory.bytes (area_start memory.bytes) (p.before ++ p.chunk ∷ p.after) (length memory.bytes) = subst (λ (cs : List Chunk). SpelledAll memory.bytes (area_start memory.bytes) cs (length memory.bytes)) p.chunks (read_heap memory.bytes h).tiles.area in
+    let high = stays_word memory.bytes lent (area_start memory.bytes + total p.before) p.chunk p.here (SpelledAll-split memory.bytes (area_start memory.bytes) p.before (p.chunk ∷ p.after) (length memory.bytes) area).1.0 in
+    let e : area_start memory.bytes + total p.before + 4 ≡ at - 4 = omega (arith, place, is) in
+    let low : u32_at memory.bytes (area_start memory.bytes + total p.before + 4) < 2 ^ 24 = subst (λ (n : ℕ). u32_at memory.bytes n < 2 ^ 24) (sym e) (slot_front memory.bytes at h slot) in
+    absurd (omega (arith, high, low)))

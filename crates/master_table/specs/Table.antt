@@ -1,9 +1,9 @@
 -- The table as a partial map from slots to places.
-use Rattle.std.specs.Prelude.{◌≡◌, ◌≢◌, ◌<◌, ◌+◌, ◌++◌, ◌∷◌, ◌==◌, ◌⊎◌, ℕ, false, List, length, count_by}
+use Rattle.std.specs.Prelude.{◌≡◌, ◌≢◌, ◌<◌, ◌+◌, ◌++◌, ◌∷◌, ◌==◌, ◌⊎◌, ℕ, zero, suc, false, List, length, count_by}
 use Rattle.heap_model.specs.Bytes.{u32_at}
 use Rattle.heap_model.specs.Placed.{EveryOne}
 use Rattle.heap_model.specs.Chunk.{Chunk}
-use Rattle.heap_model.specs.Slots.{Table, is_chained, slot_count, tables_within, slots_in_row, slots_further, slots_of, further_tables, IsSlot, StandsBehind, first_slots}
+use Rattle.heap_model.specs.Slots.{Table, is_chained, slot_count, table_end, tables_within, slots_in_row, slots_further, slots_of, further_tables, IsSlot, StandsBehind, first_slots}
 use Rattle.heap_model.specs.Heap.{IsChain, Tiles}
 use Rattle.master_table.specs.declared.slots.Row.{Row}
 use Rattle.master_table.specs.declared.slots.TableStart.{TableStart}
@@ -35,6 +35,11 @@ StartsAt image place before = ((place ≡ 0) × (before ≡ 0)) ⊎ StartsFurthe
 -- it is the start of a table of the image
 abbrev pub IsStart : List ℕ → TableStart → Type 0
 IsStart image start = StartsAt image start.place start.before
+
+-- the offset of the word `next` of the table at a place, or of the first table's if the place is 0
+abbrev pub next_word : List ℕ → ℕ → ℕ
+next_word image zero = table_end image
+next_word image (suc before) = suc before
 
 -- how many slots come before those of a row, and how many the list has up to its last
 abbrev pub row_start : Row → ℕ

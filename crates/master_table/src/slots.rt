@@ -1,16 +1,16 @@
 //! Slots in rows: those of the first table, and those of each further one along the chain.
 #![tactic(auto, using(crate::proofs::LentLaws::frame_of, crate::proofs::LentLaws::head_of))]
 
-ghost use Rattle.std.specs.Prelude.{◌≡◌, ◌≢◌, ◌<◌, ◌≤◌, ◌==◌, ◌+◌, ◌^◌, ℕ, List, IfSome, IfNone, false};
+ghost use Rattle.std.specs.Prelude.{◌≡◌, ◌≢◌, ◌<◌, ◌≤◌, ◌==◌, ◌+◌, ◌^◌, ℕ, List, IfSome, IfNone, true, false};
 ghost use Rattle.heap_model.specs.Bytes.{u32_at};
 ghost use Rattle.heap_model.specs.Frame.{HasFrame};
 ghost use Rattle.heap_model.specs.Lending.{LendsBodies};
 ghost use Rattle.heap_model.specs.Slots.{IsSlot, StandsBehind, StandsIn, slots_in_row, is_chained};
-ghost use Rattle.master_table.specs.Table.{IsTiled, IsStart};
+ghost use Rattle.master_table.specs.Table.{IsTiled, IsStart, IsRow, next_word};
 
 use crate::distances::{distance, words};
 use chunk_format::{
-    FRAME_SIZE, HEADER_SIZE, NEXT_SIZE, SLOT_SIZE, first_next, live_fields, slot_count,
+    FRAME_SIZE, HEADER_SIZE, NEXT_SIZE, SLOT_SIZE, first_next, head_end, live_fields, slot_count,
 };
 use raw_region::Region;
 
@@ -32,6 +32,20 @@ impl TableStart {
             before: 0,
         }
     }
+
+    /// Returns the offset of the word `next` of the table, in an image that has a chain.
+    pub(crate) fn next_word(self, region: &Region) -> u32
+        requires tiled { IsTiled region.now.bytes }
+        requires chained { is_chained region.now.bytes ≡ true }
+        requires lent { LendsBodies region.now }
+        ensures { result ≡ next_word region.now.bytes self.place }
+    {
+        if self.place == 0 {
+            head_end(region) - NEXT_SIZE
+        } else {
+            self.place
+        }
+    }
 }
 
 /// The slots of one table: its place, or 0 for the first table, the offset of its first slot, and
@@ -47,7 +61,7 @@ pub struct Row {
 }
 
 impl Row {
-    ghost use Rattle.master_table.specs.Table.{IsRow, row_start, row_end, Behind};
+    ghost use Rattle.master_table.specs.Table.{row_start, row_end, Behind};
 
     /// Returns the slots of the first table.
     #[inline]
@@ -194,6 +208,21 @@ impl Row {
         }
         Some(self.before + index)
     }
+}
+
+/// Returns the slots of the last table of the chain. It walks from a table of the chain on.
+pub(crate) fn last_row(region: &Region, start: TableStart) -> Row
+    requires tiled { IsTiled region.now.bytes }
+    requires lent { LendsBodies region.now }
+    requires start { IsStart region.now.bytes start }
+    ensures row { IsRow region.now.bytes result }
+    ensures last { result.next ≡ 0 }
+{
+    let mut row = Row::at(region, start);
+    while !row.is_last() {
+        row = row.behind(region);
+    }
+    row
 }
 
 /// Returns how many slots come before the one at an offset in the list, if a slot is there. It

@@ -1,7 +1,7 @@
 //! The places that slots hold.
 #![tactic(auto, using(crate::proofs::LentLaws::frame_of, crate::proofs::LentLaws::table_of, laws_heap::proofs::LentBodies::table_within))]
 
-ghost use Rattle.std.specs.Prelude.{◌≡◌, ◌<◌, ◌≤◌, ◌↔◌, ◌+◌, ℕ, List, length, max, MatchOption, IfSome, IfNone, None};
+ghost use Rattle.std.specs.Prelude.{◌≡◌, ◌<◌, ◌≤◌, ◌↔◌, ◌+◌, ℕ, length, max, MatchOption, IfSome, IfNone, None};
 ghost use Rattle.heap_model.specs.Bytes.{u32_at, u32_bytes, overwritten};
 ghost use Rattle.heap_model.specs.Memory.{IsWithin};
 ghost use Rattle.heap_model.specs.Lending.{LendsBodies};
@@ -13,7 +13,7 @@ ghost use Rattle.master_table.specs.Known.{KnowsTables};
 ghost use Rattle.master_table.specs.Table.{HoldsPlace, HoldsNothing, IsTiled, IsStart, IsRow, row_start, row_end, IsEmptyAt, IsUsedAt, IsFirstEmpty, UsedBefore, empty_before};
 
 use crate::known::KnownTables;
-use crate::slots::{Row, TableStart, find_number};
+use crate::slots::{Row, TableStart, find_number, last_row};
 use chunk_format::{FRAME_SIZE, SLOT_SIZE, slot_count};
 use heap_model::{Name, Place};
 use raw_region::Region;
@@ -176,7 +176,8 @@ fn resolve_further(region: &Region, known: &KnownTables, name: Name) -> Option<P
 
 /// Returns whether the word before an offset is greater than any place, as it is before the body of
 /// a fixed chunk. The word before a slot is that of another slot, the directory word or a word
-/// `next`. It doesn't read a word that isn't within the region, or is lent.
+/// `next`. It doesn't read a word that isn't within the region. If something is lent, it reads no
+/// word, and returns whether a lent body begins at the offset.
 #[inline]
 fn follows_no_place(region: &Region, at: u32) -> bool
     requires accepted { HeapAccepted region.now.bytes }
@@ -187,7 +188,7 @@ fn follows_no_place(region: &Region, at: u32) -> bool
         return false;
     }
     if !region.is_whole() {
-        return false;
+        return region.lends_from(at);
     }
     region.get_u32((at - SLOT_SIZE) as usize) >= ABOVE_PLACES
 }
@@ -295,11 +296,17 @@ pub fn slots_total(region: &Region) -> u32
     requires lent { LendsBodies region.now }
     ensures { result ≡ model_total region.now.bytes }
 {
-    let mut row = Row::of(region);
-    while !row.is_last() {
-        row = row.behind(region);
-    }
-    row.end()
+    slots_from(region, TableStart::first())
+}
+
+/// Returns how many slots there are. It walks from a table of the chain on.
+pub(crate) fn slots_from(region: &Region, start: TableStart) -> u32
+    requires tiled { IsTiled region.now.bytes }
+    requires lent { LendsBodies region.now }
+    requires start { IsStart region.now.bytes start }
+    ensures { result ≡ model_total region.now.bytes }
+{
+    last_row(region, start).end()
 }
 
 /// Returns how many slots are empty.

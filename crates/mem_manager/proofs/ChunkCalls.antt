@@ -1,5 +1,5 @@
 -- The steps of calls that ask of one chunk, or change it where it stands.
-use Rattle.std.proofs.Common.{◌≡◌, ◌≢◌, ℕ, ◌+◌, ◌-◌, ◌<◌, ◌≤◌, List, [], ◌∷◌, length, replicate, Some, refl, sym, ap, subst, ◌∙◌, arith, inl, inr}
+use Rattle.std.proofs.Common.{◌≡◌, ◌≢◌, ℕ, ◌+◌, ◌-◌, ◌<◌, ◌≤◌, List, [], ◌∷◌, length, Some, refl, sym, ap, subst, ◌∙◌, arith, inl, inr}
 use Rattle.std.proofs.lemmas.Bool.{cases_eq, cases_lt}
 use Rattle.std.specs.Prelude.{slice_range}
 use Rattle.heap_model.specs.Memory.{Memory}
@@ -9,13 +9,13 @@ use Rattle.heap_model.specs.Heap.{directory_of, HeapAccepted}
 use Rattle.heap_model.specs.Meaning.{LiveChunk, NamedHere}
 use Rattle.heap_model.specs.Maps.{callers_map}
 use Rattle.heap_model.specs.Layout.{Alters, with_lock, with_owner, with_bytes}
-use Rattle.heap_model.specs.Refusals.{NoneHolds, FirstBrings}
-use Rattle.heap_model.specs.MemorySteps.{Does, IsNoCaller, ReachesBeyond, text_of, unknown, where_it, lent_out}
+use Rattle.heap_model.specs.Refusals.{NoneHolds, FirstBrings, Check}
+use Rattle.heap_model.specs.MemorySteps.{Does, IsNoCaller, ReachesBeyond, unknown, where_it, lent_out}
 use Rattle.heap_model.specs.declared.names.Name.{Name}
-use Rattle.heap_model.specs.declared.call.MemoryCall.TheVariants.{Lock, Unlock, Size, Owner, Locks, Read, Write, Set, StrCopy, SetOwner}
-use Rattle.heap_model.specs.declared.call.Reply.TheVariants.{Refused, Done, Number, Locked, Data}
-use Rattle.heap_model.specs.declared.refusal.Refusal.TheVariants.{OwnedByDatabase, ChunkNotLocked, LockOverflow, ChunkFixed, InvalidOwner, OutOfBounds, Lent}
-use Rattle.heap_model.specs.Lending.{IsLent}
+use Rattle.heap_model.specs.declared.call.MemoryCall.TheVariants.{Lock, Unlock, Size, Owner, Locks, Read, SetOwner}
+use Rattle.heap_model.specs.declared.call.Reply.TheVariants.{Done, Number, Locked, Data}
+use Rattle.heap_model.specs.declared.refusal.Refusal.TheVariants.{ChunkNotLocked, OutOfBounds}
+use Rattle.heap_model.specs.Lending.{IsLent, KeepsLoan}
 use Rattle.laws_heap.proofs.Frames.{slice-of_slice}
 use Rattle.laws_heap.proofs.FoundChunks.{finds_spelled, finds_body}
 use Rattle.laws_heap.proofs.Exchanges.{ChangesName}
@@ -26,7 +26,11 @@ use Rattle.heap_place.proofs.FoundLaws.{name_held}
 use Rattle.heap_place.specs.declared.found.Found.{Found}
 use Rattle.heap_place.specs.Found.{IsFound, CanGoTo}
 use Rattle.mem_manager.proofs.KeptLoans.{keeps_changed, keeps_others}
-use Rattle.mem_manager.proofs.StepWords.{OnlyBytes, known, of_known, not_of_known, is_known, unchanged, refused, altered}
+use Rattle.mem_manager.proofs.StepWords.{OnlyBytes, unchanged, altered, has, no_data, stays_within, Altered, not_out, no_lock, alters_does, has_chunk, same_lents, reaches}
+use Rattle.heap_model.specs.declared.refusal.Refusal.{Refusal}
+use Rattle.mem_manager.proofs.KnownLoans.{here_of}
+use Rattle.mem_manager.specs.Loans.{also_out_checks}
+use Rattle.mem_manager.specs.Lookup.{IsCallers, IsOpen}
 
 -- ---- the chunk that is there
 
@@ -37,9 +41,12 @@ lock_small image name found h f = let l = f.lock_is in let most = lock_most f.ch
   lock_most (movable bytes lock owner slot) n s = let e : lock ≡ f.live.lock = ap (λ (x : LiveChunk). x.lock) n.1 in let fits = s.1.lock_fits in omega arith
   lock_most (fixed bytes owner) n s = let e : fixed_lock ≡ f.live.lock = ap (λ (x : LiveChunk). x.lock) (fixed_live_is (found.place.0 - 8) bytes owner n) in omega arith
 
+pub below_fixed : {m : Memory} {name : ℕ} {found : Found} → IsCallers m name found → found.lock ≢ fixed_lock → found.lock < fixed_lock
+below_fixed {m} {name} {found} o loose = let most = lock_small m.bytes name found o.heap.accepted o.is in omega arith
+
 -- its body lies in the image
-pub body_there : (image : List ℕ) (name : ℕ) (found : Found) → HeapAccepted image → (f : IsFound image name found) → (found.place.0 + found.length ≤ length image) × (slice_range image found.place.0 (found.place.0 + found.length) ≡ f.live.bytes)
-body_there image name found h f =
+pub body_there : {image : List ℕ} {name : ℕ} {found : Found} → HeapAccepted image → (f : IsFound image name found) → (found.place.0 + found.length ≤ length image) × (slice_range image found.place.0 (found.place.0 + found.length) ≡ f.live.bytes)
+body_there {image} {name} {found} h f =
     let low = f.behind_header in
     let count = f.count in
     let behind : found.place.0 - 8 + 8 ≡ found.place.0 = omega arith in
@@ -51,29 +58,30 @@ body_there image name found h f =
 
 -- ---- what changes of it
 
-pub relock_changes : (old new : List ℕ) (name : ℕ) (found : Found) (count : ℕ) → HeapAccepted old → (f : IsFound old name found) → found.lock ≢ fixed_lock → Alters old new (found.place.0 - 8) (with_lock count) → ChangesName old new name (Some (record f.live { lock = count })) (Some found.place.0)
-relock_changes old new name found count h f loose x = lock_changes old new name found.place.0 count f.live f.chunk h f.behind_header f.finds (λ e. loose (f.lock_is ∙ e)) x
+pub relock_changes : {old new : List ℕ} {name : ℕ} {found : Found} (count : ℕ) → HeapAccepted old → (f : IsFound old name found) → found.lock ≢ fixed_lock → Alters old new (found.place.0 - 8) (with_lock count) → ChangesName old new name (Some (record f.live { lock = count })) (Some found.place.0)
+relock_changes {old} {new} {name} {found} count h f loose x = lock_changes old new name found.place.0 count f.live f.chunk h f.behind_header f.finds (λ e. loose (f.lock_is ∙ e)) x
 
-pub reown_changes : (old new : List ℕ) (name : ℕ) (found : Found) (owner : ℕ) → HeapAccepted old → (f : IsFound old name found) → CanGoTo old found owner → Alters old new (found.place.0 - 8) (with_owner owner) → ChangesName old new name (Some (record f.live { owner = owner })) (Some found.place.0)
-reown_changes old new name found owner h f can x = owner_changes old new name found.place.0 owner f.live f.chunk h f.behind_header f.finds (λ e. let lock_is = f.lock_is in can.locked (omega arith)) x
+pub reown_changes : {old new : List ℕ} {name : ℕ} {found : Found} {owner : ℕ} → HeapAccepted old → (f : IsFound old name found) → CanGoTo old found owner → Alters old new (found.place.0 - 8) (with_owner owner) → ChangesName old new name (Some (record f.live { owner = owner })) (Some found.place.0)
+reown_changes {old} {new} {name} {found} {owner} h f can x = owner_changes old new name found.place.0 owner f.live f.chunk h f.behind_header f.finds (λ e. let lock_is = f.lock_is in can.locked (omega arith)) x
 
-pub write_changes : (old new : List ℕ) (name : ℕ) (found : Found) (at : ℕ) (bytes : List ℕ) → HeapAccepted old → (f : IsFound old name found) → at + length bytes ≤ found.length → Alters old new (found.place.0 - 8) (with_bytes at bytes)
+pub write_changes : {old new : List ℕ} {name : ℕ} {found : Found} (at : ℕ) (bytes : List ℕ) → HeapAccepted old → (f : IsFound old name found) → at + length bytes ≤ found.length → Alters old new (found.place.0 - 8) (with_bytes at bytes)
     → ChangesName old new name (Some (record f.live { bytes = overwritten f.live.bytes at bytes })) (Some found.place.0)
-write_changes old new name found at bytes h f within x = let n = f.count in bytes_changes old new name found.place.0 at bytes f.live f.chunk h f.behind_header f.finds (omega arith) x
+write_changes {old} {new} {name} {found} at bytes h f within x = let n = f.count in bytes_changes old new name found.place.0 at bytes f.live f.chunk h f.behind_header f.finds (omega arith) x
 
 -- a caller's chunk is not the directory
-pub not_the_directory : (image : List ℕ) (name : ℕ) (found : Found) → HeapAccepted image → IsFound image name found → 1 ≤ found.owner → found.name.0 ≢ directory_of image
-not_the_directory image name found h f positive at_directory =
-    let own = f.owner_is in
-    not_directory image name f.live h (name_held image name found h f) (λ none. let z : f.live.owner ≡ 0 = none in omega arith) (sym f.name_is ∙ at_directory)
+pub not_the_directory : {m : Memory} {name : ℕ} {found : Found} → IsCallers m name found → name ≢ directory_of m.bytes
+not_the_directory {m} {name} {found} o at_directory =
+    let own = o.is.owner_is in
+    let positive = o.callers in
+    not_directory m.bytes name o.is.live o.heap.accepted (name_held m.bytes name found o.heap.accepted o.is) (λ none. let z : o.is.live.owner ≡ 0 = none in omega arith) at_directory
 
--- a caller's chunk may go to a caller
-pub can_go_to : (image : List ℕ) (name : ℕ) (found : Found) (owner : ℕ) → HeapAccepted image → IsFound image name found → 1 ≤ found.owner → (IsNoCaller owner → ⊥) → CanGoTo image found owner
-can_go_to image name found owner h f positive caller = record {
+-- it may go to a caller
+pub can_go_to : {m : Memory} {name : ℕ} {found : Found} {owner : ℕ} → IsCallers m name found → (IsNoCaller owner → ⊥) → CanGoTo m.bytes found owner
+can_go_to {owner = owner} o caller = record {
   fits = let most = high in omega arith;
   locked = λ some. low;
   fixed = λ is. high;
-  directory = λ at_directory. absurd (not_the_directory image name found h f positive at_directory);
+  directory = λ at_directory. absurd (not_the_directory o (sym o.is.name_is ∙ at_directory));
 } where
   low : 0 < owner
   low = elim (cases_eq owner 0) [ inl none ↦ absurd (caller (inl none)) | inr some ↦ omega arith ]
@@ -83,183 +91,88 @@ can_go_to image name found owner h f positive caller = record {
 
 -- ---- each call, where it is done
 
-pub locked : (old new : Memory) (name : Name) (found : Found) (count : ℕ) → HeapAccepted old.bytes → (f : IsFound old.bytes name.0 found) → 1 ≤ found.owner → found.lock ≢ fixed_lock → found.lock ≢ 14 → count ≡ found.lock + 1
-    → ChangesName old.bytes new.bytes name.0 (Some (record f.live { lock = count })) (Some found.place.0) → OnlyBytes old new → Does old (Lock name) (Locked found.place count) new
-locked old new name found count h f positive loose few is ch rest =
-    let k = known old.bytes name.0 found h f positive in
-    let l = f.lock_is in
-    let count_is : count ≡ f.live.lock + 1 = omega arith in
-    let a = altered old new name.0 found (λ live. record live { lock = live.lock + 1 }) h f (subst (λ (n : ℕ). ChangesName old.bytes new.bytes name.0 (Some (record f.live { lock = n })) (Some found.place.0)) count_is ch) rest in
-    record {
-      before = h;
-      step = (
-        (is_known k, (not_of_known (λ live. live.lock ≡ fixed_lock) k (λ e. loose (l ∙ e)), (not_of_known (λ live. live.lock ≡ 14) k (λ e. few (l ∙ e)), tt))),
-        ((of_known (λ live. count ≡ live.lock + 1) k count_is, ch.place), a.leaves.map),
-      );
-      frame = a.leaves.frame;
-      still = a.leaves.still;
-      loan = keeps_changed old new name.0 found (record f.live { lock = count }) h (ap (λ (m : Memory). m.lents) rest) f ch refl;
-      asks = tt;
-      rest = a.rest;
-    }
+module _ {old new : Memory} {name : Name} {found : Found} (o : IsCallers old name.0 found) (rest : OnlyBytes old new) where
+  abbrev Relocks : ℕ → Type 0
+  Relocks count = Alters old.bytes new.bytes (found.place.0 - 8) (with_lock count)
 
-pub unlocked : (old new : Memory) (name : Name) (found : Found) (count : ℕ) → HeapAccepted old.bytes → (f : IsFound old.bytes name.0 found) → 1 ≤ found.owner → found.lock ≢ fixed_lock → found.lock ≢ 0 → (IsLent old name.0 → ⊥) → count ≡ found.lock - 1
-    → ChangesName old.bytes new.bytes name.0 (Some (record f.live { lock = count })) (Some found.place.0) → OnlyBytes old new → Does old (Unlock name) (Number count) new
-unlocked old new name found count h f positive loose some here is ch rest =
-    let k = known old.bytes name.0 found h f positive in
-    let l = f.lock_is in
-    let count_is : count ≡ f.live.lock - 1 = omega arith in
-    let a = altered old new name.0 found (λ live. record live { lock = live.lock - 1 }) h f (subst (λ (n : ℕ). ChangesName old.bytes new.bytes name.0 (Some (record f.live { lock = n })) (Some found.place.0)) count_is ch) rest in
-    record {
-      before = h;
-      step = (
-        (is_known k, (not_of_known (λ live. live.lock ≡ fixed_lock) k (λ e. loose (l ∙ e)), (not_of_known (λ live. live.lock ≡ 0) k (λ e. some (l ∙ e)), (not_of_known (λ live. IsLent old name.0) k here, tt)))),
-        (of_known (λ live. count ≡ live.lock - 1) k count_is, a.leaves.map),
-      );
-      frame = a.leaves.frame;
-      still = a.leaves.still;
-      loan = keeps_others old new name.0 _ _ (ap (λ (m : Memory). m.lents) rest) ch here;
-      asks = tt;
-      rest = a.rest;
-    }
+  pub locked : found.lock ≢ fixed_lock → found.lock ≢ 14 → Relocks (found.lock + 1) → Does old (Lock name) (Locked found.place (found.lock + 1)) new
+  locked loose few made =
+      let ch = relock_changes (o.is.live.lock + 1) o.heap.accepted o.is loose (subst (λ (n : ℕ). Relocks (n + 1)) o.is.lock_is made) in
+      let a = altered old new (λ live. record live { lock = live.lock + 1 }) o.heap.accepted o.is ch rest in
+      let more = has o (λ live. found.lock + 1 ≡ live.lock + 1) (ap (λ (n : ℕ). n + 1) o.is.lock_is) in
+      alters_does o.heap a (keeps_changed old new _ o.heap.accepted (same_lents old rest) o.is ch refl)
+      ((has_chunk o, (no_lock o fixed_lock loose, (no_lock o 14 few, tt))), ((more, ch.place), a.leaves.map)) a.leaves.frame tt rest
 
-may_write : (old : Memory) (name : Name) (found : Found) (at count : ℕ) → HeapAccepted old.bytes → (f : IsFound old.bytes name.0 found) → 1 ≤ found.owner → found.lock ≢ 0 → (IsLent old name.0 → ⊥) → (found.length < at + count → ⊥)
-    → NoneHolds (unknown (callers_map old.bytes) name.0 ∷ where_it (callers_map old.bytes) name.0 (λ live. live.lock ≡ 0) ChunkNotLocked ∷ lent_out old (callers_map old.bytes) name.0 ∷ where_it (callers_map old.bytes) name.0 (ReachesBeyond at count) OutOfBounds ∷ [])
-may_write old name found at count h f positive some here inside =
-    let k = known old.bytes name.0 found h f positive in
-    let n = f.count in
-    (is_known k, (not_of_known (λ live. live.lock ≡ 0) k (λ e. some (f.lock_is ∙ e)), (not_of_known (λ live. IsLent old name.0) k here, (not_of_known (ReachesBeyond at count) k (λ beyond. inside (omega arith)), tt))))
+  pub unlocked : found.lock ≢ fixed_lock → found.lock ≢ 0 → (IsLent old name.0 → ⊥) → Relocks (found.lock - 1) → Does old (Unlock name) (Number (found.lock - 1)) new
+  unlocked loose some here made =
+      let ch = relock_changes (o.is.live.lock - 1) o.heap.accepted o.is loose (subst (λ (n : ℕ). Relocks (n - 1)) o.is.lock_is made) in
+      let a = altered old new (λ live. record live { lock = live.lock - 1 }) o.heap.accepted o.is ch rest in
+      let less = has o (λ live. found.lock - 1 ≡ live.lock - 1) (ap (λ (n : ℕ). n - 1) o.is.lock_is) in
+      alters_does o.heap a (keeps_others old new (same_lents old rest) ch here)
+      ((has_chunk o, (no_lock o fixed_lock loose, (no_lock o 0 some, (not_out o here, tt)))), (less, a.leaves.map)) a.leaves.frame tt rest
 
-pub wrote : (old new : Memory) (name : Name) (found : Found) (at : ℕ) (bytes : List ℕ) → HeapAccepted old.bytes → (f : IsFound old.bytes name.0 found) → 1 ≤ found.owner → found.lock ≢ 0 → (IsLent old name.0 → ⊥) → (found.length < at + length bytes → ⊥)
-    → ChangesName old.bytes new.bytes name.0 (Some (record f.live { bytes = overwritten f.live.bytes at bytes })) (Some found.place.0) → OnlyBytes old new → Does old (Write name at bytes) Done new
-wrote old new name found at bytes h f positive some here inside ch rest =
-    let a = altered old new name.0 found (λ live. record live { bytes = overwritten live.bytes at bytes }) h f ch rest in
-    record { before = h; step = (may_write old name found at (length bytes) h f positive some here inside, (tt, a.leaves.map)); frame = a.leaves.frame; still = a.leaves.still; loan = keeps_others old new name.0 _ _ (ap (λ (m : Memory). m.lents) rest) ch here; asks = tt; rest = a.rest }
+  pub reowned : {owner : ℕ} → found.owner ≢ 15 → (IsNoCaller owner → ⊥) → Alters old.bytes new.bytes (found.place.0 - 8) (with_owner owner) → Does old (SetOwner name owner) Done new
+  reowned {owner} other caller made =
+      let ch = reown_changes o.heap.accepted o.is (can_go_to o caller) made in
+      let a = altered old new (λ live. record live { owner = owner }) o.heap.accepted o.is ch rest in
+      alters_does o.heap a (keeps_changed old new _ o.heap.accepted (same_lents old rest) o.is ch refl)
+      ((has_chunk o, (no_data o other, (caller, tt))), (tt, a.leaves.map)) a.leaves.frame tt rest
 
-pub filled : (old new : Memory) (name : Name) (found : Found) (at count byte : ℕ) → HeapAccepted old.bytes → (f : IsFound old.bytes name.0 found) → 1 ≤ found.owner → found.lock ≢ 0 → (IsLent old name.0 → ⊥) → (found.length < at + count → ⊥)
-    → ChangesName old.bytes new.bytes name.0 (Some (record f.live { bytes = overwritten f.live.bytes at (replicate count byte) })) (Some found.place.0) → OnlyBytes old new → Does old (Set name at count byte) Done new
-filled old new name found at count byte h f positive some here inside ch rest =
-    let a = altered old new name.0 found (λ live. record live { bytes = overwritten live.bytes at (replicate count byte) }) h f ch rest in
-    record { before = h; step = (may_write old name found at count h f positive some here inside, (tt, a.leaves.map)); frame = a.leaves.frame; still = a.leaves.still; loan = keeps_others old new name.0 _ _ (ap (λ (m : Memory). m.lents) rest) ch here; asks = tt; rest = a.rest }
+-- ---- bytes are written
 
-pub text_copied : (old new : Memory) (name : Name) (found : Found) (at : ℕ) (text bytes : List ℕ) → HeapAccepted old.bytes → (f : IsFound old.bytes name.0 found) → 1 ≤ found.owner → found.lock ≢ 0 → (IsLent old name.0 → ⊥) → bytes ≡ text_of text → (found.length < at + length bytes → ⊥)
-    → ChangesName old.bytes new.bytes name.0 (Some (record f.live { bytes = overwritten f.live.bytes at bytes })) (Some found.place.0) → OnlyBytes old new → Does old (StrCopy name at text) Done new
-text_copied old new name found at text bytes h f positive some here is inside ch rest =
-    let a = altered old new name.0 found (λ live. record live { bytes = overwritten live.bytes at (text_of text) }) h f (subst (λ (b : List ℕ). ChangesName old.bytes new.bytes name.0 (Some (record f.live { bytes = overwritten f.live.bytes at b })) (Some found.place.0)) is ch) rest in
-    record {
-      before = h;
-      step = (may_write old name found at (length (text_of text)) h f positive some here (subst (λ (b : List ℕ). found.length < at + length b → ⊥) is inside), (tt, a.leaves.map));
-      frame = a.leaves.frame;
-      still = a.leaves.still;
-      loan = keeps_others old new name.0 _ _ (ap (λ (m : Memory). m.lents) rest) ch here;
-      asks = tt;
-      rest = a.rest;
-    }
+-- the refusals of writing `count` bytes
+abbrev pub write_checks : Memory → ℕ → ℕ → ℕ → List Check
+write_checks old name at count =
+    unknown (callers_map old.bytes) name
+    ∷ where_it (callers_map old.bytes) name (λ live. live.lock ≡ 0) ChunkNotLocked
+    ∷ lent_out old (callers_map old.bytes) name
+    ∷ where_it (callers_map old.bytes) name (ReachesBeyond at count) OutOfBounds
+    ∷ []
 
-pub reowned_done : (old new : Memory) (name : Name) (found : Found) (owner : ℕ) → HeapAccepted old.bytes → (f : IsFound old.bytes name.0 found) → 1 ≤ found.owner → found.owner ≢ 15 → (IsNoCaller owner → ⊥)
-    → ChangesName old.bytes new.bytes name.0 (Some (record f.live { owner = owner })) (Some found.place.0) → OnlyBytes old new → Does old (SetOwner name owner) Done new
-reowned_done old new name found owner h f positive other caller ch rest =
-    let k = known old.bytes name.0 found h f positive in
-    let a = altered old new name.0 found (λ live. record live { owner = owner }) h f ch rest in
-    record {
-      before = h;
-      step = ((is_known k, (not_of_known (λ live. live.owner ≡ 15) k (λ e. other (f.owner_is ∙ e)), (caller, tt))), (tt, a.leaves.map));
-      frame = a.leaves.frame;
-      still = a.leaves.still;
-      loan = keeps_changed old new name.0 found (record f.live { owner = owner }) h (ap (λ (m : Memory). m.lents) rest) f ch refl;
-      asks = tt;
-      rest = a.rest;
-    }
+-- the first three are those of taking bytes out
+pub write_refused : (old : Memory) (name at count : ℕ) {refusal : Refusal} → FirstBrings (also_out_checks old name) refusal → FirstBrings (write_checks old name at count) refusal
+write_refused old name at count (inl none) = inl none
+write_refused old name at count (inr (there, inl bare)) = inr (there, inl bare)
+write_refused old name at count (inr (there, inr (shut, inl out))) = inr (there, inr (shut, inl out))
+write_refused old name at count (inr (there, inr (shut, inr (kept, more)))) = absurd more
 
--- ---- each call, where it is refused
+module _ {m : Memory} {name : Name} {found : Found} (o : IsOpen m name.0 found) where
+  here : IsLent m name.0 → ⊥
+  here = here_of o.owned.heap o.owned.is o.other
 
-pub lock_fixed : (region : Memory) (name : Name) (found : Found) → HeapAccepted region.bytes → IsFound region.bytes name.0 found → 1 ≤ found.owner → found.lock ≡ fixed_lock → Does region (Lock name) (Refused ChunkFixed) region
-lock_fixed region name found h f positive is = refused region (Lock name) ChunkFixed h (let k = known region.bytes name.0 found h f positive in inr (is_known k, inl (of_known (λ live. live.lock ≡ fixed_lock) k (sym f.lock_is ∙ is), refl)))
+  pub out_passes : NoneHolds (also_out_checks m name.0)
+  out_passes = (has_chunk o.owned, (no_lock o.owned 0 o.locked, (not_out o.owned here, tt)))
 
-pub lock_full : (region : Memory) (name : Name) (found : Found) → HeapAccepted region.bytes → IsFound region.bytes name.0 found → 1 ≤ found.owner → found.lock ≡ 14 → Does region (Lock name) (Refused LockOverflow) region
-lock_full region name found h f positive is =
-    let l = f.lock_is in
-    refused region (Lock name) LockOverflow h (let k = known region.bytes name.0 found h f positive in inr (is_known k, inr (not_of_known (λ live. live.lock ≡ fixed_lock) k (λ e. let g : f.live.lock ≡ fixed_lock = e in omega arith), inl (of_known (λ live. live.lock ≡ 14) k (sym l ∙ is), refl))))
+  pub write_passes : (at count : ℕ) → (found.length < at + count → ⊥) → NoneHolds (write_checks m name.0 at count)
+  write_passes at count inside = (has_chunk o.owned, (no_lock o.owned 0 o.locked, (not_out o.owned here, (stays_within o.owned at count inside, tt))))
 
-pub unlock_fixed : (region : Memory) (name : Name) (found : Found) → HeapAccepted region.bytes → IsFound region.bytes name.0 found → 1 ≤ found.owner → found.lock ≡ fixed_lock → Does region (Unlock name) (Refused ChunkFixed) region
-unlock_fixed region name found h f positive is = refused region (Unlock name) ChunkFixed h (let k = known region.bytes name.0 found h f positive in inr (is_known k, inl (of_known (λ live. live.lock ≡ fixed_lock) k (sym f.lock_is ∙ is), refl)))
+  pub write_beyond : (at count : ℕ) → found.length < at + count → FirstBrings (write_checks m name.0 at count) OutOfBounds
+  write_beyond at count beyond = inr (has_chunk o.owned, inr (no_lock o.owned 0 o.locked, inr (not_out o.owned here, inl (reaches o.owned at count beyond, refl))))
 
-pub unlock_none : (region : Memory) (name : Name) (found : Found) → HeapAccepted region.bytes → IsFound region.bytes name.0 found → 1 ≤ found.owner → found.lock ≡ 0 → Does region (Unlock name) (Refused ChunkNotLocked) region
-unlock_none region name found h f positive is =
-    let l = f.lock_is in
-    refused region (Unlock name) ChunkNotLocked h (let k = known region.bytes name.0 found h f positive in inr (is_known k, inr (not_of_known (λ live. live.lock ≡ fixed_lock) k (λ e. let g : f.live.lock ≡ fixed_lock = e in omega arith), inl (of_known (λ live. live.lock ≡ 0) k (sym l ∙ is), refl))))
-
-pub read_lent : (region : Memory) (name : Name) (at count : ℕ) (found : Found) → HeapAccepted region.bytes → IsFound region.bytes name.0 found → 1 ≤ found.owner → IsLent region name.0 → Does region (Read name at count) (Refused Lent) region
-read_lent region name at count found h f positive lent =
-    let k = known region.bytes name.0 found h f positive in
-    refused region (Read name at count) Lent h (inr (is_known k, inl (of_known (λ live. IsLent region name.0) k lent, refl)))
-
-pub read_beyond : (region : Memory) (name : Name) (at count : ℕ) (found : Found) → HeapAccepted region.bytes → IsFound region.bytes name.0 found → 1 ≤ found.owner → (IsLent region name.0 → ⊥) → found.length < at + count → Does region (Read name at count) (Refused OutOfBounds) region
-read_beyond region name at count found h f positive here beyond =
-    let k = known region.bytes name.0 found h f positive in
-    let n = f.count in
-    refused region (Read name at count) OutOfBounds h (inr (is_known k, inr (not_of_known (λ live. IsLent region name.0) k here, inl (of_known (ReachesBeyond at count) k (omega arith), refl))))
-
-pub unlock_lent : (region : Memory) (name : Name) (found : Found) → HeapAccepted region.bytes → IsFound region.bytes name.0 found → 1 ≤ found.owner → found.lock ≢ fixed_lock → found.lock ≢ 0 → IsLent region name.0 → Does region (Unlock name) (Refused Lent) region
-unlock_lent region name found h f positive loose some is =
-    let l = f.lock_is in
-    let k = known region.bytes name.0 found h f positive in
-    refused region (Unlock name) Lent h (inr (is_known k, inr (not_of_known (λ live. live.lock ≡ fixed_lock) k (λ e. loose (l ∙ e)), inr (not_of_known (λ live. live.lock ≡ 0) k (λ e. some (l ∙ e)), inl (of_known (λ live. IsLent region name.0) k is, refl)))))
-
-pub unlocked_write : (old : Memory) (name : Name) (found : Found) (at count : ℕ) → HeapAccepted old.bytes → IsFound old.bytes name.0 found → 1 ≤ found.owner → found.lock ≡ 0
-    → FirstBrings (unknown (callers_map old.bytes) name.0 ∷ where_it (callers_map old.bytes) name.0 (λ live. live.lock ≡ 0) ChunkNotLocked ∷ lent_out old (callers_map old.bytes) name.0 ∷ where_it (callers_map old.bytes) name.0 (ReachesBeyond at count) OutOfBounds ∷ []) ChunkNotLocked
-unlocked_write old name found at count h f positive is =
-    let k = known old.bytes name.0 found h f positive in inr (is_known k, inl (of_known (λ live. live.lock ≡ 0) k (sym f.lock_is ∙ is), refl))
-
-pub write_lent : (old : Memory) (name : Name) (found : Found) (at count : ℕ) → HeapAccepted old.bytes → IsFound old.bytes name.0 found → 1 ≤ found.owner → found.lock ≢ 0 → IsLent old name.0
-    → FirstBrings (unknown (callers_map old.bytes) name.0 ∷ where_it (callers_map old.bytes) name.0 (λ live. live.lock ≡ 0) ChunkNotLocked ∷ lent_out old (callers_map old.bytes) name.0 ∷ where_it (callers_map old.bytes) name.0 (ReachesBeyond at count) OutOfBounds ∷ []) Lent
-write_lent old name found at count h f positive some lent =
-    let k = known old.bytes name.0 found h f positive in
-    inr (is_known k, inr (not_of_known (λ live. live.lock ≡ 0) k (λ e. some (f.lock_is ∙ e)), inl (of_known (λ live. IsLent old name.0) k lent, refl)))
-
-pub write_beyond : (old : Memory) (name : Name) (found : Found) (at count : ℕ) → HeapAccepted old.bytes → IsFound old.bytes name.0 found → 1 ≤ found.owner → found.lock ≢ 0 → (IsLent old name.0 → ⊥) → found.length < at + count
-    → FirstBrings (unknown (callers_map old.bytes) name.0 ∷ where_it (callers_map old.bytes) name.0 (λ live. live.lock ≡ 0) ChunkNotLocked ∷ lent_out old (callers_map old.bytes) name.0 ∷ where_it (callers_map old.bytes) name.0 (ReachesBeyond at count) OutOfBounds ∷ []) OutOfBounds
-write_beyond old name found at count h f positive some here beyond =
-    let k = known old.bytes name.0 found h f positive in
-    let n = f.count in
-    inr (is_known k, inr (not_of_known (λ live. live.lock ≡ 0) k (λ e. some (f.lock_is ∙ e)), inr (not_of_known (λ live. IsLent old name.0) k here, inl (of_known (ReachesBeyond at count) k (omega arith), refl))))
-
-pub set_owner_database : (region : Memory) (name : Name) (owner : ℕ) (found : Found) → HeapAccepted region.bytes → IsFound region.bytes name.0 found → found.owner ≡ 15 → Does region (SetOwner name owner) (Refused OwnedByDatabase) region
-set_owner_database region name owner found h f is = refused region (SetOwner name owner) OwnedByDatabase h (let k = known region.bytes name.0 found h f (omega arith) in inr (is_known k, inl (of_known (λ live. live.owner ≡ 15) k (sym f.owner_is ∙ is), refl)))
-
-pub set_owner_no_caller : (region : Memory) (name : Name) (owner : ℕ) (found : Found) → HeapAccepted region.bytes → IsFound region.bytes name.0 found → 1 ≤ found.owner → found.owner ≢ 15 → IsNoCaller owner → Does region (SetOwner name owner) (Refused InvalidOwner) region
-set_owner_no_caller region name owner found h f positive other none =
-    let k = known region.bytes name.0 found h f positive in
-    refused region (SetOwner name owner) InvalidOwner h (inr (is_known k, inr (not_of_known (λ live. live.owner ≡ 15) k (λ e. other (f.owner_is ∙ e)), inl (none, refl))))
+  -- bytes are written over those of its chunk
+  pub overwrites : {new : Memory} (at : ℕ) (bytes : List ℕ) → OnlyBytes m new → at + length bytes ≤ found.length → Alters m.bytes new.bytes (found.place.0 - 8) (with_bytes at bytes)
+      → Altered m new name.0 (λ live. record live { bytes = overwritten live.bytes at bytes }) × KeepsLoan m new
+  overwrites {new} at bytes rest within made =
+      let ch = write_changes at bytes o.owned.heap.accepted o.owned.is within made in
+      (altered m new (λ live. record live { bytes = overwritten live.bytes at bytes }) o.owned.heap.accepted o.owned.is ch rest, keeps_others m new (same_lents m rest) ch here)
 
 -- ---- each call that asks
 
-pub size_known : (region : Memory) (name : Name) (found : Found) → HeapAccepted region.bytes → IsFound region.bytes name.0 found → 1 ≤ found.owner → Does region (Size name) (Number found.length) region
-size_known region name found h f positive =
-    let k = known region.bytes name.0 found h f positive in
-    unchanged region (Size name) (Number found.length) h ((is_known k, tt), (of_known (λ live. found.length ≡ length live.bytes) k f.count, λ n. refl))
+module _ {m : Memory} {name : Name} {found : Found} (o : IsCallers m name.0 found) where
+  pub size_known : Does m (Size name) (Number found.length) m
+  size_known = unchanged m (Size name) (Number found.length) o.heap.accepted ((has_chunk o, tt), (has o (λ live. found.length ≡ length live.bytes) o.is.count, λ n. refl))
 
-pub owner_known : (region : Memory) (name : Name) (found : Found) → HeapAccepted region.bytes → IsFound region.bytes name.0 found → 1 ≤ found.owner → Does region (Owner name) (Number found.owner) region
-owner_known region name found h f positive =
-    let k = known region.bytes name.0 found h f positive in
-    unchanged region (Owner name) (Number found.owner) h ((is_known k, tt), (of_known (λ live. found.owner ≡ live.owner) k f.owner_is, λ n. refl))
+  pub owner_known : Does m (Owner name) (Number found.owner) m
+  owner_known = unchanged m (Owner name) (Number found.owner) o.heap.accepted ((has_chunk o, tt), (has o (λ live. found.owner ≡ live.owner) o.is.owner_is, λ n. refl))
 
-pub locks_known : (region : Memory) (name : Name) (found : Found) → HeapAccepted region.bytes → IsFound region.bytes name.0 found → 1 ≤ found.owner → Does region (Locks name) (Number found.lock) region
-locks_known region name found h f positive =
-    let k = known region.bytes name.0 found h f positive in
-    unchanged region (Locks name) (Number found.lock) h ((is_known k, tt), (of_known (λ live. found.lock ≡ live.lock) k f.lock_is, λ n. refl))
+  pub locks_known : Does m (Locks name) (Number found.lock) m
+  locks_known = unchanged m (Locks name) (Number found.lock) o.heap.accepted ((has_chunk o, tt), (has o (λ live. found.lock ≡ live.lock) o.is.lock_is, λ n. refl))
 
-pub read_known : (region : Memory) (name : Name) (at count : ℕ) (found : Found) (bytes : List ℕ) → HeapAccepted region.bytes → IsFound region.bytes name.0 found → 1 ≤ found.owner → (IsLent region name.0 → ⊥) → (found.length < at + count → ⊥)
-    → bytes ≡ slice_range region.bytes (found.place.0 + at) (found.place.0 + at + count) → Does region (Read name at count) (Data bytes) region
-read_known region name at count found bytes h f positive here inside is =
-    let k = known region.bytes name.0 found h f positive in
-    let b = body_there region.bytes name.0 found h f in
-    let n = f.count in
-    let fits : at + count ≤ found.length = omega arith in
-    unchanged region (Read name at count) (Data bytes) h (
-      (is_known k, (not_of_known (λ live. IsLent region name.0) k here, (not_of_known (ReachesBeyond at count) k (λ beyond. inside (omega arith)), (tt, tt)))),
-      (
-        of_known (λ live. bytes ≡ slice_range live.bytes at (at + count)) k (is ∙ sym (slice-of_slice region.bytes found.place.0 found.length at count fits) ∙ ap (λ (x : List ℕ). slice_range x at (at + count)) b.1),
-        λ q. refl,
-      ),
-    )
+  pub read_known : (at count : ℕ) (bytes : List ℕ) → (IsLent m name.0 → ⊥) → (found.length < at + count → ⊥) → bytes ≡ slice_range m.bytes (found.place.0 + at) (found.place.0 + at + count) → Does m (Read name at count) (Data bytes) m
+  read_known at count bytes here inside is =
+      let b = body_there o.heap.accepted o.is in
+      let part = sym (slice-of_slice m.bytes found.place.0 found.length at count (omega arith)) ∙ ap (λ (x : List ℕ). slice_range x at (at + count)) b.1 in
+      unchanged m (Read name at count) (Data bytes) o.heap.accepted (
+        (has_chunk o, (not_out o here, (stays_within o at count inside, (tt, tt)))),
+        (has o (λ live. bytes ≡ slice_range live.bytes at (at + count)) (is ∙ part), λ q. refl),
+      )

@@ -27,8 +27,8 @@ counts_within (c ∷ cs) =
       one (movable bytes lock owner slot) cs ih m f s = omega (arith, ih, m, f, s)
       one (fixed bytes owner) cs ih m f s = omega (arith, ih, m, f, s)
 
-pub counted_within : (image : List ℕ) (counts : Counts) (at : ℕ) → Passed image (AreCounted counts) at → counts.movable + counts.fixed + counts.free ≤ at
-counted_within image counts at p =
+pub counted_within : {image : List ℕ} (counts : Counts) {at : ℕ} → Passed image (AreCounted counts) at → counts.movable + counts.fixed + counts.free ≤ at
+counted_within {image} counts {at} p =
     let there = passed_at image (AreCounted counts) at p in
     let within = counts_within p.front in
     let m = p.holds.movable in
@@ -41,9 +41,9 @@ free_fits (headers.Free size) = omega arith
 free_fits (headers.Movable length lock owner slot) = omega arith
 free_fits (headers.Fixed length owner) = omega arith
 
-pub counted_more : (image : List ℕ) (was now : Counts) (at : ℕ) (header : Header) → Passed image (AreCounted was) at → HasHeader image at header → now.movable ≡ was.movable + movable_by header → now.fixed ≡ was.fixed + fixed_by header → now.free ≡ was.free + free_by header
+pub counted_more : {image : List ℕ} (was now : Counts) {at : ℕ} {header : Header} → Passed image (AreCounted was) at → HasHeader image at header → now.movable ≡ was.movable + movable_by header → now.fixed ≡ was.fixed + fixed_by header → now.free ≡ was.free + free_by header
     → Passed image (AreCounted now) (at + size_by header)
-counted_more image was now at header p has m f s =
+counted_more {image} was now {at} {header} p has m f s =
     let one = sum_by-cons free_size has.chunk [] in
     let more : free_by header ≡ free_size has.chunk = ap free_by has.header_is ∙ free_of has.chunk in
     let movable_more : movable_by header ≡ count_by is_movable (has.chunk ∷ []) = ap movable_by has.header_is ∙ movable_of has.chunk in

@@ -1,16 +1,15 @@
 -- What is lent stays lent.
-use Rattle.std.proofs.Common.{◌≡◌, ℕ, zero, suc, ◌+◌, ◌-◌, ◌<◌, List, [], ◌∷◌, length, refl, sym, ap, subst, ◌∙◌, arith, inl, inr}
-use Rattle.std.specs.Prelude.{Option, Some, None, IsSome}
-use Rattle.std.specs.Prelude.{◌==◌}
+use Rattle.std.proofs.Common.{◌≡◌, ℕ, zero, suc, ◌+◌, ◌-◌, ◌<◌, List, length, refl, sym, ap, subst, ◌∙◌, arith, inl, inr}
+use Rattle.std.specs.Prelude.{Option, Some, IsSome, ◌==◌}
 use Rattle.std.proofs.lemmas.Bool.{cases_eq}
 use Rattle.std.proofs.lemmas.Bool.Decides.{nat_tests}
-use Rattle.heap_model.specs.Memory.{Memory, Lent, EachLent, SomeLent}
+use Rattle.heap_model.specs.Memory.{Memory, Lent, SomeLent}
 use Rattle.heap_model.specs.Chunk.{Chunk, free, movable, fixed, fixed_lock, total}
 use Rattle.heap_model.specs.Slots.{area_start}
 use Rattle.heap_model.specs.Heap.{HeapAccepted}
 use Rattle.heap_model.specs.Meaning.{LiveChunk, NamedHere}
 use Rattle.heap_model.specs.Reading.{chunks_of, held}
-use Rattle.heap_model.specs.Lending.{LentHere, IsLentBody, LendsBodies, IsLent, KeepsLoan}
+use Rattle.heap_model.specs.Lending.{LentHere, IsLentBody, LendsBodies, IsLent, KeepsLoan, HoldsHeap}
 use Rattle.heap_model.specs.Maps.{callers_map, not_owned}
 use Rattle.heap_model.specs.Layout.{layout_of, Becomes, owned_freed}
 use Rattle.heap_model.specs.MemorySteps.{IsNoCaller, LendsOf, Of}
@@ -24,12 +23,12 @@ use Rattle.laws_heap.proofs.FoundChunks.{held_finds, named_size, callers_some}
 use Rattle.laws_heap.proofs.KeptLoans.{unheld_here}
 use Rattle.laws_heap.proofs.OwnedChunks.{owned_held, owned_place}
 use Rattle.laws_heap.proofs.Tests.{cond-false}
-use Rattle.laws_heap.proofs.LentBodies.{some_gives, some_to, apart, in_front, one, behind, stays_here}
-use Rattle.laws_heap.proofs.Placed.{AnyPlaced-parts}
+use Rattle.laws_heap.proofs.LentBodies.{some_gives, some_to, apart, in_front, one, behind, lent_chunk}
 use Rattle.heap_place.specs.declared.found.Found.{Found}
 use Rattle.heap_place.specs.Found.{IsFound}
 use Rattle.heap_place.proofs.FoundLaws.{name_held}
 use Rattle.mem_manager.specs.Lookup.{MakesNew}
+use Rattle.heap_model.specs.Placing.{Finds}
 
 -- ---- the chunk that is lent stays
 
@@ -42,25 +41,27 @@ locked_here lent at name live (movable bytes zero owner slot) n l = absurd l
 locked_here lent at name live (movable bytes (suc lock) owner slot) n l = let e : suc lock ≡ live.lock = ap (λ (x : LiveChunk). x.lock) n.1 in omega (arith, e)
 locked_here lent at name live (fixed bytes owner) n l = let e : fixed_lock ≡ live.lock = ap (λ (x : LiveChunk). x.lock) (fixed_live_is at bytes owner n) in omega (arith, e)
 
+-- a lent body at the place of a chunk is that chunk's
+pub lent_at_found : {image : List ℕ} {name : ℕ} {live : LiveChunk} {chunk : Chunk} {at : ℕ} (lent : Lent) → IsLentBody image lent → (f : Finds image name live chunk at) → at + 8 ≡ lent.at → LentHere lent at chunk
+lent_at_found {image} {name} {live} {chunk} {at} lent l f same =
+    let p = lent_chunk image lent l in
+    let at_is = p.is.there in let fits = p.is.fits in let there = f.there in
+    let size = named_size name live at chunk f.named in
+    elim (apart f.before chunk f.after p.before p.chunk p.after (sym f.chunks ∙ p.chunks)) [
+      | in_front k ↦ absurd (omega (arith, k, at_is, there, same, size))
+      | one t s ↦
+          let where_is : area_start image + total p.before ≡ at = omega (arith, t, there) in
+          subst (λ (c : Chunk). LentHere lent at c) (sym s) (subst (λ (n : ℕ). LentHere lent n p.chunk) where_is p.here)
+      | behind k ↦ absurd (omega (arith, k, at_is, there, same, fits))
+    ]
+
 pub lent_locked : (memory : Memory) (name : ℕ) (live : LiveChunk) → HeapAccepted memory.bytes → LendsBodies memory → IsLent memory name → held memory.bytes name ≡ Some live → 0 < live.lock
 lent_locked memory name live h l is e = some_gives (λ y. place_of memory.bytes name ≡ Some y.at) (IsLentBody memory.bytes) memory.lents l is one_of_them where
   one_of_them : (lent : Lent) → IsLentBody memory.bytes lent → place_of memory.bytes name ≡ Some lent.at → 0 < live.lock
   one_of_them lent l is =
       let g = held_finds memory.bytes name live h e in
       let there : g.at + 8 ≡ lent.at = one_place (sym (finds_place memory.bytes name live g.chunk g.at h g.finds) ∙ is) in
-      let at_is = g.finds.there in
-      let size = named_size name live g.at g.chunk g.finds.named in
-      let p = AnyPlaced-parts (LentHere lent) (area_start memory.bytes) (chunks_of memory.bytes) l in
-      let s = stays_here lent (area_start memory.bytes + total p.before) p.chunk p.holds in
-      let placed = s.there in
-      let fits = s.fits in
-      elim (apart g.finds.before g.chunk g.finds.after p.before p.chunk p.after (sym g.finds.chunks ∙ p.parts)) [
-        | in_front k ↦ absurd (omega (arith, k, there, at_is, size, placed))
-        | one t same ↦
-            let where_is : area_start memory.bytes + total p.before ≡ g.at = omega (arith, t, at_is) in
-            locked_here lent g.at name live g.chunk g.finds.named (subst (λ (c : Chunk). LentHere lent g.at c) (sym same) (subst (λ (n : ℕ). LentHere lent n p.chunk) where_is p.holds))
-        | behind k ↦ absurd (omega (arith, k, there, at_is, placed, fits))
-      ]
+      locked_here lent g.at name live g.chunk g.finds.named (lent_at_found lent l g.finds there)
 
 -- ---- a name that is lent
 
@@ -78,12 +79,12 @@ keeps_still old new h l same still each = λ name count is.
     (record { lent = lent_there old new name same placed is.lent; live = is.live; is_held = now; many = is.many }, placed)
 
 -- the same, where each name stands for what it stood for
-pub keeps_map : (old new : Memory) → HeapAccepted old.bytes → LendsBodies old → new.lents ≡ old.lents → Still old.bytes new.bytes → ((n : ℕ) → held new.bytes n ≡ held old.bytes n) → KeepsLoan old new
-keeps_map old new h l same still map = keeps_still old new h l same still (λ n live is e. map n ∙ e)
+pub keeps_map : {old : Memory} (new : Memory) → HoldsHeap old → new.lents ≡ old.lents → Still old.bytes new.bytes → ((n : ℕ) → held new.bytes n ≡ held old.bytes n) → KeepsLoan old new
+keeps_map {old} new h same still map = keeps_still old new h.accepted h.lent same still (λ n live is e. map n ∙ e)
 
 -- where one name's chunk is changed in its place, and has as many bytes
-pub keeps_changed : (old new : Memory) (name : ℕ) (found : Found) (now : LiveChunk) → HeapAccepted old.bytes → new.lents ≡ old.lents → (f : IsFound old.bytes name found) → ChangesName old.bytes new.bytes name (Some now) (Some found.place.0) → length now.bytes ≡ length f.live.bytes → KeepsLoan old new
-keeps_changed old new name found now h same f ch many = λ n count is. elim (cases_eq n name) [
+pub keeps_changed : (old new : Memory) {name : ℕ} {found : Found} (now : LiveChunk) → HeapAccepted old.bytes → new.lents ≡ old.lents → (f : IsFound old.bytes name found) → ChangesName old.bytes new.bytes name (Some now) (Some found.place.0) → length now.bytes ≡ length f.live.bytes → KeepsLoan old new
+keeps_changed old new {name} {found} now h same f ch many = λ n count is. elim (cases_eq n name) [
   | inl here ↦
       let mine : f.live ≡ is.live = one_live (sym (name_held old.bytes name found h f) ∙ ap (λ (m : ℕ). held old.bytes m) (sym here) ∙ is.is_held) in
       let placed : place_of new.bytes n ≡ place_of old.bytes n = ap (λ (m : ℕ). place_of new.bytes m) here ∙ ch.place ∙ sym was ∙ ap (λ (m : ℕ). place_of old.bytes m) (sym here) in (
@@ -110,15 +111,15 @@ keeps_changed old new name found now h same f ch many = λ n count is. elim (cas
   was = finds_place old.bytes name f.live f.chunk (found.place.0 - 8) h f.finds ∙ ap (λ (n : ℕ). some n) low
 
 -- where one name's chunk is changed that is not lent
-pub keeps_others : (old new : Memory) (name : ℕ) (now : Option LiveChunk) (there : Option ℕ) → new.lents ≡ old.lents → ChangesName old.bytes new.bytes name now there → (IsLent old name → ⊥) → KeepsLoan old new
-keeps_others old new name now there same ch here = λ n count is. elim (cases_eq n name) [
+pub keeps_others : (old new : Memory) {name : ℕ} {now : Option LiveChunk} {there : Option ℕ} → new.lents ≡ old.lents → ChangesName old.bytes new.bytes name now there → (IsLent old name → ⊥) → KeepsLoan old new
+keeps_others old new {name} same ch here = λ n count is. elim (cases_eq n name) [
   | inl this ↦ absurd (here (subst (λ (m : ℕ). IsLent old m) this is.lent))
   | inr other ↦ (record { lent = lent_there old new n same (ch.places n other) is.lent; live = is.live; is_held = ch.others n other ∙ is.is_held; many = is.many }, ch.places n other)
 ]
 
 -- where a chunk is made under one
-pub keeps_made : (old new : Memory) (size owner name : ℕ) → HeapAccepted old.bytes → LendsBodies old → new.lents ≡ old.lents → MakesNew old.bytes new.bytes name size owner → KeepsLoan old new
-keeps_made old new size owner name h l same m = keeps_still old new h l same m.leaves.still (λ n live is e. elim (cases_eq n name) [
+pub keeps_made : {old : Memory} (new : Memory) {size owner name : ℕ} → HoldsHeap old → new.lents ≡ old.lents → MakesNew old.bytes new.bytes name size owner → KeepsLoan old new
+keeps_made {old} new {name} h same m = keeps_still old new h.accepted h.lent same m.leaves.still (λ n live is e. elim (cases_eq n name) [
   | inl this ↦ absurd (unheld_here old name m.fresh (subst (λ (j : ℕ). IsLent old j) this is))
   | inr apart ↦ m.leaves.map n ∙ cond-false (n == name) _ _ (grind (arith, nat_tests)) ∙ e
 ])
@@ -140,6 +141,6 @@ keeps_owned old new owner h l caller same none b = keeps_still old new h l same 
   ]
 
 -- where a new directory is named
-pub named_still : (old new : List ℕ) (word : ℕ) → NamesDirectory old new word → Still old new
-named_still old new word d name live h locked there =
+pub named_still : {old new : List ℕ} {word : ℕ} → NamesDirectory old new word → Still old new
+named_still {old} {new} {word} d name live h locked there =
     ap (λ (n : ℕ). place_under n (chunks_of new) name) (named_start old new word d) ∙ ap (λ (cs : List Chunk). place_under (area_start old) cs name) d.chunks

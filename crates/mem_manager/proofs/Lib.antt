@@ -12,5 +12,4 @@ pub mod Places
 pub mod SlidChunks
 pub mod StoreCalls
 pub mod Growth
-pub mod ByteCalls
 pub mod MoreSlots

@@ -22,10 +22,8 @@ use Rattle.laws_heap.proofs.Exchanges.{ChangesName}
 use Rattle.laws_heap.proofs.ChangedName.{held_updated}
 use Rattle.laws_heap.proofs.SlidImages.{packed_alike, slot_unheld, slides_alike, slides_move_one, changes_move_nothing, moves_then_nothing, nothing_moves_one, unmoved_bytes, moved_with}
 use Rattle.master_table.proofs.TableLaws.{used_still}
-use Rattle.master_table.proofs.RowLaws.{starts_still}
-use Rattle.master_table.specs.declared.slots.TableStart.{TableStart}
-use Rattle.mem_manager.specs.Lookup.{IsManaged, IsNextEmpty}
-use Rattle.heap_model.specs.Lending.{LendsBodies}
+use Rattle.mem_manager.specs.Lookup.{IsNextEmpty}
+use Rattle.heap_model.specs.Lending.{HoldsHeap}
 use Rattle.mem_manager.proofs.KeptLoans.{keeps_map}
 use Rattle.mem_manager.proofs.StepWords.{OnlyBytes, none_there}
 
@@ -33,49 +31,36 @@ use Rattle.mem_manager.proofs.StepWords.{OnlyBytes, none_there}
 abbrev pub BytesAndSlid : Memory → Memory → Type 0
 BytesAndSlid old new = new ≡ record old { bytes = new.bytes; slid = new.slid }
 
-pub compacted : (old new : Memory) (count : ℕ) → HeapAccepted old.bytes → LendsBodies old → Becomes old.bytes new.bytes (packed (chunks_of old.bytes)) → count ≡ moved_bytes old.bytes new.bytes → BytesAndSlid old new → Does old Compact (Number count) new
-compacted old new count h lends b moved rest =
-    let alike = packed_alike old.bytes new.bytes h b in
+pub compacted : {old : Memory} (new : Memory) {count : ℕ} → HoldsHeap old → Becomes old.bytes new.bytes (packed (chunks_of old.bytes)) → count ≡ moved_bytes old.bytes new.bytes → BytesAndSlid old new → Does old Compact (Number count) new
+compacted {old} new h b moved rest =
+    let alike = packed_alike old.bytes new.bytes h.accepted b in
     record {
-      before = h;
+      before = h.accepted;
       step = (tt, (moved, alike.holds));
       frame = b.frame;
       still = alike.stays;
-      loan = keeps_map old new h lends (ap (λ (m : Memory). m.lents) rest) alike.stays alike.holds;
+      loan = keeps_map new h (ap (λ (m : Memory). m.lents) rest) alike.stays alike.holds;
       asks = tt;
       rest = rest;
     }
 
 -- ---- chunks slide, and what they stand for stays
 
-slots_slid : (old new : List ℕ) (slot : ℕ) → HeapAccepted old → SameFrame old new → SlidAlike old new → IsSlot old slot → (u32_at old slot ≡ 0) ↔ (u32_at new slot ≡ 0)
-slots_slid old new slot h frame alike s =
+slots_slid : {old new : List ℕ} {slot : ℕ} → HeapAccepted old → SameFrame old new → SlidAlike old new → IsSlot old slot → (u32_at old slot ≡ 0) ↔ (u32_at new slot ≡ 0)
+slots_slid {old} {new} {slot} h frame alike s =
     let was = slot_unheld old slot h s in
     let is = slot_unheld new slot frame.accepted (slot_alike old new slot (frame_slots old new frame) s) in
     (λ e. is.1 (alike.holds slot ∙ was.0 e), λ e. was.1 (sym (alike.holds slot) ∙ is.0 e))
 
--- the same slots are in use
-pub used_slid : {start : TableStart} {freed : ℕ} {names : List ℕ} (old new : List ℕ) (used : ℕ) → IsManaged old used start freed names → SameFrame old new → SlidAlike old new → IsManaged new used start freed names
-used_slid {start} {freed} old new used m frame alike = record {
-  accepted = frame.accepted;
-  in_use = used_still old new used (frame_slots old new frame) (λ slot s some empty. some ((slots_slid old new slot m.accepted frame alike s).1 empty)) m.in_use;
-  starts = starts_still old new start.place start.before frame.tables m.starts;
-  free = λ some. slot_alike old new freed (frame_slots old new frame) (m.free some);
-  known = λ name is. subst IsSome (sym (alike.holds name)) (m.known name is);
-}
-
-pub used_compacted : {start : TableStart} {freed : ℕ} {names : List ℕ} (old new : List ℕ) (used : ℕ) → IsManaged old used start freed names → Becomes old new (packed (chunks_of old)) → IsManaged new used start freed names
-used_compacted old new used m b = used_slid old new used m b.frame (packed_alike old new m.accepted b)
-
 -- and the first empty one is the same
-pub first_slid : (old new : List ℕ) (slot before : ℕ) → HeapAccepted old → SlidesOneStretch old new → IsNextEmpty old slot before → IsNextEmpty new slot before
-first_slid old new slot before h s first =
+pub first_slid : {old new : List ℕ} {slot before : ℕ} → HeapAccepted old → SlidesOneStretch old new → IsNextEmpty old slot before → IsNextEmpty new slot before
+first_slid {old} {new} {slot} {before} h s first =
     let alike = slides_alike old new h s in
     let frame = s.becomes.frame in
     record {
       is_slot = slot_alike old new slot (frame_slots old new frame) first.is_slot;
-      empty = (slots_slid old new slot h frame alike first.is_slot).0 first.empty;
-      used = used_still old new before (frame_slots old new frame) (λ other t some empty. some ((slots_slid old new other h frame alike t).1 empty)) first.used;
+      empty = (slots_slid h frame alike first.is_slot).0 first.empty;
+      used = used_still old new before (frame_slots old new frame) (λ other t some empty. some ((slots_slid h frame alike t).1 empty)) first.used;
     }
 
 -- ---- chunks of one stretch slide, and then one name changes
@@ -84,26 +69,26 @@ pub rest_then : (old mid new : Memory) → BytesAndSlid old mid → OnlyBytes mi
 rest_then old mid new first second =
     second ∙ ap (λ (m : Memory). record m { bytes = new.bytes }) first ∙ ap (λ (n : ℕ). record old { bytes = new.bytes; slid = n }) (sym (ap (λ (m : Memory). m.slid) second))
 
-pub held_then : (old mid new : List ℕ) (name : ℕ) (now : Option LiveChunk) (there : Option ℕ) → SlidAlike old mid → ChangesName mid new name now there → (n : ℕ) → held new n ≡ updated (held old) name now n
-held_then old mid new name now there alike ch n = held_updated mid new name now there ch n ∙ ap (λ (x : Option LiveChunk). if n == name then now else x) (alike.holds n)
+pub held_then : {old mid new : List ℕ} {name : ℕ} {now : Option LiveChunk} {there : Option ℕ} → SlidAlike old mid → ChangesName mid new name now there → (n : ℕ) → held new n ≡ updated (held old) name now n
+held_then {mid} {new} {name} {now} {there} alike ch n = held_updated mid new name now there ch n ∙ ap (λ (x : Option LiveChunk). if n == name then now else x) (alike.holds n)
 
 some_there : {x : Option LiveChunk} {live : LiveChunk} → x ≡ Some live → IsSome x
 some_there e = subst (λ (y : Option LiveChunk). IsSome y) (sym e) refl
 
-pub still_then : (old mid new : List ℕ) → SlidAlike old mid → Still mid new → Still old new
-still_then old mid new alike s n live e locked is = s n live (alike.holds n ∙ e) locked is ∙ alike.stays n live e locked (some_there (alike.holds n ∙ e))
+pub still_then : {old mid : List ℕ} (new : List ℕ) → SlidAlike old mid → Still mid new → Still old new
+still_then new alike s n live e locked is = s n live (alike.holds n ∙ e) locked is ∙ alike.stays n live e locked (some_there (alike.holds n ∙ e))
 
 -- a name that stood for nothing is made
-pub made_moves_nothing : (old new : List ℕ) (name : ℕ) (now : Option LiveChunk) (there : Option ℕ) → held old name ≡ None → ChangesName old new name now there → MovesNothing old new
-made_moves_nothing old new name now there none ch = changes_move_nothing old new name now there ch (λ was is. absurd (none_there none was))
+pub made_moves_nothing : {old new : List ℕ} {name : ℕ} {now : Option LiveChunk} {there : Option ℕ} → held old name ≡ None → ChangesName old new name now there → MovesNothing old new
+made_moves_nothing {old} {new} {name} {now} {there} none ch = changes_move_nothing old new name now there ch (λ was is. absurd (none_there none was))
 
-pub one_stretch_then : (old mid new : List ℕ) → HeapAccepted old → SlidesOneStretch old mid → MovesNothing mid new → MovesOneStretch old new
-one_stretch_then old mid new h s nothing =
+pub one_stretch_then : {old mid : List ℕ} (new : List ℕ) → HeapAccepted old → SlidesOneStretch old mid → MovesNothing mid new → MovesOneStretch old new
+one_stretch_then {old} {mid} new h s nothing =
     let alike = slides_alike old mid h s in
     moves_then_nothing old mid new (slides_move_one old mid s) (λ name was is. subst (λ (x : Option LiveChunk). IsSome x) (sym (alike.holds name)) was) nothing
 
-pub nothing_then : (old mid new : Memory) → mid ≡ old → MovesNothing mid.bytes new.bytes → MovesNothing old.bytes new.bytes
-nothing_then old mid new same moved = subst (λ (m : Memory). MovesNothing m.bytes new.bytes) same moved
+pub nothing_then : {old mid : Memory} (new : Memory) → mid ≡ old → MovesNothing mid.bytes new.bytes → MovesNothing old.bytes new.bytes
+nothing_then new same moved = subst (λ (m : Memory). MovesNothing m.bytes new.bytes) same moved
 
 -- a call that leaves the region as it is
 pub itself_one : (image : List ℕ) → MovesOneStretch image image
@@ -111,13 +96,13 @@ itself_one image = nothing_moves_one image image (λ name was is. refl)
 
 -- ---- what was slid is what has moved
 
-pub nothing_slides : (region : Memory) → HeapAccepted region.bytes → region.slid ≡ region.slid + moved_bytes region.bytes region.bytes
-nothing_slides region h = let moved = unmoved_bytes region.bytes h in omega (arith, moved)
+pub nothing_slides : {region : Memory} → HoldsHeap region → region.slid ≡ region.slid + moved_bytes region.bytes region.bytes
+nothing_slides {region} h = let moved = unmoved_bytes region.bytes h.accepted in omega (arith, moved)
 
 -- one stretch has slid, and then a name changes that stood for nothing
-pub once_then : (old mid new : Memory) (name : ℕ) (now : Option LiveChunk) (there : Option ℕ) → HeapAccepted old.bytes → SlidesOneStretch old.bytes mid.bytes → held mid.bytes name ≡ None → ChangesName mid.bytes new.bytes name now there → OnlyBytes mid new
+pub once_then : {old : Memory} (mid new : Memory) {name : ℕ} {now : Option LiveChunk} {there : Option ℕ} → HoldsHeap old → SlidesOneStretch old.bytes mid.bytes → held mid.bytes name ≡ None → ChangesName mid.bytes new.bytes name now there → OnlyBytes mid new
     → mid.slid ≡ old.slid + moved_bytes old.bytes mid.bytes → new.slid ≡ old.slid + moved_bytes old.bytes new.bytes
-once_then old mid new name now there h slides none ch rest once =
-    let same = moved_with old.bytes mid.bytes new.bytes name now there h slides none ch in
+once_then {old} mid new {name} {now} {there} h slides none ch rest once =
+    let same = moved_with old.bytes mid.bytes new.bytes name now there h.accepted slides none ch in
     let kept : new.slid ≡ mid.slid = ap (λ (m : Memory). m.slid) rest in
     omega (arith, same, kept, once)

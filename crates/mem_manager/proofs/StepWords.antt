@@ -1,32 +1,33 @@
 -- The words of the steps: what callers may name, calls that leave the region as it is, and what
 -- there is where one name is changed.
-use Rattle.std.proofs.Common.{◌≡◌, ℕ, ◌≤◌, List, Bool, true, false, Option, Some, None, refl, sym, ap, subst, ◌∙◌, arith, inl, inr}
+use Rattle.std.proofs.Common.{◌≡◌, ◌≢◌, ℕ, ◌+◌, ◌<◌, ◌≤◌, List, Bool, true, false, Option, Some, None, refl, sym, ap, subst, ◌∙◌, arith, inl, inr}
 use Rattle.std.proofs.lemmas.Bool.{cases_eq}
-use Rattle.std.specs.Prelude.{◌⊎◌, if◌then◌else◌, IsSome, Result, Ok, Err}
+use Rattle.std.specs.Prelude.{◌⊎◌, if◌then◌else◌, IsSome, Result, Ok, Err, IfOk, OnOk, IfErr}
 use Rattle.std.specs.Result.{IsErr, IsErrAnd}
 use Rattle.std.specs.Bool.{OnTrue}
 use Rattle.heap_model.specs.Memory.{Memory}
 use Rattle.heap_model.specs.Heap.{HeapAccepted}
 use Rattle.heap_model.specs.Meaning.{LiveChunk}
-use Rattle.heap_model.specs.Reading.{chunks_of, held}
+use Rattle.heap_model.specs.Reading.{held}
 use Rattle.heap_model.specs.Maps.{callers_map, updated, changed, changed_at}
 use Rattle.heap_model.specs.Space.{Still, MovesNothing, place_of}
 use Rattle.heap_model.specs.Leaving.{Leaves}
-use Rattle.heap_model.specs.Refusals.{FirstBrings}
-use Rattle.heap_model.specs.MemorySteps.{MemoryCall, Does, MemoryStep, Of, row_of, may_slide, reply_of}
+use Rattle.heap_model.specs.Refusals.{FirstBrings, Check}
+use Rattle.heap_model.specs.MemorySteps.{MemoryCall, Does, MemoryStep, Frames, Of, ReachesBeyond, row_of, may_slide, reply_of, IsLocked}
 use Rattle.heap_model.specs.declared.call.Reply.{Reply}
 use Rattle.heap_model.specs.declared.call.Reply.TheVariants.{Refused}
 use Rattle.heap_model.specs.declared.refusal.Refusal.{Refusal}
 use Rattle.laws_heap.proofs.KeptLoans.{keeps_itself}
-use Rattle.laws_heap.proofs.Meanings.{held-is, empty_unheld}
 use Rattle.laws_heap.proofs.Slots.{slot_alike}
-use Rattle.laws_heap.proofs.Accepted.{heap_of_read}
 use Rattle.laws_heap.proofs.FoundChunks.{callers_some}
 use Rattle.laws_heap.proofs.CallFrames.{frames_same}
-use Rattle.laws_heap.proofs.SameLayouts.{frame_slots}
 use Rattle.laws_heap.proofs.Exchanges.{ChangesName}
 use Rattle.laws_heap.proofs.ChangedName.{held_updated}
-use Rattle.laws_heap.proofs.SlidImages.{changes_move_nothing}
+use Rattle.laws_heap.proofs.SlidImages.{changes_move_nothing, slot_unheld}
+use Rattle.heap_model.specs.Slots.{slots_of, tables_of}
+use Rattle.heap_model.specs.Placing.{SameFrame}
+use Rattle.heap_model.specs.Lending.{HoldsHeap, IsLent, KeepsLoan}
+use Rattle.heap_model.specs.declared.names.Name.{Name}
 use Rattle.master_table.proofs.TableLaws.{used_still}
 use Rattle.heap_place.proofs.FoundLaws.{name_held}
 use Rattle.heap_compact.proofs.RelocateLaws.{one_placed}
@@ -34,7 +35,7 @@ use Rattle.heap_place.specs.declared.found.Found.{Found}
 use Rattle.heap_place.specs.Found.{IsFound, IsOne}
 use Rattle.master_table.proofs.RowLaws.{starts_still}
 use Rattle.master_table.specs.declared.slots.TableStart.{TableStart}
-use Rattle.mem_manager.specs.Lookup.{IsManaged}
+use Rattle.mem_manager.specs.Lookup.{IsManaged, IsCallers}
 use Rattle.mem_manager.specs.Known.{KnowsHeld}
 
 -- ---- what callers may name
@@ -44,8 +45,8 @@ pub one_of : {image : List ℕ} {name : ℕ} {found : Found} → IsFound image n
 one_of {image} {name} {found} f = subst (λ (n : ℕ). IsFound image n found) (sym f.name_is) f
 
 -- a name's chunk, as the store has it
-pub known : (image : List ℕ) (name : ℕ) (found : Found) → HeapAccepted image → (f : IsFound image name found) → 1 ≤ found.owner → callers_map image name ≡ Some f.live
-known image name found h f positive =
+pub known : {image : List ℕ} {name : ℕ} {found : Found} → HeapAccepted image → (f : IsFound image name found) → 1 ≤ found.owner → callers_map image name ≡ Some f.live
+known {image} {name} {found} h f positive =
     callers_some image name f.live (name_held image name found h f) (let e = f.owner_is in λ none. let n : f.live.owner ≡ 0 = none in omega arith)
 
 pub of_known : {map : Option LiveChunk} {live : LiveChunk} (P : LiveChunk → Type 0) → map ≡ Some live → P live → Of map P
@@ -56,6 +57,65 @@ not_of_known P e none of = none (subst (λ (x : Option LiveChunk). Of x P) e of)
 
 pub is_known : {map : Option LiveChunk} {live : LiveChunk} → map ≡ Some live → map ≡ None → ⊥
 is_known e none = let n = sym e ∙ none in absurd cc
+
+-- ---- what checks say of a caller's chunk that was found
+
+module _ {m : Memory} {name : Name} {found : Found} (o : IsCallers m name.0 found) where
+  its : callers_map m.bytes name.0 ≡ Some o.is.live
+  its = known o.heap.accepted o.is o.callers
+
+  pub has_chunk : callers_map m.bytes name.0 ≡ None → ⊥
+  has_chunk = is_known its
+
+  pub has : (P : LiveChunk → Type 0) → P o.is.live → Of (callers_map m.bytes name.0) P
+  has P p = of_known P its p
+
+  pub has_not : (P : LiveChunk → Type 0) → (P o.is.live → ⊥) → Of (callers_map m.bytes name.0) P → ⊥
+  has_not P none = not_of_known P its none
+
+  pub has_lock : (lock : ℕ) → found.lock ≡ lock → Of (callers_map m.bytes name.0) (λ live. live.lock ≡ lock)
+  has_lock lock is = has (λ live. live.lock ≡ lock) (sym o.is.lock_is ∙ is)
+
+  pub no_lock : (lock : ℕ) → found.lock ≢ lock → Of (callers_map m.bytes name.0) (λ live. live.lock ≡ lock) → ⊥
+  no_lock lock other = has_not (λ live. live.lock ≡ lock) (λ e. other (o.is.lock_is ∙ e))
+
+  pub is_data : found.owner ≡ 15 → Of (callers_map m.bytes name.0) (λ live. live.owner ≡ 15)
+  is_data is = has (λ live. live.owner ≡ 15) (sym o.is.owner_is ∙ is)
+
+  pub no_data : found.owner ≢ 15 → Of (callers_map m.bytes name.0) (λ live. live.owner ≡ 15) → ⊥
+  no_data other = has_not (λ live. live.owner ≡ 15) (λ e. other (o.is.owner_is ∙ e))
+
+  pub is_out : IsLent m name.0 → Of (callers_map m.bytes name.0) (λ live. IsLent m name.0)
+  is_out lent = has (λ live. IsLent m name.0) lent
+
+  pub not_out : (IsLent m name.0 → ⊥) → Of (callers_map m.bytes name.0) (λ live. IsLent m name.0) → ⊥
+  not_out here = has_not (λ live. IsLent m name.0) here
+
+  pub is_locked : 0 < found.lock → found.lock < 15 → Of (callers_map m.bytes name.0) IsLocked
+  is_locked some below = let lock = o.is.lock_is in has IsLocked (omega arith, omega arith)
+
+  pub not_locked : (0 < found.lock → found.lock < 15 → ⊥) → Of (callers_map m.bytes name.0) IsLocked → ⊥
+  not_locked unlocked = let lock = o.is.lock_is in has_not IsLocked (λ l. let some = l.0 in let below = l.1 in unlocked (omega arith) (omega arith))
+
+  pub reaches : (at count : ℕ) → found.length < at + count → Of (callers_map m.bytes name.0) (ReachesBeyond at count)
+  reaches at count beyond = let long = o.is.count in has (ReachesBeyond at count) (omega arith)
+
+  pub stays_within : (at count : ℕ) → (found.length < at + count → ⊥) → Of (callers_map m.bytes name.0) (ReachesBeyond at count) → ⊥
+  stays_within at count inside = let long = o.is.count in has_not (ReachesBeyond at count) (λ beyond. inside (omega arith))
+
+-- the refusal that a method returns is the first of these checks
+pub refuses : {A : Type 0} {brought refusal : Refusal} (checks : List Check) (result : Result A Refusal) → IsErr result × IsErrAnd result (λ answer. answer ≡ brought) → brought ≡ refusal → FirstBrings checks refusal → IfErr result (FirstBrings checks)
+refuses checks (Ok a) is same why = let no = is.0 in absurd cc
+refuses checks (Err e) is same why = subst (FirstBrings checks) (sym (is.1 ∙ same)) why
+
+-- what is returned unless the manager owns it is a caller's
+pub found_callers : {m : Memory} {name : ℕ} {found : Found} (result : Result Found Refusal) → HoldsHeap m → IsFound m.bytes name found → IfOk result (λ own. own ≡ found) → OnOk result (1 ≤ found.owner) → IfOk result (IsCallers m name)
+found_callers {m} {name} (Ok own) h f is positive = subst (IsCallers m name) (sym is) (record { heap = h; is = f; callers = positive })
+found_callers (Err refusal) h f is positive = tt
+
+-- what was found in the heap's value was found in its region
+pub callers_viewed : {inside value : Memory} {name : ℕ} {found : Found} → inside ≡ value → HoldsHeap inside → IsFound value.bytes name found → 1 ≤ found.owner → IsCallers inside name found
+callers_viewed {name = name} {found = found} view h f positive = record { heap = h; is = subst (λ (m : Memory). IsFound m.bytes name found) (sym view) f; callers = positive }
 
 -- ---- calls that leave the region as it is
 
@@ -82,18 +142,19 @@ unchanged region call reply h step = record {
   rest = nothing_slid (may_slide call) region;
 }
 
-pub refused : (region : Memory) (call : MemoryCall) (refusal : Refusal) → HeapAccepted region.bytes → FirstBrings (row_of region call).refusals refusal → Does region call (Refused refusal) region
-refused region call refusal h brings = unchanged region call (Refused refusal) h (brings, record { map = λ name. refl; free = refl; slots = refl })
+pub refused : {region : Memory} {call : MemoryCall} {refusal : Refusal} → HeapAccepted region.bytes → FirstBrings (row_of region call).refusals refusal → Does region call (Refused refusal) region
+refused {region} {call} {refusal} h brings = unchanged region call (Refused refusal) h (brings, record { map = λ name. refl; free = refl; slots = refl })
 
--- what a method that hands a refusal on answers
-pub answered : {A : Type 0} {old new : Memory} {call : MemoryCall} {brought refusal : Refusal} (f : A → Reply) (result : Result A Refusal) → IsErr result × IsErrAnd result (λ answer. answer ≡ brought) → brought ≡ refusal → Does old call (Refused refusal) new → Does old call (reply_of f result) new
-answered f (Ok answer) is same does = let no = is.0 in absurd cc
-answered {A} {old} {new} {call} f (Err answer) is same does = subst (λ (r : Refusal). Does old call (Refused r) new) (sym (is.1 ∙ same)) does
+-- what a method replies that returns the refusal of a check, where its heap's value is that of its region
+pub answers : {A : Type 0} {inside value : Memory} {call : MemoryCall} {brought refusal : Refusal} (f : A → Reply) (result : Result A Refusal) → inside ≡ value → IsErr result × IsErrAnd result (λ answer. answer ≡ brought) → brought ≡ refusal → HeapAccepted inside.bytes
+    → FirstBrings (row_of inside call).refusals refusal → Does value call (reply_of f result) value
+answers f (Ok answer) view is same h brings = let no = is.0 in absurd cc
+answers {inside = inside} {call = call} f (Err answer) view is same h brings = subst (λ (m : Memory). Does m call (Refused answer) m) view (subst (λ (r : Refusal). Does inside call (Refused r) inside) (sym (is.1 ∙ same)) (refused h brings))
 
--- the same of a region that is the heap's value
-pub handed_on : {A : Type 0} {inside value : Memory} {call : MemoryCall} {brought refusal : Refusal} (f : A → Reply) (result : Result A Refusal) → inside ≡ value → IsErr result × IsErrAnd result (λ answer. answer ≡ brought) → brought ≡ refusal → Does inside call (Refused refusal) inside
-    → Does value call (reply_of f result) value
-handed_on {A} {inside} {value} {call} f result view is same does = subst (λ (m : Memory). Does m call (reply_of f result) m) view (answered f result is same does)
+-- the same, where the new value is that of the region
+pub answers_inside : {A : Type 0} {inside value : Memory} {call : MemoryCall} {brought refusal : Refusal} (f : A → Reply) (result : Result A Refusal) → inside ≡ value → IsErr result × IsErrAnd result (λ answer. answer ≡ brought) → brought ≡ refusal → HeapAccepted inside.bytes
+    → FirstBrings (row_of inside call).refusals refusal → Does value call (reply_of f result) inside
+answers_inside {inside = inside} {call = call} f result view is same h brings = subst (λ (m : Memory). Does m call (reply_of f result) inside) view (answers f result refl is same h brings)
 
 -- ---- one name is changed
 
@@ -103,15 +164,15 @@ none_there e some = let no : IsSome {T = LiveChunk} None = subst (λ (y : Option
 pub still_unmoved : (old new : List ℕ) → MovesNothing old new → Still old new
 still_unmoved old new nothing name live held_there locked there = nothing name (subst IsSome (sym held_there) refl) there
 
-pub still_others : (old new : List ℕ) (name : ℕ) (now : Option LiveChunk) (there : Option ℕ) → ChangesName old new name now there → (held old name ≡ None) ⊎ (now ≡ None) → Still old new
-still_others old new name now there ch gone_or_made = still_unmoved old new (changes_move_nothing old new name now there ch (λ was is. elim gone_or_made [
+pub still_others : {old new : List ℕ} {name : ℕ} {now : Option LiveChunk} {there : Option ℕ} → ChangesName old new name now there → (held old name ≡ None) ⊎ (now ≡ None) → Still old new
+still_others {old} {new} {name} {now} {there} ch gone_or_made = still_unmoved old new (changes_move_nothing old new name now there ch (λ was is. elim gone_or_made [
   | inl before ↦ absurd (none_there before was)
   | inr after ↦ absurd (none_there (ch.here ∙ after) is)
 ]))
 
 -- a name's chunk that was found stays where it stands, and so does any other
-pub stays_in_place : (old new : List ℕ) (name : ℕ) (found : Found) (now : Option LiveChunk) → HeapAccepted old → IsFound old name found → ChangesName old new name now (Some found.place.0) → MovesNothing old new
-stays_in_place old new name found now h f ch =
+pub stays_in_place : {old new : List ℕ} {name : ℕ} {found : Found} {now : Option LiveChunk} → HeapAccepted old → IsFound old name found → ChangesName old new name now (Some found.place.0) → MovesNothing old new
+stays_in_place {old} {new} {name} {found} {now} h f ch =
     let place = subst (λ (n : ℕ). place_of old n ≡ Some found.place.0) f.name_is (one_placed old found h (one_of f)) in
     changes_move_nothing old new name now (Some found.place.0) ch (λ was is. sym place)
 
@@ -120,43 +181,55 @@ pub record Altered (old new : Memory) (name : ℕ) (change : LiveChunk → LiveC
   pub leaves : Leaves old.bytes new.bytes (changed_at (held old.bytes) name change)
   pub rest : new ≡ record old { bytes = new.bytes }
 
-pub altered : (old new : Memory) (name : ℕ) (found : Found) (change : LiveChunk → LiveChunk) → HeapAccepted old.bytes → (f : IsFound old.bytes name found) → ChangesName old.bytes new.bytes name (Some (change f.live)) (Some found.place.0) → OnlyBytes old new → Altered old new name change
-altered old new name found change h f ch rest = record {
+pub altered : (old new : Memory) {name : ℕ} {found : Found} (change : LiveChunk → LiveChunk) → HeapAccepted old.bytes → (f : IsFound old.bytes name found) → ChangesName old.bytes new.bytes name (Some (change f.live)) (Some found.place.0) → OnlyBytes old new → Altered old new name change
+altered old new {name} {found} change h f ch rest = record {
   leaves = record {
     map = λ n. held_updated old.bytes new.bytes name (Some (change f.live)) (Some found.place.0) ch n
         ∙ ap (λ (x : Option LiveChunk). updated (held old.bytes) name x n) (sym (ap (changed change) (name_held old.bytes name found h f)));
     frame = ch.frame;
-    still = still_unmoved old.bytes new.bytes (stays_in_place old.bytes new.bytes name found (Some (change f.live)) h f ch);
+    still = still_unmoved old.bytes new.bytes (stays_in_place h f ch);
   };
   rest = rest;
 }
 
--- ---- the slots in use
+-- what is lent is the same where the bytes alone are others
+pub same_lents : (old : Memory) {new : Memory} → OnlyBytes old new → new.lents ≡ old.lents
+same_lents old rest = ap (λ (m : Memory). m.lents) rest
 
--- a name that stands for a chunk still does
-some_changed : (old new : List ℕ) (name : ℕ) (now : LiveChunk) (there : Option ℕ) → ChangesName old new name (Some now) there → (other : ℕ) → IsSome (held old other) → IsSome (held new other)
-some_changed old new name now there ch other some = elim (cases_eq other name) [
-  | inl same ↦ subst IsSome (sym (ap (held new) same ∙ ch.here)) refl
-  | inr apart ↦ subst IsSome (sym (ch.others other apart)) some
-]
+-- a call that changes it does its step
+pub alters_does : {old new : Memory} {call : MemoryCall} {reply : Reply} {name : ℕ} {change : LiveChunk → LiveChunk} → HoldsHeap old → (a : Altered old new name change) → KeepsLoan old new → MemoryStep old call reply new
+    → Frames call reply old.bytes new.bytes → OnTrue (row_of old call).only_asks (new ≡ old) → new ≡ record old { bytes = new.bytes; slid = if may_slide call then new.slid else old.slid } → Does old call reply new
+alters_does h a loan step frame asks rest = record { before = h.accepted; step = step; frame = frame; still = a.leaves.still; loan = loan; asks = asks; rest = rest }
 
--- the same, where other names are remembered
-pub with_names : {start : TableStart} {freed : ℕ} {names : List ℕ} (image : List ℕ) (used : ℕ) (more : List ℕ) → IsManaged image used start freed names → KnowsHeld image more → IsManaged image used start freed more
-with_names image used more m known = record { accepted = m.accepted; in_use = m.in_use; starts = m.starts; free = m.free; known = known }
+-- ---- what a heap has besides its region
 
--- the slots that are in use stay so where a name stands for something afterwards
-pub used_altered : {start : TableStart} {freed : ℕ} {names : List ℕ} (old new : List ℕ) (used name : ℕ) (now : LiveChunk) (there : Option ℕ) → IsManaged old used start freed names → ChangesName old new name (Some now) there → IsManaged new used start freed names
-used_altered {start} {freed} old new used name now there m ch = record {
-  accepted = ch.frame.accepted;
-  in_use = used_still old new used (frame_slots old new ch.frame) (λ slot s some empty. elim (cases_eq slot name) [
-    | inl same ↦
-        let heap = heap_of_read new ch.frame.accepted.0 ch.frame.accepted.1 in
-        let none = held-is new (chunks_of new) slot heap ∙ empty_unheld new (chunks_of new) slot heap (slot_alike old new slot (frame_slots old new ch.frame) s) empty in
-        let there = sym ch.here ∙ ap (held new) (sym same) ∙ none in
-        absurd cc
-    | inr apart ↦ some (sym (ch.slots slot s apart) ∙ empty)
-  ]) m.in_use;
-  starts = starts_still old new start.place start.before ch.frame.tables m.starts;
-  free = λ some. slot_alike old new freed (frame_slots old new ch.frame) (m.free some);
-  known = λ known is. some_changed old new name now there ch known (m.known known is);
+none_back : (x y : Option LiveChunk) → (IsSome x → IsSome y) → y ≡ None → x ≡ None
+none_back None y stays none = refl
+none_back (Some live) y stays none = absurd (none_there none (stays refl))
+
+-- the same slots are in use where the slots and tables are the same, and each name that has a chunk keeps one
+pub managed_still : {start : TableStart} {used freed : ℕ} {names : List ℕ} {old new : Memory} → IsManaged old used start freed names → HoldsHeap new → slots_of new.bytes ≡ slots_of old.bytes → tables_of new.bytes ≡ tables_of old.bytes
+    → ((name : ℕ) → IsSome (held old.bytes name) → IsSome (held new.bytes name)) → IsManaged new used start freed names
+managed_still {start} {used} {freed} {old = old} {new = new} m h slots tables stays = record {
+  heap = h;
+  in_use = used_still old.bytes new.bytes used slots
+      (λ slot is some empty. some ((slot_unheld old.bytes slot m.heap.accepted is).1 (none_back _ _ (stays slot) ((slot_unheld new.bytes slot h.accepted (slot_alike old.bytes new.bytes slot slots is)).0 empty)))) m.in_use;
+  starts = starts_still old.bytes new.bytes start.place start.before tables m.starts;
+  free = λ some. slot_alike old.bytes new.bytes freed slots (m.free some);
+  known = λ name is. stays name (m.known name is);
 }
+
+-- where all names stand for what they stood for
+pub managed_alike : {start : TableStart} {used freed : ℕ} {names : List ℕ} {old new : Memory} → IsManaged old used start freed names → HoldsHeap new → SameFrame old.bytes new.bytes → ((name : ℕ) → held new.bytes name ≡ held old.bytes name) → IsManaged new used start freed names
+managed_alike m h frame alike = managed_still m h frame.slots frame.tables (λ name some. subst IsSome (sym (alike name)) some)
+
+-- where one name's chunk is another
+pub managed_changed : {start : TableStart} {used freed : ℕ} {names : List ℕ} {old new : Memory} {name : ℕ} {now : LiveChunk} {there : Option ℕ} → IsManaged old used start freed names → HoldsHeap new → ChangesName old.bytes new.bytes name (Some now) there → IsManaged new used start freed names
+managed_changed {old = old} {new = new} {name = name} m h ch = managed_still m h ch.frame.slots ch.frame.tables (λ other some. elim (cases_eq other name) [
+  | inl same ↦ subst IsSome (sym (ap (held new.bytes) same ∙ ch.here)) refl
+  | inr apart ↦ subst IsSome (sym (ch.others other apart)) some
+])
+
+-- where other names are remembered
+pub with_names : {start : TableStart} {used freed : ℕ} {names more : List ℕ} {memory : Memory} → IsManaged memory used start freed names → KnowsHeld memory.bytes more → IsManaged memory used start freed more
+with_names m known = record { heap = m.heap; in_use = m.in_use; starts = m.starts; free = m.free; known = known }

@@ -2,9 +2,9 @@
 use Rattle.std.specs.Prelude.{◌≡◌, ◌≢◌, ℕ, List, [], ◌∷◌, length, replicate, Some}
 use Rattle.heap_model.specs.Memory.{Memory, SomeLent, without}
 use Rattle.heap_model.specs.Reading.{held}
-use Rattle.heap_model.specs.Space.{place_of, MovesNothing}
+use Rattle.heap_model.specs.Space.{place_of}
 use Rattle.heap_model.specs.Maps.{callers_map}
-use Rattle.heap_model.specs.Store.{bytes_under}
+use Rattle.heap_model.specs.Store.{bytes_of, bytes_under}
 use Rattle.heap_model.specs.Leaving.{Leaves, rewritten}
 use Rattle.heap_model.specs.Lending.{IsLentAs}
 use Rattle.heap_model.specs.Refusals.{Check, ◌brings◌, NoneHolds}
@@ -39,8 +39,8 @@ out_checks old name =
     ∷ ((old.lents ≢ []) brings OutAlready)
     ∷ []
 
--- The bytes under a name were taken out, zeros replace them, and no chunk has moved. All other
--- loans stay.
+-- The bytes under a name were taken out, and zeros replace them. Each name has the same place, and
+-- all other loans stay.
 pub record TakesOut (old new : Memory) (name : Name) (loan : OnLoan) : Type 0 where
   pub could : NoneHolds (also_out_checks old name.0)
   pub name_is : loan.name ≡ name
@@ -48,17 +48,18 @@ pub record TakesOut (old new : Memory) (name : Name) (loan : OnLoan) : Type 0 wh
   pub leaves : Leaves old.bytes new.bytes (rewritten (held old.bytes) name.0 (replicate (length loan.part.bytes) 0))
   pub out : IsOutUnder new name.0 loan.part
   pub is_lent : IsLentAs new name.0 (length loan.part.bytes)
-  pub unmoved : MovesNothing old.bytes new.bytes
+  pub unmoved : (other : ℕ) → place_of new.bytes other ≡ place_of old.bytes other
   pub at : ℕ
   pub placed : place_of old.bytes name.0 ≡ Some at
   pub there : place_of new.bytes name.0 ≡ Some at
   pub rest : new ≡ record old { bytes = new.bytes; lents = record { at = at; count = length loan.part.bytes; start = loan.part.start } ∷ old.lents }
 
--- The bytes under the name of a loan are the loan's, no other name differs, and no chunk has moved.
--- All other loans stay.
+-- The name of a loan has a caller's chunk with the loan's bytes, and no other name differs. Each name
+-- has the same place, and all other loans stay.
 pub record PutsBack (old new : Memory) (loan : OnLoan) : Type 0 where
+  pub bytes : bytes_of (callers_map new.bytes loan.name.0) ≡ loan.part.bytes
   pub leaves : Leaves old.bytes new.bytes (rewritten (held old.bytes) loan.name.0 loan.part.bytes)
-  pub unmoved : MovesNothing old.bytes new.bytes
+  pub unmoved : (other : ℕ) → place_of new.bytes other ≡ place_of old.bytes other
   pub at : ℕ
   pub placed : place_of old.bytes loan.name.0 ≡ Some at
   pub rest : new ≡ record old { bytes = new.bytes; lents = without at old.lents }
@@ -67,6 +68,10 @@ pub record PutsBack (old new : Memory) (loan : OnLoan) : Type 0 where
 pub record IsNextLoan (memory : Memory) (after name place : ℕ) : Type 0 where
   pub placed : place_of memory.bytes name ≡ Some place
   pub next : IsNextLent memory.lents after place
+
+-- the chunk of a name is the lent one with the least place
+abbrev pub IsFirstLoan : Memory → ℕ → Type 0
+IsFirstLoan memory name = (place : ℕ) × IsNextLoan memory 0 name place
 
 -- These are the names of the lent chunks above an offset, in order of their places: first the next
 -- loan, then those above its place.

@@ -1,16 +1,15 @@
 -- The data of a heap in addition to its region, and the name whose chunk is at a place.
-use Rattle.std.specs.Prelude.{◌≡◌, ◌≢◌, ◌<◌, ◌⊎◌, ℕ, List, Some, None}
+use Rattle.std.specs.Prelude.{◌≡◌, ◌≢◌, ◌<◌, ◌≤◌, ◌⊎◌, ℕ, List, Some, None}
 use Rattle.heap_model.specs.Memory.{Memory}
 use Rattle.heap_model.specs.Bytes.{u32_at}
 use Rattle.heap_model.specs.Slots.{IsSlot}
-use Rattle.heap_model.specs.Heap.{HeapAccepted}
 use Rattle.heap_model.specs.Meaning.{LiveChunk}
 use Rattle.heap_model.specs.Chunk.{fixed_lock, need, managers_owner}
 use Rattle.heap_model.specs.Reading.{held, chunks_of}
 use Rattle.heap_model.specs.Maps.{callers_map, made}
 use Rattle.heap_model.specs.Space.{place_of, free_slots, Short, NoRun, FitsInPlace, MovesNothing}
 use Rattle.heap_model.specs.Store.{owner_under}
-use Rattle.heap_model.specs.Lending.{IsLent}
+use Rattle.heap_model.specs.Lending.{IsLent, HoldsHeap, LendsOther}
 use Rattle.heap_model.specs.Leaving.{Leaves}
 use Rattle.heap_model.specs.Refusals.{Check}
 use Rattle.heap_model.specs.MemorySteps.{growth_checks}
@@ -30,14 +29,26 @@ pub record IsNextEmpty (image : List ℕ) (slot before : ℕ) : Type 0 where
 abbrev pub IsSlotOrNone : List ℕ → ℕ → Type 0
 IsSlotOrNone image slot = 0 < slot → IsSlot image slot
 
--- The heap is accepted. Its first `used` slots are in use, and `start` is the start of a table. A
+-- The memory is a heap. Its first `used` slots are in use, and `start` is the start of a table. A
 -- slot was freed at `freed`, unless that is 0. Each remembered name has a chunk.
-pub record IsManaged (image : List ℕ) (used : ℕ) (start : TableStart) (freed : ℕ) (names : List ℕ) : Type 0 where
-  pub accepted : HeapAccepted image
-  pub in_use : UsedBefore image used
-  pub starts : IsStart image start
-  pub free : IsSlotOrNone image freed
-  pub known : KnowsHeld image names
+pub record IsManaged (memory : Memory) (used : ℕ) (start : TableStart) (freed : ℕ) (names : List ℕ) : Type 0 where
+  pub heap : HoldsHeap memory
+  pub in_use : UsedBefore memory.bytes used
+  pub starts : IsStart memory.bytes start
+  pub free : IsSlotOrNone memory.bytes freed
+  pub known : KnowsHeld memory.bytes names
+
+-- a caller's chunk was found in a heap under a name
+pub record IsCallers (memory : Memory) (name : ℕ) (found : Found) : Type 0 where
+  pub heap : HoldsHeap memory
+  pub is : IsFound memory.bytes name found
+  pub callers : 1 ≤ found.owner
+
+-- a caller's chunk was found whose bytes can be written: it is locked or fixed, and not lent
+pub record IsOpen (memory : Memory) (name : ℕ) (found : Found) : Type 0 where
+  pub owned : IsCallers memory name found
+  pub locked : found.lock ≢ 0
+  pub other : LendsOther memory found.place.0
 
 -- a name's chunk is a caller's, and its body is at this place
 pub record IsThere (image : List ℕ) (place name : ℕ) : Type 0 where

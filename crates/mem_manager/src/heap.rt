@@ -6,7 +6,7 @@
 
 ghost use Rattle.std.specs.Prelude.{[], ◌≡◌, ◌≢◌, IfOk, IfErr, OnOk, OnErr, None};
 ghost use Rattle.heap_model.specs.Heap.{HeapAccepted};
-ghost use Rattle.heap_check.specs.Faults.{IsFirstFault};
+ghost use Rattle.heap_check.specs.Faults.{IsFirstHeapFault};
 
 mod asking;
 mod changing;
@@ -50,14 +50,13 @@ pub struct Heap {
 impl Model for Heap {
     ghost use Rattle.heap_model.specs.Memory.{Memory};
     ghost use Rattle.mem_manager.specs.Lookup.{IsManaged};
-    ghost use Rattle.heap_model.specs.Lending.{LendsBodies};
 
     ghost Value = { Memory };
 
     ghost view = { λ heap. heap.space };
 
-    ghost invariant = { λ heap. IsManaged heap.space.bytes heap.used heap.start heap.freed.0 heap.known
-        × LendsBodies heap.space };
+    ghost invariant = { λ heap. IsManaged heap.space heap.used heap.start heap.freed.0
+        heap.known };
 }
 
 /// The place of the body of a chunk that was locked, and its new lock count.
@@ -95,7 +94,7 @@ impl Heap {
         ensures accepted { OnOk result (HeapAccepted region.bytes) }
         ensures same { IfOk result (λ heap. heap ≡ region) }
         ensures refused { OnErr result (HeapAccepted region.bytes → ⊥) }
-        ensures fault { IfErr result (λ error. IsFirstFault region.bytes error.fault) }
+        ensures fault { IfErr result (λ error. IsFirstHeapFault region.bytes error.fault) }
         ensures handed_back { IfErr result (λ error. error.region ≡ region) }
     {
         match check_heap(&region) {

@@ -8,9 +8,11 @@ ghost use Rattle.raw_region.specs.Marks.{BeginsAt};
 ghost use Rattle.heap_model.specs.Reading.{held};
 ghost use Rattle.heap_model.specs.Maps.{callers_map};
 ghost use Rattle.heap_model.specs.MemorySteps.{IsNowhere};
+ghost use Rattle.heap_model.specs.Refusals.{FirstBrings};
 ghost use Rattle.heap_place.specs.Found.{IsFound, IsOne, NothingAt};
-ghost use Rattle.mem_manager.specs.Lookup.{IsThere};
+ghost use Rattle.mem_manager.specs.Lookup.{IsThere, IsCallers, IsOpen};
 ghost use Rattle.mem_manager.specs.Known.{KnowsHeld};
+ghost use Rattle.mem_manager.specs.Loans.{also_out_checks};
 
 use crate::known::KnownNames;
 use chunk_format::{DATA_OWNER, FIXED_LOCK, MANAGERS_OWNER};
@@ -58,7 +60,7 @@ fn is_fixed(space: &Space, known: &KnownNames, name: Name) -> bool
 pub(crate) fn find(space: &Space, known: &KnownNames, name: Name) -> Result<Found, Refusal>
     requires known { KnowsHeld space.now.bytes known.now }
     ensures found { IfOk result (IsFound space.now.bytes name.0) }
-    ensures callers { IfOk result (λ found. 1 ≤ found.owner) }
+    ensures callers { IfOk result (IsCallers space.now name.0) }
     ensures none { OnErr result (callers_map space.now.bytes name.0 ≡ None) }
     ensures refusal { IfErr result (λ refusal. refusal ≡ Refusal.InvalidHandle) }
 {
@@ -72,8 +74,8 @@ pub(crate) fn find(space: &Space, known: &KnownNames, name: Name) -> Result<Foun
     Err(Refusal::InvalidHandle)
 }
 
-/// Finds the chunk of a name, as `find` does. Remembers a name that isn't a slot's, since its chunk
-/// is fixed.
+/// Finds the chunk of a name, as `find` does. Remembers the name of a fixed chunk, which isn't a
+/// slot's.
 #[inline(always)]
 pub(crate) fn find_again(
     space: &Space,
@@ -82,20 +84,33 @@ pub(crate) fn find_again(
 ) -> Result<Found, Refusal>
     requires known { KnowsHeld space.now.bytes known.old }
     ensures found { IfOk result (IsFound space.now.bytes name.0) }
-    ensures callers { IfOk result (λ found. 1 ≤ found.owner) }
+    ensures callers { IfOk result (IsCallers space.now name.0) }
     ensures none { OnErr result (callers_map space.now.bytes name.0 ≡ None) }
     ensures refusal { IfErr result (λ refusal. refusal ≡ Refusal.InvalidHandle) }
     ensures remembered { KnowsHeld space.now.bytes known.new }
 {
-    space.holds();
-    if let Some(found) = space.in_slot(name) {
-        return callers(found);
-    }
-    if is_fixed(space, known, name) {
+    let found = find(space, known, name)?;
+    if found.lock == FIXED_LOCK {
         known.remember(name);
-        return callers(space.chunk(name));
     }
-    Err(Refusal::InvalidHandle)
+    Ok(found)
+}
+
+/// Finds a chunk whose bytes can be written, as `find_again` does. Refuses a chunk that has no lock
+/// and isn't fixed, and one whose bytes are lent.
+#[inline(always)]
+pub(crate) fn find_open(space: &Space, known: &mut KnownNames, name: Name) -> Result<Found, Refusal>
+    requires known { KnowsHeld space.now.bytes known.old }
+    ensures found { IfOk result (IsFound space.now.bytes name.0) }
+    ensures may_write { IfOk result (IsOpen space.now name.0) }
+    ensures why { IfErr result (λ refusal. FirstBrings (also_out_checks space.now name.0) refusal) }
+    ensures remembered { KnowsHeld space.now.bytes known.new }
+{
+    space.holds();
+    let found = find_again(space, known, name)?;
+    check_locked(found)?;
+    check_here(space, found)?;
+    Ok(found)
 }
 
 /// Returns a chunk that was found, or refuses it if the manager owns it.

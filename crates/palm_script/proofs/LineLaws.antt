@@ -20,7 +20,7 @@ use Rattle.script_lines.specs.LineCounts.{is_export}
 use Rattle.script_lines.specs.declared.line.Line.{Line}
 use Rattle.script_lines.specs.declared.line.Line.TheVariants.{Bind, Print, Silent, BindChunk, BindDatabase, Import, Export}
 use Rattle.script_calls.specs.Movement.{Moves}
-use Rattle.script_calls.specs.Lines.{Bindings, BreaksOff, BreaksOffShort, DoesLine, LineStep, Lines, RunsThrough, RunsThroughShort, bound_after, bound_to, bound_to_database, call_of, chunk_in, database_in, exported, reply_line, unbound}
+use Rattle.script_calls.specs.Lines.{Bindings, BreaksOff, BreaksOffShort, DoesLine, LineStep, Lines, RunsThrough, RunsThroughShort, bound_after, bound_to, bound_to_database, call_of, chunk_in, database_of_reply, exported, reply_line, unbound}
 
 -- ---- the lines up to one of them
 
@@ -47,7 +47,7 @@ room_is_left lines i line reply more used within here is below =
 -- ---- a line that reads
 
 -- it binds nothing, as no chunk and no database is answered
-reads_unbound : (inputs : List (List ℕ)) (bound : Bindings) (line : Line) (name : Name) (at count : ℕ) (reply : Reply) → call_of inputs bound line ≡ OnMemory (calls.Read name at count) → chunk_in reply ≡ None → database_in reply ≡ None → bound ≡ bound_after bound line reply
+reads_unbound : (inputs : List (List ℕ)) (bound : Bindings) (line : Line) (name : Name) (at count : ℕ) (reply : Reply) → call_of inputs bound line ≡ OnMemory (calls.Read name at count) → chunk_in reply ≡ None → database_of_reply reply ≡ None → bound ≡ bound_after bound line reply
 reads_unbound inputs bound (Bind label slot) name at count reply e chunk database = absurd cc
 reads_unbound inputs bound (Print call) name at count reply e chunk database = refl
 reads_unbound inputs bound (Silent call) name at count reply e chunk database = refl
@@ -71,7 +71,7 @@ none_exported files (Ok file) e none = e ∙ sym (ap option_to_list none)
 none_exported files (Err fault) e none = tt
 
 pub reads_line : {W short : Type 0} (contents : W → Option (List ℕ)) (inputs : List (List ℕ)) (line : Line) (old : Memory) (bound : Bindings) (out mid after : Writing W) (name : Name) (at count : ℕ) (reply : Reply) (answer : Result (Option (List ℕ)) WriteFault) (printed : Bool) (new : Memory)
-    → call_of inputs bound line ≡ OnMemory (calls.Read name at count) → new ≡ old → DoesInStore new (OnMemory (calls.Read name at count)) reply new → reply ≢ Refused OutOfMemory → chunk_in reply ≡ None → database_in reply ≡ None → Writes contents out mid (reply_line line reply) printed
+    → call_of inputs bound line ≡ OnMemory (calls.Read name at count) → new ≡ old → DoesInStore new (OnMemory (calls.Read name at count)) reply new → reply ≢ Refused OutOfMemory → chunk_in reply ≡ None → database_of_reply reply ≡ None → Writes contents out mid (reply_line line reply) printed
     → after ≡ mid → printed ≡ is_ok answer → IfOk answer (λ file. file ≡ None) → DoesLine short contents inputs line old bound out new bound after answer
 reads_line {W} contents inputs line old bound out mid after name at count reply answer printed new e same does wanted chunk database wrote to_after is none = record {
   reply = reply;

@@ -4,7 +4,7 @@ ghost use Rattle.std.specs.Prelude.{◌≡◌, ◌≤◌, ◌+◌, ◌++◌, Err
 ghost use Rattle.std.specs.Prelude.{vec_capacity, vec_len};
 ghost use Rattle.std.specs.Option.{option_to_list};
 ghost use Rattle.script_calls.specs.Lines.{BreaksOff, BreaksOffShort, RunsThrough, RunsThroughShort};
-ghost use Rattle.script_calls.specs.Lines.{no_database, no_name};
+ghost use Rattle.script_calls.specs.Lines.{number_of_nothing, name_of_nothing};
 ghost use Rattle.allowance.specs.Refusals.{GrowthRefused};
 ghost use Rattle.palm_script.specs.Loans.{LoanStays};
 
@@ -110,7 +110,7 @@ pub fn run_from<A: Allowance, W: Write>(
 
 /// Returns a table of `count` labels of chunks, none of them bound.
 fn unbound_names<A: Allowance>(memory: &A, count: usize) -> Result<Vec<Name>, AllocError>
-    ensures names { IfOk result (λ names. names.items ≡ replicate count no_name) }
+    ensures names { IfOk result (λ names. names.items ≡ replicate count name_of_nothing) }
     ensures short { OnErr result (A.is_short memory.now) }
 {
     filled(memory, Name(0), count)
@@ -119,7 +119,7 @@ fn unbound_names<A: Allowance>(memory: &A, count: usize) -> Result<Vec<Name>, Al
 /// The same for labels of databases.
 fn unbound_databases<A: Allowance>(memory: &A, count: usize) -> Result<Vec<Db>, AllocError>
     ensures databases { IfOk result (λ databases.
-        databases.items ≡ replicate count no_database) }
+        databases.items ≡ replicate count number_of_nothing) }
     ensures short { OnErr result (A.is_short memory.now) }
 {
     filled(memory, Db(0), count)

@@ -7,7 +7,7 @@ use Rattle.heap_model.specs.Database.{Entry, has_resources, is_read_only}
 use Rattle.heap_model.specs.Store.{StoredDatabase, store_of}
 use Rattle.heap_model.specs.StoreWords.{OfDatabase, with_number}
 use Rattle.heap_model.specs.Refusals.{Check, NoneHolds}
-use Rattle.heap_model.specs.EntrySteps.{OfEntry, kind_of}
+use Rattle.heap_model.specs.EntrySteps.{OfEntry, holds_resources}
 use Rattle.heap_model.specs.declared.names.Db.{Db}
 use Rattle.palm_store.specs.EntryCalls.{HasDbAttributes}
 use Rattle.palm_store.specs.Checks.{attribute_checks, opening_checks}
@@ -29,7 +29,7 @@ fails test value None attributes is not set = is
 fails test value (Some one) attributes is not set = not (sym (ap test is) ∙ set)
 
 -- the entries that it has
-pub has_kind : (x : Option StoredDatabase) (attributes : ℕ) (resources : Bool) → Has x attributes → has_resources attributes ≡ resources → kind_of x ≡ resources
+pub has_kind : (x : Option StoredDatabase) (attributes : ℕ) (resources : Bool) → Has x attributes → has_resources attributes ≡ resources → holds_resources x ≡ resources
 has_kind None attributes resources is kind = absurd is
 has_kind (Some one) attributes resources is kind = ap has_resources is ∙ kind
 

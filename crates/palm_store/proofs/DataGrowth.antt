@@ -13,7 +13,7 @@ use Rattle.heap_model.specs.Store.{owner_under, store_of}
 use Rattle.heap_model.specs.EntrySteps.{with_chunks, LeavesStore}
 use Rattle.heap_model.specs.declared.refusal.Refusal.{Refusal}
 use Rattle.heap_model.specs.declared.refusal.Refusal.TheVariants.{ChunkLocked, NotEnoughSpace, Lent}
-use Rattle.palm_store.specs.EntryCalls.{checks_of_growth, data_sized}
+use Rattle.palm_store.specs.EntryCalls.{checks_of_data_growth, data_sized}
 use Rattle.palm_store.proofs.DataChunks.{for_data, data_callers}
 
 -- ---- the checks, by what the name stands for
@@ -29,11 +29,11 @@ checks old o name size =
 same_chunk : (image : List ℕ) (name : ℕ) → owner_under image name ≡ data_owner → held image name ≡ callers_map image name
 same_chunk image name own = (let chunk = for_data image name own in chunk.there ∙ sym (data_callers image name chunk))
 
-pub none_for_callers : (old : Memory) (name size : ℕ) → owner_under old.bytes name ≡ data_owner → NoneHolds (growth_checks old (held old.bytes) name size) → NoneHolds (checks_of_growth old name size)
+pub none_for_callers : (old : Memory) (name size : ℕ) → owner_under old.bytes name ≡ data_owner → NoneHolds (growth_checks old (held old.bytes) name size) → NoneHolds (checks_of_data_growth old name size)
 unfolding checks store_of
 none_for_callers old name size own none = subst (λ (o : Option LiveChunk). NoneHolds (checks old o name size)) (same_chunk old.bytes name own) none
 
-pub first_for_callers : (old : Memory) (name size : ℕ) (refusal : Refusal) → owner_under old.bytes name ≡ data_owner → FirstBrings (growth_checks old (held old.bytes) name size) refusal → FirstBrings (checks_of_growth old name size) refusal
+pub first_for_callers : (old : Memory) (name size : ℕ) (refusal : Refusal) → owner_under old.bytes name ≡ data_owner → FirstBrings (growth_checks old (held old.bytes) name size) refusal → FirstBrings (checks_of_data_growth old name size) refusal
 unfolding checks store_of
 first_for_callers old name size refusal own first = subst (λ (o : Option LiveChunk). FirstBrings (checks old o name size) refusal) (same_chunk old.bytes name own) first
 

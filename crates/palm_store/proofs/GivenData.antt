@@ -12,7 +12,7 @@ use Rattle.heap_model.specs.Lists.{same, times}
 use Rattle.heap_model.specs.Maps.{updated, changed, reowned, not_owned, callers_map}
 use Rattle.heap_model.specs.MemorySteps.{Of}
 use Rattle.heap_model.specs.Space.{rooms, ShortFor}
-use Rattle.heap_model.specs.Rooms.{growth, Stuck}
+use Rattle.heap_model.specs.Rooms.{growth_part, Stuck}
 use Rattle.heap_model.specs.DatabaseFields.{entry_size}
 use Rattle.heap_model.specs.Database.{Entry, a_record, a_resource, entry_data, entry_with, Database, data_in, spelled, has_resources, EntryFits}
 use Rattle.heap_model.specs.Store.{owner_of, bytes_under, owner_under, databases, Accepted, store_of}
@@ -32,7 +32,7 @@ use Rattle.laws_store.proofs.Numbered.{accepted_sound, number_slot, number_held,
 use Rattle.laws_store.proofs.Owners.{directory_owner}
 use Rattle.laws_store.proofs.Parts.{one_grown}
 use Rattle.mem_manager.specs.Lookup.{IsMovable}
-use Rattle.database_edits.specs.Edits.{counted, entry_inserted, entry_written, HasNoRoomFor}
+use Rattle.database_edits.specs.Edits.{counted, entry_inserted, entry_written, HasNoRoomForEntry}
 use Rattle.palm_store.specs.Databases.{HasNumber}
 use Rattle.palm_store.specs.declared.entries.infos.NewEntry.{NewEntry}
 use Rattle.palm_store.specs.EntryInfos.{IsMadeOf}
@@ -171,8 +171,8 @@ pub takes_none : (old new : List ℕ) (db at : ℕ) (entry : Entry ℕ) (name : 
 takes_none old new db at entry name a has g takes = owned_none old new db name data_owner (entry_inserted at entry (database_here old db)) g.live a has g.there takes
 
 -- the header can't grow
-pub no_room_to_take : (image : List ℕ) (db : Db) (resources : Bool) → resources ≡ resources_under (store_of image) db → SpellsHere image db.0 → HasNoRoomFor image db.0 resources
-    → Stuck (rooms image) (growth image db.0 (length (bytes_under image db.0) + entry_size (resources_under (store_of image) db)) ∷ [])
+pub no_room_to_take : (image : List ℕ) (db : Db) (resources : Bool) → resources ≡ resources_under (store_of image) db → SpellsHere image db.0 → HasNoRoomForEntry image db.0 resources
+    → Stuck (rooms image) (growth_part image db.0 (length (bytes_under image db.0) + entry_size (resources_under (store_of image) db)) ∷ [])
 no_room_to_take image db resources kind s short =
     let head = header image db.0 s in
     let count : ℕ = length (bytes_under image db.0) + entry_size (resources_under (store_of image) db) in

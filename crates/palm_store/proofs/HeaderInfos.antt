@@ -22,7 +22,7 @@ use Rattle.laws_store.proofs.Numbered.{accepted_sound}
 use Rattle.laws_store.proofs.Edited.{put_respells}
 use Rattle.laws_store.proofs.EditedStores.{rename_steps}
 use Rattle.db_format.specs.declared.header.DbHeader.{DbHeader}
-use Rattle.db_format.specs.Headers.{header_of, HasHeader, with_header, WritesHeader}
+use Rattle.db_format.specs.Headers.{header_values, IsHeaderOf, with_header, WritesHeader}
 use Rattle.palm_store.specs.Databases.{HasNumber}
 use Rattle.palm_store.proofs.Numbers.{has_number_is}
 use Rattle.palm_store.specs.HeaderInfos.{KeepsEntries}
@@ -45,12 +45,12 @@ pub record Sets (old new : List ℕ) (db : ℕ) (info : DbInfo) : Type 0 where
 made : DatabaseHeader → ℕ → ℕ → List (Entry ℕ) → Database ℕ
 made header app_info sort_info entries = record { header = header; app_info = app_info; sort_info = sort_info; entries = entries }
 
-pub set_spelled : (body bytes : List ℕ) (info : DbInfo) (header after : DbHeader) → IsSpelled (database_in body) body → HasHeader (database_in body) header → header_of after ≡ header_set info (header_of header) → KeepsEntries header after → WritesHeader after bytes
+pub set_spelled : (body bytes : List ℕ) (info : DbInfo) (header after : DbHeader) → IsSpelled (database_in body) body → IsHeaderOf (database_in body) header → header_values after ≡ header_set info (header_values header) → KeepsEntries header after → WritesHeader after bytes
     → IsSpelled (with_info info (database_in body)) (overwritten body 0 bytes)
 unfolding made
 set_spelled body bytes info header after spelled has values keeps writes =
     let database : Database ℕ = database_in body in
-    let head : header_of after ≡ header_set info database.header = values ∙ ap (header_set info) has.values in
+    let head : header_values after ≡ header_set info database.header = values ∙ ap (header_set info) has.values in
     let app : after.app_info ≡ database.app_info = keeps.app_info ∙ has.app_info in
     let sort : after.sort_info ≡ database.sort_info = keeps.sort_info ∙ has.sort_info in
     let count : after.entry_count ≡ length database.entries = keeps.entry_count ∙ has.entry_count in

@@ -19,7 +19,7 @@ use Rattle.laws_store.proofs.Entries.{replaced_is}
 use Rattle.laws_store.proofs.MovedElements.{sum_by-moved}
 use Rattle.laws_store.proofs.NameCounts.{has_id, times-ids}
 use Rattle.laws_store.proofs.Numbered.{entries_here}
-use Rattle.fresh_ids.specs.FreeIds.{IsAmong, AreFree, IsWithout}
+use Rattle.fresh_ids.specs.FreeIds.{IsInRange, AreFree, IsWithout}
 use Rattle.fresh_ids.specs.declared.stretch.FreeIds.{FreeIds}
 use Rattle.database_edits.specs.Recorded.{attributes_changed}
 use Rattle.palm_store.specs.Databases.{HasNumber}
@@ -257,12 +257,12 @@ attributes_free old new db change known is free = λ id among.
 
 -- ---- known IDs without one
 
-left_among : (old left : FreeIds) (one id : ℕ) → IsWithout old one left → IsAmong left id → IsAmong old id × (one ≢ id)
+left_among : (old left : FreeIds) (one id : ℕ) → IsWithout old one left → IsInRange left id → IsInRange old id × (one ≢ id)
 left_among old left one id without among = elim (cases_among old one) [
   | inl here ↦ (let both = (without.behind here id).0 among in (both.0, λ e. (let behind = both.1 in absurd (omega (arith, behind, e)))))
-  | inr apart ↦ (let was : IsAmong old id = subst (λ (free : FreeIds). IsAmong free id) (without.apart apart) among in (was, λ e. apart (subst (IsAmong old) (sym e) was)))
+  | inr apart ↦ (let was : IsInRange old id = subst (λ (free : FreeIds). IsInRange free id) (without.apart apart) among in (was, λ e. apart (subst (IsInRange old) (sym e) was)))
 ] where
-  cases_among : (free : FreeIds) (id : ℕ) → IsAmong free id ⊎ (IsAmong free id → ⊥)
+  cases_among : (free : FreeIds) (id : ℕ) → IsInRange free id ⊎ (IsInRange free id → ⊥)
   cases_among free id = elim (cases_lt id free.first) [
     | inl below ↦ inr (λ among. (let from = among.0 in absurd (omega (arith, from, below))))
     | inr from ↦ elim (cases_lt id free.end) [ inl within ↦ inl (omega (arith, from), within) | inr past ↦ inr (λ among. (let within = among.1 in absurd (omega (arith, past, within)))) ]
@@ -284,7 +284,7 @@ same_number store one other same = ap (λ (number : ℕ). filter_map unique_id (
 pub ids_here : (image body : List ℕ) (db : Db) → HasNumber image db.0 → body ≡ bytes_under image db.0 → ids_in (store_of image) db ≡ unique_ids (database_in body)
 ids_here image body db has is = ap (filter_map unique_id) (entries_here image db has) ∙ ap (λ (bytes : List ℕ). unique_ids (database_in bytes)) (sym is)
 
-pub left_beside : (store : Store) (db : Db) (free left : FreeIds) (attributes id slot : ℕ) → AreFree (ids_in store db) free → IsWithout free id left → IsAmong free id → StandFreeBeside store (a_record attributes id slot) (record { db = db; ids = left })
+pub left_beside : (store : Store) (db : Db) (free left : FreeIds) (attributes id slot : ℕ) → AreFree (ids_in store db) free → IsWithout free id left → IsInRange free id → StandFreeBeside store (a_record attributes id slot) (record { db = db; ids = left })
 left_beside store db free left attributes id slot all without here = λ other among. (
     let both = (without.behind here other).0 among in (
       all other both.0,

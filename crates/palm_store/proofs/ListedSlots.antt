@@ -24,7 +24,7 @@ use Rattle.mem_manager.specs.Lookup.{MakesNew}
 use Rattle.laws_store.proofs.Owners.{directory_owner}
 use Rattle.laws_store.proofs.NewDatabases.{managers_loose, made_then_none, slots_made}
 use Rattle.laws_store.proofs.KeptDatabases.{directory_like}
-use Rattle.heap_model.specs.Rooms.{Lowers, Part, makes, growth, Stuck}
+use Rattle.heap_model.specs.Rooms.{Lowers, Part, makes, growth_part, Stuck}
 use Rattle.heap_model.specs.DatabaseFields.{header_size}
 use Rattle.heap_model.specs.DatabaseSteps.{create_parts, create_slots}
 use Rattle.heap_model.specs.Refusals.{FirstBrings}
@@ -227,7 +227,7 @@ abbrev parts_if : List ℕ → Bool → List Part
 parts_if image none =
     if none
     then (makes (need header_size) ∷ makes (need 4) ∷ [])
-    else (makes (need header_size) ∷ growth image (directory_of image) (length (directory_bytes image) + 4) ∷ [])
+    else (makes (need header_size) ∷ growth_part image (directory_of image) (length (directory_bytes image) + 4) ∷ [])
 
 -- the call may have run out of room
 abbrev RunsOut : List ℕ → Bool → Type 0

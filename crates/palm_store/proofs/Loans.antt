@@ -28,7 +28,7 @@ use Rattle.mem_manager.specs.Loans as loans
 use Rattle.mem_manager.specs.Loans.{OnLoan}
 use Rattle.palm_store.specs.declared.entries.known.KnownIds.{KnownIds}
 use Rattle.palm_store.specs.KnownIds.{IsStore}
-use Rattle.palm_store.specs.Loans.{TakesOut}
+use Rattle.palm_store.specs.Loans.{TakesOutOfStore}
 use Rattle.palm_store.proofs.FilledData.{rewritten_steps}
 use Rattle.palm_store.proofs.KnownIds.{stand_still}
 
@@ -82,7 +82,12 @@ pub out_bytes : (image : List ℕ) (name : ℕ) → owner_under image name ≢ m
 unfolding store_of owner_under bytes_under
 out_bytes image name own = sym (ap bytes_of (shown (held image name) own))
 
-pub takes_out : (old new : Memory) (name : Name) (result : Result OnLoan Refusal) → Accepted old.bytes → IfOk result (λ loan. loans.TakesOut old new name loan) → IfOk result (λ loan. TakesOut old new name loan)
+-- what callers see of a heap's chunk, they see of a store's
+pub seen_bytes : (image : List ℕ) (name : ℕ) (bytes : List ℕ) → bytes_of (callers_map image name) ≡ bytes → bytes_of ((store_of image).map name) ≡ bytes
+unfolding store_of
+seen_bytes image name bytes is = is
+
+pub takes_out : (old new : Memory) (name : Name) (result : Result OnLoan Refusal) → Accepted old.bytes → IfOk result (λ loan. loans.TakesOut old new name loan) → IfOk result (λ loan. TakesOutOfStore old new name loan)
 takes_out old new name (Ok loan) a t =
     let own = out_owned old.bytes name.0 t.could.0 in
     record {

@@ -23,7 +23,7 @@ use Rattle.laws_store.proofs.Times.{all-times, map-All}
 use Rattle.laws_store.proofs.Counts.{listed_numbers}
 use Rattle.laws_store.proofs.CallSteps.{asks, same_store, refused}
 use Rattle.db_format.specs.declared.header.DbHeader.{DbHeader}
-use Rattle.db_format.specs.Headers.{HasHeader, info_told}
+use Rattle.db_format.specs.Headers.{IsHeaderOf, info_told}
 use Rattle.palm_store.specs.Databases.{HasNumber, HasOtherName, name_under}
 use Rattle.laws_store.proofs.Numbered.{number_some}
 use Rattle.palm_store.proofs.Numbers.{number_listed, has_number_is, in_store, length-databases, database_at, listed_at, number_of_slot}
@@ -141,7 +141,7 @@ info_with header entries = record {
   entry_count = entries;
 }
 
-pub info_read : (database : Database ℕ) (header : DbHeader) → HasHeader database header → info_told header ≡ info_of database
+pub info_read : (database : Database ℕ) (header : DbHeader) → IsHeaderOf database header → info_told header ≡ info_of database
 info_read database header has =
     ap (λ (h : DatabaseHeader). info_with h header.entry_count) has.values ∙ ap (info_with database.header) has.entry_count
 

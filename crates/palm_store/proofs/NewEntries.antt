@@ -9,7 +9,7 @@ use Rattle.heap_model.specs.Meaning.{LiveChunk}
 use Rattle.heap_model.specs.Reading.{held}
 use Rattle.heap_model.specs.Maps.{gone, made, callers_map}
 use Rattle.heap_model.specs.Space.{free_slots, rooms, ShortFor}
-use Rattle.heap_model.specs.Rooms.{Lowers, making, growth, Stuck}
+use Rattle.heap_model.specs.Rooms.{Lowers, making, growth_part, Stuck}
 use Rattle.heap_model.specs.DatabaseFields.{entry_size}
 use Rattle.heap_model.specs.Database.{Entry, a_record, a_resource, entry_data, entry_with, Database, database_in, spelled, EntryFits, IsSpelled}
 use Rattle.heap_model.specs.Store.{owner_of, bytes_under, owner_under, databases, unique_ids, Accepted, store_of}
@@ -30,7 +30,7 @@ use Rattle.laws_store.proofs.EditedStores.{edit_steps, made_edit, same_steps}
 use Rattle.laws_store.proofs.Numbered.{accepted_sound, in_here, in_store, entries_here, kind_here}
 use Rattle.laws_store.proofs.Owners.{owned_some, directory_owner}
 use Rattle.laws_store.proofs.Parts.{made_then_short}
-use Rattle.database_edits.specs.Edits.{entry_inserted, HasNoRoomFor}
+use Rattle.database_edits.specs.Edits.{entry_inserted, HasNoRoomForEntry}
 use Rattle.palm_store.specs.Databases.{HasNumber}
 use Rattle.palm_store.specs.declared.entries.infos.NewEntry.{NewEntry}
 use Rattle.palm_store.specs.declared.entries.infos.NewEntry.TheVariants as new
@@ -107,8 +107,8 @@ header image db s = by (held image db) refl s.owner where
   by (Some live) e own = record { live = live; there = e; loose = managers_loose image db live s.heap e own }
 
 pub no_header_room : (old mid : List ℕ) (db : Db) (name size : ℕ) (resources : Bool) → resources ≡ resources_under (store_of old) db → SpellsHere old db.0 → MakesNew old mid name size 15 → Lowers old mid (need size)
-    → HasNoRoomFor mid db.0 resources
-    → (free_slots old < 1) ⊎ Stuck (rooms old) (making size ∷ growth old db.0 (length (bytes_under old db.0) + entry_size (resources_under (store_of old) db)) ∷ [])
+    → HasNoRoomForEntry mid db.0 resources
+    → (free_slots old < 1) ⊎ Stuck (rooms old) (making size ∷ growth_part old db.0 (length (bytes_under old db.0) + entry_size (resources_under (store_of old) db)) ∷ [])
 no_header_room old mid db name size resources kind s m lowers short =
     let kept = db_kept old mid db.0 name size s m in
     let head = header old db.0 s in

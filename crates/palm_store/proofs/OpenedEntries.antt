@@ -5,7 +5,7 @@ use Rattle.std.specs.Prelude.{IsSome, is_some, slice_get}
 use Rattle.heap_model.specs.Database.{Entry, a_record, a_resource, entry_data, EntryFits, has_resources}
 use Rattle.heap_model.specs.Store.{StoredDatabase, databases, IsDatabase, Accepted, store_of}
 use Rattle.heap_model.specs.StoreWords.{with_number}
-use Rattle.heap_model.specs.EntrySteps.{entries_of, entry_under, OfEntry, kind_of, resources_under, Tells, record_told, resource_told}
+use Rattle.heap_model.specs.EntrySteps.{entries_of, entry_under, OfEntry, holds_resources, resources_under, Tells, record_told, resource_told}
 use Rattle.heap_model.specs.declared.names.Db.{Db}
 use Rattle.heap_model.specs.declared.entry.RecordInfo.{RecordInfo}
 use Rattle.heap_model.specs.declared.entry.ResourceInfo.{ResourceInfo}
@@ -62,7 +62,7 @@ of_all P all index entry each e = subst P (get_or_from_slice_get all index entry
 pub fits : (image : List ℕ) (db : Db) (resources : Bool) (index : ℕ) (entry : Entry ℕ) → Accepted image → IsSome (with_number (store_of image) db.0) → resources_under (store_of image) db ≡ resources → entry_under (store_of image) db index ≡ Some entry → EntryFits resources entry
 fits image db resources index entry a has kind e =
     let h = here image db.0 a has in
-    let of_kind : has_resources h.one.database.header.attributes ≡ resources = sym (ap kind_of h.found) ∙ kind in
+    let of_kind : has_resources h.one.database.header.attributes ≡ resources = sym (ap holds_resources h.found) ∙ kind in
     subst (λ (resources : Bool). EntryFits resources entry) of_kind
     (of_all (λ (x : Entry ℕ). EntryFits (has_resources h.one.database.header.attributes) x) h.one.database.entries index entry h.whole.spelled.fits.entries (entry_is image db index entry h e))
 

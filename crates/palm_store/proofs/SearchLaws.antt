@@ -7,7 +7,7 @@ use Rattle.std.specs.Prelude.{◌↔◌, IsSome, IsTrue, IfSome, IfNone, slice_g
 use Rattle.std.specs.Option.{is_some}
 use Rattle.heap_model.specs.Database.{Entry, Database, has_resources}
 use Rattle.heap_model.specs.Store.{StoredDatabase, store_of}
-use Rattle.heap_model.specs.EntrySteps.{entries_of, entries_in, OfEntry, kind_of, resources_under}
+use Rattle.heap_model.specs.EntrySteps.{entries_of, entries_in, OfEntry, holds_resources, resources_under}
 use Rattle.heap_model.specs.declared.names.Db.{Db}
 use Rattle.palm_store.specs.Databases.{HasNumber, HasDatabase}
 use Rattle.palm_store.specs.Search.{NoneBehind, SomeHas}
@@ -31,7 +31,7 @@ pub number_read : (image : List ℕ) (db : Db) (database : Database ℕ) → Has
 number_read image db database is = subst (λ (x : Option StoredDatabase). IsSome x) (sym is) (search rules)
 
 pub kind_read : (image : List ℕ) (db : Db) (database : Database ℕ) → HasDatabase image db.0 database → resources_under (store_of image) db ≡ has_resources database.header.attributes
-kind_read image db database is = ap kind_of is
+kind_read image db database is = ap holds_resources is
 
 -- ---- entries counted
 

@@ -21,7 +21,7 @@ use Rattle.heap_model.specs.Store.{bytes_under, owner_under}
 use Rattle.heap_model.specs.declared.database.DbInfo.{DbInfo}
 use Rattle.heap_model.specs.declared.names.Name.{Name}
 use Rattle.db_format.specs.declared.header.DbHeader.{DbHeader}
-use Rattle.db_format.specs.Headers.{header_of, HasHeader, WritesHeader}
+use Rattle.db_format.specs.Headers.{header_values, IsHeaderOf, WritesHeader}
 use Rattle.laws_heap.proofs.SameLayouts.{same_frame, frame_then}
 use Rattle.laws_store.proofs.Spellings.{length-entry_bytes, length-entries}
 use Rattle.laws_store.proofs.Shapes.{offset_below}
@@ -312,8 +312,8 @@ puts_front old new slot header h own size room l =
 pub start_room : (body : List ℕ) (resources : Bool) (n : ℕ) → length body ≡ entry_offset resources n → 78 ≤ length body
 start_room body resources n long = (let least = at_least resources n in omega (arith, least, long))
 
-pub whole_header : (header : DbHeader) (info : DbInfo) (entries : List WholeEntry) (names : List Name) (d : Name) → header_of header ≡ header_asked info → header.app_info ≡ (get_or names 0 d).0 → header.sort_info ≡ (get_or names 1 d).0 → header.entry_count ≡ info.entry_count
-    → info.entry_count ≡ length entries → length names ≡ 2 + length entries → HasHeader (whole_database info entries (numbers_in names)) header
+pub whole_header : (header : DbHeader) (info : DbInfo) (entries : List WholeEntry) (names : List Name) (d : Name) → header_values header ≡ header_asked info → header.app_info ≡ (get_or names 0 d).0 → header.sort_info ≡ (get_or names 1 d).0 → header.entry_count ≡ info.entry_count
+    → info.entry_count ≡ length entries → length names ≡ 2 + length entries → IsHeaderOf (whole_database info entries (numbers_in names)) header
 whole_header header info entries [] d values app sort count many long = absurd (omega arith)
 whole_header header info entries (one ∷ []) d values app sort count many long = absurd (omega arith)
 whole_header header info entries (one ∷ two ∷ names) d values app sort count many long = record {
@@ -382,7 +382,7 @@ plain_fits name resources es named fits few = record {
 }
 
 -- what its header's bytes do to a plain one they do to it
-pub whole_fits : (header : DbHeader) (bytes : List ℕ) (d : Database ℕ) → HasHeader d header → WritesHeader header bytes → IsDatabaseName d.header.name → length d.entries < 2 ^ 16 → All (EntryFits (has_resources d.header.attributes)) d.entries → DatabaseFits d
+pub whole_fits : (header : DbHeader) (bytes : List ℕ) (d : Database ℕ) → IsHeaderOf d header → WritesHeader header bytes → IsDatabaseName d.header.name → length d.entries < 2 ^ 16 → All (EntryFits (has_resources d.header.attributes)) d.entries → DatabaseFits d
 unfolding with_parts plain_header
 whole_fits header bytes d has writes named few fits =
     let resources : Bool = has_resources d.header.attributes in
@@ -390,7 +390,7 @@ whole_fits header bytes d has writes named few fits =
     let sound = plain_fits d.header.name resources d.entries named fits few in
     let kind : has_resources header.attributes ≡ has_resources plain.header.attributes = ap (λ (h : DatabaseHeader). has_resources h.attributes) has.values ∙ sym (bit_says resources) in
     let written = writes plain (spelled plain) (record { fits = sound; bytes_are = refl }) has.entry_count kind in
-    let is : with_parts (header_of header) header.app_info header.sort_info d.entries ≡ with_parts d.header d.app_info d.sort_info d.entries =
+    let is : with_parts (header_values header) header.app_info header.sort_info d.entries ≡ with_parts d.header d.app_info d.sort_info d.entries =
     ap (λ (h : DatabaseHeader). with_parts h header.app_info header.sort_info d.entries) has.values
     ∙ ap (λ (slot : ℕ). with_parts d.header slot header.sort_info d.entries) has.app_info
     ∙ ap (λ (slot : ℕ). with_parts d.header d.app_info slot d.entries) has.sort_info in

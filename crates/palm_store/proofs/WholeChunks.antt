@@ -11,7 +11,7 @@ use Rattle.heap_model.specs.Reading.{held}
 use Rattle.heap_model.specs.Space.{rooms}
 use Rattle.heap_model.specs.Lists.{times}
 use Rattle.heap_model.specs.Maps.{changed}
-use Rattle.heap_model.specs.Rooms.{Part, making, growth, grows, stretch_of, Lowers, KeepsStretches}
+use Rattle.heap_model.specs.Rooms.{Part, making, growth_part, grows, stretch_of, Lowers, KeepsStretches}
 use Rattle.heap_model.specs.Store.{bytes_under, owner_under, directory_bytes}
 use Rattle.heap_model.specs.Leaving.{Leaves, rewritten}
 use Rattle.laws_store.proofs.Owners.{directory_owner}
@@ -34,7 +34,7 @@ no_both o live none e = cc
 -- ---- why there was no room
 
 abbrev part_if : List ℕ → Bool → Part
-part_if image none = if none then making 4 else growth image (directory_of image) (length (directory_bytes image) + 4)
+part_if image none = if none then making 4 else growth_part image (directory_of image) (length (directory_bytes image) + 4)
 
 abbrev slots_if : Bool → ℕ
 slots_if none = if none then 1 else 0

@@ -71,8 +71,8 @@ checks_of_attaching image db = attaching_checks image (store_of image) db
 abbrev pub checks_of_giving : List ℕ → ℕ → List Check
 checks_of_giving image name = giving_checks (store_of image).map name []
 
-abbrev pub checks_of_growth : Memory → ℕ → ℕ → List Check
-checks_of_growth memory name size = growth_checks memory (store_of memory.bytes).map name size
+abbrev pub checks_of_data_growth : Memory → ℕ → ℕ → List Check
+checks_of_data_growth memory name size = growth_checks memory (store_of memory.bytes).map name size
 
 -- ---- the effect of a call
 
@@ -104,8 +104,8 @@ entry_informed store db index info = entry_changed store db index (with_info inf
 abbrev pub entry_given : Store → Db → ℕ → EntryInfo → ℕ → ℕ → Store
 entry_given store db index info name owner = entry_swapped store db index (with_info info) name owner
 
-abbrev pub entry_moved : Store → Db → ℕ → ℕ → Store
-entry_moved store db from to = with_entries store db (λ entries. moved entries from to)
+abbrev pub entry_moved_in : Store → Db → ℕ → ℕ → Store
+entry_moved_in store db from to = with_entries store db (λ entries. moved entries from to)
 
 abbrev pub data_sized : Store → ℕ → ℕ → Store
 data_sized store name size = with_chunks store (sized store.map name size)

@@ -6,7 +6,7 @@ use Rattle.heap_model.specs.Database.{Entry}
 use Rattle.heap_model.specs.Store.{Store, unique_id, Accepted, store_of}
 use Rattle.heap_model.specs.EntrySteps.{entries_in, HasId}
 use Rattle.heap_model.specs.declared.names.Db.{Db}
-use Rattle.fresh_ids.specs.FreeIds.{IsAmong, AreFree}
+use Rattle.fresh_ids.specs.FreeIds.{IsInRange, AreFree}
 use Rattle.palm_store.specs.declared.entries.known.KnownIds.{KnownIds}
 
 -- the unique IDs of the records of a database
@@ -20,11 +20,11 @@ StandFree store known = AreFree (ids_in store known.db) known.ids
 -- no record of the database has one of the IDs, and this entry, which comes to a database, doesn't
 -- either
 abbrev pub StandFreeBeside : Store → Entry ℕ → KnownIds → Type 0
-StandFreeBeside store entry known = (id : ℕ) → IsAmong known.ids id → (times id (ids_in store known.db) ≡ 0) × (HasId id entry → ⊥)
+StandFreeBeside store entry known = (id : ℕ) → IsInRange known.ids id → (times id (ids_in store known.db) ≡ 0) × (HasId id entry → ⊥)
 
 -- after a change, an entry has none of the IDs that it didn't have before
 abbrev pub GetsNone : KnownIds → (Entry ℕ → Entry ℕ) → Type 0
-GetsNone known change = (id : ℕ) → IsAmong known.ids id → (entry : Entry ℕ) → HasId id (change entry) → HasId id entry
+GetsNone known change = (id : ℕ) → IsInRange known.ids id → (entry : Entry ℕ) → HasId id (change entry) → HasId id entry
 
 -- the image is accepted, and the IDs that are known to be free are free
 pub record IsStore (image : List ℕ) (known : KnownIds) : Type 0 where

@@ -11,6 +11,7 @@ use Rattle.heap_model.specs.DatabaseSteps.{DatabaseCall}
 use Rattle.heap_model.specs.declared.call.Call.TheVariants as calls
 use Rattle.heap_model.specs.declared.call.Reply.{Reply}
 use Rattle.heap_model.specs.declared.call.Reply.TheVariants as replies
+pub use Rattle.mem_manager.specs.Replies.{done_or_refused, number_or_refused, name_or_refused}
 
 abbrev pub DoesMemory : Memory → MemoryCall → Reply → Memory → Type 0
 DoesMemory old call reply new = DoesInStore old (calls.Memory call) reply new
@@ -19,15 +20,6 @@ abbrev pub DoesDatabase : Memory → DatabaseCall → Reply → Memory → Type 
 DoesDatabase old call reply new = DoesInStore old (calls.Database call) reply new
 
 -- ---- replies
-
-abbrev pub done_or_refused : {A : Type 0} → Result A Refusal → Reply
-done_or_refused result = reply_of (λ done. replies.Done) result
-
-abbrev pub number_or_refused : Result ℕ Refusal → Reply
-number_or_refused result = reply_of (λ number. replies.Number number) result
-
-abbrev pub name_or_refused : Result Name Refusal → Reply
-name_or_refused result = reply_of (λ name. replies.Named name) result
 
 -- the result of the call that makes an entry, as a reply
 abbrev pub made_reply : ℕ × Name → Reply

@@ -8,6 +8,8 @@ mod directory;
 mod header;
 mod name;
 
-pub(crate) use directory::{SLOT_SIZE, count_databases, directory_bytes, index_of, listed_in};
+pub(crate) use directory::{
+    DIRECTORY_WORD_SIZE, count_databases, directory_bytes, index_of, listed_in,
+};
 pub(crate) use header::{chunk_of, find_chunk, find_header, header_in, header_of, info_in};
 pub(crate) use name::{find_named, has_other_name};

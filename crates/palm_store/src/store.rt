@@ -12,7 +12,7 @@
 ghost use Rattle.std.specs.Prelude.{[], ◌≡◌, ◌≢◌, ◌⊎◌, ◌↔◌, is_ok, IfOk, IfErr, OnOk, OnErr, Err, None};
 ghost use Rattle.heap_model.specs.Store.{Accepted};
 ghost use Rattle.palm_text.specs.Counted.{Writes};
-ghost use Rattle.store_check.specs.Checks.{IsAnswered, Summarizes};
+ghost use Rattle.store_check.specs.Checks.{IsAnswered, SummarizesStore};
 ghost use Rattle.allowance.specs.Refusals.{GrowthRefused};
 
 mod asking;
@@ -160,7 +160,7 @@ impl Store {
 
     /// Returns the counts of the chunks and of the databases. It walks the chunks.
     pub fn summary(&self) -> StoreSummary
-        ensures { Summarizes self.now.bytes result }
+        ensures { SummarizesStore self.now.bytes result }
     {
         StoreSummary {
             heap: self.heap.summary(),

@@ -7,7 +7,7 @@ use Rattle.std.proofs.KnownBytes.{Appends-trans, Appends-nil}
 use Rattle.palm_text.specs.Counted.{Writing, AppendsFront, Writes, Flushes}
 use Rattle.palm_text.specs.Output.{Puts}
 use Rattle.palm_text.specs.declared.pieces.Piece.{Piece}
-use Rattle.palm_text.specs.Pieces.{piece_text, text_of}
+use Rattle.palm_text.specs.Pieces.{piece_text, text_of_pieces}
 
 front_more : (old new : Option (List ℕ)) (a b : List ℕ) → AppendsFront old new a → AppendsFront old new (a ++ b)
 front_more old new a b (n, within, appended) = (n, omega (arith, length-append a b), subst (Appends old new) (sym (take-append-le n a b within)) appended)
@@ -34,11 +34,11 @@ then_flush contents old between new text true all flush = record { between = bet
 then_flush contents old between new text false all flush = inr (record { between = between; writes = all; flushes = flush })
 
 -- the text from a piece on
-text_at : (ps : List Piece) (i : ℕ) (d : Piece) → i < length ps → text_of (drop i ps) ≡ piece_text (get_or ps i d) ++ text_of (drop (i + 1) ps)
+text_at : (ps : List Piece) (i : ℕ) (d : Piece) → i < length ps → text_of_pieces (drop i ps) ≡ piece_text (get_or ps i d) ++ text_of_pieces (drop (i + 1) ps)
 text_at ps i d within = rw (add-one, drop-cons ps i d) refl
 
-pub then_piece : {W : Type 0} (contents : W → Option (List ℕ)) (old mid new : Writing W) (ps : List Piece) (i : ℕ) (d : Piece) (ok : Bool) → i < length ps → Writes contents old mid (piece_text (get_or ps i d)) true → Writes contents mid new (text_of (drop (i + 1) ps)) ok → Writes contents old new (text_of (drop i ps)) ok
+pub then_piece : {W : Type 0} (contents : W → Option (List ℕ)) (old mid new : Writing W) (ps : List Piece) (i : ℕ) (d : Piece) (ok : Bool) → i < length ps → Writes contents old mid (piece_text (get_or ps i d)) true → Writes contents mid new (text_of_pieces (drop (i + 1) ps)) ok → Writes contents old new (text_of_pieces (drop i ps)) ok
 then_piece contents old mid new ps i d ok within first rest = rw (text_at ps i d within) (then contents old mid new _ _ ok first rest)
 
-pub stops_piece : {W : Type 0} (contents : W → Option (List ℕ)) (old new : Writing W) (ps : List Piece) (i : ℕ) (d : Piece) → i < length ps → Writes contents old new (piece_text (get_or ps i d)) false → Writes contents old new (text_of (drop i ps)) false
+pub stops_piece : {W : Type 0} (contents : W → Option (List ℕ)) (old new : Writing W) (ps : List Piece) (i : ℕ) (d : Piece) → i < length ps → Writes contents old new (piece_text (get_or ps i d)) false → Writes contents old new (text_of_pieces (drop i ps)) false
 stops_piece contents old new ps i d within first = rw (text_at ps i d within) (stops contents old new _ _ first)

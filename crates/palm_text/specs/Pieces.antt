@@ -14,21 +14,21 @@ is_printable b = nat_le 32 b && nat_le b 126 && not (b == 34)
 abbrev pub closed : List ℕ → List ℕ
 closed bytes = bytes ++ codes "\""
 
-abbrev pub quoted : List ℕ → List ℕ
-quoted bytes = codes "\"" ++ closed bytes
+abbrev pub script_quoted : List ℕ → List ℕ
+script_quoted bytes = codes "\"" ++ closed bytes
 
 -- bytes as `x:` and two hex digits for each
 abbrev pub marked_hex : List ℕ → List ℕ
 marked_hex bytes = codes "x:" ++ encode_lower bytes
 
 -- bytes as scripts spell text: in quotes if all of them are printable, otherwise in hex
-abbrev pub spelled : List ℕ → List ℕ
-spelled bytes = if list_all is_printable bytes then quoted bytes else marked_hex bytes
+abbrev pub script_spelled : List ℕ → List ℕ
+script_spelled bytes = if list_all is_printable bytes then script_quoted bytes else marked_hex bytes
 
 abbrev pub piece_text : Piece → List ℕ
 piece_text (Text text) = text.now
-piece_text (Spelled text) = spelled text.now
-piece_text (FourBytes number) = spelled (u32_bytes number)
+piece_text (Spelled text) = script_spelled text.now
+piece_text (FourBytes number) = script_spelled (u32_bytes number)
 piece_text (Number number) = decimal number
 piece_text (Hex bytes) = encode_lower bytes.now
 piece_text (Hex8 number) = encode_lower (number ∷ [])
@@ -36,6 +36,6 @@ piece_text (Hex16 number) = encode_lower (u16_bytes number)
 piece_text (Hex32 number) = encode_lower (u32_bytes number)
 
 -- the texts of the pieces, one after another
-abbrev pub text_of : List Piece → List ℕ
-text_of [] = []
-text_of (piece ∷ pieces) = piece_text piece ++ text_of pieces
+abbrev pub text_of_pieces : List Piece → List ℕ
+text_of_pieces [] = []
+text_of_pieces (piece ∷ pieces) = piece_text piece ++ text_of_pieces pieces

@@ -4,7 +4,7 @@ ghost use Rattle.std.specs.Prelude.{◌≤◌, is_ok, length};
 ghost use Rattle.hex.specs.Hex.{encode_lower};
 ghost use Rattle.heap_model.specs.Bytes.{u16_bytes, u32_bytes};
 ghost use Rattle.palm_text.specs.Counted.{Writes};
-ghost use Rattle.palm_text.specs.Pieces.{piece_text, spelled, text_of};
+ghost use Rattle.palm_text.specs.Pieces.{piece_text, script_spelled, text_of_pieces};
 
 use crate::counted::Counted;
 use crate::output::{WriteFault, put_all};
@@ -40,7 +40,7 @@ pub enum Piece<'a> {
 
 /// Writes pieces, one after another.
 pub fn put_pieces<W: Write>(out: &mut Counted<W>, pieces: &[Piece]) -> Result<(), WriteFault>
-    ensures { Writes W.contents out.old out.new (text_of pieces.now) (is_ok result) }
+    ensures { Writes W.contents out.old out.new (text_of_pieces pieces.now) (is_ok result) }
 {
     for piece in pieces {
         match put_piece(out, piece) {
@@ -71,7 +71,7 @@ fn put_piece<W: Write>(out: &mut Counted<W>, piece: &Piece) -> Result<(), WriteF
 
 /// Writes the four bytes of a number as a spelled text.
 fn put_four_bytes<W: Write>(out: &mut Counted<W>, number: u32) -> Result<(), WriteFault>
-    ensures { Writes W.contents out.old out.new (spelled (u32_bytes number)) (is_ok result) }
+    ensures { Writes W.contents out.old out.new (script_spelled (u32_bytes number)) (is_ok result) }
 {
     let mut bytes = [0; 4];
     BigEndian::write_u32(&mut bytes, number);

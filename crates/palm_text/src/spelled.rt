@@ -4,7 +4,7 @@ ghost use Rattle.std.specs.Prelude.{◌≡◌, is_ok};
 ghost use Rattle.std.specs.List.{list_all};
 ghost use Rattle.palm_text.specs.Counted.{Writes};
 ghost use Rattle.palm_text.specs.Pieces as pieces;
-ghost use Rattle.palm_text.specs.Pieces.{closed, marked_hex, quoted, spelled};
+ghost use Rattle.palm_text.specs.Pieces.{closed, marked_hex, script_quoted, script_spelled};
 
 use crate::counted::Counted;
 use crate::output::{WriteFault, put_all};
@@ -32,7 +32,7 @@ fn is_printable(byte: u8) -> bool
 
 /// Writes bytes in quotes if all are printable, and otherwise in hex.
 pub(crate) fn put_spelled<W: Write>(out: &mut Counted<W>, bytes: &[u8]) -> Result<(), WriteFault>
-    ensures { Writes W.contents out.old out.new (spelled bytes.now) (is_ok result) }
+    ensures { Writes W.contents out.old out.new (script_spelled bytes.now) (is_ok result) }
 {
     if are_printable(bytes) {
         put_quoted(out, bytes)
@@ -42,7 +42,7 @@ pub(crate) fn put_spelled<W: Write>(out: &mut Counted<W>, bytes: &[u8]) -> Resul
 }
 
 fn put_quoted<W: Write>(out: &mut Counted<W>, bytes: &[u8]) -> Result<(), WriteFault>
-    ensures { Writes W.contents out.old out.new (quoted bytes.now) (is_ok result) }
+    ensures { Writes W.contents out.old out.new (script_quoted bytes.now) (is_ok result) }
 {
     match put_all(out, b"\"") {
         Ok(()) => put_closed(out, bytes),

@@ -10,10 +10,10 @@ use Rattle.script_lines.specs.declared.fault.LineFault.{LineFault}
 use Rattle.script_lines.specs.declared.fault.ScriptFault.{ScriptFault}
 use Rattle.script_lines.specs.declared.fault.ScriptFault.TheVariants.{UnknownCommand, WrongCount, BadWord, OutOfMemory}
 use Rattle.palmheap_c.specs.declared.answers.Answer.{Answer}
-use Rattle.palmheap_c.specs.Answers.{IsImageFault, WantsMemory, of_store}
+use Rattle.palmheap_c.specs.Answers.{IsImageFault, IsMemoryAnswer, of_store}
 use Rattle.palmheap_c.specs.Runs.{IsRunRefusal, capped, of_line, of_script}
 
-pub image_refused : (image : List ℕ) (fault : StoreFault) (found : Answer) → (fault ≡ store_faults.OutOfMemory → GrowthRefused) → found ≡ of_store fault → IsAnswered image fault → WantsMemory found ⊎ IsImageFault image found
+pub image_refused : (image : List ℕ) (fault : StoreFault) (found : Answer) → (fault ≡ store_faults.OutOfMemory → GrowthRefused) → found ≡ of_store fault → IsAnswered image fault → IsMemoryAnswer found ⊎ IsImageFault image found
 image_refused image fault found short e (inl none) = inl (e ∙ ap of_store none.0, short none.0)
 image_refused image fault found short e (inr first) = inr (fault, first, e)
 

@@ -4,7 +4,7 @@ use Rattle.std.specs.Prelude.{All, map, slice_index_or, slice_range}
 use Rattle.std.proofs.lemmas.List.{length-map}
 use Rattle.std.proofs.lemmas.List.Elements.{All-map}
 use Rattle.heap_model.specs.Files.{HasNoFault, blocks_in}
-use Rattle.pdb_format.specs.Blocks.{IsWithin, bytes_at}
+use Rattle.pdb_format.specs.Blocks.{IsBlockWithin, bytes_at, places_in}
 use Rattle.pdb_format.specs.declared.blocks.Block as files
 use Rattle.palmheap_c.specs.Blocks.{AreBlocks, IsInside, found, placed}
 use Rattle.palmheap_c.specs.declared.blocks.Block.{Block}
@@ -15,18 +15,19 @@ found_placed file [] = refl
 found_placed file (None ∷ blocks) = ap (λ (rest : List (Option (List ℕ))). None ∷ rest) (found_placed file blocks)
 found_placed file (Some block ∷ blocks) = ap (λ (rest : List (Option (List ℕ))). Some (slice_range file block.start block.end) ∷ rest) (found_placed file blocks)
 
-inside_placed : (size : ℕ) (block : Option files.Block) → IsWithin size block → IsInside size (placed block)
+inside_placed : (size : ℕ) (block : Option files.Block) → IsBlockWithin size block → IsInside size (placed block)
 inside_placed size None within = (omega arith, omega arith)
 inside_placed size (Some block) within = within
 
 -- blocks of a file that were copied to the start of an array
-pub are_blocks : (file : List ℕ) (blocks : List (Option files.Block)) (old new : List Block) → HasNoFault file → map (bytes_at file) blocks ≡ blocks_in file → All (IsWithin (length file)) blocks
+pub are_blocks : (file : List ℕ) (blocks : List (Option files.Block)) (old new : List Block) → HasNoFault file → blocks ≡ places_in file → map (bytes_at file) blocks ≡ blocks_in file → All (IsBlockWithin (length file)) blocks
     → take (length blocks) new ≡ map placed blocks → drop (length blocks) new ≡ drop (length blocks) old → AreBlocks file old new (length blocks)
-are_blocks file blocks old new good are inside copied others =
+are_blocks file blocks old new good places are inside copied others =
     let all : All (IsInside (length file)) (map placed blocks) = All-map (IsInside (length file)) placed blocks (λ k d below. inside_placed (length file) (slice_index_or blocks k d) (inside k d below)) in
     record {
       good = good;
       counted = sym (length-map blocks (bytes_at file)) ∙ ap length are;
+      places = copied ∙ ap (map placed) places;
       are = ap (map (found file)) copied ∙ found_placed file blocks ∙ are;
       inside = subst (All (IsInside (length file))) (sym copied) all;
       others = others;

@@ -3,6 +3,8 @@ pub mod BlockLaws
 pub mod CallLaws
 pub mod EndLaws
 pub mod NameLaws
+pub mod PointerLaws
 pub mod RefusalLaws
 pub mod RunLaws
+pub mod Sized
 pub mod Values

@@ -8,9 +8,9 @@ use Rattle.palm_text.specs.Counted.{Writing}
 use Rattle.script_calls.specs.Lines.{Bindings, Lines, RunsThroughShort, bound_after, unbound}
 use Rattle.script_lines.specs.Reading.{read_script}
 use Rattle.script_lines.specs.declared.line.Line.{Line}
-use Rattle.palmheap_c.specs.Buffers.{Fills}
-use Rattle.palmheap_c.specs.Opening.{IsStore}
-use Rattle.palmheap_c.specs.Runs.{HasResults, HasSizes, IsShort, Ran, RunsInPlace, RunsShort, Written, ends_from, joined}
+use Rattle.palmheap_c.specs.Buffers.{FillsBuffer}
+use Rattle.palmheap_c.specs.Opening.{IsOpenStore}
+use Rattle.palmheap_c.specs.Runs.{HasResults, HasSizes, AreShortBuffers, Ran, RunsInPlace, RunsShort, Written, ends_from, joined}
 use Rattle.palmheap_c.specs.declared.results.Sizes.{Sizes}
 
 -- ---- the lines
@@ -22,7 +22,7 @@ same_length short inputs old bound (line ∷ lines) text files new after (reply,
     same_length short inputs mid (bound_after bound line reply) lines rest more new after tail ∙ step.does.len
 
 -- a script was run on the store of an image, with these results
-pub ran : {W : Type 0} (contents : W → Option (List ℕ)) (image script : List ℕ) (inputs : List (List ℕ)) (store after : Memory) (lines : List Line) (out out_after : Writing W) (text : List ℕ) (files : List (List ℕ)) → IsStore image store → read_script script ≡ Ok lines → Accepted after.bytes → RunsThroughShort GrowthRefused contents inputs lines store out after out_after files → contents out.writer ≡ Some [] → contents out_after.writer ≡ Some text → Ran image script inputs after.bytes text files
+pub ran : {W : Type 0} (contents : W → Option (List ℕ)) (image script : List ℕ) (inputs : List (List ℕ)) (store after : Memory) (lines : List Line) (out out_after : Writing W) (text : List ℕ) (files : List (List ℕ)) → IsOpenStore image store → read_script script ≡ Ok lines → Accepted after.bytes → RunsThroughShort GrowthRefused contents inputs lines store out after out_after files → contents out.writer ≡ Some [] → contents out_after.writer ≡ Some text → Ran image script inputs after.bytes text files
 ran contents image script inputs store after lines out out_after text files is read accepted run none some =
     let written : Appends (Some []) (Some text) run.text = subst₂ (λ (a b : Option (List ℕ)). Appends a b run.text) none some run.written.0 in
     record {
@@ -61,19 +61,19 @@ has_sizes text all ends files sizes all_is ends_are is = record {
 }
 
 -- the results are in the buffers, and the image is the new one
-pub in_place : (script : List ℕ) (inputs : List (List ℕ)) (old new : Written) (text all ends : List ℕ) (sizes : Sizes) → HasResults old.image script inputs new.image text all ends → AreSizes text all ends sizes → Fills text old.printed new.printed → Fills all old.exported new.exported → Fills ends old.ends new.ends → RunsInPlace script inputs old new sizes
+pub in_place : (script : List ℕ) (inputs : List (List ℕ)) (old new : Written) (text all ends : List ℕ) (sizes : Sizes) → HasResults old.image script inputs new.image text all ends → AreSizes text all ends sizes → FillsBuffer text old.printed new.printed → FillsBuffer all old.exported new.exported → FillsBuffer ends old.ends new.ends → RunsInPlace script inputs old new sizes
 in_place script inputs old new text all ends sizes results is printed exported ended = record {
   text = text;
   files = results.files;
   ran = results.ran;
   printed_is = printed;
-  exported_is = subst (λ (bytes : List ℕ). Fills bytes old.exported new.exported) results.all_is exported;
-  ends_are = subst (λ (numbers : List ℕ). Fills numbers old.ends new.ends) results.ends_are ended;
+  exported_is = subst (λ (bytes : List ℕ). FillsBuffer bytes old.exported new.exported) results.all_is exported;
+  ends_are = subst (λ (numbers : List ℕ). FillsBuffer numbers old.ends new.ends) results.ends_are ended;
   sizes_are = has_sizes text all ends results.files sizes results.all_is results.ends_are is;
 }
 
 -- a buffer is too short for the results
-pub too_short : (script : List ℕ) (inputs : List (List ℕ)) (old : Written) (after text all ends : List ℕ) (sizes : Sizes) → HasResults old.image script inputs after text all ends → AreSizes text all ends sizes → IsShort sizes old.printed old.exported old.ends → RunsShort script inputs old sizes
+pub too_short : (script : List ℕ) (inputs : List (List ℕ)) (old : Written) (after text all ends : List ℕ) (sizes : Sizes) → HasResults old.image script inputs after text all ends → AreSizes text all ends sizes → AreShortBuffers sizes old.printed old.exported old.ends → RunsShort script inputs old sizes
 too_short script inputs old after text all ends sizes results is short = record {
   image_after = after;
   text = text;

@@ -26,7 +26,7 @@ use Rattle.std_alloc.specs.Box.Ownership.{box_owns}
 use Rattle.std_alloc.proofs.ResultValues.{and_tt}
 use Rattle.palmheap_c.specs.contracts.parts.Parts as parts
 use Rattle.std.specs.Prelude.{Option}
-use Rattle.heap_model.specs.Memory.{Memory}
+use Rattle.palmheap_c.specs.Opened.{Opened}
 use Rattle.palmheap_c.specs.Holding.{slot_owns}
 use Rattle.palmheap_c.specs.contracts.kept.Kept as kept
 use Rattle.palmheap_c.specs.contracts.kept.Slot as slot
@@ -71,7 +71,7 @@ module _ (R Z : RattleType) (L : Laws Z) (g : Ghosts Z.Denot) where
         (subst (λ (ws : List Val). vs ≡ vstruct (of_list (ptr_val d.ptr ∷ (ws ++ []))) ∷ []) ea (subst (λ (ps : List Val). vs ≡ vstruct (of_list (ps ++ (vss.1.0 ++ []))) ∷ []) ep ev))) fits)))))
 
 module _ {M : Type 1} {𝓤 : Ura M} {𝓛 : Logic 𝓤} {K : Type 0} {Γ : List (Item 𝓤)} {G : Goal 𝓤 𝓛.H} where
-  pub word_in : K → (p : Ptr) (store : Option Memory)
+  pub word_in : K → (p : Ptr) (store : Option Opened)
       → Step K 𝓛 (‵ (slot.the_row.own_val (record { at = p; store = store }) (word p ∷ [])) ∷ Γ) G (‵ (slot_owns p store) ∷ Γ) G
   word_in t p store = step (λ s.
       nothing t $ feq_i t (List Val) (ptr_val p ∷ []) (ptr_val p ∷ []) refl $ fjoin t $ feq_i t (List Val) (word p ∷ []) (word p ∷ []) refl $ fjoin t $

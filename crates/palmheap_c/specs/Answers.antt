@@ -11,7 +11,7 @@ use Rattle.heap_check.specs.declared.fault.HeapFault.TheVariants.{TooShort, BadM
 use Rattle.store_check.specs.declared.fault.StoreFault.{StoreFault}
 use Rattle.store_check.specs.declared.fault.StoreFault.TheVariants.{Heap, BadDirectorySlot, BadHeader, BadEntry, SharedChunk, StrayChunk, BadId, BadName, SameName, OutOfMemory}
 use Rattle.store_check.specs.declared.summary.StoreSummary.{StoreSummary}
-use Rattle.store_check.specs.Checks.{Summarizes}
+use Rattle.store_check.specs.Checks.{SummarizesStore}
 use Rattle.store_check.specs.Faults as stores
 use Rattle.canonical_file.specs.Canonical.{most_bytes}
 use Rattle.palmheap_c.specs.declared.answers.Answer.{Answer}
@@ -25,8 +25,8 @@ answer kind at entry = record { kind = kind; at = at; entry = entry }
 abbrev pub no_fault : Answer
 no_fault = answer 0 0 0
 
-abbrev pub no_memory : Answer
-no_memory = answer 1 0 0
+abbrev pub memory_answer : Answer
+memory_answer = answer 1 0 0
 
 abbrev pub no_room : Answer
 no_room = answer 2 0 0
@@ -79,13 +79,13 @@ of_store (StrayChunk slot) = answer 44 slot 0
 of_store (BadId db entry) = answer 45 db entry
 of_store (BadName db) = answer 46 db 0
 of_store (SameName db) = answer 47 db 0
-of_store OutOfMemory = no_memory
+of_store OutOfMemory = memory_answer
 
 -- ---- results
 
 -- an allocation failed, and this is the result
-abbrev pub WantsMemory : Answer → Type 0
-WantsMemory found = (found ≡ no_memory) × GrowthRefused
+abbrev pub IsMemoryAnswer : Answer → Type 0
+IsMemoryAnswer found = (found ≡ memory_answer) × GrowthRefused
 
 -- this is the first fault of a file
 abbrev pub IsFileFault : List ℕ → Answer → Type 0
@@ -100,11 +100,11 @@ IsFileAnswer file found = ((found ≡ no_fault) × files.HasNoFault file) ⊎ Is
 abbrev pub IsFileRefusal : List ℕ → Answer → Type 0
 IsFileRefusal file found =
     ((found ≡ too_large) × (most_bytes < length file))
-    ⊎ ((length file ≤ most_bytes) × (IsFileFault file found ⊎ (files.HasNoFault file × WantsMemory found)))
+    ⊎ ((length file ≤ most_bytes) × (IsFileFault file found ⊎ (files.HasNoFault file × IsMemoryAnswer found)))
 
 -- this is the first fault of an image
 abbrev pub IsImageFault : List ℕ → Answer → Type 0
-IsImageFault image found = (fault : StoreFault) × stores.IsFirstFault image fault × (found ≡ of_store fault)
+IsImageFault image found = (fault : StoreFault) × stores.IsFirstStoreFault image fault × (found ≡ of_store fault)
 
 abbrev pub counts_of : StoreSummary → Counts
 counts_of summary = record {
@@ -120,10 +120,10 @@ counts_of summary = record {
 pub record HasCounts (image : List ℕ) (counts : Counts) : Type 0 where
   pub accepted : Accepted image
   pub summary : StoreSummary
-  pub summarizes : Summarizes image summary
+  pub summarizes : SummarizesStore image summary
   pub counts_are : counts ≡ counts_of summary
 
 -- The image is accepted, and these are its counts. Otherwise this is its first fault, or an
 -- allocation failed, and the counts are unchanged.
 abbrev pub IsImageAnswer : List ℕ → (old new : Counts) → Answer → Type 0
-IsImageAnswer image old new found = ((found ≡ no_fault) × HasCounts image new) ⊎ ((WantsMemory found ⊎ IsImageFault image found) × (new ≡ old))
+IsImageAnswer image old new found = ((found ≡ no_fault) × HasCounts image new) ⊎ ((IsMemoryAnswer found ⊎ IsImageFault image found) × (new ≡ old))

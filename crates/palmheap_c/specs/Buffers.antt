@@ -4,19 +4,19 @@ use Rattle.palmheap_c.specs.declared.answers.Answer.{Answer}
 use Rattle.palmheap_c.specs.Answers.{IsFileRefusal, no_fault, no_room}
 
 -- The buffer begins with the bytes, and its other bytes are unchanged.
-pub record Fills (bytes old new : List ℕ) : Type 0 where
+pub record FillsBuffer (bytes old new : List ℕ) : Type 0 where
   pub fit : length bytes ≤ length old
   pub front : new ≡ bytes ++ drop (length bytes) old
 
 -- The buffer is too short for the bytes, and is unchanged.
-pub record IsTooShort (bytes old new : List ℕ) : Type 0 where
+pub record IsShortBuffer (bytes old new : List ℕ) : Type 0 where
   pub too_short : length old < length bytes
   pub same : new ≡ old
 
 -- The buffer got the bytes, or it is too short. The count is the number of bytes in both cases.
 pub record PutsBytes (bytes old new : List ℕ) (count : ℕ) (found : Answer) : Type 0 where
   pub counted : count ≡ length bytes
-  pub answered : ((found ≡ no_fault) × Fills bytes old new) ⊎ ((found ≡ no_room) × IsTooShort bytes old new)
+  pub answered : ((found ≡ no_fault) × FillsBuffer bytes old new) ⊎ ((found ≡ no_room) × IsShortBuffer bytes old new)
 
 -- Bytes with `IsSuch` were written, or the buffer is too short for them. Otherwise the file is
 -- refused, and the buffer and the count are unchanged.
@@ -33,4 +33,4 @@ call_no_room = 100
 -- short.
 pub record PutsCoded (bytes old new : List ℕ) (count result : ℕ) : Type 0 where
   pub counted : count ≡ length bytes
-  pub answered : ((result ≡ 0) × Fills bytes old new) ⊎ ((result ≡ call_no_room) × IsTooShort bytes old new)
+  pub answered : ((result ≡ 0) × FillsBuffer bytes old new) ⊎ ((result ≡ call_no_room) × IsShortBuffer bytes old new)

@@ -12,17 +12,18 @@ use Rattle.heap_model.specs.declared.names.Which.{Which}
 use Rattle.heap_model.specs.declared.names.Which.TheVariants.{App, Sort}
 use Rattle.heap_model.specs.declared.refusal.Refusal.{Refusal}
 use Rattle.palmheap_c.specs.Buffers.{PutsCoded}
+use Rattle.palmheap_c.specs.Opened.{Opened}
 
 -- ---- numbers of C
 
-abbrev pub named : ℕ → Name
-named n = record { 0 = n }
+abbrev pub as_name : ℕ → Name
+as_name n = record { 0 = n }
 
-abbrev pub placed : ℕ → Place
-placed n = record { 0 = n }
+abbrev pub as_place : ℕ → Place
+as_place n = record { 0 = n }
 
-abbrev pub numbered : ℕ → Db
-numbered n = record { 0 = n }
+abbrev pub as_db : ℕ → Db
+as_db n = record { 0 = n }
 
 abbrev pub which_of : Bool → Which
 which_of sort = if sort then Sort else App
@@ -34,14 +35,22 @@ abbrev pub IsRefused : Memory → Call → ℕ → Memory → Type 0
 IsRefused old call result new = (refusal : Refusal) × (result ≡ number_of refusal) × DoesInStore old call (Refused refusal) new
 
 -- A call did its step. The result is 0, and this is the reply. Or the result is the number of the
--- refusal.
-pub record Does (old : Memory) (call : Call) (reply : Reply) (result : ℕ) (new : Memory) : Type 0 where
-  pub done : result ≡ 0 → DoesInStore old call reply new
-  pub refused : result ≢ 0 → IsRefused old call result new
+-- refusal. The same pointers are out, and the bytes at them are the same.
+pub record DoesInC (old : Opened) (call : Call) (reply : Reply) (result : ℕ) (new : Opened) : Type 0 where
+  pub done : result ≡ 0 → DoesInStore old.memory call reply new.memory
+  pub refused : result ≢ 0 → IsRefused old.memory call result new.memory
+  pub pointers : new.pointers ≡ old.pointers
+
+-- the same of a call that is never refused
+pub record DoesAlways (old : Opened) (call : Call) (reply : Reply) (new : Opened) : Type 0 where
+  pub done : DoesInStore old.memory call reply new.memory
+  pub pointers : new.pointers ≡ old.pointers
 
 -- A call that returns bytes did its step, and the buffer got the bytes or is too short for them.
--- Otherwise the call was refused, and the buffer and the count are unchanged.
-abbrev pub DoesData : Memory → Call → (before after : List ℕ) → (was count : ℕ) → ℕ → Memory → Type 0
+-- Otherwise the call was refused, and the buffer and the count are unchanged. The same pointers are
+-- out, and the bytes at them are the same.
+abbrev pub DoesData : Opened → Call → (before after : List ℕ) → (was count : ℕ) → ℕ → Opened → Type 0
 DoesData old call before after was count result new =
-    ((bytes : List ℕ) × DoesInStore old call (Data bytes) new × PutsCoded bytes before after count result)
-    ⊎ (IsRefused old call result new × (after ≡ before) × (count ≡ was))
+    (((bytes : List ℕ) × DoesInStore old.memory call (Data bytes) new.memory × PutsCoded bytes before after count result)
+    ⊎ (IsRefused old.memory call result new.memory × (after ≡ before) × (count ≡ was)))
+    × (new.pointers ≡ old.pointers)

@@ -6,6 +6,8 @@ pub mod Holding
 pub mod Infos
 pub mod Keeping
 pub mod Loans
+pub mod Opened
 pub mod Opening
+pub mod Pointers
 pub mod Refusals
 pub mod Runs

@@ -7,25 +7,31 @@ use Rattle.heap_model.specs.Store.{Accepted}
 use Rattle.heap_model.specs.declared.refusal.Refusal.TheVariants.{Lent, OutOfMemory}
 use Rattle.palmheap_c.specs.Buffers.{PutsCoded}
 use Rattle.palmheap_c.specs.Holding.{kept_in}
+use Rattle.palmheap_c.specs.Opened.{Opened}
 
 -- the store has this image, an accepted one, and no chunk of it is lent
-pub record IsStore (image : List ℕ) (store : Memory) : Type 0 where
+pub record IsOpenStore (image : List ℕ) (store : Memory) : Type 0 where
   pub accepted : Accepted image
   pub bytes : store.bytes ≡ image
   pub whole : store.lents ≡ []
 
--- the place holds an open store of the image
-pub record HoldsImage (image : List ℕ) (place : Option Memory) : Type 0 where
-  pub store : Memory
-  pub holds : place ≡ Some store
-  pub is : IsStore image store
+-- the same, and no pointer to a chunk is out
+pub record IsNewlyOpen (image : List ℕ) (store : Opened) : Type 0 where
+  pub is : IsOpenStore image store.memory
+  pub none : store.pointers ≡ []
 
--- The place holds no store any more. Or a chunk of the store is lent, the place is unchanged, and
--- the result is the number of `Lent`.
-abbrev pub Closes : Option Memory → Option Memory → ℕ → Type 0
+-- the place holds an open store of the image
+pub record HoldsImage (image : List ℕ) (place : Option Opened) : Type 0 where
+  pub store : Opened
+  pub holds : place ≡ Some store
+  pub is : IsNewlyOpen image store
+
+-- The place holds no store after the call, and no chunk of one that it held is lent. Or a chunk of
+-- its store is lent, the store is unchanged, and the result is the number of `Lent`.
+abbrev pub Closes : Option Opened → Option Opened → ℕ → Type 0
 Closes old new result =
-    ((result ≡ 0) × ((kept_in old).lents ≡ []) × (new ≡ None))
-    ⊎ ((result ≡ number_of Lent) × ((kept_in old).lents ≢ []) × (new ≡ old))
+    ((result ≡ 0) × ((kept_in old).memory.lents ≡ []) × (new ≡ None))
+    ⊎ ((result ≡ number_of Lent) × ((kept_in old).memory.lents ≢ []) × (new ≡ old))
 
 -- Nothing of the image of a store was written: a chunk of it is lent, or an allocation failed.
 abbrev pub RefusesImage : Memory → ℕ → Type 0

@@ -10,8 +10,8 @@ use Rattle.script_lines.specs.declared.fault.ScriptFault.{ScriptFault}
 use Rattle.script_lines.specs.declared.fault.ScriptFault.TheVariants.{UnknownCommand, WrongCount, BadWord, OutOfMemory}
 use Rattle.script_lines.specs.declared.line.Line.{Line}
 use Rattle.script_calls.specs.Lines.{Bindings, Lines, unbound}
-use Rattle.palmheap_c.specs.Answers.{IsImageFault, WantsMemory, answer, no_fault, no_memory, no_room}
-use Rattle.palmheap_c.specs.Buffers.{Fills}
+use Rattle.palmheap_c.specs.Answers.{IsImageFault, IsMemoryAnswer, answer, no_fault, memory_answer, no_room}
+use Rattle.palmheap_c.specs.Buffers.{FillsBuffer}
 use Rattle.palmheap_c.specs.declared.answers.Answer.{Answer}
 use Rattle.palmheap_c.specs.declared.results.Sizes.{Sizes}
 
@@ -62,7 +62,7 @@ abbrev pub of_script : ℕ → ScriptFault → Answer
 of_script line UnknownCommand = answer 70 line 0
 of_script line WrongCount = answer 71 line 0
 of_script line (BadWord word) = answer 72 line (capped word)
-of_script line OutOfMemory = no_memory
+of_script line OutOfMemory = memory_answer
 
 -- the fault of a script: its line, and of a bad word the number of the word, both counted from 1
 abbrev pub of_line : LineFault → Answer
@@ -75,7 +75,7 @@ IsScriptFault script found = (fault : LineFault) × (read_script script ≡ Err 
 -- An allocation failed, or this is the first fault of the image. Or the image is accepted, and this
 -- is the first fault of the script.
 abbrev pub IsRunRefusal : List ℕ → List ℕ → Answer → Type 0
-IsRunRefusal image script found = WantsMemory found ⊎ (IsImageFault image found ⊎ (Accepted image × IsScriptFault script found))
+IsRunRefusal image script found = IsMemoryAnswer found ⊎ (IsImageFault image found ⊎ (Accepted image × IsScriptFault script found))
 
 -- ---- the caller's memory
 
@@ -97,8 +97,8 @@ abbrev pub written : (image printed exported ends : List ℕ) → Written
 written image printed exported ends = record { image = image; printed = printed; exported = exported; ends = ends }
 
 -- a buffer is too short for results of these sizes
-abbrev pub IsShort : Sizes → (printed exported ends : List ℕ) → Type 0
-IsShort sizes printed exported ends = (length printed < sizes.printed) ⊎ ((length exported < sizes.exported) ⊎ (length ends < sizes.files))
+abbrev pub AreShortBuffers : Sizes → (printed exported ends : List ℕ) → Type 0
+AreShortBuffers sizes printed exported ends = (length printed < sizes.printed) ⊎ ((length exported < sizes.exported) ⊎ (length ends < sizes.files))
 
 -- The script was run on the image in place. The buffers begin with its reply lines, with its files
 -- one after the other, and with where each of them ends.
@@ -106,9 +106,9 @@ pub record RunsInPlace (script : List ℕ) (inputs : List (List ℕ)) (old new :
   pub text : List ℕ
   pub files : List (List ℕ)
   pub ran : Ran old.image script inputs new.image text files
-  pub printed_is : Fills text old.printed new.printed
-  pub exported_is : Fills (joined files) old.exported new.exported
-  pub ends_are : Fills (ends_from 0 files) old.ends new.ends
+  pub printed_is : FillsBuffer text old.printed new.printed
+  pub exported_is : FillsBuffer (joined files) old.exported new.exported
+  pub ends_are : FillsBuffer (ends_from 0 files) old.ends new.ends
   pub sizes_are : HasSizes text files sizes
 
 -- The script was run on a copy of the image, and its results have these sizes. A buffer is too
@@ -119,7 +119,7 @@ pub record RunsShort (script : List ℕ) (inputs : List (List ℕ)) (old : Writt
   pub files : List (List ℕ)
   pub ran : Ran old.image script inputs image_after text files
   pub sizes_are : HasSizes text files sizes
-  pub short : IsShort sizes old.printed old.exported old.ends
+  pub short : AreShortBuffers sizes old.printed old.exported old.ends
 
 -- The result of a run. There are three cases:
 -- - The script was run on the image in place.

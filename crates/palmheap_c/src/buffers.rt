@@ -1,12 +1,13 @@
-//! Results that go to a buffer of the caller, and writes that fail.
+//! Results that go to a buffer of the caller, and allocations that fail.
 
 ghost use Rattle.std.specs.Prelude.{◌≡◌, ◌<◌, ◌≤◌, length};
 ghost use Rattle.allowance.specs.Refusals.{GrowthRefused};
-ghost use Rattle.palmheap_c.specs.Answers.{no_memory};
-ghost use Rattle.palmheap_c.specs.Buffers.{Fills, PutsBytes, PutsCoded};
+ghost use Rattle.palmheap_c.specs.Answers.{memory_answer};
+ghost use Rattle.palmheap_c.specs.Buffers.{FillsBuffer, PutsBytes, PutsCoded};
 
 use crate::answers::{Answer, NO_FAULT, NO_MEMORY, NO_ROOM};
 use allowance::failed;
+use heap_model::Refusal;
 use palm_text::Counted;
 use std::alloc::Global;
 
@@ -30,7 +31,7 @@ pub(crate) fn put_bytes(bytes: &[u8], buffer: &mut [u8], count: &mut usize) -> A
 /// failed.
 pub(crate) fn refused_write(alloc: Global, _out: &Counted<Vec<u8>>) -> Answer
     requires { 0 < _out.now.faults }
-    ensures is { result ≡ no_memory }
+    ensures is { result ≡ memory_answer }
     ensures short { GrowthRefused }
 {
     let _ = unsafe { failed(&alloc) };
@@ -50,17 +51,26 @@ pub(crate) fn put_coded(bytes: &[u8], buffer: &mut [u8], count: &mut usize) -> u
 
 /// Records that a `Box` was not made. Making one fails only if its allocation failed.
 pub(crate) fn refused_block(alloc: Global) -> Answer
-    ensures is { result ≡ no_memory }
+    ensures is { result ≡ memory_answer }
     ensures short { GrowthRefused }
 {
     let _ = unsafe { failed(&alloc) };
     NO_MEMORY
 }
 
+/// Records that an entry of a map was not made. Making one fails only if its allocation failed.
+pub(crate) fn refused_entry(alloc: Global) -> Refusal
+    ensures is { result ≡ Refusal.OutOfMemory }
+    ensures short { GrowthRefused }
+{
+    let _ = unsafe { failed(&alloc) };
+    Refusal::OutOfMemory
+}
+
 /// Copies bytes to the start of a buffer that has room for them.
 pub(crate) fn put_front(bytes: &[u8], buffer: &mut [u8])
     requires { length bytes.now ≤ length buffer.old }
-    ensures { Fills bytes.now buffer.old buffer.new }
+    ensures { FillsBuffer bytes.now buffer.old buffer.new }
 {
     buffer[..bytes.len()].copy_from_slice(bytes);
 }
@@ -68,7 +78,7 @@ pub(crate) fn put_front(bytes: &[u8], buffer: &mut [u8])
 /// The same as `put_front`, for numbers.
 pub(crate) fn put_numbers(numbers: &[usize], buffer: &mut [usize])
     requires { length numbers.now ≤ length buffer.old }
-    ensures { Fills numbers.now buffer.old buffer.new }
+    ensures { FillsBuffer numbers.now buffer.old buffer.new }
 {
     buffer[..numbers.len()].copy_from_slice(numbers);
 }

@@ -6,10 +6,9 @@ ghost use Rattle.heap_model.specs.Database.{name_field};
 ghost use Rattle.heap_model.specs.declared.call.Call as calls;
 ghost use Rattle.heap_model.specs.declared.call.DatabaseCall.{DatabaseCall};
 ghost use Rattle.heap_model.specs.declared.call.Reply.{Reply};
-ghost use Rattle.heap_model.specs.StoreSteps.{DoesInStore};
 ghost use Rattle.heap_model.specs.DatabaseFields.{name_size};
-ghost use Rattle.palmheap_c.specs.Calls.{Does, named, numbered, which_of};
-ghost use Rattle.palmheap_c.specs.Infos.{database_told};
+ghost use Rattle.palmheap_c.specs.Calls.{DoesInC, DoesAlways, as_name, as_db, which_of};
+ghost use Rattle.palmheap_c.specs.Infos.{database_from_c};
 
 use crate::calls::{refused, which_of};
 use crate::infos::{DatabaseInfo, database_of, of_database};
@@ -31,10 +30,10 @@ pub extern "C" fn palmheap_DmCreateDatabase(
     date: u32,
     db: &mut u32,
 ) -> u32
-    ensures does { Does store.old.store
+    ensures does { DoesInC store.old.store
         (calls.Call.Database
         (DatabaseCall.Create (take name_size name.now) kind creator resources date))
-        (Reply.Database (numbered db.new)) result store.new.store }
+        (Reply.Database (as_db db.new)) result store.new.store }
     ensures left { result ≢ 0 → db.new ≡ db.old }
 {
     match store
@@ -55,7 +54,7 @@ pub extern "C" fn palmheap_DmCreateDatabase(
 /// The refusals 10, 3, in this order.
 #[unsafe(no_mangle)]
 pub extern "C" fn palmheap_DmDeleteDatabase(store: &mut Kept, db: u32) -> u32
-    ensures does { Does store.old.store (calls.Call.Database (DatabaseCall.Delete (numbered db)))
+    ensures does { DoesInC store.old.store (calls.Call.Database (DatabaseCall.Delete (as_db db)))
         Reply.Done result store.new.store }
 {
     match store.as_mut().delete_database(Db(db)) {
@@ -70,9 +69,9 @@ pub extern "C" fn palmheap_DmDeleteDatabase(store: &mut Kept, db: u32) -> u32
 /// The refusal 10.
 #[unsafe(no_mangle)]
 pub extern "C" fn palmheap_DmFindDatabase(store: &mut Kept, name: &[u8], db: &mut u32) -> u32
-    ensures does { Does store.old.store
+    ensures does { DoesInC store.old.store
         (calls.Call.Database (DatabaseCall.Find (take name_size name.now)))
-        (Reply.Database (numbered db.new)) result store.new.store }
+        (Reply.Database (as_db db.new)) result store.new.store }
     ensures left { result ≢ 0 → db.new ≡ db.old }
 {
     match store.as_mut().find(&DbName::of(name)) {
@@ -90,8 +89,8 @@ pub extern "C" fn palmheap_DmFindDatabase(store: &mut Kept, name: &[u8], db: &mu
 /// The refusal 10.
 #[unsafe(no_mangle)]
 pub extern "C" fn palmheap_DmGetDatabase(store: &mut Kept, index: u32, db: &mut u32) -> u32
-    ensures does { Does store.old.store (calls.Call.Database (DatabaseCall.Nth index))
-        (Reply.Database (numbered db.new)) result store.new.store }
+    ensures does { DoesInC store.old.store (calls.Call.Database (DatabaseCall.Nth index))
+        (Reply.Database (as_db db.new)) result store.new.store }
     ensures left { result ≢ 0 → db.new ≡ db.old }
 {
     match store.as_mut().nth(index) {
@@ -106,7 +105,7 @@ pub extern "C" fn palmheap_DmGetDatabase(store: &mut Kept, index: u32, db: &mut 
 /// Sets `count` to the number of databases.
 #[unsafe(no_mangle)]
 pub extern "C" fn palmheap_DmNumDatabases(store: &mut Kept, count: &mut u32) -> u32
-    ensures does { DoesInStore store.old.store (calls.Call.Database DatabaseCall.Count)
+    ensures does { DoesAlways store.old.store (calls.Call.Database DatabaseCall.Count)
         (Reply.Number count.new) store.new.store }
     ensures ok { result ≡ 0 }
 {
@@ -120,8 +119,8 @@ pub extern "C" fn palmheap_DmNumDatabases(store: &mut Kept, count: &mut u32) -> 
 /// The refusal 10.
 #[unsafe(no_mangle)]
 pub extern "C" fn palmheap_DmDatabaseInfo(store: &mut Kept, db: u32, info: &mut DatabaseInfo) -> u32
-    ensures does { Does store.old.store (calls.Call.Database (DatabaseCall.Info (numbered db)))
-        (Reply.Info (database_told info.new)) result store.new.store }
+    ensures does { DoesInC store.old.store (calls.Call.Database (DatabaseCall.Info (as_db db)))
+        (Reply.Info (database_from_c info.new)) result store.new.store }
     ensures field { result ≡ 0 → info.new.name ≡ name_field (take info.new.name_length info.new.name) }
     ensures left { result ≢ 0 → info.new ≡ info.old }
 {
@@ -141,8 +140,8 @@ pub extern "C" fn palmheap_DmDatabaseInfo(store: &mut Kept, db: u32, info: &mut 
 /// The refusals 10, 22, 21, in this order.
 #[unsafe(no_mangle)]
 pub extern "C" fn palmheap_DmSetDatabaseInfo(store: &mut Kept, db: u32, info: &DatabaseInfo) -> u32
-    ensures does { Does store.old.store
-        (calls.Call.Database (DatabaseCall.SetInfo (numbered db) (database_told info.now)))
+    ensures does { DoesInC store.old.store
+        (calls.Call.Database (DatabaseCall.SetInfo (as_db db) (database_from_c info.now)))
         Reply.Done result store.new.store }
 {
     match store.as_mut().set_database_info(Db(db), &database_of(info)) {
@@ -158,8 +157,8 @@ pub extern "C" fn palmheap_DmSetDatabaseInfo(store: &mut Kept, db: u32, info: &D
 /// The refusals 10, 13, 21, 1, 2, 6, in this order.
 #[unsafe(no_mangle)]
 pub extern "C" fn palmheap_set_info_block(store: &mut Kept, db: u32, sort: bool, name: u32) -> u32
-    ensures does { Does store.old.store
-        (calls.Call.Database (DatabaseCall.SetInfoBlock (numbered db) (which_of sort) (named name)))
+    ensures does { DoesInC store.old.store
+        (calls.Call.Database (DatabaseCall.SetInfoBlock (as_db db) (which_of sort) (as_name name)))
         Reply.Done result store.new.store }
 {
     match store
@@ -184,9 +183,9 @@ pub extern "C" fn palmheap_take_info_block(
     owner: u8,
     name: &mut u32,
 ) -> u32
-    ensures does { Does store.old.store
-        (calls.Call.Database (DatabaseCall.TakeInfoBlock (numbered db) (which_of sort) owner))
-        (Reply.Named (named name.new)) result store.new.store }
+    ensures does { DoesInC store.old.store
+        (calls.Call.Database (DatabaseCall.TakeInfoBlock (as_db db) (which_of sort) owner))
+        (Reply.Named (as_name name.new)) result store.new.store }
     ensures left { result ≢ 0 → name.new ≡ name.old }
 {
     match store
@@ -207,9 +206,9 @@ pub extern "C" fn palmheap_take_info_block(
 /// The refusals 10, 24, in this order.
 #[unsafe(no_mangle)]
 pub extern "C" fn palmheap_info_block(store: &mut Kept, db: u32, sort: bool, name: &mut u32) -> u32
-    ensures does { Does store.old.store
-        (calls.Call.Database (DatabaseCall.InfoBlock (numbered db) (which_of sort)))
-        (Reply.Named (named name.new)) result store.new.store }
+    ensures does { DoesInC store.old.store
+        (calls.Call.Database (DatabaseCall.InfoBlock (as_db db) (which_of sort)))
+        (Reply.Named (as_name name.new)) result store.new.store }
     ensures left { result ≢ 0 → name.new ≡ name.old }
 {
     match store.as_mut().info_block(Db(db), which_of(sort)) {

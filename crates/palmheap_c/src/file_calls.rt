@@ -10,7 +10,7 @@ ghost use Rattle.heap_model.specs.declared.call.FileCall.{FileCall};
 ghost use Rattle.heap_model.specs.declared.call.MemoryCall.{MemoryCall};
 ghost use Rattle.heap_model.specs.declared.call.Reply.{Reply};
 ghost use Rattle.heap_model.specs.declared.refusal.Refusal as refusals;
-ghost use Rattle.palmheap_c.specs.Calls.{Does, DoesData, named, numbered};
+ghost use Rattle.palmheap_c.specs.Calls.{DoesInC, DoesData, as_name, as_db};
 
 use crate::buffers::put_coded;
 use crate::calls::refused;
@@ -33,7 +33,7 @@ pub extern "C" fn palmheap_read(
     bytes: &mut [u8],
     len: &mut usize,
 ) -> u32
-    ensures { DoesData store.old.store (calls.Call.Memory (MemoryCall.Read (named name) at count))
+    ensures { DoesData store.old.store (calls.Call.Memory (MemoryCall.Read (as_name name) at count))
         bytes.old bytes.new len.old len.new result store.new.store }
 {
     match store.as_mut().read(Name(name), at, count) {
@@ -48,8 +48,8 @@ pub extern "C" fn palmheap_read(
 /// The refusals 25, 21, 17, 26, 8, in this order.
 #[unsafe(no_mangle)]
 pub extern "C" fn palmheap_import(alloc: Global, store: &mut Kept, file: &[u8], db: &mut u32) -> u32
-    ensures does { Does store.old.store (calls.Call.File (FileCall.Import file.now))
-        (Reply.Database (numbered db.new)) result store.new.store }
+    ensures does { DoesInC store.old.store (calls.Call.File (FileCall.Import file.now))
+        (Reply.Database (as_db db.new)) result store.new.store }
     ensures left { result ≢ 0 → db.new ≡ db.old }
     ensures short { result ≡ number_of refusals.Refusal.OutOfMemory → GrowthRefused }
 {
@@ -75,7 +75,7 @@ pub extern "C" fn palmheap_export(
     file: &mut [u8],
     len: &mut usize,
 ) -> u32
-    ensures does { DoesData store.old.store (calls.Call.File (FileCall.Export (numbered db)))
+    ensures does { DoesData store.old.store (calls.Call.File (FileCall.Export (as_db db)))
         file.old file.new len.old len.new result store.new.store }
     ensures short { result ≡ number_of refusals.Refusal.OutOfMemory → GrowthRefused }
 {

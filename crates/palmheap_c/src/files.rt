@@ -3,10 +3,10 @@
 
 ghost use Rattle.std.specs.Prelude.{◌≡◌, ◌⊎◌, All, length, map, IfOk, IfErr};
 ghost use Rattle.heap_model.specs.Files.{HasNoFault, blocks_in};
-ghost use Rattle.pdb_format.specs.Blocks.{IsWithin, bytes_at};
+ghost use Rattle.pdb_format.specs.Blocks.{IsBlockWithin, bytes_at, places_in};
 ghost use Rattle.canonical_file.specs.Canonical.{IsCanonical};
 ghost use Rattle.file_listing.specs.Listing.{IsListing};
-ghost use Rattle.palmheap_c.specs.Answers.{IsFileAnswer, IsFileFault, IsFileRefusal, WantsMemory};
+ghost use Rattle.palmheap_c.specs.Answers.{IsFileAnswer, IsFileFault, IsFileRefusal, IsMemoryAnswer};
 ghost use Rattle.palmheap_c.specs.Blocks.{IsBlocksAnswer};
 ghost use Rattle.palmheap_c.specs.Buffers.{IsBytesAnswer};
 
@@ -20,7 +20,7 @@ use pdb_format::{Block as FileBlock, check_file, find_blocks};
 use std::alloc::Global;
 
 /// The greatest size of a file that can be listed or rewritten: 16 MiB.
-const MOST_BYTES: usize = 1 << 24;
+const MOST_LISTED_BYTES: usize = 1 << 24;
 
 /// Checks whether a database can be read from a file, and returns its first fault. Allocates
 /// nothing.
@@ -61,9 +61,10 @@ pub extern "C" fn palmheap_pdb_blocks(
 /// Returns the places of the blocks of a file.
 fn blocks_of(alloc: Global, file: &[u8]) -> Result<Vec<Option<FileBlock>>, Answer>
     ensures good { IfOk result (λ blocks. HasNoFault file.now) }
+    ensures places { IfOk result (λ blocks. blocks.items ≡ places_in file.now) }
     ensures are { IfOk result (λ blocks. map (bytes_at file.now) blocks.items ≡ blocks_in file.now) }
-    ensures inside { IfOk result (λ blocks. All (IsWithin (length file.now)) blocks.items) }
-    ensures memory { IfErr result (λ answer. WantsMemory answer ⊎ IsFileFault file.now answer) }
+    ensures inside { IfOk result (λ blocks. All (IsBlockWithin (length file.now)) blocks.items) }
+    ensures memory { IfErr result (λ answer. IsMemoryAnswer answer ⊎ IsFileFault file.now answer) }
 {
     if let Err(fault) = check_file(file) {
         return Err(of_file(fault));
@@ -97,7 +98,7 @@ fn canonical_of(alloc: Global, file: &[u8]) -> Result<Vec<u8>, Answer>
     ensures ok { IfOk result (λ bytes. IsCanonical file.now bytes.items) }
     ensures err { IfErr result (IsFileRefusal file.now) }
 {
-    if file.len() > MOST_BYTES {
+    if file.len() > MOST_LISTED_BYTES {
         return Err(TOO_LARGE);
     }
     if let Err(fault) = check_file(file) {
@@ -131,7 +132,7 @@ fn listing_of(alloc: Global, file: &[u8]) -> Result<Vec<u8>, Answer>
     ensures ok { IfOk result (λ text. IsListing file.now text.items) }
     ensures err { IfErr result (IsFileRefusal file.now) }
 {
-    if file.len() > MOST_BYTES {
+    if file.len() > MOST_LISTED_BYTES {
         return Err(TOO_LARGE);
     }
     if let Err(fault) = check_file(file) {

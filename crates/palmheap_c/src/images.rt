@@ -4,7 +4,7 @@ ghost use Rattle.std.specs.Prelude.{◌≡◌, ◌≢◌, ◌⊎◌, length};
 ghost use Rattle.allowance.specs.Refusals.{GrowthRefused};
 ghost use Rattle.chunk_format.specs.Blank.{IsBlank, IsRegionSize, LeavesRoom};
 ghost use Rattle.heap_model.specs.Store.{Accepted};
-ghost use Rattle.palmheap_c.specs.Answers.{IsImageAnswer, bad_size, bad_slot_count, no_fault, no_memory};
+ghost use Rattle.palmheap_c.specs.Answers.{IsImageAnswer, bad_size, bad_slot_count, no_fault, memory_answer};
 
 use crate::answers::{Answer, BAD_SIZE, BAD_SLOT_COUNT, NO_FAULT, NO_MEMORY, of_store};
 use crate::counts::{Counts, counts_of};
@@ -22,10 +22,10 @@ pub extern "C" fn palmheap_new(alloc: Global, image: &mut [u8], slots: u16) -> A
     ensures size { result ≡ bad_size → IsRegionSize (length image.old) → ⊥ }
     ensures slots { result ≡ bad_slot_count
         → IsRegionSize (length image.old) × (LeavesRoom (length image.old) slots → ⊥) }
-    ensures short { result ≡ no_memory → GrowthRefused }
+    ensures short { result ≡ memory_answer → GrowthRefused }
     ensures left { result ≢ no_fault → image.new ≡ image.old }
     ensures which { (result ≡ no_fault) ⊎ (result ≡ bad_size) ⊎ (result ≡ bad_slot_count)
-        ⊎ (result ≡ no_memory) }
+        ⊎ (result ≡ memory_answer) }
 {
     let Ok(size) = u32::try_from(image.len()) else {
         return BAD_SIZE;

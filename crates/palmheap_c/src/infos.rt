@@ -2,7 +2,7 @@
 
 ghost use Rattle.std.specs.Prelude.{◌≡◌, take};
 ghost use Rattle.heap_model.specs.Database.{name_field};
-ghost use Rattle.palmheap_c.specs.Infos.{database_told, record_told, resource_told};
+ghost use Rattle.palmheap_c.specs.Infos.{database_from_c, record_from_c, resource_from_c};
 
 use heap_model::{DbInfo, DbName};
 
@@ -46,7 +46,7 @@ pub struct ResourceInfo {
 
 #[tactic(auto, using(crate::proofs::NameLaws::field_filled))]
 pub(crate) fn of_database(info: &DbInfo) -> DatabaseInfo
-    ensures told { database_told result ≡ info.now }
+    ensures told { database_from_c result ≡ info.now }
     ensures field { result.name ≡ name_field info.now.name }
 {
     let bytes = info.name.as_slice();
@@ -78,7 +78,7 @@ fn name_of(info: &DatabaseInfo) -> DbName
 }
 
 pub(crate) fn database_of(info: &DatabaseInfo) -> DbInfo
-    ensures { result ≡ database_told info.now }
+    ensures { result ≡ database_from_c info.now }
 {
     DbInfo {
         name: name_of(info),
@@ -96,7 +96,7 @@ pub(crate) fn database_of(info: &DatabaseInfo) -> DbInfo
 }
 
 pub(crate) fn of_record(info: heap_model::RecordInfo) -> RecordInfo
-    ensures { record_told result ≡ info }
+    ensures { record_from_c result ≡ info }
 {
     let (data, has_data) = match info.data {
         Some(name) => (name.0, true),
@@ -111,7 +111,7 @@ pub(crate) fn of_record(info: heap_model::RecordInfo) -> RecordInfo
 }
 
 pub(crate) fn of_resource(info: heap_model::ResourceInfo) -> ResourceInfo
-    ensures { resource_told result ≡ info }
+    ensures { resource_from_c result ≡ info }
 {
     ResourceInfo {
         kind: info.kind,

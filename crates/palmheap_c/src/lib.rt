@@ -16,6 +16,7 @@
 //! | `record_calls`, `resource_calls` | calls on their entries |
 //! | `file_calls` | reads bytes of a chunk, imports and exports files |
 //! | `loans` | takes the bytes of a chunk out of an open store, and puts them back |
+//! | `pointers` | gives pointers to the bytes of chunks, and unlocks them |
 //! | `refusals` | names refusals |
 #![tactic(auto)]
 
@@ -35,6 +36,7 @@ mod loans;
 mod memory_calls;
 mod opening;
 mod parts;
+mod pointers;
 mod record_calls;
 mod refusals;
 mod resource_calls;
@@ -68,6 +70,7 @@ pub use memory_calls::{
     palmheap_MemPtrRecoverHandle, palmheap_largest_stretch, palmheap_more_slots,
 };
 pub use opening::{palmheap_close, palmheap_open, palmheap_write_image};
+pub use pointers::{Pinned, palmheap_lock_pointer, palmheap_unlock_pointer};
 pub use record_calls::{
     palmheap_DmArchiveRecord, palmheap_DmAttachRecord, palmheap_DmDeleteCategory,
     palmheap_DmDeleteRecord, palmheap_DmDetachRecord, palmheap_DmFindRecordByID,

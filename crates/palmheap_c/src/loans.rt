@@ -5,7 +5,7 @@ ghost use Rattle.std.specs.Prelude.{[], ◌≡◌, ◌≢◌, false, true, None}
 ghost use Rattle.heap_model.specs.Lending.{IsLent};
 ghost use Rattle.mem_manager.specs.Loans.{IsNextLoan};
 ghost use Rattle.raw_region.specs.Marks.{NoneBeginsAbove};
-ghost use Rattle.palmheap_c.specs.Loans.{HoldsLoan, IsEmpty, Keeps, PutsBack, RefusesOut, RefusesOutAlso, TakesOut};
+ghost use Rattle.palmheap_c.specs.Loans.{HoldsLoan, HoldsNoLoan, Keeps, PutsBackInC, RefusesOut, RefusesOutAlso, TakesOutInC};
 
 use crate::calls::refused;
 use crate::kept::Kept;
@@ -43,9 +43,10 @@ fn keep(place: &mut KeptLoan, loan: Loan)
 /// The refusals 1, 4, 27, in this order.
 #[unsafe(no_mangle)]
 pub extern "C" fn palmheap_take_out(store: &mut Kept, name: u32, loan: &mut KeptLoan) -> u32
-    ensures taken { result ≡ 0 → TakesOut store.old.store store.new.store name loan.new }
-    ensures alone { result ≡ 0 → store.old.store.lents ≡ [] }
-    ensures refused { result ≢ 0 → RefusesOut store.old.store name result }
+    ensures taken { result ≡ 0 → TakesOutInC store.old.store.memory store.new.store.memory name loan.new }
+    ensures alone { result ≡ 0 → store.old.store.memory.lents ≡ [] }
+    ensures pointers { store.new.store.pointers ≡ store.old.store.pointers }
+    ensures refused { result ≢ 0 → RefusesOut store.old.store.memory name result }
     ensures left { result ≢ 0 → (store.new.store ≡ store.old.store) × (loan.new ≡ loan.old) }
 {
     match store.as_mut().take_out(Name(name)) {
@@ -64,8 +65,9 @@ pub extern "C" fn palmheap_take_out(store: &mut Kept, name: u32, loan: &mut Kept
 /// The refusals 1, 4, 27, in this order.
 #[unsafe(no_mangle)]
 pub extern "C" fn palmheap_take_out_also(store: &mut Kept, name: u32, loan: &mut KeptLoan) -> u32
-    ensures taken { result ≡ 0 → TakesOut store.old.store store.new.store name loan.new }
-    ensures refused { result ≢ 0 → RefusesOutAlso store.old.store name result }
+    ensures taken { result ≡ 0 → TakesOutInC store.old.store.memory store.new.store.memory name loan.new }
+    ensures pointers { store.new.store.pointers ≡ store.old.store.pointers }
+    ensures refused { result ≢ 0 → RefusesOutAlso store.old.store.memory name result }
     ensures left { result ≢ 0 → (store.new.store ≡ store.old.store) × (loan.new ≡ loan.old) }
 {
     match store.as_mut().take_out_also(Name(name)) {
@@ -80,9 +82,10 @@ pub extern "C" fn palmheap_take_out_also(store: &mut Kept, name: u32, loan: &mut
 /// Puts the bytes of a loan of this store back. `loan` holds no bytes then.
 #[unsafe(no_mangle)]
 pub extern "C" fn palmheap_put_back(store: &mut Kept, loan: &mut KeptLoan)
-    requires holds { HoldsLoan store.old.store loan.old }
-    ensures back { PutsBack store.old.store store.new.store loan.old }
-    ensures empty { IsEmpty loan.new }
+    requires holds { HoldsLoan store.old.store.memory loan.old }
+    ensures back { PutsBackInC store.old.store.memory store.new.store.memory loan.old }
+    ensures empty { HoldsNoLoan loan.new }
+    ensures pointers { store.new.store.pointers ≡ store.old.store.pointers }
 {
     let empty = KeptLoan {
         part: LentPart::empty(),
@@ -97,8 +100,8 @@ pub extern "C" fn palmheap_put_back(store: &mut Kept, loan: &mut KeptLoan)
 /// are out, it is one of them.
 #[unsafe(no_mangle)]
 pub extern "C" fn palmheap_lent(store: &mut Kept, name: &mut u32) -> bool
-    ensures lent { result ≡ true → IsLent store.old.store name.new }
-    ensures none { result ≡ false → store.old.store.lents ≡ [] }
+    ensures lent { result ≡ true → IsLent store.old.store.memory name.new }
+    ensures none { result ≡ false → store.old.store.memory.lents ≡ [] }
     ensures left { result ≡ false → name.new ≡ name.old }
     ensures same { store.new.store ≡ store.old.store }
 {
@@ -120,8 +123,8 @@ pub extern "C" fn palmheap_loan_above(
     name: &mut u32,
     place: &mut u32,
 ) -> bool
-    ensures next { result ≡ true → IsNextLoan store.old.store after name.new place.new }
-    ensures none { result ≡ false → NoneBeginsAbove after store.old.store.lents }
+    ensures next { result ≡ true → IsNextLoan store.old.store.memory after name.new place.new }
+    ensures none { result ≡ false → NoneBeginsAbove after store.old.store.memory.lents }
     ensures left { result ≡ false → (name.new ≡ name.old) × (place.new ≡ place.old) }
     ensures same { store.new.store ≡ store.old.store }
 {

@@ -5,8 +5,7 @@ ghost use Rattle.std.specs.Prelude.{◌≡◌, ◌≢◌};
 ghost use Rattle.heap_model.specs.declared.call.Call as calls;
 ghost use Rattle.heap_model.specs.declared.call.MemoryCall.{MemoryCall};
 ghost use Rattle.heap_model.specs.declared.call.Reply.{Reply};
-ghost use Rattle.heap_model.specs.StoreSteps.{DoesInStore};
-ghost use Rattle.palmheap_c.specs.Calls.{Does, named, placed};
+ghost use Rattle.palmheap_c.specs.Calls.{DoesInC, DoesAlways, as_name, as_place};
 
 use crate::calls::refused;
 use crate::kept::Kept;
@@ -23,8 +22,8 @@ pub extern "C" fn palmheap_MemHandleNew(
     owner: u8,
     name: &mut u32,
 ) -> u32
-    ensures does { Does store.old.store (calls.Call.Memory (MemoryCall.HandleNew size owner))
-        (Reply.Named (named name.new)) result store.new.store }
+    ensures does { DoesInC store.old.store (calls.Call.Memory (MemoryCall.HandleNew size owner))
+        (Reply.Named (as_name name.new)) result store.new.store }
     ensures left { result ≢ 0 → name.new ≡ name.old }
 {
     match store.as_mut().handle_new(size, owner) {
@@ -42,8 +41,8 @@ pub extern "C" fn palmheap_MemHandleNew(
 /// The refusals 7, 8, in this order.
 #[unsafe(no_mangle)]
 pub extern "C" fn palmheap_MemPtrNew(store: &mut Kept, size: u32, owner: u8, name: &mut u32) -> u32
-    ensures does { Does store.old.store (calls.Call.Memory (MemoryCall.PtrNew size owner))
-        (Reply.Named (named name.new)) result store.new.store }
+    ensures does { DoesInC store.old.store (calls.Call.Memory (MemoryCall.PtrNew size owner))
+        (Reply.Named (as_name name.new)) result store.new.store }
     ensures left { result ≢ 0 → name.new ≡ name.old }
 {
     match store.as_mut().ptr_new(size, owner) {
@@ -61,7 +60,7 @@ pub extern "C" fn palmheap_MemPtrNew(store: &mut Kept, size: u32, owner: u8, nam
 /// The refusals 1, 2, 3, 27, in this order.
 #[unsafe(no_mangle)]
 pub extern "C" fn palmheap_MemChunkFree(store: &mut Kept, name: u32) -> u32
-    ensures does { Does store.old.store (calls.Call.Memory (MemoryCall.Free (named name)))
+    ensures does { DoesInC store.old.store (calls.Call.Memory (MemoryCall.Free (as_name name)))
         Reply.Done result store.new.store }
 {
     match store.as_mut().free(Name(name)) {
@@ -82,8 +81,8 @@ pub extern "C" fn palmheap_MemHandleLock(
     place: &mut u32,
     count: &mut u8,
 ) -> u32
-    ensures does { Does store.old.store (calls.Call.Memory (MemoryCall.Lock (named name)))
-        (Reply.Locked (placed place.new) count.new) result store.new.store }
+    ensures does { DoesInC store.old.store (calls.Call.Memory (MemoryCall.Lock (as_name name)))
+        (Reply.Locked (as_place place.new) count.new) result store.new.store }
     ensures left_place { result ≢ 0 → place.new ≡ place.old }
     ensures left_count { result ≢ 0 → count.new ≡ count.old }
 {
@@ -103,7 +102,7 @@ pub extern "C" fn palmheap_MemHandleLock(
 /// The refusals 1, 6, 4, 27, in this order.
 #[unsafe(no_mangle)]
 pub extern "C" fn palmheap_MemHandleUnlock(store: &mut Kept, name: u32, count: &mut u8) -> u32
-    ensures does { Does store.old.store (calls.Call.Memory (MemoryCall.Unlock (named name)))
+    ensures does { DoesInC store.old.store (calls.Call.Memory (MemoryCall.Unlock (as_name name)))
         (Reply.Number count.new) result store.new.store }
     ensures left { result ≢ 0 → count.new ≡ count.old }
 {
@@ -122,7 +121,7 @@ pub extern "C" fn palmheap_MemHandleUnlock(store: &mut Kept, name: u32, count: &
 /// The refusal 1.
 #[unsafe(no_mangle)]
 pub extern "C" fn palmheap_MemHandleSize(store: &mut Kept, name: u32, size: &mut u32) -> u32
-    ensures does { Does store.old.store (calls.Call.Memory (MemoryCall.Size (named name)))
+    ensures does { DoesInC store.old.store (calls.Call.Memory (MemoryCall.Size (as_name name)))
         (Reply.Number size.new) result store.new.store }
     ensures left { result ≢ 0 → size.new ≡ size.old }
 {
@@ -141,7 +140,7 @@ pub extern "C" fn palmheap_MemHandleSize(store: &mut Kept, name: u32, size: &mut
 /// The refusal 1.
 #[unsafe(no_mangle)]
 pub extern "C" fn palmheap_MemHandleOwner(store: &mut Kept, name: u32, owner: &mut u8) -> u32
-    ensures does { Does store.old.store (calls.Call.Memory (MemoryCall.Owner (named name)))
+    ensures does { DoesInC store.old.store (calls.Call.Memory (MemoryCall.Owner (as_name name)))
         (Reply.Number owner.new) result store.new.store }
     ensures left { result ≢ 0 → owner.new ≡ owner.old }
 {
@@ -160,7 +159,7 @@ pub extern "C" fn palmheap_MemHandleOwner(store: &mut Kept, name: u32, owner: &m
 /// The refusal 1.
 #[unsafe(no_mangle)]
 pub extern "C" fn palmheap_MemHandleLockCount(store: &mut Kept, name: u32, count: &mut u8) -> u32
-    ensures does { Does store.old.store (calls.Call.Memory (MemoryCall.Locks (named name)))
+    ensures does { DoesInC store.old.store (calls.Call.Memory (MemoryCall.Locks (as_name name)))
         (Reply.Number count.new) result store.new.store }
     ensures left { result ≢ 0 → count.new ≡ count.old }
 {
@@ -179,8 +178,8 @@ pub extern "C" fn palmheap_MemHandleLockCount(store: &mut Kept, name: u32, count
 /// The refusals 1, 4, 27, 9, in this order.
 #[unsafe(no_mangle)]
 pub extern "C" fn palmheap_DmWrite(store: &mut Kept, name: u32, at: u32, bytes: &[u8]) -> u32
-    ensures does { Does store.old.store
-        (calls.Call.Memory (MemoryCall.Write (named name) at bytes.now))
+    ensures does { DoesInC store.old.store
+        (calls.Call.Memory (MemoryCall.Write (as_name name) at bytes.now))
         Reply.Done result store.new.store }
 {
     match store.as_mut().write(Name(name), at, bytes) {
@@ -195,8 +194,8 @@ pub extern "C" fn palmheap_DmWrite(store: &mut Kept, name: u32, at: u32, bytes: 
 /// The refusals 1, 4, 27, 9, in this order.
 #[unsafe(no_mangle)]
 pub extern "C" fn palmheap_DmSet(store: &mut Kept, name: u32, at: u32, count: u32, byte: u8) -> u32
-    ensures does { Does store.old.store
-        (calls.Call.Memory (MemoryCall.Set (named name) at count byte))
+    ensures does { DoesInC store.old.store
+        (calls.Call.Memory (MemoryCall.Set (as_name name) at count byte))
         Reply.Done result store.new.store }
 {
     match store.as_mut().set(Name(name), at, count, byte) {
@@ -212,8 +211,8 @@ pub extern "C" fn palmheap_DmSet(store: &mut Kept, name: u32, at: u32, count: u3
 /// The refusals 1, 4, 27, 9, in this order.
 #[unsafe(no_mangle)]
 pub extern "C" fn palmheap_DmStrCopy(store: &mut Kept, name: u32, at: u32, text: &[u8]) -> u32
-    ensures does { Does store.old.store
-        (calls.Call.Memory (MemoryCall.StrCopy (named name) at text.now))
+    ensures does { DoesInC store.old.store
+        (calls.Call.Memory (MemoryCall.StrCopy (as_name name) at text.now))
         Reply.Done result store.new.store }
 {
     match store.as_mut().str_copy(Name(name), at, text) {
@@ -228,7 +227,7 @@ pub extern "C" fn palmheap_DmStrCopy(store: &mut Kept, name: u32, at: u32, text:
 /// The refusals 1, 2, 6, 27, 3, 8, in this order.
 #[unsafe(no_mangle)]
 pub extern "C" fn palmheap_MemHandleResize(store: &mut Kept, name: u32, size: u32) -> u32
-    ensures does { Does store.old.store (calls.Call.Memory (MemoryCall.Resize (named name) size))
+    ensures does { DoesInC store.old.store (calls.Call.Memory (MemoryCall.Resize (as_name name) size))
         Reply.Done result store.new.store }
 {
     match store.as_mut().resize(Name(name), size) {
@@ -243,7 +242,7 @@ pub extern "C" fn palmheap_MemHandleResize(store: &mut Kept, name: u32, size: u3
 /// The refusals 1, 2, 7, in this order.
 #[unsafe(no_mangle)]
 pub extern "C" fn palmheap_MemHandleSetOwner(store: &mut Kept, name: u32, owner: u8) -> u32
-    ensures does { Does store.old.store (calls.Call.Memory (MemoryCall.SetOwner (named name) owner))
+    ensures does { DoesInC store.old.store (calls.Call.Memory (MemoryCall.SetOwner (as_name name) owner))
         Reply.Done result store.new.store }
 {
     match store.as_mut().set_owner(Name(name), owner) {
@@ -258,8 +257,8 @@ pub extern "C" fn palmheap_MemHandleSetOwner(store: &mut Kept, name: u32, owner:
 /// The refusal 1.
 #[unsafe(no_mangle)]
 pub extern "C" fn palmheap_MemPtrRecoverHandle(store: &mut Kept, place: u32, name: &mut u32) -> u32
-    ensures does { Does store.old.store (calls.Call.Memory (MemoryCall.Recover (placed place)))
-        (Reply.Named (named name.new)) result store.new.store }
+    ensures does { DoesInC store.old.store (calls.Call.Memory (MemoryCall.Recover (as_place place)))
+        (Reply.Named (as_name name.new)) result store.new.store }
     ensures left { result ≢ 0 → name.new ≡ name.old }
 {
     match store.as_mut().recover(Place(place)) {
@@ -277,7 +276,7 @@ pub extern "C" fn palmheap_MemPtrRecoverHandle(store: &mut Kept, place: u32, nam
 /// The refusals 7, 27, in this order.
 #[unsafe(no_mangle)]
 pub extern "C" fn palmheap_MemHeapFreeByOwnerID(store: &mut Kept, owner: u8, count: &mut u32) -> u32
-    ensures does { Does store.old.store (calls.Call.Memory (MemoryCall.FreeByOwner owner))
+    ensures does { DoesInC store.old.store (calls.Call.Memory (MemoryCall.FreeByOwner owner))
         (Reply.Number count.new) result store.new.store }
     ensures left { result ≢ 0 → count.new ≡ count.old }
 {
@@ -293,7 +292,7 @@ pub extern "C" fn palmheap_MemHeapFreeByOwnerID(store: &mut Kept, owner: u8, cou
 /// Sets `count` to the sum of the sizes of all free chunks, in bytes.
 #[unsafe(no_mangle)]
 pub extern "C" fn palmheap_MemHeapFreeBytes(store: &mut Kept, count: &mut u32) -> u32
-    ensures does { DoesInStore store.old.store (calls.Call.Memory MemoryCall.FreeBytes)
+    ensures does { DoesAlways store.old.store (calls.Call.Memory MemoryCall.FreeBytes)
         (Reply.Number count.new) store.new.store }
     ensures ok { result ≡ 0 }
 {
@@ -304,7 +303,7 @@ pub extern "C" fn palmheap_MemHeapFreeBytes(store: &mut Kept, count: &mut u32) -
 /// Sets `count` to the greatest room of a stretch, in bytes, or to 0 if there is no stretch.
 #[unsafe(no_mangle)]
 pub extern "C" fn palmheap_largest_stretch(store: &mut Kept, count: &mut u32) -> u32
-    ensures does { DoesInStore store.old.store (calls.Call.Memory MemoryCall.LargestStretch)
+    ensures does { DoesAlways store.old.store (calls.Call.Memory MemoryCall.LargestStretch)
         (Reply.Number count.new) store.new.store }
     ensures ok { result ≡ 0 }
 {
@@ -315,7 +314,7 @@ pub extern "C" fn palmheap_largest_stretch(store: &mut Kept, count: &mut u32) ->
 /// Joins the free bytes of each stretch into one chunk. Sets `count` to the number of bytes moved.
 #[unsafe(no_mangle)]
 pub extern "C" fn palmheap_MemHeapCompact(store: &mut Kept, count: &mut u32) -> u32
-    ensures does { DoesInStore store.old.store (calls.Call.Memory MemoryCall.Compact)
+    ensures does { DoesAlways store.old.store (calls.Call.Memory MemoryCall.Compact)
         (Reply.Number count.new) store.new.store }
     ensures ok { result ≡ 0 }
 {
@@ -329,7 +328,7 @@ pub extern "C" fn palmheap_MemHeapCompact(store: &mut Kept, count: &mut u32) -> 
 /// The refusal 8.
 #[unsafe(no_mangle)]
 pub extern "C" fn palmheap_more_slots(store: &mut Kept) -> u32
-    ensures does { Does store.old.store (calls.Call.Memory MemoryCall.MoreSlots)
+    ensures does { DoesInC store.old.store (calls.Call.Memory MemoryCall.MoreSlots)
         Reply.Done result store.new.store }
 {
     match store.as_mut().more_slots() {

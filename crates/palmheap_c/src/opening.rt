@@ -1,9 +1,9 @@
 //! Opening and closing a store that lives between calls, and writing its image.
 
-ghost use Rattle.std.specs.Prelude.{◌≡◌, ◌≢◌, ◌⊎◌, IfOk, IfErr};
-ghost use Rattle.palmheap_c.specs.Answers.{IsImageFault, WantsMemory, no_fault};
-ghost use Rattle.palmheap_c.specs.Holding.{IsOpen};
-ghost use Rattle.palmheap_c.specs.Opening.{Closes, HoldsImage, IsStore, WritesImage};
+ghost use Rattle.std.specs.Prelude.{◌≡◌, ◌≢◌, ◌⊎◌, IfOk, IfErr, None};
+ghost use Rattle.palmheap_c.specs.Answers.{IsImageFault, IsMemoryAnswer, no_fault};
+ghost use Rattle.palmheap_c.specs.Holding.{IsNullIfClosed};
+ghost use Rattle.palmheap_c.specs.Opening.{Closes, HoldsImage, IsNewlyOpen, IsOpenStore, WritesImage};
 
 use crate::answers::{Answer, NO_FAULT, NO_MEMORY, of_store};
 use crate::buffers::{put_coded, refused_block, refused_write};
@@ -18,34 +18,45 @@ use std::alloc::Global;
 use std::mem::{ManuallyDrop, replace};
 
 /// Opens an image: checks it, and copies it into a store that lives until `palmheap_close`. Sets
-/// `store` to it. A store that was in `store` before is not closed.
+/// `store` to it, or to none if it fails. A store that was in `store` before is not closed.
 #[unsafe(no_mangle)]
 pub extern "C" fn palmheap_open(alloc: Global, image: &[u8], store: &mut Slot) -> Answer
     ensures opened { result ≡ no_fault → HoldsImage image.now store.new.store }
-    ensures refused { result ≢ no_fault → WantsMemory result ⊎ IsImageFault image.now result }
-    ensures left { result ≢ no_fault → store.new ≡ store.old }
+    ensures refused { result ≢ no_fault → IsMemoryAnswer result ⊎ IsImageFault image.now result }
+    ensures none { result ≢ no_fault → store.new.store ≡ None }
+    ensures null { IsNullIfClosed store.new.store store.new.at }
 {
     match boxed_store(alloc, image) {
         Ok(made) => {
-            let old = replace(store, Slot::of(Parts::of(made)));
-            let _not_closed = unsafe { ManuallyDrop::new_unchecked(old) };
+            put(store, Slot::of(Parts::of(made)));
             NO_FAULT
         }
-        Err(answer) => answer,
+        Err(answer) => {
+            put(store, Slot::closed());
+            answer
+        }
     }
+}
+
+/// Sets a place. A store that was in the place before is not closed.
+fn put(place: &mut Slot, slot: Slot)
+    ensures { place.new ≡ slot }
+{
+    let old = replace(place, slot);
+    let _not_closed = unsafe { ManuallyDrop::new_unchecked(old) };
 }
 
 /// Makes a store of a copy of an image, in a box.
 fn boxed_store(alloc: Global, image: &[u8]) -> Result<Box<Held, Global>, Answer>
-    ensures store { IfOk result (λ made. IsStore image.now made.value) }
-    ensures refused { IfErr result (λ answer. WantsMemory answer ⊎ IsImageFault image.now answer) }
+    ensures store { IfOk result (λ made. IsNewlyOpen image.now made.value) }
+    ensures refused { IfErr result (λ answer. IsMemoryAnswer answer ⊎ IsImageFault image.now answer) }
     ensures faulty { IfErr result (λ answer. answer ≢ no_fault) }
 {
     let store = match checked_store(alloc, image) {
         Ok(store) => store,
         Err(answer) => return Err(answer),
     };
-    match Box::new(alloc, Held::of(store)) {
+    match Box::new(alloc, Held::of(alloc, store)) {
         Ok(made) => Ok(made),
         Err(error) => {
             let _unused = error.value.into_store();
@@ -56,8 +67,8 @@ fn boxed_store(alloc: Global, image: &[u8]) -> Result<Box<Held, Global>, Answer>
 
 /// Makes a store of a copy of an image.
 pub(crate) fn checked_store(alloc: Global, image: &[u8]) -> Result<Store, Answer>
-    ensures store { IfOk result (IsStore image.now) }
-    ensures refused { IfErr result (λ answer. WantsMemory answer ⊎ IsImageFault image.now answer) }
+    ensures store { IfOk result (IsOpenStore image.now) }
+    ensures refused { IfErr result (λ answer. IsMemoryAnswer answer ⊎ IsImageFault image.now answer) }
     ensures faulty { IfErr result (λ answer. answer ≢ no_fault) }
 {
     let Ok(region) = Region::from_bytes(alloc, image) else {
@@ -69,19 +80,25 @@ pub(crate) fn checked_store(alloc: Global, image: &[u8]) -> Result<Store, Answer
     }
 }
 
-/// Closes a store and frees its memory. If a chunk is lent, the store stays open.
+/// Closes a store and frees its memory. If a chunk is lent, the store stays open. If there is no
+/// store, it does nothing.
 ///
 /// # Errors
 /// The refusal 27.
 #[unsafe(no_mangle)]
 pub extern "C" fn palmheap_close(alloc: Global, store: &mut Slot) -> u32
-    requires open { IsOpen store.old.store }
-    ensures { Closes store.old.store store.new.store result }
+    requires null { IsNullIfClosed store.old.store store.old.at }
+    ensures closes { Closes store.old.store store.new.store result }
+    ensures null { IsNullIfClosed store.new.store store.new.at }
 {
-    let kept = replace(store, Slot::closed()).into_parts(alloc).into_box();
+    let (slot, is_open) = replace(store, Slot::closed()).with_state();
+    if !is_open {
+        let _none = unsafe { ManuallyDrop::new_unchecked(slot) };
+        return 0;
+    }
+    let kept = slot.into_parts(alloc).into_box();
     if kept.is_lent() {
-        let closed = replace(store, Slot::of(Parts::of(kept)));
-        let _none = unsafe { ManuallyDrop::new_unchecked(closed) };
+        put(store, Slot::of(Parts::of(kept)));
         return refused(Refusal::Lent);
     }
     let _closed = Box::into_inner(kept).into_store();
@@ -100,7 +117,7 @@ pub extern "C" fn palmheap_write_image(
     image: &mut [u8],
     count: &mut usize,
 ) -> u32
-    ensures writes { WritesImage store.old.store image.old image.new count.old count.new result }
+    ensures writes { WritesImage store.old.store.memory image.old image.new count.old count.new result }
     ensures same { store.new.store ≡ store.old.store }
 {
     let mut out = Counted::new(Vec::new(alloc));

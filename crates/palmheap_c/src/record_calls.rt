@@ -6,8 +6,8 @@ ghost use Rattle.std.specs.Prelude.{◌≡◌, ◌≢◌};
 ghost use Rattle.heap_model.specs.declared.call.Call as calls;
 ghost use Rattle.heap_model.specs.declared.call.RecordCall.{RecordCall};
 ghost use Rattle.heap_model.specs.declared.call.Reply.{Reply};
-ghost use Rattle.palmheap_c.specs.Calls.{Does, named, numbered};
-ghost use Rattle.palmheap_c.specs.Infos.{record_told};
+ghost use Rattle.palmheap_c.specs.Calls.{DoesInC, as_name, as_db};
+ghost use Rattle.palmheap_c.specs.Infos.{record_from_c};
 
 use crate::calls::refused;
 use crate::infos::{RecordInfo, of_record};
@@ -33,8 +33,8 @@ pub extern "C" fn palmheap_DmNewRecord(
     index: &mut u32,
     name: &mut u32,
 ) -> u32
-    ensures does { Does store.old.store (calls.Call.Record (RecordCall.New (numbered db) at size))
-        (Reply.Made index.new (named name.new)) result store.new.store }
+    ensures does { DoesInC store.old.store (calls.Call.Record (RecordCall.New (as_db db) at size))
+        (Reply.Made index.new (as_name name.new)) result store.new.store }
     ensures left_index { result ≢ 0 → index.new ≡ index.old }
     ensures left_name { result ≢ 0 → name.new ≡ name.old }
 {
@@ -54,7 +54,7 @@ pub extern "C" fn palmheap_DmNewRecord(
 /// The refusals 10, 11, 13, 14, 15, 3, in this order.
 #[unsafe(no_mangle)]
 pub extern "C" fn palmheap_DmDeleteRecord(store: &mut Kept, db: u32, index: u32) -> u32
-    ensures does { Does store.old.store (calls.Call.Record (RecordCall.Delete (numbered db) index))
+    ensures does { DoesInC store.old.store (calls.Call.Record (RecordCall.Delete (as_db db) index))
         Reply.Done result store.new.store }
 {
     match delete(store.as_mut(), Db(db), index) {
@@ -69,7 +69,7 @@ pub extern "C" fn palmheap_DmDeleteRecord(store: &mut Kept, db: u32, index: u32)
 /// The refusals 10, 11, 13, 14, 15, in this order.
 #[unsafe(no_mangle)]
 pub extern "C" fn palmheap_DmArchiveRecord(store: &mut Kept, db: u32, index: u32) -> u32
-    ensures does { Does store.old.store (calls.Call.Record (RecordCall.Archive (numbered db) index))
+    ensures does { DoesInC store.old.store (calls.Call.Record (RecordCall.Archive (as_db db) index))
         Reply.Done result store.new.store }
 {
     match archive(store.as_mut(), Db(db), index) {
@@ -84,7 +84,7 @@ pub extern "C" fn palmheap_DmArchiveRecord(store: &mut Kept, db: u32, index: u32
 /// The refusals 10, 11, 13, 14, 3, in this order.
 #[unsafe(no_mangle)]
 pub extern "C" fn palmheap_DmRemoveRecord(store: &mut Kept, db: u32, index: u32) -> u32
-    ensures does { Does store.old.store (calls.Call.Record (RecordCall.Remove (numbered db) index))
+    ensures does { DoesInC store.old.store (calls.Call.Record (RecordCall.Remove (as_db db) index))
         Reply.Done result store.new.store }
 {
     match remove(store.as_mut(), Db(db), index) {
@@ -100,7 +100,7 @@ pub extern "C" fn palmheap_DmRemoveRecord(store: &mut Kept, db: u32, index: u32)
 /// The refusals 10, 11, 13, 14, in this order.
 #[unsafe(no_mangle)]
 pub extern "C" fn palmheap_DmMoveRecord(store: &mut Kept, db: u32, from: u32, to: u32) -> u32
-    ensures does { Does store.old.store (calls.Call.Record (RecordCall.Move (numbered db) from to))
+    ensures does { DoesInC store.old.store (calls.Call.Record (RecordCall.Move (as_db db) from to))
         Reply.Done result store.new.store }
 {
     match move_record(store.as_mut(), Db(db), from, to) {
@@ -115,8 +115,8 @@ pub extern "C" fn palmheap_DmMoveRecord(store: &mut Kept, db: u32, from: u32, to
 /// The refusals 10, 11, 14, 15, 16, in this order.
 #[unsafe(no_mangle)]
 pub extern "C" fn palmheap_DmGetRecord(store: &mut Kept, db: u32, index: u32, name: &mut u32) -> u32
-    ensures does { Does store.old.store (calls.Call.Record (RecordCall.Get (numbered db) index))
-        (Reply.Named (named name.new)) result store.new.store }
+    ensures does { DoesInC store.old.store (calls.Call.Record (RecordCall.Get (as_db db) index))
+        (Reply.Named (as_name name.new)) result store.new.store }
     ensures left { result ≢ 0 → name.new ≡ name.old }
 {
     match get(store.as_mut(), Db(db), index) {
@@ -139,8 +139,8 @@ pub extern "C" fn palmheap_DmQueryRecord(
     index: u32,
     name: &mut u32,
 ) -> u32
-    ensures does { Does store.old.store (calls.Call.Record (RecordCall.Query (numbered db) index))
-        (Reply.Named (named name.new)) result store.new.store }
+    ensures does { DoesInC store.old.store (calls.Call.Record (RecordCall.Query (as_db db) index))
+        (Reply.Named (as_name name.new)) result store.new.store }
     ensures left { result ≢ 0 → name.new ≡ name.old }
 {
     match query(store.as_mut(), Db(db), index) {
@@ -163,8 +163,8 @@ pub extern "C" fn palmheap_DmReleaseRecord(
     index: u32,
     dirty: bool,
 ) -> u32
-    ensures does { Does store.old.store
-        (calls.Call.Record (RecordCall.Release (numbered db) index dirty))
+    ensures does { DoesInC store.old.store
+        (calls.Call.Record (RecordCall.Release (as_db db) index dirty))
         Reply.Done result store.new.store }
 {
     match release(store.as_mut(), Db(db), index, dirty) {
@@ -184,8 +184,8 @@ pub extern "C" fn palmheap_DmRecordInfo(
     index: u32,
     info: &mut RecordInfo,
 ) -> u32
-    ensures does { Does store.old.store (calls.Call.Record (RecordCall.Info (numbered db) index))
-        (Reply.Record (record_told info.new)) result store.new.store }
+    ensures does { DoesInC store.old.store (calls.Call.Record (RecordCall.Info (as_db db) index))
+        (Reply.Record (record_from_c info.new)) result store.new.store }
     ensures left { result ≢ 0 → info.new ≡ info.old }
 {
     match record_info(store.as_mut(), Db(db), index) {
@@ -203,8 +203,8 @@ pub extern "C" fn palmheap_DmRecordInfo(
 /// The refusals 10, 11, 13, 14, 15, 27, 3, 8, in this order.
 #[unsafe(no_mangle)]
 pub extern "C" fn palmheap_DmResizeRecord(store: &mut Kept, db: u32, index: u32, size: u32) -> u32
-    ensures does { Does store.old.store
-        (calls.Call.Record (RecordCall.Resize (numbered db) index size))
+    ensures does { DoesInC store.old.store
+        (calls.Call.Record (RecordCall.Resize (as_db db) index size))
         Reply.Done result store.new.store }
 {
     match resize_record(store.as_mut(), Db(db), index, size) {
@@ -219,7 +219,7 @@ pub extern "C" fn palmheap_DmResizeRecord(store: &mut Kept, db: u32, index: u32,
 /// The refusals 10, 11, in this order.
 #[unsafe(no_mangle)]
 pub extern "C" fn palmheap_DmNumRecords(store: &mut Kept, db: u32, count: &mut u32) -> u32
-    ensures does { Does store.old.store (calls.Call.Record (RecordCall.Count (numbered db)))
+    ensures does { DoesInC store.old.store (calls.Call.Record (RecordCall.Count (as_db db)))
         (Reply.Number count.new) result store.new.store }
     ensures left { result ≢ 0 → count.new ≡ count.old }
 {
@@ -245,8 +245,8 @@ pub extern "C" fn palmheap_DmAttachRecord(
     name: u32,
     index: &mut u32,
 ) -> u32
-    ensures does { Does store.old.store
-        (calls.Call.Record (RecordCall.Attach (numbered db) at (named name)))
+    ensures does { DoesInC store.old.store
+        (calls.Call.Record (RecordCall.Attach (as_db db) at (as_name name)))
         (Reply.Number index.new) result store.new.store }
     ensures left { result ≢ 0 → index.new ≡ index.old }
 {
@@ -273,9 +273,9 @@ pub extern "C" fn palmheap_attach_replacing(
     owner: u8,
     old: &mut u32,
 ) -> u32
-    ensures does { Does store.old.store
-        (calls.Call.Record (RecordCall.AttachReplacing (numbered db) index (named name) owner))
-        (Reply.Named (named old.new)) result store.new.store }
+    ensures does { DoesInC store.old.store
+        (calls.Call.Record (RecordCall.AttachReplacing (as_db db) index (as_name name) owner))
+        (Reply.Named (as_name old.new)) result store.new.store }
     ensures left { result ≢ 0 → old.new ≡ old.old }
 {
     match attach_replacing(store.as_mut(), Db(db), index, Name(name), owner) {
@@ -299,9 +299,9 @@ pub extern "C" fn palmheap_DmDetachRecord(
     owner: u8,
     name: &mut u32,
 ) -> u32
-    ensures does { Does store.old.store
-        (calls.Call.Record (RecordCall.Detach (numbered db) index owner))
-        (Reply.Named (named name.new)) result store.new.store }
+    ensures does { DoesInC store.old.store
+        (calls.Call.Record (RecordCall.Detach (as_db db) index owner))
+        (Reply.Named (as_name name.new)) result store.new.store }
     ensures left { result ≢ 0 → name.new ≡ name.old }
 {
     match detach(store.as_mut(), Db(db), index, owner) {
@@ -326,8 +326,8 @@ pub extern "C" fn palmheap_DmSetRecordInfo(
     attributes: u8,
     id: u32,
 ) -> u32
-    ensures does { Does store.old.store
-        (calls.Call.Record (RecordCall.SetInfo (numbered db) index attributes id))
+    ensures does { DoesInC store.old.store
+        (calls.Call.Record (RecordCall.SetInfo (as_db db) index attributes id))
         Reply.Done result store.new.store }
 {
     match set_record_info(store.as_mut(), Db(db), index, attributes, id) {
@@ -347,7 +347,7 @@ pub extern "C" fn palmheap_DmFindRecordByID(
     id: u32,
     index: &mut u32,
 ) -> u32
-    ensures does { Does store.old.store (calls.Call.Record (RecordCall.FindById (numbered db) id))
+    ensures does { DoesInC store.old.store (calls.Call.Record (RecordCall.FindById (as_db db) id))
         (Reply.Number index.new) result store.new.store }
     ensures left { result ≢ 0 → index.new ≡ index.old }
 {
@@ -371,8 +371,8 @@ pub extern "C" fn palmheap_DmNumRecordsInCategory(
     category: u8,
     count: &mut u32,
 ) -> u32
-    ensures does { Does store.old.store
-        (calls.Call.Record (RecordCall.CountInCategory (numbered db) category))
+    ensures does { DoesInC store.old.store
+        (calls.Call.Record (RecordCall.CountInCategory (as_db db) category))
         (Reply.Number count.new) result store.new.store }
     ensures left { result ≢ 0 → count.new ≡ count.old }
 {
@@ -397,8 +397,8 @@ pub extern "C" fn palmheap_DmQueryNextInCategory(
     category: u8,
     index: &mut u32,
 ) -> u32
-    ensures does { Does store.old.store
-        (calls.Call.Record (RecordCall.NextInCategory (numbered db) from category))
+    ensures does { DoesInC store.old.store
+        (calls.Call.Record (RecordCall.NextInCategory (as_db db) from category))
         (Reply.Number index.new) result store.new.store }
     ensures left { result ≢ 0 → index.new ≡ index.old }
 {
@@ -423,8 +423,8 @@ pub extern "C" fn palmheap_DmPositionInCategory(
     category: u8,
     count: &mut u32,
 ) -> u32
-    ensures does { Does store.old.store
-        (calls.Call.Record (RecordCall.PositionInCategory (numbered db) index category))
+    ensures does { DoesInC store.old.store
+        (calls.Call.Record (RecordCall.PositionInCategory (as_db db) index category))
         (Reply.Number count.new) result store.new.store }
     ensures left { result ≢ 0 → count.new ≡ count.old }
 {
@@ -450,8 +450,8 @@ pub extern "C" fn palmheap_DmMoveCategory(
     from: u8,
     dirty: bool,
 ) -> u32
-    ensures does { Does store.old.store
-        (calls.Call.Record (RecordCall.MoveCategory (numbered db) to from dirty))
+    ensures does { DoesInC store.old.store
+        (calls.Call.Record (RecordCall.MoveCategory (as_db db) to from dirty))
         Reply.Done result store.new.store }
 {
     match move_category(store.as_mut(), Db(db), to, from, dirty) {
@@ -466,8 +466,8 @@ pub extern "C" fn palmheap_DmMoveCategory(
 /// The refusals 10, 11, 13, 18, 3, in this order.
 #[unsafe(no_mangle)]
 pub extern "C" fn palmheap_DmDeleteCategory(store: &mut Kept, db: u32, category: u8) -> u32
-    ensures does { Does store.old.store
-        (calls.Call.Record (RecordCall.DeleteCategory (numbered db) category))
+    ensures does { DoesInC store.old.store
+        (calls.Call.Record (RecordCall.DeleteCategory (as_db db) category))
         Reply.Done result store.new.store }
 {
     match delete_category(store.as_mut(), Db(db), category) {

@@ -6,8 +6,8 @@ ghost use Rattle.std.specs.Prelude.{◌≡◌, ◌≢◌};
 ghost use Rattle.heap_model.specs.declared.call.Call as calls;
 ghost use Rattle.heap_model.specs.declared.call.ResourceCall.{ResourceCall};
 ghost use Rattle.heap_model.specs.declared.call.Reply.{Reply};
-ghost use Rattle.palmheap_c.specs.Calls.{Does, named, numbered};
-ghost use Rattle.palmheap_c.specs.Infos.{resource_told};
+ghost use Rattle.palmheap_c.specs.Calls.{DoesInC, as_name, as_db};
+ghost use Rattle.palmheap_c.specs.Infos.{resource_from_c};
 
 use crate::calls::refused;
 use crate::infos::{ResourceInfo, of_resource};
@@ -33,9 +33,9 @@ pub extern "C" fn palmheap_DmNewResource(
     index: &mut u32,
     name: &mut u32,
 ) -> u32
-    ensures does { Does store.old.store
-        (calls.Call.Resource (ResourceCall.New (numbered db) kind id size))
-        (Reply.Made index.new (named name.new)) result store.new.store }
+    ensures does { DoesInC store.old.store
+        (calls.Call.Resource (ResourceCall.New (as_db db) kind id size))
+        (Reply.Made index.new (as_name name.new)) result store.new.store }
     ensures left_index { result ≢ 0 → index.new ≡ index.old }
     ensures left_name { result ≢ 0 → name.new ≡ name.old }
 {
@@ -63,8 +63,8 @@ pub extern "C" fn palmheap_DmAttachResource(
     name: u32,
     index: &mut u32,
 ) -> u32
-    ensures does { Does store.old.store
-        (calls.Call.Resource (ResourceCall.Attach (numbered db) kind id (named name)))
+    ensures does { DoesInC store.old.store
+        (calls.Call.Resource (ResourceCall.Attach (as_db db) kind id (as_name name)))
         (Reply.Number index.new) result store.new.store }
     ensures left { result ≢ 0 → index.new ≡ index.old }
 {
@@ -89,9 +89,9 @@ pub extern "C" fn palmheap_DmDetachResource(
     owner: u8,
     name: &mut u32,
 ) -> u32
-    ensures does { Does store.old.store
-        (calls.Call.Resource (ResourceCall.Detach (numbered db) index owner))
-        (Reply.Named (named name.new)) result store.new.store }
+    ensures does { DoesInC store.old.store
+        (calls.Call.Resource (ResourceCall.Detach (as_db db) index owner))
+        (Reply.Named (as_name name.new)) result store.new.store }
     ensures left { result ≢ 0 → name.new ≡ name.old }
 {
     match detach_resource(store.as_mut(), Db(db), index, owner) {
@@ -109,8 +109,8 @@ pub extern "C" fn palmheap_DmDetachResource(
 /// The refusals 10, 12, 13, 14, 3, in this order.
 #[unsafe(no_mangle)]
 pub extern "C" fn palmheap_DmRemoveResource(store: &mut Kept, db: u32, index: u32) -> u32
-    ensures does { Does store.old.store
-        (calls.Call.Resource (ResourceCall.Remove (numbered db) index))
+    ensures does { DoesInC store.old.store
+        (calls.Call.Resource (ResourceCall.Remove (as_db db) index))
         Reply.Done result store.new.store }
 {
     match remove_resource(store.as_mut(), Db(db), index) {
@@ -125,8 +125,8 @@ pub extern "C" fn palmheap_DmRemoveResource(store: &mut Kept, db: u32, index: u3
 /// The refusals 10, 12, 13, 14, 27, 3, 8, in this order.
 #[unsafe(no_mangle)]
 pub extern "C" fn palmheap_DmResizeResource(store: &mut Kept, db: u32, index: u32, size: u32) -> u32
-    ensures does { Does store.old.store
-        (calls.Call.Resource (ResourceCall.Resize (numbered db) index size))
+    ensures does { DoesInC store.old.store
+        (calls.Call.Resource (ResourceCall.Resize (as_db db) index size))
         Reply.Done result store.new.store }
 {
     match resize_resource(store.as_mut(), Db(db), index, size) {
@@ -146,9 +146,9 @@ pub extern "C" fn palmheap_DmResourceInfo(
     index: u32,
     info: &mut ResourceInfo,
 ) -> u32
-    ensures does { Does store.old.store
-        (calls.Call.Resource (ResourceCall.Info (numbered db) index))
-        (Reply.Resource (resource_told info.new)) result store.new.store }
+    ensures does { DoesInC store.old.store
+        (calls.Call.Resource (ResourceCall.Info (as_db db) index))
+        (Reply.Resource (resource_from_c info.new)) result store.new.store }
     ensures left { result ≢ 0 → info.new ≡ info.old }
 {
     match resource_info(store.as_mut(), Db(db), index) {
@@ -172,8 +172,8 @@ pub extern "C" fn palmheap_DmSetResourceInfo(
     kind: u32,
     id: u16,
 ) -> u32
-    ensures does { Does store.old.store
-        (calls.Call.Resource (ResourceCall.SetInfo (numbered db) index kind id))
+    ensures does { DoesInC store.old.store
+        (calls.Call.Resource (ResourceCall.SetInfo (as_db db) index kind id))
         Reply.Done result store.new.store }
 {
     match set_resource_info(store.as_mut(), Db(db), index, kind, id) {
@@ -194,8 +194,8 @@ pub extern "C" fn palmheap_DmFindResource(
     id: u16,
     index: &mut u32,
 ) -> u32
-    ensures does { Does store.old.store
-        (calls.Call.Resource (ResourceCall.Find (numbered db) kind id))
+    ensures does { DoesInC store.old.store
+        (calls.Call.Resource (ResourceCall.Find (as_db db) kind id))
         (Reply.Number index.new) result store.new.store }
     ensures left { result ≢ 0 → index.new ≡ index.old }
 {
@@ -220,8 +220,8 @@ pub extern "C" fn palmheap_DmFindResourceType(
     nth: u32,
     index: &mut u32,
 ) -> u32
-    ensures does { Does store.old.store
-        (calls.Call.Resource (ResourceCall.FindType (numbered db) kind nth))
+    ensures does { DoesInC store.old.store
+        (calls.Call.Resource (ResourceCall.FindType (as_db db) kind nth))
         (Reply.Number index.new) result store.new.store }
     ensures left { result ≢ 0 → index.new ≡ index.old }
 {
@@ -240,7 +240,7 @@ pub extern "C" fn palmheap_DmFindResourceType(
 /// The refusals 10, 12, in this order.
 #[unsafe(no_mangle)]
 pub extern "C" fn palmheap_DmNumResources(store: &mut Kept, db: u32, count: &mut u32) -> u32
-    ensures does { Does store.old.store (calls.Call.Resource (ResourceCall.Count (numbered db)))
+    ensures does { DoesInC store.old.store (calls.Call.Resource (ResourceCall.Count (as_db db)))
         (Reply.Number count.new) result store.new.store }
     ensures left { result ≢ 0 → count.new ≡ count.old }
 {

@@ -1,8 +1,8 @@
 //! The results of a run, and the memory of the caller that they are written to.
 
 ghost use Rattle.std.specs.Prelude.{◌≡◌, ◌≤◌, length, true, false};
-ghost use Rattle.palmheap_c.specs.Buffers.{Fills};
-ghost use Rattle.palmheap_c.specs.Runs.{IsShort};
+ghost use Rattle.palmheap_c.specs.Buffers.{FillsBuffer};
+ghost use Rattle.palmheap_c.specs.Runs.{AreShortBuffers};
 
 use crate::buffers::{put_front, put_numbers};
 
@@ -45,9 +45,9 @@ impl Results {
         requires printed { length self.now.text.items ≤ length printed.old }
         requires exported { length self.now.files.items ≤ length exported.old }
         requires ends { length self.now.ends.items ≤ length ends.old }
-        ensures printed { Fills self.now.text.items printed.old printed.new }
-        ensures exported { Fills self.now.files.items exported.old exported.new }
-        ensures ends { Fills self.now.ends.items ends.old ends.new }
+        ensures printed { FillsBuffer self.now.text.items printed.old printed.new }
+        ensures exported { FillsBuffer self.now.files.items exported.old exported.new }
+        ensures ends { FillsBuffer self.now.ends.items ends.old ends.new }
     {
         put_front(&self.text, printed);
         put_front(&self.files, exported);
@@ -60,7 +60,7 @@ pub(crate) fn have_room(sizes: Sizes, printed: &[u8], exported: &[u8], ends: &[u
     ensures printed { result ≡ true → sizes.printed ≤ length printed.now }
     ensures exported { result ≡ true → sizes.exported ≤ length exported.now }
     ensures ends { result ≡ true → sizes.files ≤ length ends.now }
-    ensures short { result ≡ false → IsShort sizes printed.now exported.now ends.now }
+    ensures short { result ≡ false → AreShortBuffers sizes printed.now exported.now ends.now }
 {
     sizes.printed <= printed.len() && sizes.exported <= exported.len() && sizes.files <= ends.len()
 }

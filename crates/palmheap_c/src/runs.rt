@@ -3,7 +3,7 @@
 ghost use Rattle.std.specs.Prelude.{[], ◌≡◌, Ok, IfErr, IfOk, map};
 ghost use Rattle.heap_model.specs.Store.{Accepted};
 ghost use Rattle.script_lines.specs.Reading.{read_script};
-ghost use Rattle.palmheap_c.specs.Opening.{IsStore};
+ghost use Rattle.palmheap_c.specs.Opening.{IsOpenStore};
 ghost use Rattle.palmheap_c.specs.Runs.{HasResults, IsRunAnswer, IsRunRefusal, Ran, capped as capped_number, of_line as line_answer, written};
 
 use crate::answers::{Answer, NO_FAULT, NO_MEMORY, NO_ROOM};
@@ -114,7 +114,7 @@ fn region_of(store: Store) -> Region
 
 /// Returns the store of a copy of an image, and the script of a text.
 fn read<'a>(alloc: Global, image: &[u8], script: &'a [u8]) -> Result<(Store, Script<'a>), Answer>
-    ensures store { IfOk result (λ read. IsStore image.now read.0) }
+    ensures store { IfOk result (λ read. IsOpenStore image.now read.0) }
     ensures script { IfOk result (λ read. read_script script.now ≡ Ok read.1) }
     ensures refused { IfErr result (IsRunRefusal image.now script.now) }
 {

@@ -1,4 +1,5 @@
-//! The program `palmheap_images`, which has the commands `new`, `check` and `explain` of `palmheap`.
+//! The program `palmheap_images`, which has the commands of `palmheap` that need neither the
+//! managers nor the pictures.
 //!
 //! The crate `image_program` has its functions.
 #![tactic(auto)]

@@ -6,15 +6,15 @@ use Rattle.palm_text.specs.Counted.{Flushes, Writing}
 use Rattle.live_scripts.specs.Live.{ReadStops}
 use Rattle.live_scripts.specs.declared.fault.LiveFault.{LiveFault}
 use Rattle.live_scripts.specs.declared.fault.LiveFault.TheVariants as faults
-use Rattle.image_faults.specs.Lines.{PutsBadImage}
-use Rattle.file_commands.specs.LineFaults.{PutsFault}
+use Rattle.image_commands.specs.FaultLines.{PutsBadImage}
+use Rattle.file_commands.specs.LineFaults.{PutsScriptRefused}
 use Rattle.script_lines.specs.declared.fault.LineFault.{LineFault}
 use Rattle.program_io.specs.declared.input.InputFault.{InputFault}
 use Rattle.program_io.specs.declared.status.Status.{Status}
 use Rattle.program_io.specs.declared.status.Status.TheVariants.{Refused, WriteFault, NoMemory}
 use Rattle.palmheap_program.specs.declared.live_command.LiveEnd.{LiveEnd}
 use Rattle.palmheap_program.specs.declared.live_command.LiveEnd.TheVariants as ends
-use Rattle.palmheap_program.specs.LiveRuns.{EndsAtLine, EndsEarlyLive, EndsLive, EndsLiveBy, LiveBreaksOff, PutsLiveRefusal, WantsMemory}
+use Rattle.palmheap_program.specs.LiveRuns.{EndsAtLine, EndsEarlyLive, EndsLive, EndsLiveBy, LiveBreaksOff, PutsLiveRefusal, LiveRunWantsMemory}
 
 module _ {W V : Type 0} (short : Type 0) (region : Memory) (known : Option (List ℕ)) (script : List ℕ) (inputs : List (List ℕ)) (contents : V → Option (List ℕ)) (old new : Writing V) (image_contents : W → Option (List ℕ)) (image_old image_new : Writing W) where
   abbrev By : Status → Type 0
@@ -42,7 +42,7 @@ module _ {W V : Type 0} (short : Type 0) (region : Memory) (known : Option (List
     reads_all = λ e. cc;
   }
 
-  pub by_memory : (status : Status) → status ≡ NoMemory → short → WantsMemory short region known inputs contents old new → image_new ≡ image_old → By status
+  pub by_memory : (status : Status) → status ≡ NoMemory → short → LiveRunWantsMemory short region known inputs contents old new → image_new ≡ image_old → By status
   by_memory status is wanted wants same = record {
     refused = λ e. absurd cc;
     write_fault = λ e. absurd cc;
@@ -78,8 +78,8 @@ module _ {W V : Type 0} (short : Type 0) (region : Memory) (known : Option (List
 pub at_line_short : {V short : Type 0} (contents : V → Option (List ℕ)) (old mid new : Writing V) (fault : LineFault) (ok : Bool) → short → mid ≡ old → Flushes contents mid new ok → EndsAtLine short contents old new fault NoMemory
 at_line_short {V} contents old mid new fault ok wanted same flush = inr (inr (refl, wanted, ok, subst (λ (w : Writing V). Flushes contents w new ok) same flush))
 
-pub at_line_said : {V short : Type 0} (contents : V → Option (List ℕ)) (old new : Writing V) (fault : LineFault) (status : Status) → (status ≡ NoMemory → ⊥) → (status ≡ Refused) ⊎ ((status ≡ WriteFault) ⊎ (status ≡ NoMemory)) → (status ≡ Refused → PutsFault fault contents old new true)
-    → (status ≡ WriteFault → PutsFault fault contents old new false) → EndsAtLine short contents old new fault status
+pub at_line_said : {V short : Type 0} (contents : V → Option (List ℕ)) (old new : Writing V) (fault : LineFault) (status : Status) → (status ≡ NoMemory → ⊥) → (status ≡ Refused) ⊎ ((status ≡ WriteFault) ⊎ (status ≡ NoMemory)) → (status ≡ Refused → PutsScriptRefused fault contents old new true)
+    → (status ≡ WriteFault → PutsScriptRefused fault contents old new false) → EndsAtLine short contents old new fault status
 at_line_said contents old new fault status other (inl is) said failed = inl (is, said is)
 at_line_said contents old new fault status other (inr (inl is)) said failed = inr (inl (is, failed is))
 at_line_said contents old new fault status other (inr (inr is)) said failed = absurd (other is)

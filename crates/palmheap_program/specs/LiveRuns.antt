@@ -10,8 +10,8 @@ use Rattle.script_lines.specs.declared.fault.LineFault.{LineFault}
 use Rattle.live_scripts.specs.Live.{ReadStops, RunsText}
 use Rattle.live_scripts.specs.declared.fault.LiveFault.{LiveFault}
 use Rattle.live_scripts.specs.declared.fault.LiveFault.TheVariants as faults
-use Rattle.image_faults.specs.Lines.{PutsBadImage}
-use Rattle.file_commands.specs.LineFaults.{PutsFault}
+use Rattle.image_commands.specs.FaultLines.{PutsBadImage}
+use Rattle.file_commands.specs.LineFaults.{PutsScriptRefused}
 use Rattle.program_io.specs.declared.status.Status.{Status}
 use Rattle.program_io.specs.declared.status.Status.TheVariants.{Done, Refused, BadWords, ReadFault, WriteFault, NoMemory}
 use Rattle.palmheap_program.specs.declared.live_command.LiveEnd.{LiveEnd}
@@ -37,7 +37,7 @@ StopsLive short region known inputs contents old fault new = Accepted region.byt
 abbrev pub PutsLiveRefusal : {V : Type 0} → Type 0 → Memory → Option (List ℕ) → List (List ℕ) → (V → Option (List ℕ)) → Writing V → Writing V → Bool → Type 0
 PutsLiveRefusal {V} short region known inputs contents old new ok =
     ((Accepted region.bytes → ⊥) × PutsBadImage region.bytes contents old new ok)
-    ⊎ ((fault : LineFault) × (mid : Writing V) × StopsLive short region known inputs contents old (faults.Line fault) mid × PutsFault fault contents mid new ok)
+    ⊎ ((fault : LineFault) × (mid : Writing V) × StopsLive short region known inputs contents old (faults.Line fault) mid × PutsScriptRefused fault contents mid new ok)
 
 -- A write or a flush failed, and nothing was written after it. There are three cases:
 -- - It failed for the line with the reason of a refusal, and no image was written.
@@ -51,8 +51,8 @@ LiveBreaksOff short region known script inputs contents old new image_contents i
 
 -- An allocation failed before the first line, or after some lines, whose replies were flushed unless
 -- the flush failed. Or it failed for the line with the reason of a refusal.
-abbrev pub WantsMemory : {V : Type 0} → Type 0 → Memory → Option (List ℕ) → List (List ℕ) → (V → Option (List ℕ)) → Writing V → Writing V → Type 0
-WantsMemory {V} short region known inputs contents old new =
+abbrev pub LiveRunWantsMemory : {V : Type 0} → Type 0 → Memory → Option (List ℕ) → List (List ℕ) → (V → Option (List ℕ)) → Writing V → Writing V → Type 0
+LiveRunWantsMemory {V} short region known inputs contents old new =
     (new ≡ old)
     ⊎ (((mid : Writing V) × (ok : Bool) × StopsLive short region known inputs contents old faults.Memory mid × Flushes contents mid new ok)
     ⊎ ((mid : Writing V) × (ok : Bool) × (fault : LineFault) × StopsLive short region known inputs contents old (faults.Line fault) mid × Flushes contents mid new ok))
@@ -61,8 +61,8 @@ WantsMemory {V} short region known inputs contents old new =
 -- replies were flushed unless the flush failed.
 abbrev pub EndsAtLine : {V : Type 0} → Type 0 → (V → Option (List ℕ)) → Writing V → Writing V → LineFault → Status → Type 0
 EndsAtLine short contents old new fault status =
-    ((status ≡ Refused) × PutsFault fault contents old new true)
-    ⊎ (((status ≡ WriteFault) × PutsFault fault contents old new false)
+    ((status ≡ Refused) × PutsScriptRefused fault contents old new true)
+    ⊎ (((status ≡ WriteFault) × PutsScriptRefused fault contents old new false)
     ⊎ ((status ≡ NoMemory) × short × (ok : Bool) × Flushes contents old new ok))
 
 -- How a run ends after a fault: a line with the reason, a flush of the replies if an allocation
@@ -81,7 +81,7 @@ EndsEarlyLive short contents old new faults.Write (ends.Unread other) = ⊥
 pub record EndsLiveBy {W V : Type 0} (short : Type 0) (region : Memory) (known : Option (List ℕ)) (script : List ℕ) (inputs : List (List ℕ)) (contents : V → Option (List ℕ)) (old new : Writing V) (image_contents : W → Option (List ℕ)) (image_old image_new : Writing W) (status : Status) : Type 0 where
   pub refused : status ≡ Refused → PutsLiveRefusal short region known inputs contents old new true
   pub write_fault : status ≡ WriteFault → LiveBreaksOff short region known script inputs contents old new image_contents image_old image_new
-  pub no_memory : status ≡ NoMemory → short × WantsMemory short region known inputs contents old new
+  pub no_memory : status ≡ NoMemory → short × LiveRunWantsMemory short region known inputs contents old new
   pub no_image : status ≢ WriteFault → image_new ≡ image_old
   pub not_done : status ≢ Done
   pub good_words : status ≢ BadWords

@@ -9,15 +9,15 @@ use Rattle.script_lines.specs.Reading.{read_script}
 use Rattle.script_lines.specs.declared.fault.LineFault.{LineFault}
 use Rattle.script_lines.specs.declared.line.Line.{Line}
 use Rattle.script_calls.specs.Lines.{BreaksOffShort, RunsThroughShort}
-use Rattle.image_faults.specs.Lines.{PutsBadImage}
-use Rattle.file_commands.specs.LineFaults.{PutsFault}
+use Rattle.image_commands.specs.FaultLines.{PutsBadImage}
+use Rattle.file_commands.specs.LineFaults.{PutsScriptRefused}
 use Rattle.palm_text.specs.Output.{Puts}
 use Rattle.program_io.specs.declared.status.Status.{Status}
 use Rattle.program_io.specs.declared.status.Status.TheVariants.{Done, Refused, BadWords, ReadFault, WriteFault, NoMemory}
 
 -- the script is refused, and a line has the reason
 abbrev pub PutsScriptFault : {V : Type 0} → List ℕ → (V → Option (List ℕ)) → Writing V → Writing V → Bool → Type 0
-PutsScriptFault script contents old new ok = (fault : LineFault) × (read_script script ≡ Err fault) × PutsFault fault contents old new ok
+PutsScriptFault script contents old new ok = (fault : LineFault) × (read_script script ≡ Err fault) × PutsScriptRefused fault contents old new ok
 
 -- The image is not accepted, and the line for its first fault was written. Or it is accepted,
 -- but the script is refused, and a line has the reason.

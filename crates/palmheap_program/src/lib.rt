@@ -3,9 +3,8 @@
 //!
 //! `cmd_run` works over bytes and counted writers. Its contract defines when it returns each
 //! status, what was written by then, and where a write failed. `cmd_run_from` is its form over any
-//! `Allowance`. It reports out of memory only if an allocation failed. `image_program` and
-//! `base_program` have the commands of the smaller programs, `map_commands` and `store_commands`
-//! have the others.
+//! `Allowance`. It reports out of memory only if an allocation failed. `image_program` has the
+//! commands of the smaller program, `map_commands` and `store_commands` have the others.
 //!
 //! The other functions call the system, like the functions of `image_commands` over paths. Start
 //! with `run`.

@@ -10,7 +10,7 @@ use heap_model::Bytes;
 use live_scripts::{LiveFault, LiveInputs, run_read};
 use palm_store::Store;
 use palm_text::Counted;
-use program_io::{INPUT_LIMIT, InputFault, Status};
+use program_io::{InputFault, MOST_INPUT, Status};
 use raw_region::Region;
 use script_lines::LineFault;
 use std::io::{Read, Write};
@@ -50,7 +50,7 @@ pub fn run_live_region_from<A: Allowance, R: Read, W: Write, V: Write>(
         region (R.remaining reader.old) script.new.items inputs.entry.files.now V.contents out.old out.new
         W.contents image_out.old image_out.new end) }
     ensures too_long { result ≡ Err (LiveEnd.Unread InputFault.TooLong)
-        → IfSome (R.remaining reader.old) (λ all. INPUT_LIMIT < length all) }
+        → IfSome (R.remaining reader.old) (λ all. MOST_INPUT < length all) }
     ensures good_words { result ≢ Err (LiveEnd.Ended Status.BadWords) }
 {
     match opened(memory, region, out) {
@@ -79,7 +79,7 @@ fn run_store<A: Allowance, R: Read, W: Write, V: Write>(
         store (R.remaining reader.old) script.new.items inputs.entry.files.now V.contents out.old out.new
         W.contents image_out.old image_out.new end) }
     ensures too_long { result ≡ Err (LiveEnd.Unread InputFault.TooLong)
-        → IfSome (R.remaining reader.old) (λ all. INPUT_LIMIT < length all) }
+        → IfSome (R.remaining reader.old) (λ all. MOST_INPUT < length all) }
     ensures good_words { result ≢ Err (LiveEnd.Ended Status.BadWords) }
 {
     let files = match run_read(memory, &mut store, reader, inputs, script, out) {

@@ -25,7 +25,7 @@ pub fn run<R: Files + Input + Print + Eprint + AllocGlobal>(rt: &R, words: &[Str
 /// Runs the command of a request.
 fn fulfil<R: Files + Input + Print + Eprint + AllocGlobal>(rt: &R, request: Request) -> Ending {
     let status = match request {
-        Request::Base(request) => base_program::fulfil(rt, request),
+        Request::Base(request) => image_program::fulfil(rt, request),
         Request::Run {
             image,
             script,

@@ -8,16 +8,16 @@ use crate::run_command::run_region_from;
 use command_files::{
     STANDARD_INPUT, STANDARD_OUTPUT, STANDARD_STREAM, buffered_fault, fail, fail_to_read,
     looks_like_file, output_for_image, read_file, read_files, read_image, report_left_files,
-    suggest_checks, suggest_list, write_files,
+    report_line_hint, suggest_checks, suggest_list, write_files,
 };
 use heap_model::Bytes;
-use hints::{line_numbers, missing_files};
+use hints::{line_numbers, missing_files, script_hint};
 use live_scripts::LiveInputs;
 use palm_text::Counted;
 use program_io::command_line::Shown;
 use program_io::{Noted, Status, report_outcome};
 use raw_region::Region;
-use reply_lines::{LiveReplies, Replies};
+use script_calls::{LiveReplies, Replies};
 use script_lines::parse_from;
 use std::alloc::AllocError;
 use std::cell::Cell;
@@ -90,6 +90,7 @@ fn run_paths<R: Files + Input + Print + Eprint + AllocGlobal>(
         Ok(replied) => replied,
         Err(status) => {
             suggest_list(rt, paths.image, status, is_file);
+            comment_on_script(rt, paths.script, status, script.as_slice());
             return Err(status);
         }
     };
@@ -117,6 +118,7 @@ fn run_live<R: Files + Input + Print + Eprint + AllocGlobal>(
         Ok(replied) => replied,
         Err(status) => {
             suggest_list(rt, paths.image, status, is_file);
+            comment_on_script(rt, paths.script, status, script.as_slice());
             return Err(status);
         }
     };
@@ -143,6 +145,20 @@ fn end_run<R: Files + Eprint + AllocGlobal>(
     suggest_checks(rt, paths.files, Status::Done, inputs);
     report_left_files(rt, paths.out, replied.files.len());
     Ok(())
+}
+
+/// Reports on standard error what is wrong with the first faulty line of a script, if a run was
+/// refused. If the image was refused, the line is named too.
+fn comment_on_script<R: Eprint + AllocGlobal>(rt: &R, path: &str, status: Status, script: &[u8]) {
+    if status != Status::Refused {
+        return;
+    }
+    let Err(fault) = parse_from(&rt.alloc(), script) else {
+        return;
+    };
+    if let Some(hint) = script_hint(script, fault) {
+        report_line_hint(rt, path, fault.line, hint);
+    }
 }
 
 /// Returns the numbers of the lines of a script that are run.

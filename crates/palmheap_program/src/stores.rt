@@ -7,10 +7,9 @@ use command_files::{
     STANDARD_OUTPUT, fail, looks_like_file, output_for_image, read_file_or_input, read_image,
     suggest_checks, suggest_explain, suggest_list, write_file,
 };
-use file_commands::say_count;
+use file_commands::{name_each_dropped, path_in, say_count};
 use heap_model::Bytes;
 use palm_text::Counted;
-use path_commands::path_in;
 use program_io::{Noted, Status, report_outcome, report_write_fault};
 use std::alloc::AllocError;
 use std::io::{ErrorKind, Input, Write};
@@ -109,6 +108,7 @@ pub(crate) fn import<R: Files + Input + Print + Eprint + AllocGlobal>(
     );
     name_refused(rt, ended, paths);
     suggest_checks(rt, paths, ended.status, files.as_slice());
+    name_each_dropped(rt, paths, ended.status, files.as_slice());
     suggest_explain(rt, ended.status, choice.size);
     ended.status
 }
@@ -250,21 +250,40 @@ fn write_one<R: Files + Eprint + AllocGlobal>(
     };
     if fs::symlink_metadata(rt, path.as_str()).is_ok() {
         let status = fail(rt, Status::WriteFault);
-        let _ = eprintln!(rt; "{path}: {}", why_kept(written, file));
+        report_kept(rt, path.as_str(), written, file);
         return status;
     }
     write_file(rt, path.as_str(), file.bytes.as_slice())
 }
 
-/// Returns why a file isn't written over one that is there: this run wrote it, or it was there
-/// before.
-fn why_kept(written: &[ExportedFile], file: &ExportedFile) -> &'static str {
+/// Reports why a file isn't written over one that is there at its path: this run wrote it, maybe
+/// under a name that differs only in case, or it was there before.
+fn report_kept<R: Eprint>(rt: &R, path: &str, written: &[ExportedFile], file: &ExportedFile) {
+    let _ = match same_in_any_case(written, file) {
+        None => eprintln!(rt; "{path}: there is a file of this name, and 'export' replaces none"),
+        Some(earlier) if earlier.name.as_slice() == file.name.as_slice() => {
+            eprintln!(rt; "{path}: this NAME was given twice")
+        }
+        Some(earlier) => {
+            eprintln!(rt;
+                "{path}: there is a file of this name, or {} if case makes no difference here",
+                name_of(earlier)
+            )
+        }
+    };
+}
+
+/// Returns the first of some files whose name is that of a file, or differs from it only in case.
+fn same_in_any_case<'a>(
+    written: &'a [ExportedFile],
+    file: &ExportedFile,
+) -> Option<&'a ExportedFile> {
     for earlier in written {
-        if earlier.name.as_slice() == file.name.as_slice() {
-            return "this NAME was given twice";
+        if name_of(earlier).eq_ignore_ascii_case(name_of(file)) {
+            return Some(earlier);
         }
     }
-    "there is a file of this name, and 'export' replaces none"
+    None
 }
 
 /// The name of a file, which is ASCII.

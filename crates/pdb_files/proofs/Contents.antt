@@ -11,7 +11,7 @@ use Rattle.heap_model.specs.Database.{Database, Entry, entry_with, header_in, re
 use Rattle.heap_model.specs.Store.{bytes_named, content}
 use Rattle.heap_model.specs.Files.{idle_entry, idle, block_size, block_offset, with_offsets, first_block}
 use Rattle.db_format.specs.declared.header.DbHeader.{DbHeader}
-use Rattle.db_format.specs.Headers.{HasHeader}
+use Rattle.db_format.specs.Headers.{IsHeaderOf}
 use Rattle.pdb_format.proofs.FileParts.{length-with_offsets}
 use Rattle.pdb_files.specs.declared.exporting.places.Places.{Places}
 use Rattle.pdb_files.specs.FileParts.{ArePlaces}
@@ -66,8 +66,8 @@ unfolding database_in header_in
 first_block_is chunks bytes = ap (λ (n : ℕ). entry_offset (resources_in bytes) n + 2) (length-entries chunks bytes)
 
 -- the header of a database, with these offsets, is that of its file
-pub header_placed : (chunks : ChunkMap) (d : Database ℕ) (header : DbHeader) (places : Places) → HasHeader d header → ArePlaces (content chunks d) places
-    → HasHeader (with_offsets (first_block (content chunks d)) (idle (content chunks d))) (record header { app_info = places.app_info; sort_info = places.sort_info })
+pub header_placed : (chunks : ChunkMap) (d : Database ℕ) (header : DbHeader) (places : Places) → IsHeaderOf d header → ArePlaces (content chunks d) places
+    → IsHeaderOf (with_offsets (first_block (content chunks d)) (idle (content chunks d))) (record header { app_info = places.app_info; sort_info = places.sort_info })
 header_placed chunks d header places has are =
     let c : Database (Option (List ℕ)) = content chunks d in
     let at : ℕ = first_block c + block_size c.app_info + block_size c.sort_info in

@@ -20,7 +20,7 @@ use Rattle.heap_model.specs.declared.call.Reply.TheVariants as replies
 use Rattle.heap_model.specs.declared.refusal.Refusal.TheVariants.{NotEnoughSpace}
 use Rattle.laws_heap.proofs.Fits.{short_beyond}
 use Rattle.laws_store.proofs.CallSteps.{refused}
-use Rattle.pdb_format.specs.Blocks.{bytes_at, IsWithin}
+use Rattle.pdb_format.specs.Blocks.{bytes_at, IsBlockWithin}
 use Rattle.pdb_format.specs.declared.blocks.Block.{Block}
 use Rattle.pdb_format.specs.Blocks.{size_within}
 use Rattle.pdb_files.specs.Plans.{IsShort}
@@ -86,7 +86,7 @@ long_found (Some block ∷ blocks) not_all = elim (cases_lt (block.end - block.s
 -- ---- the refusal
 
 pub no_room_for_long : (old : Memory) (file : List ℕ) (blocks : List (Option Block)) → Accepted old.bytes → HasNoFault file → (IsTaken (store_of old.bytes) 0 (name_in file) → ⊥) → length (store_of old.bytes).databases < most_databases
-    → map (bytes_at file) blocks ≡ blocks_in file → All (IsWithin (length file)) blocks → (All IsShort blocks → ⊥) → DoesInStore old (calls.File (Import file)) (replies.Refused NotEnoughSpace) old
+    → map (bytes_at file) blocks ≡ blocks_in file → All (IsBlockWithin (length file)) blocks → (All IsShort blocks → ⊥) → DoesInStore old (calls.File (Import file)) (replies.Refused NotEnoughSpace) old
 no_room_for_long old file blocks a good free few are within not_all =
     let long = long_found blocks not_all in
     let inside = long.inside in

@@ -21,7 +21,7 @@ use Rattle.palm_store.specs.WholeDatabases.{size_of_data, data_sizes, CanCome, i
 use Rattle.pdb_format.specs.Blocks.{size_within}
 use Rattle.pdb_format.specs.ReadFiles.{header_read}
 use Rattle.pdb_files.specs.Plans.{IsPlannedAs, id_planned, ArePlannedOf, IsPlan}
-use Rattle.pdb_format.specs.Blocks.{bytes_at, IsWithin}
+use Rattle.pdb_format.specs.Blocks.{bytes_at, IsBlockWithin}
 use Rattle.pdb_files.specs.declared.importing.plan.Plan.{Plan}
 use Rattle.pdb_format.proofs.Zips.{numbered_zip, all_given, none_given}
 use Rattle.pdb_format.proofs.FileIds.{given_long, ids_of_records, ids_of_resources}
@@ -104,7 +104,7 @@ sizes_planned file ids sizes entries app sort are =
 
 pub planned : (file ids : List ℕ) (plan : Plan) (last : ℕ) → HaveIds (seed_in (header_in file).seed) (unique_ids (database_in file)) ids last → Distinct ids → IsDatabaseName plan.info.name → header_asked plan.info ≡ header_read file last
     → plan.info.entry_count ≡ entry_count_in file → plan.info.entry_count ≤ most_entries → ArePlannedOf file ids plan.entries.items (entry_count_in file)
-    → plan.sizes.app_info ≡ size_within (get_or plan.blocks.items 0 None) → plan.sizes.sort_info ≡ size_within (get_or plan.blocks.items 1 None) → map (bytes_at file) plan.blocks.items ≡ blocks_in file → All (IsWithin (length file)) plan.blocks.items
+    → plan.sizes.app_info ≡ size_within (get_or plan.blocks.items 0 None) → plan.sizes.sort_info ≡ size_within (get_or plan.blocks.items 1 None) → map (bytes_at file) plan.blocks.items ≡ blocks_in file → All (IsBlockWithin (length file)) plan.blocks.items
     → IsPlan file plan
 planned file ids plan last have distinct named header count few are app sort blocks inside =
     let entries : List WholeEntry = plan.entries.items in

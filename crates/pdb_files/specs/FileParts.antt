@@ -24,15 +24,15 @@ pub record MayBeRead (memory : Memory) (slot : ℕ) : Type 0 where
   pub here : IsLent memory slot → ⊥
 
 -- the database that these bytes spell names only chunks for data, and none of them is lent
-abbrev pub NamesData : Memory → List ℕ → Type 0
-NamesData memory bytes = All (MayBeRead memory) (data_in (database_in bytes))
+abbrev pub NamesReadableData : Memory → List ℕ → Type 0
+NamesReadableData memory bytes = All (MayBeRead memory) (data_in (database_in bytes))
 
 -- the bytes are those of a database of which no block is lent, and whose file is short enough for
 -- offsets of four bytes
 pub record IsExportable (memory : Memory) (bytes : List ℕ) : Type 0 where
   pub shape : HasShape bytes
   pub spelled : IsSpelled (database_in bytes) bytes
-  pub names : NamesData memory bytes
+  pub names : NamesReadableData memory bytes
   pub short : file_size (content_of memory.bytes bytes) < 2 ^ 32
 
 -- the offsets in the header of a database's file, and the offset where the data of its entries

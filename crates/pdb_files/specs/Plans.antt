@@ -6,7 +6,7 @@ use Rattle.heap_model.specs.Database.{Entry, a_record, a_resource, header_in, re
 use Rattle.heap_model.specs.Store.{unique_ids}
 use Rattle.heap_model.specs.Files.{HaveIds, idle_attributes, blocks_in}
 use Rattle.heap_model.specs.FileSteps.{size_of_block, block_sizes}
-use Rattle.pdb_format.specs.Blocks.{bytes_at, IsWithin}
+use Rattle.pdb_format.specs.Blocks.{bytes_at, IsBlockWithin}
 use Rattle.pdb_format.specs.ReadFiles.{header_read}
 use Rattle.pdb_format.specs.declared.blocks.Block.{Block}
 use Rattle.palm_store.specs.declared.databases.whole.WholeEntry.{WholeEntry}
@@ -58,4 +58,4 @@ pub record IsPlan (file : List ℕ) (plan : Plan) : Type 0 where
   pub entries : AllZip IsPlannedAs (database_in file).entries plan.entries.items
   pub sizes : data_sizes plan.sizes plan.entries.items ≡ block_sizes file
   pub blocks : map (bytes_at file) plan.blocks.items ≡ blocks_in file
-  pub inside : All (IsWithin (length file)) plan.blocks.items
+  pub inside : All (IsBlockWithin (length file)) plan.blocks.items

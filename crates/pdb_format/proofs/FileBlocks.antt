@@ -8,7 +8,7 @@ use Rattle.heap_model.specs.Files.{HasBadOffset, HasFault, HasNoFault, offsets_i
 use Rattle.heap_model.specs.FileSteps.{size_of_block}
 use Rattle.heap_model.specs.declared.file_fault.FileFault.TheVariants.{Truncated, BadOffset}
 use Rattle.laws_heap.proofs.Tests.{true_or_false}
-use Rattle.pdb_format.specs.Blocks.{bytes_at, IsWithin}
+use Rattle.pdb_format.specs.Blocks.{bytes_at, IsBlockWithin}
 use Rattle.pdb_format.specs.declared.blocks.Block.{Block}
 use Rattle.pdb_format.proofs.GoodFiles.{offset_count, entry_offset_is}
 use Rattle.pdb_format.specs.Blocks.{size_within}
@@ -26,7 +26,7 @@ block_of file blocks rank are inside = sym (get_or-map (bytes_at file) blocks ra
 
 -- ---- how many bytes
 
-pub size_is : (file : List ℕ) (block : Option Block) → IsWithin (length file) block → size_within block ≡ size_of_block (bytes_at file block)
+pub size_is : (file : List ℕ) (block : Option Block) → IsBlockWithin (length file) block → size_within block ≡ size_of_block (bytes_at file block)
 size_is file None within = refl
 size_is file (Some block) within =
     let first = within.0 in
@@ -36,7 +36,7 @@ size_is file (Some block) within =
     let is : block.end - block.start ≡ length (slice_range file block.start block.end) = omega arith in
     ap (λ (n : ℕ). Some n) is
 
-pub size_at : (file : List ℕ) (blocks : List (Option Block)) (rank : ℕ) (size : Option ℕ) → map (bytes_at file) blocks ≡ blocks_in file → All (IsWithin (length file)) blocks → rank < length blocks → size ≡ size_within (get_or blocks rank None)
+pub size_at : (file : List ℕ) (blocks : List (Option Block)) (rank : ℕ) (size : Option ℕ) → map (bytes_at file) blocks ≡ blocks_in file → All (IsBlockWithin (length file)) blocks → rank < length blocks → size ≡ size_within (get_or blocks rank None)
     → size ≡ size_of_block (get_or (blocks_in file) rank None)
 size_at file blocks rank size are within inside is =
     is ∙ size_is file (get_or blocks rank None) (within rank None inside) ∙ ap size_of_block (block_of file blocks rank are inside)

@@ -1,20 +1,19 @@
 -- Blocks that are put down at their ranks, one start after the other.
-use Rattle.std.proofs.Common.{◌≡◌, ℕ, ◌+◌, ◌<◌, ◌≤◌, List, length, get_or, set, map, Option, Some, None, sym, ap, subst, ◌∙◌, arith, inl, inr}
-use Rattle.std.specs.Prelude.{◌^◌, min, slice_range, slice_index}
-use Rattle.std.specs.List.{All, fold, sum_by}
+use Rattle.std.proofs.Common.{◌≡◌, ℕ, zero, suc, ◌+◌, ◌<◌, ◌≤◌, List, [], ◌∷◌, length, get_or, set, map, Option, Some, None, refl, sym, ap, subst, ◌∙◌, arith, inl, inr}
+use Rattle.std.specs.Prelude.{◌^◌, min, slice_index}
+use Rattle.std.specs.List.{All, fold, sum_by, range_with_len}
 use Rattle.std.specs.List.Sorted.{IsPermutation, IsNonDecreasingBy}
 use Rattle.std.proofs.lemmas.Bool.{cases_eq, cases_lt}
-use Rattle.std.proofs.lemmas.List.{length-map, length-set, get_or-map, get_or_past, get_or_default, get_or-set_same, get_or-set_other}
+use Rattle.std.proofs.lemmas.List.{length-map, length-set, get_or_past, get_or_default, get_or-set_same, get_or-set_other}
 use Rattle.std.proofs.lemmas.List.FromFn.{fill_by_all}
 use Rattle.std.proofs.lemmas.List.Sums.{sum_by-set, sum_by-le}
 use Rattle.heap_model.specs.Files.{starts_behind, offsets_in, block_end, block_at, blocks_in, HasNoFault}
 use Rattle.pdb_format.specs.declared.starts.Start.{Start}
 use Rattle.pdb_format.specs.declared.blocks.Block.{Block}
 use Rattle.pdb_format.specs.Starts.{starts_in, order, begins}
-use Rattle.pdb_format.specs.Blocks.{bytes_at, IsWithin, length_within}
+use Rattle.pdb_format.specs.Blocks.{bytes_at, place_at, places_in, IsBlockWithin, length_within}
 use Rattle.pdb_format.proofs.GoodFiles.{offset_inside_file}
 use Rattle.pdb_format.proofs.SortedStarts.{none, AreSorted, items_are, ranks_apart, start_found, begins_inside, sorted_end}
-use Rattle.pdb_format.proofs.WrittenBlocks.{block_there}
 
 -- the block of an index among sorted starts
 abbrev pub placed : ℕ → List Start → ℕ → Block
@@ -59,23 +58,30 @@ put_more offsets last items blocks index sorted inside are =
           ∙ are.rest other (λ j less e. none_has j (omega arith) e);
     }
 
--- once all are put down, they are the blocks of the file
-pub all_put : (file : List ℕ) (items : List Start) (blocks : List (Option Block)) → AreSorted (offsets_in file) (length file) items → ArePut (offsets_in file) (length file) items blocks (length items)
-    → map (bytes_at file) blocks ≡ blocks_in file
-all_put file items blocks sorted are =
+-- a block that begins after the file's start
+some_block : ℕ → ℕ → Option Block
+some_block start end = Some (record { start = start; end = end })
+
+place_there : (file : List ℕ) (rank at : ℕ) → 0 < at → place_at file rank at ≡ some_block at (block_end file rank at)
+unfolding some_block
+place_there file rank zero low = absurd (omega arith)
+place_there file rank (suc at) low = refl
+
+-- once all are put down, each is at its place
+pub all_placed : (file : List ℕ) (items : List Start) (blocks : List (Option Block)) → AreSorted (offsets_in file) (length file) items → ArePut (offsets_in file) (length file) items blocks (length items)
+    → blocks ≡ places_in file
+unfolding some_block
+all_placed file items blocks sorted are =
     let offsets : List ℕ = offsets_in file in
-    let long = length-map blocks (bytes_at file) in
-    let room = are.room in
-    fill_by_all (λ rank. block_at file rank (slice_index offsets rank)) (map (bytes_at file) blocks) (length offsets) None (long ∙ room) (λ rank inside.
-    get_or-map (bytes_at file) blocks rank None None (omega arith)
-    ∙ elim (cases_eq (get_or offsets rank 0) 0) [
+    fill_by_all (λ rank. place_at file rank (slice_index offsets rank)) blocks (length offsets) None are.room (λ rank inside.
+    elim (cases_eq (get_or offsets rank 0) 0) [
       | inl absent ↦
           let no_start : (j : ℕ) → j < length items → (get_or items j none).rank ≡ rank → ⊥ = λ j less e.
           let own = items_are offsets (length file) items sorted j less in
           let some = own.1 in
           let at = own.0.1 ∙ ap (λ (r : ℕ). get_or offsets r 0) e in
           omega arith in
-          ap (bytes_at file) (are.rest rank no_start) ∙ ap (block_at file rank) (sym absent)
+          are.rest rank no_start ∙ ap (place_at file rank) (sym absent)
       | inr there ↦
           let found = start_found offsets (length file) items sorted rank inside (omega arith) in
           let at = found.3 in
@@ -85,15 +91,30 @@ all_put file items blocks sorted are =
           sym ends
           ∙ ap (λ (r : ℕ). fold min (length file) (starts_behind offsets r (get_or items found.0 none).at)) found.2
           ∙ ap (λ (o : ℕ). fold min (length file) (starts_behind offsets rank o)) at in
-          ap (bytes_at file) block
-          ∙ ap (λ (o : ℕ). Some (slice_range file o (begins (length file) items (found.0 + 1)))) at
-          ∙ ap (λ (e : ℕ). Some (slice_range file (get_or offsets rank 0) e)) end_is
-          ∙ sym (block_there file rank (get_or offsets rank 0) (omega arith))
+          block
+          ∙ ap (λ (o : ℕ). some_block o (begins (length file) items (found.0 + 1))) at
+          ∙ ap (some_block (get_or offsets rank 0)) end_is
+          ∙ sym (place_there file rank (get_or offsets rank 0) (omega arith))
     ])
+
+-- the bytes at the places are the blocks
+bytes_of_place : (file : List ℕ) (rank at : ℕ) → bytes_at file (place_at file rank at) ≡ block_at file rank at
+bytes_of_place file rank zero = refl
+bytes_of_place file rank (suc at) = refl
+
+bytes_of_places : (file : List ℕ) (ranks : List ℕ) → map (bytes_at file) (map (λ rank. place_at file rank (slice_index (offsets_in file) rank)) ranks) ≡ map (λ rank. block_at file rank (slice_index (offsets_in file) rank)) ranks
+bytes_of_places file [] = refl
+bytes_of_places file (rank ∷ ranks) =
+    let at = slice_index (offsets_in file) rank in
+    ap (λ (x : Option (List ℕ)). x ∷ map (bytes_at file) (map (λ r. place_at file r (slice_index (offsets_in file) r)) ranks)) (bytes_of_place file rank at)
+    ∙ ap (λ (xs : List (Option (List ℕ))). block_at file rank at ∷ xs) (bytes_of_places file ranks)
+
+pub all_put : (file : List ℕ) (blocks : List (Option Block)) → blocks ≡ places_in file → map (bytes_at file) blocks ≡ blocks_in file
+all_put file blocks placed = ap (map (bytes_at file)) placed ∙ bytes_of_places file (range_with_len 0 (length (offsets_in file)))
 
 -- ---- they lie within the file
 
-placed_within : (offsets : List ℕ) (last : ℕ) (items : List Start) → AreSorted offsets last items → (index : ℕ) → index < length items → IsWithin last (Some (placed last items index))
+placed_within : (offsets : List ℕ) (last : ℕ) (items : List Start) → AreSorted offsets last items → (index : ℕ) → index < length items → IsBlockWithin last (Some (placed last items index))
 placed_within offsets last items sorted index inside =
     let own = (items_are offsets last items sorted index inside).0 in
     let own_inside = own.0 in
@@ -115,22 +136,22 @@ placed_within offsets last items sorted index inside =
           (omega arith, omega arith)
     ]
 
-pub all_within : (offsets : List ℕ) (last : ℕ) (items : List Start) (blocks : List (Option Block)) → AreSorted offsets last items → ArePut offsets last items blocks (length items) → All (IsWithin last) blocks
+pub all_within : (offsets : List ℕ) (last : ℕ) (items : List Start) (blocks : List (Option Block)) → AreSorted offsets last items → ArePut offsets last items blocks (length items) → All (IsBlockWithin last) blocks
 all_within offsets last items blocks sorted are = λ rank d inside.
     let room = are.room in
     let same = get_or_default blocks rank d None inside in
-    subst (IsWithin last) (sym same) (elim (cases_eq (get_or offsets rank 0) 0) [
+    subst (IsBlockWithin last) (sym same) (elim (cases_eq (get_or offsets rank 0) 0) [
       | inl absent ↦
           let no_start : (j : ℕ) → j < length items → (get_or items j none).rank ≡ rank → ⊥ = λ j less e.
           let own = items_are offsets last items sorted j less in
           let some = own.1 in
           let at = own.0.1 ∙ ap (λ (r : ℕ). get_or offsets r 0) e in
           omega arith in
-          subst (IsWithin last) (sym (are.rest rank no_start)) tt
+          subst (IsBlockWithin last) (sym (are.rest rank no_start)) tt
       | inr there ↦
           let found = start_found offsets last items sorted rank (omega arith) (omega arith) in
           let block = ap (λ (r : ℕ). get_or blocks r None) (sym found.2) ∙ are.put found.0 found.1 in
-          subst (IsWithin last) (sym block) (placed_within offsets last items sorted found.0 found.1)
+          subst (IsBlockWithin last) (sym block) (placed_within offsets last items sorted found.0 found.1)
     ])
 
 -- ---- they take no more than the file

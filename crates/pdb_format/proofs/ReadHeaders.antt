@@ -4,10 +4,10 @@ use Rattle.std.proofs.lemmas.List.FromFn.{length-map-range_with_len}
 use Rattle.heap_model.specs.UniqueIds.{with_seed}
 use Rattle.heap_model.specs.Database.{DatabaseHeader, name_in, header_in, entry_count_in, entry_in, database_in}
 use Rattle.db_format.specs.declared.header.DbHeader.{DbHeader}
-use Rattle.db_format.specs.Headers.{header_of, HasHeader}
+use Rattle.db_format.specs.Headers.{header_values, IsHeaderOf}
 use Rattle.pdb_format.specs.ReadFiles.{header_read}
 
-values_are : (file : List ℕ) (header : DbHeader) → HasHeader (database_in file) header → header_of header ≡ header_in file
+values_are : (file : List ℕ) (header : DbHeader) → IsHeaderOf (database_in file) header → header_values header ≡ header_in file
 unfolding database_in
 values_are file header has = has.values
 
@@ -15,10 +15,10 @@ named : (file : List ℕ) → (header_in file).name ≡ name_in file
 unfolding header_in
 named file = refl
 
-pub name_is : (file : List ℕ) (header : DbHeader) → HasHeader (database_in file) header → header.name ≡ name_in file
+pub name_is : (file : List ℕ) (header : DbHeader) → IsHeaderOf (database_in file) header → header.name ≡ name_in file
 name_is file header has = ap (λ (h : DatabaseHeader). h.name) (values_are file header has) ∙ named file
 
-pub count_is : (file : List ℕ) (header : DbHeader) → HasHeader (database_in file) header → header.entry_count ≡ entry_count_in file
+pub count_is : (file : List ℕ) (header : DbHeader) → IsHeaderOf (database_in file) header → header.entry_count ≡ entry_count_in file
 unfolding database_in
 count_is file header has = has.entry_count ∙ length-map-range_with_len (entry_in file) 0 (entry_count_in file)
 
@@ -29,9 +29,9 @@ seed_set field seed = omega arith
 seeded : DatabaseHeader → ℕ → DatabaseHeader
 seeded header seed = record header { seed = seed }
 
-pub header_is : (file : List ℕ) (header : DbHeader) (seed : ℕ) → HasHeader (database_in file) header
-    → record (header_of header) { seed = header.seed / 16777216 * 16777216 + seed } ≡ header_read file seed
+pub header_is : (file : List ℕ) (header : DbHeader) (seed : ℕ) → IsHeaderOf (database_in file) header
+    → record (header_values header) { seed = header.seed / 16777216 * 16777216 + seed } ≡ header_read file seed
 unfolding seeded
 header_is file header seed has =
-    ap (λ (s : ℕ). seeded (header_of header) s) (seed_set header.seed seed)
+    ap (λ (s : ℕ). seeded (header_values header) s) (seed_set header.seed seed)
     ∙ ap (λ (h : DatabaseHeader). seeded h (with_seed h.seed seed)) (values_are file header has)

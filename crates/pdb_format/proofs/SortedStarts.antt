@@ -14,7 +14,7 @@ use Rattle.heap_model.specs.Files.{starts_behind}
 use Rattle.laws_heap.proofs.Tests.{true_or_false, leb-is-true}
 use Rattle.laws_store.proofs.Times.{same-yes, same-no}
 use Rattle.pdb_format.specs.declared.starts.Start.{Start}
-use Rattle.pdb_format.specs.Starts.{start_of, is_there, starts_in, order, begins}
+use Rattle.pdb_format.specs.Starts.{start_of, is_block_there, starts_in, order, begins}
 
 -- ---- the least of some numbers
 
@@ -79,15 +79,15 @@ none = record { at = 0; rank = 0 }
 
 -- the starts of the blocks of the first ranks
 abbrev pub first_starts : List ℕ → ℕ → List Start
-first_starts offsets count = filter is_there (numbered (start_of offsets) count)
+first_starts offsets count = filter is_block_there (numbered (start_of offsets) count)
 
 -- how often a rank stands among one start more
-more_ranked : (offsets : List ℕ) (rank count : ℕ) → ranked rank (first_starts offsets (suc count)) ≡ ranked rank (first_starts offsets count) + ranked rank (cond (is_there (start_of offsets count)) (start_of offsets count ∷ []) [])
+more_ranked : (offsets : List ℕ) (rank count : ℕ) → ranked rank (first_starts offsets (suc count)) ≡ ranked rank (first_starts offsets count) + ranked rank (cond (is_block_there (start_of offsets count)) (start_of offsets count ∷ []) [])
 more_ranked offsets rank count =
     let next : suc count ≡ count + 1 = omega arith in
     ap (λ (n : ℕ). ranked rank (first_starts offsets n)) next
-    ∙ ap (ranked rank) (filter_of_map_range_with_len_more is_there (start_of offsets) 0 count count (omega arith))
-    ∙ sum_by-append (λ (start : Start). same rank start.rank) (first_starts offsets count) (cond (is_there (start_of offsets count)) (start_of offsets count ∷ []) [])
+    ∙ ap (ranked rank) (filter_of_map_range_with_len_more is_block_there (start_of offsets) 0 count count (omega arith))
+    ∙ sum_by-append (λ (start : Start). same rank start.rank) (first_starts offsets count) (cond (is_block_there (start_of offsets count)) (start_of offsets count ∷ []) [])
 
 one_ranked : (offsets : List ℕ) (rank count : ℕ) (there : Bool) → ranked rank (cond there (start_of offsets count ∷ []) []) ≤ same rank count
 one_ranked offsets rank count true = omega arith
@@ -100,7 +100,7 @@ ranked_once offsets rank (suc count) =
     let before = ranked_once offsets rank count in
     let most = before.0 in
     let more = more_ranked offsets rank count in
-    let one = one_ranked offsets rank count (is_there (start_of offsets count)) in
+    let one = one_ranked offsets rank count (is_block_there (start_of offsets count)) in
     elim (cases_eq rank count) [
       | inl e ↦
           let zero_before = before.1 (omega arith) in
@@ -112,15 +112,15 @@ ranked_once offsets rank (suc count) =
     ]
 
 -- and once, if its block is there
-ranked_there : (offsets : List ℕ) (rank count : ℕ) → rank < count → is_there (start_of offsets rank) ≡ true → 1 ≤ ranked rank (first_starts offsets count)
+ranked_there : (offsets : List ℕ) (rank count : ℕ) → rank < count → is_block_there (start_of offsets rank) ≡ true → 1 ≤ ranked rank (first_starts offsets count)
 ranked_there offsets rank zero inside there = absurd (omega arith)
 ranked_there offsets rank (suc count) inside there =
     let more = more_ranked offsets rank count in
     elim (cases_eq rank count) [
       | inl e ↦
           let one_more = same-yes rank count e in
-          let here : is_there (start_of offsets count) ≡ true = subst (λ (r : ℕ). is_there (start_of offsets r) ≡ true) e there in
-          let one : ranked rank (cond (is_there (start_of offsets count)) (start_of offsets count ∷ []) []) ≡ 0 + same rank count = ap (λ (b : Bool). ranked rank (cond b (start_of offsets count ∷ []) [])) here in
+          let here : is_block_there (start_of offsets count) ≡ true = subst (λ (r : ℕ). is_block_there (start_of offsets r) ≡ true) e there in
+          let one : ranked rank (cond (is_block_there (start_of offsets count)) (start_of offsets count ∷ []) []) ≡ 0 + same rank count = ap (λ (b : Bool). ranked rank (cond b (start_of offsets count ∷ []) [])) here in
           omega arith
       | inr ne ↦ let before = ranked_there offsets rank count (omega arith) there in omega arith
     ]
@@ -174,8 +174,8 @@ pub record AreSorted (offsets : List ℕ) (last : ℕ) (items : List Start) : Ty
 
 pub items_are : (offsets : List ℕ) (last : ℕ) (items : List Start) → AreSorted offsets last items → (k : ℕ) → k < length items → IsStart offsets (get_or items k none) × (0 < (get_or items k none).at)
 items_are offsets last items sorted k inside =
-    let starts = All-permutation (IsStart offsets) (starts_in offsets) items sorted.all (All-filter is_there (IsStart offsets) (numbered (start_of offsets) (length offsets)) (starts_are offsets)) in
-    let there = All-permutation (λ (start : Start). is_there start ≡ true) (starts_in offsets) items sorted.all (filter_passes is_there (numbered (start_of offsets) (length offsets))) in
+    let starts = All-permutation (IsStart offsets) (starts_in offsets) items sorted.all (All-filter is_block_there (IsStart offsets) (numbered (start_of offsets) (length offsets)) (starts_are offsets)) in
+    let there = All-permutation (λ (start : Start). is_block_there start ≡ true) (starts_in offsets) items sorted.all (filter_passes is_block_there (numbered (start_of offsets) (length offsets))) in
     (starts k none inside, ltb-true 0 (get_or items k none).at (there k none inside))
 
 -- each rank is as often among them as among the starts of the file
@@ -306,14 +306,14 @@ sorted_end offsets last items sorted i inside = elim (cases_lt (i + 1) (length i
 
 pub one_more : (offsets : List ℕ) (rank at : ℕ) → at ≡ slice_index offsets rank → 0 < at → first_starts offsets rank ++ record { at = at; rank = rank } ∷ [] ≡ first_starts offsets (rank + 1)
 one_more offsets rank at is some =
-    let there : is_there (start_of offsets rank) ≡ true = lt-ltb 0 (slice_index offsets rank) (omega arith) in
+    let there : is_block_there (start_of offsets rank) ≡ true = lt-ltb 0 (slice_index offsets rank) (omega arith) in
     ap (λ (n : ℕ). first_starts offsets rank ++ record { at = n; rank = rank } ∷ []) is
     ∙ ap (λ (b : Bool). first_starts offsets rank ++ cond b (start_of offsets rank ∷ []) []) (sym there)
-    ∙ sym (filter_of_map_range_with_len_more is_there (start_of offsets) 0 rank rank (omega arith))
+    ∙ sym (filter_of_map_range_with_len_more is_block_there (start_of offsets) 0 rank rank (omega arith))
 
 pub none_more : (offsets : List ℕ) (rank at : ℕ) → at ≡ slice_index offsets rank → at ≡ 0 → first_starts offsets rank ≡ first_starts offsets (rank + 1)
 none_more offsets rank at is zero_at =
-    let there : is_there (start_of offsets rank) ≡ false = le-ltb 0 (slice_index offsets rank) (omega arith) in
+    let there : is_block_there (start_of offsets rank) ≡ false = le-ltb 0 (slice_index offsets rank) (omega arith) in
     sym (append-nil (first_starts offsets rank))
     ∙ ap (λ (b : Bool). first_starts offsets rank ++ cond b (start_of offsets rank ∷ []) []) (sym there)
-    ∙ sym (filter_of_map_range_with_len_more is_there (start_of offsets) 0 rank rank (omega arith))
+    ∙ sym (filter_of_map_range_with_len_more is_block_there (start_of offsets) 0 rank rank (omega arith))

@@ -8,12 +8,12 @@ abbrev pub start_of : List ℕ → ℕ → Start
 start_of offsets rank = record { at = slice_index offsets rank; rank = rank }
 
 -- the file has the block
-abbrev pub is_there : Start → Bool
-is_there start = nat_lt 0 start.at
+abbrev pub is_block_there : Start → Bool
+is_block_there start = nat_lt 0 start.at
 
 -- the starts of the blocks that the file has, by rank
 abbrev pub starts_in : List ℕ → List Start
-starts_in offsets = filter is_there (numbered (start_of offsets) (length offsets))
+starts_in offsets = filter is_block_there (numbered (start_of offsets) (length offsets))
 
 -- blocks are sorted by their offset, and at the same offset by their rank
 abbrev pub order : Start → ℕ

@@ -5,7 +5,7 @@ ghost use Rattle.std.specs.List.Sorted.{IsPermutation, IsNonDecreasingBy};
 ghost use Rattle.heap_model.specs.Files.{offsets_in, blocks_in, HasNoFault};
 ghost use Rattle.pdb_format.specs.Starts.{starts_in, order, begins};
 ghost use Rattle.std.specs.List.{sum_by};
-ghost use Rattle.pdb_format.specs.Blocks.{bytes_at, IsWithin, length_within};
+ghost use Rattle.pdb_format.specs.Blocks.{bytes_at, places_in, IsBlockWithin, length_within};
 ghost use Rattle.allowance.specs.Refusals.{GrowthRefused};
 
 use crate::starts::{Start, rank_count, sorted_starts};
@@ -41,8 +41,9 @@ fn put_blocks(file: &[u8], starts: &[Start], blocks: &mut [Option<Block>])
     requires room { length blocks.old ≡ length (offsets_in file.now) }
     requires few { length (offsets_in file.now) ≤ 65537 }
     requires empty { All (λ block. block ≡ None) blocks.old }
+    ensures places { blocks.new ≡ places_in file.now }
     ensures are { map (bytes_at file.now) blocks.new ≡ blocks_in file.now }
-    ensures inside { All (IsWithin (length file.now)) blocks.new }
+    ensures inside { All (IsBlockWithin (length file.now)) blocks.new }
     ensures total { sum_by length_within blocks.new ≤ length file.now }
 {
     for index in 0..starts.len() {
@@ -62,8 +63,9 @@ fn put_blocks(file: &[u8], starts: &[Start], blocks: &mut [Option<Block>])
 /// - `AllocError`: if an allocation failed.
 pub fn find_blocks(alloc: Global, file: &[u8]) -> Result<Vec<Option<Block>>, AllocError>
     requires { HasNoFault file.now }
+    ensures places { IfOk result (λ blocks. blocks.items ≡ places_in file.now) }
     ensures are { IfOk result (λ blocks. map (bytes_at file.now) blocks.items ≡ blocks_in file.now) }
-    ensures inside { IfOk result (λ blocks. All (IsWithin (length file.now)) blocks.items) }
+    ensures inside { IfOk result (λ blocks. All (IsBlockWithin (length file.now)) blocks.items) }
     ensures total { IfOk result (λ blocks.
         sum_by length_within blocks.items ≤ length file.now) }
     ensures short { OnErr result GrowthRefused }
@@ -81,8 +83,9 @@ pub fn find_blocks_from<A: Allowance>(
     file: &[u8],
 ) -> Result<Vec<Option<Block>>, AllocError>
     requires { HasNoFault file.now }
+    ensures places { IfOk result (λ blocks. blocks.items ≡ places_in file.now) }
     ensures are { IfOk result (λ blocks. map (bytes_at file.now) blocks.items ≡ blocks_in file.now) }
-    ensures inside { IfOk result (λ blocks. All (IsWithin (length file.now)) blocks.items) }
+    ensures inside { IfOk result (λ blocks. All (IsBlockWithin (length file.now)) blocks.items) }
     ensures total { IfOk result (λ blocks.
         sum_by length_within blocks.items ≤ length file.now) }
     ensures short { OnErr result (A.is_short memory.now) }

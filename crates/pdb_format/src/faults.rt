@@ -9,14 +9,16 @@ ghost use Rattle.heap_model.specs.Files.{HasFault};
 ghost use Rattle.heap_model.specs.declared.file_fault.FileFault.TheVariants.{Truncated, BadOffset};
 ghost use Rattle.db_format.specs.EitherEntry.{entry_of};
 
-use db_format::{DbEntry, HEADER_SIZE, app_info, entry_count, name_in, next_list, sort_info};
+use db_format::{
+    DATABASE_HEADER_SIZE, DbEntry, app_info, entry_count, name_in, next_list, sort_info,
+};
 use heap_model::{FileFault, Which};
 
 /// Returns whether the file ends before its header does, or before its list of entries does.
 fn is_truncated(file: &[u8]) -> bool
     ensures { IsTrue result ↔ HasFault file.now Truncated }
 {
-    file.len() < HEADER_SIZE || file.len() < db_format::entries_end(file)
+    file.len() < DATABASE_HEADER_SIZE || file.len() < db_format::entries_end(file)
 }
 
 /// Returns whether no block may begin at this offset: it is before the end of the entries, or after

@@ -21,7 +21,7 @@ pub enum Form {
 /// The request of the words.
 #[derive(Drop)]
 pub enum Request<'a> {
-    /// A command that the program `palmheap_base` has too.
+    /// A command that the program `palmheap_images` has too.
     Base(BaseRequest<'a>),
     Run {
         image: &'a str,
@@ -58,7 +58,7 @@ pub enum Request<'a> {
     },
 }
 
-/// The request of a command of the smaller program `palmheap_base`.
+/// The request of a command of the smaller program `palmheap_images`.
 #[derive(Drop)]
 pub enum BaseRequest<'a> {
     New { size: u32, slots: u16, out: &'a str },

@@ -1,9 +1,11 @@
 //! The lines on standard error if a run failed: `fault` and a word, and after `fault read` and
-//! `fault write` a line with the file and the reason.
+//! `fault write` a line with the file and the reason. A pipe that its reader has closed is not
+//! reported if it is the main output of a command.
 
 use crate::input::InputFault;
 use crate::status::Status;
 use std::io;
+use std::io::ErrorKind;
 
 /// Prints `fault` and the word of the status, if it has one.
 pub fn report_fault<R: Eprint>(rt: &R, status: Status) {
@@ -29,12 +31,16 @@ pub fn report_write_fault<R: Eprint>(rt: &R, file: &str, reason: io::Error) {
 }
 
 /// Prints why a command failed, if it did. `outputs` has each output with the first error of its
-/// writer. The first output with an error is named.
+/// writer, the main output first. The first output with an error is named. Prints nothing if that is
+/// the main output, a pipe that its reader has closed, as `head` does: its user wants no more of it.
 pub fn report_outcome<R: Eprint>(rt: &R, status: Status, outputs: &[(&str, Option<io::Error>)]) {
     if status == Status::WriteFault {
-        for (file, fault) in outputs {
+        for (index, (file, fault)) in outputs.iter().enumerate() {
             if let Some(reason) = fault {
-                return report_write_fault(rt, file, *reason);
+                if index > 0 || reason.kind() != ErrorKind::BrokenPipe {
+                    report_write_fault(rt, file, *reason);
+                }
+                return;
             }
         }
     }

@@ -12,10 +12,10 @@ use std::io::{ErrorKind, Read};
 use thiserror::Error;
 
 /// The greatest size of an input file in bytes.
-pub const INPUT_LIMIT: usize = 16_777_216;
+pub const MOST_INPUT: usize = 16_777_216;
 
 /// The greatest number of bytes that one read asks for.
-const TURN: usize = 65_536;
+pub const MOST_READ: usize = 65_536;
 
 /// The reason why a file could not be read.
 #[derive(Clone, Copy, Debug, Error)]
@@ -23,8 +23,8 @@ pub enum InputFault {
     /// The file couldn't be opened, or a read failed.
     #[error("{0}")]
     Read(io::Error),
-    /// The file has more than `INPUT_LIMIT` bytes.
-    #[error("longer than {INPUT_LIMIT} bytes")]
+    /// The file has more than `MOST_INPUT` bytes.
+    #[error("longer than {MOST_INPUT} bytes")]
     TooLong,
     /// An allocation failed.
     #[error("out of memory")]
@@ -45,22 +45,22 @@ impl From<io::Error> for InputFault {
     }
 }
 
-/// Reads to the end, at most `TURN` bytes at a time, until a read gives no byte.
+/// Reads to the end, at most `MOST_READ` bytes at a time, until a read gives no byte.
 ///
-/// It stops at the read with which the bytes are more than `INPUT_LIMIT`.
+/// It stops at the read with which the bytes are more than `MOST_INPUT`.
 ///
 /// # Errors
 ///
 /// - `Read`: if a read failed.
-/// - `TooLong`: if the reader gives more than `INPUT_LIMIT` bytes.
+/// - `TooLong`: if the reader gives more than `MOST_INPUT` bytes.
 /// - `Memory`: if an allocation failed.
 pub fn read_input<R: Read>(alloc: Global, reader: &mut R) -> Result<Vec<u8>, InputFault>
-    ensures limit { IfOk result (λ bytes. vec_len bytes ≤ INPUT_LIMIT) }
+    ensures limit { IfOk result (λ bytes. vec_len bytes ≤ MOST_INPUT) }
     ensures bytes { IfOk result (λ bytes.
         IfSome (R.remaining reader.old) (λ all. bytes.items ≡ all)) }
     ensures end { OnOk result (IsAtEnd (R.remaining reader.new)) }
     ensures too_long { result ≡ Err InputFault.TooLong
-        → IfSome (R.remaining reader.old) (λ all. INPUT_LIMIT < length all) }
+        → IfSome (R.remaining reader.old) (λ all. MOST_INPUT < length all) }
     ensures no_memory { result ≡ Err InputFault.Memory → GrowthRefused }
 {
     read_input_from(&alloc, reader)
@@ -71,15 +71,15 @@ pub fn read_input_from<A: Allowance, R: Read>(
     memory: &A,
     reader: &mut R,
 ) -> Result<Vec<u8>, InputFault>
-    ensures limit { IfOk result (λ bytes. vec_len bytes ≤ INPUT_LIMIT) }
+    ensures limit { IfOk result (λ bytes. vec_len bytes ≤ MOST_INPUT) }
     ensures bytes { IfOk result (λ bytes.
         IfSome (R.remaining reader.old) (λ all. bytes.items ≡ all)) }
     ensures end { OnOk result (IsAtEnd (R.remaining reader.new)) }
     ensures too_long { result ≡ Err InputFault.TooLong
-        → IfSome (R.remaining reader.old) (λ all. INPUT_LIMIT < length all) }
+        → IfSome (R.remaining reader.old) (λ all. MOST_INPUT < length all) }
     ensures no_memory { result ≡ Err InputFault.Memory → A.is_short memory.now }
 {
-    let Ok(mut turn) = buffer(memory, TURN) else {
+    let Ok(mut turn) = buffer(memory, MOST_READ) else {
         return Err(InputFault::Memory);
     };
     let mut bytes = Vec::new(memory.allocator());
@@ -101,7 +101,7 @@ fn buffer<A: Allowance>(memory: &A, n: usize) -> Result<Vec<u8>, AllocError>
 /// # Errors
 ///
 /// - `Read`: if the read failed.
-/// - `TooLong`: if the bytes are more than `INPUT_LIMIT`.
+/// - `TooLong`: if the bytes are more than `MOST_INPUT`.
 /// - `Memory`: if an allocation failed.
 pub fn read_turn<A: Allowance, R: Read>(
     memory: &A,
@@ -110,8 +110,8 @@ pub fn read_turn<A: Allowance, R: Read>(
     bytes: &mut Vec<u8>,
 ) -> Result<usize, InputFault>
     requires room { 0 < length turn.old }
-    requires limit { vec_len bytes.old ≤ INPUT_LIMIT }
-    ensures limit { OnOk result (vec_len bytes.new ≤ INPUT_LIMIT) }
+    requires limit { vec_len bytes.old ≤ MOST_INPUT }
+    ensures limit { OnOk result (vec_len bytes.new ≤ MOST_INPUT) }
     ensures count { IfOk result (λ n. vec_len bytes.new ≡ vec_len bytes.old + n) }
     ensures front { OnOk result (StartsWith bytes.new.items bytes.old.items) }
     ensures kept { OnOk result (Keeps
@@ -120,14 +120,14 @@ pub fn read_turn<A: Allowance, R: Read>(
     ensures end { IfOk result (λ n. n ≡ 0 → IsAtEnd (R.remaining reader.new)) }
     ensures too_long { result ≡ Err InputFault.TooLong
         → IfSome (prepend_known bytes.old.items (R.remaining reader.old))
-        (λ all. INPUT_LIMIT < length all) }
+        (λ all. MOST_INPUT < length all) }
     ensures no_memory { result ≡ Err InputFault.Memory → A.is_short memory.now }
 {
     let n = match reader.read(turn) {
         Ok(n) => n,
         Err(error) => return Err(InputFault::Read(error)),
     };
-    if n > INPUT_LIMIT - bytes.len() {
+    if n > MOST_INPUT - bytes.len() {
         return Err(InputFault::TooLong);
     }
     match extend(memory, bytes, &turn[..n]) {

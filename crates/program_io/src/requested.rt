@@ -31,7 +31,7 @@ fn image_requested<'a>(name: &str, given: &ArgMatches<'a>) -> Option<Request<'a>
     }
 }
 
-/// Returns the request of a command of the program `palmheap_base`.
+/// Returns the request of a command of the program `palmheap_images`.
 fn base_requested<'a>(name: &str, given: &ArgMatches<'a>) -> Option<BaseRequest<'a>> {
     match name {
         "new" => new_requested(given),

@@ -1,6 +1,6 @@
 -- A part of bytes with holes is taken out of what is owned, and put back; and what a `&` to them
 -- shows of it. Assumes `Logic`.
-use Rattle.std.proofs.Common.{◌≡◌, ℕ, ◌+◌, ◌-◌, ◌<◌, ◌≤◌, Bool, true, false, List, [], ◌∷◌, ◌++◌, length, take, drop as drop_l, replicate, slice_range, length-take, length-drop, take-append-drop, refl, sym, ap, ◌∙◌, arith, inl, inr}
+use Rattle.std.proofs.Common.{◌≡◌, ℕ, ◌+◌, ◌-◌, ◌<◌, ◌≤◌, Bool, List, [], ◌∷◌, ◌++◌, length, take, drop as drop_l, replicate, slice_range, length-take, length-drop, take-append-drop, refl, sym, ap, arith, inl, inr}
 use Rattle.std.specs.Prelude.{◌⊎◌, Some}
 use Rattle.std.proofs.lemmas.List.{length-replicate}
 use seplogic.Ra.Ura.{Ura}
@@ -9,7 +9,7 @@ use base.Logic.{ent, sep, emp, id⊢, never_e}
 use base.Fml.{Fml, Lft, ftrue, fsep}
 use contract.Monad.{fact, fact_i}
 use types.Logic.{Logic, sem}
-use types.Kit.{‵, raw, ◌⊛◌, ◌$◌, ◌∵◌, !, qed, by, move, keep, drop, use0, use1, use2, split, rewrite, fsplit, fjoin, done}
+use types.Kit.{‵, raw, ◌⊛◌, ◌$◌, ◌∵◌, !, qed, move, keep, drop, use0, use1, use2, split, rewrite, fsplit, fjoin, done}
 use types.SemTy.{cells}
 use denote.Builtin.{u8}
 use denote.Index.{row, whole_in, whole_out}
@@ -18,14 +18,14 @@ use denote.RawPtr.{Ptr, block_ptr, null_ptr, block_of, count_of, InBlock}
 use denote.Slice.{elements_shared}
 use denote.Steps.{heard}
 use Rattle.heap_model.specs.Bytes.{overwritten}
-use Rattle.raw_region.specs.Ownership.{each_but, owned_but, shared_but, bytes_but, bytes_but_lent}
+use Rattle.raw_region.specs.Ownership.{owned_but, shared_but, bytes_but, bytes_but_lent}
 use Rattle.raw_region.specs.declared.gapped.Gapped.{Gapped}
-use Rattle.heap_model.specs.Memory.{Lent, Misses, without}
+use Rattle.heap_model.specs.Memory.{Misses, without}
 use Rattle.raw_region.specs.Holes.{is_out, lent_at, count_at}
 use Rattle.raw_region.specs.Lends.{with_part}
 use Rattle.raw_region.proofs.Each.{behind, behind_is, same_out, all_out, none_out, none_out_shared, each_cut, each_glue}
 use Rattle.raw_region.proofs.HoleLaws.{misses_out, new_elsewhere, new_there, gone_elsewhere}
-use Rattle.raw_region.proofs.GapWrites.{length-over, written_is}
+use Rattle.raw_region.proofs.GapWrites.{written_is}
 use Rattle.raw_region.proofs.PartLaws.{overwritten_by_part}
 
 -- the n bytes at k of a list, and those behind them

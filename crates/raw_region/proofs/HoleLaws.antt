@@ -5,16 +5,16 @@ use Rattle.std.proofs.lemmas.Bool.{and_left, and_right, and_from, lt-leb, le-ltb
 use denote.RawPtr.{Ptr}
 use Rattle.heap_model.specs.Memory.{Lent, EachLent, SomeLent, Misses, MissesOne, NoneBegins, AreBeside, AreApart, without}
 use Rattle.raw_region.specs.Parts.{PartOut, IsPart, IsOut}
-use Rattle.raw_region.specs.Holes.{is_among, is_out, lent_at, LiesIn, KnowsLents, count_at}
+use Rattle.raw_region.specs.Holes.{is_offset_of, is_out, lent_at, LiesIn, KnowsLents, count_at}
 
-pub among_not : (at n j : ℕ) → (j < at) ⊎ (at + n ≤ j) → is_among at n j ≡ false
+pub among_not : (at n j : ℕ) → (j < at) ⊎ (at + n ≤ j) → is_offset_of at n j ≡ false
 among_not at n j (inl before) = and_left (leb at j) (ltb j (at + n)) (lt-leb at j before)
 among_not at n j (inr past) = and_right (leb at j) (ltb j (at + n)) (le-ltb j (at + n) past)
 
-pub among_is : (at n j : ℕ) → at ≤ j → j < at + n → is_among at n j ≡ true
+pub among_is : (at n j : ℕ) → at ≤ j → j < at + n → is_offset_of at n j ≡ true
 among_is at n j low high = and_from (leb at j) (ltb j (at + n)) (le-leb at j low) (lt-ltb j (at + n) high)
 
-misses_among : (at n : ℕ) (l : Lent) (j : ℕ) → MissesOne at n l → at ≤ j → j < at + n → is_among l.at l.count j ≡ false
+misses_among : (at n : ℕ) (l : Lent) (j : ℕ) → MissesOne at n l → at ≤ j → j < at + n → is_offset_of l.at l.count j ≡ false
 misses_among at n l j (inl before) low high = among_not l.at l.count j (inl (omega (arith, before, high)))
 misses_among at n l j (inr past) low high = among_not l.at l.count j (inr (omega (arith, past, low)))
 
@@ -50,9 +50,9 @@ gone_by : (c : Bool) (l : Lent) (ls : List Lent) (at n j : ℕ) → (c ≡ true 
 gone_by true l ls at n j is count away rest =
     let here : l.at ≡ at = is refl in
     let many : l.count ≡ n = ap or_zero count in
-    let in_it : is_among l.at l.count j ≡ false = (λ k. is_among (here k) (many k) j) ∙ among_not at n j away in
+    let in_it : is_offset_of l.at l.count j ≡ false = (λ k. is_offset_of (here k) (many k) j) ∙ among_not at n j away in
     λ k. in_it k || is_out ls j
-gone_by false l ls at n j is count away rest = λ k. is_among l.at l.count j || rest count k
+gone_by false l ls at n j is count away rest = λ k. is_offset_of l.at l.count j || rest count k
 
 pub gone_elsewhere : (lents : List Lent) (at n j : ℕ) → count_at at lents ≡ Some n → (j < at) ⊎ (at + n ≤ j) → is_out lents j ≡ is_out (without at lents) j
 gone_elsewhere [] at n j count away = refl

@@ -1,9 +1,9 @@
 -- What the bytes of a region are once a part is lent or taken back, and once bytes slid.
-use Rattle.std.proofs.Common.{◌≡◌, ℕ, ◌+◌, ◌≤◌, List, [], ◌∷◌, ◌++◌, length, drop, refl, ap, ◌∙◌, arith, inl, inr}
+use Rattle.std.proofs.Common.{◌≡◌, ℕ, ◌+◌, List, [], ◌∷◌, ◌++◌, length, drop, ap, ◌∙◌, arith, inl, inr}
 use Rattle.std.proofs.lemmas.List.{drop_all, append-nil}
 use Rattle.heap_model.specs.Bytes.{overwritten}
-use Rattle.heap_model.specs.Memory.{Lent, SomeLent}
-use Rattle.raw_region.specs.Parts.{PartOut, IsPart, IsOut}
+use Rattle.heap_model.specs.Memory.{Lent}
+use Rattle.raw_region.specs.Parts.{PartOut, IsOut}
 
 -- all bytes are others
 pub all_over : (old new : List ℕ) → length old ≡ length new → overwritten old 0 new ≡ new

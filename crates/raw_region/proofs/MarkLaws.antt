@@ -1,13 +1,12 @@
 -- What the marks of lent parts say, also once one more is lent or taken back.
-use Rattle.std.proofs.Common.{◌≡◌, ℕ, zero, suc, ◌+◌, ◌-◌, ◌*◌, ◌/◌, ◌%◌, ◌<◌, ◌≤◌, Bool, true, false, List, [], ◌∷◌, length, replicate, refl, sym, ap, subst, ◌∙◌, arith, inl, inr}
-use Rattle.std.specs.Prelude.{◌≢◌, ◌⊎◌, ◌↔◌, ◌==◌, ◌&&◌, if◌then◌else◌, IsTrue, slice_index}
-use Rattle.std.proofs.lemmas.Bool.{cases_eq, cases_lt, eq-eqb, ne_eqb, eqb-true, eqb-false}
-use Rattle.std.specs.Int.{bit_at}
+use Rattle.std.proofs.Common.{◌≡◌, ℕ, zero, suc, ◌+◌, ◌-◌, ◌*◌, ◌/◌, ◌%◌, ◌<◌, ◌≤◌, Bool, true, false, List, [], ◌∷◌, length, refl, sym, subst, ◌∙◌, arith, inl, inr}
+use Rattle.std.specs.Prelude.{◌≢◌, ◌⊎◌, ◌↔◌, ◌==◌, if◌then◌else◌}
+use Rattle.std.proofs.lemmas.Bool.{cases_eq, cases_lt, eqb-true, eqb-false}
 use denote.RawPtr.{Ptr}
-use Rattle.bit_sets.specs.Sets.{HasNumber, HasNone, AddsNumber, RemovesNumber, HasNoneBetween, HasNoneFrom, IsFirstFrom}
-use Rattle.heap_model.specs.Memory.{Lent, EachLent, SomeLent, AreBeside, AreApart, NoneBegins, without}
-use Rattle.raw_region.specs.Parts.{PartOut, IsPart, IsOut}
-use Rattle.raw_region.specs.Holes.{LiesIn, KnowsLents, lent_at}
+use Rattle.bit_sets.specs.Sets.{IsInSet, HasNone, AddsNumber, RemovesNumber, HasNoneBetween, HasNoneFrom, IsLeastFrom}
+use Rattle.heap_model.specs.Memory.{Lent, EachLent, AreBeside, AreApart, without}
+use Rattle.raw_region.specs.Parts.{PartOut, IsOut}
+use Rattle.raw_region.specs.Holes.{LiesIn, KnowsLents}
 use Rattle.raw_region.specs.Marks.{BeginsAt, IsMarkable, KnowsMarks, IsNextLent, NoneBeginsAbove}
 use Rattle.raw_region.proofs.HoleLaws.{each_without, apart_without}
 
@@ -26,12 +25,12 @@ marks_more old new size count lents lent k long ok a = record {
   even = (ok, k.even);
   many = let m = k.many in omega (arith, m);
 } where
-  bits : (unit : ℕ) → (HasNumber new unit ↔ BeginsAt (8 * unit) (lent ∷ lents))
+  bits : (unit : ℕ) → (IsInSet new unit ↔ BeginsAt (8 * unit) (lent ∷ lents))
   bits unit = elim (cases_eq unit (lent.at / 8)) [
     | inl same ↦
         let even = ok.1 in
         let at : lent.at ≡ 8 * unit = omega (arith, same, even) in
-        (λ has. inl at, λ begins. subst (λ (u : ℕ). HasNumber new u) (sym same) a.here)
+        (λ has. inl at, λ begins. subst (λ (u : ℕ). IsInSet new u) (sym same) a.here)
     | inr other ↦ (
       λ has. inr ((k.bits unit).0 ((a.others unit other).0 has)),
       λ begins. elim begins [
@@ -86,6 +85,11 @@ even_at [] at each begins = absurd begins
 even_at (l ∷ ls) at each (inl e) = subst IsMarkable e each.0
 even_at (l ∷ ls) at each (inr r) = even_at ls at each.1 r
 
+pub begins_inside : (p : Ptr) (size at : ℕ) (lents : List Lent) → EachLent (LiesIn p size) lents → BeginsAt at lents → at ≤ size
+begins_inside p size at [] each begins = absurd begins
+begins_inside p size at (l ∷ ls) each (inl e) = let inside = each.0.inside in omega (arith, inside, e)
+begins_inside p size at (l ∷ ls) each (inr r) = begins_inside p size at ls each.1 r
+
 pub marks_fewer : (old new : List ℕ) (size count at : ℕ) (lents : List Lent) → KnowsMarks old size count lents → AreApart lents → BeginsAt at lents → length new ≡ length old → RemovesNumber old new (at / 8) → KnowsMarks new size (count - 1) (without at lents)
 marks_fewer old new size count at lents k apart begins long r = record {
   room = λ some. let m = k.room some in omega (arith, m, long);
@@ -97,11 +101,11 @@ marks_fewer old new size count at lents k apart begins long r = record {
   even : at % 8 ≡ 0
   even = (even_at lents at k.even begins).1
 
-  bits : (unit : ℕ) → (HasNumber new unit ↔ BeginsAt (8 * unit) (without at lents))
+  bits : (unit : ℕ) → (IsInSet new unit ↔ BeginsAt (8 * unit) (without at lents))
   bits unit = elim (cases_eq unit (at / 8)) [
     | inl same ↦
         let here : 8 * unit ≡ at = omega (arith, same, even) in
-        (λ has. absurd (r.gone (subst (λ (u : ℕ). HasNumber new u) same has)), λ some. absurd (gone at lents apart (subst (λ (n : ℕ). BeginsAt n (without at lents)) here some)))
+        (λ has. absurd (r.gone (subst (λ (u : ℕ). IsInSet new u) same has)), λ some. absurd (gone at lents apart (subst (λ (n : ℕ). BeginsAt n (without at lents)) here some)))
     | inr other ↦
         let away : 8 * unit ≢ at = λ e. other (omega (arith, e)) in
         let b = begins_without at (8 * unit) lents away in
@@ -148,7 +152,7 @@ few_lent p size lents knows = let l = few (suc size) lents (all_below p size len
 
 -- ---- the next one
 
-each_other : (marks : List ℕ) (after next : ℕ) (all lents : List Lent) → ((unit : ℕ) → (HasNumber marks unit ↔ BeginsAt (8 * unit) all)) → HasNoneBetween marks (after / 8 + 1) next → EachLent (λ lent. IsMarkable lent.at) lents → ((at : ℕ) → BeginsAt at lents → BeginsAt at all)
+each_other : (marks : List ℕ) (after next : ℕ) (all lents : List Lent) → ((unit : ℕ) → (IsInSet marks unit ↔ BeginsAt (8 * unit) all)) → HasNoneBetween marks (after / 8 + 1) next → EachLent (λ lent. IsMarkable lent.at) lents → ((at : ℕ) → BeginsAt at lents → BeginsAt at all)
     → EachLent (λ lent. (lent.at ≤ after) ⊎ (8 * next ≤ lent.at)) lents
 each_other marks after next all [] bits none even within = tt
 each_other marks after next all (l ∷ ls) bits none even within = (
@@ -166,14 +170,14 @@ each_other marks after next all (l ∷ ls) bits none even within = (
 )
 
 -- the first bit above an offset is that of the next lent part
-pub next_marked : (marks : List ℕ) (size count after unit : ℕ) (lents : List Lent) → KnowsMarks marks size count lents → IsFirstFrom marks (after / 8 + 1) unit → IsNextLent lents after (8 * unit)
+pub next_marked : (marks : List ℕ) (size count after unit : ℕ) (lents : List Lent) → KnowsMarks marks size count lents → IsLeastFrom marks (after / 8 + 1) unit → IsNextLent lents after (8 * unit)
 next_marked marks size count after unit lents k first = record {
   above = let least = first.least in omega (arith, least);
   begins = (k.bits unit).0 first.here;
   none_before = each_other marks after unit lents lents k.bits first.none_before k.even (λ at b. b);
 }
 
-each_above : (marks : List ℕ) (after : ℕ) (all lents : List Lent) → ((unit : ℕ) → (HasNumber marks unit ↔ BeginsAt (8 * unit) all)) → HasNoneFrom marks (after / 8 + 1) → EachLent (λ lent. IsMarkable lent.at) lents → ((at : ℕ) → BeginsAt at lents → BeginsAt at all)
+each_above : (marks : List ℕ) (after : ℕ) (all lents : List Lent) → ((unit : ℕ) → (IsInSet marks unit ↔ BeginsAt (8 * unit) all)) → HasNoneFrom marks (after / 8 + 1) → EachLent (λ lent. IsMarkable lent.at) lents → ((at : ℕ) → BeginsAt at lents → BeginsAt at all)
     → NoneBeginsAbove after lents
 each_above marks after all [] bits none even within = tt
 each_above marks after all (l ∷ ls) bits none even within = (

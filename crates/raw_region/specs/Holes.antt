@@ -4,13 +4,13 @@ use denote.RawPtr.{Ptr, ◌+ₚ◌}
 use Rattle.heap_model.specs.Memory.{Lent, EachLent, AreApart}
 
 -- an offset lies in the `count` bytes at `at`
-abbrev pub is_among : ℕ → ℕ → ℕ → Bool
-is_among at count offset = nat_le at offset && nat_lt offset (at + count)
+abbrev pub is_offset_of : ℕ → ℕ → ℕ → Bool
+is_offset_of at count offset = nat_le at offset && nat_lt offset (at + count)
 
 -- the byte at an offset is lent
 abbrev pub is_out : List Lent → ℕ → Bool
 is_out [] offset = false
-is_out (lent ∷ lents) offset = is_among lent.at lent.count offset || is_out lents offset
+is_out (lent ∷ lents) offset = is_offset_of lent.at lent.count offset || is_out lents offset
 
 -- a part is lent, of bytes that start at a pointer
 abbrev pub lent_at : Ptr → ℕ → ℕ → Lent

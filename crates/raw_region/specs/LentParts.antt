@@ -2,13 +2,13 @@
 use Rattle.std.specs.Prelude.{◌≡◌, ◌<◌, ◌^◌, ℕ, List, [], length, Option, Some, None}
 use base.Fml.{Fml, ftrue}
 use denote.RawPtr.{Ptr}
-use Rattle.raw_region.specs.Ownership.{bytes_at}
+use Rattle.raw_region.specs.Ownership.{owns_bytes}
 use Rattle.raw_region.specs.Parts.{PartOut}
 
 -- What a place for a part owns: the bytes of a part, or nothing.
 abbrev pub owns_part : Ptr → ℕ → Option (List ℕ) → Fml
 owns_part at count None = ftrue
-owns_part at count (Some bytes) = bytes_at at count bytes
+owns_part at count (Some bytes) = owns_bytes at count bytes
 
 -- the bytes of a place that holds a part, or else none
 abbrev pub bytes_in : Option (List ℕ) → List ℕ

@@ -1,6 +1,6 @@
 -- The marks of lent parts: a bit for each multiple of 8, set where a lent part begins.
 use Rattle.std.specs.Prelude.{◌≡◌, ◌≤◌, ◌<◌, ◌+◌, ◌/◌, ◌*◌, ◌%◌, ◌⊎◌, ◌↔◌, ℕ, List, length}
-use Rattle.bit_sets.specs.Sets.{HasNumber}
+use Rattle.bit_sets.specs.Sets.{IsInSet}
 use Rattle.heap_model.specs.Memory.{Lent, EachLent, SomeLent}
 
 -- a lent part begins at an offset
@@ -15,7 +15,7 @@ IsMarkable at = (0 < at) × (at % 8 ≡ 0)
 pub record KnowsMarks (marks : List ℕ) (size count : ℕ) (lents : List Lent) : Type 0 where
   pub room : 0 < size → size / 64 < length marks
   pub few : length marks ≤ size / 64 + 1
-  pub bits : (unit : ℕ) → (HasNumber marks unit ↔ BeginsAt (8 * unit) lents)
+  pub bits : (unit : ℕ) → (IsInSet marks unit ↔ BeginsAt (8 * unit) lents)
   pub even : EachLent (λ lent. IsMarkable lent.at) lents
   pub many : count ≡ length lents
 

@@ -1,7 +1,7 @@
 //! The type `Region`, and its methods to read, write, slide and lend bytes.
 
 ghost use Rattle.std.specs.Prelude.{◌≡◌, ◌+◌, ◌<◌, ◌≤◌, ◌%◌, ◌^◌, ◌↔◌, IsTrue, length, slice_range, replicate, IfOk, OnErr, IfSome, IfNone, [], ◌∷◌};
-ghost use Rattle.heap_model.specs.Memory.{IsWithin, Misses, NoneBegins, without};
+ghost use Rattle.heap_model.specs.Memory.{IsWithin, NoneBegins, without};
 ghost use Rattle.raw_region.specs.Parts.{IsOut};
 ghost use Rattle.raw_region.specs.Marks.{BeginsAt, IsMarkable, IsNextLent, NoneBeginsAbove};
 ghost use Rattle.heap_model.specs.Bytes.{AreBytes, u16_at, u32_at, u16_bytes, u32_bytes, overwritten};
@@ -331,6 +331,17 @@ impl Region {
         ensures { IsTrue result ↔ BeginsAt at self.now.lents }
     {
         self.count != 0 && bit_sets::has(&self.marks, at / 8)
+    }
+
+    /// Returns the same as `lends_at` for any offset.
+    #[inline]
+    pub fn lends_from(&self, at: u32) -> bool
+        ensures { IsTrue result ↔ BeginsAt at self.now.lents }
+    {
+        if at == 0 || at % 8 != 0 || at as usize > self.len {
+            return false;
+        }
+        self.lends_at(at)
     }
 
     /// Returns the least offset above `after` at which a lent part begins, if there is one.

@@ -4,7 +4,7 @@
 //! in std.
 
 ghost use Rattle.std.specs.Prelude.{◌≡◌, ◌<◌, ◌^◌, ℕ, IfSome, replicate};
-ghost use Rattle.raw_region.specs.Ownership.{room_of, bytes_type};
+ghost use Rattle.raw_region.specs.Ownership.{owns_room, bytes_type};
 ghost use denote.RawPtr.{Ptr};
 
 use crate::run::Run;
@@ -19,7 +19,7 @@ pub(crate) struct Room {
 }
 
 impl Model for Room {
-    ghost also_owns = { λ room. room_of room.ptr room.size };
+    ghost also_owns = { λ room. owns_room room.ptr room.size };
 }
 
 /// The right to free one block, once. It takes no space, and can't be dropped.

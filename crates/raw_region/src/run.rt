@@ -5,7 +5,7 @@
 //! before all parts are back.
 
 ghost use Rattle.std.specs.Prelude.{◌≡◌, ◌<◌, ◌^◌, ℕ, List, [], length};
-ghost use Rattle.raw_region.specs.Ownership.{bytes_at, bytes_lent};
+ghost use Rattle.raw_region.specs.Ownership.{owns_bytes, bytes_lent};
 
 use crate::room::Room;
 use std::marker::Model;
@@ -20,7 +20,7 @@ pub(crate) struct Run {
 }
 
 impl Model for Run {
-    ghost also_owns = { λ run. bytes_at run.ptr run.len run.bytes };
+    ghost also_owns = { λ run. owns_bytes run.ptr run.len run.bytes };
 
     ghost also_shares = { λ run _ κ. bytes_lent run.ptr run.len run.bytes κ };
 }

@@ -13,7 +13,7 @@ use Rattle.heap_model.specs.MemorySteps.{Of, IsLocked}
 use Rattle.heap_model.specs.Database.{Entry, a_record, entry_data}
 use Rattle.heap_model.specs.Store.{StoredDatabase, Store, Accepted, store_of}
 use Rattle.heap_model.specs.StoreWords.{SameStore, all_gone, with_changed, with_number}
-use Rattle.heap_model.specs.EntrySteps.{entries_of, entries_in, kind_of, resources_under, entry_under, OfEntry, data_of_entry, data_under, replaced, with_entries, with_chunks, data_freed, LeavesStore, MakesNone}
+use Rattle.heap_model.specs.EntrySteps.{entries_of, entries_in, holds_resources, resources_under, entry_under, OfEntry, data_of_entry, data_under, replaced, with_entries, with_chunks, data_freed, LeavesStore, MakesNone}
 use Rattle.heap_model.specs.RecordSteps.{HasLockedOf, category_deleted}
 use Rattle.heap_model.specs.Categories.{is_of, IsOf, data_of_category, deleted_category}
 use Rattle.heap_model.specs.declared.names.Db.{Db}
@@ -154,8 +154,8 @@ number_there old mid db category count h some =
 
 pub kind_there : (old mid : List ℕ) (db : Db) (category count : ℕ) (h : Here old db.0) → HasDeletedSome old mid db category count → resources_under (store_of mid) db ≡ resources_under (store_of old) db
 kind_there old mid db category count h some =
-    ap kind_of (number_mid old mid db (first_changed (deleted_category category) count) (deleted_so_far (store_of old) db h.one.database.entries category count) h (deleted_here old mid db category count h some).same refl)
-    ∙ sym (ap kind_of h.found)
+    ap holds_resources (number_mid old mid db (first_changed (deleted_category category) count) (deleted_so_far (store_of old) db h.one.database.entries category count) h (deleted_here old mid db category count h some).same refl)
+    ∙ sym (ap holds_resources h.found)
 
 -- an entry that isn't of the category
 one_passed : (old mid : List ℕ) (db : Db) (category from : ℕ) (h : Here old db.0) → Accepted old → from < length h.one.database.entries → (OfEntry (entry_under (store_of mid) db from) (IsOf category) → ⊥)

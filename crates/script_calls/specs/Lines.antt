@@ -6,14 +6,13 @@ use Rattle.std.specs.Io.KnownBytes.{Appends}
 use Rattle.hex.specs.Hex.{encode_lower}
 use Rattle.heap_model.specs.Memory.{Memory as Region}
 use Rattle.heap_model.specs.Bytes.{u16_bytes, u32_bytes}
-use Rattle.palm_text.specs.Pieces.{spelled}
+use Rattle.palm_text.specs.Pieces.{script_spelled}
 use Rattle.heap_model.specs.StoreSteps.{Call, DoesInStore, call_by}
 use Rattle.palm_text.specs.Counted.{Writing, Writes}
 use Rattle.heap_model.specs.Numbers.{number_of, name_of}
 use Rattle.heap_model.specs.declared.names.Name.{Name}
 use Rattle.heap_model.specs.declared.names.Db.{Db}
-use Rattle.heap_model.specs.declared.names.Which.{Which}
-use Rattle.heap_model.specs.declared.names.Which.TheVariants.{App, Sort}
+pub use Rattle.palm_text.specs.FaultTexts.{which_word, fault_text}
 use Rattle.heap_model.specs.declared.database.DbInfo.{DbInfo}
 use Rattle.heap_model.specs.declared.entry.RecordInfo.{RecordInfo}
 use Rattle.heap_model.specs.declared.entry.ResourceInfo.{ResourceInfo}
@@ -24,8 +23,6 @@ use Rattle.heap_model.specs.declared.call.Reply.{Reply}
 use Rattle.heap_model.specs.declared.call.Reply.TheVariants.{Refused, Done, Number, Named, Locked, Data, Database, Info, Made, Record, Resource}
 use Rattle.heap_model.specs.declared.refusal.Refusal.{Refusal}
 use Rattle.heap_model.specs.declared.refusal.Refusal.TheVariants.{BadFile, OutOfMemory}
-use Rattle.heap_model.specs.declared.file_fault.FileFault.{FileFault}
-use Rattle.heap_model.specs.declared.file_fault.FileFault.TheVariants.{Truncated, ChainedList, EmptyName, BadInfo, BadOffset}
 use Rattle.script_lines.specs.Commands.{LineCall}
 use Rattle.script_lines.specs.declared.line.Line.{Line}
 use Rattle.script_lines.specs.declared.line.Line.TheVariants.{Bind, Print, Silent, BindChunk, BindDatabase, Import, Export}
@@ -39,35 +36,35 @@ use Rattle.script_calls.specs.declared.replies.Told.TheVariants.{Nothing, Values
 -- ---- what labels stand for
 
 -- what each label stands for, by its number
-abbrev pub Table : Type 0 → Type 0
-Table Bound = ℕ → Bound
+abbrev pub LabelTable : Type 0 → Type 0
+LabelTable Bound = ℕ → Bound
 
 -- the name that each label of a chunk stands for, and the number for each label of a database
 pub record Bindings : Type 0 where
-  pub chunks : Table Name
-  pub databases : Table Db
+  pub chunks : LabelTable Name
+  pub databases : LabelTable Db
 
 -- the name of nothing, and the number of no database
-abbrev pub no_name : Name
-no_name = record { 0 = 0 }
+abbrev pub name_of_nothing : Name
+name_of_nothing = record { 0 = 0 }
 
-abbrev pub no_database : Db
-no_database = record { 0 = 0 }
+abbrev pub number_of_nothing : Db
+number_of_nothing = record { 0 = 0 }
 
 -- no label is bound
 abbrev pub unbound : Bindings
-unbound = record { chunks = λ label. no_name; databases = λ label. no_database }
+unbound = record { chunks = λ label. name_of_nothing; databases = λ label. number_of_nothing }
 
 -- the table in which one label stands for something else
-abbrev pub bind : {Bound : Type 0} → Table Bound → ℕ → Bound → Table Bound
+abbrev pub bind : {Bound : Type 0} → LabelTable Bound → ℕ → Bound → LabelTable Bound
 bind bound label now other = if other == label then now else bound other
 
 -- the table of a list; labels after the end of the list are not bound
-abbrev pub table : {Bound : Type 0} → Bound → List Bound → Table Bound
+abbrev pub table : {Bound : Type 0} → Bound → List Bound → LabelTable Bound
 table nothing bound label = get_or bound label nothing
 
 abbrev pub tables : List Name → List Db → Bindings
-tables names databases = record { chunks = table no_name names; databases = table no_database databases }
+tables names databases = record { chunks = table name_of_nothing names; databases = table number_of_nothing databases }
 
 -- ---- the call of each line
 
@@ -125,18 +122,18 @@ chunk_in (Record info) = None
 chunk_in (Resource info) = Some info.data
 
 -- the database that a reply names
-abbrev pub database_in : Reply → Option Db
-database_in (Refused refusal) = None
-database_in Done = None
-database_in (Number number) = None
-database_in (Named name) = None
-database_in (Locked place count) = None
-database_in (Data bytes) = None
-database_in (Database db) = Some db
-database_in (Info info) = None
-database_in (Made index name) = None
-database_in (Record info) = None
-database_in (Resource info) = None
+abbrev pub database_of_reply : Reply → Option Db
+database_of_reply (Refused refusal) = None
+database_of_reply Done = None
+database_of_reply (Number number) = None
+database_of_reply (Named name) = None
+database_of_reply (Locked place count) = None
+database_of_reply (Data bytes) = None
+database_of_reply (Database db) = Some db
+database_of_reply (Info info) = None
+database_of_reply (Made index name) = None
+database_of_reply (Record info) = None
+database_of_reply (Resource info) = None
 
 -- a label of a chunk is bound to the chunk that a reply names, if it names one
 abbrev pub bound_to : Bindings → ℕ → Option Name → Bindings
@@ -156,8 +153,8 @@ bound_after bound (Bind label name) reply = record bound { chunks = bind bound.c
 bound_after bound (Print call) reply = bound
 bound_after bound (Silent call) reply = bound
 bound_after bound (BindChunk label call) reply = bound_to bound label.0 (chunk_in reply)
-bound_after bound (BindDatabase label call) reply = bound_to_database bound label.0 (database_in reply)
-bound_after bound (Import label file) reply = bound_to_database bound label.0 (database_in reply)
+bound_after bound (BindDatabase label call) reply = bound_to_database bound label.0 (database_of_reply reply)
+bound_after bound (Import label file) reply = bound_to_database bound label.0 (database_of_reply reply)
 bound_after bound (Export label) reply = bound
 
 -- ---- what is printed
@@ -172,15 +169,15 @@ hex_text (byte ∷ bytes) = encode_lower (byte ∷ bytes)
 -- entries
 abbrev pub info_words : DbInfo → List (List ℕ)
 info_words info =
-    spelled info.name
+    script_spelled info.name
     ∷ encode_lower (u16_bytes info.attributes)
     ∷ decimal info.version
     ∷ decimal info.creation_date
     ∷ decimal info.modification_date
     ∷ decimal info.backup_date
     ∷ decimal info.modification_number
-    ∷ spelled (u32_bytes info.kind)
-    ∷ spelled (u32_bytes info.creator)
+    ∷ script_spelled (u32_bytes info.kind)
+    ∷ script_spelled (u32_bytes info.creator)
     ∷ encode_lower (u32_bytes info.seed)
     ∷ decimal info.entry_count
     ∷ []
@@ -196,7 +193,7 @@ record_words info = encode_lower (info.attributes ∷ []) ∷ decimal info.id �
 
 -- the words of a resource's entry: the type and the ID
 abbrev pub resource_words : ResourceInfo → List (List ℕ)
-resource_words info = spelled (u32_bytes info.kind) ∷ decimal info.id ∷ []
+resource_words info = script_spelled (u32_bytes info.kind) ∷ decimal info.id ∷ []
 
 -- words with a space before each
 abbrev pub words_text : List (List ℕ) → List ℕ
@@ -246,19 +243,6 @@ abbrev pub told_text : Told → Reply → List ℕ
 told_text Nothing reply = []
 told_text Values reply = values_text reply
 told_text Length reply = length_text reply
-
--- an info block, as scripts name it
-abbrev pub which_word : Which → List ℕ
-which_word App = codes "app"
-which_word Sort = codes "sort"
-
--- the fault of a file
-abbrev pub fault_text : FileFault → List ℕ
-fault_text Truncated = codes "Truncated"
-fault_text ChainedList = codes "ChainedList"
-fault_text EmptyName = codes "EmptyName"
-fault_text (BadInfo which) = codes "BadInfo " ++ which_word which
-fault_text (BadOffset index) = codes "BadOffset " ++ decimal index
 
 -- the text after the name of a refusal: the fault of a bad file, and nothing for all other refusals
 abbrev pub details_text : Refusal → List ℕ

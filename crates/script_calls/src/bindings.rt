@@ -2,7 +2,7 @@
 
 ghost use Rattle.std.specs.Prelude.{◌≡◌, ◌≤◌, ◌<◌, ℕ, List, length};
 ghost use Rattle.script_lines.specs.LineCounts.{chunk_label_end, database_label_end};
-ghost use Rattle.script_calls.specs.Lines.{bind, bound_after, no_database, no_name, table, tables};
+ghost use Rattle.script_calls.specs.Lines.{bind, bound_after, number_of_nothing, name_of_nothing, table, tables};
 ghost use Rattle.script_calls.specs.Lines as answers;
 
 use heap_model::{Bytes, Db, Name, Reply};
@@ -36,7 +36,7 @@ impl Given<Db> for Db {
 
 /// A label that was never bound stands for the name of nothing.
 impl Given<Name> for ChunkLabel {
-    ghost meant = { λ label names. table no_name names label.0 };
+    ghost meant = { λ label names. table name_of_nothing names label.0 };
 
     fn among(self, names: &[Name]) -> Name {
         match names.get(self.0) {
@@ -48,7 +48,7 @@ impl Given<Name> for ChunkLabel {
 
 /// A label that was never bound stands for no database.
 impl Given<Db> for DatabaseLabel {
-    ghost meant = { λ label databases. table no_database databases label.0 };
+    ghost meant = { λ label databases. table number_of_nothing databases label.0 };
 
     fn among(self, databases: &[Db]) -> Db {
         match databases.get(self.0) {
@@ -109,7 +109,7 @@ pub fn bind_line(names: &mut [Name], databases: &mut [Db], line: &Line<'_>, repl
             }
         }
         (Line::BindDatabase(label, _) | Line::Import { label, .. }, _) => {
-            if let Some(db) = database_in(reply) {
+            if let Some(db) = database_of_reply(reply) {
                 bind_database(databases, *label, db);
             }
         }
@@ -136,8 +136,8 @@ fn chunk_in(reply: &Reply) -> Option<Name>
 }
 
 /// Returns the database that a reply names.
-fn database_in(reply: &Reply) -> Option<Db>
-    ensures { result ≡ answers.database_in reply.now }
+fn database_of_reply(reply: &Reply) -> Option<Db>
+    ensures { result ≡ answers.database_of_reply reply.now }
 {
     match reply {
         Reply::Database(db) => Some(*db),
@@ -156,14 +156,14 @@ fn database_in(reply: &Reply) -> Option<Db>
 
 fn bind_chunk(names: &mut [Name], label: ChunkLabel, name: Name)
     requires { label.0 < length names.old }
-    ensures { table no_name names.new ≡ bind (table no_name names.old) label.0 name }
+    ensures { table name_of_nothing names.new ≡ bind (table name_of_nothing names.old) label.0 name }
 {
     names[label.0] = name;
 }
 
 fn bind_database(databases: &mut [Db], label: DatabaseLabel, db: Db)
     requires { label.0 < length databases.old }
-    ensures { table no_database databases.new ≡ bind (table no_database databases.old) label.0 db }
+    ensures { table number_of_nothing databases.new ≡ bind (table number_of_nothing databases.old) label.0 db }
 {
     databases[label.0] = db;
 }

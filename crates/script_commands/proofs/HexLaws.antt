@@ -9,22 +9,22 @@ use Rattle.hex.specs.Hex.{decode_of, decode_pairs, decode_sized, is_hex_digit, p
 use Rattle.hex.specs.declared.error.FromHexError.{FromHexError}
 use Rattle.hex.proofs.Pairs.{cons_byte}
 use Rattle.hex.proofs.HexLemmas.{decode_of-even, decode_of-odd, decode_of-ok, decode_pairs-digits, decode_sized-twice}
-use Rattle.script_commands.specs.LentBytes.{hex_bytes, bytes_of}
+use Rattle.script_commands.specs.LentBytes.{hex_bytes, bytes_meant}
 
 -- digits that spell bytes are decoded to these
-pub decoded : (digits : List ℕ) → is_some (hex_bytes digits) ≡ true → decode_of digits ≡ Ok (bytes_of true digits)
+pub decoded : (digits : List ℕ) → is_some (hex_bytes digits) ≡ true → decode_of digits ≡ Ok (bytes_meant true digits)
 decoded digits spells = by_result (decode_of digits) spells refl
   where
-    by_result : (result : Result (List ℕ) FromHexError) → is_some (result_ok result) ≡ true → decode_of digits ≡ result → decode_of digits ≡ Ok (bytes_of true digits)
+    by_result : (result : Result (List ℕ) FromHexError) → is_some (result_ok result) ≡ true → decode_of digits ≡ result → decode_of digits ≡ Ok (bytes_meant true digits)
     by_result (Ok bytes) spells is = rw is refl
     by_result (Err fault) spells is = cc
 
 -- there are two of them for each byte
-pub twice : (digits : List ℕ) → is_some (hex_bytes digits) ≡ true → length digits ≡ 2 * length (bytes_of true digits)
-twice digits spells = let (_, _, long, _) = decode_of-ok digits (bytes_of true digits) (decoded digits spells) in long
+pub twice : (digits : List ℕ) → is_some (hex_bytes digits) ≡ true → length digits ≡ 2 * length (bytes_meant true digits)
+twice digits spells = let (_, _, long, _) = decode_of-ok digits (bytes_meant true digits) (decoded digits spells) in long
 
 -- and they are decoded if the room is exact
-pub decoded_in : (digits : List ℕ) (room : ℕ) → is_some (hex_bytes digits) ≡ true → room ≡ length digits / 2 → decode_sized digits room ≡ Ok (bytes_of true digits)
+pub decoded_in : (digits : List ℕ) (room : ℕ) → is_some (hex_bytes digits) ≡ true → room ≡ length digits / 2 → decode_sized digits room ≡ Ok (bytes_meant true digits)
 decoded_in digits room spells is =
     let long = twice digits spells in
     decode_sized-twice digits room (omega arith) ∙ decoded digits spells
@@ -35,7 +35,7 @@ digits_spell digits even all =
     let (bytes, is) = decode_pairs-digits 0 digits even (AllPass-from_list_all is_hex_digit digits all) in
     rw (decode_of-even digits even ∙ is) refl
 
-pub hex_is : (digits : List ℕ) → is_some (hex_bytes digits) ≡ true → hex_bytes digits ≡ Some (bytes_of true digits)
+pub hex_is : (digits : List ℕ) → is_some (hex_bytes digits) ≡ true → hex_bytes digits ≡ Some (bytes_meant true digits)
 hex_is digits spells = rw (decoded digits spells) refl
 
 pub others_spell_none : (digits : List ℕ) → list_all is_hex_digit digits ≡ false → hex_bytes digits ≡ None
@@ -76,13 +76,13 @@ pairs_front (suc count) at (high ∷ low ∷ digits) bytes is =
     rw two (pair_front (pair_value high low at) (decode_pairs (at + 2) digits) (decode_pairs (at + 2) (take (2 * count) digits)) bytes count is (λ more rest. pairs_front count (at + 2) digits more rest))
 
 -- they spell these bytes
-pub hex_front : (digits : List ℕ) (count : ℕ) → is_some (hex_bytes digits) ≡ true → count ≤ length (bytes_of true digits) → hex_bytes (take (2 * count) digits) ≡ Some (take count (bytes_of true digits))
+pub hex_front : (digits : List ℕ) (count : ℕ) → is_some (hex_bytes digits) ≡ true → count ≤ length (bytes_meant true digits) → hex_bytes (take (2 * count) digits) ≡ Some (take count (bytes_meant true digits))
 hex_front digits count spells within =
     let long = twice digits spells in
     let even : length digits % 2 ≡ 0 = omega (arith, long) in
     let short : length (take (2 * count) digits) ≡ 2 * count = length-take-le (2 * count) digits (omega (arith, long)) in
     let half : length (take (2 * count) digits) % 2 ≡ 0 = omega (arith, short) in
-    let front = pairs_front count 0 digits (bytes_of true digits) (sym (decode_of-even digits even) ∙ decoded digits spells) in
+    let front = pairs_front count 0 digits (bytes_meant true digits) (sym (decode_of-even digits even) ∙ decoded digits spells) in
     ap result_ok (decode_of-even (take (2 * count) digits) half ∙ front)
 
 -- ---- the same of what a text lends: its digits spell bytes, where it is in hex
@@ -90,17 +90,17 @@ hex_front digits count spells within =
 abbrev pub Spells : Bool → List ℕ → Type 0
 Spells is_hex text = is_hex ≡ true → is_some (hex_bytes text) ≡ true
 
-pub lent_twice : (is_hex : Bool) (text bytes : List ℕ) → Spells is_hex text → bytes_of is_hex text ≡ bytes → is_hex ≡ true → length text ≡ 2 * length bytes
+pub lent_twice : (is_hex : Bool) (text bytes : List ℕ) → Spells is_hex text → bytes_meant is_hex text ≡ bytes → is_hex ≡ true → length text ≡ 2 * length bytes
 lent_twice true text bytes spells is hex = rw (← is) (twice text (spells refl))
 lent_twice false text bytes spells is hex = cc
 
-pub lent_decoded : (is_hex : Bool) (text bytes : List ℕ) (room : ℕ) → Spells is_hex text → bytes_of is_hex text ≡ bytes → is_hex ≡ true → room ≡ length text / 2 → decode_sized text room ≡ Ok bytes
+pub lent_decoded : (is_hex : Bool) (text bytes : List ℕ) (room : ℕ) → Spells is_hex text → bytes_meant is_hex text ≡ bytes → is_hex ≡ true → room ≡ length text / 2 → decode_sized text room ≡ Ok bytes
 lent_decoded true text bytes room spells is hex fits = rw (← is) (decoded_in text room (spells refl) fits)
 lent_decoded false text bytes room spells is hex fits = cc
 
-pub lent_front : (is_hex : Bool) (text bytes : List ℕ) (most count : ℕ) → Spells is_hex text → bytes_of is_hex text ≡ bytes → is_hex ≡ true → count ≡ min most (length bytes) → hex_bytes (take (2 * count) text) ≡ Some (take most bytes)
+pub lent_front : (is_hex : Bool) (text bytes : List ℕ) (most count : ℕ) → Spells is_hex text → bytes_meant is_hex text ≡ bytes → is_hex ≡ true → count ≡ min most (length bytes) → hex_bytes (take (2 * count) text) ≡ Some (take most bytes)
 lent_front true text bytes most count spells is hex fits =
-    let within : count ≤ length (bytes_of true text) = omega (arith, fits, ap length is) in
-    let same : take count (bytes_of true text) ≡ take most bytes = rw (is, fits) (take_min most bytes) in
+    let within : count ≤ length (bytes_meant true text) = omega (arith, fits, ap length is) in
+    let same : take count (bytes_meant true text) ≡ take most bytes = rw (is, fits) (take_min most bytes) in
     hex_front text count (spells refl) within ∙ ap Some same
 lent_front false text bytes most count spells is hex fits = cc

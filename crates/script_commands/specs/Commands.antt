@@ -126,17 +126,17 @@ info_kinds =
 
 -- a database's name, as a call gives it: the first bytes of a text, at most one more than a name
 -- may have
-abbrev pub name_of : List ℕ → List ℕ
-name_of text = take name_size text
+abbrev pub name_from_text : List ℕ → List ℕ
+name_from_text text = take name_size text
 
 abbrev pub created : Makes creation_kinds
 created label text kind creator resources date =
-    BindDatabase label (on_databases (database.Create (name_of text) kind creator resources date))
+    BindDatabase label (on_databases (database.Create (name_from_text text) kind creator resources date))
 
 abbrev pub info_set : Makes info_kinds
 info_set db text attributes version creation_date modification_date backup_date kind creator =
     Print (on_databases (database.SetInfo db (record {
-      name = name_of text;
+      name = name_from_text text;
       attributes = attributes;
       version = version;
       creation_date = creation_date;
@@ -151,7 +151,7 @@ info_set db text attributes version creation_date modification_date backup_date 
 
 abbrev pub database_row : DatabaseCommand → CommandRow
 database_row Create = row (codes "create") creation_kinds created
-database_row Find = row (codes "find") (kinds.Database ∷ kinds.Text ∷ []) (λ label text. BindDatabase label (on_databases (database.Find (name_of text))))
+database_row Find = row (codes "find") (kinds.Database ∷ kinds.Text ∷ []) (λ label text. BindDatabase label (on_databases (database.Find (name_from_text text))))
 database_row Nth = row (codes "nth") (kinds.Database ∷ kinds.Number ∷ []) (λ label index. BindDatabase label (on_databases (database.Nth index)))
 database_row Count = row (codes "dbcount") [] (Print (on_databases database.Count))
 database_row Delete = row (codes "dbdelete") (kinds.Database ∷ []) (λ db. Print (on_databases (database.Delete db)))

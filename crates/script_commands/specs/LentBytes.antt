@@ -10,6 +10,6 @@ hex_bytes digits = result_ok (decode_of digits)
 
 -- the bytes that a part of a text stands for: those that its digits spell if it is in hex,
 -- otherwise its own
-abbrev pub bytes_of : Bool → List ℕ → List ℕ
-bytes_of true text = unwrap_or (hex_bytes text) []
-bytes_of false text = text
+abbrev pub bytes_meant : Bool → List ℕ → List ℕ
+bytes_meant true text = unwrap_or (hex_bytes text) []
+bytes_meant false text = text

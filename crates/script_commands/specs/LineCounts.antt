@@ -64,9 +64,9 @@ abbrev pub EachAtMost : (Line → ℕ) → ℕ → List Line → Type 0
 EachAtMost count most lines = All (λ line. count line ≤ most) lines
 
 -- the greatest count of a line; 0 if there are no lines
-abbrev pub greatest : (Line → ℕ) → List Line → ℕ
-greatest count [] = 0
-greatest count (line ∷ lines) = max (count line) (greatest count lines)
+abbrev pub greatest_count : (Line → ℕ) → List Line → ℕ
+greatest_count count [] = 0
+greatest_count count (line ∷ lines) = max (count line) (greatest_count count lines)
 
 -- a line exports a file if it is accepted
 abbrev pub is_export : Line → Bool

@@ -12,6 +12,8 @@ ghost use Rattle.script_commands.specs.declared.database_command.DatabaseCommand
 use crate::command::{Command, CommandRow, row};
 use crate::lent_bytes::LentBytes;
 use crate::line::{ChunkLabel, DatabaseLabel, Line};
+use crate::memory_command::NO_WORD_KINDS;
+use crate::record_command::{DATABASE, DATABASE_NUMBER};
 use crate::value::{Kind, Value};
 use crate::words::{FourBytes, cut, four, one, three, two};
 use heap_model::{Call, DatabaseCall, DbInfo};
@@ -50,12 +52,6 @@ pub(crate) const DATABASE_COMMANDS: [Command; 12] = [
 ];
 
 // The kinds of the words after a command.
-const NOTHING: &[Kind] = &[];
-
-const DATABASE: &[Kind] = &[Kind::Database];
-
-const DATABASE_NUMBER: &[Kind] = &[Kind::Database, Kind::Number];
-
 const DATABASE_WHICH_CHUNK: &[Kind] = &[Kind::Database, Kind::Which, Kind::Chunk];
 
 const DATABASE_WHICH_BYTE_CHUNK: &[Kind] = &[Kind::Database, Kind::Which, Kind::Byte, Kind::Chunk];
@@ -92,7 +88,7 @@ pub(crate) fn database_row(command: DatabaseCommand) -> CommandRow
         DatabaseCommand::Create => row(b"create", CREATION),
         DatabaseCommand::Find => row(b"find", DATABASE_TEXT),
         DatabaseCommand::Nth => row(b"nth", DATABASE_NUMBER),
-        DatabaseCommand::Count => row(b"dbcount", NOTHING),
+        DatabaseCommand::Count => row(b"dbcount", NO_WORD_KINDS),
         DatabaseCommand::Delete => row(b"dbdelete", DATABASE),
         DatabaseCommand::Info => row(b"dbinfo", DATABASE),
         DatabaseCommand::SetInfo => row(b"dbset", INFO),

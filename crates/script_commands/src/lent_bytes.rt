@@ -19,11 +19,11 @@ pub struct LentBytes<'a> {
 
 impl<'a> Model for LentBytes<'a> {
     ghost use Rattle.std.specs.Prelude.{◌≡◌, ℕ, List, is_some, true};
-    ghost use Rattle.script_commands.specs.LentBytes.{bytes_of, hex_bytes};
+    ghost use Rattle.script_commands.specs.LentBytes.{bytes_meant, hex_bytes};
 
     ghost Value = { List ℕ };
 
-    ghost view = { λ lent. bytes_of lent.is_hex lent.text.now };
+    ghost view = { λ lent. bytes_meant lent.is_hex lent.text.now };
 
     ghost invariant = { λ lent. lent.is_hex ≡ true → is_some (hex_bytes lent.text.now) ≡ true };
 }
@@ -81,7 +81,10 @@ impl<'a> LentBytes<'a> {
     pub fn name(&self) -> DbName
         ensures { result ≡ take name_size self.now }
     {
-        DbName::of(self.front(NAME_SIZE).decoded(&mut [0; NAME_SIZE]))
+        DbName::of(
+            self.front(MOST_NAME_BYTES)
+                .decoded(&mut [0; MOST_NAME_BYTES]),
+        )
     }
 
     /// Returns the first bytes, at most `most`.
@@ -101,7 +104,7 @@ impl<'a> LentBytes<'a> {
 }
 
 /// The greatest number of bytes that `name` takes.
-const NAME_SIZE: usize = 32;
+const MOST_NAME_BYTES: usize = 32;
 
 /// Reports whether all bytes are hex digits.
 fn are_hex_digits(bytes: &[u8]) -> bool

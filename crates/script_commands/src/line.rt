@@ -1,7 +1,7 @@
 //! A line of a script, and scripts as lists of lines.
 
 ghost use Rattle.std.specs.Prelude.{◌≡◌, ◌≤◌, ◌++◌, ◌∷◌, ◌^◌, [], IfOk, IfSome, OnErr, OnOk, count_by, length};
-ghost use Rattle.script_commands.specs.LineCounts.{EachAtMost, bytes_given, greatest};
+ghost use Rattle.script_commands.specs.LineCounts.{EachAtMost, bytes_given, greatest_count};
 ghost use Rattle.script_commands.specs.LineCounts as counts;
 
 use crate::lent_bytes::LentBytes;
@@ -105,7 +105,7 @@ pub struct Script<'a> {
 impl<'a> Model for Script<'a> {
     ghost use Rattle.std.specs.Prelude.{◌≡◌, List};
     ghost use Rattle.script_commands.specs.declared.line.Line.{Line};
-    ghost use Rattle.script_commands.specs.LineCounts.{greatest};
+    ghost use Rattle.script_commands.specs.LineCounts.{greatest_count};
     ghost use Rattle.script_commands.specs.LineCounts as counts;
 
     ghost Value = { List Line };
@@ -113,9 +113,9 @@ impl<'a> Model for Script<'a> {
     ghost view = { λ script. script.lines.items };
 
     ghost invariant = { λ script.
-        (script.chunk_label_count ≡ greatest counts.chunk_label_end script.lines.items)
-        × (script.database_label_count ≡ greatest counts.database_label_end script.lines.items)
-        × (script.most_bytes ≡ greatest counts.byte_count script.lines.items) };
+        (script.chunk_label_count ≡ greatest_count counts.chunk_label_end script.lines.items)
+        × (script.database_label_count ≡ greatest_count counts.database_label_end script.lines.items)
+        × (script.most_bytes ≡ greatest_count counts.byte_count script.lines.items) };
 }
 
 impl<'a> Script<'a> {
@@ -159,7 +159,7 @@ impl<'a> Script<'a> {
 
     /// Returns the greatest chunk label that a line binds, plus 1. Returns 0 if no line binds one.
     pub fn chunk_label_count(&self) -> usize
-        ensures count { result ≡ greatest counts.chunk_label_end self.now }
+        ensures count { result ≡ greatest_count counts.chunk_label_end self.now }
         ensures below { EachAtMost counts.chunk_label_end result self.now }
     {
         self.chunk_label_count
@@ -167,7 +167,7 @@ impl<'a> Script<'a> {
 
     /// The same for the labels of databases.
     pub fn database_label_count(&self) -> usize
-        ensures count { result ≡ greatest counts.database_label_end self.now }
+        ensures count { result ≡ greatest_count counts.database_label_end self.now }
         ensures below { EachAtMost counts.database_label_end result self.now }
     {
         self.database_label_count
@@ -175,7 +175,7 @@ impl<'a> Script<'a> {
 
     /// Returns the greatest number of bytes that a line's call gives.
     pub fn most_bytes(&self) -> usize
-        ensures most { result ≡ greatest counts.byte_count self.now }
+        ensures most { result ≡ greatest_count counts.byte_count self.now }
         ensures each { EachAtMost counts.byte_count result self.now }
     {
         self.most_bytes

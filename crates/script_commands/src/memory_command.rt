@@ -64,7 +64,7 @@ pub(crate) const MEMORY_COMMANDS: [Command; 20] = [
 ];
 
 // The kinds of the words after a command.
-const NOTHING: &[Kind] = &[];
+pub(crate) const NO_WORD_KINDS: &[Kind] = &[];
 
 const BYTE: &[Kind] = &[Kind::Byte];
 
@@ -106,10 +106,10 @@ pub(crate) fn memory_row(command: MemoryCommand) -> CommandRow
         MemoryCommand::Set => row(b"set", CHUNK_TWO_NUMBERS_BYTE),
         MemoryCommand::StrCopy => row(b"strcopy", CHUNK_NUMBER_TEXT),
         MemoryCommand::FreeByOwner => row(b"freeowner", BYTE),
-        MemoryCommand::FreeBytes => row(b"freebytes", NOTHING),
-        MemoryCommand::Largest => row(b"largest", NOTHING),
-        MemoryCommand::Compact => row(b"compact", NOTHING),
-        MemoryCommand::MoreSlots => row(b"moreslots", NOTHING),
+        MemoryCommand::FreeBytes => row(b"freebytes", NO_WORD_KINDS),
+        MemoryCommand::Largest => row(b"largest", NO_WORD_KINDS),
+        MemoryCommand::Compact => row(b"compact", NO_WORD_KINDS),
+        MemoryCommand::MoreSlots => row(b"moreslots", NO_WORD_KINDS),
     }
 }
 

@@ -65,13 +65,13 @@ pub(crate) const RECORD_COMMANDS: [Command; 21] = [
 ];
 
 // The kinds of the words after a command.
-const DATABASE: &[Kind] = &[Kind::Database];
+pub(crate) const DATABASE: &[Kind] = &[Kind::Database];
 
 const DATABASE_BYTE: &[Kind] = &[Kind::Database, Kind::Byte];
 
 const DATABASE_TWO_BYTES_FLAG: &[Kind] = &[Kind::Database, Kind::Byte, Kind::Byte, Kind::Flag];
 
-const DATABASE_NUMBER: &[Kind] = &[Kind::Database, Kind::Number];
+pub(crate) const DATABASE_NUMBER: &[Kind] = &[Kind::Database, Kind::Number];
 
 const DATABASE_NUMBER_BYTE: &[Kind] = &[Kind::Database, Kind::Number, Kind::Byte];
 
@@ -82,14 +82,14 @@ const DATABASE_NUMBER_BYTE_NUMBER: &[Kind] = &[
     Kind::Number,
 ];
 
-const DATABASE_NUMBER_BYTE_CHUNK: &[Kind] = &[
+pub(crate) const DATABASE_NUMBER_BYTE_CHUNK: &[Kind] = &[
     Kind::Database,
     Kind::Number,
     Kind::Byte,
     Kind::Chunk,
 ];
 
-const DATABASE_NUMBER_CHUNK: &[Kind] = &[Kind::Database, Kind::Number, Kind::Chunk];
+pub(crate) const DATABASE_NUMBER_CHUNK: &[Kind] = &[Kind::Database, Kind::Number, Kind::Chunk];
 
 const DATABASE_NUMBER_CHUNK_BYTE_CHUNK: &[Kind] = &[
     Kind::Database,
@@ -101,7 +101,7 @@ const DATABASE_NUMBER_CHUNK_BYTE_CHUNK: &[Kind] = &[
 
 const DATABASE_NUMBER_FLAG: &[Kind] = &[Kind::Database, Kind::Number, Kind::Flag];
 
-const DATABASE_TWO_NUMBERS: &[Kind] = &[Kind::Database, Kind::Number, Kind::Number];
+pub(crate) const DATABASE_TWO_NUMBERS: &[Kind] = &[Kind::Database, Kind::Number, Kind::Number];
 
 const DATABASE_TWO_NUMBERS_CHUNK: &[Kind] = &[
     Kind::Database,

@@ -9,6 +9,10 @@ ghost use Rattle.script_commands.specs.declared.command.Command.TheVariants.{Res
 
 use crate::command::{Command, CommandRow, row};
 use crate::line::{ChunkLabel, DatabaseLabel, Line};
+use crate::record_command::{
+    DATABASE, DATABASE_NUMBER, DATABASE_NUMBER_BYTE_CHUNK, DATABASE_NUMBER_CHUNK,
+    DATABASE_TWO_NUMBERS,
+};
 use crate::value::{Kind, Value};
 use crate::words::{FourBytes, cut, four, one, three, two};
 use heap_model::{Call, ResourceCall};
@@ -43,27 +47,12 @@ pub(crate) const RESOURCE_COMMANDS: [Command; 10] = [
 ];
 
 // The kinds of the words after a command.
-const DATABASE: &[Kind] = &[Kind::Database];
-
-const DATABASE_NUMBER: &[Kind] = &[Kind::Database, Kind::Number];
-
-const DATABASE_NUMBER_BYTE_CHUNK: &[Kind] = &[
-    Kind::Database,
-    Kind::Number,
-    Kind::Byte,
-    Kind::Chunk,
-];
-
-const DATABASE_NUMBER_CHUNK: &[Kind] = &[Kind::Database, Kind::Number, Kind::Chunk];
-
 const DATABASE_NUMBER_TYPE_ID: &[Kind] = &[
     Kind::Database,
     Kind::Number,
     Kind::FourBytes,
     Kind::Short,
 ];
-
-const DATABASE_TWO_NUMBERS: &[Kind] = &[Kind::Database, Kind::Number, Kind::Number];
 
 const DATABASE_TYPE_ID: &[Kind] = &[Kind::Database, Kind::FourBytes, Kind::Short];
 

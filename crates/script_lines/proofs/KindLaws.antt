@@ -13,7 +13,7 @@ use Rattle.script_commands.specs.declared.value.Value.TheVariants.{Chunk as Chun
 use Rattle.script_commands.specs.Commands.{kinds_of}
 use Rattle.script_commands.specs.ValueKinds.{AreOfKinds, has_value, kind_of}
 use Rattle.script_lines.specs.declared.fault.ScriptFault.TheVariants.{BadWord}
-use Rattle.script_lines.specs.Kinds.{WordsRead, read_word, read_words, with_bytes, with_chunk, with_database, with_value}
+use Rattle.script_lines.specs.Kinds.{WordsRead, read_word, read_words, with_word_bytes, with_chunk, with_database, with_value}
 use Rattle.script_lines.specs.Numbering.{Numberings, label_number}
 use Rattle.script_lines.specs.Reading.{none_read}
 use Rattle.script_lines.specs.Spellings.{is_label, number_below, spelled_bytes, spelled_text, spelled_flag, spelled_which, spelled_four}
@@ -38,10 +38,10 @@ of_label read next after value true kind same adds is =
     let next_is : ◌≡◌ {A = WordsRead} after next = cc in
     rw (← next_is, adds) (adds_value read.values value kind same)
 
-of_bytes : (read next : WordsRead) (from : Option (List ℕ)) → option_map (with_bytes read) from ≡ Some next → Adds [] read.values next.values
+of_bytes : (read next : WordsRead) (from : Option (List ℕ)) → option_map (with_word_bytes read) from ≡ Some next → Adds [] read.values next.values
 of_bytes read next None is = cc
 of_bytes read next (Some bytes) is =
-    let next_is : ◌≡◌ {A = WordsRead} (with_bytes read bytes) next = cc in
+    let next_is : ◌≡◌ {A = WordsRead} (with_word_bytes read bytes) next = cc in
     rw (← next_is) (sym (append-nil (map kind_of read.values)))
 
 word_adds : (read next : WordsRead) (kind : Kind) (word : List ℕ) → read_word read kind word ≡ Some next → Adds (kind ∷ []) read.values next.values

@@ -9,7 +9,7 @@ use Rattle.byteorder.specs.Numbers.{big_number-reads_back}
 use Rattle.hex.specs.Hex.{encode_lower, encode_with, hex_digit_value, lower_digits}
 use Rattle.hex.proofs.HexLemmas.{IsDigits-lower_digits, decode_of-encode_lower}
 use Rattle.heap_model.specs.Bytes.{AreBytes, u32_at, u32_bytes}
-use Rattle.palm_text.specs.Pieces.{is_printable, closed, quoted, marked_hex, spelled}
+use Rattle.palm_text.specs.Pieces.{is_printable, closed, script_quoted, marked_hex, script_spelled}
 use Rattle.script_lines.specs.Words.{is_blank, words_of, plain_word, quoted_word}
 use Rattle.script_lines.specs.Spellings.{inside, is_quoted, number_of_four, spelled_text}
 use Rattle.script_lines.specs.Laws.{TextsAreWords, TextsAreReadBack, FourBytesAreReadBack}
@@ -27,7 +27,7 @@ quoted_word-closed word (b ∷ text) h =
     let parts = and_parts (is_printable b) (list_all is_printable text) h in
     rw (no_quote b parts.0) (rw append_assoc at (quoted_word-closed (word ++ b ∷ []) text parts.1))
 
-words_of-quoted : (text : List ℕ) → list_all is_printable text ≡ true → words_of (quoted text) ≡ Ok (quoted text ∷ [])
+words_of-quoted : (text : List ℕ) → list_all is_printable text ≡ true → words_of (script_quoted text) ≡ Ok (script_quoted text ∷ [])
 unfolding words_of
 words_of-quoted text h = quoted_word-closed (34 ∷ []) text h
 
@@ -58,27 +58,27 @@ words_of-marked_hex bytes h = plain_word-digits bytes (120 ∷ 58 ∷ []) h
 pub texts_are_words : TextsAreWords
 texts_are_words text h = by_printable (list_all is_printable text) refl
   where
-    by_printable : (v : Bool) → list_all is_printable text ≡ v → words_of (spelled text) ≡ Ok (spelled text ∷ [])
+    by_printable : (v : Bool) → list_all is_printable text ≡ v → words_of (script_spelled text) ≡ Ok (script_spelled text ∷ [])
     by_printable true is = rw is (words_of-quoted text is)
     by_printable false is = rw is (words_of-marked_hex text h)
 
 -- ---- what the words spell
 
-inside-quoted : (text : List ℕ) → inside (quoted text) ≡ text
+inside-quoted : (text : List ℕ) → inside (script_quoted text) ≡ text
 inside-quoted text =
     let long : length (closed text) ≡ length text + 1 = length-append text (34 ∷ []) in
-    let most : length (quoted text) - 2 ≡ length text = omega (arith, long) in
+    let most : length (script_quoted text) - 2 ≡ length text = omega (arith, long) in
     rw most (take-append_seam text (34 ∷ []))
 
-is_quoted-quoted : (text : List ℕ) → is_quoted (quoted text) ≡ true
+is_quoted-quoted : (text : List ℕ) → is_quoted (script_quoted text) ≡ true
 is_quoted-quoted text =
     let long : length (closed text) ≡ length text + 1 = length-append text (34 ∷ []) in
-    let two : nat_le 2 (length (quoted text)) ≡ true = grind (arith, long) in
-    let most : length (quoted text) - 1 ≡ suc (length text) = omega (arith, long) in
-    let last : slice_index (quoted text) (length (quoted text) - 1) ≡ 34 = rw most (get_or-append_seam text 34 [] 0) in
+    let two : nat_le 2 (length (script_quoted text)) ≡ true = grind (arith, long) in
+    let most : length (script_quoted text) - 1 ≡ suc (length text) = omega (arith, long) in
+    let last : slice_index (script_quoted text) (length (script_quoted text) - 1) ≡ 34 = rw most (get_or-append_seam text 34 [] 0) in
     rw (two, last) refl
 
-spelled_text-quoted : (text : List ℕ) → list_all is_printable text ≡ true → spelled_text (quoted text) ≡ Some text
+spelled_text-quoted : (text : List ℕ) → list_all is_printable text ≡ true → spelled_text (script_quoted text) ≡ Some text
 spelled_text-quoted text h = rw (is_quoted-quoted text, inside-quoted text, h) refl
 
 spelled_text-marked_hex : (bytes : List ℕ) → AreBytes bytes → spelled_text (marked_hex bytes) ≡ Some bytes
@@ -87,7 +87,7 @@ spelled_text-marked_hex bytes h = ap result_ok (decode_of-encode_lower bytes h)
 pub texts_are_read_back : TextsAreReadBack
 texts_are_read_back text h = by_printable (list_all is_printable text) refl
   where
-    by_printable : (v : Bool) → list_all is_printable text ≡ v → spelled_text (spelled text) ≡ Some text
+    by_printable : (v : Bool) → list_all is_printable text ≡ v → spelled_text (script_spelled text) ≡ Some text
     by_printable true is = rw is (spelled_text-quoted text is)
     by_printable false is = rw is (spelled_text-marked_hex text h)
 

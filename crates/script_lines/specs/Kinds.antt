@@ -26,8 +26,8 @@ with_value read value = record {
 }
 
 -- the same with the bytes of a word of bytes or text
-abbrev pub with_bytes : WordsRead → List ℕ → WordsRead
-with_bytes read bytes = record {
+abbrev pub with_word_bytes : WordsRead → List ℕ → WordsRead
+with_word_bytes read bytes = record {
   values = read.values;
   bytes = bytes;
   labels = read.labels;
@@ -63,8 +63,8 @@ read_word read Flag word = option_map (λ is_set. with_value read (FlagValue is_
 read_word read Which word = option_map (λ which. with_value read (WhichValue which)) (spelled_which word)
 read_word read FourBytes word =
     option_map (λ number. with_value read (FourBytesValue number)) (spelled_four word)
-read_word read Bytes word = option_map (with_bytes read) (spelled_bytes word)
-read_word read Text word = option_map (with_bytes read) (spelled_text word)
+read_word read Bytes word = option_map (with_word_bytes read) (spelled_bytes word)
+read_word read Text word = option_map (with_word_bytes read) (spelled_text word)
 
 -- The same with more words, the first of which is word `number` of its line. The fault is the first
 -- word that isn't of its kind.

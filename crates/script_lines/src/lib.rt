@@ -36,7 +36,7 @@ pub use fault::{LineFault, ScriptFault};
 pub use label::LabelTables;
 pub use laws::{four_bytes_are_read_back, texts_are_read_back};
 pub use line::{ChunkLabel, DatabaseLabel, LentBytes, Line, LineCall, Script, label_ends};
-pub use reading::{parse, parse_from, read_line};
+pub use reading::{NO_MEMORY_FAULT, parse, parse_from, read_line};
 pub use spelling::{
     four_bytes_of, hex_byte_of, hex_of, hex_short_of, number_of, short_of, text_of,
 };

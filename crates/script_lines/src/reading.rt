@@ -117,7 +117,7 @@ pub fn read_line<'a, A: Allowance>(
 }
 
 /// The fault of a failed allocation.
-const REFUSED: LineFault = LineFault {
+pub const NO_MEMORY_FAULT: LineFault = LineFault {
     line: 0,
     fault: ScriptFault::OutOfMemory,
 };
@@ -159,9 +159,9 @@ pub fn parse_from<'a, A: Allowance>(memory: &A, text: &'a [u8]) -> Result<Script
             Ok(None) => {}
             Ok(Some(line)) => match script.push(memory, line) {
                 Ok(()) => {}
-                Err(_) => return Err(REFUSED),
+                Err(_) => return Err(NO_MEMORY_FAULT),
             },
-            Err(ScriptFault::OutOfMemory) => return Err(REFUSED),
+            Err(ScriptFault::OutOfMemory) => return Err(NO_MEMORY_FAULT),
             Err(fault) => {
                 return Err(LineFault {
                     line: number,

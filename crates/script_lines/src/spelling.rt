@@ -13,7 +13,7 @@ use palm_text::are_printable;
 use script_commands::LentBytes;
 
 /// The length of the longest label.
-const MAX_LABEL: usize = 31;
+const MOST_LABEL: usize = 31;
 
 /// Reports whether a word spells a label.
 pub(crate) fn is_label(word: &[u8]) -> bool
@@ -22,7 +22,7 @@ pub(crate) fn is_label(word: &[u8]) -> bool
     match word.split_first() {
         None => false,
         Some((first, more)) => first.is_ascii_alphabetic()
-            && more.len() < MAX_LABEL
+            && more.len() < MOST_LABEL
             && are_label_bytes(more),
     }
 }

@@ -9,8 +9,8 @@ use Rattle.heap_check.proofs.CheckLaws as laws_heap
 use Rattle.store_check.specs.declared.fault.StoreFault.{StoreFault}
 use Rattle.store_check.specs.declared.fault.StoreFault.TheVariants.{OutOfMemory}
 use Rattle.store_check.specs.declared.lookup.Body.{Body}
-use Rattle.store_check.specs.Listing.{IsListing, AreListed, NotesListed}
-use Rattle.store_check.specs.Faults.{IsBadSlot, IsBadHeader, IsBadEntry, slot_faults, header_faults, entry_faults, store_faults, NoneBrought}
+use Rattle.store_check.specs.Listing.{IsGoodDirectory, AreListed, NotesListed}
+use Rattle.store_check.specs.Faults.{IsBadSlot, IsBadHeader, IsBadEntry, directory_faults, header_faults, entry_faults, store_faults, NoneBrought}
 use Rattle.store_check.specs.Naming.{AreNamed}
 use Rattle.store_check.specs.Checks.{IsFirstOr, IsRefusal, IsAnswered, marked_faults, own_faults}
 use Rattle.store_check.proofs.FaultLaws.{length-listed, are_named, accepted_none}
@@ -67,12 +67,12 @@ own_not_memory image f = elim f [
 
 -- ---- what is known if the first three passes found nothing
 
-pub listed_named : (image : List ℕ) → HeapAccepted image → NoneBrought (slot_faults image) → NoneBrought (header_faults image) → NoneBrought (entry_faults image) → AreNamed image
+pub listed_named : (image : List ℕ) → HeapAccepted image → NoneBrought (directory_faults image) → NoneBrought (header_faults image) → NoneBrought (entry_faults image) → AreNamed image
 listed_named image h slots headers entries =
     are_named image h (no_least (IsBadSlot image) (λ k l. slots.0 _ (k, l, refl))) (no_least (IsBadHeader image) (λ k l. headers.0 _ (k, l, refl))) (no_least_pair (IsBadEntry image) (λ k i l. entries.0 _ (k, i, l, refl)))
 
 -- the prefix of a table that is cut to as many as are listed
-pub listed_cut : (image directory : List ℕ) (table : List Body) (count : ℕ) → IsListing image directory → count ≡ length directory / 4 → NotesListed image table → AreListed image (take count table)
+pub listed_cut : (image directory : List ℕ) (table : List Body) (count : ℕ) → IsGoodDirectory image directory → count ≡ length directory / 4 → NotesListed image table → AreListed image (take count table)
 listed_cut image directory table count l is noted = subst (λ (n : ℕ). AreListed image (take n table)) (sym (is ∙ l.count)) noted
 
 pub listed_length : (image : List ℕ) (headers : List Body) → AreListed image headers → length headers ≡ length (listed image)

@@ -13,7 +13,7 @@ use Rattle.laws_store.proofs.Times.{same-yes, same-no, times-cons, times-append,
 use Rattle.laws_store.proofs.Owners.{owned_some, directory_owner, owned_slot}
 use Rattle.store_check.specs.Faults.{IsShared, IsStray}
 use Rattle.heap_check.specs.Owners.{marked_word, HasOwners}
-use Rattle.store_check.specs.Naming.{AreNamed, accounted, HasRoom, AreMarks, IsMarkedTwice, IsUnmarked}
+use Rattle.store_check.specs.Naming.{AreNamed, accounted, AreEnoughMarks, AreMarks, IsMarkedTwice, IsUnmarked}
 use Rattle.store_check.specs.Owners.{IsOurOwner, IsOurs}
 use Rattle.store_check.proofs.SlotWords.{slot_word}
 use Rattle.store_check.proofs.OwnerLaws.{owner_noted}
@@ -104,7 +104,7 @@ counted_stray image q n own none = elim own [
 -- ---- the least of them, by the marks
 
 -- of slots, by the numbers of their marks
-least_slot : (image : List ℕ) (P Q : ℕ → Type 0) (count : ℕ) → HeapAccepted image → HasRoom image count → ((slot : ℕ) → P slot → IsSlot image slot) → ((k : ℕ) → k < count → P (marked_word k) → Q k) → (k : ℕ) → P (marked_word k) → Least Q k → Least P (marked_word k)
+least_slot : (image : List ℕ) (P Q : ℕ → Type 0) (count : ℕ) → HeapAccepted image → AreEnoughMarks image count → ((slot : ℕ) → P slot → IsSlot image slot) → ((k : ℕ) → k < count → P (marked_word k) → Q k) → (k : ℕ) → P (marked_word k) → Least Q k → Least P (marked_word k)
 least_slot image P Q count h room slots there k p l = record {
   here = p;
   none_below = λ other less q.
@@ -114,7 +114,7 @@ least_slot image P Q count h room slots there k p l = record {
       l.none_below word.0 (omega arith) (there word.0 (room word.0 (slots (marked_word word.0) here)) here);
 }
 
-no_slot : (image : List ℕ) (P Q : ℕ → Type 0) (count : ℕ) → HeapAccepted image → HasRoom image count → ((slot : ℕ) → P slot → IsSlot image slot) → ((k : ℕ) → k < count → P (marked_word k) → Q k) → ((k : ℕ) → Q k → ⊥) → (slot : ℕ) → P slot → ⊥
+no_slot : (image : List ℕ) (P Q : ℕ → Type 0) (count : ℕ) → HeapAccepted image → AreEnoughMarks image count → ((slot : ℕ) → P slot → IsSlot image slot) → ((k : ℕ) → k < count → P (marked_word k) → Q k) → ((k : ℕ) → Q k → ⊥) → (slot : ℕ) → P slot → ⊥
 no_slot image P Q count h room slots there none slot p =
     let word = slot_word image slot h (slots slot p) in
     let here : P (marked_word word.0) = subst P (sym word.1) p in
@@ -164,20 +164,20 @@ pub unmarked_inside : (image marks owners : List ℕ) (k : ℕ) → AreNamed ima
 unmarked_inside image marks owners k n noted m unmarked = word_inside image (marked_word k) n.heap (stray_slot image n (marked_word k) (unmarked_stray image marks owners n noted m k unmarked))
 
 -- the first word with the mark 2 is the least slot that is shared; if there is none, none is
-pub least_shared : (image marks : List ℕ) (k : ℕ) → AreNamed image → HasRoom image (length marks) → AreMarks (accounted image) marks → Least (IsMarkedTwice marks) k → Least (IsShared image) (marked_word k)
+pub least_shared : (image marks : List ℕ) (k : ℕ) → AreNamed image → AreEnoughMarks image (length marks) → AreMarks (accounted image) marks → Least (IsMarkedTwice marks) k → Least (IsShared image) (marked_word k)
 least_shared image marks k n room m l =
     least_slot image (IsShared image) (IsMarkedTwice marks) (length marks) n.heap room (shared_slot image n) (shared_marked image marks n m) k (marked_shared image marks n m k l.here) l
 
-pub none_shared : (image marks : List ℕ) → AreNamed image → HasRoom image (length marks) → AreMarks (accounted image) marks → ((k : ℕ) → IsMarkedTwice marks k → ⊥) → (slot : ℕ) → IsShared image slot → ⊥
+pub none_shared : (image marks : List ℕ) → AreNamed image → AreEnoughMarks image (length marks) → AreMarks (accounted image) marks → ((k : ℕ) → IsMarkedTwice marks k → ⊥) → (slot : ℕ) → IsShared image slot → ⊥
 none_shared image marks n room m = no_slot image (IsShared image) (IsMarkedTwice marks) (length marks) n.heap room (shared_slot image n) (shared_marked image marks n m)
 
 -- the first word without a mark that has such a chunk is the least slot that is stray; if there is
 -- none, none is
-pub least_stray : (image marks owners : List ℕ) (k : ℕ) → AreNamed image → HasOwners image owners → HasRoom image (length marks) → AreMarks (accounted image) marks → Least (IsUnmarked marks owners) k → Least (IsStray image) (marked_word k)
+pub least_stray : (image marks owners : List ℕ) (k : ℕ) → AreNamed image → HasOwners image owners → AreEnoughMarks image (length marks) → AreMarks (accounted image) marks → Least (IsUnmarked marks owners) k → Least (IsStray image) (marked_word k)
 least_stray image marks owners k n noted room m l =
     least_slot image (IsStray image) (IsUnmarked marks owners) (length marks) n.heap room (stray_slot image n) (stray_unmarked image marks owners n noted m) k (unmarked_stray image marks owners n noted m k l.here) l
 
-pub none_stray : (image marks owners : List ℕ) → AreNamed image → HasOwners image owners → HasRoom image (length marks) → AreMarks (accounted image) marks → ((k : ℕ) → IsUnmarked marks owners k → ⊥) → (slot : ℕ) → IsStray image slot → ⊥
+pub none_stray : (image marks owners : List ℕ) → AreNamed image → HasOwners image owners → AreEnoughMarks image (length marks) → AreMarks (accounted image) marks → ((k : ℕ) → IsUnmarked marks owners k → ⊥) → (slot : ℕ) → IsStray image slot → ⊥
 none_stray image marks owners n noted room m = no_slot image (IsStray image) (IsUnmarked marks owners) (length marks) n.heap room (stray_slot image n) (stray_unmarked image marks owners n noted m)
 
 -- ---- what the accepted image asks of them

@@ -20,9 +20,9 @@ use Rattle.laws_store.proofs.Times.{all-times, All-flat_map, no_least, no_least_
 use Rattle.laws_store.proofs.NameCounts.{unique_counts, counts_unique}
 use Rattle.laws_store.proofs.Shapes.{spelled_shape, shape_spelled}
 use Rattle.laws_store.specs.StoreTests.{is_name}
-use Rattle.db_format.specs.Headers.{IsWhole}
+use Rattle.db_format.specs.Headers.{AreWholeBytes}
 use Rattle.store_check.specs.Listing.{listed_at, listed_count, header_at}
-use Rattle.store_check.specs.Faults.{IsBadSlot, HasHeader, IsBadHeader, IsBadEntry, IsShared, IsStray, HasBadId, IsBadId, IsBadName, IsSameName, store_faults, NoneBrought}
+use Rattle.store_check.specs.Faults.{IsBadSlot, HasDatabaseHeader, IsBadHeader, IsBadEntry, IsShared, IsStray, HasBadId, IsBadId, IsBadName, IsSameName, store_faults, NoneBrought}
 use Rattle.store_check.specs.Naming.{AreNamed}
 use Rattle.laws_store.proofs.RecordIds.{ids_index, ids_once, once_ids, index_ids}
 use Rattle.store_check.proofs.IndexLaws.{length-numbered, numbered_at, all_numbered, numbered_all, distinct_numbered, numbered_distinct}
@@ -161,17 +161,17 @@ databases_at image db d below =
 
 -- ---- an image without faults is accepted
 
-shape_of : (bytes : List ℕ) → IsWhole bytes → HasName bytes → HasShape bytes
+shape_of : (bytes : List ℕ) → AreWholeBytes bytes → HasName bytes → HasShape bytes
 shape_of bytes w n = record { header = w.header; name = n; next_list = w.next_list; ends = w.ends }
 
-whole_decided : (bytes : List ℕ) → ((IsWhole bytes → ⊥) → ⊥) → IsWhole bytes
+whole_decided : (bytes : List ℕ) → ((AreWholeBytes bytes → ⊥) → ⊥) → AreWholeBytes bytes
 whole_decided bytes nn = record {
   header = elim (cases_lt (length bytes) 78) [ inl low ↦ absurd (nn (λ w. (let high = w.header in omega arith))) | inr high ↦ high ];
   next_list = elim (cases_eq (u32_at bytes 72) 0) [ inl e ↦ e | inr ne ↦ absurd (nn (λ w. ne w.next_list)) ];
   ends = elim (cases_eq (length bytes) (entry_offset (resources_in bytes) (entry_count_in bytes))) [ inl e ↦ e | inr ne ↦ absurd (nn (λ w. ne w.ends)) ];
 }
 
-pub header_decided : (image bytes : List ℕ) → ((HasHeader image bytes → ⊥) → ⊥) → HasHeader image bytes
+pub header_decided : (image bytes : List ℕ) → ((HasDatabaseHeader image bytes → ⊥) → ⊥) → HasDatabaseHeader image bytes
 header_decided image bytes nn = record {
   whole = whole_decided bytes (λ none. nn (λ h. none h.whole));
   app_info = info_decided image (u32_at bytes 52) (λ none. nn (λ h. none h.app_info));
@@ -202,7 +202,7 @@ pub entry_named : (image : List ℕ) (entry : Entry ℕ) → HasData image entry
 entry_named image (a_record attributes id slot) h = elim h [ inl p ↦ inl p.0 | inr own ↦ inr own ]
 entry_named image (a_resource kind id slot) own = inr own
 
-database_named : (image bytes : List ℕ) → HasHeader image bytes → ((index : ℕ) → index < entry_count_in bytes → HasData image (entry_in bytes index)) → All (IsInfoBlock image) (data_in (database_in bytes))
+database_named : (image bytes : List ℕ) → HasDatabaseHeader image bytes → ((index : ℕ) → index < entry_count_in bytes → HasData image (entry_in bytes index)) → All (IsInfoBlock image) (data_in (database_in bytes))
 unfolding database_in
 database_named image bytes h entries =
     let items : List (Entry ℕ) = numbered (entry_in bytes) (entry_count_in bytes) in
@@ -307,7 +307,7 @@ right_at image a db below =
     let len = length-databases image in
     subst (IsDatabase image) (databases_at image db (stored_at image db) below) (a.each db (stored_at image db) (omega arith))
 
-header_of_database : (image : List ℕ) → Accepted image → (db : ℕ) → db < listed_count image → HasHeader image (header_at image db)
+header_of_database : (image : List ℕ) → Accepted image → (db : ℕ) → db < listed_count image → HasDatabaseHeader image (header_at image db)
 unfolding database_in header_at stored_at
 header_of_database image a db below =
     let r = right_at image a db below in

@@ -18,8 +18,8 @@ use Rattle.laws_store.proofs.Owners.{directory_owner, owned_slot}
 use Rattle.chunk_format.specs.declared.header.Header.{Header}
 use Rattle.chunk_format.specs.declared.header.Header.TheVariants as headers
 use Rattle.chunk_format.specs.Header.{header_of, HasHeader}
-use Rattle.store_check.specs.Listing.{listed_at, listed_count, header_at, IsListing, AreListed}
-use Rattle.store_check.specs.Lookup.{HasBody, movable_by}
+use Rattle.store_check.specs.Listing.{listed_at, listed_count, header_at, IsGoodDirectory, AreListed}
+use Rattle.store_check.specs.Lookup.{HasBody, body_if_movable}
 use Rattle.store_check.specs.declared.lookup.Body.{Body}
 
 -- the slot of a chunk of the manager's holds its place
@@ -59,14 +59,14 @@ movable_in image slot place h s =
 header_read : (image : List ℕ) (at : ℕ) (header : Header) → HasHeader image at header → Some header ≡ option_map header_of (chunk_at image at)
 header_read image at header h = ap (λ (x : Header). Some x) h.header_is ∙ sym (ap (option_map header_of) (chunk_at-spelled image at h.chunk h.spelled))
 
-header_found : (image : List ℕ) (slot : ℕ) (place : Place) (header : Header) → HeapAccepted image → HasHeader image (place.0 - 8) header → InSlot image slot place.0 → MatchOption (movable_by header place) ⊥ (HasBody image slot)
+header_found : (image : List ℕ) (slot : ℕ) (place : Place) (header : Header) → HeapAccepted image → HasHeader image (place.0 - 8) header → InSlot image slot place.0 → MatchOption (body_if_movable header place) ⊥ (HasBody image slot)
 header_found image slot place header h there s =
-    subst (λ (x : Header). MatchOption (movable_by x place) ⊥ (HasBody image slot)) (sym (same (header_read image (place.0 - 8) header there ∙ slot_header image slot place.0 h s)))
+    subst (λ (x : Header). MatchOption (body_if_movable x place) ⊥ (HasBody image slot)) (sym (same (header_read image (place.0 - 8) header there ∙ slot_header image slot place.0 h s)))
     (movable_in image slot place h s) where
       same : Some header ≡ Some (headers.Movable (length s.live.bytes) s.live.lock s.live.owner s.named) → header ≡ headers.Movable (length s.live.bytes) s.live.lock s.live.owner s.named
       same e = cc
 
-pub body_found : (image : List ℕ) (slot : ℕ) (place : Place) (header : Header) (found : Option Body) → HeapAccepted image → HasHeader image (place.0 - 8) header → found ≡ movable_by header place → InSlot image slot place.0 → MatchOption found ⊥ (HasBody image slot)
+pub body_found : (image : List ℕ) (slot : ℕ) (place : Place) (header : Header) (found : Option Body) → HeapAccepted image → HasHeader image (place.0 - 8) header → found ≡ body_if_movable header place → InSlot image slot place.0 → MatchOption found ⊥ (HasBody image slot)
 body_found image slot place header found h there is s = subst (λ (o : Option Body). MatchOption o ⊥ (HasBody image slot)) (sym is) (header_found image slot place header h there s)
 
 -- what holds of the value that is there
@@ -94,11 +94,11 @@ the_directory image slot e = ap (bytes_under image) e
 pub word_listed : (image directory : List ℕ) (index : ℕ) → directory ≡ directory_bytes image → u32_at directory (4 * index) ≡ listed_at image index
 word_listed image directory index e = ap (λ (b : List ℕ). u32_at b (4 * index)) e
 
-pub header_owner : (image directory : List ℕ) (db slot : ℕ) → IsListing image directory → db < listed_count image → slot ≡ u32_at directory (4 * db) → owner_under image slot ≡ managers_owner
+pub header_owner : (image directory : List ℕ) (db slot : ℕ) → IsGoodDirectory image directory → db < listed_count image → slot ≡ u32_at directory (4 * db) → owner_under image slot ≡ managers_owner
 header_owner image directory db slot l below e = ap (owner_under image) (e ∙ word_listed image directory db l.bytes) ∙ (l.headers db below).owner
 
 -- where the header under that word is
-pub listed_body : (image directory : List ℕ) (db slot : ℕ) (body : Body) → IsListing image directory → slot ≡ u32_at directory (4 * db) → HasBody image slot body → HasBody image (listed_at image db) body
+pub listed_body : (image directory : List ℕ) (db slot : ℕ) (body : Body) → IsGoodDirectory image directory → slot ≡ u32_at directory (4 * db) → HasBody image slot body → HasBody image (listed_at image db) body
 listed_body image directory db slot body l e h = subst (λ (s : ℕ). HasBody image s body) (e ∙ word_listed image directory db l.bytes) h
 
 -- and its bytes

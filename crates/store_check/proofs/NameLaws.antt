@@ -4,7 +4,7 @@ use Rattle.std.proofs.lemmas.Bool.{cases_eq, cases_lt}
 use Rattle.std.specs.Prelude.{◌↔◌}
 use Rattle.heap_model.specs.Database.{name_field, name_in, HasName}
 use Rattle.laws_store.proofs.Names.{name_read}
-use Rattle.bit_sets.specs.Sets.{HasNumber, AddsNumber}
+use Rattle.bit_sets.specs.Sets.{IsInSet, AddsNumber}
 use Rattle.store_check.specs.Listing.{listed_count, header_at}
 use Rattle.store_check.specs.Faults.{IsSameName, same_name_faults, NoneBrought}
 use Rattle.store_check.specs.Names.{HaveNames, field_number, name_number, HasNamesBefore}
@@ -22,14 +22,14 @@ same_numbers : (one other : List ℕ) → HasName one → HasName other → name
 same_numbers one other h g same = ap field_number ((same_fields one other h g).1 same)
 
 -- a name whose number isn't in the set is no earlier one
-pub other_name : (image seen : List ℕ) (db number : ℕ) → HaveNames image → number ≡ name_number (header_at image db) → HasNamesBefore image seen db → (HasNumber seen number → ⊥) → IsSameName image db → ⊥
+pub other_name : (image seen : List ℕ) (db number : ℕ) → HaveNames image → number ≡ name_number (header_at image db) → HasNamesBefore image seen db → (IsInSet seen number → ⊥) → IsSameName image db → ⊥
 other_name image seen db number names is before none bad =
     let below : db < listed_count image = bad.0 in
     let same = bad.1 in
     let less : same.0 < db = same.1 in
     let first : same.0 < listed_count image = omega arith in
     let e : name_number (header_at image same.0) ≡ number = same_numbers (header_at image same.0) (header_at image db) (names.names same.0 first) (names.names db below) same.2 ∙ sym is in
-    none (subst (HasNumber seen) e (before same.0 less))
+    none (subst (IsInSet seen) e (before same.0 less))
 
 -- the names so far: none is an earlier one's, and their numbers are in the set
 pub record NamesSoFar (image seen : List ℕ) (db : ℕ) : Type 0 where
@@ -41,10 +41,10 @@ names_more image seen new db number is adds good so_far = record {
   none_same = none_more (IsSameName image) db good so_far.none_same;
   numbers = λ earlier below. elim (cases_lt earlier db) [
     | inl less ↦ elim (cases_eq (name_number (header_at image earlier)) number) [
-      | inl e ↦ subst (HasNumber new) (sym e) adds.here
+      | inl e ↦ subst (IsInSet new) (sym e) adds.here
       | inr ne ↦ (adds.others (name_number (header_at image earlier)) ne).1 (so_far.numbers earlier less)
     ]
-    | inr last ↦ let e : db ≡ earlier = omega arith in subst (HasNumber new) (is ∙ ap (λ (k : ℕ). name_number (header_at image k)) e) adds.here
+    | inr last ↦ let e : db ≡ earlier = omega arith in subst (IsInSet new) (is ∙ ap (λ (k : ℕ). name_number (header_at image k)) e) adds.here
   ];
 }
 

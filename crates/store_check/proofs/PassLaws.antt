@@ -9,18 +9,18 @@ use Rattle.heap_check.specs.Faults.{FirstBrought}
 use Rattle.store_check.specs.declared.fault.StoreFault.TheVariants.{BadHeader}
 use Rattle.store_check.specs.declared.lookup.Body.{Body}
 use Rattle.store_check.specs.Lookup.{HasBody}
-use Rattle.store_check.specs.Listing.{listed_at, listed_count, header_at, IsListing, NotesListed}
-use Rattle.store_check.specs.Faults.{HasHeader, IsBadHeader, HasBadEntry, HasGoodEntries, IsBadEntry, header_faults}
+use Rattle.store_check.specs.Listing.{listed_at, listed_count, header_at, IsGoodDirectory, NotesListed}
+use Rattle.store_check.specs.Faults.{HasDatabaseHeader, IsBadHeader, HasBadEntry, HasGoodEntries, IsBadEntry, header_faults}
 
 -- none so far, and not this one
 pub none_more : (P : ℕ → Type 0) (n : ℕ) → (P n → ⊥) → ((k : ℕ) → k < n → P k → ⊥) → (k : ℕ) → k < n + 1 → P k → ⊥
 none_more P n good none k below bad = elim (cases_lt k n) [ inl less ↦ none k less bad | inr last ↦ let is : k ≡ n = omega arith in good (subst P is bad) ]
 
-pub header_good : (image bytes : List ℕ) (db : ℕ) → bytes ≡ header_at image db → HasHeader image bytes → IsBadHeader image db → ⊥
-header_good image bytes db is has bad = bad.1 (subst (HasHeader image) is has)
+pub header_good : (image bytes : List ℕ) (db : ℕ) → bytes ≡ header_at image db → HasDatabaseHeader image bytes → IsBadHeader image db → ⊥
+header_good image bytes db is has bad = bad.1 (subst (HasDatabaseHeader image) is has)
 
-pub header_first : (image bytes : List ℕ) (db : ℕ) → bytes ≡ header_at image db → db < listed_count image → (HasHeader image bytes → ⊥) → ((k : ℕ) → k < db → IsBadHeader image k → ⊥) → FirstBrought (header_faults image) (BadHeader db)
-header_first image bytes db is below bad none = inl (db, record { here = (below, λ h. bad (subst (HasHeader image) (sym is) h)); none_below = none }, refl)
+pub header_first : (image bytes : List ℕ) (db : ℕ) → bytes ≡ header_at image db → db < listed_count image → (HasDatabaseHeader image bytes → ⊥) → ((k : ℕ) → k < db → IsBadHeader image k → ⊥) → FirstBrought (header_faults image) (BadHeader db)
+header_first image bytes db is below bad none = inl (db, record { here = (below, λ h. bad (subst (HasDatabaseHeader image) (sym is) h)); none_below = none }, refl)
 
 -- the headers so far: none is bad, and the table notes where they lie
 pub record HeadersSoFar (image : List ℕ) (table : List Body) (db : ℕ) : Type 0 where
@@ -38,7 +38,7 @@ headers_more image table new body db is inside here good so_far = record {
   ]);
 }
 
-pub headers_noted : (image directory : List ℕ) (table : List Body) (db : ℕ) → IsListing image directory → db ≡ listed_count image → db ≤ length table → HeadersSoFar image table db → NotesListed image table
+pub headers_noted : (image directory : List ℕ) (table : List Body) (db : ℕ) → IsGoodDirectory image directory → db ≡ listed_count image → db ≤ length table → HeadersSoFar image table db → NotesListed image table
 headers_noted image directory table db l all room so_far =
     let count : length (take (listed_count image) table) ≡ listed_count image = length-take-le (listed_count image) table (omega arith) in
     let few = l.few in

@@ -11,7 +11,7 @@ use Rattle.laws_store.proofs.Numbers.{numbered_more}
 use Rattle.store_check.specs.Listing.{listed_at, listed_count}
 use Rattle.heap_check.specs.Faults.{FirstBrought}
 use Rattle.store_check.specs.declared.fault.StoreFault.TheVariants.{BadDirectorySlot}
-use Rattle.store_check.specs.Faults.{IsBadSlot, slot_faults}
+use Rattle.store_check.specs.Faults.{IsBadSlot, directory_faults}
 use Rattle.store_check.specs.Naming.{met, AreMarks}
 use Rattle.store_check.proofs.IndexLaws.{times_index, index_times}
 
@@ -60,7 +60,7 @@ pub record SlotsSoFar (image marks : List ℕ) (index : ℕ) : Type 0 where
   pub marked : AreMarks (met image index) marks
   pub few : index ≤ most_databases
 
-pub slot_first : (image marks : List ℕ) (index : ℕ) → SlotsSoFar image marks index → IsBadSlot image index → FirstBrought (slot_faults image) (BadDirectorySlot index)
+pub slot_first : (image marks : List ℕ) (index : ℕ) → SlotsSoFar image marks index → IsBadSlot image index → FirstBrought (directory_faults image) (BadDirectorySlot index)
 slot_first image marks index g bad = inl (index, record { here = bad; none_below = g.none_bad }, refl)
 
 -- a word that isn't bad is complete, and one of the first 1,024

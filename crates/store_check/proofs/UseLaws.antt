@@ -9,7 +9,7 @@ use Rattle.heap_model.specs.Lists.{numbered}
 use Rattle.heap_model.specs.Database.{entry_data, data_in, entry_in, entry_count_in, database_in}
 use Rattle.heap_model.specs.Store.{StoredDatabase, listed, database_under, databases, named_by, named}
 use Rattle.laws_store.proofs.Numbers.{numbered_more}
-use Rattle.store_check.specs.Listing.{listed_at, listed_count, header_at, entries_in}
+use Rattle.store_check.specs.Listing.{listed_at, listed_count, header_at, entries_spelled}
 
 -- one number more
 one_more : {X : Type 0} (each : ℕ → X) (n : ℕ) → numbered each (n + 1) ≡ numbered each n ++ each n ∷ []
@@ -30,15 +30,15 @@ entries_more bytes xs i slot e =
     ∙ sym (map-append entry_data (numbered (entry_in bytes) i) (entry_in bytes i ∷ []))
     ∙ sym (ap (map entry_data) (one_more (entry_in bytes) i)))
 
-pub entries_all : (bytes xs : List ℕ) (i : ℕ) → i ≡ entry_count_in bytes → xs ++ map entry_data (numbered (entry_in bytes) i) ≡ xs ++ map entry_data (entries_in bytes)
+pub entries_all : (bytes xs : List ℕ) (i : ℕ) → i ≡ entry_count_in bytes → xs ++ map entry_data (numbered (entry_in bytes) i) ≡ xs ++ map entry_data (entries_spelled bytes)
 entries_all bytes xs i e = ap (λ (n : ℕ). xs ++ map entry_data (numbered (entry_in bytes) n)) e
 
 -- ---- a database
 
-pub data_all : (bytes xs : List ℕ) (app sort : ℕ) → app ≡ u32_at bytes 52 → sort ≡ u32_at bytes 56 → ((xs ++ app ∷ []) ++ sort ∷ []) ++ map entry_data (entries_in bytes) ≡ xs ++ data_in (database_in bytes)
+pub data_all : (bytes xs : List ℕ) (app sort : ℕ) → app ≡ u32_at bytes 52 → sort ≡ u32_at bytes 56 → ((xs ++ app ∷ []) ++ sort ∷ []) ++ map entry_data (entries_spelled bytes) ≡ xs ++ data_in (database_in bytes)
 unfolding database_in
 data_all bytes xs app sort e f =
-    let rest : List ℕ = map entry_data (entries_in bytes) in
+    let rest : List ℕ = map entry_data (entries_spelled bytes) in
     append_assoc (xs ++ app ∷ []) (sort ∷ []) rest ∙ append_assoc xs (app ∷ []) (sort ∷ rest)
     ∙ ap (λ (a : ℕ). xs ++ a ∷ sort ∷ rest) e ∙ ap (λ (s : ℕ). xs ++ u32_at bytes 52 ∷ s ∷ rest) f
 

@@ -8,7 +8,7 @@ use Rattle.heap_model.specs.Database.{entry_count_in, entry_in, name_in, HasName
 use Rattle.heap_model.specs.Bytes.{u32_at}
 use Rattle.heap_model.specs.DatabaseFields.{app_info_at, sort_info_at}
 use Rattle.heap_model.specs.Store.{owner_under, directory_bytes, listed, named, most_databases, IsHeaderSlot, IsInfoBlock, HasData, unique_id, listed_size}
-use Rattle.db_format.specs.Headers.{IsWhole}
+use Rattle.db_format.specs.Headers.{AreWholeBytes}
 use Rattle.heap_check.specs.Faults.{◌locates◌, FirstBrought}
 use Rattle.heap_check.specs.Faults as heaps
 use Rattle.heap_check.specs.declared.fault.HeapFault.{HeapFault}
@@ -30,14 +30,14 @@ IsBadSlot image index =
 
 -- these bytes are a whole header and its entries, and its info words are 0 or the slots of chunks
 -- for data
-pub record HasHeader (image bytes : List ℕ) : Type 0 where
-  pub whole : IsWhole bytes
+pub record HasDatabaseHeader (image bytes : List ℕ) : Type 0 where
+  pub whole : AreWholeBytes bytes
   pub app_info : IsInfoBlock image (u32_at bytes app_info_at)
   pub sort_info : IsInfoBlock image (u32_at bytes sort_info_at)
 
--- the bytes of this database's header aren't as `HasHeader` demands
+-- the bytes of this database's header aren't as `HasDatabaseHeader` demands
 abbrev pub IsBadHeader : List ℕ → ℕ → Type 0
-IsBadHeader image db = (db < listed_count image) × (HasHeader image (header_at image db) → ⊥)
+IsBadHeader image db = (db < listed_count image) × (HasDatabaseHeader image (header_at image db) → ⊥)
 
 -- this entry doesn't have its data in a chunk for data. Only a deleted record may have the slot 0.
 abbrev pub HasBadEntry : List ℕ → List ℕ → ℕ → Type 0
@@ -96,8 +96,8 @@ abbrev pub ◌locates_both◌ : {Fault : Type 0} → (ℕ → ℕ → Type 0) �
 ◌locates_both◌ P named fault = (m n : ℕ) × P m n × (fault ≡ named m n)
 
 -- the faults of the directory, the headers and the entries
-abbrev pub slot_faults : List ℕ → List (StoreFault → Type 0)
-slot_faults image = (Least (IsBadSlot image) locates BadDirectorySlot) ∷ []
+abbrev pub directory_faults : List ℕ → List (StoreFault → Type 0)
+directory_faults image = (Least (IsBadSlot image) locates BadDirectorySlot) ∷ []
 
 abbrev pub header_faults : List ℕ → List (StoreFault → Type 0)
 header_faults image = (Least (IsBadHeader image) locates BadHeader) ∷ []
@@ -137,11 +137,11 @@ store_faults image =
 
 -- the heap has a fault of its own, and this is the first
 abbrev pub BringsHeap : List ℕ → StoreFault → Type 0
-BringsHeap image fault = (first : HeapFault) × heaps.IsFirstFault image first × (fault ≡ Heap first)
+BringsHeap image fault = (first : HeapFault) × heaps.IsFirstHeapFault image first × (fault ≡ Heap first)
 
 -- all faults: that of the heap, and then those of the databases
-abbrev pub faults : List ℕ → List (StoreFault → Type 0)
-faults image = BringsHeap image ∷ store_faults image
+abbrev pub all_faults : List ℕ → List (StoreFault → Type 0)
+all_faults image = BringsHeap image ∷ store_faults image
 
 -- no row of a table brings a fault
 abbrev pub NoneBrought : List (StoreFault → Type 0) → Type 0
@@ -149,5 +149,5 @@ NoneBrought [] = Unit {0}
 NoneBrought (row ∷ rows) = ((fault : StoreFault) → row fault → ⊥) × NoneBrought rows
 
 -- the image has the fault, and none of those that are tested earlier
-abbrev pub IsFirstFault : List ℕ → StoreFault → Type 0
-IsFirstFault image fault = FirstBrought (faults image) fault
+abbrev pub IsFirstStoreFault : List ℕ → StoreFault → Type 0
+IsFirstStoreFault image fault = FirstBrought (all_faults image) fault

@@ -1,7 +1,7 @@
 -- Sets of unique IDs, as the bits of a list of bytes.
 use Rattle.std.specs.Prelude.{◌≡◌, ◌<◌, ◌≤◌, ◌/◌, ◌↔◌, ℕ, List, Some}
 use Rattle.heap_model.specs.Database.{entry_count_in}
-use Rattle.bit_sets.specs.Sets.{HasNumber}
+use Rattle.bit_sets.specs.Sets.{IsInSet}
 use Rattle.store_check.specs.Listing.{listed_count, header_at}
 use Rattle.store_check.specs.Faults.{id_at}
 
@@ -19,11 +19,11 @@ HasRoomForAll image size = (db : ℕ) → db < listed_count image → HasRoomFor
 
 -- the IDs of the records before an index are in the set, and no others
 abbrev pub HasIdsBefore : List ℕ → List ℕ → ℕ → Type 0
-HasIdsBefore bytes seen index = (id : ℕ) → (HasNumber seen id ↔ ((earlier : ℕ) × (earlier < index) × (id_at bytes earlier ≡ Some id)))
+HasIdsBefore bytes seen index = (id : ℕ) → (IsInSet seen id ↔ ((earlier : ℕ) × (earlier < index) × (id_at bytes earlier ≡ Some id)))
 
 -- the set has no IDs but those of the records from one index up to another
 abbrev pub HasIdsWithin : List ℕ → List ℕ → ℕ → ℕ → Type 0
-HasIdsWithin bytes seen from to = (id : ℕ) → HasNumber seen id → (index : ℕ) × (from ≤ index) × (index < to) × (id_at bytes index ≡ Some id)
+HasIdsWithin bytes seen from to = (id : ℕ) → IsInSet seen id → (index : ℕ) × (from ≤ index) × (index < to) × (id_at bytes index ≡ Some id)
 
 -- the ID of each record is above 0 and above those of the records before it
 abbrev pub HasRisingIds : List ℕ → Type 0

@@ -5,7 +5,7 @@ use Rattle.heap_model.specs.Heap.{HeapAccepted}
 use Rattle.heap_model.specs.Lists.{numbered}
 use Rattle.heap_model.specs.Database.{Entry, entry_data, entry_in, entry_count_in}
 use Rattle.heap_model.specs.Store.{bytes_under, directory_bytes, most_databases, IsHeaderSlot, listed_size}
-use Rattle.db_format.specs.Headers.{IsWhole}
+use Rattle.db_format.specs.Headers.{AreWholeBytes}
 use Rattle.store_check.specs.declared.lookup.Body.{Body}
 use Rattle.store_check.specs.Lookup.{HasBody}
 
@@ -22,16 +22,16 @@ unfoldable pub header_at : List ℕ → ℕ → List ℕ
 header_at image db = bytes_under image (listed_at image db)
 
 -- the entries that are read from the bytes of a header
-abbrev pub entries_in : List ℕ → List (Entry ℕ)
-entries_in bytes = numbered (entry_in bytes) (entry_count_in bytes)
+abbrev pub entries_spelled : List ℕ → List (Entry ℕ)
+entries_spelled bytes = numbered (entry_in bytes) (entry_count_in bytes)
 
 -- the slots of their data
 abbrev pub entry_slots : List ℕ → List ℕ
-entry_slots bytes = map entry_data (entries_in bytes)
+entry_slots bytes = map entry_data (entries_spelled bytes)
 
 -- These are the bytes of the directory in an accepted heap, and each of its words is valid. This is
 -- known if no slot of the directory is bad.
-pub record IsListing (image directory : List ℕ) : Type 0 where
+pub record IsGoodDirectory (image directory : List ℕ) : Type 0 where
   pub heap : HeapAccepted image
   pub bytes : directory ≡ directory_bytes image
   pub count : length directory / listed_size ≡ listed_count image
@@ -53,4 +53,4 @@ NotesListed image table = AreListed image (take (listed_count image) table)
 -- each database that is listed has a whole header with its entries: this is known if no header is
 -- bad
 pub record HaveHeaders (image : List ℕ) : Type 0 where
-  pub whole : (db : ℕ) → db < listed_count image → IsWhole (header_at image db)
+  pub whole : (db : ℕ) → db < listed_count image → AreWholeBytes (header_at image db)

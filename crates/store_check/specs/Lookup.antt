@@ -12,7 +12,7 @@ pub record HasBody (image : List ℕ) (slot : ℕ) (body : Body) : Type 0 where
   pub inside : body.place.0 + body.length ≤ length image
 
 -- the body at a place of the movable chunk with this header
-abbrev pub movable_by : Header → Place → Option Body
-movable_by (headers.Free size) place = None
-movable_by (headers.Movable length lock owner slot) place = Some (record { place = place; length = length })
-movable_by (headers.Fixed length owner) place = None
+abbrev pub body_if_movable : Header → Place → Option Body
+body_if_movable (headers.Free size) place = None
+body_if_movable (headers.Movable length lock owner slot) place = Some (record { place = place; length = length })
+body_if_movable (headers.Fixed length owner) place = None

@@ -3,7 +3,7 @@ use Rattle.std.specs.Prelude.{◌<◌, ◌+◌, ◌*◌, ◌%◌, ℕ, List, tak
 use Rattle.heap_model.specs.Bytes.{u32_at}
 use Rattle.heap_model.specs.DatabaseFields.{name_size}
 use Rattle.heap_model.specs.Database.{HasName}
-use Rattle.bit_sets.specs.Sets.{HasNumber}
+use Rattle.bit_sets.specs.Sets.{IsInSet}
 use Rattle.store_check.specs.Listing.{listed_count, header_at}
 
 -- each database that is listed has a name: this is known if no name is bad
@@ -27,4 +27,4 @@ name_number bytes = field_number (take name_size bytes)
 
 -- the numbers of the names of the databases before an index are in the set
 abbrev pub HasNamesBefore : List ℕ → List ℕ → ℕ → Type 0
-HasNamesBefore image seen db = (earlier : ℕ) → earlier < db → HasNumber seen (name_number (header_at image earlier))
+HasNamesBefore image seen db = (earlier : ℕ) → earlier < db → IsInSet seen (name_number (header_at image earlier))

@@ -32,8 +32,8 @@ abbrev pub met : List ℕ → ℕ → List ℕ
 met image index = directory_of image ∷ numbered (listed_at image) index
 
 -- `count` marks are enough for the slots of an image: each slot has one
-abbrev pub HasRoom : List ℕ → ℕ → Type 0
-HasRoom image count = (number : ℕ) → IsSlot image (marked_word number) → number < count
+abbrev pub AreEnoughMarks : List ℕ → ℕ → Type 0
+AreEnoughMarks image count = (number : ℕ) → IsSlot image (marked_word number) → number < count
 
 -- one of `count` marks belongs to the word at this offset
 abbrev pub HasMark : ℕ → ℕ → Type 0

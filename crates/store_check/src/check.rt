@@ -7,13 +7,13 @@ ghost use Rattle.heap_model.specs.Heap.{HeapAccepted, directory_of};
 ghost use Rattle.heap_model.specs.Store.{directory_bytes, listed, most_databases, Accepted};
 ghost use Rattle.heap_check.specs.Faults.{FirstBrought};
 ghost use Rattle.heap_check.specs.Owners.{marks_needed as model_needed, NoneMarked, HasOwners};
-ghost use Rattle.store_check.specs.Listing.{IsListing, AreListed, NotesListed, HaveHeaders};
+ghost use Rattle.store_check.specs.Listing.{IsGoodDirectory, AreListed, NotesListed, HaveHeaders};
 ghost use Rattle.store_check.specs.Faults.{store_faults, NoneBrought};
-ghost use Rattle.store_check.specs.Naming.{AreNamed, accounted, HasRoom, AreMarks};
+ghost use Rattle.store_check.specs.Naming.{AreNamed, accounted, AreEnoughMarks, AreMarks};
 ghost use Rattle.bit_sets.specs.Sets.{HasNone};
 ghost use Rattle.store_check.specs.Ids.{HasRoomForAll};
 ghost use Rattle.store_check.specs.Names.{name_numbers};
-ghost use Rattle.store_check.specs.Checks.{IsFirstOr, IsRefusal, Summarizes, IsAnswered, listed_faults, marked_faults, own_faults};
+ghost use Rattle.store_check.specs.Checks.{IsFirstOr, IsRefusal, SummarizesStore, IsAnswered, listed_faults, marked_faults, own_faults};
 ghost use Rattle.allowance.specs.Refusals.{GrowthRefused};
 
 use crate::chunks::{first_twice, first_unmarked};
@@ -43,11 +43,11 @@ use std::alloc::Global;
 ///
 /// # Errors
 /// - `OutOfMemory`: an allocation failed.
-/// - Any other fault: the image's first one, in the order of `faults`.
+/// - Any other fault: the image's first one, in the order of `all_faults`.
 pub fn check_store(alloc: Global, region: &Region) -> Result<StoreSummary, StoreFault>
     requires whole { region.now.lents ≡ [] }
     ensures accepted { OnOk result (Accepted region.now.bytes) }
-    ensures summary { IfOk result (Summarizes region.now.bytes) }
+    ensures summary { IfOk result (SummarizesStore region.now.bytes) }
     ensures fault { IfErr result (IsAnswered region.now.bytes) }
     ensures refused { IfErr result (IsRefusal region.now.bytes) }
     ensures no_memory { result ≡ Err StoreFault.OutOfMemory → GrowthRefused }
@@ -59,14 +59,14 @@ pub fn check_store(alloc: Global, region: &Region) -> Result<StoreSummary, Store
 ///
 /// # Errors
 /// - `OutOfMemory`: an allocation failed.
-/// - Any other fault: the image's first one, in the order of `faults`.
+/// - Any other fault: the image's first one, in the order of `all_faults`.
 pub fn check_store_from<A: Allowance>(
     memory: &A,
     region: &Region,
 ) -> Result<StoreSummary, StoreFault>
     requires whole { region.now.lents ≡ [] }
     ensures accepted { OnOk result (Accepted region.now.bytes) }
-    ensures summary { IfOk result (Summarizes region.now.bytes) }
+    ensures summary { IfOk result (SummarizesStore region.now.bytes) }
     ensures fault { IfErr result (IsAnswered region.now.bytes) }
     ensures refused { IfErr result (IsRefusal region.now.bytes) }
     ensures no_memory { result ≡ Err StoreFault.OutOfMemory → A.is_short memory.now }
@@ -83,7 +83,7 @@ pub fn check_store_from<A: Allowance>(
 fn check_large<A: Allowance>(memory: &A, region: &Region) -> Result<StoreSummary, StoreFault>
     requires whole { region.now.lents ≡ [] }
     ensures accepted { OnOk result (Accepted region.now.bytes) }
-    ensures summary { IfOk result (Summarizes region.now.bytes) }
+    ensures summary { IfOk result (SummarizesStore region.now.bytes) }
     ensures fault { IfErr result (IsAnswered region.now.bytes) }
     ensures refused { IfErr result (IsRefusal region.now.bytes) }
     ensures no_memory { result ≡ Err StoreFault.OutOfMemory → A.is_short memory.now }
@@ -109,7 +109,7 @@ fn check_noting<A: Allowance>(
     requires room { model_needed region.now.bytes ≤ length owners.old }
     requires clear { NoneMarked owners.old }
     ensures accepted { OnOk result (Accepted region.now.bytes) }
-    ensures summary { IfOk result (Summarizes region.now.bytes) }
+    ensures summary { IfOk result (SummarizesStore region.now.bytes) }
     ensures fault { IfErr result (IsAnswered region.now.bytes) }
     ensures refused { IfErr result (IsRefusal region.now.bytes) }
     ensures no_memory { result ≡ Err StoreFault.OutOfMemory → A.is_short memory.now }
@@ -190,7 +190,7 @@ fn check_marks<A: Allowance>(
     ensures fault { IfErr result (IsFirstOr (marked_faults region.now.bytes)) }
     ensures no_memory { result ≡ Err StoreFault.OutOfMemory → A.is_short memory.now }
     ensures none { OnOk result (NoneBrought (marked_faults region.now.bytes)) }
-    ensures listing { OnOk result (IsListing region.now.bytes directory.now) }
+    ensures listing { OnOk result (IsGoodDirectory region.now.bytes directory.now) }
     ensures headers { OnOk result (HaveHeaders region.now.bytes) }
     ensures noted { OnOk result (NotesListed region.now.bytes table.new) }
 {
@@ -211,13 +211,13 @@ fn check_with_marks(
     requires whole { region.now.lents ≡ [] }
     requires accepted { HeapAccepted region.now.bytes }
     requires owners { HasOwners region.now.bytes owners.now }
-    requires room { HasRoom region.now.bytes (length marks.old) }
+    requires room { AreEnoughMarks region.now.bytes (length marks.old) }
     requires table { most_databases ≤ length table.old }
     requires directory { directory.now ≡ directory_bytes region.now.bytes }
     requires clear { AreMarks [] marks.old }
     ensures fault { IfErr result (FirstBrought (marked_faults region.now.bytes)) }
     ensures none { OnOk result (NoneBrought (marked_faults region.now.bytes)) }
-    ensures listing { OnOk result (IsListing region.now.bytes directory.now) }
+    ensures listing { OnOk result (IsGoodDirectory region.now.bytes directory.now) }
     ensures headers { OnOk result (HaveHeaders region.now.bytes) }
     ensures noted { OnOk result (NotesListed region.now.bytes table.new) }
 {
@@ -245,13 +245,13 @@ fn check_listed(
     requires whole { region.now.lents ≡ [] }
     requires accepted { HeapAccepted region.now.bytes }
     requires owners { HasOwners region.now.bytes owners.now }
-    requires room { HasRoom region.now.bytes (length marks.old) }
+    requires room { AreEnoughMarks region.now.bytes (length marks.old) }
     requires table { most_databases ≤ length table.old }
     requires directory { directory.now ≡ directory_bytes region.now.bytes }
     requires marks { AreMarks (directory_of region.now.bytes ∷ []) marks.old }
     ensures fault { IfErr result (FirstBrought (listed_faults region.now.bytes)) }
     ensures none { OnOk result (NoneBrought (listed_faults region.now.bytes)) }
-    ensures listing { OnOk result (IsListing region.now.bytes directory.now) }
+    ensures listing { OnOk result (IsGoodDirectory region.now.bytes directory.now) }
     ensures headers { OnOk result (HaveHeaders region.now.bytes) }
     ensures noted { OnOk result (NotesListed region.now.bytes table.new) }
     ensures named { OnOk result (AreNamed region.now.bytes) }

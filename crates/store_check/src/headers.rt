@@ -6,8 +6,8 @@ ghost use Rattle.heap_model.specs.Heap.{HeapAccepted};
 ghost use Rattle.heap_model.specs.Store.{most_databases, IsInfoBlock};
 ghost use Rattle.heap_check.specs.Faults.{FirstBrought};
 ghost use Rattle.heap_check.specs.Owners.{HasOwners};
-ghost use Rattle.store_check.specs.Listing.{IsListing, NotesListed, HaveHeaders};
-ghost use Rattle.store_check.specs.Faults.{HasHeader, header_faults, NoneBrought};
+ghost use Rattle.store_check.specs.Listing.{IsGoodDirectory, NotesListed, HaveHeaders};
+ghost use Rattle.store_check.specs.Faults.{HasDatabaseHeader, header_faults, NoneBrought};
 
 use crate::fault::StoreFault;
 use crate::lookup::{Body, bytes_of, find_header};
@@ -27,7 +27,7 @@ fn is_info_block(slot: u32, owners: &[u8]) -> bool
 /// Returns whether the bytes are a whole header and its entries, and its info blocks are there.
 fn has_header(bytes: &[u8], owners: &[u8]) -> bool
     ensures { (image : List ℕ) → HeapAccepted image → HasOwners image owners.now
-        → (IsTrue result ↔ HasHeader image bytes.now) }
+        → (IsTrue result ↔ HasDatabaseHeader image bytes.now) }
 {
     is_whole(bytes)
         && is_info_block(app_info(bytes), owners)
@@ -44,7 +44,7 @@ pub(crate) fn find_bad_header(
 ) -> Option<StoreFault>
     requires whole { region.now.lents ≡ [] }
     requires owners { HasOwners region.now.bytes owners.now }
-    requires listing { IsListing region.now.bytes directory.now }
+    requires listing { IsGoodDirectory region.now.bytes directory.now }
     requires room { most_databases ≤ length table.old }
     ensures some { IfSome result (FirstBrought (header_faults region.now.bytes)) }
     ensures none { IfNone result (NoneBrought (header_faults region.now.bytes)) }

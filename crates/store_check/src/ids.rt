@@ -6,7 +6,7 @@ ghost use Rattle.heap_model.specs.Lists.{Least};
 ghost use Rattle.heap_model.specs.Database.{resources_in, entry_count_in};
 ghost use Rattle.heap_check.specs.Faults.{FirstBrought};
 ghost use Rattle.bit_sets.specs.Sets.{HasNone};
-ghost use Rattle.db_format.specs.Headers.{IsWhole};
+ghost use Rattle.db_format.specs.Headers.{AreWholeBytes};
 ghost use Rattle.store_check.specs.Listing.{listed_count as model_count, header_at, AreListed, HaveHeaders};
 ghost use Rattle.store_check.specs.Faults.{id_at, HasBadId, HasGoodIds, id_faults, NoneBrought};
 ghost use Rattle.store_check.specs.Ids.{HasIdsUpTo, HasRoomForIds, HasRoomForAll, HasIdsWithin, HasRisingIds};
@@ -30,7 +30,7 @@ pub(crate) fn empty_set<A: Allowance>(memory: &A, size: usize) -> Result<Vec<u8>
 /// Returns the ID of a record.
 #[inline]
 fn record_id(header: &[u8], index: u16) -> u32
-    requires whole { IsWhole header.now }
+    requires whole { AreWholeBytes header.now }
     requires records { resources_in header.now ≡ false }
     requires below { index < entry_count_in header.now }
     ensures is { Some result ≡ id_at header.now index }
@@ -41,7 +41,7 @@ fn record_id(header: &[u8], index: u16) -> u32
 
 /// Returns the greatest of an ID and those of a database's records, if it has records.
 fn greatest_id_in(header: &[u8], least: u32) -> u32
-    requires whole { IsWhole header.now }
+    requires whole { AreWholeBytes header.now }
     requires small { least < 2 ^ 24 }
     ensures ids { HasIdsUpTo header.now result }
     ensures least { least ≤ result }
@@ -76,7 +76,7 @@ pub(crate) fn greatest_id(region: &Region, headers: &[Body]) -> u32
 /// Returns whether the ID of each record of a database is above 0 and above those before it. Then
 /// no ID is bad.
 fn has_rising_ids(header: &[u8]) -> bool
-    requires whole { IsWhole header.now }
+    requires whole { AreWholeBytes header.now }
     requires records { resources_in header.now ≡ false }
     ensures { IsTrue result ↔ HasRisingIds header.now }
 {
@@ -94,7 +94,7 @@ fn has_rising_ids(header: &[u8]) -> bool
 /// Returns the first record of a database whose ID is 0 or an earlier one's. If there is none, the
 /// set has their IDs.
 fn find_bad_id_among(header: &[u8], seen: &mut [u8]) -> Option<u16>
-    requires whole { IsWhole header.now }
+    requires whole { AreWholeBytes header.now }
     requires records { resources_in header.now ≡ false }
     requires room { HasRoomForIds header.now (length seen.old) }
     requires empty { HasNone seen.old }
@@ -115,7 +115,7 @@ fn find_bad_id_among(header: &[u8], seen: &mut [u8]) -> Option<u16>
 
 /// Takes the IDs of a database's records out of a set that has no others.
 fn forget_each(header: &[u8], seen: &mut [u8])
-    requires whole { IsWhole header.now }
+    requires whole { AreWholeBytes header.now }
     requires records { resources_in header.now ≡ false }
     requires room { HasRoomForIds header.now (length seen.old) }
     requires within { HasIdsWithin header.now seen.old 0 (entry_count_in header.now) }
@@ -133,7 +133,7 @@ const BYTES_FOR_ONE: usize = 32;
 /// Empties a set that has the IDs of a database's records. If the records are many, it clears the
 /// whole set.
 fn forget_ids(header: &[u8], seen: &mut [u8])
-    requires whole { IsWhole header.now }
+    requires whole { AreWholeBytes header.now }
     requires records { resources_in header.now ≡ false }
     requires room { HasRoomForIds header.now (length seen.old) }
     requires within { HasIdsWithin header.now seen.old 0 (entry_count_in header.now) }
@@ -149,7 +149,7 @@ fn forget_ids(header: &[u8], seen: &mut [u8])
 /// Returns the first record of a database, if it has records, whose ID is 0 or an earlier one's. If
 /// there is none, the set is empty again.
 fn find_bad_id_in(header: &[u8], seen: &mut [u8]) -> Option<u16>
-    requires whole { IsWhole header.now }
+    requires whole { AreWholeBytes header.now }
     requires room { HasRoomForIds header.now (length seen.old) }
     requires empty { HasNone seen.old }
     ensures some { IfSome result (Least (HasBadId header.now)) }

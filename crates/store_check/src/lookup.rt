@@ -5,8 +5,8 @@ ghost use Rattle.std.specs.Prelude.{[], ◌≡◌, ◌≤◌, ◌<◌, ◌+◌, 
 ghost use Rattle.heap_model.specs.Chunk.{managers_owner};
 ghost use Rattle.heap_model.specs.Heap.{HeapAccepted};
 ghost use Rattle.heap_model.specs.Store.{owner_under, directory_bytes};
-ghost use Rattle.store_check.specs.Listing.{listed_at, listed_count as model_count, header_at, IsListing, AreListed};
-ghost use Rattle.store_check.specs.Lookup.{HasBody, movable_by};
+ghost use Rattle.store_check.specs.Listing.{listed_at, listed_count as model_count, header_at, IsGoodDirectory, AreListed};
+ghost use Rattle.store_check.specs.Lookup.{HasBody, body_if_movable};
 
 use crate::words::word_at;
 use chunk_format::{HEADER_SIZE, Header, directory};
@@ -30,7 +30,7 @@ pub(crate) const NO_BODY: Body = Body {
 /// Returns the body at a place of the chunk with this header, if it is a movable one.
 #[inline]
 fn as_movable(header: Header, place: Place) -> Option<Body>
-    ensures { result ≡ movable_by header place }
+    ensures { result ≡ body_if_movable header place }
 {
     match header {
         Header::Movable { length, .. } => Some(Body { place, length }),
@@ -77,7 +77,7 @@ pub(crate) fn directory_in(region: &Region) -> &[u8]
 /// entries.
 pub(crate) fn find_header(region: &Region, directory: &[u8], db: usize) -> Body
     requires whole { region.now.lents ≡ [] }
-    requires listing { IsListing region.now.bytes directory.now }
+    requires listing { IsGoodDirectory region.now.bytes directory.now }
     requires below { db < model_count region.now.bytes }
     ensures { HasBody region.now.bytes (listed_at region.now.bytes db) result }
 {

@@ -6,7 +6,7 @@ ghost use Rattle.heap_model.specs.Slots.{slot_size};
 ghost use Rattle.heap_model.specs.Heap.{HeapAccepted};
 ghost use Rattle.heap_model.specs.Lists.{times};
 ghost use Rattle.heap_check.specs.Owners.{marked_word};
-ghost use Rattle.store_check.specs.Naming.{HasRoom, HasMark, AreMarks, AddsMarks};
+ghost use Rattle.store_check.specs.Naming.{AreEnoughMarks, HasMark, AreMarks, AddsMarks};
 
 use allowance::{Allowance, zeros};
 use chunk_format::{FRAME_SIZE, SLOT_SIZE, is_chained, slot_count};
@@ -19,7 +19,7 @@ use std::alloc::AllocError;
 pub(crate) fn mark_count(region: &Region) -> usize
     requires whole { region.now.lents ≡ [] }
     requires accepted { HeapAccepted region.now.bytes }
-    ensures room { HasRoom region.now.bytes result }
+    ensures room { AreEnoughMarks region.now.bytes result }
     ensures most { slot_size * result ≤ length region.now.bytes }
 {
     if is_chained(region) {

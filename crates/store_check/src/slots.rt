@@ -8,9 +8,9 @@ ghost use Rattle.heap_model.specs.Lists.{times};
 ghost use Rattle.heap_model.specs.Store.{owner_under, directory_bytes};
 ghost use Rattle.heap_check.specs.Faults.{FirstBrought};
 ghost use Rattle.heap_check.specs.Owners.{HasOwners};
-ghost use Rattle.store_check.specs.Listing.{IsListing};
-ghost use Rattle.store_check.specs.Faults.{slot_faults, NoneBrought};
-ghost use Rattle.store_check.specs.Naming.{managers_slots, HasRoom, AreMarks};
+ghost use Rattle.store_check.specs.Listing.{IsGoodDirectory};
+ghost use Rattle.store_check.specs.Faults.{directory_faults, NoneBrought};
+ghost use Rattle.store_check.specs.Naming.{managers_slots, AreEnoughMarks, AreMarks};
 
 use crate::fault::StoreFault;
 use crate::lookup::directory_in;
@@ -24,7 +24,7 @@ use raw_region::Region;
 /// Returns whether a slot has no chunk of the manager's, or is marked.
 fn is_other_or_marked(slot: u32, owners: &[u8], marks: &[u8]) -> bool
     ensures { (image xs : List ℕ) → HeapAccepted image → HasOwners image owners.now
-        → HasRoom image (length marks.now) → AreMarks xs marks.now
+        → AreEnoughMarks image (length marks.now) → AreMarks xs marks.now
         → (IsTrue result ↔ ((owner_under image slot ≡ managers_owner → ⊥)
         ⊎ (0 < times slot xs))) }
 {
@@ -37,12 +37,12 @@ pub(crate) fn find_bad_slot(region: &Region, owners: &[u8], marks: &mut [u8]) ->
     requires whole { region.now.lents ≡ [] }
     requires accepted { HeapAccepted region.now.bytes }
     requires owners { HasOwners region.now.bytes owners.now }
-    requires room { HasRoom region.now.bytes (length marks.old) }
+    requires room { AreEnoughMarks region.now.bytes (length marks.old) }
     requires marks { AreMarks (directory_of region.now.bytes ∷ []) marks.old }
-    ensures some { IfSome result (FirstBrought (slot_faults region.now.bytes)) }
-    ensures none { IfNone result (NoneBrought (slot_faults region.now.bytes)) }
+    ensures some { IfSome result (FirstBrought (directory_faults region.now.bytes)) }
+    ensures none { IfNone result (NoneBrought (directory_faults region.now.bytes)) }
     ensures listing { IfNone result
-        (IsListing region.now.bytes (directory_bytes region.now.bytes)) }
+        (IsGoodDirectory region.now.bytes (directory_bytes region.now.bytes)) }
     ensures marked { IfNone result (AreMarks (managers_slots region.now.bytes) marks.new) }
 {
     let directory = directory_in(region);

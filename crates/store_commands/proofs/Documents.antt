@@ -7,7 +7,7 @@ use Rattle.heap_model.specs.Database.{has_resources}
 use Rattle.heap_model.specs.declared.database.DbInfo.{DbInfo}
 use Rattle.json_text.specs.Strings.{string, hex_string}
 use Rattle.store_commands.specs.declared.databases.Row.{Row}
-use Rattle.store_commands.specs.DatabasesJson.{info_json, kind_json, more_json, row_json, rows_json}
+use Rattle.store_commands.specs.DatabasesJson.{info_json, kind_and_type_json, more_json, row_json, rows_json}
 
 abbrev pub info_text : (name again kind : List ℕ) → (type creator attributes count : ℕ) → List ℕ
 info_text name again kind type creator attributes count =
@@ -20,7 +20,7 @@ info_text name again kind type creator attributes count =
     ++ (codes ",\"attributes\":" ++ (decimal attributes
     ++ (codes ",\"count\":" ++ (decimal count ++ codes ",")))))))))))))))
 
-pub info_is : (info : DbInfo) (name again kind : List ℕ) (attributes count : ℕ) → name ≡ info.name → again ≡ info.name → kind ≡ kind_json (has_resources info.attributes) → attributes ≡ info.attributes → count ≡ info.entry_count → info_text name again kind info.kind info.creator attributes count ≡ info_json info
+pub info_is : (info : DbInfo) (name again kind : List ℕ) (attributes count : ℕ) → name ≡ info.name → again ≡ info.name → kind ≡ kind_and_type_json (has_resources info.attributes) → attributes ≡ info.attributes → count ≡ info.entry_count → info_text name again kind info.kind info.creator attributes count ≡ info_json info
 unfolding info_json
 info_is info name again kind attributes count name_is again_is kind_is attributes_is count_is = rw (name_is, again_is, kind_is, attributes_is, count_is) refl
 

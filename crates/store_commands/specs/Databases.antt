@@ -8,11 +8,11 @@ use Rattle.heap_model.specs.DatabaseSteps.{info_of}
 use Rattle.heap_model.specs.Files.{file_of}
 use Rattle.heap_model.specs.Store.{StoredDatabase, Store, Accepted, content, store_of}
 use Rattle.heap_model.specs.declared.database.DbInfo.{DbInfo}
-use Rattle.palm_text.specs.Pieces.{spelled}
+use Rattle.palm_text.specs.Pieces.{script_spelled}
 use Rattle.code_page.specs.Texts.{text_between}
 use Rattle.palm_text.specs.Counted.{Writing}
 use Rattle.palm_text.specs.Output.{Puts}
-use Rattle.image_faults.specs.Lines.{PutsBadImage}
+use Rattle.image_commands.specs.FaultLines.{PutsBadImage}
 use Rattle.program_io.specs.declared.status.Status.{Status}
 use Rattle.program_io.specs.declared.status.Status.TheVariants.{Done, Refused, BadWords, ReadFault, WriteFault, NoMemory}
 use Rattle.store_commands.specs.declared.databases.Row.{Row}
@@ -23,47 +23,47 @@ kind_word true = codes "resources"
 kind_word false = codes "records"
 
 -- the first words of a line
-unfoldable pub info_words : DbInfo → List ℕ
-info_words info =
-    spelled info.name ++ (codes " " ++ (kind_word (has_resources info.attributes)
-    ++ (codes " " ++ (spelled (u32_bytes info.kind)
-    ++ (codes " " ++ (spelled (u32_bytes info.creator)
+unfoldable pub first_words : DbInfo → List ℕ
+first_words info =
+    script_spelled info.name ++ (codes " " ++ (kind_word (has_resources info.attributes)
+    ++ (codes " " ++ (script_spelled (u32_bytes info.kind)
+    ++ (codes " " ++ (script_spelled (u32_bytes info.creator)
     ++ (codes " " ++ (encode_lower (u16_bytes info.attributes)
     ++ (codes " " ++ (decimal info.entry_count ++ codes " "))))))))))
 
 -- the end of a line: a name that scripts don't spell in quotes comes again, in characters
-abbrev pub row_end : List ℕ → List ℕ
-row_end name = text_between (codes " \"") name (codes "\"") ++ codes "\n"
+abbrev pub listed_row_end : List ℕ → List ℕ
+listed_row_end name = text_between (codes " \"") name (codes "\"") ++ codes "\n"
 
 abbrev pub last_words : Row → List ℕ
-last_words row = decimal row.size ++ row_end row.info.name
+last_words row = decimal row.size ++ listed_row_end row.info.name
 
 -- The line of a database: its name, which entries it has, its type and its creator as scripts spell them, its attributes
 -- in hex, how many entries there are, how many bytes its file has, and maybe the name in characters.
-abbrev pub row_line : Row → List ℕ
-row_line row = info_words row.info ++ last_words row
+abbrev pub listed_row_line : Row → List ℕ
+listed_row_line row = first_words row.info ++ last_words row
 
 -- how many databases there are
-unfoldable pub count_line : ℕ → List ℕ
-count_line count = codes "ok " ++ (decimal count ++ codes "\n")
+unfoldable pub database_count_line : ℕ → List ℕ
+database_count_line count = codes "ok " ++ (decimal count ++ codes "\n")
 
 -- that line, and a line for each database
 abbrev pub rows_text : List Row → List ℕ
-rows_text rows = count_line (length rows) ++ flat_map row_line rows
+rows_text rows = database_count_line (length rows) ++ flat_map listed_row_line rows
 
 -- what is printed of a database: the values of its header, and how many bytes its file has
-abbrev pub row_of : Store → StoredDatabase → Row
-row_of store one = record {
+abbrev pub listed_row : Store → StoredDatabase → Row
+listed_row store one = record {
   info = info_of one.database;
   size = length (file_of (content store.map one.database));
 }
 
 -- the rows of the databases of a store, in their order
-abbrev pub rows_in : Store → List Row
-rows_in store = map (row_of store) store.databases
+abbrev pub listed_rows : Store → List Row
+listed_rows store = map (listed_row store) store.databases
 
 abbrev pub databases_text : Store → List ℕ
-databases_text store = rows_text (rows_in store)
+databases_text store = rows_text (listed_rows store)
 
 -- what `databases` wrote of an image, by the status with which it ends
 pub record EndsDatabases {V : Type 0} (image : List ℕ) (contents : V → Option (List ℕ)) (old new : Writing V) (status : Status) : Type 0 where

@@ -8,16 +8,16 @@ use Rattle.heap_model.specs.declared.database.DbInfo.{DbInfo}
 use Rattle.palm_text.specs.Counted.{Writing}
 use Rattle.palm_text.specs.Output.{Puts}
 use Rattle.json_text.specs.Strings.{string, hex_string}
-use Rattle.image_documents.specs.Ends.{PutsImageFault}
+use Rattle.image_commands.specs.JsonEnds.{PutsImageFault}
 use Rattle.program_io.specs.declared.status.Status.{Status}
 use Rattle.program_io.specs.declared.status.Status.TheVariants.{Done, Refused, BadWords, ReadFault, WriteFault, NoMemory}
 use Rattle.store_commands.specs.declared.databases.Row.{Row}
-use Rattle.store_commands.specs.Databases.{rows_in}
+use Rattle.store_commands.specs.Databases.{listed_rows}
 
 -- which entries a database has
-abbrev pub kind_json : Bool → List ℕ
-kind_json true = codes ",\"kind\":\"resources\",\"type\":"
-kind_json false = codes ",\"kind\":\"records\",\"type\":"
+abbrev pub kind_and_type_json : Bool → List ℕ
+kind_and_type_json true = codes ",\"kind\":\"resources\",\"type\":"
+kind_and_type_json false = codes ",\"kind\":\"records\",\"type\":"
 
 -- The object of a database: its name, which entries it has, its type and its creator, its attributes, how many entries
 -- there are, and how many bytes its file has.
@@ -25,18 +25,18 @@ unfoldable pub info_json : DbInfo → List ℕ
 info_json info =
     codes "{\"name\":" ++ (string info.name
     ++ (codes ",\"name_hex\":" ++ (hex_string info.name
-    ++ (kind_json (has_resources info.attributes) ++ (string (u32_bytes info.kind)
+    ++ (kind_and_type_json (has_resources info.attributes) ++ (string (u32_bytes info.kind)
     ++ (codes ",\"type_hex\":" ++ (hex_string (u32_bytes info.kind)
     ++ (codes ",\"creator\":" ++ (string (u32_bytes info.creator)
     ++ (codes ",\"creator_hex\":" ++ (hex_string (u32_bytes info.creator)
     ++ (codes ",\"attributes\":" ++ (decimal info.attributes
     ++ (codes ",\"count\":" ++ (decimal info.entry_count ++ codes ",")))))))))))))))
 
-unfoldable pub size_json : ℕ → List ℕ
-size_json size = codes "\"size\":" ++ (decimal size ++ codes "}")
+unfoldable pub file_size_json : ℕ → List ℕ
+file_size_json size = codes "\"size\":" ++ (decimal size ++ codes "}")
 
 abbrev pub row_json : Row → List ℕ
-row_json row = info_json row.info ++ size_json row.size
+row_json row = info_json row.info ++ file_size_json row.size
 
 -- the objects of databases, with commas between
 abbrev pub next_json : Row → List ℕ
@@ -52,12 +52,12 @@ rows_json (row ∷ rows) = row_json row ++ more_json rows
 abbrev pub closed_json : List Row → List ℕ
 closed_json rows = rows_json rows ++ codes "]}\n"
 
-unfoldable pub document : List Row → List ℕ
-document rows = codes "{\"databases\":[" ++ closed_json rows
+unfoldable pub databases_document : List Row → List ℕ
+databases_document rows = codes "{\"databases\":[" ++ closed_json rows
 
 -- the document of the databases of a store
 abbrev pub databases_json : Store → List ℕ
-databases_json store = document (rows_in store)
+databases_json store = databases_document (listed_rows store)
 
 -- what `databases --json` wrote of an image, by the status with which it ends
 pub record EndsDatabasesJson {V : Type 0} (image : List ℕ) (contents : V → Option (List ℕ)) (old new : Writing V) (status : Status) : Type 0 where

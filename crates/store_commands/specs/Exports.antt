@@ -9,7 +9,7 @@ use Rattle.heap_model.specs.StoreWords.{with_number}
 use Rattle.heap_model.specs.declared.refusal.Refusal.TheVariants.{NoSuchDatabase}
 use Rattle.palm_text.specs.Counted.{Writing}
 use Rattle.palm_text.specs.Output.{Puts}
-use Rattle.image_faults.specs.Lines.{PutsBadImage}
+use Rattle.image_commands.specs.FaultLines.{PutsBadImage}
 use Rattle.program_io.specs.declared.status.Status.{Status}
 use Rattle.program_io.specs.declared.status.Status.TheVariants.{Done, Refused, BadWords, ReadFault, WriteFault, NoMemory}
 use Rattle.script_calls.specs.Lines.{refusal_line}

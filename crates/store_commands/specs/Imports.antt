@@ -14,10 +14,10 @@ use Rattle.heap_model.specs.declared.call.Reply.TheVariants.{Refused as RefusedB
 use Rattle.heap_model.specs.declared.refusal.Refusal.{Refusal}
 use Rattle.heap_model.specs.declared.refusal.Refusal.TheVariants.{BadFile, OutOfMemory}
 use Rattle.chunk_format.specs.Blank.{IsBlank, IsRegionSize, LeavesRoom}
-use Rattle.file_needs.specs.Needs.{least_slots, least_size}
+use Rattle.canonical_file.specs.Needs.{least_slots, least_size_for}
 use Rattle.palm_text.specs.Counted.{Writing}
 use Rattle.palm_text.specs.Output.{Puts}
-use Rattle.image_faults.specs.Lines.{PutsNoImage}
+use Rattle.image_commands.specs.FaultLines.{PutsNoImage}
 use Rattle.program_io.specs.declared.status.Status.{Status}
 use Rattle.program_io.specs.declared.status.Status.TheVariants.{Done, Refused, BadWords, ReadFault, WriteFault, NoMemory}
 use Rattle.script_calls.specs.Lines.{refusal_line}
@@ -39,7 +39,7 @@ abbrev pub slots_for : ImageChoice → List (List ℕ) → ℕ
 slots_for choice files = given_or choice.slots (least_slots files)
 
 abbrev pub size_for : ImageChoice → List (List ℕ) → ℕ
-size_for choice files = given_or choice.size (least_size (slots_for choice files) files)
+size_for choice files = given_or choice.size (least_size_for (slots_for choice files) files)
 
 -- this is the image
 pub record IsChosen (choice : ImageChoice) (files : List (List ℕ)) (image : NewImage) : Type 0 where
@@ -84,7 +84,7 @@ pub record IsFilled (choice : ImageChoice) (files : List (List ℕ)) (image : Ne
 
 -- A file has a fault and none before it has one; or no file has a fault, and the import of a file is refused after those
 -- before it were done.
-pub record IsRefused (choice : ImageChoice) (files : List (List ℕ)) (index : ℕ) (refusal : Refusal) : Type 0 where
+pub record IsImportRefused (choice : ImageChoice) (files : List (List ℕ)) (index : ℕ) (refusal : Refusal) : Type 0 where
   pub inside : index < length files
   pub not_memory : refusal ≢ OutOfMemory
   pub refused : ((fault : FileFault) × (refusal ≡ BadFile fault) × IsFirstFault (slice_index_or files index []) fault × All HasNoFault (take index files))
@@ -120,7 +120,7 @@ IsNoImage image why.OutOfMemory = Unit {0}
 
 -- why there is no such store
 abbrev pub IsWhy : ImageChoice → List (List ℕ) → NotImported → Type 0
-IsWhy choice files (why.RefusedFile index refusal) = IsRefused choice files index refusal
+IsWhy choice files (why.RefusedFile index refusal) = IsImportRefused choice files index refusal
 IsWhy choice files why.TooLarge = NeedTooMuch choice files
 IsWhy choice files why.BadSize = StayWithinLimits choice files × (IsRegionSize (size_for choice files) → ⊥)
 IsWhy choice files why.BadSlotCount = StayWithinLimits choice files × IsRegionSize (size_for choice files) × (LeavesRoom (size_for choice files) (slots_for choice files) → ⊥)
@@ -156,13 +156,13 @@ pub record PutsImport {W V : Type 0} (choice : ImageChoice) (files : List (List 
   pub told : Puts contents old new (import_text image (length files)) ok
 
 -- the image, of which not all was written
-abbrev pub PutsPart : {W : Type 0} → ImageChoice → List (List ℕ) → (W → Option (List ℕ)) → Writing W → Writing W → Type 0
-PutsPart choice files image_contents image_old image_new = (image : NewImage) × (filled : Memory) × IsFilled choice files image filled × Puts image_contents image_old image_new filled.bytes false
+abbrev pub PutsPartOfImage : {W : Type 0} → ImageChoice → List (List ℕ) → (W → Option (List ℕ)) → Writing W → Writing W → Type 0
+PutsPartOfImage choice files image_contents image_old image_new = (image : NewImage) × (filled : Memory) × IsFilled choice files image filled × Puts image_contents image_old image_new filled.bytes false
 
 -- the line for a refused file, or for files that need too much
 abbrev pub PutsRefused : {V : Type 0} → ImageChoice → List (List ℕ) → (V → Option (List ℕ)) → Writing V → Writing V → Option ℕ → Bool → Type 0
 PutsRefused choice files contents old new word ok =
-    ((index : ℕ) × (refusal : Refusal) × (word ≡ Some index) × IsRefused choice files index refusal × Puts contents old new (refusal_line refusal) ok)
+    ((index : ℕ) × (refusal : Refusal) × (word ≡ Some index) × IsImportRefused choice files index refusal × Puts contents old new (refusal_line refusal) ok)
     ⊎ (NeedTooMuch choice files × (word ≡ None) × Puts contents old new (codes "bad TooLarge\n") ok)
 
 -- the line for the size and the slots, if no image may have those that were chosen
@@ -174,7 +174,7 @@ PutsBadChoice choice files contents old new word ok =
 -- printed; or one of the lines, after the whole image; or one of the line that says why there is no image.
 abbrev pub ImportBreaksOff : {W V : Type 0} → ImageChoice → List (List ℕ) → (W → Option (List ℕ)) → Writing W → Writing W → (V → Option (List ℕ)) → Writing V → Writing V → Option ℕ → Type 0
 ImportBreaksOff choice files image_contents image_old image_new contents old new word =
-    ((word ≡ None) × PutsPart choice files image_contents image_old image_new × (new ≡ old))
+    ((word ≡ None) × PutsPartOfImage choice files image_contents image_old image_new × (new ≡ old))
     ⊎ ((word ≡ None) × PutsImport choice files image_contents image_old image_new contents old new false)
     ⊎ (PutsRefused choice files contents old new word false × (image_new ≡ image_old))
     ⊎ (PutsBadChoice choice files contents old new word false × (image_new ≡ image_old))

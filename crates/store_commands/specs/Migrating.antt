@@ -4,7 +4,7 @@ use Rattle.std.specs.Prelude.{◌≡◌, ◌≢◌, ◌⊎◌, ℕ, Bool, true, 
 use Rattle.palm_text.specs.Counted.{Writing}
 use Rattle.heap_model.specs.Store.{Accepted}
 use Rattle.heap_migration.specs.Stores.{IsMigrated, IsTooLarge}
-use Rattle.image_faults.specs.Lines.{PutsBadImage}
+use Rattle.image_commands.specs.FaultLines.{PutsBadImage}
 use Rattle.palm_text.specs.Output.{Puts}
 use Rattle.program_io.specs.declared.status.Status.{Status}
 use Rattle.program_io.specs.declared.status.Status.TheVariants.{Done, Refused, BadWords, ReadFault, WriteFault, NoMemory}

@@ -6,7 +6,7 @@ ghost use Rattle.heap_model.specs.Store.{database_under, store_of};
 ghost use Rattle.palm_store.specs.Databases.{HasNumber};
 ghost use Rattle.palm_text.specs.Counted.{Writes};
 ghost use Rattle.palm_text.specs.Output.{Puts};
-ghost use Rattle.store_commands.specs.Databases.{EndsDatabases, count_line, info_words, kind_word, last_words, row_end, row_line, row_of, rows_in, rows_text};
+ghost use Rattle.store_commands.specs.Databases.{EndsDatabases, database_count_line, first_words, kind_word, last_words, listed_row_end, listed_row_line, listed_row, listed_rows, rows_text};
 ghost use Rattle.heap_model.specs.Database as databases;
 ghost use Rattle.allowance.specs.Refusals.{GrowthRefused};
 
@@ -81,7 +81,7 @@ fn row_of_number<A: Allowance>(memory: &A, store: &Store, db: Db) -> Result<Row,
     requires whole { store.now.lents ≡ [] }
     requires there { HasNumber store.now.bytes db.0 }
     ensures row { IfOk result (λ row. row
-        ≡ row_of (store_of store.now.bytes) (database_under store.now.bytes db.0)) }
+        ≡ listed_row (store_of store.now.bytes) (database_under store.now.bytes db.0)) }
     ensures short { OnErr result (A.is_short memory.now) }
 {
     let info = info_of(store, db);
@@ -95,7 +95,7 @@ fn row_of_number<A: Allowance>(memory: &A, store: &Store, db: Db) -> Result<Row,
 /// What is printed of all databases, in their order. The only error is that an allocation failed.
 pub(crate) fn rows_of<A: Allowance>(memory: &A, store: &Store) -> Result<Vec<Row>, AllocError>
     requires { store.now.lents ≡ [] }
-    ensures rows { IfOk result (λ rows. rows.items ≡ rows_in (store_of store.now.bytes)) }
+    ensures rows { IfOk result (λ rows. rows.items ≡ listed_rows (store_of store.now.bytes)) }
     ensures short { OnErr result (A.is_short memory.now) }
 {
     let mut rows = Vec::new(memory.allocator());
@@ -118,9 +118,9 @@ fn kind_of(attributes: u16) -> &'static [u8]
 }
 
 /// Writes the first words of a database's line.
-#[tactic(auto, unfolding(crate::specs::Databases::info_words))]
+#[tactic(auto, unfolding(crate::specs::Databases::first_words))]
 fn put_info<W: Write>(out: &mut Counted<W>, info: &DbInfo) -> Result<(), WriteFault>
-    ensures { Writes W.contents out.old out.new (info_words info.now) (is_ok result) }
+    ensures { Writes W.contents out.old out.new (first_words info.now) (is_ok result) }
 {
     put_pieces(
         out,
@@ -151,7 +151,7 @@ fn put_size<W: Write>(out: &mut Counted<W>, size: usize) -> Result<(), WriteFaul
 /// Writes the end of the line of the database with a name.
 #[tactic(auto, using(palm_text::proofs::Parts::then, palm_text::proofs::Parts::stops))]
 fn put_end<W: Write>(out: &mut Counted<W>, name: &[u8]) -> Result<(), WriteFault>
-    ensures { Writes W.contents out.old out.new (row_end name.now) (is_ok result) }
+    ensures { Writes W.contents out.old out.new (listed_row_end name.now) (is_ok result) }
 {
     put_text(out, b" \"", name, b"\"")?;
     put_all(out, b"\n")
@@ -169,7 +169,7 @@ fn put_last<W: Write>(out: &mut Counted<W>, row: &Row) -> Result<(), WriteFault>
 /// Writes the line of a database.
 #[tactic(auto, using(palm_text::proofs::Parts::then, palm_text::proofs::Parts::stops))]
 fn put_row<W: Write>(out: &mut Counted<W>, row: &Row) -> Result<(), WriteFault>
-    ensures { Writes W.contents out.old out.new (row_line row.now) (is_ok result) }
+    ensures { Writes W.contents out.old out.new (listed_row_line row.now) (is_ok result) }
 {
     put_info(out, &row.info)?;
     put_last(out, row)
@@ -177,7 +177,7 @@ fn put_row<W: Write>(out: &mut Counted<W>, row: &Row) -> Result<(), WriteFault>
 
 /// Writes the lines of databases.
 fn put_rows<W: Write>(out: &mut Counted<W>, rows: &[Row]) -> Result<(), WriteFault>
-    ensures { Writes W.contents out.old out.new (flat_map row_line rows.now) (is_ok result) }
+    ensures { Writes W.contents out.old out.new (flat_map listed_row_line rows.now) (is_ok result) }
 {
     for index in 0..rows.len() {
         match put_row(out, &rows[index]) {
@@ -189,9 +189,9 @@ fn put_rows<W: Write>(out: &mut Counted<W>, rows: &[Row]) -> Result<(), WriteFau
 }
 
 /// Writes how many databases there are.
-#[tactic(auto, unfolding(crate::specs::Databases::count_line))]
+#[tactic(auto, unfolding(crate::specs::Databases::database_count_line))]
 fn put_count<W: Write>(out: &mut Counted<W>, count: usize) -> Result<(), WriteFault>
-    ensures { Writes W.contents out.old out.new (count_line count) (is_ok result) }
+    ensures { Writes W.contents out.old out.new (database_count_line count) (is_ok result) }
 {
     let mut digits = Buffer::new();
     put_pieces(

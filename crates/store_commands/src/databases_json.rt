@@ -6,14 +6,14 @@ ghost use Rattle.heap_model.specs.Store.{Accepted};
 ghost use Rattle.heap_model.specs.Database as databases;
 ghost use Rattle.palm_text.specs.Counted.{Writes};
 ghost use Rattle.palm_text.specs.Output.{Puts};
-ghost use Rattle.image_documents.specs.Ends.{PutsImageFault};
-ghost use Rattle.store_commands.specs.DatabasesJson.{EndsDatabasesJson, closed_json, document, info_json, kind_json, more_json, next_json, row_json, rows_json, size_json};
+ghost use Rattle.image_commands.specs.JsonEnds.{PutsImageFault};
+ghost use Rattle.store_commands.specs.DatabasesJson.{EndsDatabasesJson, closed_json, databases_document, info_json, kind_and_type_json, more_json, next_json, row_json, rows_json, file_size_json};
 
 use crate::databases::{Row, rows_of};
 use allowance::Allowance;
 use db_format::DbAttrs;
 use heap_model::DbInfo;
-use image_documents::say_image_fault;
+use image_commands::say_image_fault;
 use itoa::Buffer;
 use json_text::{JsonPiece, put_json};
 use palm_store::{NotAStore, Store, StoreFault};
@@ -109,7 +109,7 @@ fn opened_json<A: Allowance, V: Write>(
 
 /// Which entries a database has.
 fn kind_of(attributes: u16) -> &'static [u8]
-    ensures { result.now ≡ kind_json (databases.has_resources attributes) }
+    ensures { result.now ≡ kind_and_type_json (databases.has_resources attributes) }
 {
     if DbAttrs(attributes).has_resources() {
         b",\"kind\":\"resources\",\"type\":"
@@ -148,9 +148,9 @@ fn put_info<W: Write>(out: &mut Counted<W>, info: &DbInfo) -> Result<(), WriteFa
 }
 
 /// Writes the last member of a database's object: how many bytes its file has.
-#[tactic(auto, unfolding(crate::specs::DatabasesJson::size_json))]
+#[tactic(auto, unfolding(crate::specs::DatabasesJson::file_size_json))]
 fn put_size<W: Write>(out: &mut Counted<W>, size: usize) -> Result<(), WriteFault>
-    ensures { Writes W.contents out.old out.new (size_json size) (is_ok result) }
+    ensures { Writes W.contents out.old out.new (file_size_json size) (is_ok result) }
 {
     let mut digits = Buffer::new();
     put_json(
@@ -221,7 +221,7 @@ fn put_closed<W: Write>(out: &mut Counted<W>, rows: &[Row]) -> Result<(), WriteF
 
 /// Writes the document of databases.
 fn put_document<W: Write>(out: &mut Counted<W>, rows: &[Row]) -> Result<(), WriteFault>
-    ensures { Writes W.contents out.old out.new (document rows.now) (is_ok result) }
+    ensures { Writes W.contents out.old out.new (databases_document rows.now) (is_ok result) }
 {
     match put_all(out, b"{\"databases\":[") {
         Ok(()) => put_closed(out, rows),
@@ -232,7 +232,7 @@ fn put_document<W: Write>(out: &mut Counted<W>, rows: &[Row]) -> Result<(), Writ
 /// The same, and flushes.
 #[tactic(auto, using(palm_text::proofs::Parts::then_flush))]
 fn put_flushed<W: Write>(out: &mut Counted<W>, rows: &[Row]) -> Result<(), WriteFault>
-    ensures { Puts W.contents out.old out.new (document rows.now) (is_ok result) }
+    ensures { Puts W.contents out.old out.new (databases_document rows.now) (is_ok result) }
 {
     put_document(out, rows)?;
     flushed(out)

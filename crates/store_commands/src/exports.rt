@@ -64,18 +64,18 @@ pub fn export_files<A: Allowance, V: Write>(
     if words.is_empty() {
         return match all_files(memory, &store) {
             Ok(files) => Ok(files),
-            Err(_) => Err(NO_MEMORY),
+            Err(_) => Err(ENDED_WITHOUT_MEMORY),
         };
     }
     match named_files(memory, &store, words) {
         Ok(files) => Ok(files),
-        Err(NotNamed::OutOfMemory) => Err(NO_MEMORY),
+        Err(NotNamed::OutOfMemory) => Err(ENDED_WITHOUT_MEMORY),
         Err(NotNamed::Missing(word)) => Err(say_missing(word, out)),
     }
 }
 
 /// An allocation failed.
-const NO_MEMORY: Ended = Ended {
+const ENDED_WITHOUT_MEMORY: Ended = Ended {
     status: Status::NoMemory,
     word: None,
 };

@@ -7,12 +7,12 @@ ghost use Rattle.heap_model.specs.Leaving.{database_here};
 ghost use Rattle.heap_model.specs.DatabaseSteps as rows;
 ghost use Rattle.palm_store.specs.Databases.{HasNumber};
 ghost use Rattle.palm_text.specs.Output.{Puts};
-ghost use Rattle.image_faults.specs.Lines.{PutsBadImage};
+ghost use Rattle.image_commands.specs.FaultLines.{PutsBadImage};
 ghost use Rattle.script_calls.specs.Lines.{refusal_line};
 
 use allowance::Allowance;
 use heap_model::{Bytes, Db, DbInfo, Refusal};
-use image_faults::say_bad_image;
+use image_commands::say_bad_image;
 use palm_store::{NotAStore, Store, StoreFault};
 use palm_text::{Counted, WriteFault};
 use pdb_files::exported;

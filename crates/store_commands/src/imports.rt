@@ -7,7 +7,7 @@ ghost use Rattle.allowance.specs.Refusals.{GrowthRefused};
 ghost use Rattle.heap_model.specs.Files.{HasNoFault};
 ghost use Rattle.heap_model.specs.Store.{Accepted};
 ghost use Rattle.chunk_format.specs.Blank.{IsRegionSize};
-ghost use Rattle.file_needs.specs.Needs.{enough, full_size};
+ghost use Rattle.canonical_file.specs.Needs.{enough, full_size};
 ghost use Rattle.palm_text.specs.Counted.{Writes};
 ghost use Rattle.palm_text.specs.Output.{Puts};
 ghost use Rattle.script_calls.specs.Lines.{refusal_line};
@@ -16,8 +16,8 @@ ghost use Rattle.store_commands.specs.Imports.{EndsImport, EndsRefused, ImportsA
 use crate::exports::Ended;
 use crate::images::{put_store, say_refusal};
 use allowance::Allowance;
+use canonical_file::{ENOUGH, image_size, image_slots, needs_of_files};
 use chunk_format::{BlankFault, blank_from, is_image_size};
-use file_needs::{ENOUGH, image_size, image_slots, needs_of_files};
 use heap_model::{Bytes, Refusal};
 use palm_store::Store;
 use palm_text::{Counted, Piece, WriteFault, put_all, put_pieces};

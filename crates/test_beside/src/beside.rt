@@ -1,9 +1,11 @@
 //! A call on a store, and the same on the plain model next to it.
 
-ghost use Rattle.std.specs.Prelude.{[], ◌≡◌, IfOk, None};
+ghost use Rattle.std.specs.Prelude.{[], ◌≡◌, ℕ, IfOk, None};
+ghost use Rattle.heap_model.specs.Lending.{IsLent};
+ghost use Rattle.heap_model.specs.Space.{place_of};
 
 use crate::draw::{database_call, file_call, memory_call, record_call, resource_call};
-use heap_model::{Call, Name, Place, Refusal, Reply};
+use heap_model::{Call, Name, Place, Reply};
 use palm_script::do_call;
 use palm_store::Store;
 use palm_text::Counted;
@@ -49,7 +51,9 @@ impl Beside {
         self.call_on(alloc, &mut store, spot, call)
     }
 
-    /// The same on a store that has the image, and may have had calls before.
+    /// The same on a store that has the image, and may have had calls before. The bytes that are
+    /// out of the model are out of the store during the call. They are put back after it as they
+    /// were, and must stand where they stood.
     pub fn call_on(
         &mut self,
         alloc: Global,
@@ -59,14 +63,14 @@ impl Beside {
     ) -> Result<Reply, Fail>
         ensures { store.new.lents ≡ store.old.lents }
     {
-        let reply = do_call(alloc, store, call);
+        let names = Vec::from_slice(alloc, self.plain.lent())?;
+        let (reply, lent) = reply_while_lent(alloc, store, &names, call)?;
         let after = image_of(alloc, store)?;
         check(
             alloc,
             spot,
             &mut self.plain,
-            call,
-            &reply,
+            (call, &reply, &lent),
             &self.image,
             &after,
         )?;
@@ -74,34 +78,24 @@ impl Beside {
         Ok(reply)
     }
 
-    /// The same while the bytes under a name are out. They are put back after the call, as they
-    /// were, and must stand where they stood.
+    /// The same while the bytes under some names are out of both.
     pub fn call_lent(
         &mut self,
         alloc: Global,
         store: &mut Store,
-        name: Name,
+        names: &[Name],
         spot: &str,
         call: &Call,
     ) -> Result<Reply, Fail>
-        requires { store.old.lents ≡ [] }
-        ensures { store.new.lents ≡ [] }
+        ensures { store.new.lents ≡ store.old.lents }
     {
-        let reply = reply_while_lent(alloc, store, name, call)?;
-        let after = image_of(alloc, store)?;
-        let bytes = Vec::from_slice(alloc, self.plain.take_out(name)?)?;
-        check(
-            alloc,
-            spot,
-            &mut self.plain,
-            call,
-            &reply,
-            &self.image,
-            &after,
-        )?;
-        self.plain.put_back(&bytes);
-        check_stays(alloc, spot, name, &self.image, &after)?;
-        self.image = after;
+        for name in names {
+            self.plain.take_out_also(*name)?;
+        }
+        let reply = self.call_on(alloc, store, spot, call)?;
+        for name in names {
+            self.plain.put_back(*name, b"");
+        }
         Ok(reply)
     }
 
@@ -114,33 +108,42 @@ impl Beside {
     }
 }
 
-/// Does a call on a store while the bytes under a name are out, and puts them back.
+/// Does a call on a store while the bytes under some names are out, and puts them back. Returns the
+/// reply, and the names that the store lent during the call.
 fn reply_while_lent(
     alloc: Global,
     store: &mut Store,
-    name: Name,
+    names: &[Name],
     call: &Call,
-) -> Result<Reply, Refusal>
-    requires { store.old.lents ≡ [] }
-    ensures { store.new.lents ≡ [] }
+) -> Result<(Reply, Vec<Name>), Fail>
+    ensures lent { store.new.lents ≡ store.old.lents }
+    ensures places { (name : ℕ) → IsLent store.old name
+        → place_of store.new.bytes name ≡ place_of store.old.bytes name }
 {
-    let loan = store.take_out(name)?;
-    let reply = do_call(alloc, store, call);
+    let Some((name, others)) = names.split_first() else {
+        let lent = store.loans(alloc)?;
+        return Ok((do_call(alloc, store, call), lent));
+    };
+    let loan = store.take_out_also(*name)?;
+    let replied = reply_while_lent(alloc, store, others, call);
     store.put_back(loan);
-    Ok(reply)
+    replied
 }
 
-/// The body of a name must have the place and the length that it had.
-fn check_stays(
+/// The bodies of lent names must have the places and the lengths that they had, and the store must
+/// have named just these, in order.
+fn check_lent(
     alloc: Global,
     spot: &str,
-    name: Name,
-    before: &[u8],
-    after: &[u8],
+    plain: &PlainStore,
+    lent: &[Name],
+    (before, after): (&Image, &Image),
 ) -> Result<(), Fail> {
-    let before = Image::decode(alloc, before)?;
-    let after = Image::decode(alloc, after)?;
-    equal(spot, body_of(&after, name), body_of(&before, name))
+    equal(spot, lent, plain.loans(alloc, before)?.as_slice())?;
+    for name in lent {
+        equal(spot, body_of(after, *name), body_of(before, *name))?;
+    }
+    Ok(())
 }
 
 /// Where the body of a name stands, and how long it is.
@@ -155,13 +158,13 @@ fn check(
     alloc: Global,
     spot: &str,
     plain: &mut PlainStore,
-    call: &Call,
-    reply: &Reply,
+    (call, reply, lent): (&Call, &Reply, &[Name]),
     before: &[u8],
     after: &[u8],
 ) -> Result<(), Fail> {
     let before = Image::decode(alloc, before)?;
     let after = Image::decode(alloc, after)?;
+    check_lent(alloc, spot, plain, lent, (&before, &after))?;
     let expected = plain.call(alloc, call, &before, &after, reply);
     equal(format_args!("{spot}: {call:?}"), reply, &expected)?;
     let odd = (

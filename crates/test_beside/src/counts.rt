@@ -55,6 +55,17 @@ impl Counts {
         0
     }
 
+    /// The first refusal of a table that has not come up.
+    pub fn not_refused(&self, table: &[(&'static str, &[Refusal])]) -> Option<Outcome> {
+        for (call, refusals) in table {
+            let missing = self.not_refused_of(call, refusals);
+            if missing.is_some() {
+                return missing;
+            }
+        }
+        None
+    }
+
     /// The first outcome of a table that has not come up: of each call that it was accepted, and
     /// each refusal.
     pub fn missing(&self, table: &[(&'static str, &[Refusal])]) -> Option<Outcome> {
@@ -76,6 +87,11 @@ impl Counts {
         if self.times(accepted) == 0 {
             return Some(accepted);
         }
+        self.not_refused_of(call, refusals)
+    }
+
+    /// The first refusal of a call.
+    fn not_refused_of(&self, call: &'static str, refusals: &[Refusal]) -> Option<Outcome> {
         for refusal in refusals {
             let refused = Outcome {
                 call,

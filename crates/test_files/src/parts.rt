@@ -13,7 +13,7 @@ use std::test::*;
 use test_support::{EMPTY_FILE, ORDER_FILE, TINY_FILE, bytes_of, equal, holds};
 
 /// The most bytes that a file may have.
-const MOST: usize = 16_777_216;
+const MOST_OF_PARTS: usize = 16_777_216;
 
 /// The text of a file, and its parts by their ranks: no bytes where there is none.
 #[derive(Drop, Debug, PartialEq, Eq)]
@@ -24,7 +24,7 @@ struct Folder {
 
 /// Takes a file apart; none where it has a fault.
 fn folder_of(alloc: Global, file: &[u8]) -> Result<Option<Folder>, Fail> {
-    if file.len() > MOST {
+    if file.len() > MOST_OF_PARTS {
         return Err("a file that is too long")?;
     }
     let Ok(unpacked) = unpack(&alloc, file) else {
@@ -319,11 +319,13 @@ fn files_that_are_too_large(rt: HostRuntime) -> Result<(), Fail> {
         let mut parts = Vec::new(rt.alloc());
         parts.push(Bytes::of(Vec::new(rt.alloc())))?;
         parts.push(Bytes::of(Vec::new(rt.alloc())))?;
-        parts.push(Bytes::of(vec![in rt.alloc(); 0u8; (MOST - 88usize).saturating_add(more)]?))?;
+        parts.push(Bytes::of(vec![in rt.alloc(); 0u8; (MOST_OF_PARTS - 88usize).saturating_add(
+            more
+        )]?))?;
         match file_of(rt.alloc(), MEMO_TEXT.as_bytes(), &parts)? {
             Ok(file) => {
                 holds(more, !is_large)?;
-                equal(more, file.len(), MOST)?;
+                equal(more, file.len(), MOST_OF_PARTS)?;
             }
             Err(fault) => {
                 holds(more, is_large)?;

@@ -25,11 +25,11 @@ pub(crate) const CAFE_FILE: &str =
     "436166e9 00*28 0000 0000 00*24 44415441 54657374 00000000 00000000 0000 0000";
 
 /// The most bytes that a file may have.
-const MOST: usize = 16_777_216;
+const MOST_SAMPLE: usize = 16_777_216;
 
 /// What `list` prints of a file, and its status.
 pub(crate) fn listed(alloc: Global, file: &[u8]) -> Result<(Status, Vec<u8>), Fail> {
-    if file.len() > MOST {
+    if file.len() > MOST_SAMPLE {
         return Err("a file that is too long")?;
     }
     let mut out = Counted::new(Vec::new(alloc));
@@ -39,7 +39,7 @@ pub(crate) fn listed(alloc: Global, file: &[u8]) -> Result<(Status, Vec<u8>), Fa
 
 /// The damage of a file with a fault, as a text.
 pub(crate) fn damaged(alloc: Global, file: &[u8]) -> Result<String, Fail> {
-    if file.len() > MOST {
+    if file.len() > MOST_SAMPLE {
         return Err("a file that is too long")?;
     }
     match check_file(file) {
@@ -50,7 +50,7 @@ pub(crate) fn damaged(alloc: Global, file: &[u8]) -> Result<String, Fail> {
 
 /// What `list --json` prints of a file, and its status.
 pub(crate) fn documented(alloc: Global, file: &[u8]) -> Result<(Status, Vec<u8>), Fail> {
-    if file.len() > MOST {
+    if file.len() > MOST_SAMPLE {
         return Err("a file that is too long")?;
     }
     let mut out = Counted::new(Vec::new(alloc));
@@ -60,7 +60,7 @@ pub(crate) fn documented(alloc: Global, file: &[u8]) -> Result<(Status, Vec<u8>)
 
 /// What `canonical` writes and prints, and its status.
 pub(crate) fn rewritten(alloc: Global, file: &[u8]) -> Result<(Status, Vec<u8>, Vec<u8>), Fail> {
-    if file.len() > MOST {
+    if file.len() > MOST_SAMPLE {
         return Err("a file that is too long")?;
     }
     let mut file_out = Counted::new(Vec::new(alloc));

@@ -7,7 +7,7 @@ use Rattle.heap_model.specs.Slots.{area_start}
 use Rattle.heap_model.specs.Placed.{EveryOne}
 use Rattle.heap_model.specs.Meaning.{LiveChunk}
 use Rattle.heap_model.specs.Reading.{chunks_of, live_under, held, is_fixed_name}
-use Rattle.heap_model.specs.Space.{stays, NoneStays, place_of, Still, MovesNothing, MovesOneStretch, MovesAlone, MovesOneStretchAnd, FitsInPlace, free_behind}
+use Rattle.heap_model.specs.Space.{stays_put, NoneStays, place_of, Still, MovesNothing, MovesOneStretch, MovesAlone, MovesOneStretchAnd, FitsInPlace, free_behind}
 use Rattle.heap_model.specs.Layout.{layout_of}
 use Rattle.heap_model.specs.Packing.{Slid, SlidesOneStretch}
 use Rattle.laws_heap.proofs.Tests.{same_some, none_some}
@@ -127,23 +127,23 @@ moves_another old new name moved m apart alone = moved_there old new name m (alo
 -- ---- two stretches
 
 -- the first of chunks of which none stays, and the rest
-loose_first : (c : Chunk) (cs : List Chunk) → NoneStays (c ∷ cs) → (stays c ≡ false) × NoneStays cs
+loose_first : (c : Chunk) (cs : List Chunk) → NoneStays (c ∷ cs) → (stays_put c ≡ false) × NoneStays cs
 loose_first (free size) cs n = (refl, n)
 loose_first (movable bytes zero owner slot) cs n = (refl, n)
 loose_first (movable bytes (suc count) owner slot) cs n = absurd n
 loose_first (fixed bytes owner) cs n = absurd n
 
 -- chunks of which none stays end before one that stays
-ends_before : (front : List Chunk) (c : Chunk) (back mid after : List Chunk) → front ++ c ∷ back ≡ mid ++ after → IsTrue (stays c) → NoneStays mid → (rest : List Chunk) × (front ≡ mid ++ rest)
+ends_before : (front : List Chunk) (c : Chunk) (back mid after : List Chunk) → front ++ c ∷ back ≡ mid ++ after → IsTrue (stays_put c) → NoneStays mid → (rest : List Chunk) × (front ≡ mid ++ rest)
 ends_before front c back [] after e s n = (front, refl)
-ends_before [] c back (d ∷ mid) after e s n = let same = (heads e).0 in let loose = (loose_first d mid n).0 in absurd (no_true (subst IsTrue (ap stays same ∙ loose) s))
+ends_before [] c back (d ∷ mid) after e s n = let same = (heads e).0 in let loose = (loose_first d mid n).0 in absurd (no_true (subst IsTrue (ap stays_put same ∙ loose) s))
 ends_before (f ∷ front) c back (d ∷ mid) after e s n =
     let t = heads e in
     let rest = ends_before front c back mid after t.1 s (loose_first d mid n).1 in
     (rest.0, let one = t.0 in let more = rest.1 in cc)
 
 -- they are before it, or after it
-sides : (front : List Chunk) (c : Chunk) (back before mid after : List Chunk) → front ++ c ∷ back ≡ before ++ (mid ++ after) → IsTrue (stays c) → NoneStays mid
+sides : (front : List Chunk) (c : Chunk) (back before mid after : List Chunk) → front ++ c ∷ back ≡ before ++ (mid ++ after) → IsTrue (stays_put c) → NoneStays mid
     → ((rest : List Chunk) × (front ≡ before ++ (mid ++ rest))) ⊎ ((rest : List Chunk) × (before ≡ front ++ c ∷ rest) × (back ≡ rest ++ (mid ++ after)))
 sides front c back [] mid after e s n = inl (ends_before front c back mid after e s n)
 sides [] c back (d ∷ before) mid after e s n = let t = heads e in inr (before, (let one = t.0 in cc), t.1)
@@ -168,7 +168,7 @@ pub record MovedApart (old new : List ℕ) (first second : ℕ) : Type 0 where
   pub c : Chunk
   pub back : List Chunk
   pub chunks : chunks_of old ≡ front ++ c ∷ back
-  pub stayed : IsTrue (stays c)
+  pub stayed : IsTrue (stays_put c)
   pub not_behind : live_under (area_start old + total (front ++ c ∷ [])) back first ≡ None
   pub not_in_front : live_under (area_start old) front second ≡ None
   pub first_moved : HasMoved old new first

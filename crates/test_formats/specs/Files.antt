@@ -12,8 +12,8 @@ header name attributes_version app_info sort_info kind seed count =
     ++ words (app_info ∷ sort_info ∷ kind ∷ 0x54657374 ∷ seed ∷ 0 ∷ []) ++ u16_bytes count
 
 -- what the header of such a file says, where the database has no attributes and the version 0
-abbrev pub header_read : List ℕ → ℕ → DatabaseHeader
-header_read name seed = record { name = name; attributes = 0; version = 0; creation_date = 0; modification_date = 0; backup_date = 0; modification_number = 0; kind = 0x44415441; creator = 0x54657374; seed = seed }
+abbrev pub sample_header : List ℕ → ℕ → DatabaseHeader
+sample_header name seed = record { name = name; attributes = 0; version = 0; creation_date = 0; modification_date = 0; backup_date = 0; modification_number = 0; kind = 0x44415441; creator = 0x54657374; seed = seed }
 
 -- no entries
 abbrev pub empty_file : List ℕ

@@ -27,12 +27,12 @@ database_image =
     ++ words (0x10 ∷ 0x0FFFFFB8 ∷ 0x41414141 ∷ 0x41414141 ∷ 0x10 ∷ 0x0FFFFFB2 ∷ 0x42424242 ∷ 0x42424242 ∷ 0x80000008 ∷ 0 ∷ [])
 
 -- these words, and zeros up to a length
-abbrev pub padded : ℕ → List ℕ → List ℕ
-padded size ws = words ws ++ replicate (size - 4 * length ws) 0
+abbrev pub padded_words : ℕ → List ℕ → List ℕ
+padded_words size ws = words ws ++ replicate (size - 4 * length ws) 0
 
 -- 64 bytes with 1 slot that holds this, a directory word, and chunks
 abbrev pub small_image : ℕ → ℕ → List ℕ → List ℕ
-small_image directory slot chunks = padded 64 (0x50484931 ∷ 64 ∷ 0x00010000 ∷ directory ∷ slot ∷ 0 ∷ chunks)
+small_image directory slot chunks = padded_words 64 (0x50484931 ∷ 64 ∷ 0x00010000 ∷ directory ∷ slot ∷ 0 ∷ chunks)
 
 -- all parts of the definition of an accepted heap, test by test
 abbrev pub tests_of : List ℕ → List Bool

@@ -5,8 +5,8 @@ use Rattle.laws_store.specs.StoreTests.{store_tests}
 use Rattle.test_formats.specs.HeapImages.{words, database_image}
 
 -- the image of a database `R` with two records, with other bytes from an offset on
-abbrev pub changed : ℕ → List ℕ → List ℕ
-changed at bytes = overwritten database_image at bytes
+abbrev pub changed_image : ℕ → List ℕ → List ℕ
+changed_image at bytes = overwritten database_image at bytes
 
 -- 160 bytes with 4 slots: a directory, and one database `P` with one resource
 abbrev pub resource_image : List ℕ

@@ -43,10 +43,10 @@ abbrev pub two_about : List ℕ
 two_about = three_chunks (0x28 ∷ 0x68 ∷ 0 ∷ []) (0x20 ∷ 0x11FFFFF8 ∷ []) (0x80000020 ∷ 0 ∷ []) (0x20 ∷ 0x01FFFFDA ∷ [])
 
 -- `count` numbers, from the given one on
-abbrev pub counted : ℕ → ℕ → List ℕ
-counted from zero = []
-counted from (suc count) = from ∷ counted (from + 1) count
+abbrev pub numbers_from : ℕ → ℕ → List ℕ
+numbers_from from zero = []
+numbers_from from (suc count) = from ∷ numbers_from (from + 1) count
 
 -- a chunk of 80 bytes after a free one of 8, over which it slides into its own bytes
 abbrev pub behind_a_little : List ℕ
-behind_a_little = words (0x50484931 ∷ 128 ∷ 0x00040000 ∷ 0 ∷ 0x30 ∷ 0 ∷ 0 ∷ 0 ∷ 0x80000008 ∷ 0 ∷ 0x58 ∷ 0x01FFFFF4 ∷ []) ++ counted 0 80
+behind_a_little = words (0x50484931 ∷ 128 ∷ 0x00040000 ∷ 0 ∷ 0x30 ∷ 0 ∷ 0 ∷ 0 ∷ 0x80000008 ∷ 0 ∷ 0x58 ∷ 0x01FFFFF4 ∷ []) ++ numbers_from 0 80

@@ -9,7 +9,7 @@ use palm_text::Counted;
 use std::alloc::Global;
 use std::test::*;
 use test_beside::{Verdict, agreed_verdict, image_of, store_of};
-use test_support::{DATABASE, bytes_of, equal};
+use test_support::{ONE_DATABASE, bytes_of, equal};
 
 /// Calls on chunks, databases, records and resources, each with its reply on the image as it is.
 /// They ask of the database, its records and their data, change them and delete it, and then make
@@ -165,7 +165,7 @@ fn check_said(alloc: Global, said: Vec<u8>, calls: &[(&str, &str)]) -> Result<()
 
 #[test]
 fn calls_are_answered_on_the_image_as_it_is(rt: HostRuntime) -> Result<(), Fail> {
-    check_replies(rt.alloc(), DATABASE, &CALLS)
+    check_replies(rt.alloc(), ONE_DATABASE, &CALLS)
 }
 
 /// Ranges of bytes, and with how many values of each byte of a range the image is accepted, by what
@@ -282,5 +282,5 @@ pub(crate) fn check_bytes(
 
 #[test]
 fn every_byte_has_every_value(rt: HostRuntime) -> Result<(), Fail> {
-    check_bytes(rt.alloc(), DATABASE, &CALLS, &VALUES)
+    check_bytes(rt.alloc(), ONE_DATABASE, &CALLS, &VALUES)
 }

@@ -13,7 +13,7 @@ use program_io::Status;
 use std::alloc::Global;
 use std::test::*;
 use store_commands::cmd_migrate_from;
-use test_support::{BLANK, DATABASE, RefusesOne, bytes_of, holds};
+use test_support::{BLANK, ONE_DATABASE, RefusesOne, bytes_of, holds};
 
 /// What takes memory and prints.
 enum Trial {
@@ -137,11 +137,14 @@ fn draw_with(
     Ok(cmd_draw_from(memory, &image, &mut outputs.image, &mut outputs.text))
 }
 
+/// An image with a chain of tables: its migration takes no memory.
+const ONE_CHAIN: &str = "50484932 00000088 0004 0000 00000000 00*24 80000060 00*92";
+
 /// The number of allocations of each, and its status if none fails.
-static TRIALS: [(Trial, u32, Status); 13] = [
+static TRIALS: [(Trial, u32, Status); 14] = [
     (Trial::New(128), 2, Status::Done),
     (Trial::New(100), 0, Status::BadWords),
-    (Trial::Check(DATABASE), 6, Status::Done),
+    (Trial::Check(ONE_DATABASE), 6, Status::Done),
     (Trial::Check(""), 0, Status::Refused),
     (Trial::Run(BLANK, WRITTEN), 36, Status::Done),
     (
@@ -150,10 +153,11 @@ static TRIALS: [(Trial, u32, Status); 13] = [
         Status::Refused,
     ),
     (Trial::Run("00", WRITTEN), 2, Status::Refused),
-    (Trial::Migrate(DATABASE), 6, Status::Done),
+    (Trial::Migrate(ONE_DATABASE), 6, Status::Done),
     (Trial::Migrate(BLANK), 6, Status::Done),
+    (Trial::Migrate(ONE_CHAIN), 4, Status::Done),
     (Trial::Migrate("00"), 2, Status::Refused),
-    (Trial::Draw(DATABASE), 16, Status::Done),
+    (Trial::Draw(ONE_DATABASE), 16, Status::Done),
     (Trial::Draw("00"), 2, Status::Refused),
     (Trial::BadLine, 2, Status::Refused),
 ];

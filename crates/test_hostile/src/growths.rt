@@ -22,8 +22,8 @@ use std::alloc::Global;
 use std::test::*;
 use test_beside::{image_of, store_of};
 use test_support::{
-    BLANK, DATABASE, EMPTY_FILE, ONE_CHUNK, ORDER_FILE, RefusesOne, TINY_FILE, TWO_DATABASES, WIDE,
-    bytes_of, holds,
+    BLANK, EMPTY_FILE, ONE_CHUNK, ONE_DATABASE, ORDER_FILE, RefusesOne, TINY_FILE, TWO_DATABASES,
+    WIDE, bytes_of, holds,
 };
 
 /// Lines on the image with one chunk.
@@ -108,14 +108,14 @@ fn came_of(
     Ok(outcome(memory, is_want, has_image(alloc, store, image)?))
 }
 
-const NO_MEMORY: LineFault = LineFault {
+const NO_MEMORY_LINE: LineFault = LineFault {
     line: 0,
     fault: ScriptFault::OutOfMemory,
 };
 
 fn parse_with(memory: &RefusesOne, text: &str) -> Came {
     let fault = parse_from(memory, text.as_bytes()).err();
-    outcome(memory, fault == Some(NO_MEMORY), true)
+    outcome(memory, fault == Some(NO_MEMORY_LINE), true)
 }
 
 /// Nothing was printed, and nothing done.
@@ -144,14 +144,14 @@ fn ran_with(
 }
 
 /// The first chunk that is made.
-const CHUNK: Name = Name(16);
+const FIRST_CHUNK: Name = Name(16);
 
 /// A list of calls on the blank image.
 fn calls_in_list() -> [Call; 5] {
     [
         Call::Memory(MemoryCall::HandleNew { size: 10, owner: 1 }),
         Call::Memory(MemoryCall::FreeBytes),
-        Call::Memory(MemoryCall::Lock(CHUNK)),
+        Call::Memory(MemoryCall::Lock(FIRST_CHUNK)),
         Call::Memory(MemoryCall::Recover(Place(40))),
         Call::Memory(MemoryCall::Recover(Place(48))),
     ]
@@ -222,7 +222,7 @@ fn wants_call(memory: &RefusesOne, store: &mut Store, call: &Call) -> bool
 
 fn read_with(memory: &RefusesOne, alloc: Global) -> Result<Came, Fail> {
     let call = Call::Memory(MemoryCall::Read {
-        name: CHUNK,
+        name: FIRST_CHUNK,
         at: 0,
         count: 10,
     });
@@ -273,7 +273,7 @@ static TRIALS: [(Trial, u32); 23] = [
     (Trial::Check(ONE_CHUNK, ""), 2),
     (Trial::Check(BLANK, WRITTEN), 2),
     (Trial::Check(WIDE, CARRIED), 2),
-    (Trial::Check(DATABASE, ""), 2),
+    (Trial::Check(ONE_DATABASE, ""), 2),
     (Trial::Check(TWO_DATABASES, ""), 2),
     (Trial::Parse(BOUND), 9),
     (Trial::Parse(WRITTEN), 28),

@@ -9,14 +9,14 @@ use palm_store::{Store, StoreSummary};
 use palm_text::Counted;
 use palmheap_program::cmd_run;
 use pdb_files::{export, import};
-use program_io::{INPUT_LIMIT, Status};
+use program_io::{MOST_INPUT, Status};
 use std::alloc::{AllocError, Global};
 use std::test::*;
 use test_beside::{blank_image, store_of};
 use test_support::{EMPTY_FILE, bytes_of, changed_words, equal, holds};
 
 /// The most bytes of an image.
-const MOST: u32 = 16_777_208;
+const MOST_HOSTILE: u32 = 16_777_208;
 
 /// The status of a run without files, the image that it writes, and what it prints.
 #[derive(Drop)]
@@ -54,7 +54,7 @@ fn only_says(alloc: Global, image: &[u8], script: &str, said: &[u8]) -> bool {
 }
 
 fn check_empty_script(alloc: Global, slots: u16) -> Result<(), Fail> {
-    let image = blank_image(alloc, MOST, slots)?;
+    let image = blank_image(alloc, MOST_HOSTILE, slots)?;
     let is_kept = only_says(alloc, &image, "", b"");
     holds(format_args!("{slots} slots"), is_kept)
 }
@@ -72,9 +72,9 @@ fn said_of_owned(alloc: Global, owner: u32) -> Result<(Status, String), Fail> {
         (262_152, 262_168),
         (262_160, 8),
         (262_164, owner % 16 * 0x100_0000 + 0xFF_FFFC),
-        (262_168, 0x8000_0000 | MOST - 262_168),
+        (262_168, 0x8000_0000 | MOST_HOSTILE - 262_168),
     ];
-    let image = changed_words(alloc, MOST, 65_535, &words)?;
+    let image = changed_words(alloc, MOST_HOSTILE, 65_535, &words)?;
     let mut out = Counted::new(Vec::new(alloc));
     let status = cmd_check(alloc, image.as_slice(), &mut out);
     Ok((status, String::from_utf8(out.into_inner())?))
@@ -126,7 +126,7 @@ const READ: Call = Call::Memory(MemoryCall::Read {
 fn with_largest(alloc: Global) -> Result<Store, Fail>
     ensures { IfOk result (λ made. made.lents ≡ []) }
 {
-    let mut store = store_of(alloc, &blank_image(alloc, MOST, 1)?)?;
+    let mut store = store_of(alloc, &blank_image(alloc, MOST_HOSTILE, 1)?)?;
     let made = store.handle_new(LARGEST, 1);
     equal("the chunk", made, Ok(Name(16)))?;
     Ok(store)
@@ -182,7 +182,7 @@ fn file_of_one(alloc: Global, size: usize) -> Result<Vec<u8>, Fail> {
 #[test]
 fn ten_million_bytes_are_imported(rt: HostRuntime) -> Result<(), Fail> {
     let file = file_of_one(rt.alloc(), 10_000_000)?;
-    let mut store = store_of(rt.alloc(), &blank_image(rt.alloc(), MOST, 16)?)?;
+    let mut store = store_of(rt.alloc(), &blank_image(rt.alloc(), MOST_HOSTILE, 16)?)?;
     let db = import(rt.alloc(), &mut store, &file)?;
     let mut out = Counted::new(Vec::new(rt.alloc()));
     equal("bytes", export(&store, db, &mut out).ok(), Some(10_000_088))?;
@@ -205,7 +205,7 @@ fn long_line(alloc: Global) -> Result<String, AllocError> {
 #[test]
 fn the_longest_script_runs(rt: HostRuntime) -> Result<(), Fail> {
     let script = longest(rt.alloc())?;
-    equal("bytes", script.len(), INPUT_LIMIT)?;
+    equal("bytes", script.len(), MOST_INPUT)?;
     let image = blank_image(rt.alloc(), 128, 4)?;
     let is_run = only_says(rt.alloc(), &image, script.as_str(), b"ok 96\n");
     holds("the line behind them", is_run)
@@ -249,9 +249,9 @@ fn fixed_chunks(alloc: Global, size: u32) -> Result<Vec<u8>, Fail> {
 
 #[test]
 fn an_image_has_nothing_but_fixed_chunks(rt: HostRuntime) -> Result<(), Fail> {
-    let store = store_of(rt.alloc(), &fixed_chunks(rt.alloc(), MOST)?)?;
+    let store = store_of(rt.alloc(), &fixed_chunks(rt.alloc(), MOST_HOSTILE)?)?;
     let StoreSummary { heap, databases } = store.summary();
-    let is_right = heap.fixed == (MOST - 24) / 8 && heap.free == 0 && heap.movable == 0;
+    let is_right = heap.fixed == (MOST_HOSTILE - 24) / 8 && heap.free == 0 && heap.movable == 0;
     holds(
         "fixed, free, movable, databases",
         is_right && databases == 0,

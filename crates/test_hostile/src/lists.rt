@@ -5,7 +5,7 @@ use rand_pcg::Pcg32;
 use std::alloc::Global;
 use std::test::*;
 use test_beside::{Counts, MIXED, OUTCOMES, blank_image, chained_image};
-use test_support::{DATABASE, TWO_DATABASES, bytes_of, equal};
+use test_support::{ONE_DATABASE, TWO_DATABASES, bytes_of, equal};
 
 /// Draws the list that a seed gives, in parts of the given number of calls. After each part the
 /// whole list so far is run.
@@ -42,7 +42,7 @@ static BLANKS: [Start; 3] = [
 static CHAINS: [Start; 2] = [Start::Chained(512, 2), Start::Chained(4096, 5)];
 
 static FILLED: [Start; 3] = [
-    Start::Listed(DATABASE),
+    Start::Listed(ONE_DATABASE),
     Start::Listed(TWO_DATABASES),
     Start::Listed(MIXED),
 ];

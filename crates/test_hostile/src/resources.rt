@@ -4,7 +4,7 @@ use crate::bytes::{check_bytes, check_replies};
 use std::test::*;
 
 /// 216 bytes with 8 slots, and a database of two resources of 8 bytes, a code and a text.
-const PROGRAM: &str = "50484931 000000D8 0008 0000 00000010 \
+const PROGRAM_IMAGE: &str = "50484931 000000D8 0008 0000 00000010 \
     00000038 00000048 000000B8 000000C8 00*16 \
     04000010 00FFFFF0 00000014 00*4 06000070 00FFFFEA \
     50 00*31 0001 0000 00*24 6170706C 54657374 00*8 0002 \
@@ -83,10 +83,10 @@ static VALUES: [(usize, usize, usize); 20] = [
 
 #[test]
 fn calls_on_resources_are_answered_on_the_image_as_it_is(rt: HostRuntime) -> Result<(), Fail> {
-    check_replies(rt.alloc(), PROGRAM, &CALLS)
+    check_replies(rt.alloc(), PROGRAM_IMAGE, &CALLS)
 }
 
 #[test]
 fn every_byte_of_a_program_has_every_value(rt: HostRuntime) -> Result<(), Fail> {
-    check_bytes(rt.alloc(), PROGRAM, &CALLS, &VALUES)
+    check_bytes(rt.alloc(), PROGRAM_IMAGE, &CALLS, &VALUES)
 }

@@ -6,7 +6,7 @@ use std::test::*;
 /// 216 bytes with four slots, in the order of the chain: 16 of the directory, 52 of an info block,
 /// 56 of the database, and 36 of a record's data. The second table is at 48 and the third at 32,
 /// before it by its offset.
-const TABLES: &str = "50484932 000000D8 0001 0000 00000010 00000048 00000030 \
+const TABLES_IMAGE: &str = "50484932 000000D8 0001 0000 00000010 00000048 00000030 \
     00000010 F0000000 00000000 000000C0 04000018 F0000000 00000020 000000D0 00000058 00*4 \
     04000010 00FFFFE8 00000038 00*4 02000068 00FFFFF4 \
     52 00*31 0000 0000 00*16 00000034 00000000 44415441 54657374 00000002 00000000 0002 \
@@ -91,10 +91,10 @@ static VALUES: [(usize, usize, usize); 22] = [
 
 #[test]
 fn calls_with_tables_are_answered_on_the_image_as_it_is(rt: HostRuntime) -> Result<(), Fail> {
-    check_replies(rt.alloc(), TABLES, &CALLS)
+    check_replies(rt.alloc(), TABLES_IMAGE, &CALLS)
 }
 
 #[test]
 fn every_byte_of_an_image_with_tables_has_every_value(rt: HostRuntime) -> Result<(), Fail> {
-    check_bytes(rt.alloc(), TABLES, &CALLS, &VALUES)
+    check_bytes(rt.alloc(), TABLES_IMAGE, &CALLS, &VALUES)
 }

@@ -19,7 +19,7 @@ use std::io::ErrorKind;
 use std::test::*;
 use test_beside::image_of;
 use test_support::{
-    BLANK, DATABASE, EMPTY_FILE, EMPTY_WRITTEN, Narrow, ONE_CHUNK, ORDER_FILE, ORDER_WRITTEN,
+    BLANK, EMPTY_FILE, EMPTY_WRITTEN, Narrow, ONE_CHUNK, ONE_DATABASE, ORDER_FILE, ORDER_WRITTEN,
     TINY_FILE, WIDE, WhenFull, bytes_of, holds,
 };
 
@@ -129,7 +129,7 @@ fn check_image(alloc: Global, listing: &str) -> Result<(), Fail> {
 
 #[test]
 fn an_image_is_cut_behind_each_byte(rt: HostRuntime) -> Result<(), Fail> {
-    for listing in &[BLANK, ONE_CHUNK, DATABASE] {
+    for listing in &[BLANK, ONE_CHUNK, ONE_DATABASE] {
         check_image(rt.alloc(), listing)?;
     }
     Ok(())
@@ -273,7 +273,7 @@ fn check_check(alloc: Global, listing: &str) -> Result<(), Fail> {
 
 #[test]
 fn what_check_prints_is_cut_behind_each_byte(rt: HostRuntime) -> Result<(), Fail> {
-    for listing in &[BLANK, DATABASE, ""] {
+    for listing in &[BLANK, ONE_DATABASE, ""] {
         check_check(rt.alloc(), listing)?;
     }
     Ok(())

@@ -1,1 +1,2 @@
+pub mod LoansOut
 pub mod Wholes

@@ -1,9 +1,9 @@
-//! Files that look like PDB or PRC files, and files that look like heap images.
+//! Files that look like PDB or PRC files, like heap images, or like what a transfer makes of them.
 
-use hints::{looks_like_database, looks_like_image};
+use hints::{looks_like_database, looks_like_image, looks_like_mac, looks_like_page};
 use std::alloc::Global;
 use std::test::*;
-use test_support::{BLANK, DATABASE, EMPTY_FILE, ORDER_FILE, TINY_FILE, bytes_of, holds};
+use test_support::{BLANK, EMPTY_FILE, ONE_DATABASE, ORDER_FILE, TINY_FILE, bytes_of, holds};
 
 /// A file whose name begins with the magic of an image.
 const MAGIC_FILE: &str = "50484931 00*56 44415441 54657374 00*12";
@@ -48,7 +48,7 @@ static FILES: [(&str, usize, u8, bool); 25] = [
     (UNPRINTABLE_FILE, 40, 0, true),
     (UNPRINTABLE_FILE, 60, 0, false),
     (BLANK, 0, 0x51, false),
-    (DATABASE, 0, 0x51, false),
+    (ONE_DATABASE, 0, 0x51, false),
     (MAGIC_FILE, 3, 0x31, true),
     (MAGIC_FILE, 3, 0x32, true),
     (LONG_MAGIC_FILE, 3, 0x31, true),
@@ -74,7 +74,7 @@ fn databases_are_told_from_others(rt: HostRuntime) -> Result<(), Fail> {
 static IMAGES: [(&str, usize, u8, bool); 8] = [
     (BLANK, 3, 0x31, true),
     (BLANK, 3, 0x32, true),
-    (DATABASE, 3, 0x31, true),
+    (ONE_DATABASE, 3, 0x31, true),
     (BLANK, 3, 0x33, false),
     (BLANK, 4, 1, false),
     (BLANK, 7, 0, false),
@@ -106,4 +106,61 @@ fn images_are_told_from_others(rt: HostRuntime) -> Result<(), Fail> {
         "15 bytes",
         !looks_like_image(b"PHI1\0\0\0\x80\0\x04\0\0\0\0\0"),
     )
+}
+
+/// The first bytes of files, and whether they look like pages of the web.
+static PAGES: [(&[u8], bool); 8] = [
+    (b"<!DOCTYPE html>", true),
+    (b"<!doctype", true),
+    (b"<html", true),
+    (b"<HTML>\n", true),
+    (b"<htm", false),
+    (b"<!DOCTYP", false),
+    (b"html", false),
+    (b"", false),
+];
+
+#[test]
+fn pages_are_told_from_others(_rt: HostRuntime) -> Result<(), Fail> {
+    for (file, wanted) in &PAGES {
+        holds(file.len(), looks_like_page(file) == *wanted)?;
+    }
+    Ok(())
+}
+
+/// A database with a header of MacBinary: the name `B.pdb`.
+const MAC_FILE: &str = "00 05 422E706462 00*121 42 00*59 44415441 54657374 00*12";
+
+/// Where one byte of that file is another, and whether it still looks like such a file.
+static MAC_FILES: [(usize, u8, bool); 9] = [
+    (2, 0x41, true),
+    (0, 1, false),
+    (1, 0, false),
+    (1, 1, true),
+    (1, 63, true),
+    (1, 64, false),
+    (74, 1, false),
+    (82, 1, false),
+    (128, 0x1F, true),
+];
+
+fn check_mac(alloc: Global, (at, byte, wanted): (usize, u8, bool)) -> Result<(), Fail> {
+    let mut file = bytes_of(alloc, MAC_FILE)?;
+    if at < file.len() {
+        file[at] = byte;
+    }
+    let looks = looks_like_mac(&file);
+    holds(format_args!("{at} {byte}"), looks == wanted)
+}
+
+#[test]
+fn mac_files_are_told_from_others(rt: HostRuntime) -> Result<(), Fail> {
+    for row in &MAC_FILES {
+        check_mac(rt.alloc(), *row)?;
+    }
+    let file = bytes_of(rt.alloc(), MAC_FILE)?;
+    let (header, _) = file.split_at(file.len().min(127));
+    holds("127 bytes", !looks_like_mac(header))?;
+    let (_, database) = file.split_at(file.len().min(128));
+    holds("its database", !looks_like_mac(database))
 }

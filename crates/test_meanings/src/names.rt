@@ -1,11 +1,11 @@
 //! Each fault and each refusal has the name that is printed of it.
 
-use chunk_format::BlankFault;
-use explanations::{Topic, explain_word};
-use fault_names::{
+use crate::fault_names::{
     blank_fault_name, file_fault_name, heap_fault_name, refusal_name, script_fault_name,
     store_fault_name,
 };
+use chunk_format::BlankFault;
+use explanations::{Topic, explain_word};
 use heap_check::HeapFault;
 use heap_model::{FileFault, Refusal, Which};
 use palm_text::Counted;

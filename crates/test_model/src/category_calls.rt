@@ -8,10 +8,10 @@ use heap_model::{Name, Refusal, Reply};
 use std::alloc::{AllocError, Global};
 
 /// The last category.
-const LAST: u8 = 15;
+const LAST_CATEGORY: u8 = 15;
 
 /// What stands for all categories, where records are counted.
-const ALL: u8 = 0xFF;
+const EVERY_CATEGORY: u8 = 0xFF;
 
 impl Database {
     /// How many records are of a category.
@@ -48,12 +48,12 @@ impl Database {
         dirty: bool,
     ) -> Result<Reply, Refusal> {
         self.check_writable()?;
-        if to > LAST || from > LAST {
+        if to > LAST_CATEGORY || from > LAST_CATEGORY {
             return Err(Refusal::InvalidCategory);
         }
         for record in &mut self.records {
             if is_of(record, from) {
-                record.attributes = record.attributes & !LAST | to;
+                record.attributes = record.attributes & !LAST_CATEGORY | to;
                 if dirty {
                     record.attributes |= DIRTY;
                 }
@@ -72,7 +72,7 @@ impl Database {
         category: u8,
     ) -> Result<Reply, Refusal> {
         self.check_writable()?;
-        if category > LAST {
+        if category > LAST_CATEGORY {
             return Err(Refusal::InvalidCategory);
         }
         let Ok(names) = data_of(alloc, &self.records, category) else {
@@ -91,7 +91,7 @@ impl Database {
 
     /// The records of a database that are counted for a category, or for all.
     fn records_to_count(&self, category: u8) -> Result<&[Record], Refusal> {
-        if category > LAST && category != ALL {
+        if category > LAST_CATEGORY && category != EVERY_CATEGORY {
             return Err(Refusal::InvalidCategory);
         }
         Ok(&self.records)
@@ -100,7 +100,8 @@ impl Database {
 
 /// Whether a record isn't deleted, and is of a category.
 fn is_of(record: &Record, category: u8) -> bool {
-    record.attributes & DELETED == 0 && (category == ALL || record.attributes & LAST == category)
+    record.attributes & DELETED == 0
+        && (category == EVERY_CATEGORY || record.attributes & LAST_CATEGORY == category)
 }
 
 /// How many records are of a category.

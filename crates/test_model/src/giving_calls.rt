@@ -3,7 +3,7 @@
 
 use crate::database::{Database, RECORD_LENGTH};
 use crate::heap::PlainHeap;
-use crate::image::{FIXED, Image};
+use crate::image::{Image, LOCK_OF_FIXED};
 use crate::memory_calls::{DATA_OWNER, check_owner};
 use crate::record_calls::DIRTY;
 use crate::store::{PlainStore, numbered};
@@ -104,7 +104,7 @@ impl PlainHeap {
     pub(crate) fn check_given(&self, name: Name) -> Result<(), Refusal> {
         match self.chunk(name)? {
             chunk if chunk.owner == DATA_OWNER => Err(Refusal::OwnedByDatabase),
-            chunk if chunk.lock == FIXED => Err(Refusal::ChunkFixed),
+            chunk if chunk.lock == LOCK_OF_FIXED => Err(Refusal::ChunkFixed),
             _ => Ok(()),
         }
     }

@@ -1,6 +1,6 @@
 //! A heap: chunks by their names.
 
-use crate::image::{FIXED, Image};
+use crate::image::{Image, LOCK_OF_FIXED};
 use heap_model::{Name, Refusal};
 use std::alloc::{AllocError, Global};
 use std::collections::BTreeMap;
@@ -19,9 +19,9 @@ pub struct Chunk {
 #[derive(Drop)]
 pub struct PlainHeap {
     pub(crate) chunks: BTreeMap<u32, Chunk>,
-    /// The name of the chunk whose bytes are lent, if there is one. What stands for them meanwhile
-    /// means nothing.
-    pub(crate) lent: Option<Name>,
+    /// The names of the chunks whose bytes are lent, the last taken out first. A chunk keeps the
+    /// bytes that it had.
+    pub(crate) lent: Vec<Name>,
 }
 
 impl PlainHeap {
@@ -50,7 +50,10 @@ impl PlainHeap {
                 chunks.insert(live.name.0, chunk).map_err(AllocError::from)?;
             }
         }
-        Ok(PlainHeap { chunks, lent: None })
+        Ok(PlainHeap {
+            chunks,
+            lent: Vec::new(alloc),
+        })
     }
 
     /// Frees chunks. Refused where one of them is locked.
@@ -99,7 +102,7 @@ impl PlainHeap {
     /// Whether the chunk of a name has a lock count above 0.
     pub(crate) fn is_locked(&self, name: Name) -> bool {
         match self.chunks.get(&name.0) {
-            Some(chunk) => chunk.lock > 0 && chunk.lock < FIXED,
+            Some(chunk) => chunk.lock > 0 && chunk.lock < LOCK_OF_FIXED,
             None => false,
         }
     }

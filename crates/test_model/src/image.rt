@@ -25,7 +25,7 @@ impl From<AllocError> for Unreadable {
 }
 
 /// The lock of a fixed chunk. That of a movable one is its lock count.
-pub(crate) const FIXED: u8 = 15;
+pub(crate) const LOCK_OF_FIXED: u8 = 15;
 
 /// A live chunk: its name, and what its header and its body have. A further table has the place of
 /// its body as its name here, which callers can't use.
@@ -40,7 +40,7 @@ pub struct Live<'a> {
 impl Live<'_> {
     /// Whether it is a further table: a fixed chunk of the manager's.
     pub(crate) fn is_table(&self) -> bool {
-        self.lock == FIXED && self.owner == 0
+        self.lock == LOCK_OF_FIXED && self.owner == 0
     }
 }
 
@@ -132,7 +132,7 @@ impl<'a> Image<'a> {
     fn check_fixed(&self) -> Result<(), Unreadable> {
         for piece in &self.pieces {
             if let Some(live) = piece.live
-                && live.lock == FIXED
+                && live.lock == LOCK_OF_FIXED
                 && !self.may_be_fixed(live.owner, piece.place.0)
             {
                 return Err(Unreadable::Chunk(piece.place.0.saturating_sub(8)));
@@ -171,7 +171,8 @@ impl<'a> Image<'a> {
     /// Whether a chunk that is movable stands under its slot.
     fn is_tied(&self, piece: &Piece) -> bool {
         match piece.live {
-            Some(live) if live.lock < FIXED => self.held_by(live.name) == Some(piece.place.0),
+            Some(live) if live.lock < LOCK_OF_FIXED => self.held_by(live.name)
+                == Some(piece.place.0),
             _ => true,
         }
     }
@@ -573,13 +574,13 @@ fn live_of(first: u32, second: u32, body: &[u8], at: u32) -> Option<Live<'_>> {
     let distance = second & 0xFF_FFFF;
     let is_right = match lock {
         0 => true,
-        FIXED => distance == 0,
+        LOCK_OF_FIXED => distance == 0,
         _ => owner > 0,
     };
     if !is_right || first >> 28 != 0 || slack > 7 || slack > body.len() {
         return None;
     }
-    let name = if lock == FIXED {
+    let name = if lock == LOCK_OF_FIXED {
         at.saturating_add(8)
     } else {
         slot_at_distance(at, distance)

@@ -2,7 +2,7 @@
 //! order, what it does and what it returns.
 
 use crate::heap::{Chunk, PlainHeap};
-use crate::image::{FIXED, Image, up_to_zero};
+use crate::image::{Image, LOCK_OF_FIXED, up_to_zero};
 use heap_model::{Bytes, MemoryCall, Name, Place, Refusal, Reply};
 use std::alloc::Global;
 
@@ -95,7 +95,7 @@ impl PlainHeap {
             Reply::Named(name) if !self.chunks.contains_key(&name.0) => *name,
             _ => Name(0),
         };
-        self.make(alloc, name, FIXED, size, owner)?;
+        self.make(alloc, name, LOCK_OF_FIXED, size, owner)?;
         Ok(Reply::Named(name))
     }
 
@@ -156,7 +156,7 @@ impl PlainHeap {
     fn lock(&mut self, name: Name, after: &Image) -> Result<Reply, Refusal> {
         let chunk = self.chunk_mut(name)?;
         match chunk.lock {
-            FIXED => return Err(Refusal::ChunkFixed),
+            LOCK_OF_FIXED => return Err(Refusal::ChunkFixed),
             MOST_LOCKS => return Err(Refusal::LockOverflow),
             lock => chunk.lock = lock.saturating_add(1),
         }
@@ -263,7 +263,7 @@ impl PlainHeap {
 
     /// Refuses a fixed chunk.
     fn check_movable(&self, name: Name) -> Result<(), Refusal> {
-        if self.chunk(name)?.lock == FIXED {
+        if self.chunk(name)?.lock == LOCK_OF_FIXED {
             return Err(Refusal::ChunkFixed);
         }
         Ok(())

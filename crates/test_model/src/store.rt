@@ -5,7 +5,7 @@ use crate::database::Database;
 use crate::heap::PlainHeap;
 use crate::image::Image;
 use heap_model::{Call, Db, Name, Refusal, Reply};
-use std::alloc::Global;
+use std::alloc::{AllocError, Global};
 
 /// The chunks of callers and of databases, each under its name, and the databases in order. The
 /// directory and the headers of databases are no chunks here.
@@ -82,18 +82,28 @@ impl PlainStore {
     }
 
     /// Takes the bytes of a chunk out, as `PlainHeap` does.
-    pub fn take_out(&mut self, name: Name) -> Result<&[u8], Refusal> {
+    pub fn take_out(&mut self, name: Name) -> Result<(), Refusal> {
         self.heap.take_out(name)
     }
 
-    /// Puts the bytes of the lent chunk back.
-    pub fn put_back(&mut self, bytes: &[u8]) {
-        self.heap.put_back(bytes);
+    /// Takes the bytes of a chunk out while others may be out, as `PlainHeap` does.
+    pub fn take_out_also(&mut self, name: Name) -> Result<(), Refusal> {
+        self.heap.take_out_also(name)
     }
 
-    /// The name of the chunk whose bytes are lent.
-    pub fn lent(&self) -> Option<Name> {
+    /// Puts the bytes of a chunk back with a text over the first of them, as `PlainHeap` does.
+    pub fn put_back(&mut self, name: Name, text: &[u8]) {
+        self.heap.put_back(name, text);
+    }
+
+    /// The names of the chunks whose bytes are out, the last taken out first.
+    pub fn lent(&self) -> &[Name] {
         self.heap.lent()
+    }
+
+    /// The names of the chunks whose bytes are out, in the order of an image's chunks.
+    pub fn loans(&self, alloc: Global, image: &Image) -> Result<Vec<Name>, AllocError> {
+        self.heap.loans(alloc, image)
     }
 
     /// The database of a number.

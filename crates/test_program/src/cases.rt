@@ -10,9 +10,10 @@ pub(crate) enum Output {
 }
 
 /// The words of each run behind the program's own name, and what becomes of what it prints.
-pub(crate) static CASES: [(&str, Output); 157] = [
+pub(crate) static CASES: [(&str, Output); 158] = [
     // images that are made, or that there are not
     ("new 64 1 out.img", Taken),
+    ("new 128 3 out.img", Taken),
     ("new 127 4 out.img", Taken),
     ("new 64 1 none/out.img", Taken),
     ("new 64 1 none/out.img", Refused),

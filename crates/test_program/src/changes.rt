@@ -47,7 +47,7 @@ impl Parts {
             && live.owner == 0
         {
             self.lists.push((place, live.bytes.len()))?;
-            if live.lock == FIXED {
+            if live.lock == FIXED_FIELD {
                 self.add_slots(
                     place.saturating_add(4),
                     (live.bytes.len() / 4).saturating_sub(1),
@@ -68,7 +68,7 @@ impl Parts {
 }
 
 /// The lock of a fixed chunk. One of the manager's is a table.
-const FIXED: u8 = 15;
+const FIXED_FIELD: u8 = 15;
 
 fn byte_at(bytes: &[u8], at: usize) -> u8 {
     bytes.get(at).copied().unwrap_or(0)

@@ -15,7 +15,7 @@ const COUNT: u32 = 300;
 const DATA: usize = 88;
 
 /// The script of the run.
-const SCRIPT: &str = "exports.txt";
+const EXPORT_SCRIPT: &str = "exports.txt";
 
 /// Does a run that exports `COUNT` files, each with other data, and shows how many of them have the
 /// data of their number.
@@ -23,11 +23,11 @@ pub(crate) fn show_exports<R: Files + Print + AllocGlobal + Clone + Drop>(
     rt: &R,
 ) -> Result<(), Fail> {
     fill(rt)?;
-    fs::write(rt, SCRIPT, script(rt.alloc())?.as_bytes())?;
-    println!(rt; "$ palmheap run room.img {SCRIPT} out.img")?;
+    fs::write(rt, EXPORT_SCRIPT, script(rt.alloc())?.as_bytes())?;
+    println!(rt; "$ palmheap run room.img {EXPORT_SCRIPT} out.img")?;
     show_status(rt, "run room.img exports.txt out.img", Output::Taken)?;
     show_numbered(rt)?;
-    fs::remove_file(rt, SCRIPT)?;
+    fs::remove_file(rt, EXPORT_SCRIPT)?;
     fs::remove_file(rt, "out.img")?;
     show_changes(rt)?;
     println!(rt; "")?;

@@ -9,7 +9,7 @@ use std::{env, fs};
 const FOLDER: &str = "runs";
 
 /// The most bytes in a row of what is shown.
-const ROW: usize = 16;
+const ROW_BYTES: usize = 16;
 
 /// Makes the folder, and goes there. What an earlier run left is removed.
 pub(crate) fn enter<R: Files + Env + AllocGlobal>(rt: &R) -> Result<(), Fail> {
@@ -120,9 +120,9 @@ fn is_as_it_was<R: AllocGlobal>(rt: &R, name: &str, bytes: &[u8]) -> Result<bool
 
 /// Shows bytes in rows, each behind its offset. Rows of zeros are left out.
 fn show_rows<R: Print + AllocGlobal>(rt: &R, bytes: &[u8]) -> Result<(), Fail> {
-    for at in (0..bytes.len()).step_by(ROW) {
+    for at in (0..bytes.len()).step_by(ROW_BYTES) {
         let rest = &bytes[at..];
-        let row = &rest[..rest.len().min(ROW)];
+        let row = &rest[..rest.len().min(ROW_BYTES)];
         if row.iter().any(|&byte| byte != 0) {
             println!(rt; "{at:04x}  {}", hex::encode(rt.alloc(), row)?)?;
         }

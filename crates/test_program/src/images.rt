@@ -8,13 +8,13 @@ use std::test::Fail;
 use test_beside::{
     Beside, MIXED, Verdict, agreed_verdict, blank_image, chained_image, image_of, store_of,
 };
-use test_support::{DATABASE, TWO_DATABASES, bytes_of};
+use test_support::{ONE_DATABASE, TWO_DATABASES, bytes_of};
 
 /// How many images come of each store by changes.
-const IMAGES: u64 = 250;
+const IMAGES_EACH: u64 = 250;
 
 /// How many calls are done on an image that is accepted.
-const CALLS: u32 = 8;
+const CALLS_EACH: u32 = 8;
 
 /// How many calls make a store that is drawn.
 const DRAWN_CALLS: u32 = 60;
@@ -23,7 +23,7 @@ const DRAWN_CALLS: u32 = 60;
 /// of either layout.
 fn any_store(alloc: Global, seed: u64) -> Result<Vec<u8>, Fail> {
     match seed % 6 {
-        0 => bytes_of(alloc, DATABASE),
+        0 => bytes_of(alloc, ONE_DATABASE),
         1 => bytes_of(alloc, TWO_DATABASES),
         2 => bytes_of(alloc, MIXED),
         3 => drawn_store(alloc, seed, chained_image(alloc, 1024, 5)?),
@@ -87,7 +87,7 @@ impl Verdicts {
 fn check_store(alloc: Global, seed: u64, verdicts: &mut Verdicts) -> Result<(), Fail> {
     let image = any_store(alloc, seed)?;
     let parts = Parts::of(alloc, &image)?;
-    for number in 0..IMAGES {
+    for number in 0..IMAGES_EACH {
         let mut random = Pcg32::new(seed, number);
         let bytes = changed(&mut random, &image, &parts)?;
         verdicts.add(check_image(alloc, &mut random, bytes, (number, seed))?);
@@ -105,7 +105,7 @@ fn check_image(
     let spot = format!(in alloc; "image {number} of store {seed}")?;
     let verdict = agreed_verdict(alloc, spot.as_str(), &bytes)?;
     if verdict == Verdict::Accepted {
-        do_calls(alloc, random, bytes, CALLS, spot.as_str())?;
+        do_calls(alloc, random, bytes, CALLS_EACH, spot.as_str())?;
     }
     Ok(verdict)
 }

@@ -3,7 +3,7 @@
 use Content::{Listing, Text};
 use std::alloc::Global;
 use std::test::Fail;
-use test_support::{BLANK, DATABASE, EMPTY_WRITTEN, ORDER_FILE, TINY_FILE, WIDE, image};
+use test_support::{BLANK, EMPTY_WRITTEN, ONE_DATABASE, ORDER_FILE, TINY_FILE, WIDE, image};
 
 /// What a file holds.
 pub(crate) enum Content {
@@ -31,13 +31,13 @@ const ROOM: &str = "50484931 00000200 000C 0000 00000000 00*48 800001C0 00*444";
 pub(crate) static INPUTS: [(&str, Content); 23] = [
     ("blank.img", Listing(BLANK, "")),
     ("room.img", Listing(ROOM, "")),
-    ("records.img", Listing(DATABASE, "")),
+    ("records.img", Listing(ONE_DATABASE, "")),
     // the free chunk reaches beyond the end
     ("long.img", Listing(BLANK, "32: 80000068")),
     // the second record has the ID of the first
-    ("twins.img", Listing(DATABASE, "165: 01")),
+    ("twins.img", Listing(ONE_DATABASE, "165: 01")),
     // the first record has the data of the second
-    ("shared.img", Listing(DATABASE, "150: 0000001C")),
+    ("shared.img", Listing(ONE_DATABASE, "150: 0000001C")),
     // an image that is read as a database without entries
     ("wide.img", Listing(WIDE, "")),
     ("order.pdb", Listing(ORDER_FILE, "")),
@@ -46,7 +46,7 @@ pub(crate) static INPUTS: [(&str, Content); 23] = [
     ("damaged.pdb", Listing(ORDER_FILE, "86: 00000065")),
     // names with a byte outside ASCII
     ("cafe.pdb", Listing(EMPTY_WRITTEN, "0: 436166E900")),
-    ("cafe.img", Listing(DATABASE, "72: 436166E9")),
+    ("cafe.img", Listing(ONE_DATABASE, "72: 436166E9")),
     (
         "files.txt",
         Text("import d 2\nimport e 1\nexport d\nexport e\nexport e\ndbcount\n"),

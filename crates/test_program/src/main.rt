@@ -9,7 +9,7 @@
 //! drawn so that they meet what holds an image together. The check of stores says of each what the
 //! plain model says, and lists of calls on those that are accepted are answered as by the model.
 //!
-//! `test_program STORES` leaves out the runs, and checks 250 images of each of `STORES` stores.
+//! `test_program STORE_COUNT` leaves out the runs, and checks 250 images of each of `STORE_COUNT` stores.
 //! Without a word there are 40 stores. Seeds are fixed. So a greater number adds stores to the same
 //! ones.
 #![tactic(auto)]
@@ -30,7 +30,7 @@ use std::rt::{Env, Files};
 use std::test::Fail;
 
 /// How many stores there are where no word says so.
-const STORES: u64 = 40;
+const STORE_COUNT: u64 = 40;
 
 fn main(rt: HostRuntime) -> Result<(), Fail> {
     let words = env::args(&rt)?.skip(1).collect::<Vec<_>>(rt.alloc())?;
@@ -45,7 +45,7 @@ fn show<R: Files + Env + Print + AllocGlobal + Clone + Drop>(
     match words {
         [] => {
             show_runs(rt)?;
-            show_verdicts(rt, STORES)
+            show_verdicts(rt, STORE_COUNT)
         }
         [stores] => show_verdicts(rt, stores.parse()?),
         _ => Err(Fail::new("usage: test_program [STORES]")),

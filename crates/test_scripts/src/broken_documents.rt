@@ -2,7 +2,7 @@
 //! fails after each byte, and a flush fails.
 
 use crate::stores::image_of;
-use image_documents::cmd_check_json_from;
+use image_commands::cmd_check_json_from;
 use palm_text::Counted;
 use program_io::Status;
 use std::alloc::Global;

@@ -8,7 +8,7 @@ use std::test::Fail;
 use test_support::{BLANK, RefusesOne, equal, image};
 
 /// The name of the first chunk that is made.
-const CHUNK: Name = Name(16);
+const LISTED_CHUNK: Name = Name(16);
 
 /// A chunk is made, and what is free is asked for.
 const IN_ORDER: [Call; 2] = [
@@ -17,32 +17,32 @@ const IN_ORDER: [Call; 2] = [
 ];
 
 /// The place that `lock` answers is 40: this place and one behind it are asked for.
-pub(crate) const PLACES: [Call; 4] = [
+pub(crate) const PLACES_ASKED: [Call; 4] = [
     Call::Memory(MemoryCall::HandleNew { size: 8, owner: 1 }),
-    Call::Memory(MemoryCall::Lock(CHUNK)),
+    Call::Memory(MemoryCall::Lock(LISTED_CHUNK)),
     Call::Memory(MemoryCall::Recover(Place(40))),
     Call::Memory(MemoryCall::Recover(Place(48))),
 ];
 
 /// A call that is refused doesn't end the list, and changes nothing for those behind it.
 const WITH_REFUSALS: [Call; 6] = [
-    Call::Memory(MemoryCall::Free(CHUNK)),
+    Call::Memory(MemoryCall::Free(LISTED_CHUNK)),
     Call::Memory(MemoryCall::HandleNew { size: 90, owner: 1 }),
     Call::Memory(MemoryCall::HandleNew { size: 2, owner: 1 }),
-    Call::Memory(MemoryCall::Lock(CHUNK)),
-    Call::Memory(MemoryCall::Free(CHUNK)),
-    Call::Memory(MemoryCall::Size(CHUNK)),
+    Call::Memory(MemoryCall::Lock(LISTED_CHUNK)),
+    Call::Memory(MemoryCall::Free(LISTED_CHUNK)),
+    Call::Memory(MemoryCall::Size(LISTED_CHUNK)),
 ];
 
 /// A chunk is made, read and asked for.
 const WITH_READ: [Call; 3] = [
     Call::Memory(MemoryCall::HandleNew { size: 2, owner: 1 }),
     Call::Memory(MemoryCall::Read {
-        name: CHUNK,
+        name: LISTED_CHUNK,
         at: 0,
         count: 2,
     }),
-    Call::Memory(MemoryCall::Size(CHUNK)),
+    Call::Memory(MemoryCall::Size(LISTED_CHUNK)),
 ];
 
 /// What a list is answered on the small store.
@@ -63,7 +63,7 @@ fn a_list_is_answered_in_order(rt: HostRuntime) -> Result<(), Fail> {
 fn a_place_in_a_list_has_its_name(rt: HostRuntime) -> Result<(), Fail> {
     let said =
         "[Named(Name(16)), Locked { place: Place(40), count: 1 }, Named(Name(16)), Refused(InvalidHandle)]";
-    check_list(rt.alloc(), &PLACES, said)
+    check_list(rt.alloc(), &PLACES_ASKED, said)
 }
 
 #[test]

@@ -2,7 +2,7 @@
 
 ghost use Rattle.std.specs.Prelude.{[], ◌≡◌, IfOk, None};
 
-use crate::call_lists::PLACES;
+use crate::call_lists::PLACES_ASKED;
 use chunk_format::blank;
 use heap_model::{Bytes, Call, DatabaseCall, DbName, MemoryCall, Name, Reply};
 use palm_script::{RunFault, Script, do_call, do_call_from, parse, run, run_from};
@@ -46,7 +46,7 @@ pub(crate) fn blank_store(alloc: Global, size: u32) -> Result<Store, Fail>
     accepted(alloc, blank(alloc, size, 4)?)
 }
 
-const SCRIPT: &str = "new a 10 1\nlock a\nread a 0 2\n";
+const SCRIPT_OF_CALLS: &str = "new a 10 1\nlock a\nread a 0 2\n";
 
 /// How many files come of a run, or why it ended early.
 type Ended = Result<usize, RunFault>;
@@ -75,7 +75,7 @@ fn check_without(
     before: u32,
     (ended, free, said): (Ended, u32, &str),
 ) -> Result<(), Fail> {
-    let script = parse(alloc, SCRIPT.as_bytes())?;
+    let script = parse(alloc, SCRIPT_OF_CALLS.as_bytes())?;
     let mut store = small_store(alloc)?;
     let memory = RefusesOne::behind(alloc, before);
     let (came, out) = run_with(&memory, &mut store, &script, Vec::new(alloc));
@@ -189,38 +189,38 @@ fn reads_of_every_size_are_answered(rt: HostRuntime) -> Result<(), Fail> {
 }
 
 /// The chunk that the first call makes.
-const CHUNK: Name = Name(16);
+const CALLED_CHUNK: Name = Name(16);
 
 /// Calls one behind another: those in front of two that carry bytes.
 const FIRST_CALLS: [Call; 3] = [
     Call::Memory(MemoryCall::HandleNew { size: 10, owner: 1 }),
     Call::Memory(MemoryCall::PtrNew { size: 4, owner: 15 }),
-    Call::Memory(MemoryCall::Lock(CHUNK)),
+    Call::Memory(MemoryCall::Lock(CALLED_CHUNK)),
 ];
 
 /// Those behind the two.
 const LAST_CALLS: [Call; 14] = [
     Call::Memory(MemoryCall::Set {
-        name: CHUNK,
+        name: CALLED_CHUNK,
         at: 4,
         count: 2,
         byte: 7,
     }),
     Call::Memory(MemoryCall::Read {
-        name: CHUNK,
+        name: CALLED_CHUNK,
         at: 0,
         count: 6,
     }),
-    Call::Memory(MemoryCall::Locks(CHUNK)),
-    Call::Memory(MemoryCall::Unlock(CHUNK)),
+    Call::Memory(MemoryCall::Locks(CALLED_CHUNK)),
+    Call::Memory(MemoryCall::Unlock(CALLED_CHUNK)),
     Call::Memory(MemoryCall::SetOwner {
-        name: CHUNK,
+        name: CALLED_CHUNK,
         owner: 3,
     }),
-    Call::Memory(MemoryCall::Owner(CHUNK)),
-    Call::Memory(MemoryCall::Size(CHUNK)),
+    Call::Memory(MemoryCall::Owner(CALLED_CHUNK)),
+    Call::Memory(MemoryCall::Size(CALLED_CHUNK)),
     Call::Memory(MemoryCall::Resize {
-        name: CHUNK,
+        name: CALLED_CHUNK,
         size: 24,
     }),
     Call::Memory(MemoryCall::FreeBytes),
@@ -228,7 +228,7 @@ const LAST_CALLS: [Call; 14] = [
     Call::Memory(MemoryCall::Compact),
     Call::Memory(MemoryCall::MoreSlots),
     Call::Memory(MemoryCall::FreeByOwner(3)),
-    Call::Memory(MemoryCall::Free(CHUNK)),
+    Call::Memory(MemoryCall::Free(CALLED_CHUNK)),
 ];
 
 fn bytes_of(alloc: Global, text: &str) -> Result<Bytes, AllocError> {
@@ -237,7 +237,7 @@ fn bytes_of(alloc: Global, text: &str) -> Result<Bytes, AllocError> {
 
 /// The two that carry bytes.
 fn with_bytes(bytes: Bytes, text: Bytes) -> [Call; 2] {
-    let name = CHUNK;
+    let name = CALLED_CHUNK;
     [
         Call::Memory(MemoryCall::Write { name, at: 0, bytes }),
         Call::Memory(MemoryCall::StrCopy { name, at: 2, text }),
@@ -310,7 +310,7 @@ fn a_place_has_its_name(rt: HostRuntime) -> Result<(), Fail> {
     let mut store = small_store(rt.alloc())?;
     let said =
         "Named(Name(16)); Locked { place: Place(40), count: 1 }; Named(Name(16)); Refused(InvalidHandle); ";
-    check_calls(rt.alloc(), &mut store, &[&PLACES], said)
+    check_calls(rt.alloc(), &mut store, &[&PLACES_ASKED], said)
 }
 
 /// Runs a script on a writer with room for 4 bytes.
@@ -330,13 +330,13 @@ fn run_cut(
 
 #[test]
 fn the_line_that_breaks_off_was_done(rt: HostRuntime) -> Result<(), Fail> {
-    let script = parse(rt.alloc(), SCRIPT.as_bytes())?;
+    let script = parse(rt.alloc(), SCRIPT_OF_CALLS.as_bytes())?;
     let mut store = small_store(rt.alloc())?;
     let mut room = [0; 4];
     let fault = run_cut(rt.alloc(), &mut store, &script, &mut room);
     equal(
         "the run",
-        (fault, store.locks(CHUNK), room),
+        (fault, store.locks(CALLED_CHUNK), room),
         (Some(RunFault::Write), Ok(1), *b"ok\no"),
     )
 }

@@ -1,6 +1,6 @@
 //! The commands: what they print and write, and a writer that fails.
 
-use crate::runs::{BOTH_USED, CHAINED, ONE_FURTHER, TWO_TABLES, check_told};
+use crate::runs::{BOTH_USED, CHAINED_ONE_SLOT, ONE_FURTHER, TWO_TABLES, check_told};
 use image_commands::{cmd_check, cmd_new};
 use palm_text::Counted;
 use program_io::Status;
@@ -8,7 +8,7 @@ use std::alloc::Global;
 use std::io::{ErrorKind, Write};
 use std::test::Fail;
 use test_support::{
-    BLANK, DATABASE, Narrow, ONE_CHUNK, Unflushed, WhenFull, bytes_of, equal, holds, image,
+    BLANK, Narrow, ONE_CHUNK, ONE_DATABASE, Unflushed, WhenFull, bytes_of, equal, holds, image,
 };
 
 /// What a command answered, and what its writers hold.
@@ -145,14 +145,14 @@ static CHECKS: [(&str, (Status, &str)); 11] = [
         ),
     ),
     (
-        DATABASE,
+        ONE_DATABASE,
         (
             Status::Done,
             "ok size 208 slots 8 movable 4 fixed 0 free 8\ndatabases 1\n",
         ),
     ),
     (
-        CHAINED,
+        CHAINED_ONE_SLOT,
         (
             Status::Done,
             "ok size 128 slots 1 movable 0 fixed 0 free 104\ndatabases 0\n",
@@ -227,9 +227,13 @@ fn check_says_what_is_there(rt: HostRuntime) -> Result<(), Fail> {
 fn check_names_what_is_wrong(rt: HostRuntime) -> Result<(), Fail> {
     let too_long = ("32: 80000068", "bad BadChunk 32\n");
     check_faults(rt.alloc(), BLANK, &[too_long])?;
-    check_faults(rt.alloc(), CHAINED, &[("23: 20", "bad BadTable 0\n")])?;
+    check_faults(
+        rt.alloc(),
+        CHAINED_ONE_SLOT,
+        &[("23: 20", "bad BadTable 0\n")],
+    )?;
     check_faults(rt.alloc(), TWO_TABLES, &CHAIN_FAULTS)?;
-    check_faults(rt.alloc(), DATABASE, &FAULTS)
+    check_faults(rt.alloc(), ONE_DATABASE, &FAULTS)
 }
 
 /// After how many bytes a writer takes no more, and how it says so.

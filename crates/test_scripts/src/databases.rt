@@ -8,7 +8,7 @@ use heap_model::{Call, DatabaseCall, Db, DbName};
 use program_io::Status;
 use std::alloc::{AllocError, Global};
 use std::test::Fail;
-use test_support::{BLANK, DATABASE, TWO_DATABASES, WIDE, bytes_of, equal, holds};
+use test_support::{BLANK, ONE_DATABASE, TWO_DATABASES, WIDE, bytes_of, equal, holds};
 
 /// Free chunks of 88 and 16 bytes, and between them one that is locked.
 const TWO_ROOMS: &str = "50484931 00000090 0004 0000 00000000 00000080 00*12 80000058 00*84 \
@@ -39,7 +39,7 @@ static IN_THE_SECOND: [(&str, &str); 3] = [
 
 #[test]
 fn check_names_what_is_wrong_with_databases(rt: HostRuntime) -> Result<(), Fail> {
-    check_faults(rt.alloc(), DATABASE, &FAULTS)?;
+    check_faults(rt.alloc(), ONE_DATABASE, &FAULTS)?;
     check_faults(rt.alloc(), TWO_DATABASES, &IN_THE_SECOND)
 }
 
@@ -52,7 +52,7 @@ fn lines_print_their_replies(rt: HostRuntime) -> Result<(), Fail> {
 static RUNS: [(&str, &str); 8] = [
     // a database that an image has is found and deleted
     (
-        DATABASE,
+        ONE_DATABASE,
         "find d \"R\" = ok
         dbinfo d = ok \"R\" 0000 0 0 0 0 0 \"DATA\" \"Test\" 00000002 2
         find e \"r\" = refused 10 NoSuchDatabase
@@ -65,7 +65,7 @@ static RUNS: [(&str, &str); 8] = [
     ),
     // data that is locked keeps its database, and all of it
     (
-        DATABASE,
+        ONE_DATABASE,
         "bind a 24 = ok
         bind b 28 = ok
         bind h 20 = refused 1 InvalidHandle

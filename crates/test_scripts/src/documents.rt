@@ -2,8 +2,7 @@
 
 use crate::stores::image_of;
 use heap_check::HeapFault;
-use image_commands::cmd_check;
-use image_documents::{cmd_check_json, say_image_fault};
+use image_commands::{cmd_check, cmd_check_json, say_image_fault};
 use palm_store::StoreFault;
 use palm_text::Counted;
 use program_io::Status;
@@ -11,7 +10,7 @@ use std::alloc::Global;
 use std::str;
 use std::test::*;
 use store_commands::cmd_databases_json;
-use test_support::{BLANK, DATABASE, EMPTY_FILE, ORDER_FILE, TINY_FILE, bytes_of, equal};
+use test_support::{BLANK, EMPTY_FILE, ONE_DATABASE, ORDER_FILE, TINY_FILE, bytes_of, equal};
 
 /// Every fault of an image, except out of memory.
 static FAULTS: [StoreFault; 20] = [
@@ -121,7 +120,7 @@ fn lines_of(alloc: Global, document: &str) -> Result<String, Fail> {
 
 #[test]
 fn documents_have_the_counts_of_texts(rt: HostRuntime) -> Result<(), Fail> {
-    let image = bytes_of(rt.alloc(), DATABASE)?;
+    let image = bytes_of(rt.alloc(), ONE_DATABASE)?;
     let (status, document) = checked_json(rt.alloc(), &image);
     equal("status", status, Status::Done)?;
     let mut out = Counted::new(Vec::new(rt.alloc()));

@@ -11,11 +11,12 @@ use test_support::{
 };
 
 /// A file of records with the greatest and the least ID, whose seed is just below the greatest.
-const IDS: &str = "496473 00*29 0000 0000 00*24 44415441 54657374 07fffffe 00000000 0002 \
+const WRAPPED_IDS_FILE: &str =
+    "496473 00*29 0000 0000 00*24 44415441 54657374 07fffffe 00000000 0002 \
     00000060 00 ffffff 00000060 00 000001 0000";
 
 /// The file of two resources without the first, as it is written.
-const TINY_WRITTEN: &str =
+const TINY_REWRITTEN: &str =
     "54696e79 00*28 0001 0001 00*12 00000001 00*8 6170706c 54657374 00000000 \
     00000000 0001 74535452 03e9 0000005a 0000 596f00";
 
@@ -76,7 +77,7 @@ static CASES: [Case; 9] = [
     // IDs wrap from the greatest to the least that is free
     Case {
         image: WIDE,
-        inputs: &[IDS],
+        inputs: &[WRAPPED_IDS_FILE],
         lines: "import d 1 = ok
             recnew d 65535 0 r = ok 2
             recinfo d 2 = ok 60 2 data
@@ -94,7 +95,7 @@ static CASES: [Case; 9] = [
             restype d \"tSTR\" 2 = refused 23 ResourceNotFound
             resremove d 0 = ok
             export d = ok 93",
-        files: &[TINY_WRITTEN],
+        files: &[TINY_REWRITTEN],
     },
     // blocks against the order of the list, deleted records with and without data, and info blocks
     Case {
@@ -125,7 +126,7 @@ static CASES: [Case; 9] = [
             export x = ok 93
             export d = ok 80
             dbcount = ok 2",
-        files: &[TINY_WRITTEN, EMPTY_WRITTEN],
+        files: &[TINY_REWRITTEN, EMPTY_WRITTEN],
     },
     // what doesn't fit leaves nothing
     Case {

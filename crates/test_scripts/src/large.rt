@@ -8,7 +8,7 @@ use crate::runs::{Ran, run_on};
 use image_commands::cmd_new;
 use palm_script::{parse, run};
 use palm_text::Counted;
-use program_io::{INPUT_LIMIT, Status};
+use program_io::{MOST_INPUT, Status};
 use std::alloc::{AllocError, Global};
 use std::test::Fail;
 use test_support::{equal, holds};
@@ -40,11 +40,7 @@ fn a_script_of_100000_lines_is_read(rt: HostRuntime) -> Result<(), Fail> {
 fn a_script_as_long_as_the_limit_is_read(rt: HostRuntime) -> Result<(), Fail> {
     let text = passed_over(rt.alloc(), 4_096)?;
     let labels = count_of(rt.alloc(), text.as_bytes(), What::ChunkLabels);
-    equal(
-        "bytes, labels",
-        (text.len(), labels),
-        (INPUT_LIMIT, Some(0)),
-    )
+    equal("bytes, labels", (text.len(), labels), (MOST_INPUT, Some(0)))
 }
 
 /// What `run` itself prints on a blank image of this size: the commands call the forms with an

@@ -35,6 +35,8 @@ mod moving;
 #[cfg(test)]
 mod needs;
 #[cfg(test)]
+mod numbered_replies;
+#[cfg(test)]
 mod pieces;
 #[cfg(test)]
 mod reading;

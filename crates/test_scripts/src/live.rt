@@ -76,7 +76,7 @@ struct Room {
     out: usize,
 }
 
-const ENOUGH: Room = Room {
+const ENOUGH_ROOM: Room = Room {
     image: 4096,
     out: 4096,
 };
@@ -237,7 +237,7 @@ fn check_case(alloc: Global, number: usize, case: &Case) -> Result<(), Fail> {
             number: &line,
         },
     };
-    let ran = run_parts(&memory, alloc, &image, given, ENOUGH)?;
+    let ran = run_parts(&memory, alloc, &image, given, ENOUGH_ROOM)?;
     equal(
         number,
         (ran.status, str::from_utf8(&ran.out.taken)?),
@@ -260,10 +260,10 @@ fn parts_are_run_as_they_come(rt: HostRuntime) -> Result<(), Fail> {
 /// A script of three lines in two parts, and its replies.
 const DRIVEN: &[&str] = &["freebytes\n", "new a 8 1\nsize a\n", ""];
 
-const REPLIES: &str = "ok 96\nok\nok 8\n";
+const LIVE_REPLIES: &str = "ok 96\nok\nok 8\n";
 
 /// The number of bytes of a blank image.
-const IMAGE: usize = 128;
+const BLANK_BYTES: usize = 128;
 
 /// Runs `DRIVEN` with room for these bytes. What has no room is cut, and no call comes after it.
 fn check_room(alloc: Global, room: Room) -> Result<(), Fail> {
@@ -280,24 +280,30 @@ fn check_room(alloc: Global, room: Room) -> Result<(), Fail> {
     };
     let ran = run_parts(&memory, alloc, &image, given, room)?;
     equal(room.out, ran.status, Status::WriteFault)?;
-    let is_cut = if room.out < REPLIES.len() {
+    let is_cut = if room.out < LIVE_REPLIES.len() {
         ran.out.is_cut_at(room.out) && ran.image.taken.is_empty()
     } else {
-        ran.out.taken.len() == REPLIES.len() && ran.image.is_cut_at(room.image)
+        ran.out.taken.len() == LIVE_REPLIES.len() && ran.image.is_cut_at(room.image)
     };
     holds(
         room.out,
-        is_cut && REPLIES.as_bytes().starts_with(&ran.out.taken),
+        is_cut && LIVE_REPLIES.as_bytes().starts_with(&ran.out.taken),
     )
 }
 
 #[test]
 fn nothing_is_written_after_a_failed_write(rt: HostRuntime) -> Result<(), Fail> {
-    for out in 0..REPLIES.len() {
-        check_room(rt.alloc(), Room { image: IMAGE, out })?;
+    for out in 0..LIVE_REPLIES.len() {
+        check_room(
+            rt.alloc(),
+            Room {
+                image: BLANK_BYTES,
+                out,
+            },
+        )?;
     }
-    for image in 0..IMAGE {
-        let out = REPLIES.len();
+    for image in 0..BLANK_BYTES {
+        let out = LIVE_REPLIES.len();
         check_room(rt.alloc(), Room { image, out })?;
     }
     Ok(())
@@ -317,7 +323,7 @@ fn is_refused(alloc: Global, before: u32) -> Result<bool, Fail> {
             number: &line,
         },
     };
-    let ran = run_parts(&memory, alloc, &image, given, ENOUGH)?;
+    let ran = run_parts(&memory, alloc, &image, given, ENOUGH_ROOM)?;
     let is_refused = memory.has_refused();
     let wanted = if is_refused {
         Status::NoMemory
@@ -330,7 +336,7 @@ fn is_refused(alloc: Global, before: u32) -> Result<bool, Fail> {
     holds(
         before,
         is_whole
-            && REPLIES.as_bytes().starts_with(replies)
+            && LIVE_REPLIES.as_bytes().starts_with(replies)
             && ran.flushed == replies.len()
             && ran.image.taken.is_empty() == is_refused,
     )?;

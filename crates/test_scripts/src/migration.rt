@@ -1,6 +1,6 @@
 //! The command `migrate`: the images that it writes, what it refuses, and writers that fail.
 
-use crate::runs::{CHAINED, TWO_TABLES, check_lines};
+use crate::runs::{CHAINED_ONE_SLOT, TWO_TABLES, check_lines};
 use chunk_format::blank;
 use palm_text::Counted;
 use program_io::Status;
@@ -10,7 +10,7 @@ use std::str;
 use std::test::Fail;
 use store_commands::cmd_migrate;
 use test_support::{
-    BLANK, DATABASE, Narrow, ONE_CHUNK, Unflushed, WhenFull, bytes_of, equal, holds, image,
+    BLANK, Narrow, ONE_CHUNK, ONE_DATABASE, Unflushed, WhenFull, bytes_of, equal, holds, image,
 };
 
 /// What the command answered, and what its writers hold.
@@ -45,7 +45,7 @@ const EVERY_KIND: &str = "50484931 00000080 0004 0000 00000000 00000060 00000028
     00000028 07FFFFDC 00*28 21222324";
 
 /// The same behind 3 slots: the word behind them is padding.
-const ODD: &str = "50484931 00000080 0003 0000 00000000 00000060 00000028 00*8 \
+const ODD_SLOTS: &str = "50484931 00000080 0003 0000 00000000 00000060 00000028 00*8 \
     06000018 32FFFFFA 0102030405060708090A F1F2F3F4F5F6 \
     03000010 F5000000 1112131415 E1E2E3 \
     FF000010 DEADBEEF C1C2C3C4C5C6C7C8 \
@@ -59,7 +59,7 @@ static WRITTEN: [(&str, &str); 7] = [
     ),
     (
         "50484931 00000080 0001 0000 00000000 00*8 80000068 00*100",
-        CHAINED,
+        CHAINED_ONE_SLOT,
     ),
     (
         ONE_CHUNK,
@@ -74,14 +74,14 @@ static WRITTEN: [(&str, &str); 7] = [
             00000028 07FFFFD8 00*28 21222324",
     ),
     (
-        ODD,
+        ODD_SLOTS,
         "50484932 00000080 0003 0000 00000000 00000060 00000028 00*8 \
             06000018 32FFFFFA 0102030405060708090A F1F2F3F4F5F6 \
             03000010 F5000000 1112131415 E1E2E3 \
             FF000010 DEADBEEF C1C2C3C4C5C6C7C8 \
             00000028 07FFFFDC 00*28 21222324",
     ),
-    (CHAINED, CHAINED),
+    (CHAINED_ONE_SLOT, CHAINED_ONE_SLOT),
     (TWO_TABLES, TWO_TABLES),
 ];
 
@@ -121,13 +121,13 @@ unlock b = ok 2
 freebytes = ok 16",
     ),
     (
-        ODD,
+        ODD_SLOTS,
         "bind d 64 = ok
 read d 0 5 = ok 1112131415
 moreslots = refused 8 NotEnoughSpace",
     ),
     (
-        DATABASE,
+        ONE_DATABASE,
         "dbcount = ok 1
 moreslots = refused 8 NotEnoughSpace
 freebytes = ok 8",
@@ -159,9 +159,9 @@ static REFUSED: [(&str, &str, &str); 6] = [
     ("", "", "bad TooShort\n"),
     (BLANK, "3: 33", "bad BadMagic\n"),
     (BLANK, "32: 80000068", "bad BadChunk 32\n"),
-    (CHAINED, "20: 00000020", "bad BadTable 0\n"),
+    (CHAINED_ONE_SLOT, "20: 00000020", "bad BadTable 0\n"),
     (TWO_TABLES, "20: 00000000", "bad BadFixedOwner 32\n"),
-    (DATABASE, "150: 0000001C", "bad SharedChunk 28\n"),
+    (ONE_DATABASE, "150: 0000001C", "bad SharedChunk 28\n"),
 ];
 
 #[test]

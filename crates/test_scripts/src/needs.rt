@@ -10,7 +10,7 @@ use test_support::{EMPTY_FILE, ORDER_FILE, TINY_FILE, bytes_of};
 
 /// A file of a record, whose database has an AppInfo block of 5 bytes and an empty SortInfo block.
 /// The data has 9 bytes.
-const BLOCKS_FILE: &str = "2f426c2e 00*28 0000 0000 00*16 00000058 0000005d 44415441 54657374 \
+const NEEDS_FILE: &str = "2f426c2e 00*28 0000 0000 00*16 00000058 0000005d 44415441 54657374 \
     00000000 00000000 0001 0000005d 00 000001 0000 0102030405 111213141516171819";
 
 /// Files with the size and the slot count that they need: 16 bytes and 4 for each slot, rounded up
@@ -40,7 +40,7 @@ static NEEDS: [(&[&str], u32, u16, &str, &str); 6] = [
         "import d 1 = refused 8 NotEnoughSpace",
     ),
     (
-        &[BLOCKS_FILE],
+        &[NEEDS_FILE],
         200,
         5,
         "import d 1 = ok",
@@ -56,7 +56,7 @@ static NEEDS: [(&[&str], u32, u16, &str, &str); 6] = [
             import e 2 = refused 8 NotEnoughSpace",
     ),
     (
-        &[TINY_FILE, ORDER_FILE, EMPTY_FILE, BLOCKS_FILE],
+        &[TINY_FILE, ORDER_FILE, EMPTY_FILE, NEEDS_FILE],
         624,
         13,
         "import d 1 = ok

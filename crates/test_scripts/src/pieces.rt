@@ -34,7 +34,7 @@ static PIECES: [Piece<'static>; 18] = [
     Piece::Text(b"\n"),
 ];
 
-const TEXT: &str =
+const TEXT_IN_PIECES: &str =
     "ok 0 42949672950001090a0f101f207f80909fa0abcdeff0feff000000000000000000000000005a\
     \" a~\"\"\"x:612262x:617fx:1f61\"DATA\"x:000000220afe000a0000beef\n";
 
@@ -48,7 +48,7 @@ fn put_to(alloc: Global, room: usize, step: usize, way: WhenFull) -> (bool, Narr
 /// Checks that pieces are written one after another, `step` bytes at a time.
 fn check_put(alloc: Global, step: usize) -> Result<(), Fail> {
     let (is_put, out) = put_to(alloc, 1000, step, WhenFull::TakesNothing);
-    let is_text = out.taken.as_slice() == TEXT.as_bytes();
+    let is_text = out.taken.as_slice() == TEXT_IN_PIECES.as_bytes();
     holds(
         format_args!("{step} bytes at a time"),
         is_put && out.refused == 0 && is_text,
@@ -66,7 +66,7 @@ fn pieces_are_written_one_behind_another(rt: HostRuntime) -> Result<(), Fail> {
 /// Checks that `put_pieces` fails if there is room for `room` bytes, and writes those.
 fn check_cut(alloc: Global, room: usize, way: WhenFull) -> Result<(), Fail> {
     let (is_put, out) = put_to(alloc, room, 5, way);
-    let is_front = TEXT.as_bytes().starts_with(&out.taken);
+    let is_front = TEXT_IN_PIECES.as_bytes().starts_with(&out.taken);
     holds(
         format_args!("room for {room}"),
         !is_put && out.is_cut_at(room) && is_front,
@@ -75,7 +75,7 @@ fn check_cut(alloc: Global, room: usize, way: WhenFull) -> Result<(), Fail> {
 
 #[test]
 fn nothing_follows_a_write_that_fails(rt: HostRuntime) -> Result<(), Fail> {
-    for room in 0..TEXT.len() {
+    for room in 0..TEXT_IN_PIECES.len() {
         check_cut(rt.alloc(), room, WhenFull::TakesNothing)?;
         check_cut(rt.alloc(), room, WhenFull::Fails(ErrorKind::Interrupted))?;
     }

@@ -1,7 +1,7 @@
 //! Reading input: how far, and what a read that fails gives.
 
 use command_files::{SizedFault, read_region_from};
-use program_io::{INPUT_LIMIT, InputFault, read_input, read_input_from};
+use program_io::{InputFault, MOST_INPUT, read_input, read_input_from};
 use std::alloc::Global;
 use std::io::ErrorKind;
 use std::test::Fail;
@@ -146,11 +146,11 @@ fn every_growth_may_be_refused(rt: HostRuntime) -> Result<(), Fail> {
 }
 
 fn check_limit(alloc: Global, step: usize) -> Result<(), Fail> {
-    let (came, _) = outcome_at(alloc, Source::new(INPUT_LIMIT, step));
+    let (came, _) = outcome_at(alloc, Source::new(MOST_INPUT, step));
     equal(
         format_args!("{step} at a time"),
         came,
-        Outcome::Bytes(INPUT_LIMIT),
+        Outcome::Bytes(MOST_INPUT),
     )
 }
 
@@ -172,9 +172,9 @@ fn check_too_long(alloc: Global, left: usize, step: usize, most: usize) -> Resul
 
 /// How many bytes there are, how many a read gives, and how many reads there may be.
 static TOO_LONG: [(usize, usize, usize); 3] = [
-    (INPUT_LIMIT + 1, 65_536, INPUT_LIMIT / 65_536 + 1),
-    (INPUT_LIMIT + 1, 60_001, INPUT_LIMIT / 60_001 + 1),
-    (usize::MAX, 65_536, INPUT_LIMIT / 65_536 + 1),
+    (MOST_INPUT + 1, 65_536, MOST_INPUT / 65_536 + 1),
+    (MOST_INPUT + 1, 60_001, MOST_INPUT / 60_001 + 1),
+    (usize::MAX, 65_536, MOST_INPUT / 65_536 + 1),
 ];
 
 #[test]

@@ -10,7 +10,7 @@ use palm_store::Store;
 use program_io::Status;
 use std::alloc::{AllocError, Global};
 use std::test::Fail;
-use test_support::{DATABASE, WIDE, bytes_of};
+use test_support::{ONE_DATABASE, WIDE, bytes_of};
 
 /// A blank image of 168 bytes with 8 slots.
 pub(crate) const NARROW: &str = "50484931 000000A8 0008 0000 00000000 00*32 80000078 00*116";
@@ -198,7 +198,7 @@ static RUNS: [(&str, &str); 11] = [
     ),
     // the records that an image has; a refused line binds nothing
     (
-        DATABASE,
+        ONE_DATABASE,
         "find d \"R\" = ok
         reccount d = ok 2
         recquery d 1 b = ok
@@ -260,43 +260,43 @@ static RUNS: [(&str, &str); 11] = [
 ];
 
 /// The database that is made first.
-const NOTES: Db = Db(16);
+const NOTES_OF_RECORDS: Db = Db(16);
 
 /// Calls on its records, and one on those of no database.
 const CALLS: [Call; 14] = [
     Call::Record(RecordCall::New {
-        db: NOTES,
+        db: NOTES_OF_RECORDS,
         at: 9,
         size: 4,
     }),
     Call::Record(RecordCall::New {
-        db: NOTES,
+        db: NOTES_OF_RECORDS,
         at: 0,
         size: 5,
     }),
-    Call::Record(RecordCall::Count(NOTES)),
-    Call::Record(RecordCall::Get(NOTES, 0)),
+    Call::Record(RecordCall::Count(NOTES_OF_RECORDS)),
+    Call::Record(RecordCall::Get(NOTES_OF_RECORDS, 0)),
     Call::Record(RecordCall::Release {
-        db: NOTES,
+        db: NOTES_OF_RECORDS,
         index: 0,
         dirty: true,
     }),
-    Call::Record(RecordCall::Query(NOTES, 0)),
+    Call::Record(RecordCall::Query(NOTES_OF_RECORDS, 0)),
     Call::Record(RecordCall::Move {
-        db: NOTES,
+        db: NOTES_OF_RECORDS,
         from: 0,
         to: 2,
     }),
-    Call::Record(RecordCall::Info(NOTES, 0)),
+    Call::Record(RecordCall::Info(NOTES_OF_RECORDS, 0)),
     Call::Record(RecordCall::Resize {
-        db: NOTES,
+        db: NOTES_OF_RECORDS,
         index: 0,
         size: 6,
     }),
-    Call::Record(RecordCall::Archive(NOTES, 0)),
-    Call::Record(RecordCall::Delete(NOTES, 1)),
-    Call::Record(RecordCall::Info(NOTES, 1)),
-    Call::Record(RecordCall::Remove(NOTES, 0)),
+    Call::Record(RecordCall::Archive(NOTES_OF_RECORDS, 0)),
+    Call::Record(RecordCall::Delete(NOTES_OF_RECORDS, 1)),
+    Call::Record(RecordCall::Info(NOTES_OF_RECORDS, 1)),
+    Call::Record(RecordCall::Remove(NOTES_OF_RECORDS, 0)),
     Call::Record(RecordCall::Info(Db(20), 0)),
 ];
 
@@ -340,7 +340,7 @@ fn check_no_database(alloc: Global, store: &mut Store, number: u32) -> Result<()
 /// The directory, the data of a record and a caller's chunk are no databases.
 #[test]
 fn a_chunk_is_no_database(rt: HostRuntime) -> Result<(), Fail> {
-    let mut store = listed_store(rt.alloc(), DATABASE)?;
+    let mut store = listed_store(rt.alloc(), ONE_DATABASE)?;
     let Name(chunk) = store.handle_new(0, 1)?;
     check_no_database(rt.alloc(), &mut store, 16)?;
     check_no_database(rt.alloc(), &mut store, 24)?;
@@ -349,7 +349,7 @@ fn a_chunk_is_no_database(rt: HostRuntime) -> Result<(), Fail> {
 
 /// The front of an image of 524,544 bytes with 4 slots, whose one database has 65,535 records: up
 /// to its entries.
-const CROWDED: &str = "50484931 00080100 0004 0000 00000010 00000028 00000038 00*8 \
+const CROWDED_FRONT: &str = "50484931 00080100 0004 0000 00000010 00000028 00000038 00*8 \
     04000010 00FFFFF8 00000014 00*4 02080050 00FFFFF2 \
     52 00*31 0000 0000 00*24 44415441 54657374 0000FFFF 00000000 FFFF";
 
@@ -364,7 +364,7 @@ fn add_entries(bytes: &mut Vec<u8>) -> Result<(), AllocError> {
 
 /// The image: its records are deleted, have no data and the IDs from 1 on. 128 bytes are free.
 fn crowded(alloc: Global) -> Result<Vec<u8>, Fail> {
-    let mut bytes = bytes_of(alloc, CROWDED)?;
+    let mut bytes = bytes_of(alloc, CROWDED_FRONT)?;
     add_entries(&mut bytes)?;
     let behind = bytes_of(alloc, "00*2 80000080 00*124")?;
     bytes.extend_from_slice(&behind)?;

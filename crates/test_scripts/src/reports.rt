@@ -72,13 +72,14 @@ const FULL: Option<ErrorKind> = Some(ErrorKind::StorageFull);
 
 const CLOSED: Option<ErrorKind> = Some(ErrorKind::BrokenPipe);
 
-static OUTCOMES: [Outcome; 8] = [
+static OUTCOMES: [Outcome; 9] = [
     (
         Status::WriteFault,
         FULL,
         None,
         "fault write\nb.img: no storage space\n",
     ),
+    (Status::WriteFault, CLOSED, None, ""),
     (
         Status::WriteFault,
         None,

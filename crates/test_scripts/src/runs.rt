@@ -12,10 +12,11 @@ use std::test::Fail;
 use test_support::{BLANK, Narrow, ONE_CHUNK, Unflushed, WIDE, WhenFull, bytes_of, equal, holds};
 
 /// A blank image of 128 bytes with one slot.
-const ONE_SLOT: &str = "50484931 00000080 0001 0000 00000000 00*8 80000068 00*100";
+const ONE_SLOT_BLANK: &str = "50484931 00000080 0001 0000 00000000 00*8 80000068 00*100";
 
 /// The image of one slot with a chain of tables, which has the first table alone.
-pub(crate) const CHAINED: &str = "50484932 00000080 0001 0000 00000000 00*8 80000068 00*100";
+pub(crate) const CHAINED_ONE_SLOT: &str =
+    "50484932 00000080 0001 0000 00000000 00*8 80000068 00*100";
 
 /// The same with a second table, behind one chunk.
 pub(crate) const TWO_TABLES: &str = "50484932 00000080 0001 0000 00000000 00000020 00000028 \
@@ -225,7 +226,7 @@ static RUNS: [(&str, &str); 11] = [
     ),
     // fixed chunks need no slot
     (
-        ONE_SLOT,
+        ONE_SLOT_BLANK,
         "new a 0 1 = ok
         new b 0 1 = refused 8 NotEnoughSpace
         ptrnew p 0 1 = ok
@@ -280,7 +281,7 @@ static RUNS: [(&str, &str); 11] = [
     ),
     // a table has 15 slots, and its chunk takes 72 bytes
     (
-        CHAINED,
+        CHAINED_ONE_SLOT,
         "new a 0 1 = ok
         new b 0 1 = refused 8 NotEnoughSpace
         moreslots = ok
@@ -294,14 +295,14 @@ static RUNS: [(&str, &str); 11] = [
     ),
     // a table has no room
     (
-        CHAINED,
+        CHAINED_ONE_SLOT,
         "new a 28 1 = ok
         moreslots = refused 8 NotEnoughSpace
         freebytes = ok 64",
     ),
     // an image of one table gets no other
     (
-        ONE_SLOT,
+        ONE_SLOT_BLANK,
         "moreslots = refused 8 NotEnoughSpace
         freebytes = ok 104",
     ),
@@ -318,14 +319,19 @@ static OUTCOMES: [(&str, &str, (Status, &str), &str); 13] = [
     (BLANK, "new a 10 1\n", (Status::Done, "ok\n"), ONE_CHUNK),
     (ONE_CHUNK, "", (Status::Done, ""), ONE_CHUNK),
     (
-        CHAINED,
+        CHAINED_ONE_SLOT,
         "new a 0 1\nmoreslots\n",
         (Status::Done, "ok\nok\n"),
         TWO_TABLES,
     ),
-    (CHAINED, "moreslots\n", (Status::Done, "ok\n"), ONE_FURTHER),
     (
-        CHAINED,
+        CHAINED_ONE_SLOT,
+        "moreslots\n",
+        (Status::Done, "ok\n"),
+        ONE_FURTHER,
+    ),
+    (
+        CHAINED_ONE_SLOT,
         "new a 0 1\nnew b 0 1\nmoreslots\nnew b 0 1\nfreebytes\n",
         (
             Status::Done,

@@ -23,7 +23,7 @@ const BLOCKS_FILE: &str = "2f426c2e 00*28 0000 0000 00*16 00000058 0000005d 4441
     00000000 00000000 0001 0000005d 00 000001 0000 0102030405 111213141516171819";
 
 /// A file without entries, whose name is `Café` in Windows-1252.
-const CAFE_FILE: &str =
+const CAFE_DATABASE: &str =
     "436166e9 00*28 0000 0000 00*24 44415441 54657374 00000000 00000000 0000 0000";
 
 /// How `import` ended, and what its writers hold.
@@ -182,7 +182,10 @@ pub(crate) fn image_of(alloc: Global, listings: &[&str]) -> Result<Vec<u8>, Fail
 
 #[test]
 fn databases_are_listed(rt: HostRuntime) -> Result<(), Fail> {
-    let image = image_of(rt.alloc(), &[TINY_FILE, ORDER_FILE, CAFE_FILE, EMPTY_FILE])?;
+    let image = image_of(
+        rt.alloc(),
+        &[TINY_FILE, ORDER_FILE, CAFE_DATABASE, EMPTY_FILE],
+    )?;
     let mut out = Counted::new(Vec::new(rt.alloc()));
     let status = cmd_databases(rt.alloc(), &image, &mut out);
     equal("status", status, Status::Done)?;
@@ -327,7 +330,7 @@ fn export_refused(alloc: Global, image: &[u8], before: u32) -> Result<bool, Fail
 }
 
 /// More allocations than a command makes.
-const MANY: u32 = 200;
+const ALLOCATIONS_TRIED: u32 = 200;
 
 /// A command that takes memory.
 #[derive(Clone, Copy)]
@@ -339,7 +342,7 @@ enum Trial {
 
 /// Each allocation of a command fails in turn, until none does.
 fn check_growths(alloc: Global, image: &[u8], trial: Trial) -> Result<(), Fail> {
-    for before in 0..MANY {
+    for before in 0..ALLOCATIONS_TRIED {
         let is_refused = match trial {
             Trial::Import => import_refused(alloc, before)?,
             Trial::Databases => databases_refused(alloc, image, before)?,

@@ -12,7 +12,7 @@ mod wanted;
 pub use fakes::{Narrow, RefusesOne, Source, Unflushed, WhenFull};
 pub use flipped::{Finding, check_flipped};
 pub use images::{
-    BLANK, DATABASE, EMPTY_FILE, EMPTY_WRITTEN, ONE_CHUNK, ORDER_FILE, ORDER_WRITTEN, THREE_CHUNKS,
-    TINY_FILE, TWO_CHUNKS, TWO_DATABASES, WIDE, bytes_of, changed_words, image,
+    BLANK, EMPTY_FILE, EMPTY_WRITTEN, ONE_CHUNK, ONE_DATABASE, ORDER_FILE, ORDER_WRITTEN,
+    THREE_CHUNKS, TINY_FILE, TWO_CHUNKS, TWO_DATABASES, WIDE, bytes_of, changed_words, image,
 };
 pub use wanted::{equal, holds};

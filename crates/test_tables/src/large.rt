@@ -13,7 +13,7 @@ use store_check::check_store;
 use test_support::equal;
 
 /// The most bytes of an image.
-const MOST: u32 = 16_777_208;
+const MOST_WITH_TABLES: u32 = 16_777_208;
 
 /// How many chunks of 16 bytes the largest image has after the head.
 const TABLES: u32 = 1_048_574;
@@ -50,7 +50,7 @@ fn many_tables(alloc: Global, count: u32) -> Result<Region, Fail>
 #[test]
 fn the_largest_image_is_full_of_tables(rt: HostRuntime) -> Result<(), Fail> {
     let region = many_tables(rt.alloc(), TABLES)?;
-    let right = [MOST, TABLES + 1, 0, TABLES, 0];
+    let right = [MOST_WITH_TABLES, TABLES + 1, 0, TABLES, 0];
     equal("tables", counted(check_heap(&region)), Ok(right))
 }
 
@@ -68,39 +68,39 @@ fn a_long_chain_has_faults(rt: HostRuntime) -> Result<(), Fail> {
 }
 
 /// How many slots a table has that takes the whole image, but for a chunk of no bytes after it.
-const SLOTS: u32 = 4_194_291;
+const LARGE_TABLE_SLOTS: u32 = 4_194_291;
 
 /// The place of that chunk.
-const LAST: u32 = MOST;
+const LAST: u32 = MOST_WITH_TABLES;
 
 /// An image with a table of as many slots as there can be, whose last one holds the place of a
 /// chunk of no bytes.
 fn many_slots(alloc: Global) -> Result<Region, Fail>
     ensures { IfOk result (λ region. region.lents ≡ []) }
 {
-    let size = MOST - 8 - 24;
-    let slot = 32 + 4 * SLOTS;
+    let size = MOST_WITH_TABLES - 8 - 24;
+    let slot = 32 + 4 * LARGE_TABLE_SLOTS;
     let words = [
         (20, 32),
         (24, size),
         (28, TABLE),
         (slot, LAST),
-        (MOST - 8, 8),
-        (MOST - 4, 0x01FF_FFFE),
+        (MOST_WITH_TABLES - 8, 8),
+        (MOST_WITH_TABLES - 4, 0x01FF_FFFE),
     ];
-    image(alloc, MOST, &words)
+    image(alloc, MOST_WITH_TABLES, &words)
 }
 
 #[test]
 fn a_table_has_millions_of_slots(rt: HostRuntime) -> Result<(), Fail> {
     let mut region = many_slots(rt.alloc())?;
-    let right = [MOST, SLOTS + 1, 1, 1, 0];
+    let right = [MOST_WITH_TABLES, LARGE_TABLE_SLOTS + 1, 1, 1, 0];
     equal("slots", counted(check_heap(&region)), Ok(right))?;
     match check_store(rt.alloc(), &region) {
         Ok(summary) => equal("databases", summary.databases, 0)?,
         Err(fault) => return Err(fault)?,
     }
-    put_word(&mut region, 32 + 4 * SLOTS, 0)?;
-    let fault = HeapFault::ChunkWithoutSlot(MOST - 8);
+    put_word(&mut region, 32 + 4 * LARGE_TABLE_SLOTS, 0)?;
+    let fault = HeapFault::ChunkWithoutSlot(MOST_WITH_TABLES - 8);
     equal("an empty slot", counted(check_heap(&region)), Err(fault))
 }

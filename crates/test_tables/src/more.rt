@@ -122,24 +122,38 @@ fn check_names(heap: &mut Heap, names: &[Name]) -> Result<(), Fail>
     Ok(())
 }
 
-/// Two tables whose bodies stand 524,288 bytes apart, so that only one of them is remembered. The
-/// slots of both are found, also once the image is adopted anew.
+/// The distance of the tables in bytes. At this distance all tables belong to the same entry of those
+/// that are remembered.
+const DISTANCE: u32 = 1_048_576;
+
+/// Makes nine tables whose bodies are `DISTANCE` bytes apart, with a chunk between two.
+fn add_far_tables(heap: &mut Heap) -> Result<(), Fail>
+    ensures { heap.new.lents ≡ heap.old.lents }
+{
+    for _ in 0..8 {
+        equal("table", heap.more_slots(), Ok(()))?;
+        heap.handle_new(DISTANCE - 80, 1)?;
+    }
+    equal("the ninth table", heap.more_slots(), Ok(()))
+}
+
+/// A table is remembered in the entry of its block, or in one of the next seven. So eight of these
+/// nine tables are remembered. The slots of all are found, also once the image is adopted anew.
 #[test]
 fn slots_are_found_that_no_one_remembers(rt: HostRuntime) -> Result<(), Fail> {
-    let mut heap = heap(rt.alloc(), 1_200_000, 0x8000_0000 + 1_199_976)?;
-    assert!(rt; heap.more_slots() == Ok(()));
-    assert!(rt; heap.handle_new(524_208, 1) == Ok(Name(16)));
-    assert!(rt; heap.more_slots() == Ok(()));
-    let mut names = [Name(0); 30];
-    for k in 0..30usize {
+    let mut heap = heap(rt.alloc(), 9_000_000, 0x8000_0000 + 8_999_976)?;
+    add_far_tables(&mut heap)?;
+    let mut names = [Name(0); 128];
+    for k in 0..128usize {
         names[k] = heap.handle_new(8, 1)?;
     }
-    assert!(rt; names[14] == Name(36 + 4 * 14));
-    assert!(rt; names[15] == Name(36 + 524_288));
+    assert!(rt; names[7] == Name(36 + 4 * 14));
+    assert!(rt; names[8] == Name(36 + DISTANCE));
+    assert!(rt; names[127] == Name(36 + 8 * DISTANCE + 4 * 14));
     let region = region_of(heap)?;
     let mut again = adopted(Region::from_bytes(rt.alloc(), region.as_slice())?)?;
     check_names(&mut again, &names)?;
-    assert_eq!(rt; counts(again)?, [1_200_000, 31, 1, 2, 675_616]);
+    assert_eq!(rt; counts(again)?, [9_000_000, 136, 8, 9, 611_296]);
     Ok(())
 }
 

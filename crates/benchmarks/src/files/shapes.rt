@@ -22,7 +22,7 @@ pub(crate) static SHAPES: [(&str, &str, Shape); 3] = [
 ];
 
 /// The sizes of the header and of a record's entry.
-const HEADER_SIZE: u32 = 78;
+const DATABASE_HEADER_SIZE: u32 = 78;
 
 const ENTRY_SIZE: u32 = 8;
 
@@ -30,7 +30,7 @@ const ENTRY_SIZE: u32 = 8;
 /// is `DATA`, and the creator `Test`.
 const NAME: [u8; 32] = *b"Files\0\0\0\0\0\0\0\0\0\0\0\0\0\0\0\0\0\0\0\0\0\0\0\0\0\0\0";
 
-const FIELDS: [u8; 44] =
+const HEADER_FIELDS: [u8; 44] =
     *b"\0\0\0\0\0\0\0\0\0\0\0\0\0\0\0\0\0\0\0\0\0\0\0\0\0\0\0\0DATATest\0\0\0\0\0\0\0\0";
 
 /// Makes a file of a shape.
@@ -43,8 +43,8 @@ pub(crate) fn file_of(alloc: Global, shape: Shape, work: Work<'_>) -> Result<Vec
 /// Adds the part of the file after the name.
 fn put_file(file: &mut Vec<u8>, shape: Shape, work: Work<'_>) -> Result<(), AllocError> {
     let records = work.file_records as u32;
-    let start = HEADER_SIZE + ENTRY_SIZE * records + 2;
-    file.extend_from_slice(&FIELDS)?;
+    let start = DATABASE_HEADER_SIZE + ENTRY_SIZE * records + 2;
+    file.extend_from_slice(&HEADER_FIELDS)?;
     file.extend_from_slice(&work.file_records.to_be_bytes())?;
     for index in 0..records {
         put_entry(

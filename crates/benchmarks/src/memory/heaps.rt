@@ -2,7 +2,7 @@
 
 ghost use Rattle.std.specs.Prelude.{[], ◌≡◌, IfOk};
 
-use crate::memory::load::{Load, OWNER, region_of};
+use crate::memory::load::{LOAD_OWNER, Load, region_of};
 use crate::work::Work;
 use anyhow::{Result, bail};
 use chunk_format::blank;
@@ -14,9 +14,9 @@ use std::marker::Model;
 
 /// The sizes of the bodies of the small and the large free chunks of one class. With their headers
 /// they have 64 and 120 bytes.
-pub(crate) const SMALL: u32 = 56;
+pub(crate) const SMALL_BODY: u32 = 56;
 
-pub(crate) const LARGE: u32 = 112;
+pub(crate) const LARGE_BODY: u32 = 112;
 
 /// The maximum number of large free chunks of one class.
 const MOST_LARGE: usize = 32;
@@ -84,7 +84,7 @@ pub(crate) fn chained_heap(alloc: Global, size: u32, tables: u16, most_between: 
     for table in 0..u32::from(tables) {
         heap.more_slots()?;
         if most_between > 0 {
-            between.push(heap.handle_new(table * 7_919 % most_between, OWNER)?)?;
+            between.push(heap.handle_new(table * 7_919 % most_between, LOAD_OWNER)?)?;
         }
     }
     for name in between {
@@ -163,11 +163,11 @@ impl OneClass {
     fn make(&mut self, pairs: usize) -> Result<(), AllocError> {
         for number in 0..pairs {
             let is_large = number >= pairs / 2 && number - pairs / 2 < self.large;
-            let size = if is_large { LARGE } else { SMALL };
-            if let Ok(name) = self.heap.handle_new(size, OWNER) {
+            let size = if is_large { LARGE_BODY } else { SMALL_BODY };
+            if let Ok(name) = self.heap.handle_new(size, LOAD_OWNER) {
                 self.freed.push(name)?;
             }
-            if let Ok(name) = self.heap.handle_new(0, OWNER) {
+            if let Ok(name) = self.heap.handle_new(0, LOAD_OWNER) {
                 self.kept.push(Kept { name, length: 0 })?;
             }
         }
@@ -177,7 +177,7 @@ impl OneClass {
     /// Takes all free bytes, and then frees the chunks to free.
     fn free_each(&mut self) {
         let rest = self.heap.free_bytes().saturating_sub(8);
-        if self.heap.handle_new(rest, OWNER).is_err() {
+        if self.heap.handle_new(rest, LOAD_OWNER).is_err() {
             return;
         }
         for name in &self.freed {

@@ -12,7 +12,7 @@ use std::alloc::{AllocError, Global};
 use std::marker::Model;
 
 /// The owner of all chunks.
-pub(crate) const OWNER: u8 = 1;
+pub(crate) const LOAD_OWNER: u8 = 1;
 
 /// The number of bytes that one call reads or writes.
 const WIDTH: u32 = 16;
@@ -73,7 +73,7 @@ impl Load {
     pub(crate) fn make(&mut self, count: u16) -> Result<(), AllocError> {
         for _ in 0..count {
             let size = self.numbers.below(self.most as usize + 1) as u32;
-            match self.heap.handle_new(size, OWNER) {
+            match self.heap.handle_new(size, LOAD_OWNER) {
                 Ok(name) => {
                     self.replies.add(name.0);
                     self.handles.push(name)?;

@@ -3,8 +3,8 @@
 
 ghost use Rattle.std.specs.Prelude.{[], ◌≡◌};
 
-use crate::memory::heaps::{LARGE, Original, SMALL};
-use crate::memory::load::OWNER;
+use crate::memory::heaps::{LARGE_BODY, Original, SMALL_BODY};
+use crate::memory::load::LOAD_OWNER;
 use crate::timing::Sum;
 use mem_manager::Heap;
 
@@ -116,7 +116,7 @@ impl Original {
     {
         let size = self.bytes() / (2 * STRETCHES as u32) / 4 * 3;
         for _ in 0..STRETCHES / 2 {
-            replies.add_name(heap.handle_new(size, OWNER));
+            replies.add_name(heap.handle_new(size, LOAD_OWNER));
         }
     }
 
@@ -141,7 +141,7 @@ impl Original {
         ensures { heap.new.lents ≡ heap.old.lents }
     {
         for _ in 0..self.large {
-            replies.add_name(heap.handle_new(LARGE, OWNER));
+            replies.add_name(heap.handle_new(LARGE_BODY, LOAD_OWNER));
         }
     }
 
@@ -149,8 +149,8 @@ impl Original {
         ensures { heap.new.lents ≡ heap.old.lents }
     {
         for kept in self.kept.iter().take(self.large) {
-            replies.add_done(heap.resize(kept.name, LARGE));
-            replies.add_name(heap.handle_new(SMALL - 16, OWNER));
+            replies.add_done(heap.resize(kept.name, LARGE_BODY));
+            replies.add_name(heap.handle_new(SMALL_BODY - 16, LOAD_OWNER));
         }
     }
 
@@ -159,7 +159,7 @@ impl Original {
         ensures { heap.new.lents ≡ heap.old.lents }
     {
         let freed = self.freed().min(u32::MAX as usize) as u32;
-        let size = freed.saturating_mul(SMALL + 16);
-        replies.add_name(heap.handle_new(size.saturating_add(SMALL), OWNER));
+        let size = freed.saturating_mul(SMALL_BODY + 16);
+        replies.add_name(heap.handle_new(size.saturating_add(SMALL_BODY), LOAD_OWNER));
     }
 }

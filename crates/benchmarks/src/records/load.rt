@@ -15,10 +15,10 @@ use record_db::{
 use std::marker::Model;
 
 /// An index after all records.
-const END: u32 = 0xFFFF;
+const AT_END: u32 = 0xFFFF;
 
 /// The maximum number of bytes of a record.
-const MOST_BYTES: u32 = 64;
+const MOST_RECORD: u32 = 64;
 
 /// The owner of data that is taken out of the database.
 const CALLER: u8 = 1;
@@ -116,9 +116,9 @@ impl Load {
     /// Makes `count` records of 0 to 64 bytes after the last one.
     fn make(&mut self, count: u32) {
         for _ in 0..count {
-            let size = self.made % (MOST_BYTES + 1);
+            let size = self.made % (MOST_RECORD + 1);
             self.made = self.made.wrapping_add(1);
-            match new_record(&mut self.store, self.db, END, size) {
+            match new_record(&mut self.store, self.db, AT_END, size) {
                 Ok((index, name)) => {
                     self.replies.add(index);
                     self.replies.add(name.0);
@@ -293,7 +293,7 @@ impl Load {
     /// Detaches a record, and attaches its data as the last record.
     fn attach_again(&mut self, index: u32) -> Result<u32, Refusal> {
         let name = detach(&mut self.store, self.db, index, CALLER)?;
-        attach(&mut self.store, self.db, END, name)
+        attach(&mut self.store, self.db, AT_END, name)
     }
 
     fn categorize(&mut self) {

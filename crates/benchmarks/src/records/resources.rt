@@ -12,13 +12,13 @@ use resource_db::{
 use std::marker::Model;
 
 /// The maximum number of bytes of a resource.
-const MOST_BYTES: u32 = 64;
+const MOST_RESOURCE: u32 = 64;
 
 /// The two types of resources, `code` and `tSTR`. Even indexes have the first, odd ones the second.
-const KINDS: [u32; 2] = [0x636F_6465, 0x7453_5452];
+const RESOURCE_TYPES: [u32; 2] = [0x636F_6465, 0x7453_5452];
 
 /// The number of IDs.
-const IDS: u32 = 0x1_0000;
+const ID_COUNT: u32 = 0x1_0000;
 
 /// A store of which nothing is lent, with a database of resources, and the sum of all replies so
 /// far.
@@ -60,9 +60,9 @@ impl ResourceLoad {
         for _ in 0..count {
             let number = self.made;
             self.made = self.made.wrapping_add(1);
-            let kind = KINDS[(number % 2) as usize];
-            let id = (number % IDS) as u16;
-            let size = number % (MOST_BYTES + 1);
+            let kind = RESOURCE_TYPES[(number % 2) as usize];
+            let id = (number % ID_COUNT) as u16;
+            let size = number % (MOST_RESOURCE + 1);
             match new_resource(&mut self.store, self.db, kind, id, size) {
                 Ok((index, name)) => {
                     self.replies.add(index);

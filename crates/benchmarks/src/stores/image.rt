@@ -9,7 +9,7 @@ use std::alloc::{AllocError, Global};
 const MAGIC: u32 = 0x5048_4931;
 
 /// The size of the head. The slots begin after it.
-const HEAD: u32 = 16;
+const HEAD_SIZE: u32 = 16;
 
 /// The size of a chunk's header.
 const CHUNK_HEADER: usize = 8;
@@ -139,7 +139,7 @@ impl Store {
 
 /// Returns the offset of the slot with a number.
 fn slot(number: u32) -> u32 {
-    number.wrapping_mul(4).wrapping_add(HEAD)
+    number.wrapping_mul(4).wrapping_add(HEAD_SIZE)
 }
 
 /// Returns the number of bytes. No image has more bytes than fit a `u32`.

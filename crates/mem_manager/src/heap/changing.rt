@@ -1,14 +1,16 @@
 //! Calls that change a chunk in its place.
 #![tactic(auto, using(crate::proofs::Places::found_named, laws_heap::proofs::LentBodies::table_within))]
 
-ghost use Rattle.std.specs.Prelude.{◌≡◌, ◌≤◌, ◌<◌};
+ghost use Rattle.std.specs.Prelude.{◌≡◌, ◌≤◌, ◌<◌, OnErr};
 ghost use Rattle.heap_model.specs.MemorySteps.{Does};
 ghost use Rattle.heap_model.specs.declared.call.MemoryCall.{MemoryCall};
 ghost use Rattle.mem_manager.specs.Replies.{done_or_refused, number_or_refused, lock_or_refused};
 
 use crate::bounds::{before_zero, check_ended_range, check_owner, check_range};
 use crate::heap::{Heap, Locked};
-use crate::lookup::{check_callers, check_here, check_locked, check_movable, find, find_again};
+use crate::lookup::{
+    check_callers, check_here, check_locked, check_movable, find, find_again, find_open,
+};
 use heap_model::{Name, Refusal};
 
 /// The maximum number of locks of a movable chunk.
@@ -24,7 +26,8 @@ impl Heap {
     /// - `ChunkFixed`: the chunk is fixed.
     /// - `LockOverflow`: the chunk has 14 locks already.
     pub fn lock(&mut self, name: Name) -> Result<Locked, Refusal>
-        ensures { Does self.old (MemoryCall.Lock name) (lock_or_refused result) self.new }
+        ensures does { Does self.old (MemoryCall.Lock name) (lock_or_refused result) self.new }
+        ensures refused { OnErr result (self.new ≡ self.old) }
     {
         let found = find(&self.space, &self.known, name)?;
         check_movable(found)?;
@@ -48,7 +51,8 @@ impl Heap {
     /// - `ChunkNotLocked`: the chunk has no lock.
     /// - `Lent`: the bytes of the chunk are lent.
     pub fn unlock(&mut self, name: Name) -> Result<u8, Refusal>
-        ensures { Does self.old (MemoryCall.Unlock name) (number_or_refused result) self.new }
+        ensures does { Does self.old (MemoryCall.Unlock name) (number_or_refused result) self.new }
+        ensures refused { OnErr result (self.new ≡ self.old) }
     {
         let found = find(&self.space, &self.known, name)?;
         check_movable(found)?;
@@ -68,12 +72,11 @@ impl Heap {
     /// - `Lent`: the bytes of the chunk are lent.
     /// - `OutOfBounds`: the range reaches beyond the chunk's end.
     pub fn write(&mut self, name: Name, at: u32, bytes: &[u8]) -> Result<(), Refusal>
-        ensures { Does self.old (MemoryCall.Write name at bytes.now)
+        ensures does { Does self.old (MemoryCall.Write name at bytes.now)
             (done_or_refused result) self.new }
+        ensures refused { OnErr result (self.new ≡ self.old) }
     {
-        let found = find_again(&self.space, &mut self.known, name)?;
-        check_locked(found)?;
-        check_here(&self.space, found)?;
+        let found = find_open(&self.space, &mut self.known, name)?;
         check_range(at, bytes.len(), found.length)?;
         self.space.write(found, at, bytes);
         Ok(())
@@ -88,12 +91,11 @@ impl Heap {
     /// - `Lent`: the bytes of the chunk are lent.
     /// - `OutOfBounds`: the range reaches beyond the chunk's end.
     pub fn set(&mut self, name: Name, at: u32, count: u32, byte: u8) -> Result<(), Refusal>
-        ensures { Does self.old (MemoryCall.Set name at count byte)
+        ensures does { Does self.old (MemoryCall.Set name at count byte)
             (done_or_refused result) self.new }
+        ensures refused { OnErr result (self.new ≡ self.old) }
     {
-        let found = find_again(&self.space, &mut self.known, name)?;
-        check_locked(found)?;
-        check_here(&self.space, found)?;
+        let found = find_open(&self.space, &mut self.known, name)?;
         check_range(at, count as usize, found.length)?;
         self.space.fill(found, at, count, byte);
         Ok(())
@@ -110,12 +112,11 @@ impl Heap {
     /// - `Lent`: the bytes of the chunk are lent.
     /// - `OutOfBounds`: the range, which includes the zero byte, reaches beyond the chunk's end.
     pub fn str_copy(&mut self, name: Name, at: u32, text: &[u8]) -> Result<(), Refusal>
-        ensures { Does self.old (MemoryCall.StrCopy name at text.now)
+        ensures does { Does self.old (MemoryCall.StrCopy name at text.now)
             (done_or_refused result) self.new }
+        ensures refused { OnErr result (self.new ≡ self.old) }
     {
-        let found = find_again(&self.space, &mut self.known, name)?;
-        check_locked(found)?;
-        check_here(&self.space, found)?;
+        let found = find_open(&self.space, &mut self.known, name)?;
         let part = before_zero(text);
         check_ended_range(at, part.len(), found.length)?;
         self.space.write_ended(found, at, part);
@@ -130,7 +131,8 @@ impl Heap {
     /// - `OwnedByDatabase`: the chunk is data of a database.
     /// - `InvalidOwner`: the owner isn't one of 1 to 14.
     pub fn set_owner(&mut self, name: Name, owner: u8) -> Result<(), Refusal>
-        ensures { Does self.old (MemoryCall.SetOwner name owner) (done_or_refused result) self.new }
+        ensures does { Does self.old (MemoryCall.SetOwner name owner) (done_or_refused result) self.new }
+        ensures refused { OnErr result (self.new ≡ self.old) }
     {
         let found = find_again(&self.space, &mut self.known, name)?;
         check_callers(found)?;

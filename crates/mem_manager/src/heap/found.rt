@@ -17,7 +17,6 @@ ghost use Rattle.raw_region.specs.ByteChanges.{changed_every};
 ghost use Rattle.mem_manager.specs.Lookup.{IsMovable, StandsAs, IsHere, MovesOnlyToGrow, checks_of_growth};
 
 use crate::heap::Heap;
-use crate::heap::making::{freed_slot, used_without};
 use crate::heap::moving::resize_found;
 use crate::lookup::check_here;
 use heap_model::{Name, Refusal};
@@ -151,9 +150,8 @@ impl Heap {
         ensures loan { KeepsLoan self.old self.new }
         ensures rest { self.new ≡ record self.old { bytes = self.new.bytes } }
     {
-        self.used = used_without(self.space.region(), self.used, name);
-        self.freed = freed_slot(self.space.region(), self.freed, found);
-        self.known.forget(name);
-        self.space.give_back(found);
+        // The heap is looked at, so that its invariant is known.
+        let _ = &self.space;
+        self.give_back(name, found);
     }
 }

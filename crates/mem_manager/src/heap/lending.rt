@@ -90,7 +90,7 @@ impl Heap {
         requires { IsMovable self.now.bytes name.0 }
         ensures { IsTrue result ↔ IsLent self.now name.0 }
     {
-        self.space.lends(self.space.movable(name))
+        self.space.lends(self.sys_find(name))
     }
 
     /// Returns the bytes of a movable chunk, as they are in the image.
@@ -100,7 +100,7 @@ impl Heap {
         requires here { IsHere self.now name.0 }
         ensures { result.now ≡ bytes_under self.now.bytes name.0 }
     {
-        self.body_of(self.space.movable(name))
+        self.sys_body_found(name, self.sys_find(name))
     }
 
     /// Returns the bytes of a chunk that was found.

@@ -6,12 +6,12 @@ ghost use Rattle.heap_model.specs.Chunk.{managers_owner};
 ghost use Rattle.heap_model.specs.Lending.{IsLent};
 ghost use Rattle.heap_model.specs.Refusals.{FirstBrings};
 ghost use Rattle.heap_model.specs.Store.{owner_under};
-ghost use Rattle.mem_manager.specs.Loans.{out_checks, also_out_checks, TakesOut, PutsBack, IsOutUnder, IsNextLoan};
+ghost use Rattle.mem_manager.specs.Loans.{out_checks, also_out_checks, TakesOut, PutsBack, IsOutUnder, IsFirstLoan, IsNextLoan};
 ghost use Rattle.raw_region.specs.Marks.{NoneBeginsAbove};
 
 use crate::heap::Heap;
 use crate::loan::Loan;
-use crate::lookup::{check_here, check_locked, find};
+use crate::lookup::{check_locked, find, find_open};
 use heap_model::{Name, Place, Refusal};
 
 impl Heap {
@@ -49,9 +49,7 @@ impl Heap {
         ensures refused { OnErr result (self.new ≡ self.old) }
         ensures why { IfErr result (λ refusal. FirstBrings (also_out_checks self.old name.0) refusal) }
     {
-        let found = find(&self.space, &self.known, name)?;
-        check_locked(found)?;
-        check_here(&self.space, found)?;
+        let found = find_open(&self.space, &mut self.known, name)?;
         let part = self.space.lend(found);
         Ok(Loan { name, part })
     }
@@ -67,9 +65,11 @@ impl Heap {
         self.space.take_back(found, part);
     }
 
-    /// Returns the name of a chunk whose bytes are lent, if there is one.
+    /// Returns the name of the first chunk, in order of places, whose bytes are lent, if there is
+    /// one.
     pub fn lent(&self) -> Option<Name>
         ensures lent { IfSome result (λ name. IsLent self.now name.0) }
+        ensures first { IfSome result (λ name. IsFirstLoan self.now name.0) }
         ensures some { OnSome result (self.now.lents ≢ []) }
         ensures none { IfNone result (self.now.lents ≡ []) }
     {

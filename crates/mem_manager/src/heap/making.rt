@@ -1,11 +1,14 @@
 //! Calls that make chunks and free them.
 #![tactic(auto, using(laws_heap::proofs::LentBodies::table_within, laws_heap::proofs::LentBodies::frame_within))]
 
-ghost use Rattle.std.specs.Prelude.{◌≡◌, ◌≤◌, ◌<◌, ◌+◌, ◌↔◌, ℕ, List, IfSome, IfOk, OnOk, IfErr, OnErr, None};
+ghost use Rattle.std.specs.Prelude.{◌≡◌, ◌≢◌, ◌≤◌, ◌<◌, ◌+◌, ◌↔◌, ℕ, List, IfSome, IfOk, OnOk, IfErr, OnErr, None};
 ghost use Rattle.heap_model.specs.Chunk.{need, data_owner};
-ghost use Rattle.heap_model.specs.Lending.{LendsBodies, HoldsHeap};
-ghost use Rattle.heap_model.specs.Reading.{chunks_of};
-ghost use Rattle.heap_model.specs.Space.{NoRun, Short, free_slots, MovesOneStretch, moved_bytes};
+ghost use Rattle.heap_model.specs.Heap.{directory_of};
+ghost use Rattle.heap_model.specs.Leaving.{Leaves};
+ghost use Rattle.heap_model.specs.Lending.{LendsBodies, LendsOther, HoldsHeap, KeepsLoan};
+ghost use Rattle.heap_model.specs.Maps.{gone};
+ghost use Rattle.heap_model.specs.Reading.{chunks_of, held};
+ghost use Rattle.heap_model.specs.Space.{NoRun, Short, free_slots, MovesNothing, MovesOneStretch, moved_bytes};
 ghost use Rattle.heap_model.specs.Packing.{SlidesOneStretch};
 ghost use Rattle.heap_model.specs.Layout.{IsSpot};
 ghost use Rattle.heap_model.specs.Rooms.{Lowers};
@@ -25,7 +28,7 @@ use chunk_format::{FIXED_LOCK, MANAGERS_OWNER, TABLE_LENGTH, chunk_size, is_chai
 use heap_compact::{Space, make_room};
 use heap_model::{Name, Refusal};
 use heap_place::{Found, Room};
-use master_table::{EmptySlot, TableStart, first_empty_slot, least_number, slots_total, word_of};
+use master_table::{EmptySlot, TableStart, first_empty_slot, least_number, word_of};
 use raw_region::Region;
 
 impl Heap {
@@ -47,13 +50,10 @@ impl Heap {
         ensures once { self.new.slid ≡ self.old.slid + moved_bytes self.old.bytes self.new.bytes }
         ensures refused { OnErr result (self.new ≡ self.old) }
     {
-        let space = &mut self.space;
+        // The heap is looked at, so that its invariant is known.
+        let _ = &self.space;
         check_owner(owner)?;
-        let found = next_empty_slot(space.region(), self.used, self.start, self.freed);
-        let slot = make_movable(space, found, size, owner)?;
-        self.used = slot.before;
-        self.start = slot.table;
-        Ok(slot.name)
+        self.sys_new(size, owner)
     }
 
     /// Makes a fixed chunk of `size` zeros. What moves is as with a movable one.
@@ -92,7 +92,7 @@ impl Heap {
         ensures refused { OnErr result (self.new ≡ self.old) }
     {
         let space = &mut self.space;
-        let total = slots_total(space.region());
+        let total = space.slots_total();
         make_table(space)?;
         self.used = self.used.min(total);
         Ok(())
@@ -108,7 +108,8 @@ impl Heap {
     /// - `Lent`: the bytes of the chunk are lent.
     #[inline(always)]
     pub fn free(&mut self, name: Name) -> Result<(), Refusal>
-        ensures { Does self.old (MemoryCall.Free name) (done_or_refused result) self.new }
+        ensures does { Does self.old (MemoryCall.Free name) (done_or_refused result) self.new }
+        ensures refused { OnErr result (self.new ≡ self.old) }
     {
         match self.space.in_near_slot(name) {
             Some(found) if found.owner != MANAGERS_OWNER => self.free_found(name, found),
@@ -120,7 +121,8 @@ impl Heap {
     /// that only what the chunk of a slot needs is in line.
     #[inline(never)]
     fn free_other(&mut self, name: Name) -> Result<(), Refusal>
-        ensures { Does self.old (MemoryCall.Free name) (done_or_refused result) self.new }
+        ensures does { Does self.old (MemoryCall.Free name) (done_or_refused result) self.new }
+        ensures refused { OnErr result (self.new ≡ self.old) }
     {
         let found = find(&self.space, &self.known, name)?;
         self.free_found(name, found)
@@ -131,7 +133,8 @@ impl Heap {
     fn free_found(&mut self, name: Name, found: Found) -> Result<(), Refusal>
         requires found { IsFound self.old.bytes name.0 found }
         requires callers { 1 ≤ found.owner }
-        ensures { Does self.old (MemoryCall.Free name) (done_or_refused result) self.new }
+        ensures does { Does self.old (MemoryCall.Free name) (done_or_refused result) self.new }
+        ensures refused { OnErr result (self.new ≡ self.old) }
     {
         // The heap is looked at, so that its invariant is known.
         let _ = &self.space;
@@ -140,11 +143,25 @@ impl Heap {
             return Err(Refusal::ChunkLocked);
         }
         check_here(&self.space, found)?;
+        self.give_back(name, found);
+        Ok(())
+    }
+
+    /// Gives the chunk of a name back, which was found, and forgets its name.
+    #[inline(always)]
+    pub(crate) fn give_back(&mut self, name: Name, found: Found)
+        requires found { IsFound self.old.bytes name.0 found }
+        requires other { LendsOther self.old found.place.0 }
+        requires no_directory { name.0 ≢ directory_of self.old.bytes }
+        ensures leaves { Leaves self.old.bytes self.new.bytes (gone (held self.old.bytes) name.0) }
+        ensures unmoved { MovesNothing self.old.bytes self.new.bytes }
+        ensures loan { KeepsLoan self.old self.new }
+        ensures rest { self.new ≡ record self.old { bytes = self.new.bytes } }
+    {
         self.used = used_without(self.space.region(), self.used, name);
         self.freed = freed_slot(self.space.region(), self.freed, found);
         self.known.forget(name);
         self.space.give_back(found);
-        Ok(())
     }
 
     /// Frees all chunks of an owner, 1 to 14, locked and fixed ones too, and returns their number.
@@ -154,7 +171,8 @@ impl Heap {
     /// - `InvalidOwner`: the owner isn't one of 1 to 14.
     /// - `Lent`: the bytes of one of the chunks are lent.
     pub fn free_by_owner(&mut self, owner: u8) -> Result<u32, Refusal>
-        ensures { Does self.old (MemoryCall.FreeByOwner owner) (number_or_refused result) self.new }
+        ensures does { Does self.old (MemoryCall.FreeByOwner owner) (number_or_refused result) self.new }
+        ensures refused { OnErr result (self.new ≡ self.old) }
     {
         // The heap is looked at, so that its invariant is known.
         let _ = &self.space;

@@ -72,7 +72,7 @@ impl Heap {
         ensures loan { KeepsLoan self.old self.new }
         ensures rest { self.new ≡ record self.old { bytes = self.new.bytes } }
     {
-        let found = self.space.movable(name);
+        let found = self.sys_find(name);
         self.space.reown(found, owner);
     }
 

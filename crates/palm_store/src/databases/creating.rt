@@ -13,13 +13,13 @@ ghost use Rattle.heap_model.specs.Rooms.{Stuck};
 ghost use Rattle.heap_model.specs.Store.{Accepted, directory_bytes, listed_size, most_databases};
 ghost use Rattle.heap_model.specs.DatabaseSteps.{empty_database, create_parts, create_slots};
 ghost use Rattle.mem_manager.specs.Lookup.{HasNoRoomFor};
-ghost use Rattle.db_format.specs.Headers.{HasHeader};
+ghost use Rattle.db_format.specs.Headers.{IsHeaderOf};
 ghost use Rattle.palm_store.specs.Directory.{ListsLast, ListsNew, HasNoRoomToList};
 
-use crate::lookup::SLOT_SIZE;
+use crate::lookup::DIRECTORY_WORD_SIZE;
 use bitflags::Flags;
 use byteorder::{BigEndian, ByteOrder};
-use db_format::{DbAttrs, DbHeader, HEADER_SIZE, NameField};
+use db_format::{DATABASE_HEADER_SIZE, DbAttrs, DbHeader, NameField};
 use heap_model::{Name, Refusal};
 use mem_manager::{Heap, MANAGERS_OWNER};
 
@@ -27,7 +27,7 @@ use mem_manager::{Heap, MANAGERS_OWNER};
 fn slot_bytes(slot: Name) -> [u8; 4]
     ensures { result ≡ u32_bytes slot.0 }
 {
-    let mut bytes = [0; SLOT_SIZE];
+    let mut bytes = [0; DIRECTORY_WORD_SIZE];
     BigEndian::write_u32(&mut bytes, slot.0);
     bytes
 }
@@ -40,13 +40,13 @@ fn begin_directory(heap: &mut Heap, slot: Name) -> Result<(), Refusal>
     requires heap { HeapAccepted heap.old.bytes }
     requires none { directory_of heap.old.bytes ≡ 0 }
     ensures lists { OnOk result (ListsLast heap.old.bytes heap.new.bytes slot.0) }
-    ensures no_room { OnErr result (HasNoRoomFor heap.old.bytes SLOT_SIZE) }
+    ensures no_room { OnErr result (HasNoRoomFor heap.old.bytes DIRECTORY_WORD_SIZE) }
     ensures refusal { IfErr result (λ refusal. refusal ≡ Refusal.NotEnoughSpace) }
     ensures refused { OnErr result (heap.new ≡ heap.old) }
     ensures loan { KeepsLoan heap.old heap.new }
     ensures rest { heap.new ≡ record heap.old { bytes = heap.new.bytes; slid = heap.new.slid } }
 {
-    let directory = heap.sys_new(SLOT_SIZE as u32, MANAGERS_OWNER)?;
+    let directory = heap.sys_new(DIRECTORY_WORD_SIZE as u32, MANAGERS_OWNER)?;
     let chunk = heap.sys_find(directory);
     heap.sys_write(directory, chunk, 0, &slot_bytes(slot));
     heap.set_directory(directory);
@@ -63,7 +63,7 @@ fn extend_directory(heap: &mut Heap, slot: Name) -> Result<(), Refusal>
     requires few { length (directory_bytes heap.old.bytes) ≤ listed_size * most_databases }
     ensures lists { OnOk result (ListsLast heap.old.bytes heap.new.bytes slot.0) }
     ensures no_room { OnErr result (ShortFor heap.old.bytes (directory_of heap.old.bytes)
-        (need (length (directory_bytes heap.old.bytes) + SLOT_SIZE))) }
+        (need (length (directory_bytes heap.old.bytes) + DIRECTORY_WORD_SIZE))) }
     ensures refusal { IfErr result (λ refusal. refusal ≡ Refusal.NotEnoughSpace) }
     ensures refused { OnErr result (heap.new ≡ heap.old) }
     ensures loan { KeepsLoan heap.old heap.new }
@@ -72,7 +72,7 @@ fn extend_directory(heap: &mut Heap, slot: Name) -> Result<(), Refusal>
     let directory = heap.directory();
     let chunk = heap.sys_find(directory);
     let length = heap.sys_body_found(directory, chunk).len() as u32;
-    heap.sys_resize(directory, chunk, length + SLOT_SIZE as u32)?;
+    heap.sys_resize(directory, chunk, length + DIRECTORY_WORD_SIZE as u32)?;
     let grown = heap.sys_find(directory);
     heap.sys_write(directory, grown, length, &slot_bytes(slot));
     Ok(())
@@ -114,7 +114,7 @@ pub(crate) fn list_new(heap: &mut Heap) -> Result<Name, Refusal>
     ensures loan { KeepsLoan heap.old heap.new }
     ensures rest { heap.new ≡ record heap.old { bytes = heap.new.bytes; slid = heap.new.slid } }
 {
-    let slot = heap.sys_new(HEADER_SIZE as u32, MANAGERS_OWNER)?;
+    let slot = heap.sys_new(DATABASE_HEADER_SIZE as u32, MANAGERS_OWNER)?;
     if let Err(refusal) = list_last(heap, slot) {
         let chunk = heap.sys_find(slot);
         heap.sys_free(slot, chunk);
@@ -131,7 +131,7 @@ pub(crate) fn empty_header(
     resources: bool,
     date: u32,
 ) -> DbHeader
-    ensures { HasHeader (empty_database name kind creator resources date) result }
+    ensures { IsHeaderOf (empty_database name kind creator resources date) result }
 {
     let attributes = if resources {
         DbAttrs::RESOURCE

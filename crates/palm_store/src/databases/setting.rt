@@ -12,7 +12,7 @@ use heap_model::DbInfo;
 /// Returns a header with the fields of an info, and with this name.
 pub(crate) fn with_info(header: DbHeader, name: NameField, info: &DbInfo) -> DbHeader
     requires { name ≡ info.now.name }
-    ensures set { headers.header_of result ≡ header_set info.now (headers.header_of header) }
+    ensures set { headers.header_values result ≡ header_set info.now (headers.header_values header) }
     ensures keeps { KeepsEntries header result }
 {
     let attributes = DbAttrs(info.attributes).with_kind_of(DbAttrs(header.attributes));

@@ -3,7 +3,7 @@
 ghost use Rattle.std.specs.Prelude.{◌≡◌, ◌+◌, ◌<◌, None, length, slice_index_or};
 ghost use Rattle.heap_model.specs.Database.{EntryFits};
 ghost use Rattle.db_format.specs.EitherEntry.{entry_of, HasFittingId};
-ghost use Rattle.db_format.specs.Headers.{header_of};
+ghost use Rattle.db_format.specs.Headers.{header_values};
 ghost use Rattle.palm_store.specs.WholeDatabases.{size_of_data, data_sizes, CanCome, header_asked, entry_named};
 
 use bitflags::Flags;
@@ -88,7 +88,7 @@ pub(crate) fn named_header(
     sort_info: Name,
 ) -> DbHeader
     requires { name ≡ info.now.name }
-    ensures values { header_of result ≡ header_asked info.now }
+    ensures values { header_values result ≡ header_asked info.now }
     ensures app_info { result.app_info ≡ app_info.0 }
     ensures sort_info { result.sort_info ≡ sort_info.0 }
     ensures entry_count { result.entry_count ≡ info.now.entry_count }

@@ -11,13 +11,13 @@ use heap_model::Db;
 use mem_manager::Heap;
 
 /// How many bytes a number, the slot of a header, takes in the directory.
-pub(crate) const SLOT_SIZE: usize = chunk_format::SLOT_SIZE as usize;
+pub(crate) const DIRECTORY_WORD_SIZE: usize = chunk_format::SLOT_SIZE as usize;
 
 /// Returns the bytes of the directory in the image. There are none if no database was made yet.
 pub(crate) fn directory_bytes(heap: &Heap) -> &[u8]
     requires { Accepted heap.now.bytes }
     ensures is { result.now ≡ stores.directory_bytes heap.now.bytes }
-    ensures listed { length (listed heap.now.bytes) ≡ length result.now / SLOT_SIZE }
+    ensures listed { length (listed heap.now.bytes) ≡ length result.now / DIRECTORY_WORD_SIZE }
     ensures few { length (listed heap.now.bytes) ≤ most_databases }
 {
     let directory = heap.directory();
@@ -32,11 +32,11 @@ pub(crate) fn directory_bytes(heap: &Heap) -> &[u8]
 #[inline]
 #[tactic(auto, using(db_format::proofs::WordLaws::u32_at_part))]
 pub(crate) fn listed_in(directory: &[u8], index: usize) -> Db
-    requires { SLOT_SIZE * index + SLOT_SIZE ≤ length directory.now }
-    ensures { result.0 ≡ u32_at directory.now (SLOT_SIZE * index) }
+    requires { DIRECTORY_WORD_SIZE * index + DIRECTORY_WORD_SIZE ≤ length directory.now }
+    ensures { result.0 ≡ u32_at directory.now (DIRECTORY_WORD_SIZE * index) }
 {
-    let at = index * SLOT_SIZE;
-    Db(BigEndian::read_u32(&directory[at..at + SLOT_SIZE]))
+    let at = index * DIRECTORY_WORD_SIZE;
+    Db(BigEndian::read_u32(&directory[at..at + DIRECTORY_WORD_SIZE]))
 }
 
 /// Returns the number of databases.
@@ -44,7 +44,7 @@ pub(crate) fn count_databases(heap: &Heap) -> u32
     requires { Accepted heap.now.bytes }
     ensures { result ≡ length (listed heap.now.bytes) }
 {
-    (directory_bytes(heap).len() / SLOT_SIZE) as u32
+    (directory_bytes(heap).len() / DIRECTORY_WORD_SIZE) as u32
 }
 
 /// Searches the directory for a database, and returns its index.

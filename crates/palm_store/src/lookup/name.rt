@@ -5,7 +5,7 @@ ghost use Rattle.heap_model.specs.Store.{Accepted, store_of};
 ghost use Rattle.heap_model.specs.DatabaseSteps.{IsTaken};
 ghost use Rattle.palm_store.specs.Databases.{HasNumber, HasOtherName, name_under};
 
-use crate::lookup::directory::{SLOT_SIZE, directory_bytes, listed_in};
+use crate::lookup::directory::{DIRECTORY_WORD_SIZE, directory_bytes, listed_in};
 use crate::lookup::header::header_of;
 use db_format::name_in;
 use heap_model::Db;
@@ -27,7 +27,7 @@ pub(crate) fn find_named(heap: &Heap, db: Db, name: &[u8]) -> Option<Db>
     ensures none { IfNone result (IsTaken (store_of heap.now.bytes) db.0 name.now → ⊥) }
 {
     let directory = directory_bytes(heap);
-    for index in 0..directory.len() / SLOT_SIZE {
+    for index in 0..directory.len() / DIRECTORY_WORD_SIZE {
         let other = listed_in(directory, index);
         if other != db && is_named(heap, other, name) {
             return Some(other);

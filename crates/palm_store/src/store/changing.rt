@@ -1,6 +1,6 @@
 //! Calls of the memory manager that change a chunk at its place.
 
-ghost use Rattle.std.specs.Prelude.{◌≡◌};
+ghost use Rattle.std.specs.Prelude.{◌≡◌, OnErr};
 ghost use Rattle.heap_model.specs.MemorySteps.{reply_of};
 ghost use Rattle.heap_model.specs.declared.call.MemoryCall.{MemoryCall};
 ghost use Rattle.heap_model.specs.declared.call.Reply.{Reply};
@@ -19,8 +19,9 @@ impl Store {
     /// - `ChunkFixed`: if the chunk is fixed.
     /// - `LockOverflow`: if the chunk has 14 locks already.
     pub fn lock(&mut self, name: Name) -> Result<Locked, Refusal>
-        ensures { DoesMemory self.old (MemoryCall.Lock name)
+        ensures does { DoesMemory self.old (MemoryCall.Lock name)
             (reply_of (λ locked. Reply.Locked locked.place locked.count) result) self.new }
+        ensures refused { OnErr result (self.new ≡ self.old) }
     {
         self.heap.lock(name)
     }
@@ -33,7 +34,8 @@ impl Store {
     /// - `ChunkNotLocked`: if the chunk has no lock.
     /// - `Lent`: if the chunk is lent.
     pub fn unlock(&mut self, name: Name) -> Result<u8, Refusal>
-        ensures { DoesMemory self.old (MemoryCall.Unlock name) (number_or_refused result) self.new }
+        ensures does { DoesMemory self.old (MemoryCall.Unlock name) (number_or_refused result) self.new }
+        ensures refused { OnErr result (self.new ≡ self.old) }
     {
         self.heap.unlock(name)
     }
@@ -46,8 +48,9 @@ impl Store {
     /// - `Lent`: if the chunk is lent.
     /// - `OutOfBounds`: if the range reaches beyond the chunk's end.
     pub fn write(&mut self, name: Name, at: u32, bytes: &[u8]) -> Result<(), Refusal>
-        ensures { DoesMemory self.old (MemoryCall.Write name at bytes.now)
+        ensures does { DoesMemory self.old (MemoryCall.Write name at bytes.now)
             (done_or_refused result) self.new }
+        ensures refused { OnErr result (self.new ≡ self.old) }
     {
         self.heap.write(name, at, bytes)
     }
@@ -57,8 +60,9 @@ impl Store {
     /// # Errors
     /// The same as for `write`.
     pub fn set(&mut self, name: Name, at: u32, count: u32, byte: u8) -> Result<(), Refusal>
-        ensures { DoesMemory self.old (MemoryCall.Set name at count byte)
+        ensures does { DoesMemory self.old (MemoryCall.Set name at count byte)
             (done_or_refused result) self.new }
+        ensures refused { OnErr result (self.new ≡ self.old) }
     {
         self.heap.set(name, at, count, byte)
     }
@@ -69,8 +73,9 @@ impl Store {
     /// # Errors
     /// The same as for `write`; the zero byte counts for `OutOfBounds`.
     pub fn str_copy(&mut self, name: Name, at: u32, text: &[u8]) -> Result<(), Refusal>
-        ensures { DoesMemory self.old (MemoryCall.StrCopy name at text.now)
+        ensures does { DoesMemory self.old (MemoryCall.StrCopy name at text.now)
             (done_or_refused result) self.new }
+        ensures refused { OnErr result (self.new ≡ self.old) }
     {
         self.heap.str_copy(name, at, text)
     }
@@ -82,8 +87,9 @@ impl Store {
     /// - `OwnedByDatabase`: if the chunk is one for data.
     /// - `InvalidOwner`: if the owner isn't one of 1 to 14.
     pub fn set_owner(&mut self, name: Name, owner: u8) -> Result<(), Refusal>
-        ensures { DoesMemory self.old (MemoryCall.SetOwner name owner)
+        ensures does { DoesMemory self.old (MemoryCall.SetOwner name owner)
             (done_or_refused result) self.new }
+        ensures refused { OnErr result (self.new ≡ self.old) }
     {
         self.heap.set_owner(name, owner)
     }

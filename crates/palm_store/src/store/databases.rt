@@ -9,7 +9,7 @@ ghost use Rattle.palm_store.specs.Replies.{DoesDatabase, done_or_refused, databa
 use crate::databases::{empty_header, free_data, has_locked, list_new, unlist, with_info};
 use crate::entries::NOTHING_KNOWN;
 use crate::lookup::{
-    SLOT_SIZE, count_databases, directory_bytes, find_chunk, find_header, find_named,
+    DIRECTORY_WORD_SIZE, count_databases, directory_bytes, find_chunk, find_header, find_named,
     has_other_name, header_in, index_of, info_in, listed_in,
 };
 use crate::store::Store;
@@ -103,7 +103,7 @@ impl Store {
             (database_or_refused result) self.now }
     {
         let directory = directory_bytes(&self.heap);
-        if index as usize >= directory.len() / SLOT_SIZE {
+        if index as usize >= directory.len() / DIRECTORY_WORD_SIZE {
             return Err(Refusal::NoSuchDatabase);
         }
         Ok(listed_in(directory, index as usize))

@@ -14,7 +14,7 @@ ghost use Rattle.heap_model.specs.StoreSteps.{StoreAsBefore};
 ghost use Rattle.mem_manager.specs.Lookup.{StandsAs};
 ghost use Rattle.palm_store.specs.Databases.{HasNumber, HasDatabase};
 ghost use Rattle.palm_store.specs.EntryInfos.{makes_resource, MayOwn, dropped_to};
-ghost use Rattle.palm_store.specs.EntryCalls.{entries_of_image, resources_of_image, data_of_image, HasDbAttributes, HasLockedData, IsEntryData, IsHeard, MayHave, MayBeGiven, checks_of_giving, checks_of_making, checks_of_attaching, checks_of_growth, raised_if, LeavesChanged, LeavesMade, LeavesAttached, entry_informed, entry_given, entry_moved, data_sized};
+ghost use Rattle.palm_store.specs.EntryCalls.{entries_of_image, resources_of_image, data_of_image, HasDbAttributes, HasLockedData, IsEntryData, IsHeard, MayHave, MayBeGiven, checks_of_giving, checks_of_making, checks_of_attaching, checks_of_data_growth, raised_if, LeavesChanged, LeavesMade, LeavesAttached, entry_informed, entry_given, entry_moved_in, data_sized};
 
 use crate::chunks::{check_taken, free_chunk_of};
 use crate::entries::{
@@ -213,8 +213,8 @@ impl Store {
         requires own { IsEntryData self.old.bytes name.0 }
         ensures done { OnOk result
             (LeavesChanged self.old self.new (λ store. data_sized store name.0 size)) }
-        ensures could { OnOk result (NoneHolds (checks_of_growth self.old name.0 size)) }
-        ensures why { IfErr result (FirstBrings (checks_of_growth self.old name.0 size)) }
+        ensures could { OnOk result (NoneHolds (checks_of_data_growth self.old name.0 size)) }
+        ensures why { IfErr result (FirstBrings (checks_of_data_growth self.old name.0 size)) }
         ensures refused { OnErr result (self.new ≡ self.old) }
         ensures unmoved { FitsInPlace self.old.bytes name.0 (need size)
             → MovesNothing self.old.bytes self.new.bytes }
@@ -289,7 +289,7 @@ impl Store {
         requires from_inside { from < length (entries_of_image self.old.bytes db) }
         requires to_inside { to ≤ length (entries_of_image self.old.bytes db) }
         ensures moved { LeavesChanged self.old self.new
-            (λ store. raised (entry_moved store db from to) db) }
+            (λ store. raised (entry_moved_in store db from to) db) }
         ensures none_made { MakesNone self.old.bytes self.new.bytes }
         ensures loan { KeepsLoan self.old self.new }
         ensures rest { self.new ≡ record self.old { bytes = self.new.bytes; slid = self.new.slid } }

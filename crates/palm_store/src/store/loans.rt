@@ -6,9 +6,9 @@ ghost use Rattle.heap_model.specs.Lending.{IsLent};
 ghost use Rattle.heap_model.specs.Refusals.{FirstBrings};
 ghost use Rattle.heap_model.specs.Store.{owner_under};
 ghost use Rattle.allowance.specs.Refusals.{GrowthRefused};
-ghost use Rattle.mem_manager.specs.Loans.{also_out_checks, out_checks, IsOutUnder, IsNextLoan, AreLoansAbove};
+ghost use Rattle.mem_manager.specs.Loans.{also_out_checks, out_checks, IsOutUnder, IsFirstLoan, IsNextLoan, AreLoansAbove};
 ghost use Rattle.raw_region.specs.Marks.{NoneBeginsAbove};
-ghost use Rattle.palm_store.specs.Loans.{TakesOut, PutsBack};
+ghost use Rattle.palm_store.specs.Loans.{TakesOutOfStore, PutsBackInStore};
 
 use crate::store::Store;
 use allowance::{Allowance, push};
@@ -25,7 +25,7 @@ impl Store {
     /// - `ChunkNotLocked`: if the chunk is movable and has no lock.
     /// - `Lent`: if a loan is out.
     pub fn take_out(&mut self, name: Name) -> Result<Loan, Refusal>
-        ensures taken { IfOk result (λ loan. TakesOut self.old self.new name loan) }
+        ensures taken { IfOk result (λ loan. TakesOutOfStore self.old self.new name loan) }
         ensures alone { OnOk result (self.old.lents ≡ []) }
         ensures refused { OnErr result (self.new ≡ self.old) }
         ensures why { IfErr result (FirstBrings (out_checks self.old name.0)) }
@@ -40,7 +40,7 @@ impl Store {
     /// - `ChunkNotLocked`: if the chunk is movable and has no lock.
     /// - `Lent`: if the bytes of this chunk are out.
     pub fn take_out_also(&mut self, name: Name) -> Result<Loan, Refusal>
-        ensures taken { IfOk result (λ loan. TakesOut self.old self.new name loan) }
+        ensures taken { IfOk result (λ loan. TakesOutOfStore self.old self.new name loan) }
         ensures refused { OnErr result (self.new ≡ self.old) }
         ensures why { IfErr result (FirstBrings (also_out_checks self.old name.0)) }
     {
@@ -50,15 +50,17 @@ impl Store {
     /// Puts the bytes of a loan of this store back. Others may be put back before or after it.
     pub fn put_back(&mut self, loan: Loan)
         requires { IsOutUnder self.old loan.name.0 loan.part }
-        ensures back { PutsBack self.old self.new loan }
+        ensures back { PutsBackInStore self.old self.new loan }
         ensures owned { owner_under self.old.bytes loan.name.0 ≢ managers_owner }
     {
         self.heap.put_back(loan);
     }
 
-    /// Returns the name of a chunk whose bytes are out, if there is one.
+    /// Returns the name of the first chunk, in order of places, whose bytes are out, if there is
+    /// one.
     pub fn lent(&self) -> Option<Name>
         ensures lent { IfSome result (λ name. IsLent self.now name.0) }
+        ensures first { IfSome result (λ name. IsFirstLoan self.now name.0) }
         ensures some { OnSome result (self.now.lents ≢ []) }
         ensures none { IfNone result (self.now.lents ≡ []) }
     {

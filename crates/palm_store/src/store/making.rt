@@ -76,7 +76,8 @@ impl Store {
     /// - `ChunkLocked`: if the chunk is locked.
     /// - `Lent`: if the chunk is lent.
     pub fn free(&mut self, name: Name) -> Result<(), Refusal>
-        ensures { DoesMemory self.old (MemoryCall.Free name) (done_or_refused result) self.new }
+        ensures does { DoesMemory self.old (MemoryCall.Free name) (done_or_refused result) self.new }
+        ensures refused { OnErr result (self.new ≡ self.old) }
     {
         self.heap.free(name)
     }
@@ -87,8 +88,9 @@ impl Store {
     /// - `InvalidOwner`: if the owner isn't one of 1 to 14.
     /// - `Lent`: if one of the chunks is lent.
     pub fn free_by_owner(&mut self, owner: u8) -> Result<u32, Refusal>
-        ensures { DoesMemory self.old (MemoryCall.FreeByOwner owner)
+        ensures does { DoesMemory self.old (MemoryCall.FreeByOwner owner)
             (number_or_refused result) self.new }
+        ensures refused { OnErr result (self.new ≡ self.old) }
     {
         self.heap.free_by_owner(owner)
     }

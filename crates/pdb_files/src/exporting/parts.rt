@@ -8,7 +8,7 @@ ghost use Rattle.heap_model.specs.Database.{HasShape, data_in};
 ghost use Rattle.heap_model.specs.Files.{block_bytes, file_of};
 ghost use Rattle.db_format.specs.EitherEntry.{entry_of, HasFittingId};
 ghost use Rattle.pdb_format.specs.FileTexts.{header_text, entries_text, data_text};
-ghost use Rattle.pdb_files.specs.FileParts.{content_of, NamesData, IsExportable, ArePlaces, file_entry};
+ghost use Rattle.pdb_files.specs.FileParts.{content_of, NamesReadableData, IsExportable, ArePlaces, file_entry};
 
 use crate::exporting::places::{Places, block, block_offset, block_size, find_places};
 use bitflags::Flags;
@@ -62,7 +62,7 @@ fn put_entries<W: Write>(
     out: &mut Counted<W>,
 ) -> Result<(), WriteFault>
     requires shape { HasShape bytes.now }
-    requires names { NamesData store.now bytes.now }
+    requires names { NamesReadableData store.now bytes.now }
     requires short { first + length (data_text (content_of store.now.bytes bytes.now).entries)
         < 2 ^ 32 }
     ensures { Writes W.contents out.old out.new
@@ -100,7 +100,7 @@ fn in_file(entry: DbEntry, at: u32) -> DbEntry
 /// Writes the blocks.
 fn put_blocks<W: Write>(store: &Store, bytes: &[u8], out: &mut Counted<W>) -> Result<(), WriteFault>
     requires shape { HasShape bytes.now }
-    requires names { NamesData store.now bytes.now }
+    requires names { NamesReadableData store.now bytes.now }
     ensures { Writes W.contents out.old out.new
         (flat_map block_bytes (data_in (content_of store.now.bytes bytes.now))) (is_ok result) }
 {
@@ -112,7 +112,7 @@ fn put_blocks<W: Write>(store: &Store, bytes: &[u8], out: &mut Counted<W>) -> Re
 /// Writes the data of the entries.
 fn put_data<W: Write>(store: &Store, bytes: &[u8], out: &mut Counted<W>) -> Result<(), WriteFault>
     requires shape { HasShape bytes.now }
-    requires names { NamesData store.now bytes.now }
+    requires names { NamesReadableData store.now bytes.now }
     ensures { Writes W.contents out.old out.new
         (data_text (content_of store.now.bytes bytes.now).entries) (is_ok result) }
 {

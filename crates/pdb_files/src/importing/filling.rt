@@ -3,7 +3,7 @@
 ghost use Rattle.std.specs.Prelude.{◌≡◌, ◌<◌, ◌≤◌, ℕ, length, map, All};
 ghost use Rattle.heap_model.specs.Lending.{KeepsLoan};
 ghost use Rattle.heap_model.specs.Store.{Accepted, store_of};
-ghost use Rattle.pdb_format.specs.Blocks.{bytes_at, IsWithin};
+ghost use Rattle.pdb_format.specs.Blocks.{bytes_at, IsBlockWithin};
 ghost use Rattle.palm_store.specs.WholeDatabases.{numbers_in};
 ghost use Rattle.pdb_files.specs.Filling.{AreFilled, AreOnce, Refills};
 
@@ -16,7 +16,7 @@ use pdb_format::Block;
 pub(super) fn fill_blocks(store: &mut Store, file: &[u8], blocks: &[Option<Block>], names: &[Name])
     requires accepted { Accepted store.old.bytes }
     requires long { length names.now ≡ length blocks.now }
-    requires inside { All (IsWithin (length file.now)) blocks.now }
+    requires inside { All (IsBlockWithin (length file.now)) blocks.now }
     requires once { AreOnce (numbers_in names.now) }
     requires zeros { AreFilled (store_of store.old.bytes).map
         (map (bytes_at file.now) blocks.now) (numbers_in names.now) 0 }

@@ -6,7 +6,7 @@ ghost use Rattle.heap_model.specs.EntrySteps.{most_entries};
 ghost use Rattle.heap_model.specs.UniqueIds.{greatest_id};
 ghost use Rattle.heap_model.specs.Files.{HasNoFault, blocks_in, idle_attributes};
 ghost use Rattle.heap_model.specs.FileSteps.{size_of_block};
-ghost use Rattle.pdb_format.specs.Blocks.{bytes_at, IsWithin};
+ghost use Rattle.pdb_format.specs.Blocks.{bytes_at, IsBlockWithin};
 ghost use Rattle.palm_store.specs.WholeDatabases.{header_asked};
 ghost use Rattle.pdb_format.specs.Blocks.{size_within};
 ghost use Rattle.pdb_format.specs.ReadFiles.{header_read, HasIdsFor};
@@ -39,7 +39,7 @@ pub(super) fn read_plan<A: Allowance>(
 ) -> Result<Plan, AllocError>
     requires good { HasNoFault file.now }
     requires blocks { map (bytes_at file.now) blocks.items ≡ blocks_in file.now }
-    requires within { All (IsWithin (length file.now)) blocks.items }
+    requires within { All (IsBlockWithin (length file.now)) blocks.items }
     requires short { All IsShort blocks.items }
     ensures plan { IfOk result (IsPlan file.now) }
     ensures short { OnErr result (A.is_short memory.now) }
@@ -56,7 +56,7 @@ pub(super) fn read_plan<A: Allowance>(
 
 /// Whether a block is absent or has less than 4 GiB.
 fn is_short(block: Option<Block>) -> bool
-    requires { IsWithin usize.MAX block }
+    requires { IsBlockWithin usize.MAX block }
     ensures { IsTrue result ↔ IsShort block }
 {
     match block {
@@ -67,7 +67,7 @@ fn is_short(block: Option<Block>) -> bool
 
 /// Whether each of these blocks is absent or has less than 4 GiB. No heap has room for more.
 pub(super) fn are_short(blocks: &[Option<Block>]) -> bool
-    requires { All (IsWithin usize.MAX) blocks.now }
+    requires { All (IsBlockWithin usize.MAX) blocks.now }
     ensures { IsTrue result ↔ All IsShort blocks.now }
 {
     for index in 0..blocks.len() {
@@ -94,7 +94,7 @@ fn header_of(file: &[u8], seed: u32) -> DbInfo
 
 /// Returns how many bytes a block has, if there is one.
 fn size_of(block: Option<Block>) -> Option<u32>
-    requires within { IsWithin usize.MAX block }
+    requires within { IsBlockWithin usize.MAX block }
     requires short { IsShort block }
     ensures { result ≡ size_within block }
 {
@@ -106,7 +106,7 @@ fn size_of(block: Option<Block>) -> Option<u32>
 
 /// Returns how many bytes the info blocks have. They are the first of these blocks.
 fn sizes_of(blocks: &[Option<Block>]) -> BlockSizes
-    requires within { All (IsWithin usize.MAX) blocks.now }
+    requires within { All (IsBlockWithin usize.MAX) blocks.now }
     requires short { All IsShort blocks.now }
     requires inside { 2 ≤ length blocks.now }
     ensures app_info { result.app_info ≡ size_within (slice_index_or blocks.now 0 None) }
@@ -156,7 +156,7 @@ fn plan_entries<A: Allowance>(
 ) -> Result<Vec<WholeEntry>, AllocError>
     requires good { HasNoFault file.now }
     requires blocks { map (bytes_at file.now) blocks.now ≡ blocks_in file.now }
-    requires within { All (IsWithin (length file.now)) blocks.now }
+    requires within { All (IsBlockWithin (length file.now)) blocks.now }
     requires short { All IsShort blocks.now }
     requires ids { HasIdsFor file.now ids.now }
     ensures planned { IfOk result (λ entries.

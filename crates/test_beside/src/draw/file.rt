@@ -10,10 +10,10 @@ use std::alloc::{AllocError, Global};
 use test_model::{Database, Image};
 
 /// IDs of records, few enough that many have the same, and the greatest ones.
-const IDS: [u32; 7] = [0, 1, 2, 3, 4, 0xFF_FFFE, 0xFF_FFFF];
+const DRAWN_IDS: [u32; 7] = [0, 1, 2, 3, 4, 0xFF_FFFE, 0xFF_FFFF];
 
 /// Seeds: before small IDs, and before the greatest.
-const SEEDS: [u32; 6] = [0, 1, 0x0700_0002, 0xFF_FFFD, 0xABFF_FFFE, 0xFFFF_FFFF];
+const DRAWN_SEEDS: [u32; 6] = [0, 1, 0x0700_0002, 0xFF_FFFD, 0xABFF_FFFE, 0xFFFF_FFFF];
 
 /// A call that imports a file, most often one without fault, or exports a database.
 pub(crate) fn file_call(
@@ -128,7 +128,7 @@ fn any_header(
         area.any_of_info(random),
         any_word(random),
         any_word(random),
-        *SEEDS.choose(random).unwrap_or(&0),
+        *DRAWN_SEEDS.choose(random).unwrap_or(&0),
         u32::from(below(random, 40) == 0),
     ] {
         file.extend_from_slice(&word.to_be_bytes())?;
@@ -144,7 +144,7 @@ fn any_attributes(random: &mut Pcg32, resources: bool) -> u16 {
 
 /// Adds the entry of a record; one that is deleted often has no data.
 fn put_record(random: &mut Pcg32, file: &mut Vec<u8>, area: Area) -> Result<(), AllocError> {
-    let id = *IDS.choose(random).unwrap_or(&0);
+    let id = *DRAWN_IDS.choose(random).unwrap_or(&0);
     let attributes = below(random, 128);
     let (start, deleted) = match below(random, 5) {
         0 => (0, 0x80),

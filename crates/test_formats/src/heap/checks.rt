@@ -9,7 +9,7 @@ use heap_check::{HeapFault, Summary, check_heap};
 use raw_region::Region;
 use std::alloc::{AllocError, Global};
 use std::test::*;
-use test_support::{BLANK, DATABASE, ONE_CHUNK, bytes_of, equal, image};
+use test_support::{BLANK, ONE_CHUNK, ONE_DATABASE, bytes_of, equal, image};
 
 /// What the checker finds in a region has this text.
 fn check_found(alloc: Global, spot: &str, region: &Region, text: &str) -> Result<(), Fail>
@@ -55,7 +55,7 @@ static COUNTED: [(&str, Result<Summary, HeapFault>); 2] = [
 #[test]
 fn a_heap_has_its_counts(rt: HostRuntime) -> Result<(), Fail> {
     for (changes, wanted) in &COUNTED {
-        let region = image(rt.alloc(), DATABASE, changes)?;
+        let region = image(rt.alloc(), ONE_DATABASE, changes)?;
         equal(*changes, check_heap(&region), *wanted)?;
     }
     Ok(())
@@ -82,7 +82,7 @@ const OF_DATABASE: [(&str, &str); 14] = [
 
 #[test]
 fn every_shorter_prefix_is_too_short(rt: HostRuntime) -> Result<(), Fail> {
-    let bytes = bytes_of(rt.alloc(), DATABASE)?;
+    let bytes = bytes_of(rt.alloc(), ONE_DATABASE)?;
     equal("bytes", bytes.len(), 208)?;
     for n in 0..bytes.len() {
         check_too_short(rt.alloc(), &bytes[..n])?;
@@ -202,7 +202,7 @@ const WITH_TWO_FAULTS: [(&str, &str); 14] = [
 
 /// Images, and their cases.
 static CASES: [(&str, &[(&str, &str)]); 4] = [
-    (DATABASE, &OF_DATABASE),
+    (ONE_DATABASE, &OF_DATABASE),
     (ONE_CHUNK, &OF_ONE_CHUNK),
     (BLANK, &OF_BLANK),
     (BLANK, &WITH_TWO_FAULTS),

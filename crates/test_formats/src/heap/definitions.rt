@@ -6,7 +6,7 @@ ghost use Rattle.heap_model.specs.Bytes.{u32_bytes};
 ghost use Rattle.heap_model.specs.Chunk.{free, movable, fixed, size_of};
 ghost use Rattle.heap_model.specs.Slots.{slots_of};
 ghost use Rattle.heap_model.specs.Reading.{chunk_at, chunks_of, held, is_accepted};
-ghost use Rattle.test_formats.specs.HeapImages.{words, blank_image, one_chunk_image, database_image, padded, small_image, BreaksAlone, IsOutOfShape};
+ghost use Rattle.test_formats.specs.HeapImages.{words, blank_image, one_chunk_image, database_image, padded_words, small_image, BreaksAlone, IsOutOfShape};
 
 /// A blank image has one free chunk and holds nothing.
 fn blank_image_is_read()
@@ -51,17 +51,17 @@ fn fixed_chunk_is_read()
 /// Each part of the head is broken by an image that keeps all others. (A length that is not a
 /// multiple of 8 has no such image, and the greatest size none that is small.)
 fn head_parts_break_alone()
-    ensures magic { BreaksAlone (padded 64 (0x50484933 ∷ 64 ∷ 0x00010000 ∷ 0 ∷ 0 ∷ 0 ∷ 0x80000028
+    ensures magic { BreaksAlone (padded_words 64 (0x50484933 ∷ 64 ∷ 0x00010000 ∷ 0 ∷ 0 ∷ 0 ∷ 0x80000028
         ∷ [])) 0 }
-    ensures size { BreaksAlone (padded 64 (0x50484931 ∷ 72 ∷ 0x00010000 ∷ 0 ∷ 0 ∷ 0 ∷ 0x80000028
+    ensures size { BreaksAlone (padded_words 64 (0x50484931 ∷ 72 ∷ 0x00010000 ∷ 0 ∷ 0 ∷ 0 ∷ 0x80000028
         ∷ [])) 1 }
-    ensures least { BreaksAlone (padded 56 (0x50484931 ∷ 56 ∷ 0x00010000 ∷ 0 ∷ 0 ∷ 0 ∷ 0x80000020
+    ensures least { BreaksAlone (padded_words 56 (0x50484931 ∷ 56 ∷ 0x00010000 ∷ 0 ∷ 0 ∷ 0 ∷ 0x80000020
         ∷ [])) 2 }
-    ensures some_slot { BreaksAlone (padded 64 (0x50484931 ∷ 64 ∷ 0 ∷ 0 ∷ 0x80000030 ∷ [])) 5 }
-    ensures a_chunk_fits { BreaksAlone (padded 64 (0x50484931 ∷ 64 ∷ 0x000C0000 ∷ [])) 6 }
-    ensures reserved { BreaksAlone (padded 64 (0x50484931 ∷ 64 ∷ 0x00010001 ∷ 0 ∷ 0 ∷ 0
+    ensures some_slot { BreaksAlone (padded_words 64 (0x50484931 ∷ 64 ∷ 0 ∷ 0 ∷ 0x80000030 ∷ [])) 5 }
+    ensures a_chunk_fits { BreaksAlone (padded_words 64 (0x50484931 ∷ 64 ∷ 0x000C0000 ∷ [])) 6 }
+    ensures reserved { BreaksAlone (padded_words 64 (0x50484931 ∷ 64 ∷ 0x00010001 ∷ 0 ∷ 0 ∷ 0
         ∷ 0x80000028 ∷ [])) 7 }
-    ensures padding { BreaksAlone (padded 64 (0x50484931 ∷ 64 ∷ 0x00010000 ∷ 0 ∷ 0 ∷ 1
+    ensures padding { BreaksAlone (padded_words 64 (0x50484931 ∷ 64 ∷ 0x00010000 ∷ 0 ∷ 0 ∷ 1
         ∷ 0x80000028 ∷ [])) 8 }
 {}
 
@@ -69,12 +69,12 @@ fn head_parts_break_alone()
 fn area_parts_break_alone()
     ensures tiled { BreaksAlone (small_image 0 0 (0x80000030 ∷ [])) 9 }
     ensures rest { BreaksAlone (small_image 0 0 (0x80000020 ∷ [])) 9 }
-    ensures next_of_no_table { BreaksAlone (padded 64 (0x50484932 ∷ 64 ∷ 0x00010000 ∷ 0 ∷ 0 ∷ 32
+    ensures next_of_no_table { BreaksAlone (padded_words 64 (0x50484932 ∷ 64 ∷ 0x00010000 ∷ 0 ∷ 0 ∷ 32
         ∷ 0x80000028 ∷ [])) 10 }
     ensures slot_of_nothing { BreaksAlone (small_image 0 32 (0x80000028 ∷ [])) 11 }
     ensures slot_inside_a_chunk { BreaksAlone (small_image 0 40 (0x00000018 ∷ 0xF1000000 ∷ 0 ∷ 0
         ∷ 0 ∷ 0 ∷ 0x80000010 ∷ [])) 11 }
-    ensures two_slots_on_one_chunk { BreaksAlone (padded 64 (0x50484931 ∷ 64 ∷ 0x00020000 ∷ 0
+    ensures two_slots_on_one_chunk { BreaksAlone (padded_words 64 (0x50484931 ∷ 64 ∷ 0x00020000 ∷ 0
         ∷ 32 ∷ 32 ∷ 0x00000010 ∷ 0x01FFFFFC ∷ 0 ∷ 0 ∷ 0x80000018 ∷ [])) 11 }
     ensures empty_slot { BreaksAlone (small_image 0 0 (0x00000010 ∷ 0x01FFFFFC ∷ 0 ∷ 0
         ∷ 0x80000018 ∷ [])) 12 }

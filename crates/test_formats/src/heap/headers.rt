@@ -2,7 +2,7 @@
 #![tactic(auto, using(laws_heap::proofs::Lending::all_within, laws_heap::proofs::Lending::all_misses))]
 
 ghost use Rattle.std.specs.Prelude.{[], ◌≡◌, ◌≤◌, ◌<◌, ◌^◌, length, IfOk, None};
-ghost use Rattle.chunk_format.specs.Header.{IsWritable, size_by};
+ghost use Rattle.chunk_format.specs.Header.{IsWritableHeader, size_by};
 
 use chunk_format::{Header, Walk, chunk_size, put_lock, put_owner};
 use heap_model::Place;
@@ -149,7 +149,7 @@ fn no_header_is_read_at_the_end(rt: HostRuntime) -> Result<(), Fail> {
 /// The two words at 24 among bytes 0xAA, once the header is written there, and the header that is
 /// read back.
 fn written(alloc: Global, header: Header) -> Result<([u32; 2], Option<Header>), Fail>
-    requires writable { IsWritable 24 header }
+    requires writable { IsWritableHeader 24 header }
     requires inside { size_by header ≤ 40 }
 {
     let mut region = Region::zeroed(alloc, 64)?;

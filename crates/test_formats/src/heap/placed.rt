@@ -163,7 +163,7 @@ const MAKES_FIXED: &[Told] = &[
     ),
 ];
 
-const FIXED: Words = &[
+const FIXED_PLACED: Words = &[
     (16, 64),
     (32, 0x0600_0018),
     (36, 0xFE00_0000),
@@ -216,8 +216,8 @@ static EXAMPLES: [(&str, Words, &[Stage]); 9] = [
         &[(FROM_THE_BACK, Some(LEFT_FROM_THE_BACK))],
     ),
     ("neighbours are one run", TWO, &[(FROM_THE_FRONT, None)]),
-    ("a fixed chunk", &[], &[(MAKES_FIXED, Some(FIXED))]),
-    ("given back", FIXED, &[(GIVES_FIXED_BACK, None)]),
+    ("a fixed chunk", &[], &[(MAKES_FIXED, Some(FIXED_PLACED))]),
+    ("given back", FIXED_PLACED, &[(GIVES_FIXED_BACK, None)]),
     ("the first empty slot", &[], &[(TAKES_SLOTS, None)]),
 ];
 

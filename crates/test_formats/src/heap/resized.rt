@@ -90,7 +90,7 @@ const BEFORE_80: Frame = (
 
 /// A chunk of 10 bytes, with 6 of slack, and free ones of 8 and 16. The first word of the last has
 /// other bits. Where no header stands, each byte is FF.
-const SMALL: &str = "06000018 01FFFFF8 FFFFFFFFFFFFFFFF FFFFFFFFFFFFFFFF \
+const SMALL_CHUNK: &str = "06000018 01FFFFF8 FFFFFFFFFFFFFFFF FFFFFFFFFFFFFFFF \
     80000008 FFFFFFFF FF000010 FFFFFFFF FFFFFFFFFFFFFFFF";
 
 /// The same chunk with 24 bytes.
@@ -102,13 +102,13 @@ const SHRUNK: &str = "05000010 01FFFFF8 FFFFFFFFFFFFFFFF 80000008 00000000 \
     80000008 FFFFFFFF FF000010 FFFFFFFF FFFFFFFFFFFFFFFF";
 
 /// One chunk of 40 bytes.
-const LARGE: &str = "00000030 01FFFFF8 FFFFFFFFFFFFFFFF FFFFFFFFFFFFFFFF FFFFFFFFFFFFFFFF \
+const LARGE_CHUNK: &str = "00000030 01FFFFF8 FFFFFFFFFFFFFFFF FFFFFFFFFFFFFFFF FFFFFFFFFFFFFFFF \
     FFFFFFFFFFFFFFFF FFFFFFFFFFFFFFFF";
 
 /// What is changed where the chunk has 14 locks, and where it is fixed.
-const LOCKED: &str = "36: E1FFFFF8";
+const LOCKED_CHANGE: &str = "36: E1FFFFF8";
 
-const FIXED: &str = "16: 00000000, 36: FE000000";
+const FIXED_CHANGE: &str = "16: 00000000, 36: FE000000";
 
 /// Resizes of the chunk where it stands.
 static IN_PLACE: [Case; 22] = [
@@ -116,7 +116,7 @@ static IN_PLACE: [Case; 22] = [
     // with a plain first word, the only one in its list. What else lay there stays.
     (
         (Way::Grow, 16, 0),
-        (SMALL, ""),
+        (SMALL_CHUNK, ""),
         true,
         (
             "00000008 01FFFFF8 80000028 00000000 FFFFFFFFFFFFFFFF \
@@ -126,7 +126,7 @@ static IN_PLACE: [Case; 22] = [
     ),
     (
         (Way::Grow, 16, 10),
-        (SMALL, ""),
+        (SMALL_CHUNK, ""),
         true,
         (
             "06000018 01FFFFF8 FFFFFFFFFFFFFFFF FFFFFFFFFFFFFFFF \
@@ -136,7 +136,7 @@ static IN_PLACE: [Case; 22] = [
     ),
     (
         (Way::Grow, 16, 16),
-        (SMALL, ""),
+        (SMALL_CHUNK, ""),
         true,
         (
             "00000018 01FFFFF8 FFFFFFFFFFFFFFFF FFFF 00*6 \
@@ -146,7 +146,7 @@ static IN_PLACE: [Case; 22] = [
     ),
     (
         (Way::Grow, 16, 17),
-        (SMALL, ""),
+        (SMALL_CHUNK, ""),
         true,
         (
             "07000020 01FFFFF8 FFFFFFFFFFFFFFFF FFFF 00*7 000008 FFFFFFFF \
@@ -154,10 +154,10 @@ static IN_PLACE: [Case; 22] = [
             "",
         ),
     ),
-    ((Way::Grow, 16, 24), (SMALL, ""), true, (GROWN, "")),
+    ((Way::Grow, 16, 24), (SMALL_CHUNK, ""), true, (GROWN, "")),
     (
         (Way::Grow, 16, 33),
-        (SMALL, ""),
+        (SMALL_CHUNK, ""),
         true,
         (
             "07000030 01FFFFF8 FFFFFFFFFFFFFFFF FFFF 00*23 FFFFFFFFFFFFFF",
@@ -166,29 +166,34 @@ static IN_PLACE: [Case; 22] = [
     ),
     (
         (Way::Grow, 16, 40),
-        (SMALL, ""),
+        (SMALL_CHUNK, ""),
         true,
         ("00000030 01FFFFF8 FFFFFFFFFFFFFFFF FFFF 00*30", ""),
     ),
     // The live chunk at 80 ends what it may take: a refused growth changes nothing.
-    ((Way::Grow, 16, 41), (SMALL, ""), false, (SMALL, "")),
+    (
+        (Way::Grow, 16, 41),
+        (SMALL_CHUNK, ""),
+        false,
+        (SMALL_CHUNK, ""),
+    ),
     (
         (Way::Grow, 16, 0x00FF_FFF8),
-        (SMALL, ""),
+        (SMALL_CHUNK, ""),
         false,
-        (SMALL, ""),
+        (SMALL_CHUNK, ""),
     ),
     (
         (Way::Grow, 16, 0xFFFF_FFFF),
-        (SMALL, ""),
+        (SMALL_CHUNK, ""),
         false,
-        (SMALL, ""),
+        (SMALL_CHUNK, ""),
     ),
     // What it takes no more is a free chunk with a plain first word, the only one in its list; its
     // other bytes stay.
     (
         (Way::Shrink, 16, 0),
-        (LARGE, ""),
+        (LARGE_CHUNK, ""),
         true,
         (
             "00000008 01FFFFF8 80000028 00000000 FFFFFFFFFFFFFFFF \
@@ -198,7 +203,7 @@ static IN_PLACE: [Case; 22] = [
     ),
     (
         (Way::Shrink, 16, 10),
-        (LARGE, ""),
+        (LARGE_CHUNK, ""),
         true,
         (
             "06000018 01FFFFF8 FFFFFFFFFFFFFFFF FFFFFFFFFFFFFFFF \
@@ -208,7 +213,7 @@ static IN_PLACE: [Case; 22] = [
     ),
     (
         (Way::Shrink, 16, 32),
-        (LARGE, ""),
+        (LARGE_CHUNK, ""),
         true,
         (
             "00000028 01FFFFF8 FFFFFFFFFFFFFFFF FFFFFFFFFFFFFFFF FFFFFFFFFFFFFFFF \
@@ -218,7 +223,7 @@ static IN_PLACE: [Case; 22] = [
     ),
     (
         (Way::Shrink, 16, 33),
-        (LARGE, ""),
+        (LARGE_CHUNK, ""),
         true,
         (
             "07000030 01FFFFF8 FFFFFFFFFFFFFFFF FFFFFFFFFFFFFFFF FFFFFFFFFFFFFFFF \
@@ -226,32 +231,57 @@ static IN_PLACE: [Case; 22] = [
             "",
         ),
     ),
-    ((Way::Shrink, 16, 40), (LARGE, ""), true, (LARGE, "")),
+    (
+        (Way::Shrink, 16, 40),
+        (LARGE_CHUNK, ""),
+        true,
+        (LARGE_CHUNK, ""),
+    ),
     // Within what it takes it gains bytes too, and they are zero. The free chunks after it stay
     // apart.
     (
         (Way::Shrink, 16, 14),
-        (SMALL, ""),
+        (SMALL_CHUNK, ""),
         true,
-        (SMALL, "32: 02000018, 50: 00000000"),
+        (SMALL_CHUNK, "32: 02000018, 50: 00000000"),
     ),
     (
         (Way::Shrink, 16, 16),
-        (SMALL, ""),
+        (SMALL_CHUNK, ""),
         true,
-        (SMALL, "32: 00000018, 50: 000000000000"),
+        (SMALL_CHUNK, "32: 00000018, 50: 000000000000"),
     ),
-    ((Way::Shrink, 16, 17), (SMALL, ""), false, (SMALL, "")),
+    (
+        (Way::Shrink, 16, 17),
+        (SMALL_CHUNK, ""),
+        false,
+        (SMALL_CHUNK, ""),
+    ),
     // One with 14 locks and a fixed one, which no slot names, keep their place, lock and owner.
-    ((Way::Grow, 16, 24), (SMALL, LOCKED), true, (GROWN, LOCKED)),
+    (
+        (Way::Grow, 16, 24),
+        (SMALL_CHUNK, LOCKED_CHANGE),
+        true,
+        (GROWN, LOCKED_CHANGE),
+    ),
     (
         (Way::Shrink, 16, 3),
-        (SMALL, LOCKED),
+        (SMALL_CHUNK, LOCKED_CHANGE),
         true,
-        (SHRUNK, LOCKED),
+        (SHRUNK, LOCKED_CHANGE),
     ),
-    ((Way::Grow, 40, 24), (SMALL, FIXED), true, (GROWN, FIXED)),
-    ((Way::Shrink, 40, 3), (SMALL, FIXED), true, (SHRUNK, FIXED)),
+    (
+        (Way::Grow, 40, 24),
+        (SMALL_CHUNK, FIXED_CHANGE),
+        true,
+        (GROWN, FIXED_CHANGE),
+    ),
+    (
+        (Way::Shrink, 40, 3),
+        (SMALL_CHUNK, FIXED_CHANGE),
+        true,
+        (SHRUNK, FIXED_CHANGE),
+    ),
 ];
 
 #[test]

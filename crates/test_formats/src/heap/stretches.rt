@@ -8,7 +8,7 @@ ghost use Rattle.heap_model.specs.Space.{rooms, rooms_of, stretches, greatest, w
 ghost use Rattle.heap_model.specs.Layout.{layout_of};
 ghost use Rattle.heap_model.specs.Packing.{lives, staying, packed, moved_by_packing, opened};
 ghost use Rattle.heap_model.specs.Resizing.{with_length, shrunk, grown, relocated};
-ghost use Rattle.test_formats.specs.Stretches.{chunk_of, locked_of, zeros_of, counted, one_between, locked_between, one_in_front, two_behind, two_about, behind_a_little};
+ghost use Rattle.test_formats.specs.Stretches.{chunk_of, locked_of, zeros_of, numbers_from, one_between, locked_between, one_in_front, two_behind, two_about, behind_a_little};
 
 /// A chunk between two free ones: its stretch has the room of both, and packing slides it to the
 /// front.
@@ -46,7 +46,7 @@ fn locked_chunk_parts_rooms()
 fn chunk_slides_into_itself()
     ensures accepted { is_accepted behind_a_little ≡ true }
     ensures packed { packed (chunks_of behind_a_little)
-        ≡ movable (counted 0 80) 0 1 16 ∷ free 8 ∷ [] }
+        ≡ movable (numbers_from 0 80) 0 1 16 ∷ free 8 ∷ [] }
     ensures moved { moved_by_packing (chunks_of behind_a_little) ≡ 88 }
 {}
 
@@ -102,12 +102,12 @@ fn locked_chunk_grows_in_place()
 /// A shorter chunk leaves what it does not need free, and a longer one has zeros after its own
 /// bytes.
 fn lengths_are_changed()
-    ensures shorter { shrunk 3 (movable (counted 1 17) 2 1 16)
+    ensures shorter { shrunk 3 (movable (numbers_from 1 17) 2 1 16)
         ≡ movable (1 ∷ 2 ∷ 3 ∷ []) 2 1 16 ∷ free 16 ∷ [] }
-    ensures as_long { shrunk 17 (movable (counted 1 24) 2 1 16)
-        ≡ movable (counted 1 17) 2 1 16 ∷ [] }
-    ensures longer { with_length 26 (movable (counted 1 23) 0 1 16)
-        ≡ movable (counted 1 23 ++ 0 ∷ 0 ∷ 0 ∷ []) 0 1 16 }
+    ensures as_long { shrunk 17 (movable (numbers_from 1 24) 2 1 16)
+        ≡ movable (numbers_from 1 17) 2 1 16 ∷ [] }
+    ensures longer { with_length 26 (movable (numbers_from 1 23) 0 1 16)
+        ≡ movable (numbers_from 1 23 ++ 0 ∷ 0 ∷ 0 ∷ []) 0 1 16 }
     ensures empty { with_length 0 (fixed (7 ∷ []) 3) ≡ fixed [] 3 }
 {}
 

@@ -1,9 +1,10 @@
 //! The canonical forms of files.
 
 use crate::store::blocks::BACKWARD;
-use canonical_file::{CanonicalFault, put_canonical};
+use allowance::Allowance;
+use canonical_file::{CanonicalFault, canonical_bytes};
 use heap_model::FileFault;
-use palm_text::Counted;
+use pdb_format::check_file;
 use std::alloc::Global;
 use std::test::*;
 use test_support::{
@@ -29,25 +30,31 @@ static FORMS: [(&str, &str); 5] = [
 ];
 
 /// The most bytes that a file may have here.
-const MOST: usize = 16_777_216;
+const MOST_FILE: usize = 16_777_216;
 
-/// What is written for a file, and what that came to.
-fn written(alloc: Global, file: &[u8]) -> (Option<Result<usize, CanonicalFault>>, Vec<u8>) {
-    let mut out = Counted::new(Vec::new(alloc));
-    let count = if file.len() <= MOST {
-        Some(put_canonical(&alloc, file, &mut out))
-    } else {
-        None
-    };
-    (count, out.into_inner())
+/// Returns the canonical form of a file, or the reason why there is none. A file that is too large
+/// has neither.
+fn form_of<A: Allowance>(memory: &A, file: &[u8]) -> Option<Result<Vec<u8>, CanonicalFault>> {
+    if file.len() > MOST_FILE {
+        return None;
+    }
+    if let Err(fault) = check_file(file) {
+        return Some(Err(CanonicalFault::BadFile(fault)));
+    }
+    match canonical_bytes(memory, file) {
+        Ok(form) => Some(Ok(form)),
+        Err(_) => Some(Err(CanonicalFault::OutOfMemory)),
+    }
 }
 
 fn check_form(alloc: Global, (file, form): (&str, &str)) -> Result<(), Fail> {
     let bytes = bytes_of(alloc, file)?;
     let wanted = bytes_of(alloc, form)?;
-    let (count, form) = written(alloc, &bytes);
-    equal(format_args!("{file}"), count, Some(Ok(wanted.len())))?;
-    equal(format_args!("{file}"), form, wanted)
+    equal(
+        format_args!("{file}"),
+        form_of(&alloc, &bytes),
+        Some(Ok(wanted)),
+    )
 }
 
 #[test]
@@ -71,10 +78,9 @@ static FAULTS: [(&str, FileFault); 2] = [
 #[test]
 fn damaged_files_are_refused(rt: HostRuntime) -> Result<(), Fail> {
     for (file, fault) in &FAULTS {
-        let (count, form) = written(rt.alloc(), &bytes_of(rt.alloc(), file)?);
+        let form = form_of(&rt.alloc(), &bytes_of(rt.alloc(), file)?);
         let wanted = Some(Err(CanonicalFault::BadFile(*fault)));
-        equal(format_args!("{file}"), count, wanted)?;
-        equal(format_args!("{file}"), form.len(), 0)?;
+        equal(format_args!("{file}"), form, wanted)?;
     }
     Ok(())
 }
@@ -83,15 +89,10 @@ fn damaged_files_are_refused(rt: HostRuntime) -> Result<(), Fail> {
 #[test]
 fn refused_memory_is_told(rt: HostRuntime) -> Result<(), Fail> {
     let file = bytes_of(rt.alloc(), TINY_FILE)?;
-    if file.len() > MOST {
-        return Ok(());
-    }
     for granted in 0..4 {
         let memory = RefusesOne::behind(rt.alloc(), granted);
-        let mut out = Counted::new(Vec::new(rt.alloc()));
-        let count = put_canonical(&memory, &file, &mut out);
-        equal(granted, count, Err(CanonicalFault::OutOfMemory))?;
-        equal(granted, out.into_inner().len(), 0)?;
+        let form = form_of(&memory, &file);
+        equal(granted, form, Some(Err(CanonicalFault::OutOfMemory)))?;
     }
     Ok(())
 }

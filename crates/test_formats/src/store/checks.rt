@@ -4,7 +4,7 @@ use crate::store::found::text_of;
 use std::alloc::Global;
 use std::test::*;
 use store_check::check_store;
-use test_support::{DATABASE, equal, image};
+use test_support::{ONE_DATABASE, equal, image};
 
 fn check_case(alloc: Global, listing: &str, changes: &str, text: &str) -> Result<(), Fail> {
     let region = image(alloc, listing, changes)?;
@@ -24,7 +24,7 @@ fn check_changed(alloc: Global, listing: &str, cases: &[(&str, &str)]) -> Result
     Ok(())
 }
 
-const OF_DATABASE: [(&str, &str); 31] = [
+const CHANGED_OF_DATABASE: [(&str, &str); 31] = [
     ("", "movable 4 free 8 databases 1"),
     ("3: 33", "BadMagic"),
     ("175: BA", "SlotMismatch 24"),
@@ -67,14 +67,14 @@ const OF_DATABASE: [(&str, &str); 31] = [
 ];
 
 /// One database with two resources.
-const RESOURCES: &str =
+const ONE_OF_RESOURCES: &str =
     "50484931 000000D8 0008 0000 00000010 00000038 00000048 000000B8 000000C8 00*16 \
     04000010 00FFFFF0 00000014 00*4 06000070 00FFFFEA \
     52 00*31 0001 0000 00*24 6170706C 54657374 00000000 00000000 0002 \
     74535452 0000 00000018 74535452 0000 0000001C 00*6 \
     00000010 0FFFFFB4 4141414141414141 00000010 0FFFFFAE 4242424242424242 80000008 00*4";
 
-const OF_RESOURCES: [(&str, &str); 5] = [
+const CHANGED_OF_RESOURCES: [(&str, &str); 5] = [
     ("", "movable 4 free 8 databases 1"),
     ("105: 00", "BadHeader 0"),
     ("166: 00000000", "BadEntry 0 1"),
@@ -83,7 +83,7 @@ const OF_RESOURCES: [(&str, &str); 5] = [
 ];
 
 /// Two databases with a record each.
-const TWO_DATABASES: &str =
+const TWO_OF_RECORDS: &str =
     "50484931 00000130 0008 0000 00000010 00000038 00000048 000000A8 00000108 00000118 00*12 \
     00000010 00FFFFF0 00000014 00000018 02000060 00FFFFEA \
     41 00*31 0000 0000 00*24 44415441 54657374 00000001 00000000 0001 \
@@ -110,9 +110,9 @@ const OF_TWO: [(&str, &str); 10] = [
 
 /// Images, and their cases.
 static CASES: [(&str, &[(&str, &str)]); 3] = [
-    (DATABASE, &OF_DATABASE),
-    (RESOURCES, &OF_RESOURCES),
-    (TWO_DATABASES, &OF_TWO),
+    (ONE_DATABASE, &CHANGED_OF_DATABASE),
+    (ONE_OF_RESOURCES, &CHANGED_OF_RESOURCES),
+    (TWO_OF_RECORDS, &OF_TWO),
 ];
 
 #[test]

@@ -24,7 +24,7 @@ ghost use Rattle.heap_model.specs.UniqueIds.{next_id, id_behind, seed_in, with_s
 ghost use Rattle.heap_model.specs.Store.{content, listed, databases, named, names_of};
 ghost use Rattle.heap_model.specs.Rooms.{stretch_of, makes, grows, Stuck};
 ghost use Rattle.test_formats.specs.HeapImages.{database_image};
-ghost use Rattle.test_formats.specs.StoreImages.{changed, resource_image, two_databases, two_rooms, broken};
+ghost use Rattle.test_formats.specs.StoreImages.{changed_image, resource_image, two_databases, two_rooms, broken};
 
 /// A database of records, with the chunks that callers may name.
 fn records_are_read()
@@ -77,29 +77,29 @@ fn two_databases_are_read()
 /// right otherwise, since then two databases have a name; and more than 1,024 headers take a large
 /// image.)
 fn parts_break_alone()
-    ensures half_a_word { broken (changed 48 (3 ∷ [])) ≡ 1 ∷ [] }
-    ensures header_of_owner_1 { broken (changed 68 (1 ∷ [])) ≡ 4 ∷ [] }
-    ensures no_name { broken (changed 72 (0 ∷ [])) ≡ 5 ∷ [] }
-    ensures name_of_32_bytes { broken (changed 72 (replicate 32 0x41)) ≡ 6 ∷ [] }
-    ensures byte_behind_name { broken (changed 74 (0x41 ∷ [])) ≡ 6 ∷ [] }
-    ensures chained_list { broken (changed 147 (1 ∷ [])) ≡ 6 ∷ [] }
-    ensures info_is_a_header { broken (changed 127 (0x14 ∷ [])) ≡ 7 ∷ [] }
-    ensures data_of_owner_1 { broken (changed 188 (1 ∷ [])) ≡ 8 ∷ [] }
-    ensures id_is_zero { broken (changed 163 (0 ∷ 0 ∷ 0 ∷ [])) ≡ 9 ∷ [] }
-    ensures id_is_anothers { broken (changed 163 (0 ∷ 0 ∷ 1 ∷ [])) ≡ 10 ∷ [] }
+    ensures half_a_word { broken (changed_image 48 (3 ∷ [])) ≡ 1 ∷ [] }
+    ensures header_of_owner_1 { broken (changed_image 68 (1 ∷ [])) ≡ 4 ∷ [] }
+    ensures no_name { broken (changed_image 72 (0 ∷ [])) ≡ 5 ∷ [] }
+    ensures name_of_32_bytes { broken (changed_image 72 (replicate 32 0x41)) ≡ 6 ∷ [] }
+    ensures byte_behind_name { broken (changed_image 74 (0x41 ∷ [])) ≡ 6 ∷ [] }
+    ensures chained_list { broken (changed_image 147 (1 ∷ [])) ≡ 6 ∷ [] }
+    ensures info_is_a_header { broken (changed_image 127 (0x14 ∷ [])) ≡ 7 ∷ [] }
+    ensures data_of_owner_1 { broken (changed_image 188 (1 ∷ [])) ≡ 8 ∷ [] }
+    ensures id_is_zero { broken (changed_image 163 (0 ∷ 0 ∷ 0 ∷ [])) ≡ 9 ∷ [] }
+    ensures id_is_anothers { broken (changed_image 163 (0 ∷ 0 ∷ 1 ∷ [])) ≡ 10 ∷ [] }
     ensures name_is_anothers { broken (two_databases 0x10 0x14 0x18 0x41 0x41) ≡ 11 ∷ [] }
-    ensures data_is_shared { broken (changed 158 (0 ∷ 0 ∷ 0 ∷ 0x18 ∷ [])) ≡ 12 ∷ [] }
-    ensures data_is_stray { broken (changed 158 (0 ∷ 0 ∷ 0 ∷ 0 ∷ 0x80 ∷ [])) ≡ 12 ∷ [] }
+    ensures data_is_shared { broken (changed_image 158 (0 ∷ 0 ∷ 0 ∷ 0x18 ∷ [])) ≡ 12 ∷ [] }
+    ensures data_is_stray { broken (changed_image 158 (0 ∷ 0 ∷ 0 ∷ 0 ∷ 0x80 ∷ [])) ≡ 12 ∷ [] }
     ensures header_is_stray { broken (two_databases 0x04000010 0x14 0x18 0x41 0x42) ≡ 13 ∷ [] }
 {}
 
 /// Changes that break several parts.
 fn parts_break_together()
-    ensures directory_lists_itself { broken (changed 59 (0x10 ∷ [])) ≡ 4 ∷ 5 ∷ 6 ∷ 12 ∷ 13 ∷ [] }
-    ensures an_entry_too_many { broken (changed 149 (3 ∷ [])) ≡ 6 ∷ 8 ∷ 9 ∷ [] }
-    ensures data_is_a_header { broken (changed 158 (0 ∷ 0 ∷ 0 ∷ 0x14 ∷ [])) ≡ 8 ∷ 12 ∷ [] }
-    ensures no_data { broken (changed 158 (0 ∷ 0 ∷ 0 ∷ 0 ∷ [])) ≡ 8 ∷ 12 ∷ [] }
-    ensures no_directory { broken (changed 15 (0 ∷ [])) ≡ 12 ∷ 13 ∷ [] }
+    ensures directory_lists_itself { broken (changed_image 59 (0x10 ∷ [])) ≡ 4 ∷ 5 ∷ 6 ∷ 12 ∷ 13 ∷ [] }
+    ensures an_entry_too_many { broken (changed_image 149 (3 ∷ [])) ≡ 6 ∷ 8 ∷ 9 ∷ [] }
+    ensures data_is_a_header { broken (changed_image 158 (0 ∷ 0 ∷ 0 ∷ 0x14 ∷ [])) ≡ 8 ∷ 12 ∷ [] }
+    ensures no_data { broken (changed_image 158 (0 ∷ 0 ∷ 0 ∷ 0 ∷ [])) ≡ 8 ∷ 12 ∷ [] }
+    ensures no_directory { broken (changed_image 15 (0 ∷ [])) ≡ 12 ∷ 13 ∷ [] }
     ensures listed_twice { broken (two_databases 0x10 0x14 0x14 0x41 0x42) ≡ 3 ∷ 11 ∷ 13 ∷ [] }
 {}
 

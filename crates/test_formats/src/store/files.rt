@@ -4,7 +4,7 @@ ghost use Rattle.std.specs.Prelude.{◌≡◌, ◌++◌, ℕ, List, [], ◌∷�
 ghost use Rattle.heap_model.specs.Database.{a_record, a_resource, name_in, database_in};
 ghost use Rattle.heap_model.specs.Store.{unique_ids};
 ghost use Rattle.heap_model.specs.Files.{blocks_in, kept_ids, HaveIds, Reads, file_of};
-ghost use Rattle.test_formats.specs.Files.{header, header_read, empty_file, order_file, order_written, ids_file, resource_file, backward_file, odd_file, noisy_name};
+ghost use Rattle.test_formats.specs.Files.{header, sample_header, empty_file, order_file, order_written, ids_file, resource_file, backward_file, odd_file, noisy_name};
 
 /// Blocks end where the next begins; of those at one offset all but the last are empty.
 fn blocks_are_read()
@@ -44,10 +44,10 @@ fn names_are_read()
 /// The files read as these.
 fn files_are_read()
     ensures empty { Reads empty_file
-        (record { header = header_read (codes "Empty") 0; app_info = None; sort_info = None; entries = [] }) }
+        (record { header = sample_header (codes "Empty") 0; app_info = None; sort_info = None; entries = [] }) }
     ensures order { Reads order_file
         (record {
-          header = header_read (codes "Order") 2;
+          header = sample_header (codes "Order") 2;
           app_info = None;
           sort_info = None;
           entries = a_record 0 1 (Some []) ∷ a_record 3 5 (Some (replicate 4 0x42)) ∷ a_record 0 2 (Some (replicate 4 0x43)) ∷ [];
@@ -57,11 +57,11 @@ fn files_are_read()
 /// The file of a database: two zeros follow the entries, and no record is busy.
 fn files_are_written()
     ensures empty { file_of
-        (record { header = header_read (codes "Empty") 0; app_info = None; sort_info = None; entries = [] })
+        (record { header = sample_header (codes "Empty") 0; app_info = None; sort_info = None; entries = [] })
         ≡ empty_file ++ 0 ∷ 0 ∷ [] }
     ensures order { file_of
         (record {
-          header = header_read (codes "Order") 2;
+          header = sample_header (codes "Order") 2;
           app_info = None;
           sort_info = None;
           entries = a_record 0 1 (Some []) ∷ a_record 3 5 (Some (replicate 4 0x42)) ∷ a_record 0x20 2 (Some (replicate 4 0x43)) ∷ [];
@@ -69,7 +69,7 @@ fn files_are_written()
         ≡ order_written }
     ensures blocks { file_of
         (record {
-          header = header_read (0x41 ∷ []) 0;
+          header = sample_header (0x41 ∷ []) 0;
           app_info = Some (1 ∷ 2 ∷ []);
           sort_info = Some [];
           entries = a_record 0xA0 9 None ∷ a_record 0 8 (Some (3 ∷ [])) ∷ [];
@@ -81,7 +81,7 @@ fn files_are_written()
 fn resources_are_written()
     ensures { file_of
         (record {
-          header = record (header_read (codes "Tiny") 0) { attributes = 1; version = 1; kind = 0x6170706C };
+          header = record (sample_header (codes "Tiny") 0) { attributes = 1; version = 1; kind = 0x6170706C };
           app_info = None;
           sort_info = None;
           entries = a_resource 0x74535452 1000 (Some (0x48 ∷ 0x69 ∷ 0 ∷ [])) ∷ a_resource 0x74535452 1001 (Some (0x59 ∷ 0x6F ∷ 0 ∷ [])) ∷ [];

@@ -8,13 +8,13 @@ use std::test::*;
 use test_support::{RefusesOne, equal};
 
 /// The attribute of a record that is deleted, above its ID. Such a record needs no data.
-const DELETED: u32 = 0x8000_0000;
+const DELETED_ABOVE_ID: u32 = 0x8000_0000;
 
 /// The bytes of a file of records with this field of a seed, and these IDs.
 fn file_of(alloc: Global, seed: u32, ids: &[u32]) -> Result<Vec<u8>, AllocError> {
     let mut entries = Vec::new(alloc);
     for id in ids {
-        entries.push(DELETED | *id)?;
+        entries.push(DELETED_ABOVE_ID | *id)?;
     }
     database(alloc, seed, &entries)
 }

@@ -9,12 +9,12 @@ use std::test::*;
 use test_support::{bytes_of, equal};
 
 /// A file of records without their data: each number of the header is another one.
-const RECORDS: &str = "4f7264657273 00*26 \
+const RECORDS_HEADER: &str = "4f7264657273 00*26 \
     0008 0102 b1000001 b2000002 b3000003 00000007 0000006a 0000006b 44415441 54657374 07000002 00000000 0002 \
     0000006c e3 000001 00000070 05 ffffff";
 
 /// A file of resources without their data.
-const RESOURCES: &str = "54696e79 00*28 \
+const RESOURCES_HEADER: &str = "54696e79 00*28 \
     0001 0001 00*24 6170706c 54657374 00000000 00000000 0002 \
     74535452 03e8 00000064 74535452 03e9 00000067";
 
@@ -62,7 +62,7 @@ static NUMBERS: [u32; 12] = [
 
 #[test]
 fn a_header_is_read(rt: HostRuntime) -> Result<(), Fail> {
-    let header = header_of(&bytes_of(rt.alloc(), RECORDS)?)?;
+    let header = header_of(&bytes_of(rt.alloc(), RECORDS_HEADER)?)?;
     let found = (header.name.name(), numbers_of(&header));
     equal("name, numbers", found, (b"Orders".as_slice(), NUMBERS))
 }
@@ -75,7 +75,7 @@ fn check_written_back(listing: &str, file: &[u8]) -> Result<(), Fail> {
 
 #[test]
 fn a_header_is_written_back(rt: HostRuntime) -> Result<(), Fail> {
-    for listing in &[RECORDS, RESOURCES] {
+    for listing in &[RECORDS_HEADER, RESOURCES_HEADER] {
         check_written_back(listing, &bytes_of(rt.alloc(), listing)?)?;
     }
     Ok(())
@@ -83,7 +83,7 @@ fn a_header_is_written_back(rt: HostRuntime) -> Result<(), Fail> {
 
 #[test]
 fn records_are_read_and_written_back(rt: HostRuntime) -> Result<(), Fail> {
-    check_records(&bytes_of(rt.alloc(), RECORDS)?)
+    check_records(&bytes_of(rt.alloc(), RECORDS_HEADER)?)
 }
 
 fn check_records(file: &[u8]) -> Result<(), Fail> {
@@ -115,7 +115,7 @@ fn check_first(file: &[u8], slot: u32, bytes: &[u8]) -> Result<(), Fail> {
 
 #[test]
 fn resources_are_read_and_written_back(rt: HostRuntime) -> Result<(), Fail> {
-    check_resources(&bytes_of(rt.alloc(), RESOURCES)?)
+    check_resources(&bytes_of(rt.alloc(), RESOURCES_HEADER)?)
 }
 
 fn check_resources(file: &[u8]) -> Result<(), Fail> {
@@ -162,7 +162,7 @@ fn check_padding(file: &mut [u8], last: u8, is_right: bool) -> Result<(), Fail> 
 
 #[test]
 fn zeros_stand_behind_a_name(rt: HostRuntime) -> Result<(), Fail> {
-    let mut file = bytes_of(rt.alloc(), RECORDS)?;
+    let mut file = bytes_of(rt.alloc(), RECORDS_HEADER)?;
     check_padding(&mut file, 0, true)?;
     check_padding(&mut file, 1, false)
 }

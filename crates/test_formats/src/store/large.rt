@@ -45,10 +45,10 @@ fn second_word(owner: u32, number: u32, at: u32) -> u32 {
 }
 
 /// The most bytes that an image has.
-const MOST: u32 = 16_777_208;
+const MOST_IMAGE: u32 = 16_777_208;
 
 /// Where the records of such an image have their entries and their chunks.
-const ENTRIES: u32 = 262_262;
+const ENTRIES_AT: u32 = 262_262;
 
 const CHUNKS: u32 = 786_528;
 
@@ -56,19 +56,19 @@ const CHUNKS: u32 = 786_528;
 /// database that has a record for each slot but two. After the chunks of these a free one takes
 /// what is left.
 static HEADS: [(u32, &[u32]); 6] = [
-    (0, &[0x5048_4931, MOST, 0xFFFF_0000, 16]),
+    (0, &[0x5048_4931, MOST_IMAGE, 0xFFFF_0000, 16]),
     (16, &[262_168, 262_184]),
     (262_160, &[0x0400_0010, 0x00FE_0000, 20]),
     (262_176, &[0x0208_0040, 0x00FD_FFFA, 0x5200_0000]),
     (262_258, &[65_533]),
-    (1_310_792, &[0x8000_0000 | MOST - 1_310_792]),
+    (1_310_792, &[0x8000_0000 | MOST_IMAGE - 1_310_792]),
 ];
 
 /// An image with these, and records without a byte.
 fn many_records(alloc: Global) -> Result<Region, Fail>
     ensures { IfOk result (λ region. region.lents ≡ []) }
 {
-    let mut region = Region::zeroed(alloc, MOST)?;
+    let mut region = Region::zeroed(alloc, MOST_IMAGE)?;
     put_heads(&mut region)?;
     for index in 0..65_533 {
         put_record(&mut region, index)?;
@@ -95,7 +95,7 @@ fn put_record(region: &mut Region, index: u32) -> Result<(), Fail>
         index.wrapping_mul(4).wrapping_add(24),
         index.wrapping_mul(8).wrapping_add(CHUNKS),
     );
-    let entry = index.wrapping_mul(8).wrapping_add(ENTRIES);
+    let entry = index.wrapping_mul(8).wrapping_add(ENTRIES_AT);
     put_all(region, entry, &[slot, index.wrapping_add(1)])?;
     put(region, slot, at.wrapping_add(8))?;
     let second = second_word(0x0F00_0000, index.wrapping_add(2), at);

@@ -7,7 +7,7 @@ use raw_region::Region;
 use std::alloc::{AllocError, Global};
 use std::test::*;
 use store_check::check_store_from;
-use test_support::{DATABASE, RefusesOne, equal, image};
+use test_support::{ONE_DATABASE, RefusesOne, equal, image};
 
 /// The number of allocations that are granted, changes of the image, and what is found: marks for
 /// slots come first, and then a set of IDs.
@@ -34,7 +34,7 @@ fn found_with(alloc: Global, granted: u32, region: &Region) -> Result<String, Al
 }
 
 fn check_granted(alloc: Global, (granted, changes, text): Granted) -> Result<(), Fail> {
-    let region = image(alloc, DATABASE, changes)?;
+    let region = image(alloc, ONE_DATABASE, changes)?;
     let found = found_with(alloc, granted, &region)?;
     equal(
         format_args!("{granted} growths, changed: {changes}"),

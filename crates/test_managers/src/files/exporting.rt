@@ -15,13 +15,13 @@ use std::test::*;
 use test_support::{Narrow, RefusesOne, WhenFull, bytes_of, equal};
 
 /// The file of `make_records`. Its blocks stand at 0x70, 0x73, 0x75 and 0x7a.
-const RECORDS: &str = "4e6f746573 00*27 \
+const RECORDS_EXPORTED: &str = "4e6f746573 00*27 \
     0000 0000 c0000001 c0000001 00000000 00000008 00000070 00000073 44415441 54657374 00000004 00000000 0004 \
     00000075 40 000001 0000007a c0 000002 00000000 c0 000003 0000007e 40 000004 0000 \
     616263 0102 6669727374 6b657074";
 
 /// The file of `make_resources`.
-const RESOURCES: &str = "50 00*31 \
+const RESOURCES_EXPORTED: &str = "50 00*31 \
     0001 0000 00000005 00000005 00000000 00000002 00000000 00000000 6170706c 54657374 00000000 00000000 0002 \
     636f6465 0001 00000064 74535452 03e8 00000067 0000 \
     72756e";
@@ -150,7 +150,7 @@ fn check_file(alloc: Global, store: &Store, db: Db, listing: &str) -> Result<(),
 fn records_have_their_file(rt: HostRuntime) -> Result<(), Fail> {
     let mut store = blank_store(rt.alloc(), 1024, 32)?;
     let db = make_records(&mut store)?;
-    check_file(rt.alloc(), &store, db, RECORDS)
+    check_file(rt.alloc(), &store, db, RECORDS_EXPORTED)
 }
 
 #[test]
@@ -158,7 +158,7 @@ fn resources_have_their_file(rt: HostRuntime) -> Result<(), Fail> {
     let mut store = blank_store(rt.alloc(), 1024, 32)?;
     make_records(&mut store)?;
     let db = make_resources(&mut store)?;
-    check_file(rt.alloc(), &store, db, RESOURCES)
+    check_file(rt.alloc(), &store, db, RESOURCES_EXPORTED)
 }
 
 /// No database has this number.

@@ -13,19 +13,20 @@ use std::test::*;
 use test_support::{EMPTY_FILE, ORDER_FILE, TINY_FILE, bytes_of, equal};
 
 /// A file of two records, whose seed is the last but one.
-const IDS: &str = "496473 00*29 0000 0000 00*24 44415441 54657374 07fffffe 00000000 0002 \
+const LAST_SEED_IMPORTED: &str =
+    "496473 00*29 0000 0000 00*24 44415441 54657374 07fffffe 00000000 0002 \
     00000060 00 ffffff 00000060 00 000001 0000";
 
 /// A file of two records with both info blocks, which stand against their order, and none of which
 /// is empty.
-const BACKWARD: &str = "4261636b 00*28 \
+const BACKWARD_IMPORTED: &str = "4261636b 00*28 \
     0000 0000 00*16 00000064 00000062 44415441 54657374 00000000 00000000 0002 \
     00000060 00 000001 0000005e 00 000002 01 02 03 04 05 06 07";
 
 /// A file of five records with both info blocks. No zero ends its name. Bytes before the first
 /// block belong to none, three blocks begin at one offset, a deleted record has no data, another's
 /// begins where the file ends, and three records have one ID.
-const ODD: &str = "4141414141414141414141414141414141414141414141414141414141414141 \
+const ODD_IMPORTED: &str = "4141414141414141414141414141414141414141414141414141414141414141 \
     fff8 0102 00000001 00000002 00000003 00000004 0000007c 0000007c 44415441 54657374 b0ffffff 00000000 0005 \
     0000007c 33 000007 00000078 00 000007 00000000 e0 000007 00000082 a0 000000 0000007a 40 000009 \
     0909 01 02 03 04 05 06 07 08 09 0a";
@@ -45,11 +46,11 @@ static RECORDS_READ: [(&str, &[Read]); 4] = [
         ],
     ),
     (
-        BACKWARD,
+        BACKWARD_IMPORTED,
         &[(0x00, 1, Some("03 04")), (0x00, 2, Some("01 02"))],
     ),
     (
-        ODD,
+        ODD_IMPORTED,
         &[
             (0x13, 7, Some("05 06 07 08 09 0a")),
             (0x00, 1, Some("01 02")),
@@ -163,14 +164,17 @@ fn records_are_read(rt: HostRuntime) -> Result<(), Fail> {
 }
 
 /// A file of no records whose AppInfo block begins where it ends.
-const EMPTY_BLOCK: &str = "456d707479 00*27 0000 0000 00*16 0000004E 00000000 \
+const EMPTY_BLOCK_IMPORTED: &str = "456d707479 00*27 0000 0000 00*16 0000004E 00000000 \
     44415441 54657374 00000000 00000000 0000";
 
 /// Files, and their info blocks.
 static BLOCKS_READ: [(&str, &[(Which, &str)]); 3] = [
-    (BACKWARD, &[(Which::App, "07"), (Which::Sort, "05 06")]),
-    (ODD, &[(Which::App, ""), (Which::Sort, "")]),
-    (EMPTY_BLOCK, &[(Which::App, "")]),
+    (
+        BACKWARD_IMPORTED,
+        &[(Which::App, "07"), (Which::Sort, "05 06")],
+    ),
+    (ODD_IMPORTED, &[(Which::App, ""), (Which::Sort, "")]),
+    (EMPTY_BLOCK_IMPORTED, &[(Which::App, "")]),
 ];
 
 #[test]
@@ -182,7 +186,7 @@ fn info_blocks_are_read(rt: HostRuntime) -> Result<(), Fail> {
     Ok(())
 }
 
-/// What the header of `ODD` says.
+/// What the header of `ODD_IMPORTED` says.
 fn odd_header() -> DbInfo {
     DbInfo {
         name: DbName::of(&[0x41; 31]),
@@ -202,7 +206,7 @@ fn odd_header() -> DbInfo {
 #[test]
 fn headers_are_read(rt: HostRuntime) -> Result<(), Fail> {
     let mut store = blank_store(rt.alloc(), 1024, 32)?;
-    let db = import_listed(rt.alloc(), &mut store, ODD)??;
+    let db = import_listed(rt.alloc(), &mut store, ODD_IMPORTED)??;
     equal("its header", store.database_info(db)?, odd_header())
 }
 
@@ -221,7 +225,7 @@ fn bytes_behind_a_name_are_passed_over(rt: HostRuntime) -> Result<(), Fail> {
 #[test]
 fn the_seed_goes_on(rt: HostRuntime) -> Result<(), Fail> {
     let mut store = blank_store(rt.alloc(), 1024, 16)?;
-    let db = import_listed(rt.alloc(), &mut store, IDS)??;
+    let db = import_listed(rt.alloc(), &mut store, LAST_SEED_IMPORTED)??;
     check_new(&mut store, db)?;
     let info = store.database_info(db)?;
     equal(

@@ -1,6 +1,6 @@
 //! Which images are taken as heaps.
 
-use crate::heap::images::{FIVE, ODD};
+use crate::heap::images::{FIVE, ODD_IMAGE};
 use mem_manager::Heap;
 use raw_region::Region;
 use std::alloc::Global;
@@ -34,7 +34,7 @@ impl Finding for Adopting {
     }
 }
 
-static IMAGES: [&str; 3] = [BLANK, FIVE, ODD];
+static IMAGES: [&str; 3] = [BLANK, FIVE, ODD_IMAGE];
 
 #[test]
 fn images_with_a_flipped_bit(rt: HostRuntime) -> Result<(), Fail> {

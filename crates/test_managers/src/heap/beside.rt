@@ -1,13 +1,15 @@
 //! A call on a heap, and the same on the plain model next to it.
 
-ghost use Rattle.std.specs.Prelude.{[], ◌≡◌, IfOk, None};
+ghost use Rattle.std.specs.Prelude.{[], ◌≡◌, ℕ, IfOk, None};
+ghost use Rattle.heap_model.specs.Lending.{IsLent};
+ghost use Rattle.heap_model.specs.Space.{place_of};
 
 use crate::heap::calls::do_call;
 use crate::heap::linked::{are_built, class_with_a_gap};
-use heap_model::{MemoryCall, Name, Refusal, Reply};
+use heap_model::{MemoryCall, Name, Place, Reply};
 use mem_manager::Heap;
 use raw_region::Region;
-use std::alloc::Global;
+use std::alloc::{AllocError, Global};
 use std::test::*;
 use test_beside::body_of;
 use test_model::{Image, PlainHeap, broken_rule};
@@ -47,7 +49,9 @@ impl Beside {
         Ok(())
     }
 
-    /// Does a call on both, and checks what came of it.
+    /// Does a call on both, and checks what came of it. The bytes that are out of the model are out
+    /// of the heap during the call. They are put back after it as they were, and must stand where
+    /// they stood.
     pub(crate) fn call(
         &mut self,
         alloc: Global,
@@ -55,40 +59,44 @@ impl Beside {
         call: &MemoryCall,
     ) -> Result<Reply, Fail> {
         let before = Vec::from_slice(alloc, self.heap.image())?;
-        let reply = do_call(alloc, &mut self.heap, call);
+        let names = Vec::from_slice(alloc, self.chunks.lent())?;
+        let (reply, lent) = reply_while_lent(alloc, &mut self.heap, &names, call)?;
         self.check(alloc, spot, (call, &reply), &before)?;
+        if !names.is_empty() {
+            self.check_lent(alloc, spot, &lent, &before)?;
+        }
         Ok(reply)
     }
 
-    /// Does a call on both while the bytes under a name are out. They are put back after it, as
-    /// they were.
-    pub(crate) fn call_lent(
-        &mut self,
-        alloc: Global,
-        name: Name,
-        spot: &str,
-        call: &MemoryCall,
-    ) -> Result<Reply, Fail> {
-        let before = Vec::from_slice(alloc, self.heap.image())?;
-        let reply = reply_while_lent(alloc, &mut self.heap, name, call)?;
-        let bytes = Vec::from_slice(alloc, self.chunks.take_out(name)?)?;
-        self.check(alloc, spot, (call, &reply), &before)?;
-        self.chunks.put_back(&bytes);
-        self.check_stays(alloc, spot, name, &before)?;
-        Ok(reply)
+    /// The bytes of some names are out from now on.
+    pub(crate) fn take_out(&mut self, names: &[Name]) -> Result<(), Fail> {
+        for name in names {
+            self.chunks.take_out_also(*name)?;
+        }
+        Ok(())
     }
 
-    /// The chunk of a name must have its place and its length of an earlier image.
-    fn check_stays(
+    /// The bytes of a name are put back.
+    pub(crate) fn put_back(&mut self, name: Name) {
+        self.chunks.put_back(name, b"");
+    }
+
+    /// The chunks of lent names must have their places and their lengths of an earlier image, and
+    /// the heap must have named just these, in order.
+    fn check_lent(
         &self,
         alloc: Global,
         spot: &str,
-        name: Name,
+        lent: &[Name],
         before: &[u8],
     ) -> Result<(), Fail> {
         let before = Image::decode(alloc, before)?;
         let after = Image::decode(alloc, self.heap.image())?;
-        equal(spot, body_of(&after, name), body_of(&before, name))
+        equal(spot, lent, self.chunks.loans(alloc, &before)?.as_slice())?;
+        for name in lent {
+            equal(spot, body_of(&after, *name), body_of(&before, *name))?;
+        }
+        Ok(())
     }
 
     /// Checks a call that was done on the heap, with the image that was there before.
@@ -143,20 +151,42 @@ fn check_left(alloc: Global, spot: &str, are_built: bool, image: &Image) -> Resu
     Ok(())
 }
 
-/// Does a call on a heap while the bytes under a name are out, and puts them back.
+/// Does a call on a heap while the bytes under some names are out, and puts them back. Returns the
+/// reply, and the names that the heap lent during the call.
 fn reply_while_lent(
     alloc: Global,
     heap: &mut Heap,
-    name: Name,
+    names: &[Name],
     call: &MemoryCall,
-) -> Result<Reply, Refusal>
-    requires { heap.old.lents ≡ [] }
-    ensures { heap.new.lents ≡ [] }
+) -> Result<(Reply, Vec<Name>), Fail>
+    ensures lent { heap.new.lents ≡ heap.old.lents }
+    ensures places { (name : ℕ) → IsLent heap.old name
+        → place_of heap.new.bytes name ≡ place_of heap.old.bytes name }
 {
-    let loan = heap.take_out(name)?;
-    let reply = do_call(alloc, heap, call);
+    let Some((name, others)) = names.split_first() else {
+        let lent = loans_of(alloc, heap)?;
+        return Ok((do_call(alloc, heap, call), lent));
+    };
+    let loan = heap.take_out_also(*name)?;
+    let replied = reply_while_lent(alloc, heap, others, call);
     heap.put_back(loan);
-    Ok(reply)
+    replied
+}
+
+/// The names that a heap lends, in order of their places: up to 100.
+fn loans_of(alloc: Global, heap: &Heap) -> Result<Vec<Name>, AllocError> {
+    let mut names = Vec::new(alloc);
+    let mut place = Place(0);
+    for _ in 0..100u32 {
+        match heap.loan_above(place) {
+            Some((name, next)) => {
+                names.push(name)?;
+                place = next;
+            }
+            None => break,
+        }
+    }
+    Ok(names)
 }
 
 /// The heap of a region.

@@ -3,7 +3,6 @@
 
 use crate::heap::beside::Beside;
 use crate::notation::{check_reply, memory_call_of, sides_of};
-use heap_model::Name;
 use std::alloc::Global;
 use std::test::*;
 use test_support::image;
@@ -40,23 +39,6 @@ pub(crate) fn check_on(
             beside.adopt_anew(alloc)?;
         }
         check_line(alloc, beside, about, line.trim())?;
-    }
-    Ok(())
-}
-
-/// Does the calls of some lines, each while the bytes under a name are out.
-pub(crate) fn check_lent_on(
-    alloc: Global,
-    beside: &mut Beside,
-    name: Name,
-    (about, lines): (&str, &str),
-) -> Result<(), Fail> {
-    for line in lines.lines() {
-        let line = line.trim();
-        let spot = format!(in alloc; "{about}: {line}")?;
-        let (call, right) = sides_of(line)?;
-        let reply = beside.call_lent(alloc, name, spot.as_str(), &memory_call_of(alloc, call)?)?;
-        check_reply(alloc, spot.as_str(), &reply, right)?;
     }
     Ok(())
 }

@@ -213,7 +213,7 @@ const PLACES: &str = "handle_new 32 1 = named 16
     recover 4294967295 = refused InvalidHandle";
 
 /// The table is made at 32, with its slots from 36 on.
-const TABLES: &str = "more_slots = done
+const TABLES_ADDED: &str = "more_slots = done
     more_slots = refused NotEnoughSpace
     size 32 = refused InvalidHandle
     free 32 = refused InvalidHandle
@@ -266,7 +266,7 @@ static EXAMPLES: [Example; 15] = [
     ("a fixed chunk has no lock count", ONE_SLOT, WITH_FIXED),
     ("all chunks of an owner go", BLANK, OF_OWNERS),
     ("a place gives its name back", BLANK, PLACES),
-    ("a table is made, and has no name", CHAINED, TABLES),
+    ("a table is made, and has no name", CHAINED, TABLES_ADDED),
     ("a table takes all that is free", CHAINED, TABLE_OF_ALL),
     ("one table stays alone", BLANK, ONE_TABLE),
 ];

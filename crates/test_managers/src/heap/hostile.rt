@@ -93,7 +93,7 @@ fn unjoined(alloc: Global, second: u32) -> Result<Region, Fail>
 /// none.
 static SECONDS: [u32; 7] = [0xFFFF_FFFF, 0x8000_0020, 32, 40, 248, 36, 0];
 
-const MADE_AND_FREED: &str = "free_bytes = 224
+const HOSTILE_MADE_AND_FREED: &str = "free_bytes = 224
     handle_new 100 1 = named 16
     handle_new 8 1 = named 20
     free 16 = done
@@ -108,7 +108,12 @@ const MADE_AND_FREED: &str = "free_bytes = 224
 
 fn check_unjoined(alloc: Global, second: u32) -> Result<(), Fail> {
     let mut beside = Beside::new(alloc, unjoined(alloc, second)?)?;
-    check_on(alloc, &mut beside, ("unjoined", MADE_AND_FREED), false)
+    check_on(
+        alloc,
+        &mut beside,
+        ("unjoined", HOSTILE_MADE_AND_FREED),
+        false,
+    )
 }
 
 #[test]

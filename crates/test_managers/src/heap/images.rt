@@ -40,7 +40,7 @@ pub(crate) const LARGE: &str =
 /// aren't joined, bits and bytes in free chunks that mean nothing, slack that isn't zero, slots in
 /// another order than their chunks. From 40 on: two free chunks, a locked one of a database's, a
 /// header of the manager's, a free one, the directory, one of no bytes, and the rest free.
-pub(crate) const ODD: &str =
+pub(crate) const ODD_IMAGE: &str =
     "50484931 00000100 0005 0000 00000020 000000B0 00000000 00000070 00000058 00000098 00*4 \
     FF000010 12345678 00*4 00000010 F1000018 F5000000 00000010 01FFFFD8 00*8 \
     05000018 3FFFFFE6 414243FF FFFFFFFF 00*8 02000018 00FFFFD8 00*4 55555555 00*8 80000010 00*12 \

@@ -3,7 +3,7 @@
 ghost use Rattle.std.specs.Prelude.{[], ◌≡◌};
 
 use crate::heap::beside::Beside;
-use crate::heap::images::{FIVE, LARGE, ODD};
+use crate::heap::images::{FIVE, LARGE, ODD_IMAGE};
 use heap_model::MemoryCall;
 use rand_pcg::Pcg32;
 use raw_region::Region;
@@ -111,7 +111,7 @@ fn lists_from_images_with_chunks(rt: HostRuntime) -> Result<(), Fail> {
     for seed in 21..29u64 {
         run_listed(rt.alloc(), FIVE, (seed, 300))?;
         run_listed(rt.alloc(), LARGE, (seed, 600))?;
-        run_listed(rt.alloc(), ODD, (seed, 300))?;
+        run_listed(rt.alloc(), ODD_IMAGE, (seed, 300))?;
     }
     Ok(())
 }

@@ -5,9 +5,9 @@ ghost use Rattle.std.specs.Prelude.{[], ◌≡◌, None};
 ghost use Rattle.heap_model.specs.Lending.{KeepsLoan};
 
 use crate::heap::beside::{Beside, adopt};
-use crate::heap::by_hand::{check_lent_on, check_on};
+use crate::heap::by_hand::check_on;
 use crate::heap::calls::do_call;
-use crate::heap::images::{CHAINED, FIVE, LARGE, ODD};
+use crate::heap::images::{CHAINED, FIVE, LARGE, ODD_IMAGE};
 use heap_model::{Bytes, MemoryCall, Name, Refusal};
 use mem_manager::Heap;
 use rand::RngExt;
@@ -19,9 +19,15 @@ use test_beside::memory_call;
 use test_model::Image;
 use test_support::{BLANK, equal, image};
 
-/// What an example is about, the listing of its image, lines, the name whose bytes are lent then,
+/// What an example is about, the listing of its image, lines, the names whose bytes are lent then,
 /// and the lines of the calls that are done meanwhile.
-type Example = (&'static str, &'static str, &'static str, u32, &'static str);
+type Example = (
+    &'static str,
+    &'static str,
+    &'static str,
+    &'static [Name],
+    &'static str,
+);
 
 /// A chunk of 10 bytes with a lock, a free one of 16, one of owner 2 with 16 bytes, and 24 bytes
 /// that are free.
@@ -146,17 +152,183 @@ const OF_CHAINED: &str = "handle_new 0 1 = refused NotEnoughSpace
     more_slots = refused NotEnoughSpace
     read 16 0 0 = refused Lent";
 
+/// Two bodies next to each other, and a third chunk after them, which isn't lent. 32 bytes are free
+/// after it.
+const TWO_TO_BE_LENT: &str = "handle_new 10 1 = named 16
+    handle_new 8 2 = named 20
+    handle_new 16 1 = named 24
+    lock 16 = at 40 locks 1
+    lock 20 = at 64 locks 1";
+
+/// Each of the two is refused as it would be alone, and the third chunk is changed, grows over the
+/// free bytes and goes. No name has a body at the places of the headers.
+const TWO_OUT: &str = "read 16 0 1 = refused Lent
+    read 20 0 1 = refused Lent
+    write 16 0: 41 = refused Lent
+    write 20 0: 41 = refused Lent
+    unlock 16 = refused Lent
+    unlock 20 = refused Lent
+    resize 16 17 = refused Lent
+    resize 20 0 = refused Lent
+    free 16 = refused ChunkLocked
+    free 20 = refused ChunkLocked
+    lock 24 = at 80 locks 1
+    write 24 0: 4142 = done
+    read 24 0 2 = x4142
+    unlock 24 = 0
+    resize 24 40 = done
+    free_bytes = 8
+    free_by_owner 1 = refused Lent
+    free_by_owner 2 = refused Lent
+    free_by_owner 3 = 0
+    recover 40 = named 16
+    recover 64 = named 20
+    recover 80 = named 24
+    recover 48 = refused InvalidHandle
+    recover 56 = refused InvalidHandle
+    set_owner 20 3 = done
+    free_by_owner 2 = 0
+    free_by_owner 3 = refused Lent
+    compact = 0
+    free 24 = done
+    free_bytes = 56
+    free_by_owner 1 = refused Lent";
+
+/// A body of no bytes and the one after it. The first begins where the header of the other does.
+/// Chunks before and after the two aren't lent.
+const NO_BYTES_TO_BE_LENT: &str = "handle_new 8 1 = named 16
+    handle_new 0 2 = named 20
+    handle_new 8 4 = named 24
+    handle_new 8 3 = named 28
+    lock 16 = at 40 locks 1
+    lock 20 = at 56 locks 1
+    lock 24 = at 64 locks 1";
+
+const OF_NO_BYTES: &str = "read 20 0 0 = refused Lent
+    read 24 0 1 = refused Lent
+    read 16 0 2 = x0000
+    write 16 0: 4142 = done
+    read 16 0 2 = x4142
+    lock 24 = at 64 locks 2
+    lock 20 = at 56 locks 2
+    locks 24 = 2
+    size 24 = 8
+    size 20 = 0
+    recover 56 = named 20
+    recover 64 = named 24
+    unlock 20 = refused Lent
+    unlock 24 = refused Lent
+    free_by_owner 2 = refused Lent
+    free_by_owner 4 = refused Lent
+    free_by_owner 3 = 1
+    set_owner 20 3 = done
+    free_by_owner 2 = 0
+    unlock 16 = 0
+    free 16 = done
+    ptr_new 8 1 = named 40
+    free 40 = done
+    compact = 0
+    free_bytes = 72";
+
+/// The same while the body of no bytes alone is out: the one after it is read, written, unlocked,
+/// moved and freed.
+const OF_NEIGHBOUR: &str = "read 20 0 0 = refused Lent
+    write 24 0: 4142 = done
+    read 24 0 2 = x4142
+    unlock 24 = 0
+    recover 64 = named 24
+    resize 24 40 = done
+    read 24 0 2 = x4142
+    free 24 = done
+    free_by_owner 2 = refused Lent
+    recover 56 = named 20
+    free 16 = refused ChunkLocked
+    read 16 0 2 = x0000";
+
+/// Two of owner 3 are lent: one with two locks, and a fixed one. Then each has another owner. The
+/// only free slot is used meanwhile.
+const OF_OWNED: &str = "free_by_owner 3 = refused Lent
+    free 72 = refused Lent
+    free 20 = refused ChunkLocked
+    set_owner 72 4 = done
+    free_by_owner 3 = refused Lent
+    free_by_owner 4 = refused Lent
+    set_owner 20 5 = done
+    free_by_owner 3 = 0
+    free_by_owner 5 = refused Lent
+    read 72 0 1 = refused Lent
+    read 20 0 1 = refused Lent
+    recover 72 = named 72
+    recover 56 = named 20
+    handle_new 8 3 = named 28
+    resize 28 24 = done
+    free_bytes = 0
+    handle_new 0 1 = refused NotEnoughSpace
+    free_by_owner 3 = 1
+    compact = 0
+    free_bytes = 32";
+
+/// Two chunks that stay, with one between them that moves, and free bytes before it.
+const STRETCH_TO_BE_LENT: &str = "handle_new 0 1 = named 16
+    handle_new 8 1 = named 20
+    handle_new 8 2 = named 24
+    handle_new 8 3 = named 28
+    lock 16 = at 40 locks 1
+    lock 28 = at 80 locks 1
+    free 20 = done";
+
+/// The chunk between the two slides to the first of them.
+const OF_STRETCH: &str = "recover 64 = named 24
+    compact = 16
+    recover 48 = named 24
+    recover 64 = refused InvalidHandle
+    lock 24 = at 48 locks 1
+    resize 24 16 = done
+    resize 24 32 = refused ChunkLocked
+    unlock 24 = 0
+    free_bytes = 48
+    largest_stretch = 40
+    handle_new 8 1 = named 20
+    free_by_owner 1 = refused Lent
+    free_by_owner 2 = 1
+    read 28 0 1 = refused Lent
+    read 16 0 0 = refused Lent";
+
+/// A table is made of all free bytes. Its place is no name's.
+const OF_CHAINED_TWO: &str = "handle_new 0 1 = refused NotEnoughSpace
+    more_slots = done
+    free_bytes = 0
+    more_slots = refused NotEnoughSpace
+    recover 32 = named 16
+    recover 48 = named 48
+    recover 64 = refused InvalidHandle
+    free 48 = refused Lent
+    read 16 0 0 = refused Lent
+    compact = 0";
+
 /// Each is about what it is called.
-static EXAMPLES: [Example; 7] = [
-    ("calls are refused", BLANK, TO_BE_LENT, 16, OF_MOVABLE),
-    ("other calls go on", BLANK, TO_BE_LENT, 16, GOES_ON),
-    ("a fixed chunk", FIVE, "locks 72 = 15", 72, OF_FIXED),
-    ("no bytes", BLANK, TO_BE_LENT_EMPTY, 20, OF_EMPTY),
+static EXAMPLES: [Example; 14] = [
+    (
+        "calls are refused",
+        BLANK,
+        TO_BE_LENT,
+        &[Name(16)],
+        OF_MOVABLE,
+    ),
+    ("other calls go on", BLANK, TO_BE_LENT, &[Name(16)], GOES_ON),
+    (
+        "a fixed chunk",
+        FIVE,
+        "locks 72 = 15",
+        &[Name(72)],
+        OF_FIXED,
+    ),
+    ("no bytes", BLANK, TO_BE_LENT_EMPTY, &[Name(20)], OF_EMPTY),
     (
         "a database's chunk",
         FIVE,
         "lock 16 = at 40 locks 1",
-        16,
+        &[Name(16)],
         OF_DATA,
     ),
     (
@@ -164,14 +336,65 @@ static EXAMPLES: [Example; 7] = [
         CHAINED,
         "handle_new 8 1 = named 16
         lock 16 = at 32 locks 1",
-        16,
+        &[Name(16)],
         OF_CHAINED,
+    ),
+    (
+        "two bodies",
+        BLANK,
+        TWO_TO_BE_LENT,
+        &[Name(16), Name(20)],
+        TWO_OUT,
+    ),
+    (
+        "two bodies, the second first",
+        BLANK,
+        TWO_TO_BE_LENT,
+        &[Name(20), Name(16)],
+        TWO_OUT,
+    ),
+    (
+        "no bytes and a neighbour",
+        BLANK,
+        NO_BYTES_TO_BE_LENT,
+        &[Name(20), Name(24)],
+        OF_NO_BYTES,
+    ),
+    (
+        "no bytes next to others",
+        BLANK,
+        NO_BYTES_TO_BE_LENT,
+        &[Name(20)],
+        OF_NEIGHBOUR,
+    ),
+    (
+        "two of an owner",
+        FIVE,
+        "locks 72 = 15",
+        &[Name(20), Name(72)],
+        OF_OWNED,
+    ),
+    (
+        "two around a stretch",
+        BLANK,
+        STRETCH_TO_BE_LENT,
+        &[Name(16), Name(28)],
+        OF_STRETCH,
+    ),
+    (
+        "a table is made while two are out",
+        CHAINED,
+        "handle_new 8 1 = named 16
+        lock 16 = at 32 locks 1
+        ptr_new 8 2 = named 48",
+        &[Name(48), Name(16)],
+        OF_CHAINED_TWO,
     ),
     (
         "nothing else is there",
         BLANK,
         "ptr_new 88 1 = named 40",
-        40,
+        &[Name(40)],
         "free_bytes = 0
         compact = 0
         handle_new 0 1 = refused NotEnoughSpace
@@ -181,11 +404,12 @@ static EXAMPLES: [Example; 7] = [
 
 fn check_example(
     alloc: Global,
-    (about, listing, before, name, lines): Example,
+    (about, listing, before, names, lines): Example,
 ) -> Result<(), Fail> {
     let mut beside = Beside::new(alloc, image(alloc, listing, "")?)?;
     check_on(alloc, &mut beside, (about, before), false)?;
-    check_lent_on(alloc, &mut beside, Name(name), (about, lines))
+    beside.take_out(names)?;
+    check_on(alloc, &mut beside, (about, lines), false)
 }
 
 #[test]
@@ -253,8 +477,49 @@ fn one_body_is_lent_at_a_time(rt: HostRuntime) -> Result<(), Fail> {
     Ok(())
 }
 
+/// Why the bytes of a name can't be taken out also, while those of another one are. If they can, both
+/// are put back, the first taken out first.
+fn refused_also(heap: &mut Heap, first: Name, name: Name) -> Result<Option<Refusal>, Refusal>
+    requires { heap.old.lents ≡ [] }
+    ensures { heap.new.lents ≡ [] }
+{
+    let loan = heap.take_out(first)?;
+    match heap.take_out_also(name) {
+        Ok(other) => {
+            heap.put_back(loan);
+            heap.put_back(other);
+            Ok(None)
+        }
+        Err(refusal) => {
+            heap.put_back(loan);
+            Ok(Some(refusal))
+        }
+    }
+}
+
+/// Names of the same image, and why their bytes can't be taken out also while those of the name 72
+/// are. Only a second loan of one body is refused as lent.
+static ALSO: [(u32, Option<Refusal>); 5] = [
+    (16, Some(Refusal::ChunkNotLocked)),
+    (20, None),
+    (24, Some(Refusal::InvalidHandle)),
+    (28, Some(Refusal::InvalidHandle)),
+    (72, Some(Refusal::Lent)),
+];
+
+#[test]
+fn a_second_body_is_lent_also(rt: HostRuntime) -> Result<(), Fail> {
+    let mut heap = adopt(image(rt.alloc(), FIVE, "")?)?;
+    for (name, why) in &ALSO {
+        let found = refused_also(&mut heap, Name(72), Name(*name))?;
+        equal(*name, found, *why)?;
+        equal(*name, (heap.lent(), heap.is_whole()), (None, true))?;
+    }
+    Ok(())
+}
+
 /// How many calls are done while a body is lent.
-const CALLS: u32 = 12;
+const HEAP_CALLS: u32 = 12;
 
 /// The name of a caller's chunk that stays where it is, drawn from an image.
 fn staying(image: &Image, random: &mut Pcg32) -> Option<Name> {
@@ -271,40 +536,35 @@ fn staying(image: &Image, random: &mut Pcg32) -> Option<Name> {
     None
 }
 
-/// Does the next call of a list on two heaps. The bytes of the name are out of the first during the
-/// call alone, and of the other one from the start of the list. The replies must be the same.
+/// Does the next call of a list on two heaps. What is lent is out of the first during the call
+/// alone, and of the other one from the start of the list. The replies must be the same.
 fn step(
     alloc: Global,
     beside: &mut Beside,
     apart: &mut Heap,
-    name: Option<Name>,
     random: &mut Pcg32,
 ) -> Result<(), Fail>
     ensures lent { apart.new.lents ≡ apart.old.lents }
     ensures loan { KeepsLoan apart.old apart.new }
 {
     let call = memory_call(random, alloc, &Image::decode(alloc, beside.image())?)?;
-    let spot = format!(in alloc; "{call:?} while {name:?} is lent")?;
-    let reply = match name {
-        Some(name) => beside.call_lent(alloc, name, spot.as_str(), &call)?,
-        None => beside.call(alloc, spot.as_str(), &call)?,
-    };
+    let spot = format!(in alloc; "{call:?}")?;
+    let reply = beside.call(alloc, spot.as_str(), &call)?;
     equal(spot.as_str(), do_call(alloc, apart, &call), reply)
 }
 
-/// Does some calls on two heaps while the bytes of a name are out.
+/// Does some calls on two heaps.
 fn go_on(
     alloc: Global,
     beside: &mut Beside,
     apart: &mut Heap,
-    name: Name,
     random: &mut Pcg32,
 ) -> Result<(), Fail>
     ensures lent { apart.new.lents ≡ apart.old.lents }
     ensures loan { KeepsLoan apart.old apart.new }
 {
-    for _ in 0..CALLS {
-        step(alloc, beside, apart, Some(name), random)?;
+    for _ in 0..HEAP_CALLS {
+        step(alloc, beside, apart, random)?;
     }
     Ok(())
 }
@@ -320,15 +580,15 @@ fn go_on_lent(
     ensures { apart.new.lents ≡ apart.old.lents }
 {
     let mut loan = apart.take_out(name)?;
-    let done = go_on(alloc, beside, apart, name, random);
+    let done = go_on(alloc, beside, apart, random);
     let first: &[u8] = if loan.len() > 0 { b"L" } else { b"" };
     loan.write(0, first);
     apart.put_back(loan);
     done
 }
 
-/// Lends the bytes of a name for some calls that write the first of them. Both heaps must have the
-/// same image then.
+/// Lends the bytes of a name on both heaps for some calls that write the first of them. Both must
+/// have the same image then.
 fn lend(
     alloc: Global,
     beside: &mut Beside,
@@ -339,7 +599,9 @@ fn lend(
     requires { apart.old.lents ≡ [] }
     ensures { apart.new.lents ≡ [] }
 {
+    beside.take_out(&[name])?;
     go_on_lent(alloc, beside, apart, name, random)?;
+    beside.put_back(name);
     let first: &[u8] = if apart.size(name)? > 0 { b"L" } else { b"" };
     let write = MemoryCall::Write {
         name,
@@ -366,7 +628,7 @@ fn run_list(alloc: Global, region: Region, seed: u64) -> Result<u32, Fail>
                 lend(alloc, &mut beside, &mut apart, name, &mut random)?;
                 lent = lent.saturating_add(1);
             }
-            None => step(alloc, &mut beside, &mut apart, None, &mut random)?,
+            None => step(alloc, &mut beside, &mut apart, &mut random)?,
         }
     }
     Ok(lent)
@@ -376,10 +638,10 @@ fn run_list(alloc: Global, region: Region, seed: u64) -> Result<u32, Fail>
 fn lists_of_calls_while_bodies_are_lent(rt: HostRuntime) -> Result<(), Fail> {
     let mut lent = 0u32;
     for seed in 61..66u64 {
-        for listing in &[BLANK, FIVE, LARGE, ODD, CHAINED] {
+        for listing in &[BLANK, FIVE, LARGE, ODD_IMAGE, CHAINED] {
             let more = run_list(rt.alloc(), image(rt.alloc(), listing, "")?, seed)?;
             lent = lent.saturating_add(more);
         }
     }
-    equal("1,000 calls", lent.saturating_mul(CALLS) >= 1000, true)
+    equal("1,000 calls", lent.saturating_mul(HEAP_CALLS) >= 1000, true)
 }

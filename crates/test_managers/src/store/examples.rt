@@ -8,7 +8,7 @@ use test_support::TWO_DATABASES;
 
 /// The first database is deleted once one of its info blocks isn't locked, and the other once an
 /// info block and the data of two records aren't.
-const DELETED: [Step; 10] = [
+const DELETED_DATABASES: [Step; 10] = [
     Step::Does("lock 56 = at 552 locks 1"),
     Step::Does("delete 24 = refused ChunkLocked"),
     Step::Unlocks(Name(56), 1),
@@ -41,7 +41,11 @@ const CATEGORY_DELETED: [Step; 7] = [
 ];
 
 static EXAMPLES: [Example; 3] = [
-    ("locked info blocks keep a database", MIXED, &DELETED),
+    (
+        "locked info blocks keep a database",
+        MIXED,
+        &DELETED_DATABASES,
+    ),
     (
         "a header that is not listed is given back",
         TWO_DATABASES,

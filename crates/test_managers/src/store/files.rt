@@ -7,7 +7,8 @@ use test_support::{BLANK, EMPTY_FILE, EMPTY_WRITTEN, ORDER_FILE, ORDER_WRITTEN, 
 
 /// A file of two records without a byte, whose seed is the last ID but one, and one of which has
 /// the last ID.
-const IDS: &str = "496473 00*29 0000 0000 00*24 44415441 54657374 07fffffe 00000000 0002 \
+const LAST_SEED_FILE: &str =
+    "496473 00*29 0000 0000 00*24 44415441 54657374 07fffffe 00000000 0002 \
     00000060 00 ffffff 00000060 00 000001 0000";
 
 /// What is written of `TINY_FILE` when its first resource is gone.
@@ -17,19 +18,19 @@ const TINY_WRITTEN: &str =
 
 /// A file of two records with both info blocks, which stand against their order, and none of which
 /// is empty.
-const BACKWARD: &str =
+const BACKWARD_FILE: &str =
     "4261636b 00*28 0000 0000 00*16 00000064 00000062 44415441 54657374 00000000 00000000 0002 \
     00000060 00 000001 0000005e 00 000002 01020304050607";
 
 /// What is written of it.
-const BACKWARD_WRITTEN: &str =
+const BACKWARD_FILE_WRITTEN: &str =
     "4261636b 00*28 0000 0000 00*16 00000060 00000061 44415441 54657374 00000000 00000000 0002 \
     00000063 00 000001 00000065 00 000002 0000 07 0506 0304 0102";
 
 /// A file of five records with both info blocks. Bytes before the first block belong to none, three
 /// blocks begin at one offset, a deleted record has no data, another's begins where the file ends,
 /// and an ID stands three times.
-const ODD: &str = "4141414141414141414141414141414141414141414141414141414141414141 \
+const ODD_FILE: &str = "4141414141414141414141414141414141414141414141414141414141414141 \
     0008 0000 00*16 0000007c 0000007c 44415441 54657374 b0ffffff 00000000 0005 \
     0000007c 33 000007 00000078 00 000007 00000000 e0 000007 00000082 a0 000000 0000007a 40 000000 \
     0909 0102030405060708090a";
@@ -47,14 +48,14 @@ const READ_ONCE: [Step; 3] = [
 const RECORDS: [Step; 5] = [
     Step::Reads(ORDER_FILE, IS_FIRST),
     Step::Writes(Db(16), ORDER_WRITTEN),
-    Step::Reads(BACKWARD, "Database(Db(36))"),
-    Step::Writes(Db(36), BACKWARD_WRITTEN),
+    Step::Reads(BACKWARD_FILE, "Database(Db(36))"),
+    Step::Writes(Db(36), BACKWARD_FILE_WRITTEN),
     Step::Writes(Db(16), ORDER_WRITTEN),
 ];
 
 /// The last ID is taken, and the first after it.
 const NEXT_ID: [Step; 3] = [
-    Step::Reads(IDS, IS_FIRST),
+    Step::Reads(LAST_SEED_FILE, IS_FIRST),
     Step::Does("new_record 16 65535 0 = Made { index: 2, name: Name(32) }"),
     Step::Does(
         "record_info 16 2 = Record(RecordInfo { attributes: 96, id: 2, data: Some(Name(32)) })",
@@ -84,7 +85,7 @@ const EMPTY_BLOCK: [Step; 4] = [
 
 /// What stands in the file at the offset 0 isn't the data of a deleted record.
 const NO_DATA: [Step; 2] = [
-    Step::Reads(ODD, IS_FIRST),
+    Step::Reads(ODD_FILE, IS_FIRST),
     Step::Does("record_info 16 2 = Record(RecordInfo { attributes: 192, id: 2, data: None })"),
 ];
 

@@ -1,6 +1,6 @@
 //! Lists of calls that look random, on a store and on the plain model next to it.
 
-ghost use Rattle.std.specs.Prelude.{◌≡◌};
+ghost use Rattle.std.specs.Prelude.{[], ◌≡◌};
 
 use heap_model::Call;
 use palm_store::Store;
@@ -8,7 +8,7 @@ use rand_pcg::Pcg32;
 use std::alloc::Global;
 use std::test::*;
 use test_beside::{Beside, Counts, MIXED, OUTCOMES, blank_image, chained_image, store_of};
-use test_support::{DATABASE, TWO_DATABASES, bytes_of as listed, equal};
+use test_support::{ONE_DATABASE, TWO_DATABASES, bytes_of as listed, equal};
 
 /// Does a call on a store and on the model, and counts what it returns. The call's text names it in
 /// an error.
@@ -24,6 +24,17 @@ fn count_call(
     let (spot, call) = called;
     let reply = beside.call_on(alloc, store, spot, call)?;
     counts.add(call, &reply)
+}
+
+/// Goes on with a store that was taken of the image, if `anew`.
+fn renew(store: &mut Store, taken: Store, anew: bool)
+    requires before { store.old.lents ≡ [] }
+    requires whole { taken.lents ≡ [] }
+    ensures { store.new.lents ≡ [] }
+{
+    if anew {
+        *store = taken;
+    }
 }
 
 /// Does a list of calls that a seed gives, each on the image that the one before left, and counts
@@ -42,9 +53,7 @@ fn run_list(
     let mut beside = Beside::new(alloc, image)?;
     for number in 0..count {
         let taken = store_of(alloc, &beside.image)?;
-        if anew {
-            store = taken;
-        }
+        renew(&mut store, taken, anew);
         let call = beside.any_call(&mut random, alloc)?;
         let spot = format!(in alloc; "call {number} of list {seed}")?;
         count_call(
@@ -104,7 +113,7 @@ fn lists_of_calls(rt: HostRuntime) -> Result<(), Fail> {
         run_blank(alloc, &mut counts, (256, 8), (seed, 150))?;
         run_blank(alloc, &mut counts, (512, 6), (seed, 150))?;
         run_blank(alloc, &mut counts, (4096, 40), (seed, 300))?;
-        run_listed(alloc, &mut counts, DATABASE, (seed, 100))?;
+        run_listed(alloc, &mut counts, ONE_DATABASE, (seed, 100))?;
         run_listed(alloc, &mut counts, TWO_DATABASES, (seed, 100))?;
         run_listed(alloc, &mut counts, MIXED, (seed, 300))?;
     }

@@ -5,18 +5,14 @@ ghost use Rattle.std.specs.Prelude.{[], ◌≡◌, ◌≢◌, IfOk, None};
 ghost use Rattle.heap_model.specs.Lending.{KeepsLoan};
 
 use heap_model::{
-    Bytes, Call, DatabaseCall, Db, FileCall, MemoryCall, Name, RecordCall, Refusal, Reply,
-    ResourceCall,
+    Call, DatabaseCall, Db, FileCall, MemoryCall, Name, RecordCall, Refusal, Reply, ResourceCall,
 };
 use palm_store::{ImageFault, MigrateFault, Store};
 use palm_text::Counted;
-use rand::RngExt;
-use rand_pcg::Pcg32;
-use std::alloc::{AllocError, Global};
+use std::alloc::Global;
 use std::test::*;
-use test_beside::{Beside, Counts, MIXED, do_call, image_of, run_calls, store_of};
-use test_model::{Database, Image};
-use test_support::{DATABASE, TWO_CHUNKS, TWO_DATABASES, bytes_of as listed, equal};
+use test_beside::{Beside, MIXED, image_of, run_calls, store_of};
+use test_support::{ONE_DATABASE, TWO_CHUNKS, bytes_of as listed, equal};
 
 /// The two chunks of an image.
 const A: Name = Name(16);
@@ -193,11 +189,11 @@ fn calls_on_records() -> [(Call, Option<Refusal>); 11] {
     ]
 }
 
-fn resize(db: Db, index: u32, size: u32) -> Call {
+pub(crate) fn resize(db: Db, index: u32, size: u32) -> Call {
     Call::Record(RecordCall::Resize { db, index, size })
 }
 
-fn export(db: Db) -> Call {
+pub(crate) fn export(db: Db) -> Call {
     Call::File(FileCall::Export(db))
 }
 
@@ -213,7 +209,7 @@ fn check_lent(
     ensures { store.new.lents ≡ [] }
 {
     let (call, refusal) = row;
-    let reply = beside.call_lent(alloc, store, name, "lent", call)?;
+    let reply = beside.call_lent(alloc, store, &[name], "lent", call)?;
     let why = match reply {
         Reply::Refused(refusal) => Some(refusal),
         _ => None,
@@ -224,7 +220,7 @@ fn check_lent(
 #[test]
 fn data_of_a_record_is_lent(rt: HostRuntime) -> Result<(), Fail> {
     let alloc = rt.alloc();
-    let image = listed(alloc, DATABASE)?;
+    let image = listed(alloc, ONE_DATABASE)?;
     let mut store = store_of(alloc, &image)?;
     let mut beside = Beside::new(alloc, image)?;
     let lock = Call::Memory(MemoryCall::Lock(Name(24)));
@@ -235,319 +231,33 @@ fn data_of_a_record_is_lent(rt: HostRuntime) -> Result<(), Fail> {
     Ok(())
 }
 
-/// How many calls are done while a body is lent.
-const CALLS: u32 = 12;
-
-/// The name of a chunk of a caller's or a database's with this many locks at least, drawn from an
-/// image.
-fn any_chunk(
-    alloc: Global,
-    beside: &Beside,
-    random: &mut Pcg32,
-    locks: u8,
-) -> Result<Option<Name>, Fail> {
-    let image = Image::decode(alloc, &beside.image)?;
-    Ok(chunk_of(&image, random, locks))
+/// Calls on databases with the resources of the number 24, and why each is refused while the data
+/// of its first resource is lent, under the name 60.
+fn calls_on_resources() -> [(Call, Option<Refusal>); 5] {
+    let db = Db(24);
+    [
+        (resize_resource(db, 2, 4), Some(Refusal::IndexOutOfRange)),
+        (resize_resource(db, 0, 9), Some(Refusal::Lent)),
+        (resize_resource(db, 1, 9), None),
+        (export(db), Some(Refusal::Lent)),
+        (export(Db(36)), None),
+    ]
 }
 
-/// The first such chunk of an image from a piece on that is drawn.
-fn chunk_of(image: &Image, random: &mut Pcg32, locks: u8) -> Option<Name> {
-    let count = u32::try_from(image.pieces.len()).ok()?;
-    let first = random.random_range(0..count.max(1)) as usize;
-    for piece in image.pieces.iter().skip(first) {
-        if let Some(live) = piece.live
-            && live.lock >= locks
-            && live.owner > 0
-        {
-            return Some(live.name);
-        }
-    }
-    None
+fn resize_resource(db: Db, index: u32, size: u32) -> Call {
+    Call::Resource(ResourceCall::Resize { db, index, size })
 }
-
-/// Two stores with the same image: the bytes of a name are out of the first during each call alone,
-/// and of the other one from the start of some calls to their end. What the calls answer meanwhile
-/// is counted.
-#[derive(Drop)]
-struct Pair {
-    store: Store,
-    beside: Beside,
-    counts: Counts,
-    ghost whole: { store.lents ≡ [] },
-}
-
-/// Does a call on both. The replies must be the same.
-fn do_both(
-    alloc: Global,
-    pair: &mut Pair,
-    apart: &mut Store,
-    name: Option<Name>,
-    call: &Call,
-) -> Result<(), Fail>
-    ensures lent { apart.new.lents ≡ apart.old.lents }
-    ensures loan { KeepsLoan apart.old apart.new }
-{
-    let spot = format!(in alloc; "{call:?} while {name:?} is lent")?;
-    let reply = match name {
-        Some(name) => pair
-            .beside
-            .call_lent(alloc, &mut pair.store, name, spot.as_str(), call)?,
-        None => pair
-            .beside
-            .call_on(alloc, &mut pair.store, spot.as_str(), call)?,
-    };
-    pair.counts.add(call, &reply)?;
-    equal(spot.as_str(), do_call(alloc, apart, call), reply)
-}
-
-/// Does the next call of a list on both.
-fn step(
-    alloc: Global,
-    pair: &mut Pair,
-    apart: &mut Store,
-    name: Option<Name>,
-    random: &mut Pcg32,
-) -> Result<(), Fail>
-    ensures lent { apart.new.lents ≡ apart.old.lents }
-    ensures loan { KeepsLoan apart.old apart.new }
-{
-    let call = pair.beside.any_call(random, alloc)?;
-    do_both(alloc, pair, apart, name, &call)
-}
-
-/// Adds the calls of the memory manager that are refused while the bytes of a name are lent.
-fn add_memory_calls(alloc: Global, calls: &mut Vec<Call>, name: Name) -> Result<(), AllocError> {
-    let bytes = Bytes::of(Vec::from_slice(alloc, b"ab")?);
-    let text = Bytes::of(Vec::from_slice(alloc, b"a")?);
-    calls.push(Call::Memory(MemoryCall::Read {
-        name,
-        at: 0,
-        count: 1,
-    }))?;
-    calls.push(Call::Memory(MemoryCall::Write { name, at: 0, bytes }))?;
-    calls.push(Call::Memory(MemoryCall::Set {
-        name,
-        at: 0,
-        count: 1,
-        byte: 7,
-    }))?;
-    calls.push(Call::Memory(MemoryCall::StrCopy { name, at: 0, text }))?;
-    calls.push(Call::Memory(MemoryCall::Unlock(name)))?;
-    calls.push(Call::Memory(MemoryCall::Free(name)))?;
-    calls.push(Call::Memory(MemoryCall::Resize { name, size: 9 }))?;
-    Ok(())
-}
-
-/// Adds a call that resizes the record whose data a name is.
-fn add_record_calls(
-    calls: &mut Vec<Call>,
-    database: &Database,
-    name: Name,
-) -> Result<(), AllocError> {
-    for (index, record) in database.records.iter().enumerate() {
-        if record.data == Some(name)
-            && let Ok(index) = u32::try_from(index)
-        {
-            calls.push(resize(database.db, index, 9))?;
-        }
-    }
-    Ok(())
-}
-
-/// Adds a call that resizes the resource whose data a name is.
-fn add_resource_calls(
-    calls: &mut Vec<Call>,
-    database: &Database,
-    name: Name,
-) -> Result<(), AllocError> {
-    for (index, resource) in database.resources.iter().enumerate() {
-        if resource.data == name
-            && let Ok(index) = u32::try_from(index)
-        {
-            calls.push(Call::Resource(ResourceCall::Resize {
-                db: database.db,
-                index,
-                size: 9,
-            }))?;
-        }
-    }
-    Ok(())
-}
-
-/// All calls that may be refused because the bytes of a name are lent, and exports of all
-/// databases.
-fn calls_on(alloc: Global, beside: &Beside, name: Name) -> Result<Vec<Call>, AllocError> {
-    let mut calls = Vec::new(alloc);
-    add_memory_calls(alloc, &mut calls, name)?;
-    for database in beside.plain.databases() {
-        add_record_calls(&mut calls, database, name)?;
-        add_resource_calls(&mut calls, database, name)?;
-        calls.push(export(database.db))?;
-    }
-    Ok(calls)
-}
-
-/// Does calls on both while the bytes of a name are out, or while none are.
-fn do_all(
-    alloc: Global,
-    pair: &mut Pair,
-    apart: &mut Store,
-    name: Option<Name>,
-    calls: &[Call],
-) -> Result<(), Fail>
-    ensures lent { apart.new.lents ≡ apart.old.lents }
-    ensures loan { KeepsLoan apart.old apart.new }
-{
-    for call in calls {
-        do_both(alloc, pair, apart, name, call)?;
-    }
-    Ok(())
-}
-
-/// Does some calls on both while the bytes of a name are out, and then each call that a lent name
-/// may refuse.
-fn go_on(
-    alloc: Global,
-    pair: &mut Pair,
-    apart: &mut Store,
-    name: Name,
-    random: &mut Pcg32,
-) -> Result<(), Fail>
-    ensures lent { apart.new.lents ≡ apart.old.lents }
-    ensures loan { KeepsLoan apart.old apart.new }
-{
-    for _ in 0..CALLS {
-        step(alloc, pair, apart, Some(name), random)?;
-    }
-    let calls = calls_on(alloc, &pair.beside, name)?;
-    do_all(alloc, pair, apart, Some(name), &calls)
-}
-
-/// Does the calls that a lent name may refuse once in four times, when none is lent.
-fn go_on_after(
-    alloc: Global,
-    pair: &mut Pair,
-    apart: &mut Store,
-    name: Name,
-    random: &mut Pcg32,
-) -> Result<(), Fail>
-    ensures { apart.new.lents ≡ apart.old.lents }
-{
-    if random.random_range(0..4u32) > 0 {
-        return Ok(());
-    }
-    let calls = calls_on(alloc, &pair.beside, name)?;
-    do_all(alloc, pair, apart, None, &calls)
-}
-
-/// Lends the bytes of a name for some calls, writes the first of them, and puts them back.
-fn go_on_lent(
-    alloc: Global,
-    pair: &mut Pair,
-    apart: &mut Store,
-    name: Name,
-    random: &mut Pcg32,
-) -> Result<(), Fail>
-    ensures { apart.new.lents ≡ apart.old.lents }
-{
-    let mut loan = apart.take_out(name)?;
-    let done = go_on(alloc, pair, apart, name, random);
-    let first: &[u8] = if loan.len() > 0 { b"L" } else { b"" };
-    loan.write(0, first);
-    apart.put_back(loan);
-    done
-}
-
-/// Lends the bytes of a name for some calls that write the first of them. Both stores must have the
-/// same image then.
-fn lend(
-    alloc: Global,
-    pair: &mut Pair,
-    apart: &mut Store,
-    name: Name,
-    random: &mut Pcg32,
-) -> Result<(), Fail>
-    requires { apart.old.lents ≡ [] }
-    ensures { apart.new.lents ≡ [] }
-{
-    go_on_lent(alloc, pair, apart, name, random)?;
-    let first: &[u8] = if apart.size(name)? > 0 { b"L" } else { b"" };
-    let write = Call::Memory(MemoryCall::Write {
-        name,
-        at: 0,
-        bytes: Bytes::of(Vec::from_slice(alloc, first)?),
-    });
-    pair.beside
-        .call_on(alloc, &mut pair.store, "written", &write)?;
-    equal(
-        "both stores",
-        image_of(alloc, apart)?,
-        image_of(alloc, &pair.store)?,
-    )?;
-    go_on_after(alloc, pair, apart, name, random)
-}
-
-/// Locks a chunk on both, if there is one.
-fn lock_any(
-    alloc: Global,
-    pair: &mut Pair,
-    apart: &mut Store,
-    random: &mut Pcg32,
-) -> Result<(), Fail>
-    ensures { apart.new.lents ≡ apart.old.lents }
-{
-    match any_chunk(alloc, &pair.beside, random, 0)? {
-        Some(name) => {
-            let lock = Call::Memory(MemoryCall::Lock(name));
-            do_both(alloc, pair, apart, None, &lock)
-        }
-        None => Ok(()),
-    }
-}
-
-/// Does a list of calls that a seed gives: most of them while a body is lent that stays where it
-/// is.
-fn run_list(alloc: Global, counts: Counts, image: Vec<u8>, seed: u64) -> Result<Counts, Fail> {
-    let mut random = Pcg32::new(seed, 1);
-    let mut apart = store_of(alloc, &image)?;
-    let mut pair = Pair {
-        store: store_of(alloc, &image)?,
-        beside: Beside::new(alloc, image)?,
-        counts,
-    };
-    for _ in 0..25u32 {
-        lock_any(alloc, &mut pair, &mut apart, &mut random)?;
-        let name = any_chunk(alloc, &pair.beside, &mut random, 1)?;
-        match name {
-            Some(name) => lend(alloc, &mut pair, &mut apart, name, &mut random)?,
-            None => step(alloc, &mut pair, &mut apart, None, &mut random)?,
-        }
-    }
-    let Pair { counts, .. } = pair;
-    Ok(counts)
-}
-
-/// The calls that are refused because a body is lent. Each must have been refused so, and done.
-static REFUSED: [(&str, &[Refusal]); 10] = [
-    ("read", &[Refusal::Lent]),
-    ("write", &[Refusal::Lent]),
-    ("set", &[Refusal::Lent]),
-    ("str_copy", &[Refusal::Lent]),
-    ("unlock", &[Refusal::Lent]),
-    ("free", &[Refusal::Lent, Refusal::ChunkLocked]),
-    ("resize", &[Refusal::Lent]),
-    ("resize_record", &[Refusal::Lent]),
-    ("resize_resource", &[Refusal::Lent]),
-    ("export", &[Refusal::Lent]),
-];
 
 #[test]
-fn lists_of_calls_while_bodies_are_lent(rt: HostRuntime) -> Result<(), Fail> {
-    let mut counts = Counts::new(rt.alloc());
-    for seed in 71..78u64 {
-        for listing in &[DATABASE, TWO_DATABASES, MIXED] {
-            counts = run_list(rt.alloc(), counts, listed(rt.alloc(), listing)?, seed)?;
-        }
+fn data_of_a_resource_is_lent(rt: HostRuntime) -> Result<(), Fail> {
+    let alloc = rt.alloc();
+    let image = listed(alloc, MIXED)?;
+    let mut store = store_of(alloc, &image)?;
+    let mut beside = Beside::new(alloc, image)?;
+    let lock = Call::Memory(MemoryCall::Lock(Name(60)));
+    beside.call_on(alloc, &mut store, "lock", &lock)?;
+    for (call, refusal) in &calls_on_resources() {
+        check_lent(alloc, &mut store, &mut beside, Name(60), (call, *refusal))?;
     }
-    equal("not met", counts.missing(&REFUSED), None)
+    Ok(())
 }

@@ -7,7 +7,7 @@ use Rattle.heap_model.specs.StoreWords.{next_modification}
 use Rattle.db_format.specs.EitherEntry.{entry_of, is_resource}
 use Rattle.laws_heap.proofs.Results.{on_err}
 use Rattle.laws_heap.proofs.KeptLoans.{keeps_then}
-use Rattle.database_edits.specs.Edits.{HasNoRoomFor, entry_inserted}
+use Rattle.database_edits.specs.Edits.{HasNoRoomForEntry, entry_inserted}
 use Rattle.database_edits.proofs.Chunks.{is_movable}
 use Rattle.database_edits.proofs.HeadersHere.{heading_spelled}
 use Rattle.database_edits.proofs.InsertedEntries.{short_of, same_name, inserted, inserted_header, inserted_kept}
@@ -18,8 +18,8 @@ sys_find-grown-requires c = is_movable c.grow.new.heap.bytes c.args.db.0 c.in_ok
 
 pub returns-in_err-grow-clause-no_room : goal.returns-in_err-grow-clause-no_room
 returns-in_err-grow-clause-no_room c =
-    on_err (HasNoRoomFor c.args.heap.now.bytes c.args.db.0 (is_resource c.args.entry)) c.from_residual.result
-    (subst (λ (resources : Bool). HasNoRoomFor c.args.heap.now.bytes c.args.db.0 resources) (sym c.requires.kind)
+    on_err (HasNoRoomForEntry c.args.heap.now.bytes c.args.db.0 (is_resource c.args.entry)) c.from_residual.result
+    (subst (λ (resources : Bool). HasNoRoomForEntry c.args.heap.now.bytes c.args.db.0 resources) (sym c.requires.kind)
     (short_of c.args.heap.now.bytes c.args.db.0 c.entry_offset.result c.heading_here-heading.result.entry_count c.is_resource-resources.result c.requires.spells (c.is_resource-resources.ensures ∙ c.requires.kind) c.heading_here-heading.ensures.entry_count c.entry_offset.ensures c.in_err-grow.ensures.no_room))
 
 pub returns-clause-inserted : goal.returns-clause-inserted

@@ -4,7 +4,7 @@ use Rattle.heap_model.specs.Files.{offsets_in}
 use Rattle.palm_text.specs.Counted.{Writes}
 use Rattle.pdb_format.specs.Blocks.{bytes_at}
 use Rattle.pdb_format.proofs.FileBlocks.{length-blocks, block_of}
-use Rattle.file_listing.specs.Listing.{info_line, place_text}
+use Rattle.file_listing.specs.Listing.{info_listing, place_text}
 use Rattle.file_listing.proofs.Infos.{sort_offset}
 use Rattle.file_listing.proofs.blocks.put_sort.Goals as goal
 
@@ -19,7 +19,7 @@ put_info-requires-clause-within g c =
     c.requires.within 1 None (omega arith)
 
 pub returns : goal.returns
-unfolding info_line
+unfolding info_listing
 returns g c =
     let file = c.args.file.now in
     let blocks = c.args.blocks.now in

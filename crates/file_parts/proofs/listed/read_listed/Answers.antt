@@ -1,11 +1,11 @@
-use Rattle.db_format.specs.Headers.{header_of}
+use Rattle.db_format.specs.Headers.{header_values}
 use Rattle.file_parts.specs.Listed.{entries_listed}
 use Rattle.file_parts.proofs.ReadTexts.{entries_faulty, listed_read}
 use Rattle.file_parts.proofs.listed.read_listed.Goals as goal
 
 pub returns-in-Ok-read_entries-clause-ok : goal.returns-in-Ok-read_entries-clause-ok
 returns-in-Ok-read_entries-clause-ok g c =
-    listed_read c.args.text.now c.of-lines.result c.read_head.new.lines c.in-Ok.head c.has_resources-resources.result (entries_listed c.in-Ok-read_entries.entries.items) (header_of c.header_of.result)
+    listed_read c.args.text.now c.of-lines.result c.read_head.new.lines c.in-Ok.head c.has_resources-resources.result (entries_listed c.in-Ok-read_entries.entries.items) (header_values c.header_of.result)
     c.of-lines.ensures c.in-Ok.ensures c.has_resources-resources.ensures c.in-Ok-read_entries.ensures.ok c.header_of.ensures.is
 
 pub returns-in-Err-read_entries-clause-err : goal.returns-in-Err-read_entries-clause-err

@@ -2,7 +2,7 @@ use Rattle.std.proofs.Common.{◌++◌, ◌∷◌, [], ℕ, List, sym, ap, ◌�
 use Rattle.pdb_format.specs.FileTexts.{blocks_text, entries_text, header_text}
 use Rattle.pdb_format.proofs.FileParts.{file_parts}
 use Rattle.file_parts.specs.declared.entries.ListedEntry.{ListedEntry}
-use Rattle.file_parts.specs.Packing.{packed, packed_entries}
+use Rattle.file_parts.specs.Packing.{database_of_parts, packed_entries}
 use Rattle.file_parts.proofs.PackedEntries.{joined}
 use Rattle.file_parts.proofs.packing.file_bytes.Goals as goal
 
@@ -10,7 +10,7 @@ pub returns-clause-file : goal.returns-clause-file
 returns-clause-file g c =
     let listed = c.args.listed.now in
     let parts = c.args.parts.now in
-    let d = packed listed parts in
+    let d = database_of_parts listed parts in
     let places = c.in_ok-places.places in
     let are = c.in_ok-places.ensures.are in
     let entries : List ℕ = entries_text places.entries (packed_entries c.as_slice.result.now parts) in

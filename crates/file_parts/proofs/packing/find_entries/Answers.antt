@@ -1,13 +1,13 @@
 use Rattle.std.proofs.Common.{◌≡◌, ◌+◌, ℕ, List, length, ap, arith}
 use Rattle.heap_model.specs.Files.{block_size}
 use Rattle.pdb_format.specs.Writable.{file_size}
-use Rattle.file_parts.specs.Packing.{packed}
+use Rattle.file_parts.specs.Packing.{database_of_parts}
 use Rattle.file_parts.proofs.PackedFiles.{refused_more, sizes}
 use Rattle.file_parts.proofs.packing.find_entries.Goals as goal
 
 pub returns-in-Ok-clause-are : goal.returns-in-Ok-clause-are
 returns-in-Ok-clause-are c =
-    let d = packed c.args.listed.now c.args.parts.now in
+    let d = database_of_parts c.args.listed.now c.args.parts.now in
     let app = c.requires.app in
     let sort = c.requires.sort in
     let end = c.in-Ok.ensures.is in
@@ -21,7 +21,7 @@ returns-in-Ok-clause-are c =
 
 pub returns-in-Err-clause-large : goal.returns-in-Err-clause-large
 returns-in-Err-clause-large c =
-    let d = packed c.args.listed.now c.args.parts.now in
+    let d = database_of_parts c.args.listed.now c.args.parts.now in
     let app = c.requires.app in
     let sort = c.requires.sort in
     let all = sizes d in

@@ -1,13 +1,13 @@
 use Rattle.std.proofs.Common.{◌≡◌, ◌+◌, ℕ, List, length, ap, arith}
 use Rattle.heap_model.specs.Files.{block_size}
 use Rattle.pdb_format.specs.Writable.{file_size}
-use Rattle.file_parts.specs.Packing.{packed}
+use Rattle.file_parts.specs.Packing.{database_of_parts}
 use Rattle.file_parts.proofs.PackedFiles.{refused_more, sizes}
 use Rattle.file_parts.proofs.packing.find_places.Goals as goal
 
 pub returns-in-Err-clause-large : goal.returns-in-Err-clause-large
 returns-in-Err-clause-large c =
-    let d = packed c.args.listed.now c.args.parts.now in
+    let d = database_of_parts c.args.listed.now c.args.parts.now in
     let first = c.first_place-app.ensures.is c.args.parts.now in
     let all = sizes d in
     let size : length c.part_bytes.result.now ≡ block_size d.app_info = ap (λ (xs : List ℕ). length xs) c.part_bytes.ensures in

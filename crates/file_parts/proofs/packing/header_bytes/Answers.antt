@@ -4,14 +4,14 @@ use Rattle.heap_model.specs.Files.{idle, idle_entry, with_offsets, first_block, 
 use Rattle.std.proofs.lemmas.List.{length-map}
 use Rattle.pdb_format.proofs.FileParts.{length-with_offsets, data_at}
 use Rattle.file_parts.specs.declared.entries.ListedEntry.{ListedEntry}
-use Rattle.file_parts.specs.Packing.{packed, part_at}
+use Rattle.file_parts.specs.Packing.{database_of_parts, part_at}
 use Rattle.file_parts.proofs.PackedEntries.{length-packed}
 use Rattle.file_parts.proofs.packing.header_bytes.Goals as goal
 
 pub returns : goal.returns
 returns c = λ parts places.
     let listed = c.args.listed.now in
-    let d : Database (Option (List ℕ)) = packed listed parts in
+    let d : Database (Option (List ℕ)) = database_of_parts listed parts in
     let count = length-with_offsets (data_at d) (map idle_entry d.entries) ∙ length-map d.entries idle_entry ∙ length-packed listed.entries.items parts in
     c.to_bytes.ensures.is (with_offsets (first_block d) (idle d)) (record {
       values = refl;

@@ -9,7 +9,7 @@ use Rattle.pdb_format.specs.Blocks.{bytes_at}
 use Rattle.pdb_format.specs.ReadFiles.{entry_read_at}
 use Rattle.pdb_format.proofs.FileBlocks.{length-blocks, block_of}
 use Rattle.pdb_format.proofs.ReadFiles.{data_read}
-use Rattle.file_parts.specs.Texts.{entry_name, entry_values, named, part_text}
+use Rattle.file_parts.specs.Texts.{entry_name, entry_values, name_if_data, part_text}
 use Rattle.file_parts.proofs.EntryLines.{line_joined}
 use Rattle.file_parts.proofs.text.put_entry.Goals as goal
 
@@ -28,7 +28,7 @@ returns-in-Err g c =
     let block : Option (List ℕ) = bytes_at file (get_or c.args.blocks.now (2 + i) None) in
     let is_block = block_of file c.args.blocks.now (2 + i) c.requires.blocks.are (omega (arith, long, c.requires.inside)) ∙ sym (data_read (entry_in file i) (get_or c.args.ids.now i 0) (get_or (blocks_in file) (2 + i) None)) in
     subst (λ (text : List ℕ). Writes g.W.Write.contents c.args.out.now c.put_values.new.out text false) (line_joined name e (entry_of c.entry_at.result) block c.entry_at.ensures is_block)
-    (stops g.W.Write.contents c.args.out.now c.put_values.new.out (entry_values (entry_with (λ _. named name (entry_data e)) (entry_of c.entry_at.result))) (part_text (named name block)) (c.in-Err.ensures (named name (entry_data e))))
+    (stops g.W.Write.contents c.args.out.now c.put_values.new.out (entry_values (entry_with (λ _. name_if_data name (entry_data e)) (entry_of c.entry_at.result))) (part_text (name_if_data name block)) (c.in-Err.ensures (name_if_data name (entry_data e))))
 
 pub returns-in-Ok : goal.returns-in-Ok
 returns-in-Ok g c =
@@ -40,4 +40,4 @@ returns-in-Ok g c =
     let block : Option (List ℕ) = bytes_at file (get_or c.args.blocks.now (2 + i) None) in
     let is_block = block_of file c.args.blocks.now (2 + i) c.requires.blocks.are (omega (arith, long, c.requires.inside)) ∙ sym (data_read (entry_in file i) (get_or c.args.ids.now i 0) (get_or (blocks_in file) (2 + i) None)) in
     subst (λ (text : List ℕ). Writes g.W.Write.contents c.args.out.now c.put_part.new.out text (is_ok c.put_part.result)) (line_joined name e (entry_of c.entry_at.result) block c.entry_at.ensures is_block)
-    (then g.W.Write.contents c.args.out.now c.put_values.new.out c.put_part.new.out (entry_values (entry_with (λ _. named name (entry_data e)) (entry_of c.entry_at.result))) (part_text (named name block)) (is_ok c.put_part.result) (c.in-Ok.ensures (named name (entry_data e))) (c.put_part.ensures file))
+    (then g.W.Write.contents c.args.out.now c.put_values.new.out c.put_part.new.out (entry_values (entry_with (λ _. name_if_data name (entry_data e)) (entry_of c.entry_at.result))) (part_text (name_if_data name block)) (is_ok c.put_part.result) (c.in-Ok.ensures (name_if_data name (entry_data e))) (c.put_part.ensures file))

@@ -1,14 +1,14 @@
 use Rattle.std.proofs.Common.{◌≡◌, List, ℕ, refl, subst}
 use Rattle.std.specs.Prelude.{is_ok}
 use Rattle.palm_text.specs.Counted.{Writes}
-use Rattle.db_format.specs.Headers.{header_of}
+use Rattle.db_format.specs.Headers.{header_values}
 use Rattle.file_parts.specs.Texts.{header_lines}
 use Rattle.file_parts.proofs.text.put_header.Goals as goal
 
 pub returns : goal.returns
 unfolding header_lines
 returns g c =
-    let header = header_of c.args.header.now in
+    let header = header_values c.args.header.now in
     let lines : header_lines (record header { name = c.name.result.now; version = c.from.result }) ≡ header_lines header
     = rw (c.name.ensures.is, c.from.ensures) refl in
     subst (λ (text : List ℕ). Writes g.W.Write.contents c.args.out.now c.put_pieces.new.out text (is_ok c.put_pieces.result)) lines c.put_pieces.ensures

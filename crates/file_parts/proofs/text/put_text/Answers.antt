@@ -1,6 +1,6 @@
 use Rattle.std.proofs.Common.{List, ℕ, false, subst, rules}
 use Rattle.std.specs.Prelude.{is_ok}
-use Rattle.db_format.specs.Headers.{header_of}
+use Rattle.db_format.specs.Headers.{header_values}
 use Rattle.palm_text.specs.Counted.{Writes}
 use Rattle.palm_text.proofs.Parts.{then, stops}
 use Rattle.file_parts.specs.Texts.{header_lines}
@@ -11,7 +11,7 @@ pub returns-in-Ok : goal.returns-in-Ok
 returns-in-Ok g c =
     let file = c.args.file.now in
     let given = c.args.unpacked.now.given in
-    let header = header_of c.header_read.result in
+    let header = header_values c.header_read.result in
     subst (λ (text : List ℕ). Writes g.W.Write.contents c.args.out.now c.put_body.new.out text (is_ok c.put_body.result)) (text_is file given.ids.items given.seed header c.header_read.ensures)
     (then g.W.Write.contents c.args.out.now c.put_header.new.out c.put_body.new.out (header_lines header) (rest_of file given.ids.items) (is_ok c.put_body.result) c.in-Ok.ensures (search rules))
 
@@ -19,6 +19,6 @@ pub returns-in-Err : goal.returns-in-Err
 returns-in-Err g c =
     let file = c.args.file.now in
     let given = c.args.unpacked.now.given in
-    let header = header_of c.header_read.result in
+    let header = header_values c.header_read.result in
     subst (λ (text : List ℕ). Writes g.W.Write.contents c.args.out.now c.put_header.new.out text false) (text_is file given.ids.items given.seed header c.header_read.ensures)
     (stops g.W.Write.contents c.args.out.now c.put_header.new.out (header_lines header) (rest_of file given.ids.items) c.in-Err.ensures)

@@ -3,14 +3,14 @@ use Rattle.heap_model.specs.Chunk.{IsLive, SpelledAll}
 use Rattle.std.proofs.lemmas.Bool.{false≢true}
 use Rattle.heap_model.specs.Slots.{area_start}
 use Rattle.heap_model.specs.Reading.{chunks_of}
-use Rattle.bit_sets.specs.Sets.{HasNumber}
+use Rattle.bit_sets.specs.Sets.{IsInSet}
 use Rattle.heap_check.specs.Chained.{IsManagersAt}
 use Rattle.heap_check.proofs.TableLaws.{BodyFacts, body_facts, body_live, table_facts}
 use Rattle.heap_check.proofs.chained.take_table.Goals.{then-place-ne0-via-then-place-ne0, then-place-ne0-via-else-place-ne0+then-place-len, then-place-ne0-via-else-place-ne0+else-place-len+then-not-has, then-length-ne0-via-then-length-ne0, then-length-ne0-via-else-length-ne0+then-length}
 use Rattle.heap_check.proofs.chained.take_table.Goals as goal
 
 -- what is marked at a multiple of 8 is the body of a fixed chunk of the manager's
-marked_body : (image marks : List ℕ) (place : ℕ) → SpelledAll image (area_start image) (chunks_of image) (length image) → ((word : ℕ) → HasNumber marks word → IsManagersAt image (4 * word)) → place % 8 ≡ 0 → HasNumber marks (place / 4) → BodyFacts image (area_start image) (chunks_of image) place
+marked_body : (image marks : List ℕ) (place : ℕ) → SpelledAll image (area_start image) (chunks_of image) (length image) → ((word : ℕ) → IsInSet marks word → IsManagersAt image (4 * word)) → place % 8 ≡ 0 → IsInSet marks (place / 4) → BodyFacts image (area_start image) (chunks_of image) place
 marked_body image marks place s bodies whole has =
     let e : 4 * (place / 4) ≡ place = omega arith in
     body_facts image (area_start image) (chunks_of image) (length image) place s (subst (λ (n : ℕ). IsManagersAt image n) e (bodies (place / 4) has))

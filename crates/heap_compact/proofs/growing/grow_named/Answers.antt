@@ -4,20 +4,20 @@ use Rattle.heap_compact.proofs.growing.grow_named.Goals as goal
 
 pub returns-clause-resized : goal.returns-clause-resized
 returns-clause-resized c =
-    (resized_named c.args.space.now.bytes c.grow_in_place.new.self.bytes c.args.name.0 c.args.count c.chunk-found.result c.chunk-found.ensures
-    (λ f fits. grown_resized c.args.space.now.bytes c.grow_in_place.new.self.bytes c.chunk-found.result c.args.count c.grow_in_place.result c.holds.ensures.accepted f (loose_lock c.args.space.now.bytes c.args.name.0 c.chunk-found.result c.holds.ensures.accepted c.requires.loose c.chunk-found.ensures) fits c.grow_in_place.ensures.tells c.grow_in_place.ensures.made)
+    (resized_named c.grow_in_place.new.self.bytes c.args.count c.chunk-found.ensures
+    (λ f fits. grown_resized c.grow_in_place.new.self.bytes c.chunk-found.result c.args.count c.grow_in_place.result c.holds.ensures.accepted f (loose_lock c.holds.ensures.accepted c.requires.loose c.chunk-found.ensures) fits c.grow_in_place.ensures.tells c.grow_in_place.ensures.made)
     c.requires.fits).0
 
 pub returns-clause-alone : goal.returns-clause-alone
 returns-clause-alone c =
-    (resized_named c.args.space.now.bytes c.grow_in_place.new.self.bytes c.args.name.0 c.args.count c.chunk-found.result c.chunk-found.ensures
-    (λ f fits. grown_resized c.args.space.now.bytes c.grow_in_place.new.self.bytes c.chunk-found.result c.args.count c.grow_in_place.result c.holds.ensures.accepted f (loose_lock c.args.space.now.bytes c.args.name.0 c.chunk-found.result c.holds.ensures.accepted c.requires.loose c.chunk-found.ensures) fits c.grow_in_place.ensures.tells c.grow_in_place.ensures.made)
+    (resized_named c.grow_in_place.new.self.bytes c.args.count c.chunk-found.ensures
+    (λ f fits. grown_resized c.grow_in_place.new.self.bytes c.chunk-found.result c.args.count c.grow_in_place.result c.holds.ensures.accepted f (loose_lock c.holds.ensures.accepted c.requires.loose c.chunk-found.ensures) fits c.grow_in_place.ensures.tells c.grow_in_place.ensures.made)
     c.requires.fits).1
 
 pub chunk-found-requires : goal.chunk-found-requires
-chunk-found-requires c = record { there = loose_there c.args.space.now.bytes c.args.name.0 c.requires.loose }
+chunk-found-requires c = record { there = loose_there c.requires.loose }
 
 pub grow_in_place-requires-clause-other : goal.grow_in_place-requires-clause-other
 grow_in_place-requires-clause-other c =
-    loose_other c.args.space.now c.chunk-found.result c.holds.ensures.lent (one_of c.args.space.now.bytes c.args.name.0 c.chunk-found.result c.chunk-found.ensures)
-    (loose_lock c.args.space.now.bytes c.args.name.0 c.chunk-found.result c.holds.ensures.accepted c.requires.loose c.chunk-found.ensures)
+    loose_other c.args.space.now c.chunk-found.result c.holds.ensures.lent (one_of c.chunk-found.ensures)
+    (loose_lock c.holds.ensures.accepted c.requires.loose c.chunk-found.ensures)

@@ -1,4 +1,4 @@
-use Rattle.std.proofs.Common.{◌+◌, ◌-◌, refl, sym, subst, ◌∙◌, arith}
+use Rattle.std.proofs.Common.{◌-◌, refl, sym, subst, ◌∙◌, arith}
 use Rattle.std.specs.Prelude.{List}
 use Rattle.heap_model.specs.Memory.{Lent, Misses}
 use Rattle.heap_compact.proofs.LiftedWalkLaws.{walk_start, walk_more, walk_state, walk_next, walk_on, walk_done}
@@ -10,38 +10,35 @@ loop-at-init c = (walk_start c.args.region.now.bytes c.args.gap c.args.start c.a
 
 pub mend_one-at-requires-clause-carried : goal.mend_one-at-requires-clause-carried
 mend_one-at-requires-clause-carried c =
-    walk_next c.loop-at.region.bytes c.args.gap c.loop-at.at c.args.end (walk_state c.args.region.now.bytes c.loop-at.region.bytes c.args.gap c.args.start c.loop-at.at c.args.end c.loop-at.invariant.0 c.requires.carried) (omega arith)
+    walk_next (walk_state c.loop-at.invariant.0 c.requires.carried) (omega arith)
 
 pub mend_one-at-requires-clause-table : goal.mend_one-at-requires-clause-table
-mend_one-at-requires-clause-table c = walk_table c.args.region.now c.loop-at.region c.args.gap c.args.start c.loop-at.at c.args.end c.loop-at.invariant.0 c.requires.carried c.loop-at.invariant.2 c.requires.table
+mend_one-at-requires-clause-table c = walk_table c.loop-at.region c.loop-at.invariant.0 c.requires.carried c.loop-at.invariant.2 c.requires.table
 
 pub mend_one-at-requires-clause-misses : goal.mend_one-at-requires-clause-misses
 mend_one-at-requires-clause-misses c =
-    walk_misses c.args.region.now.bytes c.loop-at.region.bytes c.loop-at.region.lents c.args.gap c.args.start c.loop-at.at c.args.end c.loop-at.invariant.0 c.requires.carried (omega arith)
+    walk_misses c.loop-at.region.lents c.loop-at.invariant.0 c.requires.carried (omega arith)
     (subst (λ (x : List Lent). Misses x c.args.start (c.args.end - c.args.start)) (sym c.loop-at.invariant.2) c.requires.misses)
 
 pub overflow_add-at : goal.overflow_add-at
 overflow_add-at c =
     let fits = c.ranges.end.fits in
-    let next = walk_on c.loop-at.region.bytes c.mend_one-at.new.region.bytes c.args.gap c.loop-at.at (c.loop-at.at + c.mend_one-at.result) c.args.end
-    (walk_state c.args.region.now.bytes c.loop-at.region.bytes c.args.gap c.args.start c.loop-at.at c.args.end c.loop-at.invariant.0 c.requires.carried) (omega arith) c.mend_one-at.ensures.mended in
-    let within = next.1 in
-    omega arith
+    let next = walk_on
+    (walk_state c.loop-at.invariant.0 c.requires.carried) (omega arith) c.mend_one-at.ensures.mended in
+    omega (arith, next.1)
 
 pub loop-at-smaller : goal.loop-at-smaller
 loop-at-smaller c =
-    let next = walk_on c.loop-at.region.bytes c.mend_one-at.new.region.bytes c.args.gap c.loop-at.at (c.loop-at.at + c.mend_one-at.result) c.args.end
-    (walk_state c.args.region.now.bytes c.loop-at.region.bytes c.args.gap c.args.start c.loop-at.at c.args.end c.loop-at.invariant.0 c.requires.carried) (omega arith) c.mend_one-at.ensures.mended in
-    let on = next.0 in
-    let within = next.1 in
-    omega arith
+    let next = walk_on
+    (walk_state c.loop-at.invariant.0 c.requires.carried) (omega arith) c.mend_one-at.ensures.mended in
+    omega (arith, next.0, next.1)
 
 pub loop-at-preserved : goal.loop-at-preserved
 loop-at-preserved c = (
-  walk_more c.args.region.now.bytes c.loop-at.region.bytes c.mend_one-at.new.region.bytes c.args.gap c.args.start c.loop-at.at (c.loop-at.at + c.mend_one-at.result) c.args.end c.loop-at.invariant.0 (omega arith) c.mend_one-at.ensures.mended,
+  walk_more c.loop-at.invariant.0 (omega arith) c.mend_one-at.ensures.mended,
   c.mend_one-at.ensures.slid ∙ c.loop-at.invariant.1,
   c.mend_one-at.ensures.out ∙ c.loop-at.invariant.2,
 )
 
 pub returns-clause-mended : goal.returns-clause-mended
-returns-clause-mended c = walk_done c.args.region.now.bytes c.loop-at.region.bytes c.args.gap c.args.start c.loop-at.at c.args.end c.loop-at.invariant.0 (omega arith)
+returns-clause-mended c = walk_done c.loop-at.invariant.0 (omega arith)

@@ -1,8 +1,5 @@
 use Rattle.std.proofs.Common.{◌-◌, ◌+◌, ◌≡◌}
-use Rattle.heap_place.specs.Lists.{AreLists}
-use Rattle.heap_place.specs.Gathers.{Before}
-use Rattle.heap_compact.specs.Packs.{PacksUpTo}
-use Rattle.heap_model.specs.Lending.{HoldsHeap}
+use Rattle.heap_compact.proofs.Words.{AreLists, Before, PacksUpTo, HoldsHeap}
 use Rattle.heap_compact.proofs.pack.pack.Given as goal
 
 abbrev pub invariant-loop-at : goal.invariant-loop-at

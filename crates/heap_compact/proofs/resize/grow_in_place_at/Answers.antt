@@ -5,47 +5,47 @@ use Rattle.heap_compact.proofs.resize.grow_in_place_at.Goals as goal
 
 pub size_of_body-own-requires : goal.size_of_body-own-requires
 size_of_body-own-requires c =
-    let inside = found_inside c.args.region.now.bytes c.args.found c.requires.heap.accepted c.requires.found in
-    let most = c.requires.heap.accepted.1.tiles.head.most in omega arith
+    let inside = found_inside _ c.args.found c.requires.heap.accepted c.requires.found in
+    omega (arith, c.requires.heap.accepted.1.tiles.head.most)
 
 pub overflow_add-found : goal.overflow_add-found
 overflow_add-found c =
     let own = c.size_of_body-own.ensures in
-    let inside = found_inside c.args.region.now.bytes c.args.found c.requires.heap.accepted c.requires.found in
-    let most = c.requires.heap.accepted.1.tiles.head.most in omega arith
+    let inside = found_inside _ c.args.found c.requires.heap.accepted c.requires.found in
+    omega (arith, c.requires.heap.accepted.1.tiles.head.most)
 
 pub free_run-behind-requires-clause-bound : goal.free_run-behind-requires-clause-bound
-free_run-behind-requires-clause-bound c = bound_behind c.args.region.now.bytes c.args.found c.size_of_body-own.result c.size_of_body-own.ensures c.requires.found
+free_run-behind-requires-clause-bound c = bound_behind c.args.region.now.bytes c.args.found _ c.size_of_body-own.ensures c.requires.found
 
 pub overflow_add-own : goal.overflow_add-own
 overflow_add-own c =
-    let f = in_place_facts c.args.region.now.bytes c.args.found c.size_of_body-own.result c.free_run-behind.result c.requires.heap.accepted c.requires.found c.size_of_body-own.ensures c.free_run-behind.ensures in
-    let inside = f.0 in let most = f.1 in omega arith
+    let f = in_place_facts _ c.args.found _ c.free_run-behind.result c.requires.heap.accepted c.requires.found c.size_of_body-own.ensures c.free_run-behind.ensures in
+    omega (arith, f.0, f.1)
 
 pub resize_listed-requires-clause-behind : goal.resize_listed-requires-clause-behind
 resize_listed-requires-clause-behind c =
-    all_behind c.args.region.now.bytes c.args.found c.free_run-behind.result c.requires.found
-    (free_behind_found c.args.region.now.bytes c.args.found c.size_of_body-own.result c.free_run-behind.result c.size_of_body-own.ensures c.requires.found c.free_run-behind.ensures)
+    all_behind c.args.region.now.bytes c.args.found _ c.requires.found
+    (free_behind_found c.args.region.now.bytes c.args.found _ c.free_run-behind.result c.size_of_body-own.ensures c.requires.found c.free_run-behind.ensures)
 
 pub returns-in-Some-clause-grown : goal.returns-in-Some-clause-grown
 returns-in-Some-clause-grown c =
-    grows c.args.region.now.bytes c.resize_listed.new.region.bytes c.args.found c.args.count c.free_run-behind.result c.requires.heap.accepted c.requires.found
-    (free_behind_found c.args.region.now.bytes c.args.found c.size_of_body-own.result c.free_run-behind.result c.size_of_body-own.ensures c.requires.found c.free_run-behind.ensures) c.resize_listed.ensures.resized
+    grows _ _ _ c.args.count _ c.requires.heap.accepted c.requires.found
+    (free_behind_found c.args.region.now.bytes c.args.found _ c.free_run-behind.result c.size_of_body-own.ensures c.requires.found c.free_run-behind.ensures) c.resize_listed.ensures.resized
 
 pub returns-in-Some-clause-tells : goal.returns-in-Some-clause-tells
 returns-in-Some-clause-tells c =
     let is = c.in-Some.ensures.1 in
     let enough = c.if-size-own.true in
-    in_place_yes c.args.region.now.bytes c.args.found c.args.count c.size_of_body-own.result c.free_run-behind.result c.size_of_body-own.ensures c.free_run-behind.ensures (omega arith)
+    in_place_yes c.args.region.now.bytes c.args.found c.args.count _ c.free_run-behind.result c.size_of_body-own.ensures c.free_run-behind.ensures (omega arith)
 
 pub returns-in_default-clause-tells : goal.returns-in_default-clause-tells
 returns-in_default-clause-tells c =
     let is = c.in-Some.ensures.1 in
     let short = c.if-size-own.false in
-    in_place_no c.args.region.now.bytes c.args.found c.args.count c.size_of_body-own.result c.free_run-behind.result c.size_of_body-own.ensures c.free_run-behind.ensures (omega arith)
+    in_place_no c.args.region.now.bytes c.args.found c.args.count _ c.free_run-behind.result c.size_of_body-own.ensures c.free_run-behind.ensures (omega arith)
 
 pub returns-in_default-2-clause-tells : goal.returns-in_default-2-clause-tells
 returns-in_default-2-clause-tells c =
-    let f = in_place_facts c.args.region.now.bytes c.args.found c.size_of_body-own.result c.free_run-behind.result c.requires.heap.accepted c.requires.found c.size_of_body-own.ensures c.free_run-behind.ensures in
+    let f = in_place_facts _ c.args.found _ c.free_run-behind.result c.requires.heap.accepted c.requires.found c.size_of_body-own.ensures c.free_run-behind.ensures in
     let inside = f.0 in let most = f.1 in let beyond = c.in_default.ensures in
-    in_place_no c.args.region.now.bytes c.args.found c.args.count c.size_of_body-own.result c.free_run-behind.result c.size_of_body-own.ensures c.free_run-behind.ensures (grind arith)
+    in_place_no c.args.region.now.bytes c.args.found c.args.count _ c.free_run-behind.result c.size_of_body-own.ensures c.free_run-behind.ensures (grind arith)

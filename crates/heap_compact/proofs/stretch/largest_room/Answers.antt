@@ -1,8 +1,6 @@
 use Rattle.std.proofs.Common.{ℕ, ◌+◌, ◌∙◌, sym, ap, subst, arith}
 use Rattle.std.specs.Prelude.{max}
-use Rattle.chunk_format.specs.Header.{size_by}
-use Rattle.heap_place.specs.Search.{Passed}
-use Rattle.heap_compact.specs.Stretches.{HaveRooms}
+use Rattle.heap_compact.proofs.Words.{size_by, Passed, HaveRooms}
 use Rattle.heap_place.proofs.WalkLaws.{passed_there, passed_size, free_fits_by}
 use Rattle.heap_compact.proofs.LargestLaws.{rooms_start, rooms_fit, rooms_closed, rooms_more, rooms_all}
 use Rattle.laws_heap.proofs.LentBodies.{walked_misses}
@@ -10,18 +8,18 @@ use Rattle.heap_compact.proofs.stretch.largest_room.Goals as goal
 use Rattle.heap_compact.proofs.stretch.largest_room.Goals.{then-stays, else-stays}
 
 pub loop-at-init : goal.loop-at-init
-loop-at-init c = subst (λ n. Passed c.args.region.now.bytes (HaveRooms 0 0) n) (sym c.area_start-at.ensures) (rooms_start c.args.region.now.bytes c.requires.heap.accepted)
+loop-at-init c = subst (λ n. Passed c.args.region.now.bytes (HaveRooms 0 0) n) (sym c.area_start-at.ensures) (rooms_start c.requires.heap.accepted)
 
 pub at_with_size-header-requires-clause-chunk : goal.at_with_size-header-requires-clause-chunk
 at_with_size-header-requires-clause-chunk c =
-    let chunk = passed_there c.args.region.now.bytes (HaveRooms c.loop-at.largest c.loop-at.room) c.loop-at.at c.requires.heap.accepted c.loop-at.invariant (omega arith) in
+    let chunk = passed_there _ _ _ c.requires.heap.accepted c.loop-at.invariant (omega arith) in
     record { chunk = chunk.0; spelled = chunk.1 }
 
 pub overflow_add-room : goal.overflow_add-room
 overflow_add-room c =
     let most = c.requires.heap.accepted.1.tiles.head.most in
-    let fits = rooms_fit c.args.region.now.bytes c.loop-at.largest c.loop-at.room c.loop-at.at c.loop-at.invariant in
-    let size = passed_size c.args.region.now.bytes c.loop-at.at c.at_with_size-header.result.0 c.at_with_size-header.ensures.header in
+    let fits = rooms_fit c.loop-at.largest c.loop-at.room c.loop-at.invariant in
+    let size = passed_size _ _ _ c.at_with_size-header.ensures.header in
     let inside = size.1 in
     let within = free_fits_by c.at_with_size-header.result.0 in
     omega arith
@@ -33,15 +31,15 @@ loop-at-preserved c =
       | then-stays w ↦
           subst (λ n. Passed c.args.region.now.bytes (HaveRooms n c.if-stays.room) (c.loop-at.at + size_by c.at_with_size-header.result.0)) (sym (w.largest-is ∙ w.max-largest.ensures))
           (subst (λ n. Passed c.args.region.now.bytes (HaveRooms (max c.loop-at.largest c.loop-at.room) n) (c.loop-at.at + size_by c.at_with_size-header.result.0)) (sym w.room-is)
-          (rooms_closed c.args.region.now.bytes c.loop-at.largest c.loop-at.room c.loop-at.at c.at_with_size-header.result.0 c.loop-at.invariant c.at_with_size-header.ensures.header (c.stays.ensures.0 w.if-stays.true)))
+          (rooms_closed c.loop-at.largest c.loop-at.room c.loop-at.invariant c.at_with_size-header.ensures.header (c.stays.ensures.0 w.if-stays.true)))
       | else-stays w ↦
           subst (λ n. Passed c.args.region.now.bytes (HaveRooms n c.if-stays.room) (c.loop-at.at + size_by c.at_with_size-header.result.0)) (sym w.largest-is)
           (subst (λ n. Passed c.args.region.now.bytes (HaveRooms c.loop-at.largest n) (c.loop-at.at + size_by c.at_with_size-header.result.0)) (sym (w.room-is ∙ ap (λ (n : ℕ). c.loop-at.room + n) w.size_if_free-room.ensures))
-          (rooms_more c.args.region.now.bytes c.loop-at.largest c.loop-at.room c.loop-at.at c.at_with_size-header.result.0 c.loop-at.invariant c.at_with_size-header.ensures.header (λ stay. let is = c.stays.ensures.1 stay in let isnt = w.if-stays.false in cc)))
+          (rooms_more c.loop-at.largest c.loop-at.room c.loop-at.invariant c.at_with_size-header.ensures.header (λ stay. let is = c.stays.ensures.1 stay in let isnt = w.if-stays.false in cc)))
     ])
 
 pub returns : goal.returns
-returns c = c.max.ensures ∙ rooms_all c.args.region.now.bytes c.loop-at.largest c.loop-at.room c.loop-at.at c.requires.heap.accepted c.loop-at.invariant (omega arith)
+returns c = c.max.ensures ∙ rooms_all c.loop-at.largest c.loop-at.room c.requires.heap.accepted c.loop-at.invariant (omega arith)
 
 pub at_with_size-header-requires-clause-misses : goal.at_with_size-header-requires-clause-misses
 at_with_size-header-requires-clause-misses c = walked_misses c.args.region.now c.loop-at.invariant.front c.loop-at.at c.requires.heap.accepted c.requires.heap.lent c.loop-at.invariant.spelled (omega arith)

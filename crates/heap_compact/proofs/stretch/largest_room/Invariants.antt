@@ -1,6 +1,5 @@
 use Rattle.std.proofs.Common.{◌-◌}
-use Rattle.heap_place.specs.Search.{Passed}
-use Rattle.heap_compact.specs.Stretches.{HaveRooms}
+use Rattle.heap_compact.proofs.Words.{Passed, HaveRooms}
 use Rattle.heap_compact.proofs.stretch.largest_room.Given as goal
 
 abbrev pub invariant-loop-at : goal.invariant-loop-at

@@ -1,18 +1,17 @@
 use Rattle.std.proofs.Common.{arith}
 use Rattle.heap_place.proofs.WalkLaws.{free_fits_by}
-use Rattle.heap_compact.proofs.StretchRoomLaws.{summed_chunk, summed_fits, summed_more, summed_all}
-use Rattle.heap_compact.proofs.StretchRoomLaws.{summed_misses}
+use Rattle.heap_compact.proofs.StretchRoomLaws.{summed_chunk, summed_fits, summed_more, summed_all, summed_misses}
 use Rattle.heap_compact.proofs.stretch.room_of_stretch.Goals as goal
 
 pub at_with_size-header-requires-clause-chunk : goal.at_with_size-header-requires-clause-chunk
 at_with_size-header-requires-clause-chunk c =
-    let chunk = summed_chunk c.args.region.now.bytes c.args.stretch c.loop-at.at c.loop-at.room c.requires.heap.accepted c.requires.stretch c.loop-at.invariant c.loop-at-test.true in
+    let chunk = summed_chunk c.requires.heap.accepted c.requires.stretch c.loop-at.invariant c.loop-at-test.true in
     record { chunk = chunk.0; spelled = chunk.1 }
 
 pub overflow_add-room : goal.overflow_add-room
 overflow_add-room c =
     let most = c.requires.heap.accepted.1.tiles.head.most in
-    let fits = summed_fits c.args.region.now.bytes c.args.stretch c.loop-at.at c.loop-at.room c.at_with_size-header.result.0 c.requires.heap.accepted c.requires.stretch c.loop-at.invariant c.loop-at-test.true c.at_with_size-header.ensures.header in
+    let fits = summed_fits c.requires.heap.accepted c.requires.stretch c.loop-at.invariant c.loop-at-test.true c.at_with_size-header.ensures.header in
     let low = fits.0 in
     let inside = fits.1 in
     let within = free_fits_by c.at_with_size-header.result.0 in
@@ -21,11 +20,11 @@ overflow_add-room c =
 
 pub loop-at-preserved : goal.loop-at-preserved
 loop-at-preserved c =
-    summed_more c.args.region.now.bytes c.args.stretch c.loop-at.at c.loop-at.room c.at_with_size-header.result.1 c.size_if_free-room.result c.at_with_size-header.result.0 c.requires.heap.accepted c.loop-at.invariant c.loop-at-test.true c.at_with_size-header.ensures.header
+    summed_more c.requires.heap.accepted c.loop-at.invariant c.loop-at-test.true c.at_with_size-header.ensures.header
     c.at_with_size-header.ensures.size c.size_if_free-room.ensures
 
 pub returns : goal.returns
-returns c = summed_all c.args.region.now.bytes c.args.stretch c.loop-at.at c.loop-at.room c.requires.heap.accepted c.loop-at.invariant (omega arith)
+returns c = summed_all c.requires.heap.accepted c.loop-at.invariant (omega arith)
 
 pub at_with_size-header-requires-clause-misses : goal.at_with_size-header-requires-clause-misses
-at_with_size-header-requires-clause-misses c = summed_misses c.args.region.now c.args.stretch c.loop-at.at c.loop-at.room c.requires.heap.accepted c.requires.heap.lent c.requires.stretch c.loop-at.invariant c.loop-at-test.true
+at_with_size-header-requires-clause-misses c = summed_misses c.requires.heap c.requires.stretch c.loop-at.invariant c.loop-at-test.true

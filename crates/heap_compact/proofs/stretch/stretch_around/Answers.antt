@@ -8,16 +8,16 @@ use Rattle.heap_compact.proofs.stretch.stretch_around.Goals.{then-stays+else-her
 
 pub loop-here-init : goal.loop-here-init
 loop-here-init c =
-    seen_start c.args.region.now.bytes (c.args.found.place.0 - 8) c.args.found.name.0 c.args.found.length c.area_start-here.result c.requires.heap.accepted (unlocked c.args.region.now.bytes c.args.found c.requires.found c.requires.unlocked) c.area_start-here.ensures
+    seen_start c.requires.heap.accepted (unlocked _ _ c.requires.found c.requires.unlocked) c.area_start-here.ensures
 
 pub at_with_size-header-requires-clause-chunk : goal.at_with_size-header-requires-clause-chunk
 at_with_size-header-requires-clause-chunk c =
-    let chunk = seen_chunk c.args.region.now.bytes (c.args.found.place.0 - 8) c.loop-here.start c.loop-here.here c.requires.heap.accepted c.loop-here.invariant (omega arith) in
+    let chunk = seen_chunk c.requires.heap.accepted c.loop-here.invariant (omega arith) in
     record { chunk = chunk.0; spelled = chunk.1 }
 
 pub returns-then-here-at-clause-around : goal.returns-then-here-at-clause-around
 returns-then-here-at-clause-around c =
-    seen_found c.args.region.now.bytes (c.args.found.place.0 - 8) c.args.found.name.0 c.args.found.length c.loop-here.start c.loop-here.here c.at_with_size-header.result.0 c.requires.heap.accepted (unlocked c.args.region.now.bytes c.args.found c.requires.found c.requires.unlocked) c.loop-here.invariant c.at_with_size-header.ensures.header
+    seen_found c.requires.heap.accepted (unlocked _ _ c.requires.found c.requires.unlocked) c.loop-here.invariant c.at_with_size-header.ensures.header
     (c.stays.ensures.0 c.if-stays.true) (omega arith)
 
 pub loop-here-preserved : goal.loop-here-preserved
@@ -25,7 +25,7 @@ loop-here-preserved c = elim c.if-stays.branch [
   | then-stays+else-here-at w ↦
       let stop = w.if-here-at.false in
       subst (λ n. SeenUpTo c.args.region.now.bytes (c.args.found.place.0 - 8) n (c.loop-here.here + c.at_with_size-header.result.1)) (sym w.start-is)
-      (seen_stay c.args.region.now.bytes (c.args.found.place.0 - 8) c.args.found.name.0 c.args.found.length c.loop-here.start c.loop-here.here c.at_with_size-header.result.1 c.at_with_size-header.result.0 c.requires.heap.accepted (unlocked c.args.region.now.bytes c.args.found c.requires.found c.requires.unlocked) c.loop-here.invariant
+      (seen_stay c.requires.heap.accepted (unlocked _ _ c.requires.found c.requires.unlocked) c.loop-here.invariant
       c.at_with_size-header.ensures.header c.at_with_size-header.ensures.size (c.stays.ensures.0 w.if-stays.true) (omega (arith, stop)))
   | else-stays w ↦
       subst (λ n. SeenUpTo c.args.region.now.bytes (c.args.found.place.0 - 8) n (c.loop-here.here + c.at_with_size-header.result.1)) (sym w.start-is)
@@ -33,14 +33,14 @@ loop-here-preserved c = elim c.if-stays.branch [
 ]
 
 pub returns-clause-around : goal.returns-clause-around
-returns-clause-around c = seen_all c.args.region.now.bytes (c.args.found.place.0 - 8) c.args.found.name.0 c.args.found.length c.loop-here.start c.loop-here.here c.requires.heap.accepted (unlocked c.args.region.now.bytes c.args.found c.requires.found c.requires.unlocked) c.loop-here.invariant (omega arith)
+returns-clause-around c = seen_all c.requires.heap.accepted (unlocked _ _ c.requires.found c.requires.unlocked) c.loop-here.invariant (omega arith)
 
 pub returns-then-here-at-clause-stretch : goal.returns-then-here-at-clause-stretch
-returns-then-here-at-clause-stretch c = among_stretch c.args.region.now.bytes (c.args.found.place.0 - 8) c.args.found.name.0 c.args.found.length _
-    (seen_found c.args.region.now.bytes (c.args.found.place.0 - 8) c.args.found.name.0 c.args.found.length c.loop-here.start c.loop-here.here c.at_with_size-header.result.0 c.requires.heap.accepted (unlocked c.args.region.now.bytes c.args.found c.requires.found c.requires.unlocked) c.loop-here.invariant c.at_with_size-header.ensures.header (c.stays.ensures.0 c.if-stays.true) (omega arith))
+returns-then-here-at-clause-stretch c = among_stretch
+    (seen_found c.requires.heap.accepted (unlocked _ _ c.requires.found c.requires.unlocked) c.loop-here.invariant c.at_with_size-header.ensures.header (c.stays.ensures.0 c.if-stays.true) (omega arith))
 
 pub returns-clause-stretch : goal.returns-clause-stretch
-returns-clause-stretch c = among_stretch c.args.region.now.bytes (c.args.found.place.0 - 8) c.args.found.name.0 c.args.found.length _ (seen_all c.args.region.now.bytes (c.args.found.place.0 - 8) c.args.found.name.0 c.args.found.length c.loop-here.start c.loop-here.here c.requires.heap.accepted (unlocked c.args.region.now.bytes c.args.found c.requires.found c.requires.unlocked) c.loop-here.invariant (omega arith))
+returns-clause-stretch c = among_stretch (seen_all c.requires.heap.accepted (unlocked _ _ c.requires.found c.requires.unlocked) c.loop-here.invariant (omega arith))
 
 pub at_with_size-header-requires-clause-misses : goal.at_with_size-header-requires-clause-misses
 at_with_size-header-requires-clause-misses c = walked_misses c.args.region.now (c.loop-here.invariant.closed ++ c.loop-here.invariant.run) c.loop-here.here c.requires.heap.accepted c.requires.heap.lent c.loop-here.invariant.spelled (omega arith)

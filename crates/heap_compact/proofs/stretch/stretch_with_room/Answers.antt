@@ -7,45 +7,43 @@ use Rattle.heap_compact.proofs.stretch.stretch_with_room.Goals as goal
 use Rattle.heap_compact.proofs.stretch.stretch_with_room.Goals.{then-stays+else-room-size, else-stays}
 
 pub loop-here-init : goal.loop-here-init
-loop-here-init c = rooms_start c.args.region.now.bytes c.args.size c.area_start-here.result c.requires.heap.accepted c.area_start-here.ensures
+loop-here-init c = rooms_start c.args.size c.requires.heap.accepted c.area_start-here.ensures
 
 pub at_with_size-header-requires-clause-chunk : goal.at_with_size-header-requires-clause-chunk
 at_with_size-header-requires-clause-chunk c =
-    let chunk = seen_chunk c.args.region.now.bytes c.loop-here.start c.loop-here.start c.loop-here.here c.requires.heap.accepted c.loop-here.invariant.seen (omega arith) in
+    let chunk = seen_chunk c.requires.heap.accepted c.loop-here.invariant.seen (omega arith) in
     record { chunk = chunk.0; spelled = chunk.1 }
 
 pub returns-then-room-size-clause-room : goal.returns-then-room-size-clause-room
-returns-then-room-size-clause-room c = room_found c.args.region.now.bytes c.args.size c.loop-here.start c.loop-here.here c.loop-here.room c.at_with_size-header.result.0 c.requires.heap.accepted c.loop-here.invariant c.at_with_size-header.ensures.header (c.stays.ensures.0 c.if-stays.true) (omega arith)
+returns-then-room-size-clause-room c = room_found c.loop-here.invariant c.requires.heap.accepted c.at_with_size-header.ensures.header (c.stays.ensures.0 c.if-stays.true) (omega arith)
 
 pub overflow_add-room : goal.overflow_add-room
 overflow_add-room c =
-    let more = rooms_more c.args.region.now.bytes c.args.size c.loop-here.start c.loop-here.here c.loop-here.room c.at_with_size-header.result.1 c.size_if_free-room.result c.at_with_size-header.result.0 c.loop-here.invariant c.at_with_size-header.ensures.header c.at_with_size-header.ensures.size (λ stay. let is = c.stays.ensures.1 stay in let isnt = c.if-stays.false in cc) c.size_if_free-room.ensures in
-    let low = rooms_low c.args.region.now.bytes c.args.size c.loop-here.start (c.loop-here.here + c.at_with_size-header.result.1) (c.loop-here.room + c.size_if_free-room.result) more in
-    let inside = (seen_size c.args.region.now.bytes c.loop-here.here c.at_with_size-header.result.1 c.at_with_size-header.result.0 c.at_with_size-header.ensures.header c.at_with_size-header.ensures.size).1 in
-    let most = c.requires.heap.accepted.1.tiles.head.most in
-    omega (arith, low, inside, most)
+    let more = rooms_more c.loop-here.invariant c.at_with_size-header.ensures.header c.at_with_size-header.ensures.size (λ stay. let is = c.stays.ensures.1 stay in let isnt = c.if-stays.false in cc) c.size_if_free-room.ensures in
+    let inside = (seen_size c.at_with_size-header.ensures.header c.at_with_size-header.ensures.size).1 in
+    omega (arith, rooms_low more, inside, c.requires.heap.accepted.1.tiles.head.most)
 
 pub returns-then-room-size-2-clause-room : goal.returns-then-room-size-2-clause-room
-returns-then-room-size-2-clause-room c = room_last c.args.region.now.bytes c.args.size c.loop-here.start c.loop-here.here c.loop-here.room c.requires.heap.accepted c.loop-here.invariant (omega arith) (omega arith)
+returns-then-room-size-2-clause-room c = room_last c.loop-here.invariant c.requires.heap.accepted (omega arith) (omega arith)
 
 pub returns-clause-none : goal.returns-clause-none
-returns-clause-none c = room_none c.args.region.now.bytes c.args.size c.loop-here.start c.loop-here.here c.loop-here.room c.requires.heap.accepted c.loop-here.invariant (omega arith) (omega arith)
+returns-clause-none c = room_none c.loop-here.invariant c.requires.heap.accepted (omega arith) (omega arith)
 
 pub loop-here-preserved : goal.loop-here-preserved
 loop-here-preserved c = elim c.if-stays.branch [
   | then-stays+else-room-size w ↦
       subst (λ n. SeenRooms c.args.region.now.bytes c.args.size n (c.loop-here.here + c.at_with_size-header.result.1) c.if-stays.room) (sym w.start-is) (subst (λ n. SeenRooms c.args.region.now.bytes c.args.size (c.loop-here.here + c.at_with_size-header.result.1) (c.loop-here.here + c.at_with_size-header.result.1) n) (sym w.room-is)
-      (rooms_closed c.args.region.now.bytes c.args.size c.loop-here.start c.loop-here.here c.loop-here.room c.at_with_size-header.result.1 c.at_with_size-header.result.0 c.loop-here.invariant c.at_with_size-header.ensures.header c.at_with_size-header.ensures.size (c.stays.ensures.0 w.if-stays.true) (let stop = w.if-room-size.false in omega (arith, stop))))
+      (rooms_closed c.loop-here.invariant c.at_with_size-header.ensures.header c.at_with_size-header.ensures.size (c.stays.ensures.0 w.if-stays.true) (omega (arith, w.if-room-size.false))))
   | else-stays w ↦
       subst (λ n. SeenRooms c.args.region.now.bytes c.args.size n (c.loop-here.here + c.at_with_size-header.result.1) c.if-stays.room) (sym w.start-is) (subst (λ n. SeenRooms c.args.region.now.bytes c.args.size c.loop-here.start (c.loop-here.here + c.at_with_size-header.result.1) n) (sym w.room-is)
-      (rooms_more c.args.region.now.bytes c.args.size c.loop-here.start c.loop-here.here c.loop-here.room c.at_with_size-header.result.1 _ c.at_with_size-header.result.0 c.loop-here.invariant c.at_with_size-header.ensures.header c.at_with_size-header.ensures.size (λ stay. let is = c.stays.ensures.1 stay in let isnt = w.if-stays.false in cc) w.size_if_free-room.ensures))
+      (rooms_more c.loop-here.invariant c.at_with_size-header.ensures.header c.at_with_size-header.ensures.size (λ stay. let is = c.stays.ensures.1 stay in let isnt = w.if-stays.false in cc) w.size_if_free-room.ensures))
 ]
 
 pub returns-then-room-size-clause-stretch : goal.returns-then-room-size-clause-stretch
-returns-then-room-size-clause-stretch c = room_stretch c.args.region.now.bytes c.args.size _ (room_found c.args.region.now.bytes c.args.size c.loop-here.start c.loop-here.here c.loop-here.room c.at_with_size-header.result.0 c.requires.heap.accepted c.loop-here.invariant c.at_with_size-header.ensures.header (c.stays.ensures.0 c.if-stays.true) (omega arith))
+returns-then-room-size-clause-stretch c = room_stretch (room_found c.loop-here.invariant c.requires.heap.accepted c.at_with_size-header.ensures.header (c.stays.ensures.0 c.if-stays.true) (omega arith))
 
 pub returns-then-room-size-2-clause-stretch : goal.returns-then-room-size-2-clause-stretch
-returns-then-room-size-2-clause-stretch c = room_stretch c.args.region.now.bytes c.args.size _ (room_last c.args.region.now.bytes c.args.size c.loop-here.start c.loop-here.here c.loop-here.room c.requires.heap.accepted c.loop-here.invariant (omega arith) (omega arith))
+returns-then-room-size-2-clause-stretch c = room_stretch (room_last c.loop-here.invariant c.requires.heap.accepted (omega arith) (omega arith))
 
 pub at_with_size-header-requires-clause-misses : goal.at_with_size-header-requires-clause-misses
 at_with_size-header-requires-clause-misses c = walked_misses c.args.region.now (c.loop-here.invariant.seen.closed ++ c.loop-here.invariant.seen.run) c.loop-here.here c.requires.heap.accepted c.requires.heap.lent c.loop-here.invariant.seen.spelled (omega arith)

@@ -1,6 +1,6 @@
 use Rattle.std.proofs.Common.{◌≡◌, ◌≤◌, length, ap, sym, subst, arith}
 use Rattle.heap_model.specs.Store.{directory_bytes}
-use Rattle.db_format.specs.Headers.{IsWhole}
+use Rattle.db_format.specs.Headers.{AreWholeBytes}
 use Rattle.store_check.specs.Listing.{listed_count}
 use Rattle.heap_map.proofs.ReadingLaws.{header_whole}
 use Rattle.heap_map.proofs.NumberLaws.{few_listed, numbers_all}
@@ -21,7 +21,7 @@ overflow_add-db c =
 pub note_database-requires : goal.note_database-requires
 note_database-requires c =
     let len : length c.directory_in-directory.result.now ≡ length (directory_bytes c.args.region.now.bytes) = ap length c.directory_in-directory.ensures in
-    subst IsWhole (sym c.header_in-header.ensures) (header_whole c.args.region.now.bytes c.loop-db.db c.requires.accepted (omega arith))
+    subst AreWholeBytes (sym c.header_in-header.ensures) (header_whole c.args.region.now.bytes c.loop-db.db c.requires.accepted (omega arith))
 
 pub returns : goal.returns
 returns c =

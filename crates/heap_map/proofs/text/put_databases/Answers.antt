@@ -1,10 +1,10 @@
 use Rattle.std.proofs.Common.{◌≡◌, ◌+◌, ◌<◌, ◌≤◌, List, ℕ, true, false, length, ap, sym, subst, arith}
 use Rattle.heap_model.specs.Store.{directory_bytes}
-use Rattle.db_format.specs.Headers.{IsWhole}
+use Rattle.db_format.specs.Headers.{AreWholeBytes}
 use Rattle.store_check.specs.Listing.{listed_count}
 use Rattle.palm_text.specs.Counted.{Writes}
 use Rattle.palm_text.proofs.Parts.{then, stops, nothing}
-use Rattle.heap_map.specs.Text.{database_text, database_line, database_lines}
+use Rattle.heap_map.specs.Text.{map_database_line, database_line, database_lines}
 use Rattle.heap_map.proofs.LineLaws.{rest_lines, line_here, none_left}
 use Rattle.heap_map.proofs.ReadingLaws.{header_whole}
 use Rattle.heap_map.proofs.NumberLaws.{few_listed}
@@ -17,7 +17,7 @@ loop-db-init g c = λ new ok w. w
 pub put_database-requires-clause-whole : goal.put_database-requires-clause-whole
 put_database-requires-clause-whole g c =
     let len : length c.directory_in-directory.result.now ≡ length (directory_bytes c.args.region.now.bytes) = ap length c.directory_in-directory.ensures in
-    subst IsWhole (sym c.header_in.ensures) (header_whole c.args.region.now.bytes c.loop-db.db c.requires.accepted (omega arith))
+    subst AreWholeBytes (sym c.header_in.ensures) (header_whole c.args.region.now.bytes c.loop-db.db c.requires.accepted (omega arith))
 
 pub loop-db-preserved : goal.loop-db-preserved
 loop-db-preserved g c = λ new ok w.
@@ -25,7 +25,7 @@ loop-db-preserved g c = λ new ok w.
     let i = c.loop-db.db in
     let len : length c.directory_in-directory.result.now ≡ length (directory_bytes image) = ap length c.directory_in-directory.ensures in
     let inside : i < listed_count image = omega arith in
-    let line = subst (λ (header : List ℕ). Writes g.W.Write.contents c.loop-db.out c.put_database.new.out (database_text (i + 1) header) true) c.header_in.ensures c.in-Ok.ensures in
+    let line = subst (λ (header : List ℕ). Writes g.W.Write.contents c.loop-db.out c.put_database.new.out (map_database_line (i + 1) header) true) c.header_in.ensures c.in-Ok.ensures in
     c.loop-db.invariant new ok
     (subst (λ (text : List ℕ). Writes g.W.Write.contents c.loop-db.out new text ok) (sym (line_here (database_line image) (listed_count image) i inside))
     (then g.W.Write.contents c.loop-db.out c.put_database.new.out new (database_line image i) (rest_lines (database_line image) (listed_count image) (i + 1)) ok line w))
@@ -36,7 +36,7 @@ returns-in-Err g c =
     let i = c.loop-db.db in
     let len : length c.directory_in-directory.result.now ≡ length (directory_bytes image) = ap length c.directory_in-directory.ensures in
     let inside : i < listed_count image = omega arith in
-    let line = subst (λ (header : List ℕ). Writes g.W.Write.contents c.loop-db.out c.put_database.new.out (database_text (i + 1) header) false) c.header_in.ensures c.in-Err.ensures in
+    let line = subst (λ (header : List ℕ). Writes g.W.Write.contents c.loop-db.out c.put_database.new.out (map_database_line (i + 1) header) false) c.header_in.ensures c.in-Err.ensures in
     c.loop-db.invariant c.put_database.new.out false
     (subst (λ (text : List ℕ). Writes g.W.Write.contents c.loop-db.out c.put_database.new.out text false) (sym (line_here (database_line image) (listed_count image) i inside))
     (stops g.W.Write.contents c.loop-db.out c.put_database.new.out (database_line image i) (rest_lines (database_line image) (listed_count image) (i + 1)) line))

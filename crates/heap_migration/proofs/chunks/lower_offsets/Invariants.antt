@@ -1,4 +1,4 @@
-use Rattle.std.proofs.Common.{[], ◌-◌, ◌≡◌, None}
+use Rattle.std.proofs.Common.{[], ◌-◌, ◌≡◌}
 use Rattle.heap_migration.specs.Writing.{WroteUpTo}
 use Rattle.heap_migration.proofs.chunks.lower_offsets.Given as goal
 

@@ -1,4 +1,4 @@
-use Rattle.std.proofs.Common.{[], ◌-◌, ◌≡◌, None}
+use Rattle.std.proofs.Common.{[], ◌-◌, ◌≡◌}
 use Rattle.heap_migration.specs.Writing.{RaisedUpTo}
 use Rattle.heap_migration.proofs.head.raise_slots.Given as goal
 

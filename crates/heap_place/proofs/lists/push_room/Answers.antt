@@ -1,5 +1,4 @@
-use Rattle.std.proofs.Common.{◌-◌, arith}
-use Rattle.heap_place.specs.Gathers.{Before}
+use Rattle.heap_place.proofs.Words.{◌-◌, arith, Before}
 use Rattle.heap_place.proofs.ListLaws.{lists_weaker}
 use Rattle.heap_place.proofs.TakeLaws.{chunk_inside}
 use Rattle.heap_place.proofs.AlikeLaws.{no_words, one_word}
@@ -10,15 +9,15 @@ pub push-requires-clause-free : goal.push-requires-clause-free
 push-requires-clause-free c = c.requires.free (omega arith)
 
 pub returns-then-room-gt0-clause-same : goal.returns-then-room-gt0-clause-same
-returns-then-room-gt0-clause-same c = one_word c.args.region.now.bytes c.push.new.region.bytes (c.args.end - c.args.room) _ c.push.ensures.pushed.links
+returns-then-room-gt0-clause-same c = one_word c.push.ensures.pushed.links
 
 pub returns-then-room-gt0-clause-lists : goal.returns-then-room-gt0-clause-lists
 returns-then-room-gt0-clause-lists c =
-    pushed_lists c.args.region.now.bytes c.push.new.region.bytes c.args.lists.now c.push.new.lists c.args.end c.args.room (chunk_inside c.args.region.now.bytes (c.args.end - c.args.room) c.args.room c.requires.heap.accepted (c.requires.free (omega arith))).1
+    pushed_lists c.args.end c.args.room (chunk_inside c.requires.heap.accepted (c.requires.free (omega arith))).1
     c.requires.within c.requires.lists c.push.ensures.pushed
 
 pub returns-else-room-gt0-clause-same : goal.returns-else-room-gt0-clause-same
-returns-else-room-gt0-clause-same c = no_words c.args.region.now.bytes c.requires.heap.accepted
+returns-else-room-gt0-clause-same c = no_words c.requires.heap.accepted
 
 pub returns-else-room-gt0-clause-lists : goal.returns-else-room-gt0-clause-lists
-returns-else-room-gt0-clause-lists c = lists_weaker (Before (c.args.end - c.args.room)) (Before c.args.end) c.args.region.now.bytes c.args.lists.now (λ x b before. omega arith) c.requires.lists
+returns-else-room-gt0-clause-lists c = lists_weaker (Before (c.args.end - c.args.room)) (Before c.args.end) _ _ (λ x b before. omega arith) c.requires.lists

@@ -1,6 +1,5 @@
 -- The header of a lent body is that of a movable chunk in its slot, or of a fixed one.
-use Rattle.std.proofs.Common.{◌-◌, ℕ, sym, subst, ◌∙◌}
-use Rattle.heap_place.specs.Found.{IsFound}
+use Rattle.heap_place.proofs.Words.{sym, subst, ◌∙◌, IsFound}
 use Rattle.heap_place.proofs.LookupLaws.{header_read}
 use Rattle.heap_place.proofs.LentChunks.{lent_low, lent_misses, lent_has_chunk, lent_movable_one, lent_fixed_one, fixed_at_place}
 use Rattle.heap_place.proofs.lookup.lent_chunk.Goals as goal
@@ -9,26 +8,26 @@ pub overflow_sub-place : goal.overflow_sub-place
 overflow_sub-place c = lent_low c.args.region.now c.args.place.0 c.requires.heap.lent c.requires.begins
 
 pub at-header-requires-clause-chunk : goal.at-header-requires-clause-chunk
-at-header-requires-clause-chunk c = lent_has_chunk c.args.region.now c.args.place.0 c.requires.heap.accepted c.requires.heap.lent c.requires.begins
+at-header-requires-clause-chunk c = lent_has_chunk c.args.place.0 c.requires.heap c.requires.begins
 
 pub at-header-requires-clause-misses : goal.at-header-requires-clause-misses
-at-header-requires-clause-misses c = lent_misses c.args.region.now c.args.place.0 c.requires.heap.accepted c.requires.heap.lent c.requires.begins
+at-header-requires-clause-misses c = lent_misses c.args.place.0 c.requires.heap c.requires.begins
 
 pub fixed_at-requires-clause-fixed : goal.fixed_at-requires-clause-fixed
 fixed_at-requires-clause-fixed c =
-    lent_fixed_one c.args.region.now c.args.place c.at-header.result c.requires.heap.accepted c.requires.heap.lent c.requires.begins
-    (header_read c.args.region.now.bytes (c.args.place.0 - 8) c.at-header.result c.at-header.ensures) (sym c.as_movable.ensures ∙ c.in-None.is)
+    lent_fixed_one c.args.place c.requires.heap c.requires.begins
+    (header_read c.at-header.ensures) (sym c.as_movable.ensures ∙ c.in-None.is)
 
 pub returns-in-Some-clause-found : goal.returns-in-Some-clause-found
 returns-in-Some-clause-found c =
-    lent_movable_one c.args.region.now c.args.place c.at-header.result c.in-Some.found c.requires.heap.accepted c.requires.heap.lent c.requires.begins
-    (header_read c.args.region.now.bytes (c.args.place.0 - 8) c.at-header.result c.at-header.ensures) (sym c.as_movable.ensures ∙ c.in-Some.is)
+    lent_movable_one c.args.place c.requires.heap c.requires.begins
+    (header_read c.at-header.ensures) (sym c.as_movable.ensures ∙ c.in-Some.is)
 
 pub returns-in-None-clause-found : goal.returns-in-None-clause-found
-returns-in-None-clause-found c = subst (λ (n : ℕ). IsFound c.args.region.now.bytes n c.fixed_at.result) (sym c.fixed_at.ensures.name_is) c.fixed_at.ensures
+returns-in-None-clause-found c = subst (λ n. IsFound c.args.region.now.bytes n c.fixed_at.result) (sym c.fixed_at.ensures.name_is) c.fixed_at.ensures
 
 pub returns-in-None-clause-there : goal.returns-in-None-clause-there
 returns-in-None-clause-there c =
-    fixed_at_place c.args.region.now.bytes c.args.place.0 c.fixed_at.result c.requires.heap.accepted
-    (lent_fixed_one c.args.region.now c.args.place c.at-header.result c.requires.heap.accepted c.requires.heap.lent c.requires.begins
-    (header_read c.args.region.now.bytes (c.args.place.0 - 8) c.at-header.result c.at-header.ensures) (sym c.as_movable.ensures ∙ c.in-None.is)) c.fixed_at.ensures
+    fixed_at_place c.requires.heap.accepted
+    (lent_fixed_one c.args.place c.requires.heap c.requires.begins
+    (header_read c.at-header.ensures) (sym c.as_movable.ensures ∙ c.in-None.is)) c.fixed_at.ensures

@@ -1,5 +1,4 @@
-use Rattle.std.proofs.Common.{◌-◌, length}
-use Rattle.heap_place.specs.Search.{Passed, NoneLentAmong}
+use Rattle.heap_place.proofs.Words.{◌-◌, length, Passed, NoneLentAmong}
 use Rattle.heap_place.proofs.owned.lent_of_owner.Given as goal
 
 abbrev pub invariant-loop-at : goal.invariant-loop-at

@@ -1,6 +1,4 @@
-use Rattle.std.proofs.Common.{◌-◌, ◌≡◌, length}
-use Rattle.heap_model.specs.Lending.{LendsNoneOf, HoldsHeap}
-use Rattle.heap_place.specs.Search.{Freeing}
+use Rattle.heap_place.proofs.Words.{◌-◌, ◌≡◌, length, LendsNoneOf, HoldsHeap, Freeing}
 use Rattle.heap_place.proofs.owned.release_owned.Given as goal
 
 abbrev pub invariant-loop-at : goal.invariant-loop-at

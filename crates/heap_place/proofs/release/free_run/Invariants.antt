@@ -1,5 +1,4 @@
-use Rattle.std.proofs.Common.{◌-◌, length}
-use Rattle.heap_place.specs.Resizes.{RunsUpTo, IsBound}
+use Rattle.heap_place.proofs.Words.{◌-◌, length, RunsUpTo, IsBound}
 use Rattle.heap_place.proofs.release.free_run.Given as goal
 
 abbrev pub invariant-loop-size : goal.invariant-loop-size

@@ -1,5 +1,4 @@
-use Rattle.std.proofs.Common.{◌-◌, length}
-use Rattle.heap_place.specs.Search.{Searched}
+use Rattle.heap_place.proofs.Words.{◌-◌, length, Searched}
 use Rattle.heap_place.proofs.room.find_room.Given as goal
 
 abbrev pub invariant-loop-at : goal.invariant-loop-at

@@ -1,4 +1,4 @@
-use Rattle.heap_place.specs.Splices.{Looking}
+use Rattle.heap_place.proofs.Words.{Looking}
 use Rattle.heap_place.proofs.splice.find_before.Given as goal
 
 abbrev pub invariant-loop : goal.invariant-loop

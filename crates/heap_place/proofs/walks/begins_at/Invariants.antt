@@ -1,6 +1,4 @@
-use Rattle.std.proofs.Common.{◌-◌, length}
-use Rattle.heap_place.specs.Found.{NoneBeginsAt}
-use Rattle.heap_place.specs.Search.{Passed}
+use Rattle.heap_place.proofs.Words.{◌-◌, length, NoneBeginsAt, Passed}
 use Rattle.heap_place.proofs.walks.begins_at.Given as goal
 
 abbrev pub invariant-loop-at : goal.invariant-loop-at

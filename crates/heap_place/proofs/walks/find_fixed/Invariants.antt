@@ -1,6 +1,4 @@
-use Rattle.std.proofs.Common.{◌-◌, length}
-use Rattle.heap_place.specs.Found.{NoneFixedAs}
-use Rattle.heap_place.specs.Search.{Passed}
+use Rattle.heap_place.proofs.Words.{◌-◌, length, NoneFixedAs, Passed}
 use Rattle.heap_place.proofs.walks.find_fixed.Given as goal
 
 abbrev pub invariant-loop-at : goal.invariant-loop-at

@@ -1,9 +1,8 @@
-use Rattle.std.proofs.Common.{◌-◌, length}
-use Rattle.heap_place.specs.Search.{Passed, AreFree}
+use Rattle.heap_place.proofs.Words.{◌-◌, length, Passed, HaveFreeBytes}
 use Rattle.heap_place.proofs.walks.free_bytes.Given as goal
 
 abbrev pub invariant-loop-at : goal.invariant-loop-at
-invariant-loop-at l = Passed l.region.bytes (AreFree l.count) l.at
+invariant-loop-at l = Passed l.region.bytes (HaveFreeBytes l.count) l.at
 
 abbrev pub decreases-loop-at : goal.decreases-loop-at
 decreases-loop-at l = length l.region.bytes - l.at

@@ -1,5 +1,5 @@
 use Rattle.std.proofs.Common.{ℕ, subst, arith}
-use Rattle.heap_svg.specs.Rows.{IsRow}
+use Rattle.heap_svg.specs.Rows.{IsRowSize}
 use Rattle.heap_svg.proofs.drawing.draw.Goals as goal
 
 pub row_size-line-requires : goal.row_size-line-requires
@@ -18,7 +18,7 @@ returns-clause-drawing g c = record {
   rooms = c.in_ok-rooms.ensures.all;
   left_count = c.in_ok-rooms.ensures.count;
   left_largest = c.in_ok-rooms.ensures.largest;
-  line = subst (λ (n : ℕ). IsRow n c.row_size-line.result) c.requires.summary.heap.size c.row_size-line.ensures;
+  line = subst (λ (n : ℕ). IsRowSize n c.row_size-line.result) c.requires.summary.heap.size c.row_size-line.ensures;
   strips = c.in_ok-strips.ensures.exact;
   shown = c.in_ok-strips.ensures.shown;
 }

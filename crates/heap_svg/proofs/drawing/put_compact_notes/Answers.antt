@@ -1,5 +1,5 @@
 use Rattle.std.proofs.Common.{refl, arith}
-use Rattle.heap_svg.specs.Rooms.{rooms_of}
+use Rattle.heap_svg.specs.Rooms.{rooms_drawn}
 use Rattle.heap_map.proofs.PieceLaws.{small_pieces}
 use Rattle.heap_svg.proofs.RoomLaws.{small_rooms, largest_packed}
 use Rattle.heap_svg.proofs.drawing.put_compact_notes.Goals as goal
@@ -12,7 +12,7 @@ put_bar-requires g c =
     let left = c.requires.drawing.left_largest in
     let small = small_pieces image c.requires.accepted.heap in
     let few = small_rooms image c.requires.accepted.heap in
-    let same = largest_packed image (rooms_of image) refl in
+    let same = largest_packed image (rooms_drawn image) refl in
     let most = c.requires.accepted.heap.1.tiles.head.most in
     let used = c.saturating_sub.ensures in
     record { used = omega arith; largest = omega arith; most = omega arith }

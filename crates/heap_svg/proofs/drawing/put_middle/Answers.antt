@@ -1,6 +1,6 @@
 use Rattle.std.proofs.Common.{◌≡◌, ◌≤◌, ◌<◌, ◌+◌, ◌-◌, ◌*◌, List, ℕ, length, ap, ◌∙◌, subst, sym, arith}
 use Rattle.std.specs.Prelude.{All}
-use Rattle.heap_svg.specs.Rooms.{rooms_of}
+use Rattle.heap_svg.specs.Rooms.{rooms_drawn}
 use Rattle.heap_svg.proofs.RoomLaws.{few_rooms}
 use Rattle.heap_svg.specs.declared.strips.Strip.{Strip}
 use Rattle.heap_svg.specs.Rows.{rows_in}
@@ -36,6 +36,6 @@ put_rights-requires g c =
     let small = row_small size line most c.requires.drawing.line in
     let is : c.args.rows ≡ rows_in size line = c.requires.rows ∙ ap (λ (n : ℕ). rows_in n line) summary in
     let few = few_rows size line most low small in
-    let count : length c.args.drawing.now.rooms.all.items ≡ length (rooms_of c.args.region.now.bytes) = ap length c.requires.drawing.rooms in
+    let count : length c.args.drawing.now.rooms.all.items ≡ length (rooms_drawn c.args.region.now.bytes) = ap length c.requires.drawing.rooms in
     let rooms = few_rooms c.args.region.now.bytes c.requires.accepted.heap in
     record { line = omega arith; few = omega arith; rows = omega arith }

@@ -1,6 +1,6 @@
 use Rattle.std.proofs.Common.{◌≡◌, ◌+◌, ◌<◌, ◌≤◌, List, ℕ, true, false, length, ap, sym, subst, arith}
 use Rattle.heap_model.specs.Store.{directory_bytes}
-use Rattle.db_format.specs.Headers.{IsWhole}
+use Rattle.db_format.specs.Headers.{AreWholeBytes}
 use Rattle.store_check.specs.Listing.{listed_count}
 use Rattle.palm_text.specs.Counted.{Writes}
 use Rattle.palm_text.proofs.Parts.{then, stops, nothing}
@@ -17,7 +17,7 @@ loop-db-init g c = λ new ok w. w
 pub put_database_note-requires-clause-whole : goal.put_database_note-requires-clause-whole
 put_database_note-requires-clause-whole g c =
     let len : length c.directory_in-directory.result.now ≡ length (directory_bytes c.args.region.now.bytes) = ap length c.directory_in-directory.ensures in
-    subst IsWhole (sym c.header_in.ensures) (header_whole c.args.region.now.bytes c.loop-db.db c.requires.accepted (omega arith))
+    subst AreWholeBytes (sym c.header_in.ensures) (header_whole c.args.region.now.bytes c.loop-db.db c.requires.accepted (omega arith))
 
 pub loop-db-preserved : goal.loop-db-preserved
 loop-db-preserved g c = λ new ok w.

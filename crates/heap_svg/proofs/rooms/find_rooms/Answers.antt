@@ -1,7 +1,7 @@
 use Rattle.std.proofs.Common.{◌≡◌, ◌∙◌, List, length, ap, arith}
 use Rattle.heap_model.specs.Space.{greatest}
 use Rattle.heap_svg.specs.declared.rooms.Room.{Room}
-use Rattle.heap_svg.specs.Rooms.{rooms_of, sizes}
+use Rattle.heap_svg.specs.Rooms.{rooms_drawn, sizes}
 use Rattle.heap_svg.proofs.RoomLaws.{few_rooms, count_packed, largest_packed}
 use Rattle.heap_svg.proofs.rooms.find_rooms.Goals as goal
 
@@ -10,7 +10,7 @@ overflow_cast-count g c =
     let image = c.args.region.now.bytes in
     let few = few_rooms image c.requires.accepted in
     let most = c.requires.accepted.1.tiles.head.most in
-    let count : length c.as_slice-rooms.result.now ≡ length (rooms_of image) = ap length c.as_slice-rooms.ensures.value ∙ ap length c.in_ok-all.ensures.rooms in
+    let count : length c.as_slice-rooms.result.now ≡ length (rooms_drawn image) = ap length c.as_slice-rooms.ensures.value ∙ ap length c.in_ok-all.ensures.rooms in
     omega arith
 
 pub returns-clause-count : goal.returns-clause-count

@@ -1,7 +1,7 @@
 use Rattle.std.proofs.Common.{◌≤◌, ◌∙◌, length, ap, arith}
 use Rattle.std.specs.Prelude.{count_by}
 use Rattle.std.proofs.lemmas.List.{take_all}
-use Rattle.heap_svg.specs.Legend.{is_of}
+use Rattle.heap_svg.specs.Legend.{is_of_size}
 use Rattle.heap_svg.proofs.sizes.count_of.Goals as goal
 
 pub returns : goal.returns
@@ -9,4 +9,4 @@ returns c =
     let xs = c.args.pieces.now in
     let i = c.loop-size.size-index in
     let past : length xs ≤ i = omega arith in
-    c.loop-size.invariant.same ∙ ap (count_by (is_of c.args.least)) (take_all i xs past)
+    c.loop-size.invariant.same ∙ ap (count_by (is_of_size c.args.least)) (take_all i xs past)

@@ -1,10 +1,10 @@
 use Rattle.std.proofs.Common.{◌≡◌, ◌≤◌, take}
 use Rattle.std.specs.Prelude.{count_by}
-use Rattle.heap_svg.specs.Legend.{is_of}
+use Rattle.heap_svg.specs.Legend.{is_of_size}
 use Rattle.heap_svg.proofs.sizes.count_of.Given as goal
 
 abbrev pub invariant-loop-size : goal.invariant-loop-size
 invariant-loop-size l = record {
-  same : l.count ≡ count_by (is_of l.least) (take l.size-index l.pieces);
+  same : l.count ≡ count_by (is_of_size l.least) (take l.size-index l.pieces);
   few : l.count ≤ l.size-index;
 }

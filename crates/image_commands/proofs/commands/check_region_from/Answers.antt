@@ -1,6 +1,6 @@
 use Rattle.std.proofs.Common.{◌≢◌, true, false, rules}
 use Rattle.store_check.specs.declared.fault.StoreFault.TheVariants.{OutOfMemory}
-use Rattle.image_faults.proofs.Answered.{puts_answer}
+use Rattle.image_commands.proofs.Answered.{puts_answer}
 use Rattle.image_commands.proofs.commands.check_region_from.Goals as goal
 
 pub returns-in-Err-2-clause-ends : goal.returns-in-Err-2-clause-ends

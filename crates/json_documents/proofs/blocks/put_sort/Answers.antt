@@ -4,7 +4,7 @@ use Rattle.heap_model.specs.Files.{offsets_in}
 use Rattle.palm_text.specs.Counted.{Writes}
 use Rattle.pdb_format.specs.Blocks.{bytes_at}
 use Rattle.pdb_format.proofs.FileBlocks.{length-blocks, block_of}
-use Rattle.json_documents.specs.FileDocument.{info_json, block_json}
+use Rattle.json_documents.specs.FileDocument.{info_block_json, block_json}
 use Rattle.json_documents.proofs.Infos.{sort_offset}
 use Rattle.json_documents.proofs.blocks.put_sort.Goals as goal
 
@@ -19,7 +19,7 @@ put_info-requires-clause-within g c =
     c.requires.within 1 None (omega arith)
 
 pub returns : goal.returns
-unfolding info_json
+unfolding info_block_json
 returns g c =
     let file = c.args.file.now in
     let blocks = c.args.blocks.now in

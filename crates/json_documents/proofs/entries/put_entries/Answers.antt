@@ -2,7 +2,7 @@ use Rattle.std.proofs.Common.{◌+◌, ◌<◌, ◌≤◌, List, ℕ, true, fals
 use Rattle.heap_model.specs.Database.{entry_count_in}
 use Rattle.palm_text.specs.Counted.{Writes}
 use Rattle.palm_text.proofs.Parts.{then, stops, nothing}
-use Rattle.json_documents.specs.FileDocument.{entry_at}
+use Rattle.json_documents.specs.FileDocument.{entry_json_at}
 use Rattle.json_documents.proofs.EntryTexts.{rest_json, entry_here, none_left}
 use Rattle.json_documents.proofs.entries.put_entries.Goals as goal
 
@@ -13,7 +13,7 @@ loop-index-preserved g c = λ new ok w.
     let inside : i < entry_count_in file = omega arith in
     c.loop-index.invariant new ok
     (subst (λ (text : List ℕ). Writes g.W.Write.contents c.loop-index.out new text ok) (sym (entry_here file i inside))
-    (then g.W.Write.contents c.loop-index.out c.put_entry_at.new.out new (entry_at file i) (rest_json file (i + 1)) ok c.in-Ok.ensures w))
+    (then g.W.Write.contents c.loop-index.out c.put_entry_at.new.out new (entry_json_at file i) (rest_json file (i + 1)) ok c.in-Ok.ensures w))
 
 pub returns-in-Err : goal.returns-in-Err
 returns-in-Err g c =
@@ -22,7 +22,7 @@ returns-in-Err g c =
     let inside : i < entry_count_in file = omega arith in
     c.loop-index.invariant c.put_entry_at.new.out false
     (subst (λ (text : List ℕ). Writes g.W.Write.contents c.loop-index.out c.put_entry_at.new.out text false) (sym (entry_here file i inside))
-    (stops g.W.Write.contents c.loop-index.out c.put_entry_at.new.out (entry_at file i) (rest_json file (i + 1)) c.in-Err.ensures))
+    (stops g.W.Write.contents c.loop-index.out c.put_entry_at.new.out (entry_json_at file i) (rest_json file (i + 1)) c.in-Err.ensures))
 
 pub returns : goal.returns
 returns g c =

@@ -1,14 +1,14 @@
 use Rattle.std.proofs.Common.{◌≡◌, List, ℕ, refl, subst}
 use Rattle.std.specs.Prelude.{is_ok, string_bytes}
 use Rattle.palm_text.specs.Counted.{Writes}
-use Rattle.db_format.specs.Headers.{header_of}
+use Rattle.db_format.specs.Headers.{header_values}
 use Rattle.json_documents.specs.FileDocument.{moments_json}
 use Rattle.json_documents.proofs.head.put_moments.Goals as goal
 
 pub returns : goal.returns
 unfolding moments_json
 returns g c =
-    let header = header_of c.args.header.now in
+    let header = header_values c.args.header.now in
     let moments = c.args.moments.now in
     let texts : moments_json header c.as_bytes.result.now c.as_bytes-2.result.now c.as_bytes-3.result.now
     ≡ moments_json header (string_bytes moments.created) (string_bytes moments.modified) (string_bytes moments.backup)

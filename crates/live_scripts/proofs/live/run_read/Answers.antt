@@ -3,12 +3,16 @@ use Rattle.std.specs.Io.KnownBytes.{Keeps, prepend_known}
 use Rattle.std.proofs.KnownBytes.{Keeps-trans}
 use Rattle.std.proofs.lemmas.List.{with_items_is}
 use Rattle.script_lines.specs.Cuts.{IsUnended}
+use Rattle.palm_script.proofs.LoanLaws.{stays_itself, stays_then}
 use Rattle.live_scripts.proofs.SessionLaws.{ends_at, flush_stops_at, given_rest, kept_first, last_flush_stops, last_stops_at, nothing_read, on_handed, on_written, place_within, read_fails_at, reads_on, room_of, starts, stops_at, stops_read, stops_read_at_end, text_flushed, then_flushed, unended_on}
 use Rattle.live_scripts.proofs.live.run_read.Goals as goal
 
 -- no memory for the buffer
 pub returns-in_default-clause-fault : goal.returns-in_default-clause-fault
 returns-in_default-clause-fault g c = nothing_read (g.A.Allowance.is_short c.args.memory.now) g.W.Write.contents c.args.inputs.files.now (g.R.Read.remaining c.args.reader.now) c.args.store.now c.args.out.now (search rules)
+
+pub returns-in_default-clause-stays : goal.returns-in_default-clause-stays
+returns-in_default-clause-stays g c = stays_itself c.args.store.now
 
 pub loop-is_end-init : goal.loop-is_end-init
 loop-is_end-init g c =
@@ -22,7 +26,7 @@ loop-is_end-init g c =
       count = omega (arith, fresh.count);
       kept = subst (λ t. Keeps known (prepend_known t known)) (sym c.requires.none) (kept_first known);
       room = room_of 65536 _ c.in-Ok.ensures.items (omega arith);
-      lent = refl;
+      stays = stays_itself c.args.store.now;
       ended = λ e. absurd cc;
     }
 
@@ -50,7 +54,7 @@ loop-is_end-preserved g c =
       count = omega (arith, ran.count, so_far.count);
       kept = Keeps-trans _ _ _ so_far.kept read.kept;
       room = rw (with_items_is turn c.read_ahead.new.turn turn_kept) (omega (arith, turn_kept, turn.ok.0, so_far.room));
-      lent = c.run_ended_lines.ensures.lent ∙ so_far.lent;
+      stays = stays_then c.args.store.now c.loop-is_end.store c.run_ended_lines.new.store so_far.stays c.run_ended_lines.ensures.stays;
       ended = λ e. (c.read_ahead.ensures.end (cc), unended_on at n more _ ran.last (given_rest at c.deref.result.now more c.deref.ensures.value));
     }
 
@@ -73,6 +77,9 @@ returns-in_err-at-clause-fault g c =
     (λ more. stops_at (g.A.Allowance.is_short c.args.memory.now) g.W.Write.contents c.args.inputs.files.now c.loop-is_end.at c.loop-is_end.text.items c.read_ahead.new.text.items _ _ c.args.store.now c.args.out.now c.loop-is_end.session c.loop-is_end.store c.run_ended_lines.new.store c.loop-is_end.out c.run_ended_lines.new.out
     within read.more so_far.has c.in_err-at.ensures.fault (given_rest c.loop-is_end.at c.deref.result.now c.read_ahead.new.text.items c.deref.ensures.value) more))
 
+pub returns-in_err-at-clause-stays : goal.returns-in_err-at-clause-stays
+returns-in_err-at-clause-stays g c = stays_then c.args.store.now c.loop-is_end.store c.run_ended_lines.new.store c.loop-is_end.invariant.stays c.run_ended_lines.ensures.stays
+
 -- a flush that fails before the end
 pub returns-in_err-flush-clause-fault : goal.returns-in_err-flush-clause-fault
 returns-in_err-flush-clause-fault g c =
@@ -86,6 +93,9 @@ returns-in_err-flush-clause-fault g c =
     (reads_on (g.A.Allowance.is_short c.args.memory.now) g.W.Write.contents c.args.inputs.files.now c.loop-is_end.at c.in_ok-at.field-0 c.loop-is_end.text.items c.read_ahead.new.text.items _ c.args.store.now c.args.out.now c.loop-is_end.session c.run_ended_lines.new.self c.loop-is_end.store c.run_ended_lines.new.store c.loop-is_end.out c.run_ended_lines.new.out
     within read.more so_far.has c.in_ok-at.ensures.ok (given_rest c.loop-is_end.at c.deref.result.now c.read_ahead.new.text.items c.deref.ensures.value))
     failed.1))
+
+pub returns-in_err-flush-clause-stays : goal.returns-in_err-flush-clause-stays
+returns-in_err-flush-clause-stays g c = stays_then c.args.store.now c.loop-is_end.store c.run_ended_lines.new.store c.loop-is_end.invariant.stays c.run_ended_lines.ensures.stays
 
 -- the last line, which no line feed ends
 pub run_last_line-requires-clause-last : goal.run_last_line-requires-clause-last
@@ -102,6 +112,9 @@ returns-in_err-run_last_line-clause-fault g c =
     (last_stops_at (g.A.Allowance.is_short c.args.memory.now) g.W.Write.contents c.args.inputs.files.now c.loop-is_end.at c.loop-is_end.text.items _ _ c.args.store.now c.args.out.now c.loop-is_end.session c.loop-is_end.store c.run_last_line.new.store c.loop-is_end.out c.run_last_line.new.out
     so_far.has c.in_err-run_last_line.ensures.fault (given_rest c.loop-is_end.at c.deref-2.result.now c.loop-is_end.text.items c.deref-2.ensures.value)))
 
+pub returns-in_err-run_last_line-clause-stays : goal.returns-in_err-run_last_line-clause-stays
+returns-in_err-run_last_line-clause-stays g c = stays_then c.args.store.now c.loop-is_end.store c.run_last_line.new.store c.loop-is_end.invariant.stays c.run_last_line.ensures.stays
+
 -- a flush that fails at the end
 pub returns-in_err-flush-2-clause-fault : goal.returns-in_err-flush-2-clause-fault
 returns-in_err-flush-2-clause-fault g c =
@@ -114,6 +127,12 @@ returns-in_err-flush-2-clause-fault g c =
     (ends_at (g.A.Allowance.is_short c.args.memory.now) g.W.Write.contents c.args.inputs.files.now c.loop-is_end.at c.loop-is_end.text.items _ c.args.store.now c.args.out.now c.loop-is_end.session c.run_last_line.new.self c.loop-is_end.store c.run_last_line.new.store c.loop-is_end.out c.run_last_line.new.out
     so_far.has c.in_ok-run_last_line.ensures.ok (given_rest c.loop-is_end.at c.deref-2.result.now c.loop-is_end.text.items c.deref-2.ensures.value))
     failed.1))
+
+pub returns-in_err-flush-2-clause-stays : goal.returns-in_err-flush-2-clause-stays
+returns-in_err-flush-2-clause-stays g c = stays_then c.args.store.now c.loop-is_end.store c.run_last_line.new.store c.loop-is_end.invariant.stays c.run_last_line.ensures.stays
+
+pub returns-clause-stays : goal.returns-clause-stays
+returns-clause-stays g c = stays_then c.args.store.now c.loop-is_end.store c.run_last_line.new.store c.loop-is_end.invariant.stays c.run_last_line.ensures.stays
 
 pub returns-clause-ok : goal.returns-clause-ok
 returns-clause-ok g c =

@@ -1,6 +1,7 @@
 use Rattle.std.proofs.Common.{[], ◌≡◌, ◌<◌, ◌≤◌, ◌-◌, cond, drop, length, take, true, vec_len}
 use Rattle.std.specs.Io.KnownBytes.{IsAtEnd, Keeps, prepend_known}
 use Rattle.script_lines.specs.Cuts.{IsUnended}
+use Rattle.palm_script.specs.Loans.{LoanStays}
 use Rattle.live_scripts.specs.Sessions.{HasRun}
 use Rattle.live_scripts.proofs.live.run_read.Given as goal
 
@@ -13,7 +14,7 @@ invariant-loop-is_end g l = record {
   count : l.session.count ≤ l.at;
   kept : Keeps (g.R.Read.remaining l.fn.reader) (prepend_known l.text.items (g.R.Read.remaining l.reader));
   room : 0 < length l.turn.items;
-  lent : l.store.lents ≡ l.fn.store.lents;
+  stays : LoanStays l.fn.store l.store;
   ended : l.is_end ≡ true → IsAtEnd (g.R.Read.remaining l.reader) × IsUnended (drop l.at l.text.items);
 }
 

@@ -1,6 +1,6 @@
 use Rattle.std.proofs.Common.{◌≡◌, true, false, subst, inr, rules}
 use Rattle.palm_text.specs.Counted.{Writing}
-use Rattle.image_faults.specs.Lines.{PutsBadImage}
+use Rattle.image_commands.specs.FaultLines.{PutsBadImage}
 use Rattle.map_commands.proofs.Mapped.{not_accepted, puts_first}
 use Rattle.map_commands.proofs.map_command.map_region_from.Goals as goal
 

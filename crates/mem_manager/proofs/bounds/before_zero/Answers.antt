@@ -1,3 +1,4 @@
+-- The bytes before the first zero byte are those that pass.
 use Rattle.mem_manager.proofs.Texts.{before_first, without_zero}
 use Rattle.mem_manager.proofs.bounds.before_zero.Goals as goal
 

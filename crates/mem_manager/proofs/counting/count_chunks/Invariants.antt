@@ -1,3 +1,4 @@
+-- The chunks that were passed are counted.
 use Rattle.std.proofs.Common.{◌-◌, length}
 use Rattle.heap_place.specs.Search.{Passed}
 use Rattle.mem_manager.specs.Counting.{AreCounted}

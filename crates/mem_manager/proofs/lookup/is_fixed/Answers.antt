@@ -1,3 +1,4 @@
+-- What was found has a chunk.
 use Rattle.std.proofs.Common.{refl, sym, subst}
 use Rattle.std.specs.Prelude.{IsSome}
 use Rattle.heap_place.proofs.FoundLaws.{name_held}

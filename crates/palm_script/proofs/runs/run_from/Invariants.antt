@@ -1,7 +1,7 @@
 use Rattle.std.proofs.Common.{◌≡◌, ◌≤◌, ℕ, List, length, take, true}
 use Rattle.std.specs.Prelude.{count_by, vec_capacity, vec_len}
 use Rattle.palm_text.specs.Counted.{Writes}
-use Rattle.script_lines.specs.LineCounts.{byte_count, chunk_label_end, database_label_end, greatest, is_export}
+use Rattle.script_lines.specs.LineCounts.{byte_count, chunk_label_end, database_label_end, greatest_count, is_export}
 use Rattle.script_calls.specs.Lines.{Lines, unbound, tables}
 use Rattle.palm_script.specs.Loans.{LoanStays}
 use Rattle.palm_script.proofs.runs.run_from.Given as goal
@@ -14,7 +14,7 @@ invariant-loop-line g l = record {
   written : Writes g.W.Write.contents l.fn.out l.out text true;
   room : vec_capacity l.files ≡ count_by is_export l.script;
   used : vec_len l.files ≤ count_by is_export (take l.line-index l.script);
-  chunk_labels : length l.names ≡ greatest chunk_label_end l.script;
-  database_labels : length l.databases ≡ greatest database_label_end l.script;
-  bytes : length l.buffer ≡ greatest byte_count l.script;
+  chunk_labels : length l.names ≡ greatest_count chunk_label_end l.script;
+  database_labels : length l.databases ≡ greatest_count database_label_end l.script;
+  bytes : length l.buffer ≡ greatest_count byte_count l.script;
 }

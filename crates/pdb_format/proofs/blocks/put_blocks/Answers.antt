@@ -4,7 +4,7 @@ use Rattle.heap_model.specs.Files.{offsets_in}
 use Rattle.pdb_format.specs.Blocks.{length_within}
 use Rattle.pdb_format.specs.Starts.{begins}
 use Rattle.pdb_format.proofs.SortedStarts.{none, items_are}
-use Rattle.pdb_format.proofs.PlacedBlocks.{ArePut, nothing_put, put_more, all_put, all_within, none_taken, taken_more, taken_most, file_sorted}
+use Rattle.pdb_format.proofs.PlacedBlocks.{ArePut, nothing_put, put_more, all_placed, all_put, all_within, none_taken, taken_more, taken_most, file_sorted}
 use Rattle.pdb_format.proofs.blocks.put_blocks.Goals as goal
 
 pub loop-index-init : goal.loop-index-init
@@ -42,13 +42,20 @@ loop-index-preserved c =
           (taken_more (offsets_in file) (length file) starts blocks index sorted inside c.loop-index.invariant.placed c.loop-index.invariant.taken);
     }
 
-pub returns-clause-are : goal.returns-clause-are
-returns-clause-are c =
+-- each block is at its place
+placed : goal.returns-clause-places
+placed c =
     let few = c.requires.few in
     let sorted = file_sorted c.args.file.now c.args.starts.now c.requires.good (omega arith) c.requires.all c.requires.rising in
     let all : c.loop-index.index ≡ length c.args.starts.now = search rules in
-    all_put c.args.file.now c.args.starts.now c.loop-index.blocks sorted
+    all_placed c.args.file.now c.args.starts.now c.loop-index.blocks sorted
     (subst (ArePut (offsets_in c.args.file.now) (length c.args.file.now) c.args.starts.now c.loop-index.blocks) all c.loop-index.invariant.placed)
+
+pub returns-clause-places : goal.returns-clause-places
+returns-clause-places = placed
+
+pub returns-clause-are : goal.returns-clause-are
+returns-clause-are c = all_put c.args.file.now c.loop-index.blocks (placed c)
 
 pub returns-clause-inside : goal.returns-clause-inside
 returns-clause-inside c =

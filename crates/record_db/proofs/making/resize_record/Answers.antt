@@ -13,7 +13,7 @@ use Rattle.heap_model.specs.declared.call.RecordCall.TheVariants.{Resize}
 use Rattle.heap_model.specs.declared.call.Reply.TheVariants.{Done, Refused}
 use Rattle.laws_heap.proofs.KeptLoans.{keeps_then}
 use Rattle.laws_heap.proofs.Unmoved.{itself_alone}
-use Rattle.palm_store.specs.EntryCalls.{checks_of_growth, data_sized}
+use Rattle.palm_store.specs.EntryCalls.{checks_of_data_growth, data_sized}
 use Rattle.palm_store.proofs.Rests.{then_written}
 use Rattle.palm_store.proofs.TwoChanges.{raised_after, nothing_moved, one_stretch_moved}
 use Rattle.record_db.proofs.making.resize_record.Goals as goal
@@ -31,7 +31,7 @@ returns-in_err-entry_resize-clause-does c =
     let alive = c.in_ok-live.ensures.passes in
     let refusal : Refusal = c.in_err-entry_resize.field-0.0 in
     let named : c.in_ok-live.live.«data».0 ≡ data_under (store_of c.args.store.now.bytes) c.args.db c.args.index = sym (ap data_of_entry c.in_ok-live.ensures.is) in
-    let brings = subst (λ (name : ℕ). FirstBrings (checks_of_growth c.args.store.now name c.args.size) refusal) named c.in_err-entry_resize.ensures.why in
+    let brings = subst (λ (name : ℕ). FirstBrings (checks_of_data_growth c.args.store.now name c.args.size) refusal) named c.in_err-entry_resize.ensures.why in
     handed_on (λ done. Done) (calls.Record (Resize c.args.db c.args.index c.args.size)) c.from_residual-in_err-entry_resize.result (let e = c.from_residual-in_err-entry_resize.ensures in (e.0, e.1))
     (subst (λ (new : Memory). DoesInStore c.args.store.now (calls.Record (Resize c.args.db c.args.index c.args.size)) (Refused refusal) new) (sym c.in_err-entry_resize.ensures.refused)
     (refused c.args.store.now (calls.Record (Resize c.args.db c.args.index c.args.size)) refusal c.in_ok-live.ensures.accepted (inr (alive.0, inr (alive.1.0, inr (alive.1.1.0, inr (alive.1.1.1.0, inr (alive.1.1.1.1.0, brings))))))))
@@ -40,7 +40,7 @@ pub returns-clause-does : goal.returns-clause-does
 returns-clause-does c =
     let alive = c.in_ok-live.ensures.passes in
     let named : c.in_ok-live.live.«data».0 ≡ data_under (store_of c.args.store.now.bytes) c.args.db c.args.index = sym (ap data_of_entry c.in_ok-live.ensures.is) in
-    let grows = subst (λ (name : ℕ). NoneHolds (checks_of_growth c.args.store.now name c.args.size)) named c.in_ok-entry_resize.ensures.could in
+    let grows = subst (λ (name : ℕ). NoneHolds (checks_of_data_growth c.args.store.now name c.args.size)) named c.in_ok-entry_resize.ensures.could in
     let sized = subst (λ (name : ℕ). LeavesStore c.args.store.now.bytes c.entry_resize.new.self.bytes (data_sized (store_of c.args.store.now.bytes) name c.args.size)) named c.in_ok-entry_resize.ensures.done in
     let leaves = raised_after c.args.store.now.bytes c.entry_resize.new.self.bytes c.count_change.new.self.bytes c.args.db _ sized c.count_change.ensures.counted c.count_change.ensures.none_made in
     changes c.args.store.now c.count_change.new.self (calls.Record (Resize c.args.db c.args.index c.args.size)) Done _ (λ slots. refl) c.in_ok-live.ensures.accepted leaves

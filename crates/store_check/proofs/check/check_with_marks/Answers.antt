@@ -2,7 +2,7 @@ use Rattle.std.proofs.Common.{ℕ, List, [], ◌∷◌, ◌++◌, length, ap, ar
 use Rattle.heap_model.specs.Heap.{directory_of}
 use Rattle.store_check.specs.Faults.{shared_faults, stray_faults}
 use Rattle.store_check.specs.Checks.{listed_faults, chunk_faults}
-use Rattle.store_check.specs.Naming.{HasRoom}
+use Rattle.store_check.specs.Naming.{AreEnoughMarks}
 use Rattle.store_check.proofs.CheckLaws.{first_before, first_after, none_both}
 use Rattle.store_check.proofs.ChunkLaws.{shared_first, shared_none, stray_first, stray_none}
 use Rattle.store_check.proofs.CountLaws.{twice_inside, unmarked_inside}
@@ -21,7 +21,7 @@ pub returns-in-Some-clause-fault : goal.returns-in-Some-clause-fault
 returns-in-Some-clause-fault c =
     let image : List ℕ = c.args.region.now.bytes in
     let listed = c.in_ok-check_listed.ensures in
-    let room : HasRoom image (length c.check_listed.new.marks) = λ number s. (let below = c.requires.room number s in omega arith) in
+    let room : AreEnoughMarks image (length c.check_listed.new.marks) = λ number s. (let below = c.requires.room number s in omega arith) in
     first_after (listed_faults image) (chunk_faults image) _ listed.none
     (first_before (shared_faults image) (stray_faults image) _ (shared_first image c.check_listed.new.marks c.in-Some.number _ listed.named room listed.marked c.in-Some.ensures.some c.word_of_mark.ensures))
 
@@ -33,7 +33,7 @@ pub returns-in-Some-first_unmarked-clause-fault : goal.returns-in-Some-first_unm
 returns-in-Some-first_unmarked-clause-fault c =
     let image : List ℕ = c.args.region.now.bytes in
     let listed = c.in_ok-check_listed.ensures in
-    let room : HasRoom image (length c.check_listed.new.marks) = λ number s. (let below = c.requires.room number s in omega arith) in
+    let room : AreEnoughMarks image (length c.check_listed.new.marks) = λ number s. (let below = c.requires.room number s in omega arith) in
     first_after (listed_faults image) (chunk_faults image) _ listed.none
     (first_after (shared_faults image) (stray_faults image) _ (shared_none image c.check_listed.new.marks listed.named room listed.marked c.in_default.ensures.none)
     (stray_first image c.check_listed.new.marks c.args.owners.now c.in-Some-first_unmarked.number _ listed.named c.requires.owners room listed.marked c.in-Some-first_unmarked.ensures.some c.word_of_mark-in-Some-first_unmarked.ensures))
@@ -42,7 +42,7 @@ pub returns-in-None-clause-none : goal.returns-in-None-clause-none
 returns-in-None-clause-none c =
     let image : List ℕ = c.args.region.now.bytes in
     let listed = c.in_ok-check_listed.ensures in
-    let room : HasRoom image (length c.check_listed.new.marks) = λ number s. (let below = c.requires.room number s in omega arith) in
+    let room : AreEnoughMarks image (length c.check_listed.new.marks) = λ number s. (let below = c.requires.room number s in omega arith) in
     none_both (listed_faults image) (chunk_faults image) listed.none
     (none_both (shared_faults image) (stray_faults image) (shared_none image c.check_listed.new.marks listed.named room listed.marked c.in_default.ensures.none)
     (stray_none image c.check_listed.new.marks c.args.owners.now listed.named c.requires.owners room listed.marked c.in-None.ensures.none))

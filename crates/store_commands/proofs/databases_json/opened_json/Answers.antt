@@ -1,7 +1,7 @@
 use Rattle.std.proofs.Common.{◌≡◌, ◌≢◌, true, false, rules}
 use Rattle.store_check.specs.declared.fault.StoreFault.TheVariants.{OutOfMemory}
 use Rattle.program_io.specs.declared.status.Status.TheVariants.{Refused, WriteFault}
-use Rattle.image_documents.proofs.Images.{puts_fault}
+use Rattle.image_commands.proofs.JsonFaults.{puts_fault}
 use Rattle.store_commands.proofs.databases_json.opened_json.Goals as goal
 
 pub returns-in-Err : goal.returns-in-Err

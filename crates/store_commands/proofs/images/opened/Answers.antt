@@ -1,7 +1,7 @@
 use Rattle.std.proofs.Common.{◌≡◌, ◌≢◌, true, false, rules}
 use Rattle.store_check.specs.declared.fault.StoreFault.TheVariants.{OutOfMemory}
 use Rattle.program_io.specs.declared.status.Status.TheVariants.{Refused, WriteFault}
-use Rattle.image_faults.proofs.Answered.{puts_answer}
+use Rattle.image_commands.proofs.Answered.{puts_answer}
 use Rattle.store_commands.proofs.images.opened.Goals as goal
 
 pub returns-in-Err : goal.returns-in-Err

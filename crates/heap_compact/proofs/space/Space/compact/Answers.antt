@@ -5,5 +5,5 @@ pub invariant_of-self : goal.invariant_of-self
 invariant_of-self c = record {
   heap = c.compact.ensures.heap;
   lists = c.compact.ensures.lists;
-  tables = tables_kept c.self.inside.region.bytes c.compact.new.region.bytes c.self.inside.tables c.compact.ensures.packed.frame c.self.invariant.tables;
+  tables = tables_kept c.self.inside.tables c.compact.ensures.packed.frame c.self.invariant.tables;
 }

@@ -1,26 +1,27 @@
 use Rattle.std.proofs.Common.{◌-◌, sym, subst, ◌∙◌, ap}
-use Rattle.heap_model.specs.Memory.{Memory}
-use Rattle.heap_model.specs.Heap.{directory_of}
-use Rattle.heap_model.specs.Layout.{Alters, freed, WritesPlain}
-use Rattle.heap_place.specs.Found.{IsOne}
+use Rattle.heap_compact.proofs.Words.{Memory, directory_of, Alters, freed, WritesPlain, IsOne}
 use Rattle.laws_heap.proofs.Plain.{plain_then}
 use Rattle.heap_compact.proofs.GivenBackLaws.{same_found, then_freed}
 use Rattle.heap_compact.proofs.KeptLaws.{viewed_kept}
+use Rattle.heap_compact.proofs.space.Space.give_back.Goals.{After-release_listed}
 use Rattle.heap_compact.proofs.space.Space.give_back.Goals as goal
+
+gone : (c : After-release_listed) → Alters c.args.self.now.bytes c.release_listed.new.region.bytes (c.args.found.place.0 - 8) freed
+gone c =
+    subst (λ (m : Memory). Alters m.bytes c.release_listed.new.region.bytes (c.args.found.place.0 - 8) freed) c.self.view_is
+    (then_freed c.release_listed.new.region.bytes c.args.found c.self.invariant.heap.accepted c.build.ensures.same
+    (subst (λ (m : Memory). IsOne m.bytes c.args.found) (sym c.self.view_is) c.requires.found) c.release_listed.ensures.gone)
 
 pub release_listed-requires-clause-found : goal.release_listed-requires-clause-found
 release_listed-requires-clause-found c =
-    same_found c.self.inside.region.bytes c.build.new.region.bytes c.args.found c.self.invariant.heap.accepted c.build.ensures.same
+    same_found c.args.found c.self.invariant.heap.accepted c.build.ensures.same
     (subst (λ (m : Memory). IsOne m.bytes c.args.found) (sym c.self.view_is) c.requires.found)
 
 pub release_listed-requires-clause-no_directory : goal.release_listed-requires-clause-no_directory
 release_listed-requires-clause-no_directory c e = c.requires.no_directory (e ∙ c.build.ensures.same.frame.directory ∙ ap (λ (m : Memory). directory_of m.bytes) c.self.view_is)
 
 pub returns-clause-gone : goal.returns-clause-gone
-returns-clause-gone c =
-    subst (λ (m : Memory). Alters m.bytes c.release_listed.new.region.bytes (c.args.found.place.0 - 8) freed) c.self.view_is
-    (then_freed c.self.inside.region.bytes c.build.new.region.bytes c.release_listed.new.region.bytes c.args.found c.self.invariant.heap.accepted c.build.ensures.same
-    (subst (λ (m : Memory). IsOne m.bytes c.args.found) (sym c.self.view_is) c.requires.found) c.release_listed.ensures.gone)
+returns-clause-gone c = gone (goal.at.returns-clause-gone c).After-release_listed
 
 pub returns-clause-plain : goal.returns-clause-plain
 returns-clause-plain c =
@@ -31,7 +32,5 @@ pub invariant_of-self : goal.invariant_of-self
 invariant_of-self c = record {
   heap = c.release_listed.ensures.heap;
   lists = c.release_listed.ensures.lists;
-  tables = viewed_kept c.args.self.now c.self.inside.region c.release_listed.new.region.bytes c.self.inside.tables c.self.view_is (subst (λ (m : Memory). Alters m.bytes c.release_listed.new.region.bytes (c.args.found.place.0 - 8) freed) c.self.view_is
-      (then_freed c.self.inside.region.bytes c.build.new.region.bytes c.release_listed.new.region.bytes c.args.found c.self.invariant.heap.accepted c.build.ensures.same
-      (subst (λ (m : Memory). IsOne m.bytes c.args.found) (sym c.self.view_is) c.requires.found) c.release_listed.ensures.gone)).frame c.self.invariant.tables;
+  tables = viewed_kept c.self.inside.tables c.self.view_is (gone (goal.at.invariant_of-self c).After-release_listed).frame c.self.invariant.tables;
 }

@@ -1,10 +1,8 @@
 use Rattle.std.proofs.Common.{sym, subst}
-use Rattle.heap_model.specs.Memory.{Memory}
-use Rattle.heap_model.specs.Lending.{LendsNoneOf}
-use Rattle.heap_model.specs.Layout.{Becomes, layout_of, owned_freed, WritesPlain}
+use Rattle.heap_compact.proofs.Words.{Memory, LendsNoneOf, Becomes, layout_of, owned_freed, WritesPlain}
 use Rattle.laws_heap.proofs.Plain.{plain_then}
 use Rattle.heap_place.proofs.GatherLaws.{becomes_twice}
-use Rattle.heap_compact.proofs.KeptLaws.{viewed_kept}
+use Rattle.heap_compact.proofs.KeptLaws.{tables_kept}
 use Rattle.heap_compact.proofs.space.Space.give_back_owned.Goals as goal
 
 pub release_owned-count-requires-clause-none_lent : goal.release_owned-count-requires-clause-none_lent
@@ -13,7 +11,7 @@ release_owned-count-requires-clause-none_lent c = subst (λ (m : Memory). LendsN
 pub returns-clause-gone : goal.returns-clause-gone
 returns-clause-gone c =
     subst (λ (m : Memory). Becomes m.bytes c.gather.new.region.bytes (owned_freed c.args.owner (layout_of m.bytes))) c.self.view_is
-    (becomes_twice c.self.inside.region.bytes c.release_owned-count.new.region.bytes c.gather.new.region.bytes (owned_freed c.args.owner (layout_of c.self.inside.region.bytes)) c.release_owned-count.ensures.gone c.gather.ensures.same)
+    (becomes_twice _ _ _ _ c.release_owned-count.ensures.gone c.gather.ensures.same)
 
 pub returns-clause-plain : goal.returns-clause-plain
 returns-clause-plain c =
@@ -24,6 +22,5 @@ pub invariant_of-self : goal.invariant_of-self
 invariant_of-self c = record {
   heap = c.gather.ensures.heap;
   lists = c.gather.ensures.lists;
-  tables = viewed_kept c.args.self.now c.self.inside.region c.gather.new.region.bytes c.self.inside.tables c.self.view_is (subst (λ (m : Memory). Becomes m.bytes c.gather.new.region.bytes (owned_freed c.args.owner (layout_of m.bytes))) c.self.view_is
-      (becomes_twice c.self.inside.region.bytes c.release_owned-count.new.region.bytes c.gather.new.region.bytes (owned_freed c.args.owner (layout_of c.self.inside.region.bytes)) c.release_owned-count.ensures.gone c.gather.ensures.same)).frame c.self.invariant.tables;
+  tables = tables_kept c.self.inside.tables (becomes_twice _ _ _ _ c.release_owned-count.ensures.gone c.gather.ensures.same).frame c.self.invariant.tables;
 }

@@ -1,7 +1,5 @@
 use Rattle.std.proofs.Common.{◌-◌, subst}
-use Rattle.heap_model.specs.Memory.{Memory}
-use Rattle.heap_model.specs.Chunk.{need}
-use Rattle.heap_place.specs.Resizes.{TellsWhetherInPlace}
+use Rattle.heap_compact.proofs.Words.{Memory, need, TellsWhetherInPlace}
 use Rattle.heap_compact.proofs.KeptLaws.{grown_kept}
 use Rattle.heap_compact.proofs.space.Space.grow_in_place.Goals as goal
 

@@ -5,5 +5,5 @@ pub invariant_of-self : goal.invariant_of-self
 invariant_of-self c = record {
   heap = c.open_in.ensures.heap;
   lists = c.open_in.ensures.lists;
-  tables = tables_kept c.self.inside.region.bytes c.open_in.new.region.bytes c.self.inside.tables c.open_in.ensures.frame c.self.invariant.tables;
+  tables = tables_kept c.self.inside.tables c.open_in.ensures.frame c.self.invariant.tables;
 }

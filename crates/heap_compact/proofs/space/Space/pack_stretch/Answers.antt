@@ -5,5 +5,5 @@ pub invariant_of-self : goal.invariant_of-self
 invariant_of-self c = record {
   heap = c.pack_stretch.ensures.heap;
   lists = c.pack_stretch.ensures.lists;
-  tables = tables_kept c.self.inside.region.bytes c.pack_stretch.new.region.bytes c.self.inside.tables c.pack_stretch.ensures.frame c.self.invariant.tables;
+  tables = tables_kept c.self.inside.tables c.pack_stretch.ensures.frame c.self.invariant.tables;
 }

@@ -1,7 +1,6 @@
 use Rattle.std.proofs.Common.{subst}
 use Rattle.std.specs.Bool.{OnTrue}
-use Rattle.heap_model.specs.Memory.{Memory}
-use Rattle.heap_place.specs.Relocation.{RelocatesToRun}
+use Rattle.heap_compact.proofs.Words.{Memory, RelocatesToRun}
 use Rattle.heap_compact.proofs.RelocateLaws.{had_run}
 use Rattle.heap_compact.proofs.KeptLaws.{tables_kept}
 use Rattle.heap_compact.proofs.space.Space.relocate.Goals as goal
@@ -15,5 +14,5 @@ pub invariant_of-self : goal.invariant_of-self
 invariant_of-self c = record {
   heap = c.relocate.ensures.heap;
   lists = c.relocate.ensures.lists;
-  tables = tables_kept c.self.inside.region.bytes c.relocate.new.region.bytes c.self.inside.tables c.relocate.ensures.frame c.self.invariant.tables;
+  tables = tables_kept c.self.inside.tables c.relocate.ensures.frame c.self.invariant.tables;
 }

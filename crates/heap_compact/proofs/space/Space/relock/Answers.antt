@@ -1,4 +1,3 @@
-use Rattle.heap_place.specs.Lists.{Any}
 use Rattle.heap_place.proofs.ListLaws.{lists_kept}
 use Rattle.heap_compact.proofs.KeptLaws.{tables_kept}
 use Rattle.heap_compact.proofs.space.Space.relock.Goals as goal
@@ -6,6 +5,6 @@ use Rattle.heap_compact.proofs.space.Space.relock.Goals as goal
 pub invariant_of-self : goal.invariant_of-self
 invariant_of-self c = record {
   heap = c.relock_at.ensures.heap;
-  lists = lists_kept Any c.self.inside.region.bytes c.relock_at.new.region.bytes c.self.inside.lists c.relock_at.ensures.keeps c.self.invariant.lists;
-  tables = tables_kept c.self.inside.region.bytes c.relock_at.new.region.bytes c.self.inside.tables c.relock_at.ensures.made.frame c.self.invariant.tables;
+  lists = lists_kept _ _ _ _ c.relock_at.ensures.keeps c.self.invariant.lists;
+  tables = tables_kept c.self.inside.tables c.relock_at.ensures.made.frame c.self.invariant.tables;
 }

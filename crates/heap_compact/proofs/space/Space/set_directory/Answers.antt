@@ -1,4 +1,3 @@
-use Rattle.heap_place.specs.Lists.{Any}
 use Rattle.heap_place.proofs.ListLaws.{lists_kept}
 use Rattle.std.proofs.Common.{ap}
 use Rattle.heap_model.specs.Slots.{Tables}
@@ -8,6 +7,6 @@ use Rattle.heap_compact.proofs.space.Space.set_directory.Goals as goal
 pub invariant_of-self : goal.invariant_of-self
 invariant_of-self c = record {
   heap = c.name_directory.ensures.heap;
-  lists = lists_kept Any c.self.inside.region.bytes c.name_directory.new.region.bytes c.self.inside.lists c.name_directory.ensures.keeps c.self.invariant.lists;
-  tables = knows_still c.self.inside.region.bytes c.name_directory.new.region.bytes c.self.inside.tables (ap (λ (t : Tables). t.further) c.name_directory.ensures.names.tables) c.self.invariant.tables;
+  lists = lists_kept _ _ _ _ c.name_directory.ensures.keeps c.self.invariant.lists;
+  tables = knows_still c.self.inside.region.bytes c.name_directory.new.region.bytes c.self.inside.tables c.name_directory.ensures.names.tables c.self.invariant.tables;
 }

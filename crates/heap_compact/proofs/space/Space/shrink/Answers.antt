@@ -10,13 +10,13 @@ resize_listed-requires-clause-behind c = subst (λ (m : Memory). RunBehind m.byt
 
 pub returns-clause-made : goal.returns-clause-made
 returns-clause-made c =
-    shrinks c.args.self.now.bytes c.resize_listed.new.region.bytes c.args.found c.args.count (viewed_heap c.args.self.now c.self.inside.region c.self.view_is c.self.invariant.heap).accepted c.requires.found
+    shrinks _ _ _ c.args.count (viewed_heap c.self.view_is c.self.invariant.heap).accepted c.requires.found
     (subst (λ (m : Memory). Resizes m.bytes c.resize_listed.new.region.bytes c.args.found c.args.count 0) c.self.view_is c.resize_listed.ensures.resized)
 
 pub invariant_of-self : goal.invariant_of-self
 invariant_of-self c = record {
   heap = c.resize_listed.ensures.heap;
   lists = c.resize_listed.ensures.lists;
-  tables = viewed_kept c.args.self.now c.self.inside.region c.resize_listed.new.region.bytes c.self.inside.tables c.self.view_is (shrinks c.args.self.now.bytes c.resize_listed.new.region.bytes c.args.found c.args.count (viewed_heap c.args.self.now c.self.inside.region c.self.view_is c.self.invariant.heap).accepted c.requires.found
+  tables = viewed_kept c.self.inside.tables c.self.view_is (shrinks _ _ _ c.args.count (viewed_heap c.self.view_is c.self.invariant.heap).accepted c.requires.found
       (subst (λ (m : Memory). Resizes m.bytes c.resize_listed.new.region.bytes c.args.found c.args.count 0) c.self.view_is c.resize_listed.ensures.resized)).frame c.self.invariant.tables;
 }

@@ -1,53 +1,50 @@
-use Rattle.std.proofs.Common.{◌≡◌, ◌+◌, length, ap, ◌∙◌, arith, subst, sym, ℕ, ◌++◌, [], ◌∷◌, length-append}
-use Rattle.heap_model.specs.Memory.{Memory}
+use Rattle.std.proofs.Common.{◌≡◌, ℕ, ◌+◌, List, ◌++◌, [], ◌∷◌, length, refl, ap, ◌∙◌, arith, length-append}
+use Rattle.heap_compact.proofs.Words.{Memory, IsSpace}
 use Rattle.heap_model.specs.Bytes.{overwritten}
-use Rattle.heap_place.proofs.AlterLaws.{ended_there}
-use Rattle.heap_place.proofs.WithinLaws.{ended_lists}
-use Rattle.heap_model.specs.Memory.{IsWithin}
-use Rattle.heap_place.proofs.LentLaws.{one_body_within, written_holds}
+use Rattle.laws_heap.proofs.Frames.{overwritten-behind}
 use Rattle.laws_heap.proofs.LentBodies.{still_within}
-use Rattle.heap_compact.proofs.KeptLaws.{viewed_kept, viewed_heap}
+use Rattle.heap_place.proofs.FoundLaws.{bytes_inside}
+use Rattle.heap_compact.proofs.KeptLaws.{viewed_heap}
+use Rattle.heap_compact.proofs.SpaceWrites.{BodyWritten, body_written, written_space, body_within}
+use Rattle.heap_compact.proofs.MemoryLaws.{same_bytes, same_lents}
+use Rattle.heap_compact.proofs.space.Space.write_ended.Goals.{After-fill}
 use Rattle.heap_compact.proofs.space.Space.write_ended.Goals as goal
 
 pub write-requires : goal.write-requires
-write-requires c = let within = c.requires.within in subst (λ (m : Memory). IsWithin m (c.args.found.place.0 + c.args.at) (length c.args.bytes.now)) (sym c.self.view_is) (one_body_within c.args.self.now c.args.found c.args.at (length c.args.bytes.now) (viewed_heap c.args.self.now c.self.inside.region c.self.view_is c.self.invariant.heap).accepted (viewed_heap c.args.self.now c.self.inside.region c.self.view_is c.self.invariant.heap).lent c.requires.found c.requires.other (omega (arith, within)))
+write-requires c = body_within c.self.view_is c.self.invariant c.requires.found c.args.at _ c.requires.other (omega (arith, c.requires.within))
 
 pub fill-requires : goal.fill-requires
 fill-requires c =
-    let within = c.requires.within in
     let e : c.args.found.place.0 + (c.args.at + length c.args.bytes.now) ≡ c.args.found.place.0 + c.args.at + length c.args.bytes.now = omega arith in
-    still_within c.args.self.now c.write.new.self (c.args.found.place.0 + c.args.at + length c.args.bytes.now) 1
-    (subst (λ (n : ℕ). IsWithin c.args.self.now n 1) e (one_body_within c.args.self.now c.args.found (c.args.at + length c.args.bytes.now) 1 (viewed_heap c.args.self.now c.self.inside.region c.self.view_is c.self.invariant.heap).accepted (viewed_heap c.args.self.now c.self.inside.region c.self.view_is c.self.invariant.heap).lent c.requires.found c.requires.other (omega (arith, within))))
-    (ap (λ (m : Memory). m.lents) c.write.ensures.after ∙ (ap (λ (m : Memory). m.lents) c.self.view_is)) (c.write.ensures.len ∙ ap (λ (m : Memory). length m.bytes) c.self.view_is)
+    still_within _ c.write.new.self _ 1
+    (rw e at (body_within c.self.view_is c.self.invariant c.requires.found (c.args.at + length c.args.bytes.now) 1 c.requires.other (omega (arith, c.requires.within))))
+    (same_lents c.write.ensures.after) c.write.ensures.len
+
+-- the bytes and the zero after them are one write
+written : (c : After-fill) → BodyWritten c.args.self.now.bytes c.fill.new.self.bytes c.self.inside.lists c.self.inside.tables c.args.found c.args.at (c.args.bytes.now ++ 0 ∷ [])
+written c =
+    let at : ℕ = c.args.found.place.0 + c.args.at in
+    let end : ℕ = c.args.found.place.0 + c.args.at + length c.args.bytes.now in
+    let inside = bytes_inside _ c.args.found (viewed_heap c.self.view_is c.self.invariant.heap).accepted c.requires.found in
+    let len = ap (λ (m : Memory). length m.bytes) c.self.view_is in
+    let both = overwritten-behind c.self.inside.region.bytes at c.args.bytes.now (0 ∷ []) end refl (omega (arith, inside, len, c.requires.within)) in
+    body_written c.self.view_is c.self.invariant c.requires.found c.args.at _ (λ old. c.args.bytes.now ++ 0 ∷ []) refl
+    (omega (arith, length-append c.args.bytes.now (0 ∷ []), c.requires.within))
+    (same_bytes c.fill.ensures.after ∙ ap (λ (x : List ℕ). overwritten x end (0 ∷ [])) (same_bytes c.write.ensures.after) ∙ both)
+
+space : (c : After-fill) → IsSpace c.fill.new.self c.self.inside.lists c.self.inside.tables
+space c =
+    written_space c.self.view_is c.self.invariant c.requires.found c.fill.new.self c.requires.other
+    (written c) (same_lents c.fill.ensures.after ∙ same_lents c.write.ensures.after)
 
 pub returns-clause-made : goal.returns-clause-made
-returns-clause-made c =
-    (ended_there c.args.self.now.bytes c.write.new.self.bytes c.fill.new.self.bytes c.args.found c.args.at c.args.bytes.now (viewed_heap c.args.self.now c.self.inside.region c.self.view_is c.self.invariant.heap).accepted c.requires.found c.requires.within
-    (ap (λ (m : Memory). m.bytes) c.write.ensures.after ∙ ap (λ (m : Memory). overwritten m.bytes (c.args.found.place.0 + c.args.at) c.args.bytes.now) c.self.view_is)
-    (ap (λ (m : Memory). m.bytes) c.fill.ensures.after)).0
+returns-clause-made c = (written (goal.at.returns-clause-made c).After-fill).made
 
 pub returns-clause-plain : goal.returns-clause-plain
-returns-clause-plain c =
-    (ended_there c.args.self.now.bytes c.write.new.self.bytes c.fill.new.self.bytes c.args.found c.args.at c.args.bytes.now (viewed_heap c.args.self.now c.self.inside.region c.self.view_is c.self.invariant.heap).accepted c.requires.found c.requires.within
-    (ap (λ (m : Memory). m.bytes) c.write.ensures.after ∙ ap (λ (m : Memory). overwritten m.bytes (c.args.found.place.0 + c.args.at) c.args.bytes.now) c.self.view_is)
-    (ap (λ (m : Memory). m.bytes) c.fill.ensures.after)).1
+returns-clause-plain c = (written (goal.at.returns-clause-plain c).After-fill).plain
 
 pub invariant_of-self : goal.invariant_of-self
-invariant_of-self c = record {
-  heap =
-      let within = c.requires.within in
-      let many = length-append c.args.bytes.now (0 ∷ []) in
-      written_holds c.args.self.now c.fill.new.self c.args.found c.args.at (c.args.bytes.now ++ 0 ∷ []) (viewed_heap c.args.self.now c.self.inside.region c.self.view_is c.self.invariant.heap) (ap (λ (m : Memory). m.lents) c.fill.ensures.after ∙ ap (λ (m : Memory). m.lents) c.write.ensures.after ∙ (ap (λ (m : Memory). m.lents) c.self.view_is)) c.requires.found ((ended_there c.args.self.now.bytes c.write.new.self.bytes c.fill.new.self.bytes c.args.found c.args.at c.args.bytes.now (viewed_heap c.args.self.now c.self.inside.region c.self.view_is c.self.invariant.heap).accepted c.requires.found c.requires.within
-      (ap (λ (m : Memory). m.bytes) c.write.ensures.after ∙ ap (λ (m : Memory). overwritten m.bytes (c.args.found.place.0 + c.args.at) c.args.bytes.now) c.self.view_is)
-      (ap (λ (m : Memory). m.bytes) c.fill.ensures.after)).0) (omega (arith, many, within)) c.requires.other;
-  lists = ended_lists c.args.self.now c.self.inside.region c.write.new.self.bytes c.fill.new.self.bytes c.self.inside.lists c.args.found c.args.at c.args.bytes.now c.self.view_is (viewed_heap c.args.self.now c.self.inside.region c.self.view_is c.self.invariant.heap).accepted c.requires.found c.requires.within (ap (λ (m : Memory). m.bytes) c.write.ensures.after) (ap (λ (m : Memory). m.bytes) c.fill.ensures.after) c.self.invariant.lists;
-  tables = viewed_kept c.args.self.now c.self.inside.region c.fill.new.self.bytes c.self.inside.tables c.self.view_is ((ended_there c.args.self.now.bytes c.write.new.self.bytes c.fill.new.self.bytes c.args.found c.args.at c.args.bytes.now (viewed_heap c.args.self.now c.self.inside.region c.self.view_is c.self.invariant.heap).accepted c.requires.found c.requires.within
-      (ap (λ (m : Memory). m.bytes) c.write.ensures.after ∙ ap (λ (m : Memory). overwritten m.bytes (c.args.found.place.0 + c.args.at) c.args.bytes.now) c.self.view_is)
-      (ap (λ (m : Memory). m.bytes) c.fill.ensures.after)).0).frame c.self.invariant.tables;
-}
+invariant_of-self c = space (goal.at.invariant_of-self c).After-fill
 
 pub returns-clause-heap : goal.returns-clause-heap
-returns-clause-heap c =
-    let within = c.requires.within in
-    let many = length-append c.args.bytes.now (0 ∷ []) in
-    written_holds c.args.self.now c.fill.new.self c.args.found c.args.at (c.args.bytes.now ++ 0 ∷ []) (viewed_heap c.args.self.now c.self.inside.region c.self.view_is c.self.invariant.heap) (ap (λ (m : Memory). m.lents) c.fill.ensures.after ∙ ap (λ (m : Memory). m.lents) c.write.ensures.after ∙ (ap (λ (m : Memory). m.lents) c.self.view_is)) c.requires.found (returns-clause-made c) (omega (arith, many, within)) c.requires.other
+returns-clause-heap c = (space (goal.at.returns-clause-heap c).After-fill).heap

@@ -1,4 +1,5 @@
 use Rattle.std.proofs.Common.{◌≡◌, ◌+◌, ◌++◌, [], refl, sym, ap, ◌∙◌, append_assoc, length, length-append, arith}
+use Rattle.palm_script.proofs.LoanLaws.{stays_itself, stays_then}
 use Rattle.live_scripts.proofs.SessionLaws.{on_handed, runs_further, runs_nothing, runs_taken, stops_further}
 use Rattle.live_scripts.proofs.session.Session.run_ended_lines.Goals as goal
 
@@ -8,7 +9,7 @@ loop-cut-init g c = record {
   parts = refl;
   runs = runs_nothing (g.A.Allowance.is_short c.args.memory.now) g.W.Write.contents c.args.inputs.files.now c.args.self.now c.args.store.now c.args.out.now;
   count = omega arith;
-  lent = refl;
+  stays = stays_itself c.args.store.now;
 }
 
 pub loop-cut-preserved : goal.loop-cut-preserved
@@ -23,7 +24,7 @@ loop-cut-preserved g c =
       runs = runs_further (g.A.Allowance.is_short c.args.memory.now) g.W.Write.contents c.args.inputs.files.now so_far.front first.front c.in-Some.cut.line.now c.args.self.now c.loop-cut.self c.run_text.new.self
           c.args.store.now c.loop-cut.store c.run_text.new.store c.args.out.now c.loop-cut.out c.run_text.new.out so_far.runs first.ended count c.in_ok-run_text.ensures.ok;
       count = rw length-append (omega (arith, long, count, first.shorter, so_far.count));
-      lent = c.run_text.ensures.lent ∙ so_far.lent;
+      stays = stays_then c.args.store.now c.loop-cut.store c.run_text.new.store so_far.stays c.run_text.ensures.stays;
     }
 
 pub returns-in_err-run_text-clause-fault : goal.returns-in_err-run_text-clause-fault
@@ -33,6 +34,9 @@ returns-in_err-run_text-clause-fault g c =
     on_handed _ c.from_residual.result c.from_residual.ensures.1
     (stops_further (g.A.Allowance.is_short c.args.memory.now) g.W.Write.contents c.args.inputs.files.now _ c.args.text.now so_far.front first.front c.in-Some.cut.rest.now c.in-Some.cut.line.now c.args.self.now c.loop-cut.self c.run_text.new.self
     c.args.store.now c.loop-cut.store c.run_text.new.store c.args.out.now c.loop-cut.out c.run_text.new.out (so_far.parts ∙ ap (λ l. so_far.front ++ l) first.parts) so_far.runs first.ended c.in_err-run_text.ensures.fault)
+
+pub returns-in_err-run_text-clause-stays : goal.returns-in_err-run_text-clause-stays
+returns-in_err-run_text-clause-stays g c = stays_then c.args.store.now c.loop-cut.store c.run_text.new.store c.loop-cut.invariant.stays c.run_text.ensures.stays
 
 pub returns-clause-ok : goal.returns-clause-ok
 returns-clause-ok g c =

@@ -4,6 +4,7 @@ use Rattle.std.specs.Option.{option_to_list}
 use Rattle.std.specs.Vec.{with_items}
 use Rattle.script_calls.specs.Lines.{tables}
 use Rattle.live_scripts.specs.Sessions.{bound_in}
+use Rattle.palm_script.proofs.LoanLaws.{call_stays}
 use Rattle.live_scripts.proofs.SessionLaws.{runs_line}
 use Rattle.live_scripts.proofs.session.Session.run_line.Goals as goal
 
@@ -26,3 +27,12 @@ returns-in-Ok-add_file-clause-ok g c =
     (ap (λ l. tables l (with_items databases c.do_line.new.databases).items) (with_items_is names c.do_line.new.names names_kept) ∙ ap (λ l. tables c.do_line.new.names l) (with_items_is databases c.do_line.new.databases databases_kept))
     c.in-Ok-do_line.ensures
     (c.in-Ok-add_file.ensures.items ∙ ap (λ l. l ++ option_to_list c.in-Ok-do_line.file) files_are)
+
+pub returns-in-Err-clause-stays : goal.returns-in-Err-clause-stays
+returns-in-Err-clause-stays g c = call_stays c.args.store.now c.do_line.new.store _ _ c.in-Err.ensures.step.does
+
+pub returns-in-Ok-add_file-clause-stays : goal.returns-in-Ok-add_file-clause-stays
+returns-in-Ok-add_file-clause-stays g c = call_stays c.args.store.now c.do_line.new.store _ _ c.in-Ok-do_line.ensures.step.does
+
+pub returns-in-Err-add_file-clause-stays : goal.returns-in-Err-add_file-clause-stays
+returns-in-Err-add_file-clause-stays g c = call_stays c.args.store.now c.do_line.new.store _ _ c.in-Ok-do_line.ensures.step.does

@@ -1,12 +1,12 @@
 use Rattle.std.proofs.Common.{refl}
-use Rattle.master_table.proofs.FurtherLaws.{walk_first, walk_on, knows_none}
+use Rattle.master_table.proofs.FurtherLaws.{walk_first, walk_on}
 use Rattle.master_table.proofs.LentLaws.{walk_within}
 use Rattle.master_table.proofs.known.KnownTables.of.Goals as goal
 
 pub loop-next-init : goal.loop-next-init
 loop-next-init c = record {
   walks = walk_first c.args.region.now.bytes _ c.first_next-next.ensures;
-  knows = knows_none _ c.args.region.now.bytes c.none-known.ensures;
+  knows = c.none-known.ensures c.args.region.now.bytes;
 }
 
 pub get_u32-next-requires : goal.get_u32-next-requires

@@ -1,53 +1,46 @@
-use Rattle.std.proofs.Common.{◌≢◌, ◌+◌, refl, subst, arith}
-use Rattle.heap_model.specs.Memory.{Memory}
-use Rattle.heap_model.specs.MemorySteps.{Does}
-use Rattle.heap_model.specs.declared.call.MemoryCall.TheVariants.{Lock}
+-- A movable chunk gets one lock more, or its checks refuse it.
+use Rattle.std.proofs.Common.{◌≢◌, refl, arith, inl, inr}
 use Rattle.heap_model.specs.declared.call.Reply.{Reply}
-use Rattle.heap_model.specs.declared.refusal.Refusal.{Refusal}
-use Rattle.mem_manager.proofs.StepWords.{handed_on, used_altered, one_of}
-use Rattle.mem_manager.proofs.ChunkCalls.{lock_fixed, lock_full, lock_small, relock_changes, locked}
+use Rattle.mem_manager.proofs.StepWords.{one_of, has_lock, managed_changed, no_lock, refused, has_chunk, answers}
+use Rattle.mem_manager.proofs.ChunkCalls.{relock_changes, locked, below_fixed}
 use Rattle.mem_manager.proofs.heap.Heap.lock.Goals as goal
 
-pub returns-in_err-check_movable : goal.returns-in_err-check_movable
-returns-in_err-check_movable c =
-    handed_on (λ locked. Reply.Locked locked.place locked.count) c.from_residual-in_err-check_movable.result c.self.view_is (let e = c.from_residual-in_err-check_movable.ensures in (e.0, e.1)) c.in_err-check_movable.ensures.refusal
-    (lock_fixed c.self.inside.space c.args.name c.in_ok-found.found c.self.invariant.0.accepted c.in_ok-found.ensures.found c.in_ok-found.ensures.callers c.in_err-check_movable.ensures.err)
+pub returns-in_err-check_movable-clause-does : goal.returns-in_err-check_movable-clause-does
+returns-in_err-check_movable-clause-does c =
+    let err = c.in_err-check_movable.ensures.err in
+    let e = c.from_residual-in_err-check_movable in
+    answers (λ locked. Reply.Locked locked.place locked.count) e.result c.self.view_is e.ensures c.in_err-check_movable.ensures.refusal c.self.invariant.heap.accepted
+    (let o = c.in_ok-found.ensures.callers in inr (has_chunk o, inl (has_lock o 15 err, refl)))
 
-pub returns-then-found-eq-MOST_LOCKS : goal.returns-then-found-eq-MOST_LOCKS
-returns-then-found-eq-MOST_LOCKS c =
-    subst (λ (m : Memory). Does m (Lock c.args.name) (Reply.Refused Refusal.LockOverflow) m) c.self.view_is (lock_full c.self.inside.space c.args.name c.in_ok-found.found c.self.invariant.0.accepted c.in_ok-found.ensures.found c.in_ok-found.ensures.callers c.if-found-eq-MOST_LOCKS.true)
+pub returns-then-found-eq-MOST_LOCKS-clause-does : goal.returns-then-found-eq-MOST_LOCKS-clause-does
+returns-then-found-eq-MOST_LOCKS-clause-does c =
+    let o = c.in_ok-found.ensures.callers in
+    rw (← c.self.view_is) (refused o.heap.accepted (inr (has_chunk o, inr (no_lock o 15 c.in_ok-check_movable.ensures.ok, inl (has_lock o 14 c.if-found-eq-MOST_LOCKS.true, refl)))))
 
 pub overflow_add-count : goal.overflow_add-count
 overflow_add-count c =
-    let most = lock_small c.self.inside.space.bytes c.args.name.0 c.in_ok-found.found c.self.invariant.0.accepted c.in_ok-found.ensures.found in
-    let loose = c.in_ok-check_movable.ensures.ok in
-    omega arith
+    let ok = c.in_ok-check_movable.ensures.ok in
+    let most = below_fixed c.in_ok-found.ensures.callers ok in omega arith
 
 pub relock-requires-clause-found : goal.relock-requires-clause-found
 relock-requires-clause-found c = one_of c.in_ok-found.ensures.found
 
 pub relock-requires-clause-movable : goal.relock-requires-clause-movable
 relock-requires-clause-movable c =
-    let most = lock_small c.self.inside.space.bytes c.args.name.0 c.in_ok-found.found c.self.invariant.0.accepted c.in_ok-found.ensures.found in
-    let loose = c.in_ok-check_movable.ensures.ok in
-    omega arith
+    let ok = c.in_ok-check_movable.ensures.ok in
+    let most = below_fixed c.in_ok-found.ensures.callers ok in omega arith
 
 pub relock-requires-clause-lock : goal.relock-requires-clause-lock
 relock-requires-clause-lock c =
-    let most = lock_small c.self.inside.space.bytes c.args.name.0 c.in_ok-found.found c.self.invariant.0.accepted c.in_ok-found.ensures.found in
-    let loose = c.in_ok-check_movable.ensures.ok in
+    let most = below_fixed c.in_ok-found.ensures.callers c.in_ok-check_movable.ensures.ok in
     let few : c.in_ok-found.found.lock ≢ 14 = c.if-found-eq-MOST_LOCKS.false in
     omega arith
 
 pub invariant_of-self : goal.invariant_of-self
-invariant_of-self c = (
-  let f = c.in_ok-found.ensures.found in
-      used_altered c.self.inside.space.bytes c.relock.new.self.bytes c.self.inside.used c.args.name.0 _ _ c.self.invariant.0 (relock_changes c.self.inside.space.bytes c.relock.new.self.bytes c.args.name.0 c.in_ok-found.found (c.in_ok-found.found.lock + 1) c.self.invariant.0.accepted f c.in_ok-check_movable.ensures.ok c.relock.ensures.made),
-  c.relock.ensures.heap.lent,
-)
+invariant_of-self c =
+    let o = c.in_ok-found.ensures.callers in
+    managed_changed c.self.invariant c.relock.ensures.heap (relock_changes _ o.heap.accepted o.is c.in_ok-check_movable.ensures.ok c.relock.ensures.made)
 
-pub returns : goal.returns
-returns c =
-    let f = c.in_ok-found.ensures.found in
-    subst (λ (m : Memory). Does m (Lock c.args.name) (Reply.Locked c.in_ok-found.found.place (c.in_ok-found.found.lock + 1)) c.relock.new.self) c.self.view_is
-    (locked c.self.inside.space c.relock.new.self c.args.name c.in_ok-found.found (c.in_ok-found.found.lock + 1) c.self.invariant.0.accepted f c.in_ok-found.ensures.callers c.in_ok-check_movable.ensures.ok c.if-found-eq-MOST_LOCKS.false refl (relock_changes c.self.inside.space.bytes c.relock.new.self.bytes c.args.name.0 c.in_ok-found.found (c.in_ok-found.found.lock + 1) c.self.invariant.0.accepted f c.in_ok-check_movable.ensures.ok c.relock.ensures.made) c.relock.ensures.rest)
+pub returns-clause-does : goal.returns-clause-does
+returns-clause-does c =
+    rw (← c.self.view_is) (locked c.in_ok-found.ensures.callers c.relock.ensures.rest c.in_ok-check_movable.ensures.ok c.if-found-eq-MOST_LOCKS.false c.relock.ensures.made)

@@ -1,68 +1,66 @@
-use Rattle.std.proofs.Common.{◌≡◌, ◌+◌, Some, refl, sym, ap, subst, ◌∙◌, inl}
-use Rattle.heap_model.specs.Memory.{Memory}
-use Rattle.heap_model.specs.Chunk.{need}
-use Rattle.heap_model.specs.Reading.{chunks_of, held}
-use Rattle.heap_model.specs.Space.{NoRun, MovesNothing, MovesOneStretch, moved_bytes}
-use Rattle.heap_model.specs.MemorySteps.{Does, reply_of}
-use Rattle.heap_model.specs.declared.call.MemoryCall.TheVariants.{PtrNew}
+-- A fixed chunk is made where room was found, or the first check refuses.
+use Rattle.std.proofs.Common.{◌≡◌, ◌+◌, refl, ap, ◌∙◌, inl, inr, ℕ, Some, None}
+use Rattle.heap_model.specs.Chunk.{fixed_lock}
+use Rattle.heap_model.specs.Reading.{held}
 use Rattle.heap_model.specs.declared.call.Reply.{Reply}
-use Rattle.heap_model.specs.declared.refusal.Refusal.{Refusal}
-use Rattle.mem_manager.proofs.StepWords.{answered, handed_on, refused}
-use Rattle.mem_manager.proofs.NewChunks.{ptr_short, ptr_made, ptr_claimed, ptr_unheld, used_ptr}
+use Rattle.mem_manager.proofs.StepWords.{answers, answers_inside}
+use Rattle.mem_manager.proofs.NewChunks.{ptr_made, ptr_claimed, ptr_unheld, managed_ptr, zeros}
 use Rattle.mem_manager.proofs.SlidChunks.{nothing_slides, once_then, made_moves_nothing, nothing_then, one_stretch_then, itself_one}
+use Rattle.laws_heap.proofs.Exchanges.{ChangesName}
 use Rattle.mem_manager.proofs.heap.Heap.ptr_new.Goals as goal
+
+-- the name of the room stood for nothing once one stretch had slid
+empty : (c : goal.After-remember) → held c.room_for.new.space.bytes (c.in_ok-room.room.at + 8) ≡ None
+empty c =
+    let room_is = c.in_ok-room.ensures in
+    ptr_unheld c.args.size c.room_for.ensures.slides room_is.room room_is.enough
+
+-- and it has a chunk of zeros now
+claimed : (c : goal.After-remember) (name : ℕ) → name ≡ c.in_ok-room.room.at + 8 → ChangesName c.room_for.new.space.bytes c.claim_fixed-name.new.self.bytes name (Some (zeros c.args.size fixed_lock c.args.owner)) (Some (c.in_ok-room.room.at + 8))
+claimed c name is =
+    let r = c.in_ok-room.ensures in
+    ptr_claimed c.claim_fixed-name.new.self.bytes c.args.size c.args.owner is c.in_ok-check_owner.ensures.ok c.room_for.ensures.slides r.room r.enough c.claim_fixed-name.ensures.made
 
 pub returns-in_err-check_owner-clause-does : goal.returns-in_err-check_owner-clause-does
 returns-in_err-check_owner-clause-does c =
-    subst (λ (m : Memory). Does m (PtrNew c.args.size c.args.owner) (reply_of (λ name. Reply.Named name) c.from_residual.result) c.self.inside.space) c.self.view_is
-    (answered (λ name. Reply.Named name) c.from_residual.result (let e = c.from_residual.ensures in (e.0, e.1)) c.in_err-check_owner.ensures.refusal
-    (refused c.self.inside.space (PtrNew c.args.size c.args.owner) Refusal.InvalidOwner c.self.invariant.0.accepted (inl (c.in_err-check_owner.ensures.err, refl))))
+    answers_inside (λ name. Reply.Named name) c.from_residual.result c.self.view_is c.from_residual.ensures c.in_err-check_owner.ensures.refusal c.self.invariant.heap.accepted
+    (inl (c.in_err-check_owner.ensures.err, refl))
 
 pub returns-in_err-check_owner-clause-one_stretch : goal.returns-in_err-check_owner-clause-one_stretch
-returns-in_err-check_owner-clause-one_stretch c = subst (λ (m : Memory). MovesOneStretch m.bytes c.self.inside.space.bytes) c.self.view_is (itself_one c.self.inside.space.bytes)
+returns-in_err-check_owner-clause-one_stretch c = rw (← c.self.view_is) (itself_one c.self.inside.space.bytes)
+
+pub returns-in_err-check_owner-clause-once : goal.returns-in_err-check_owner-clause-once
+returns-in_err-check_owner-clause-once c = rw (← c.self.view_is) (nothing_slides c.self.invariant.heap)
 
 pub returns-in_err-room-clause-does : goal.returns-in_err-room-clause-does
 returns-in_err-room-clause-does c =
-    subst (λ (m : Memory). Does c.args.self.now (PtrNew c.args.size c.args.owner) (reply_of (λ name. Reply.Named name) c.from_residual-in_err-room.result) m) (sym (c.in_err-room.ensures.refused ∙ c.self.view_is))
-    (handed_on (λ name. Reply.Named name) c.from_residual-in_err-room.result c.self.view_is (let e = c.from_residual-in_err-room.ensures in (e.0, e.1)) c.in_err-room.ensures.refusal
-    (ptr_short c.self.inside.space c.args.size c.args.owner c.self.invariant.0.accepted c.in_ok-check_owner.ensures.ok c.in_err-room.ensures.short))
+    let e = c.from_residual-in_err-room in
+    rw (c.in_err-room.ensures.refused ∙ c.self.view_is)
+    (answers (λ name. Reply.Named name) e.result c.self.view_is e.ensures c.in_err-room.ensures.refusal c.self.invariant.heap.accepted (inr (c.in_ok-check_owner.ensures.ok, inl (c.in_err-room.ensures.short, refl))))
 
 pub invariant_of-self-2 : goal.invariant_of-self-2
-invariant_of-self-2 c = (
-  used_ptr c.self.inside.space.bytes c.room_for.new.space.bytes c.claim_fixed-name.new.self.bytes c.self.inside.used c.in_ok-room.room.at c.in_ok-room.room.size c.args.size c.args.owner c.claim_fixed-name.result.0 c.remember.new.self c.self.invariant.0 c.claim_fixed-name.ensures.name c.remember.ensures c.in_ok-check_owner.ensures.ok c.room_for.ensures.slides c.in_ok-room.ensures.room c.in_ok-room.ensures.enough c.claim_fixed-name.ensures.made,
-  c.claim_fixed-name.ensures.heap.lent,
-)
+invariant_of-self-2 c =
+    let name_is = c.claim_fixed-name.ensures in
+    managed_ptr c.args.size c.self.invariant c.room_for.ensures.heap name_is.heap name_is.name c.remember.ensures c.in_ok-check_owner.ensures.ok
+    c.room_for.ensures.slides c.in_ok-room.ensures.room c.in_ok-room.ensures.enough name_is.made
 
 pub returns-clause-does : goal.returns-clause-does
 returns-clause-does c =
-    subst (λ (m : Memory). Does m (PtrNew c.args.size c.args.owner) (Reply.Named c.claim_fixed-name.result) c.claim_fixed-name.new.self) c.self.view_is
-    (ptr_made c.self.inside.space c.room_for.new.space c.claim_fixed-name.new.self c.args.size c.args.owner c.claim_fixed-name.result (Some (c.in_ok-room.room.at + 8)) c.self.invariant.0.accepted c.self.invariant.1 c.in_ok-check_owner.ensures.ok c.in_ok-room.ensures.not_short
-    (ap (held c.room_for.new.space.bytes) c.claim_fixed-name.ensures.name ∙ ptr_unheld c.self.inside.space.bytes c.room_for.new.space.bytes c.in_ok-room.room.at c.in_ok-room.room.size c.args.size c.room_for.ensures.slides c.in_ok-room.ensures.room c.in_ok-room.ensures.enough)
-    c.room_for.ensures.slides c.room_for.ensures.rest
-    (ptr_claimed c.self.inside.space.bytes c.room_for.new.space.bytes c.claim_fixed-name.new.self.bytes c.in_ok-room.room.at c.in_ok-room.room.size c.args.size c.args.owner c.claim_fixed-name.result.0 c.claim_fixed-name.ensures.name c.in_ok-check_owner.ensures.ok c.room_for.ensures.slides c.in_ok-room.ensures.room c.in_ok-room.ensures.enough c.claim_fixed-name.ensures.made)
-    c.claim_fixed-name.ensures.rest)
+    let n = c.claim_fixed-name.ensures in
+    rw (← c.self.view_is)
+    (ptr_made c.room_for.new.space c.claim_fixed-name.new.self c.args.size c.args.owner c.self.invariant.heap c.in_ok-check_owner.ensures.ok c.in_ok-room.ensures.not_short
+    (ap (held c.room_for.new.space.bytes) n.name ∙ empty c) c.room_for.ensures.slides c.room_for.ensures.rest (claimed c c.claim_fixed-name.result.0 n.name) n.rest)
 
 pub returns-clause-unmoved : goal.returns-clause-unmoved
 returns-clause-unmoved c =
-    subst (λ (m : Memory). (NoRun (chunks_of m.bytes) (need c.args.size) → ⊥) → MovesNothing m.bytes c.claim_fixed-name.new.self.bytes) c.self.view_is
-    (λ run. nothing_then c.self.inside.space c.room_for.new.space c.claim_fixed-name.new.self (c.room_for.ensures.unmoved run)
-    (made_moves_nothing c.room_for.new.space.bytes c.claim_fixed-name.new.self.bytes (c.in_ok-room.room.at + 8) _ _ (ptr_unheld c.self.inside.space.bytes c.room_for.new.space.bytes c.in_ok-room.room.at c.in_ok-room.room.size c.args.size c.room_for.ensures.slides c.in_ok-room.ensures.room c.in_ok-room.ensures.enough)
-    (ptr_claimed c.self.inside.space.bytes c.room_for.new.space.bytes c.claim_fixed-name.new.self.bytes c.in_ok-room.room.at c.in_ok-room.room.size c.args.size c.args.owner (c.in_ok-room.room.at + 8) refl c.in_ok-check_owner.ensures.ok c.room_for.ensures.slides c.in_ok-room.ensures.room c.in_ok-room.ensures.enough c.claim_fixed-name.ensures.made)))
+    rw (← c.self.view_is) (λ run. nothing_then c.claim_fixed-name.new.self (c.room_for.ensures.unmoved run) (made_moves_nothing (empty c) (claimed c _ refl)))
 
 pub returns-clause-one_stretch : goal.returns-clause-one_stretch
 returns-clause-one_stretch c =
-    subst (λ (m : Memory). MovesOneStretch m.bytes c.claim_fixed-name.new.self.bytes) c.self.view_is
-    (one_stretch_then c.self.inside.space.bytes c.room_for.new.space.bytes c.claim_fixed-name.new.self.bytes c.self.invariant.0.accepted c.room_for.ensures.slides
-    (made_moves_nothing c.room_for.new.space.bytes c.claim_fixed-name.new.self.bytes (c.in_ok-room.room.at + 8) _ _ (ptr_unheld c.self.inside.space.bytes c.room_for.new.space.bytes c.in_ok-room.room.at c.in_ok-room.room.size c.args.size c.room_for.ensures.slides c.in_ok-room.ensures.room c.in_ok-room.ensures.enough)
-    (ptr_claimed c.self.inside.space.bytes c.room_for.new.space.bytes c.claim_fixed-name.new.self.bytes c.in_ok-room.room.at c.in_ok-room.room.size c.args.size c.args.owner (c.in_ok-room.room.at + 8) refl c.in_ok-check_owner.ensures.ok c.room_for.ensures.slides c.in_ok-room.ensures.room c.in_ok-room.ensures.enough c.claim_fixed-name.ensures.made)))
-
-pub returns-in_err-check_owner-clause-once : goal.returns-in_err-check_owner-clause-once
-returns-in_err-check_owner-clause-once c = subst (λ (m : Memory). c.self.inside.space.slid ≡ m.slid + moved_bytes m.bytes c.self.inside.space.bytes) c.self.view_is (nothing_slides c.self.inside.space c.self.invariant.0.accepted)
+    rw (← c.self.view_is)
+    (one_stretch_then c.claim_fixed-name.new.self.bytes c.self.invariant.heap.accepted c.room_for.ensures.slides (made_moves_nothing (empty c) (claimed c _ refl)))
 
 pub returns-clause-once : goal.returns-clause-once
 returns-clause-once c =
-    subst (λ (m : Memory). c.claim_fixed-name.new.self.slid ≡ m.slid + moved_bytes m.bytes c.claim_fixed-name.new.self.bytes) c.self.view_is
-    (once_then c.self.inside.space c.room_for.new.space c.claim_fixed-name.new.self (c.in_ok-room.room.at + 8) _ _ c.self.invariant.0.accepted c.room_for.ensures.slides
-    (ptr_unheld c.self.inside.space.bytes c.room_for.new.space.bytes c.in_ok-room.room.at c.in_ok-room.room.size c.args.size c.room_for.ensures.slides c.in_ok-room.ensures.room c.in_ok-room.ensures.enough)
-    (ptr_claimed c.self.inside.space.bytes c.room_for.new.space.bytes c.claim_fixed-name.new.self.bytes c.in_ok-room.room.at c.in_ok-room.room.size c.args.size c.args.owner (c.in_ok-room.room.at + 8) refl c.in_ok-check_owner.ensures.ok c.room_for.ensures.slides c.in_ok-room.ensures.room c.in_ok-room.ensures.enough c.claim_fixed-name.ensures.made)
-    c.claim_fixed-name.ensures.rest c.room_for.ensures.once)
+    let r = c.room_for.ensures in
+    rw (← c.self.view_is) (once_then c.room_for.new.space c.claim_fixed-name.new.self c.self.invariant.heap r.slides (empty c) (claimed c _ refl) c.claim_fixed-name.ensures.rest r.once)

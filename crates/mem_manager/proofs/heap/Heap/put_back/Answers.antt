@@ -1,52 +1,52 @@
-use Rattle.std.proofs.Common.{◌≢◌, subst, sym}
+-- The body of a lent name gets the bytes of its loan.
+use Rattle.std.proofs.Common.{◌≢◌, subst, sym, ◌≡◌}
 use Rattle.heap_model.specs.Store.{owner_under}
 use Rattle.heap_model.specs.Memory.{Memory}
 use Rattle.mem_manager.specs.Loans.{OnLoan, PutsBack, IsOutUnder}
-use Rattle.mem_manager.proofs.StepWords.{used_altered, stays_in_place}
-use Rattle.mem_manager.proofs.LoanCalls.{out_held, out_there, out_whole, out_changes, out_leaves, out_is_lent}
+use Rattle.mem_manager.proofs.StepWords.{managed_changed}
+use Rattle.mem_manager.proofs.LoanCalls.{out_held, out_there, out_whole, out_changes, out_leaves, out_is_lent, out_unmoved}
+use Rattle.mem_manager.proofs.KnownLoans.{placed, lent_owned, callers_bytes}
 use Rattle.mem_manager.proofs.heap.Heap.put_back.Goals as goal
-use Rattle.mem_manager.proofs.KnownLoans.{placed, lent_owned}
+
+-- what is out of the heap's value under the loan's name is out of its region
+opened : {inside value : Memory} {loan seen : OnLoan} → inside ≡ value → loan ≡ seen → IsOutUnder value seen.name.0 seen.part → IsOutUnder inside loan.name.0 loan.part
+opened view same out = subst (λ (x : Memory × OnLoan). IsOutUnder x.0 x.1.name.0 x.1.part) (λ i. (sym view i, sym same i)) out
 
 pub chunk-found-requires : goal.chunk-found-requires
-chunk-found-requires c = record {
-  there =
-      let out = subst (λ (x : Memory × OnLoan). IsOutUnder x.0 x.1.name.0 x.1.part) (λ i. (sym c.self.view_is i, sym c.loan.view_is i)) c.requires in
-      out_held c.self.inside.space c.loan.inside.name.0 c.loan.inside.part c.self.invariant.0.accepted out;
-}
+chunk-found-requires c = record { there = out_held c.loan.inside.name.0 c.loan.inside.part c.self.invariant.heap (opened c.self.view_is c.loan.view_is c.requires) }
 
 pub take_back-requires-clause-out : goal.take_back-requires-clause-out
-take_back-requires-clause-out c =
-    let out = subst (λ (x : Memory × OnLoan). IsOutUnder x.0 x.1.name.0 x.1.part) (λ i. (sym c.self.view_is i, sym c.loan.view_is i)) c.requires in
-    out_there c.self.inside.space c.loan.inside.name.0 c.chunk-found.result c.loan.inside.part c.self.invariant.0.accepted c.chunk-found.ensures out
+take_back-requires-clause-out c = out_there c.loan.inside.part c.self.invariant.heap c.chunk-found.ensures (opened c.self.view_is c.loan.view_is c.requires)
 
 pub take_back-requires-clause-whole : goal.take_back-requires-clause-whole
-take_back-requires-clause-whole c =
-    let out = subst (λ (x : Memory × OnLoan). IsOutUnder x.0 x.1.name.0 x.1.part) (λ i. (sym c.self.view_is i, sym c.loan.view_is i)) c.requires in
-    out_whole c.self.inside.space c.loan.inside.name.0 c.chunk-found.result c.loan.inside.part c.self.invariant.0.accepted c.self.invariant.1 c.chunk-found.ensures out
+take_back-requires-clause-whole c = out_whole c.loan.inside.part c.self.invariant.heap c.chunk-found.ensures (opened c.self.view_is c.loan.view_is c.requires)
 
 pub invariant_of-self : goal.invariant_of-self
 invariant_of-self c =
-    let out = subst (λ (x : Memory × OnLoan). IsOutUnder x.0 x.1.name.0 x.1.part) (λ i. (sym c.self.view_is i, sym c.loan.view_is i)) c.requires in
-    let many = out_whole c.self.inside.space c.loan.inside.name.0 c.chunk-found.result c.loan.inside.part c.self.invariant.0.accepted c.self.invariant.1 c.chunk-found.ensures out in
-    let ch = out_changes c.self.inside.space.bytes c.take_back.new.self.bytes c.loan.inside.name.0 c.chunk-found.result c.loan.inside.part.bytes c.self.invariant.0.accepted c.chunk-found.ensures many c.take_back.ensures.made in
-    (used_altered c.self.inside.space.bytes c.take_back.new.self.bytes c.self.inside.used c.loan.inside.name.0 _ _ c.self.invariant.0 ch, c.take_back.ensures.heap.lent)
+    let part = c.loan.inside.part in
+    let was_found = c.chunk-found.ensures in
+    let h = c.self.invariant.heap in
+    let many = out_whole part h was_found (opened c.self.view_is c.loan.view_is c.requires) in
+    managed_changed c.self.invariant c.take_back.ensures.heap
+    (out_changes part.bytes h.accepted was_found many c.take_back.ensures.made)
 
 pub returns : goal.returns
 returns c =
-    let out = subst (λ (x : Memory × OnLoan). IsOutUnder x.0 x.1.name.0 x.1.part) (λ i. (sym c.self.view_is i, sym c.loan.view_is i)) c.requires in
-    let many = out_whole c.self.inside.space c.loan.inside.name.0 c.chunk-found.result c.loan.inside.part c.self.invariant.0.accepted c.self.invariant.1 c.chunk-found.ensures out in
+    let h = c.self.invariant.heap in
+    let f = c.chunk-found.ensures in
+    let bytes = c.loan.inside.part.bytes in
+    let out = opened c.self.view_is c.loan.view_is c.requires in
+    let many = out_whole c.loan.inside.part h f out in
+    let ch = out_changes bytes h.accepted f many c.take_back.ensures.made in
+    let owner = lent_owned c.loan.inside.name.0 h (out_is_lent c.self.inside.space c.loan.inside.name.0 c.loan.inside.part out) in
     record {
-      back = subst (λ (l : OnLoan). PutsBack c.args.self.now c.take_back.new.self l) c.loan.view_is (subst (λ (m : Memory). PutsBack m c.take_back.new.self (record { name = c.loan.inside.name; part = c.loan.inside.part })) c.self.view_is
-          (record {
-            leaves = out_leaves c.self.inside.space c.take_back.new.self.bytes c.loan.inside.name.0 c.chunk-found.result c.loan.inside.part.bytes c.self.invariant.0.accepted c.chunk-found.ensures many c.take_back.ensures.made;
-            unmoved = stays_in_place c.self.inside.space.bytes c.take_back.new.self.bytes c.loan.inside.name.0 c.chunk-found.result _ c.self.invariant.0.accepted c.chunk-found.ensures
-                (out_changes c.self.inside.space.bytes c.take_back.new.self.bytes c.loan.inside.name.0 c.chunk-found.result c.loan.inside.part.bytes c.self.invariant.0.accepted c.chunk-found.ensures many c.take_back.ensures.made);
-            at = c.chunk-found.result.place.0;
-            placed = placed c.self.inside.space.bytes c.loan.inside.name.0 c.chunk-found.result c.self.invariant.0.accepted c.chunk-found.ensures;
-            rest = c.take_back.ensures.rest;
-          }));
-      owned =
-          let held = out_is_lent c.self.inside.space c.loan.inside.name.0 c.loan.inside.part out in
-          subst (λ (x : Memory × OnLoan). owner_under x.0.bytes x.1.name.0 ≢ 0) (λ i. (c.self.view_is i, c.loan.view_is i))
-          (lent_owned c.self.inside.space c.loan.inside.name.0 c.self.invariant.0.accepted c.self.invariant.1 held);
+      back = subst (λ (l : OnLoan). PutsBack c.args.self.now c.take_back.new.self l) c.loan.view_is (rw (← c.self.view_is) (record {
+        bytes = callers_bytes bytes h.accepted f owner ch;
+        leaves = out_leaves c.self.inside.space bytes h.accepted f many c.take_back.ensures.made;
+        unmoved = out_unmoved h.accepted f ch;
+        at = c.chunk-found.result.place.0;
+        placed = placed h.accepted f;
+        rest = c.take_back.ensures.rest;
+      }));
+      owned = subst (λ (x : Memory × OnLoan). owner_under x.0.bytes x.1.name.0 ≢ 0) (λ i. (c.self.view_is i, c.loan.view_is i)) owner;
     }

@@ -1,19 +1,19 @@
+-- The body of a chunk that was found in the heap's value may be read.
 use Rattle.std.proofs.Common.{◌∙◌, subst}
 use Rattle.heap_model.specs.Memory.{Memory}
 use Rattle.heap_model.specs.Lending.{LendsOther}
-use Rattle.mem_manager.proofs.StoreCalls.{found_viewed}
+use Rattle.mem_manager.proofs.StoreCalls.{found_viewed, found_under}
 use Rattle.mem_manager.proofs.StepWords.{one_of}
-use Rattle.mem_manager.proofs.StoreCalls.{found_under}
-use Rattle.mem_manager.proofs.heap.Heap.sys_body_found.Goals as goal
 use Rattle.mem_manager.proofs.KnownLoans.{not_lent_other, here_inside}
+use Rattle.mem_manager.proofs.heap.Heap.sys_body_found.Goals as goal
 
 pub body_of-requires : goal.body_of-requires
 body_of-requires c =
-    let f = found_viewed c.args.name.0 c.args.found c.self.view_is c.requires.stands in
+    let f = found_viewed c.self.view_is c.requires.stands in
     record {
       found = one_of c.requires.stands.is;
-      other = subst (λ (m : Memory). LendsOther m c.args.found.place.0) c.self.view_is (not_lent_other c.self.inside.space c.args.name.0 c.args.found c.self.invariant.0.accepted f (here_inside c.self.inside.space c.args.self.now c.args.name.0 c.self.view_is c.self.invariant.0.accepted c.self.invariant.1 c.requires.here));
+      other = subst (λ (m : Memory). LendsOther m c.args.found.place.0) c.self.view_is (not_lent_other c.self.invariant.heap f (here_inside c.self.view_is c.self.invariant.heap c.requires.here));
     }
 
 pub returns : goal.returns
-returns c = c.body_of.ensures ∙ found_under c.args.self.now.bytes c.args.name.0 c.args.found c.requires.stands.is
+returns c = c.body_of.ensures ∙ found_under c.requires.stands.is

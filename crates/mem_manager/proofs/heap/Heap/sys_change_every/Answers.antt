@@ -1,45 +1,45 @@
-use Rattle.std.proofs.Common.{ap, ◌+◌, subst}
+-- Bytes of a usable chunk are changed.
+use Rattle.std.proofs.Common.{◌+◌, subst, arith, ◌≤◌, List, ℕ, sym, length}
 use Rattle.heap_model.specs.Memory.{Memory}
-use Rattle.heap_model.specs.Space.{MovesNothing}
-use Rattle.mem_manager.proofs.StepWords.{used_altered, stays_in_place}
-use Rattle.mem_manager.proofs.StoreCalls.{within_viewed, found_viewed}
-use Rattle.mem_manager.proofs.ByteCalls.{every_viewed, leaves_every, stands_every}
-use Rattle.heap_model.specs.Lending.{KeepsLoan}
-use Rattle.mem_manager.proofs.KeptLoans.{keeps_others}
+use Rattle.mem_manager.proofs.StepWords.{managed_changed, one_of, same_lents}
+use Rattle.mem_manager.proofs.StoreCalls.{within_viewed, is_written, slice_found, usable}
+use Rattle.mem_manager.proofs.KnownLoans.{not_lent_other}
+use Rattle.heap_model.specs.Leaving.{Leaves}
+use Rattle.heap_model.specs.Maps.{put}
+use Rattle.heap_model.specs.Reading.{held}
+use Rattle.heap_model.specs.Store.{bytes_under}
+use Rattle.raw_region.specs.ByteChanges.{changed_every}
+use Rattle.heap_compact.proofs.ByteLaws.{changed_part, length-changed_part}
+use Rattle.mem_manager.proofs.ChunkCalls.{write_changes}
 use Rattle.mem_manager.proofs.heap.Heap.sys_change_every.Goals as goal
-use Rattle.mem_manager.proofs.KnownLoans.{not_lent_other, here_inside}
 
 pub change_every-requires-clause-within : goal.change_every-requires-clause-within
-change_every-requires-clause-within g c = within_viewed c.self.inside.space c.args.self.now c.args.name.0 c.args.found (c.args.at + c.args.count) c.self.view_is c.self.invariant.0.accepted (found_viewed c.args.name.0 c.args.found c.self.view_is c.requires.stands) c.requires.within
-
-pub invariant_of-self : goal.invariant_of-self
-invariant_of-self g c = (
-  used_altered c.self.inside.space.bytes c.change_every.new.self.bytes c.self.inside.used c.args.name.0 _ _ c.self.invariant.0
-      (every_viewed c.self.inside.space c.args.self.now c.change_every.new.self.bytes c.args.name.0 c.args.found c.args.at c.args.count c.args.skip c.args.step (g.C.ByteChange.made c.args.change) c.self.view_is c.self.invariant.0.accepted (found_viewed c.args.name.0 c.args.found c.self.view_is c.requires.stands) c.requires.within c.change_every.ensures.made),
-  c.change_every.ensures.heap.lent,
-)
+change_every-requires-clause-within g c =
+    let u = usable c.self.view_is c.self.invariant.heap c.requires.stands c.requires.here in
+    within_viewed (c.args.at + c.args.count) c.self.view_is u.heap u.is c.requires.within
 
 pub change_every-requires-clause-other : goal.change_every-requires-clause-other
-change_every-requires-clause-other g c = not_lent_other c.self.inside.space c.args.name.0 c.args.found c.self.invariant.0.accepted (found_viewed c.args.name.0 c.args.found c.self.view_is c.requires.stands) (here_inside c.self.inside.space c.args.self.now c.args.name.0 c.self.view_is c.self.invariant.0.accepted c.self.invariant.1 c.requires.here)
+change_every-requires-clause-other g c =
+    let u = usable c.self.view_is c.self.invariant.heap c.requires.stands c.requires.here in
+    not_lent_other u.heap u.is u.here
 
-pub returns-clause-leaves : goal.returns-clause-leaves
-returns-clause-leaves g c =
-    leaves_every c.self.inside.space c.args.self.now c.change_every.new.self c.args.name.0 c.args.found c.args.at c.args.count c.args.skip c.args.step (g.C.ByteChange.made c.args.change) c.self.view_is c.self.invariant.0.accepted (found_viewed c.args.name.0 c.args.found c.self.view_is c.requires.stands) c.requires.within c.change_every.ensures.made
+pub invariant_of-self : goal.invariant_of-self
+invariant_of-self g c =
+    let count = c.args.count in
+    let u = usable c.self.view_is c.self.invariant.heap c.requires.stands c.requires.here in
+    let part = changed_part c.self.inside.space.bytes c.args.found c.args.at count c.args.skip c.args.step (g.C.ByteChange.made c.args.change) in
+    let fits = within_viewed (c.args.at + count) c.self.view_is u.heap u.is c.requires.within in
+    let many = length-changed_part c.self.inside.space.bytes c.args.found c.args.at count c.args.skip c.args.step (g.C.ByteChange.made c.args.change) u.heap.accepted (one_of u.is) fits in
+    managed_changed c.self.invariant c.change_every.ensures.heap (write_changes c.args.at part u.heap.accepted u.is (omega (arith, many, fits)) c.change_every.ensures.made)
 
-pub returns-clause-unmoved : goal.returns-clause-unmoved
-returns-clause-unmoved g c =
-    subst (λ (m : Memory). MovesNothing m.bytes c.change_every.new.self.bytes) c.self.view_is
-    (stays_in_place c.self.inside.space.bytes c.change_every.new.self.bytes c.args.name.0 c.args.found _ c.self.invariant.0.accepted (found_viewed c.args.name.0 c.args.found c.self.view_is c.requires.stands)
-    (every_viewed c.self.inside.space c.args.self.now c.change_every.new.self.bytes c.args.name.0 c.args.found c.args.at c.args.count c.args.skip c.args.step (g.C.ByteChange.made c.args.change) c.self.view_is c.self.invariant.0.accepted (found_viewed c.args.name.0 c.args.found c.self.view_is c.requires.stands) c.requires.within c.change_every.ensures.made))
-
-pub returns-clause-stands : goal.returns-clause-stands
-returns-clause-stands g c =
-    stands_every c.self.inside.space c.args.self.now c.change_every.new.self.bytes c.args.name.0 c.args.found c.args.at c.args.count c.args.skip c.args.step (g.C.ByteChange.made c.args.change) c.self.view_is c.self.invariant.0.accepted (found_viewed c.args.name.0 c.args.found c.self.view_is c.requires.stands) c.requires.stands.movable c.requires.within
-    c.change_every.ensures.made
-
-pub returns-clause-loan : goal.returns-clause-loan
-returns-clause-loan g c =
-    subst (λ (m : Memory). KeepsLoan m c.change_every.new.self) c.self.view_is
-    (keeps_others c.self.inside.space c.change_every.new.self c.args.name.0 _ _ (ap (λ (m : Memory). m.lents) c.change_every.ensures.rest)
-    (every_viewed c.self.inside.space c.args.self.now c.change_every.new.self.bytes c.args.name.0 c.args.found c.args.at c.args.count c.args.skip c.args.step (g.C.ByteChange.made c.args.change) c.self.view_is c.self.invariant.0.accepted (found_viewed c.args.name.0 c.args.found c.self.view_is c.requires.stands) c.requires.within c.change_every.ensures.made)
-    (here_inside c.self.inside.space c.args.self.now c.args.name.0 c.self.view_is c.self.invariant.0.accepted c.self.invariant.1 c.requires.here))
+pub returns : goal.returns
+returns g c =
+    let view = c.self.view_is in
+    let u = usable view c.self.invariant.heap c.requires.stands c.requires.here in
+    let part = changed_part c.self.inside.space.bytes c.args.found c.args.at c.args.count c.args.skip c.args.step (g.C.ByteChange.made c.args.change) in
+    let fits = within_viewed (c.args.at + c.args.count) view u.heap u.is c.requires.within in
+    let many = length-changed_part c.self.inside.space.bytes c.args.found c.args.at c.args.count c.args.skip c.args.step (g.C.ByteChange.made c.args.change) u.heap.accepted (one_of u.is) fits in
+    let w = is_written u c.args.at part (same_lents c.self.inside.space c.change_every.ensures.rest) (omega (arith, many, fits)) c.change_every.ensures.made in
+    let within = subst (λ (m : Memory). c.args.at + c.args.count ≤ length (bytes_under m.bytes c.args.name.0)) (sym view) c.requires.within in
+    let leaves = subst (λ (p : List ℕ). Leaves c.self.inside.space.bytes c.change_every.new.self.bytes (put (held c.self.inside.space.bytes) c.args.name.0 c.args.at (changed_every (g.C.ByteChange.made c.args.change) c.args.step c.args.skip p))) (slice_found c.args.at c.args.count u.heap.accepted u.is within) w.leaves in
+    rw (← view) (record { leaves = leaves; unmoved = w.unmoved; stands = w.stands; loan = w.loan; rest = c.change_every.ensures.rest })

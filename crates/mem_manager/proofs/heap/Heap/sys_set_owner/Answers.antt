@@ -1,49 +1,33 @@
-use Rattle.std.proofs.Common.{◌≢◌, sym, subst, ap, refl}
-use Rattle.heap_model.specs.Memory.{Memory}
-use Rattle.heap_model.specs.Heap.{directory_of}
-use Rattle.heap_model.specs.Maps.{reowned}
-use Rattle.heap_model.specs.Reading.{held}
-use Rattle.heap_model.specs.Leaving.{Leaves}
+-- A movable chunk that was found goes to another owner.
+use Rattle.std.proofs.Common.{refl}
 use Rattle.mem_manager.proofs.ChunkCalls.{reown_changes}
-use Rattle.mem_manager.proofs.StepWords.{used_altered, altered}
-use Rattle.mem_manager.proofs.StoreCalls.{may_go_to, movable_there, movable_loose, movable_viewed}
-use Rattle.heap_model.specs.Lending.{KeepsLoan}
 use Rattle.mem_manager.proofs.KeptLoans.{keeps_changed}
+use Rattle.mem_manager.proofs.StepWords.{altered, managed_changed, one_of, same_lents}
+use Rattle.mem_manager.proofs.StoreCalls.{found_viewed, may_go_to}
 use Rattle.mem_manager.proofs.heap.Heap.sys_set_owner.Goals as goal
 
+pub reown-requires-clause-found : goal.reown-requires-clause-found
+reown-requires-clause-found c = one_of (found_viewed c.self.view_is c.sys_find-found.ensures.stands)
+
 pub reown-requires-clause-owner : goal.reown-requires-clause-owner
-reown-requires-clause-owner c =
-    may_go_to c.self.inside.space.bytes c.args.name.0 c.movable-found.result c.args.owner c.self.invariant.0.accepted c.movable-found.ensures (movable_viewed c.args.name.0 c.self.view_is c.requires.movable)
-    (subst (λ (m : Memory). c.args.name.0 ≢ directory_of m.bytes) (sym c.self.view_is) c.requires.no_directory) c.requires.some_owner c.requires.most_owner
+reown-requires-clause-owner c = may_go_to c.self.view_is c.sys_find-found.ensures.stands c.requires.no_directory c.requires.some_owner c.requires.most_owner
 
 pub invariant_of-self : goal.invariant_of-self
-invariant_of-self c = (
-  used_altered c.self.inside.space.bytes c.reown.new.self.bytes c.self.inside.used c.args.name.0 _ _ c.self.invariant.0
-      (reown_changes c.self.inside.space.bytes c.reown.new.self.bytes c.args.name.0 c.movable-found.result c.args.owner c.self.invariant.0.accepted c.movable-found.ensures
-      (may_go_to c.self.inside.space.bytes c.args.name.0 c.movable-found.result c.args.owner c.self.invariant.0.accepted c.movable-found.ensures (movable_viewed c.args.name.0 c.self.view_is c.requires.movable)
-      (subst (λ (m : Memory). c.args.name.0 ≢ directory_of m.bytes) (sym c.self.view_is) c.requires.no_directory) c.requires.some_owner c.requires.most_owner) c.reown.ensures.made),
-  c.reown.ensures.heap.lent,
-)
+invariant_of-self c =
+    let go = may_go_to c.self.view_is c.sys_find-found.ensures.stands c.requires.no_directory c.requires.some_owner c.requires.most_owner in
+    managed_changed c.self.invariant c.reown.ensures.heap
+    (reown_changes c.self.invariant.heap.accepted (found_viewed c.self.view_is c.sys_find-found.ensures.stands) go c.reown.ensures.made)
 
-pub returns-clause-leaves : goal.returns-clause-leaves
-returns-clause-leaves c =
-    subst (λ (m : Memory). Leaves m.bytes c.reown.new.self.bytes (reowned (held m.bytes) c.args.name.0 c.args.owner)) c.self.view_is
-    (altered c.self.inside.space c.reown.new.self c.args.name.0 c.movable-found.result (λ live. record live { owner = c.args.owner }) c.self.invariant.0.accepted c.movable-found.ensures
-    (reown_changes c.self.inside.space.bytes c.reown.new.self.bytes c.args.name.0 c.movable-found.result c.args.owner c.self.invariant.0.accepted c.movable-found.ensures
-    (may_go_to c.self.inside.space.bytes c.args.name.0 c.movable-found.result c.args.owner c.self.invariant.0.accepted c.movable-found.ensures (movable_viewed c.args.name.0 c.self.view_is c.requires.movable)
-    (subst (λ (m : Memory). c.args.name.0 ≢ directory_of m.bytes) (sym c.self.view_is) c.requires.no_directory) c.requires.some_owner c.requires.most_owner) c.reown.ensures.made) c.reown.ensures.rest).leaves
-
-pub movable-found-requires-clause-there : goal.movable-found-requires-clause-there
-movable-found-requires-clause-there c = movable_there c.self.inside.space.bytes c.args.name.0 (movable_viewed c.args.name.0 c.self.view_is c.requires.movable)
-
-pub movable-found-requires-clause-movable : goal.movable-found-requires-clause-movable
-movable-found-requires-clause-movable c = movable_loose c.self.inside.space.bytes c.args.name.0 (movable_viewed c.args.name.0 c.self.view_is c.requires.movable)
-
-pub returns-clause-loan : goal.returns-clause-loan
-returns-clause-loan c =
-    subst (λ (m : Memory). KeepsLoan m c.reown.new.self) c.self.view_is
-    (keeps_changed c.self.inside.space c.reown.new.self c.args.name.0 c.movable-found.result _ c.self.invariant.0.accepted (ap (λ (m : Memory). m.lents) c.reown.ensures.rest) c.movable-found.ensures
-    (reown_changes c.self.inside.space.bytes c.reown.new.self.bytes c.args.name.0 c.movable-found.result c.args.owner c.self.invariant.0.accepted c.movable-found.ensures
-    (may_go_to c.self.inside.space.bytes c.args.name.0 c.movable-found.result c.args.owner c.self.invariant.0.accepted c.movable-found.ensures (movable_viewed c.args.name.0 c.self.view_is c.requires.movable)
-    (subst (λ (m : Memory). c.args.name.0 ≢ directory_of m.bytes) (sym c.self.view_is) c.requires.no_directory) c.requires.some_owner c.requires.most_owner) c.reown.ensures.made)
-    refl)
+pub returns : goal.returns
+returns c =
+    let region = c.self.inside.space in
+    let h = c.self.invariant.heap.accepted in
+    let f = found_viewed c.self.view_is c.sys_find-found.ensures.stands in
+    let go = may_go_to c.self.view_is c.sys_find-found.ensures.stands c.requires.no_directory c.requires.some_owner c.requires.most_owner in
+    let ch = reown_changes h f go c.reown.ensures.made in
+    let rest = c.reown.ensures.rest in
+    rw (← c.self.view_is) (record {
+      leaves = (altered region c.reown.new.self (λ live. record live { owner = c.args.owner }) h f ch rest).leaves;
+      loan = keeps_changed region c.reown.new.self _ h (same_lents region rest) f ch refl;
+      rest = rest;
+    })

@@ -1,33 +1,24 @@
-use Rattle.std.proofs.Common.{length, subst, arith, refl, inl}
-use Rattle.heap_model.specs.Memory.{Memory}
-use Rattle.heap_model.specs.MemorySteps.{Does}
-use Rattle.heap_model.specs.declared.call.MemoryCall.TheVariants.{Write}
+-- Bytes are written over those of an open chunk, or the checks refuse it.
+use Rattle.std.proofs.Common.{length, arith, refl}
 use Rattle.heap_model.specs.declared.call.Reply.{Reply}
-use Rattle.heap_model.specs.declared.refusal.Refusal.{Refusal}
-use Rattle.mem_manager.proofs.StepWords.{refused, used_altered, with_names, one_of}
-use Rattle.mem_manager.proofs.RememberedNames.{handed_back}
-use Rattle.mem_manager.proofs.ChunkCalls.{unlocked_write, write_beyond, write_changes, wrote}
-use Rattle.mem_manager.proofs.ChunkCalls.{write_lent}
+use Rattle.mem_manager.proofs.StepWords.{with_names, one_of, alters_does, answers_inside, managed_changed}
+use Rattle.mem_manager.proofs.ChunkCalls.{write_beyond, write_changes, write_passes, overwrites, write_refused}
 use Rattle.mem_manager.proofs.heap.Heap.write.Goals as goal
-use Rattle.mem_manager.proofs.KnownLoans.{here_of, lent_of}
 
-pub returns-in_err-found : goal.returns-in_err-found
-returns-in_err-found c =
-    handed_back (λ done. Reply.Done) c.from_residual.result c.self.view_is (let e = c.from_residual.ensures in (e.0, e.1)) c.in_err-found.ensures.refusal
-    (refused c.self.inside.space (Write c.args.name c.args.at c.args.bytes.now) Refusal.InvalidHandle c.self.invariant.0.accepted (inl (c.in_err-found.ensures.none, refl)))
+pub returns-in_err-found-clause-does : goal.returns-in_err-found-clause-does
+returns-in_err-found-clause-does c =
+    answers_inside (λ done. Reply.Done) c.from_residual.result c.self.view_is c.from_residual.ensures refl c.self.invariant.heap.accepted (write_refused c.self.inside.space c.args.name.0 c.args.at (length c.args.bytes.now) c.in_err-found.ensures.why)
 
 pub invariant_of-self : goal.invariant_of-self
-invariant_of-self c = (with_names c.self.inside.space.bytes c.self.inside.used c.find_again.new.known c.self.invariant.0 c.find_again.ensures.remembered, c.self.invariant.1)
+invariant_of-self c = with_names c.self.invariant c.find_open.ensures.remembered
 
-pub returns-in_err-check_locked : goal.returns-in_err-check_locked
-returns-in_err-check_locked c =
-    handed_back (λ done. Reply.Done) c.from_residual-in_err-check_locked.result c.self.view_is (let e = c.from_residual-in_err-check_locked.ensures in (e.0, e.1)) c.in_err-check_locked.ensures.refusal
-    (refused c.self.inside.space (Write c.args.name c.args.at c.args.bytes.now) Refusal.ChunkNotLocked c.self.invariant.0.accepted (unlocked_write c.self.inside.space c.args.name c.in_ok-found.found c.args.at (length c.args.bytes.now) c.self.invariant.0.accepted c.in_ok-found.ensures.found c.in_ok-found.ensures.callers c.in_err-check_locked.ensures.err))
-
-pub returns-in_err-check_range : goal.returns-in_err-check_range
-returns-in_err-check_range c =
-    handed_back (λ done. Reply.Done) c.from_residual-in_err-check_range.result c.self.view_is (let e = c.from_residual-in_err-check_range.ensures in (e.0, e.1)) c.in_err-check_range.ensures.refusal
-    (refused c.self.inside.space (Write c.args.name c.args.at c.args.bytes.now) Refusal.OutOfBounds c.self.invariant.0.accepted (write_beyond c.self.inside.space c.args.name c.in_ok-found.found c.args.at (length c.args.bytes.now) c.self.invariant.0.accepted c.in_ok-found.ensures.found c.in_ok-found.ensures.callers c.in_ok-check_locked.ensures.ok (here_of c.self.inside.space c.args.name c.in_ok-found.found c.self.invariant.0.accepted c.in_ok-found.ensures.found c.in_ok-check_here.ensures.ok) c.in_err-check_range.ensures.err))
+pub returns-in_err-check_range-clause-does : goal.returns-in_err-check_range-clause-does
+returns-in_err-check_range-clause-does c =
+    let failed = c.in_err-check_range.ensures in
+    let h = c.self.invariant.heap.accepted in
+    let e = c.from_residual-in_err-check_range in
+    answers_inside (λ done. Reply.Done) e.result c.self.view_is e.ensures failed.refusal h
+    (write_beyond c.in_ok-found.ensures.may_write c.args.at (length c.args.bytes.now) failed.err)
 
 pub write-requires-clause-found : goal.write-requires-clause-found
 write-requires-clause-found c = one_of c.in_ok-found.ensures.found
@@ -35,21 +26,18 @@ write-requires-clause-found c = one_of c.in_ok-found.ensures.found
 pub write-requires-clause-within : goal.write-requires-clause-within
 write-requires-clause-within c = let inside = c.in_ok-check_range.ensures.ok in omega arith
 
+pub write-requires-clause-other : goal.write-requires-clause-other
+write-requires-clause-other c = c.in_ok-found.ensures.may_write.other
+
 pub invariant_of-self-2 : goal.invariant_of-self-2
-invariant_of-self-2 c = (
-  let f = c.in_ok-found.ensures.found in
-      used_altered c.self.inside.space.bytes c.write.new.self.bytes c.self.inside.used c.args.name.0 _ _ (with_names c.self.inside.space.bytes c.self.inside.used c.find_again.new.known c.self.invariant.0 c.find_again.ensures.remembered) (write_changes c.self.inside.space.bytes c.write.new.self.bytes c.args.name.0 c.in_ok-found.found c.args.at c.args.bytes.now c.self.invariant.0.accepted f (let inside = c.in_ok-check_range.ensures.ok in omega arith) c.write.ensures.made),
-  c.write.ensures.heap.lent,
-)
+invariant_of-self-2 c =
+    let remembered = c.find_open.ensures.remembered in
+    let o = c.in_ok-found.ensures.may_write.owned in
+    managed_changed (with_names c.self.invariant remembered) c.write.ensures.heap
+    (write_changes c.args.at c.args.bytes.now o.heap.accepted o.is (let inside = c.in_ok-check_range.ensures.ok in omega arith) c.write.ensures.made)
 
-pub returns : goal.returns
-returns c =
-    let f = c.in_ok-found.ensures.found in
-    subst (λ (m : Memory). Does m (Write c.args.name c.args.at c.args.bytes.now) Reply.Done c.write.new.self) c.self.view_is
-    (wrote c.self.inside.space c.write.new.self c.args.name c.in_ok-found.found c.args.at c.args.bytes.now c.self.invariant.0.accepted f c.in_ok-found.ensures.callers c.in_ok-check_locked.ensures.ok (here_of c.self.inside.space c.args.name c.in_ok-found.found c.self.invariant.0.accepted c.in_ok-found.ensures.found c.in_ok-check_here.ensures.ok) c.in_ok-check_range.ensures.ok (write_changes c.self.inside.space.bytes c.write.new.self.bytes c.args.name.0 c.in_ok-found.found c.args.at c.args.bytes.now c.self.invariant.0.accepted f (let inside = c.in_ok-check_range.ensures.ok in omega arith) c.write.ensures.made) c.write.ensures.rest)
-
-pub returns-in_err-check_here : goal.returns-in_err-check_here
-returns-in_err-check_here c =
-    handed_back (λ done. Reply.Done) c.from_residual-in_err-check_here.result c.self.view_is (let e = c.from_residual-in_err-check_here.ensures in (e.0, e.1)) c.in_err-check_here.ensures.refusal
-    (refused c.self.inside.space (Write c.args.name c.args.at c.args.bytes.now) Refusal.Lent c.self.invariant.0.accepted (write_lent c.self.inside.space c.args.name c.in_ok-found.found c.args.at (length c.args.bytes.now) c.self.invariant.0.accepted c.in_ok-found.ensures.found c.in_ok-found.ensures.callers c.in_ok-check_locked.ensures.ok
-    (lent_of c.self.inside.space c.args.name c.in_ok-found.found c.self.invariant.0.accepted c.in_ok-found.ensures.found c.in_err-check_here.ensures.err)))
+pub returns-clause-does : goal.returns-clause-does
+returns-clause-does c =
+    let o = c.in_ok-found.ensures.may_write in
+    let a = overwrites o c.args.at c.args.bytes.now c.write.ensures.rest (let inside = c.in_ok-check_range.ensures.ok in omega arith) c.write.ensures.made in
+    rw (← c.self.view_is) (alters_does o.owned.heap a.0 a.1 (write_passes o c.args.at (length c.args.bytes.now) c.in_ok-check_range.ensures.ok, (tt, a.0.leaves.map)) a.0.leaves.frame tt c.write.ensures.rest)

@@ -1,40 +1,55 @@
-use Rattle.std.proofs.Common.{◌≡◌, ◌+◌, Some, None, sym, ◌∙◌, inl, inr}
+-- A chunk is made in room for it, perhaps after one stretch has slid.
+use Rattle.std.proofs.Common.{◌≡◌, Some, None, sym, ◌∙◌, inl, inr, ◌+◌}
 use Rattle.master_table.specs.declared.table.EmptySlot.{EmptySlot}
-use Rattle.mem_manager.proofs.NewChunks.{new_left, new_claimed, new_lowers, new_unheld, used_made, as_next, as_start, start_made}
+use Rattle.mem_manager.proofs.NewChunks.{new_left, new_claimed, new_lowers, new_unheld, used_made, as_next, as_start, start_made, zeros}
 use Rattle.mem_manager.proofs.SlidChunks.{nothing_slides, once_then, first_slid, made_moves_nothing, nothing_then, one_stretch_then, itself_one}
+use Rattle.heap_model.specs.Reading.{held}
+use Rattle.laws_heap.proofs.Exchanges.{ChangesName}
+use Rattle.mem_manager.specs.Lookup.{IsNextEmpty, MakesNew}
 use Rattle.mem_manager.proofs.heap.making.make_movable.Goals as goal
+
+-- the slot that was found
+first : (c : goal.After-claim) → IsNextEmpty c.args.space.now.bytes c.in_ok-slot.slot.name.0 c.in_ok-slot.slot.before
+first c = as_next c.args.space.now.bytes c.in_ok-slot.slot c.in_ok-slot.ensures.ok_part c.requires.some
+
+-- its name stood for nothing once one stretch had slid
+empty : (c : goal.After-claim) → held c.room_for.new.space.bytes c.in_ok-slot.slot.name.0 ≡ None
+empty c = new_unheld c.holds.ensures.accepted c.room_for.ensures.slides (first c)
+
+-- and it has a chunk of zeros now
+claimed : (c : goal.After-claim) → ChangesName c.room_for.new.space.bytes c.claim.new.self.bytes c.in_ok-slot.slot.name.0 (Some (zeros c.args.size 0 c.args.owner)) (Some (c.in_ok-room.room.at + 8))
+claimed c =
+    let r = c.in_ok-room.ensures in
+    new_claimed c.claim.new.self.bytes c.args.size c.args.owner c.holds.ensures.accepted c.room_for.ensures.slides (first c) r.room r.enough c.claim.ensures.made
+
+made : (c : goal.After-claim) → MakesNew c.args.space.now.bytes c.claim.new.self.bytes c.in_ok-slot.slot.name.0 c.args.size c.args.owner
+made c =
+    let slides = c.room_for.ensures.slides in
+    new_left c.args.size c.args.owner c.holds.ensures.accepted (empty c) slides (claimed c)
 
 pub returns-in_err-slot-clause-one_stretch : goal.returns-in_err-slot-clause-one_stretch
 returns-in_err-slot-clause-one_stretch c = itself_one c.args.space.now.bytes
 
 pub returns-in_err-slot-clause-once : goal.returns-in_err-slot-clause-once
-returns-in_err-slot-clause-once c = nothing_slides c.args.space.now c.holds.ensures.accepted
+returns-in_err-slot-clause-once c = nothing_slides c.holds.ensures
 
 pub claim-requires-clause-slot : goal.claim-requires-clause-slot
 claim-requires-clause-slot c =
-    (first_slid c.args.space.now.bytes c.room_for.new.space.bytes c.in_ok-slot.slot.name.0 c.in_ok-slot.slot.before c.holds.ensures.accepted c.room_for.ensures.slides
-    (as_next c.args.space.now.bytes c.args.found c.in_ok-slot.slot c.in_ok-slot.ensures.ok_part c.requires.some)).is_slot
+    let ok_part = c.in_ok-slot.ensures.ok_part in
+    (first_slid c.holds.ensures.accepted c.room_for.ensures.slides
+    (as_next c.args.space.now.bytes c.in_ok-slot.slot ok_part c.requires.some)).is_slot
 
 pub claim-requires-clause-empty : goal.claim-requires-clause-empty
 claim-requires-clause-empty c =
-    (first_slid c.args.space.now.bytes c.room_for.new.space.bytes c.in_ok-slot.slot.name.0 c.in_ok-slot.slot.before c.holds.ensures.accepted c.room_for.ensures.slides
-    (as_next c.args.space.now.bytes c.args.found c.in_ok-slot.slot c.in_ok-slot.ensures.ok_part c.requires.some)).empty
+    let ok_part = c.in_ok-slot.ensures.ok_part in
+    (first_slid c.holds.ensures.accepted c.room_for.ensures.slides
+    (as_next c.args.space.now.bytes c.in_ok-slot.slot ok_part c.requires.some)).empty
 
 pub returns-clause-made : goal.returns-clause-made
-returns-clause-made c =
-    let first = as_next c.args.space.now.bytes c.args.found c.in_ok-slot.slot c.in_ok-slot.ensures.ok_part c.requires.some in
-    new_left c.args.space.now.bytes c.room_for.new.space.bytes c.claim.new.self.bytes c.args.size c.args.owner c.in_ok-slot.slot.name.0 (Some (c.in_ok-room.room.at + 8)) c.holds.ensures.accepted
-    (new_unheld c.args.space.now.bytes c.room_for.new.space.bytes c.in_ok-slot.slot.name.0 c.in_ok-slot.slot.before c.holds.ensures.accepted c.room_for.ensures.slides first) c.room_for.ensures.slides
-    (new_claimed c.args.space.now.bytes c.room_for.new.space.bytes c.claim.new.self.bytes c.in_ok-room.room.at c.in_ok-room.room.size c.args.size c.args.owner c.in_ok-slot.slot.name.0 c.in_ok-slot.slot.before c.holds.ensures.accepted c.room_for.ensures.slides first c.in_ok-room.ensures.room
-    c.in_ok-room.ensures.enough c.claim.ensures.made)
+returns-clause-made c = made c
 
 pub returns-clause-in_use : goal.returns-clause-in_use
-returns-clause-in_use c =
-    let first = as_next c.args.space.now.bytes c.args.found c.in_ok-slot.slot c.in_ok-slot.ensures.ok_part c.requires.some in
-    used_made c.room_for.new.space.bytes c.claim.new.self.bytes c.in_ok-slot.slot.name.0 c.in_ok-slot.slot.before _ _
-    (first_slid c.args.space.now.bytes c.room_for.new.space.bytes c.in_ok-slot.slot.name.0 c.in_ok-slot.slot.before c.holds.ensures.accepted c.room_for.ensures.slides first)
-    (new_claimed c.args.space.now.bytes c.room_for.new.space.bytes c.claim.new.self.bytes c.in_ok-room.room.at c.in_ok-room.room.size c.args.size c.args.owner c.in_ok-slot.slot.name.0 c.in_ok-slot.slot.before c.holds.ensures.accepted c.room_for.ensures.slides first c.in_ok-room.ensures.room
-    c.in_ok-room.ensures.enough c.claim.ensures.made)
+returns-clause-in_use c = used_made (first_slid c.holds.ensures.accepted c.room_for.ensures.slides (first c)) (claimed c)
 
 pub returns-clause-had_room : goal.returns-clause-had_room
 returns-clause-had_room c short =
@@ -47,40 +62,22 @@ returns-clause-had_room c short =
 
 pub returns-clause-unmoved : goal.returns-clause-unmoved
 returns-clause-unmoved c run =
-    let first = as_next c.args.space.now.bytes c.args.found c.in_ok-slot.slot c.in_ok-slot.ensures.ok_part c.requires.some in
-    nothing_then c.args.space.now c.room_for.new.space c.claim.new.self (c.room_for.ensures.unmoved run)
-    (made_moves_nothing c.room_for.new.space.bytes c.claim.new.self.bytes c.in_ok-slot.slot.name.0 _ _ (new_unheld c.args.space.now.bytes c.room_for.new.space.bytes c.in_ok-slot.slot.name.0 c.in_ok-slot.slot.before c.holds.ensures.accepted c.room_for.ensures.slides first)
-    (new_claimed c.args.space.now.bytes c.room_for.new.space.bytes c.claim.new.self.bytes c.in_ok-room.room.at c.in_ok-room.room.size c.args.size c.args.owner c.in_ok-slot.slot.name.0 c.in_ok-slot.slot.before c.holds.ensures.accepted c.room_for.ensures.slides first c.in_ok-room.ensures.room
-    c.in_ok-room.ensures.enough c.claim.ensures.made))
+    let self = c.claim.new.self in
+    nothing_then self (c.room_for.ensures.unmoved run) (made_moves_nothing (empty c) (claimed c))
 
 pub returns-clause-one_stretch : goal.returns-clause-one_stretch
 returns-clause-one_stretch c =
-    let first = as_next c.args.space.now.bytes c.args.found c.in_ok-slot.slot c.in_ok-slot.ensures.ok_part c.requires.some in
-    one_stretch_then c.args.space.now.bytes c.room_for.new.space.bytes c.claim.new.self.bytes c.holds.ensures.accepted c.room_for.ensures.slides
-    (made_moves_nothing c.room_for.new.space.bytes c.claim.new.self.bytes c.in_ok-slot.slot.name.0 _ _ (new_unheld c.args.space.now.bytes c.room_for.new.space.bytes c.in_ok-slot.slot.name.0 c.in_ok-slot.slot.before c.holds.ensures.accepted c.room_for.ensures.slides first)
-    (new_claimed c.args.space.now.bytes c.room_for.new.space.bytes c.claim.new.self.bytes c.in_ok-room.room.at c.in_ok-room.room.size c.args.size c.args.owner c.in_ok-slot.slot.name.0 c.in_ok-slot.slot.before c.holds.ensures.accepted c.room_for.ensures.slides first c.in_ok-room.ensures.room
-    c.in_ok-room.ensures.enough c.claim.ensures.made))
+    one_stretch_then c.claim.new.self.bytes c.holds.ensures.accepted c.room_for.ensures.slides (made_moves_nothing (empty c) (claimed c))
 
 pub returns-clause-lowers : goal.returns-clause-lowers
 returns-clause-lowers c =
-    let first = as_next c.args.space.now.bytes c.args.found c.in_ok-slot.slot c.in_ok-slot.ensures.ok_part c.requires.some in
-    new_lowers c.args.space.now.bytes c.room_for.new.space.bytes c.claim.new.self.bytes c.in_ok-room.room.at c.in_ok-room.room.size c.args.size c.args.owner c.in_ok-slot.slot.name.0 c.in_ok-slot.slot.before c.holds.ensures.accepted c.room_for.ensures.slides first c.in_ok-room.ensures.room
-    c.in_ok-room.ensures.enough c.claim.ensures.made
+    let r = c.in_ok-room.ensures in
+    new_lowers c.claim.new.self.bytes c.args.size c.args.owner c.holds.ensures.accepted c.room_for.ensures.slides (first c) r.room r.enough c.claim.ensures.made
 
 pub returns-clause-once : goal.returns-clause-once
 returns-clause-once c =
-    let first = as_next c.args.space.now.bytes c.args.found c.in_ok-slot.slot c.in_ok-slot.ensures.ok_part c.requires.some in
-    once_then c.args.space.now c.room_for.new.space c.claim.new.self c.in_ok-slot.slot.name.0 _ _ c.holds.ensures.accepted c.room_for.ensures.slides
-    (new_unheld c.args.space.now.bytes c.room_for.new.space.bytes c.in_ok-slot.slot.name.0 c.in_ok-slot.slot.before c.holds.ensures.accepted c.room_for.ensures.slides first)
-    (new_claimed c.args.space.now.bytes c.room_for.new.space.bytes c.claim.new.self.bytes c.in_ok-room.room.at c.in_ok-room.room.size c.args.size c.args.owner c.in_ok-slot.slot.name.0 c.in_ok-slot.slot.before c.holds.ensures.accepted c.room_for.ensures.slides first c.in_ok-room.ensures.room
-    c.in_ok-room.ensures.enough c.claim.ensures.made) c.claim.ensures.rest c.room_for.ensures.once
+    once_then c.room_for.new.space c.claim.new.self c.holds.ensures c.room_for.ensures.slides (empty c) (claimed c) c.claim.ensures.rest c.room_for.ensures.once
 
 pub returns-clause-table : goal.returns-clause-table
 returns-clause-table c =
-    let first = as_next c.args.space.now.bytes c.args.found c.in_ok-slot.slot c.in_ok-slot.ensures.ok_part c.requires.some in
-    start_made c.args.space.now.bytes c.claim.new.self.bytes c.in_ok-slot.slot.table c.in_ok-slot.slot.name.0 c.args.size c.args.owner
-    (as_start c.args.space.now.bytes c.args.found c.in_ok-slot.slot c.in_ok-slot.ensures.ok_part c.requires.table)
-    (new_left c.args.space.now.bytes c.room_for.new.space.bytes c.claim.new.self.bytes c.args.size c.args.owner c.in_ok-slot.slot.name.0 (Some (c.in_ok-room.room.at + 8)) c.holds.ensures.accepted
-    (new_unheld c.args.space.now.bytes c.room_for.new.space.bytes c.in_ok-slot.slot.name.0 c.in_ok-slot.slot.before c.holds.ensures.accepted c.room_for.ensures.slides first) c.room_for.ensures.slides
-    (new_claimed c.args.space.now.bytes c.room_for.new.space.bytes c.claim.new.self.bytes c.in_ok-room.room.at c.in_ok-room.room.size c.args.size c.args.owner c.in_ok-slot.slot.name.0 c.in_ok-slot.slot.before c.holds.ensures.accepted c.room_for.ensures.slides first c.in_ok-room.ensures.room
-    c.in_ok-room.ensures.enough c.claim.ensures.made))
+    start_made c.in_ok-slot.slot.table (as_start c.args.space.now.bytes c.in_ok-slot.slot c.in_ok-slot.ensures.ok_part c.requires.table) (made c)

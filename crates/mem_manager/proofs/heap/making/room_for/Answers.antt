@@ -1,3 +1,4 @@
+-- A size beyond the limit is short of room, and nothing moves.
 use Rattle.std.proofs.Common.{arith}
 use Rattle.heap_model.specs.Chunk.{need}
 use Rattle.laws_heap.proofs.Fits.{short_beyond}

@@ -1,3 +1,4 @@
+-- The slots before the least number do not include the name's.
 use Rattle.std.proofs.Common.{arith}
 use Rattle.master_table.proofs.TableLaws.{not_among-number}
 use Rattle.mem_manager.proofs.heap.making.used_without.Goals as goal

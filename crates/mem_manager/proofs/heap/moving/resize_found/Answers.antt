@@ -1,3 +1,4 @@
+-- A chunk grows where it stands or elsewhere, or the first check refuses.
 use Rattle.std.proofs.Common.{◌≡◌, sym, subst, arith}
 use Rattle.heap_model.specs.Memory.{Memory}
 use Rattle.heap_model.specs.Chunk.{need}
@@ -6,35 +7,37 @@ use Rattle.heap_place.specs.Found.{IsOne}
 use Rattle.heap_compact.specs.Resized.{Resized}
 use Rattle.laws_heap.proofs.Unmoved.{nothing_alone, itself_alone}
 use Rattle.mem_manager.proofs.Growth.{never_fits, growth_locked, growth_short, grown_passes, grown_leaves, grown_moves_nothing, moved_passes}
-use Rattle.mem_manager.proofs.heap.moving.resize_found.Goals as goal
 use Rattle.mem_manager.proofs.KnownLoans.{other_not_lent}
+use Rattle.mem_manager.proofs.heap.moving.resize_found.Goals as goal
 
 pub returns-then-grow_in_place-clause-done : goal.returns-then-grow_in_place-clause-done
 returns-then-grow_in_place-clause-done c =
-    grown_leaves c.args.space.now c.grow_in_place.new.self c.args.found c.args.size c.grow_in_place.result c.holds.ensures.accepted c.requires.found c.grow_in_place.ensures.tells c.if-grow_in_place.true c.grow_in_place.ensures.made c.grow_in_place.ensures.rest
+    grown_leaves c.grow_in_place.new.self c.args.size c.holds.ensures c.requires.found c.grow_in_place.ensures.tells c.if-grow_in_place.true c.grow_in_place.ensures.made c.grow_in_place.ensures.rest
 
 pub returns-then-grow_in_place-clause-could : goal.returns-then-grow_in_place-clause-could
-returns-then-grow_in_place-clause-could c = grown_passes c.args.space.now c.args.found c.args.size c.grow_in_place.result c.holds.ensures.accepted c.requires.found (other_not_lent c.args.space.now c.args.found c.holds.ensures.accepted c.requires.found c.requires.other) c.requires.movable c.grow_in_place.ensures.tells c.if-grow_in_place.true
+returns-then-grow_in_place-clause-could c = grown_passes c.args.size c.holds.ensures c.requires.found (other_not_lent c.holds.ensures c.requires.found c.requires.other) c.requires.movable c.grow_in_place.ensures.tells c.if-grow_in_place.true
 
 pub returns-then-grow_in_place-clause-unmoved : goal.returns-then-grow_in_place-clause-unmoved
 returns-then-grow_in_place-clause-unmoved c fits =
-    grown_moves_nothing c.args.space.now.bytes c.grow_in_place.new.self.bytes c.args.found.name.0 c.args.found c.args.size c.grow_in_place.result c.holds.ensures.accepted c.requires.found c.grow_in_place.ensures.tells c.if-grow_in_place.true c.grow_in_place.ensures.made
+    grown_moves_nothing c.grow_in_place.new.self.bytes c.args.size c.holds.ensures.accepted c.requires.found c.grow_in_place.ensures.tells c.if-grow_in_place.true c.grow_in_place.ensures.made
 
 pub returns-then-grow_in_place-clause-one_stretch : goal.returns-then-grow_in_place-clause-one_stretch
 returns-then-grow_in_place-clause-one_stretch c =
     nothing_alone c.args.space.now.bytes c.grow_in_place.new.self.bytes c.args.found.name.0
-    (grown_moves_nothing c.args.space.now.bytes c.grow_in_place.new.self.bytes c.args.found.name.0 c.args.found c.args.size c.grow_in_place.result c.holds.ensures.accepted c.requires.found c.grow_in_place.ensures.tells c.if-grow_in_place.true c.grow_in_place.ensures.made)
+    (grown_moves_nothing c.grow_in_place.new.self.bytes c.args.size c.holds.ensures.accepted c.requires.found c.grow_in_place.ensures.tells c.if-grow_in_place.true c.grow_in_place.ensures.made)
 
 pub returns-then-found-gt0-clause-why : goal.returns-then-found-gt0-clause-why
 returns-then-found-gt0-clause-why c =
-    growth_locked c.args.space.now c.args.found c.args.size c.grow_in_place.result c.holds.ensures.accepted c.requires.found (other_not_lent c.args.space.now c.args.found c.holds.ensures.accepted c.requires.found c.requires.other) c.requires.movable c.if-found-gt0.true c.grow_in_place.ensures.tells c.if-grow_in_place.false
+    growth_locked c.args.size c.holds.ensures c.requires.found (other_not_lent c.holds.ensures c.requires.found c.requires.other) c.requires.movable c.if-found-gt0.true c.grow_in_place.ensures.tells c.if-grow_in_place.false
 
 pub returns-then-found-gt0-clause-one_stretch : goal.returns-then-found-gt0-clause-one_stretch
 returns-then-found-gt0-clause-one_stretch c =
     subst (λ (m : Memory). MovesOneStretchAnd c.args.space.now.bytes m.bytes c.args.found.name.0) (sym c.if-grow_in_place.ensures.refused) (itself_alone c.args.space.now.bytes c.args.found.name.0)
 
 pub resize_by_moving-requires-clause-found : goal.resize_by_moving-requires-clause-found
-resize_by_moving-requires-clause-found c = subst (λ (m : Memory). IsOne m.bytes c.args.found) (sym c.if-grow_in_place.ensures.refused) c.requires.found
+resize_by_moving-requires-clause-found c =
+    let grown = c.if-grow_in_place.ensures in
+    subst (λ (m : Memory). IsOne m.bytes c.args.found) (sym grown.refused) c.requires.found
 
 pub resize_by_moving-requires-clause-unlocked : goal.resize_by_moving-requires-clause-unlocked
 resize_by_moving-requires-clause-unlocked c = let low = c.if-found-gt0.false in omega arith
@@ -42,7 +45,7 @@ resize_by_moving-requires-clause-unlocked c = let low = c.if-found-gt0.false in 
 pub returns-then-not-resize_by_moving-clause-why : goal.returns-then-not-resize_by_moving-clause-why
 returns-then-not-resize_by_moving-clause-why c =
     let none : c.args.found.lock ≡ 0 = let low = c.if-found-gt0.false in omega arith in
-    growth_short c.args.space.now c.args.found c.args.size c.grow_in_place.result c.holds.ensures.accepted c.requires.found (other_not_lent c.args.space.now c.args.found c.holds.ensures.accepted c.requires.found c.requires.other) c.requires.movable none c.grow_in_place.ensures.tells c.if-grow_in_place.false
+    growth_short c.args.size c.holds.ensures c.requires.found (other_not_lent c.holds.ensures c.requires.found c.requires.other) c.requires.movable none c.grow_in_place.ensures.tells c.if-grow_in_place.false
     (subst (λ (m : Memory). ShortFor m.bytes c.args.found.name.0 (need c.args.size)) c.if-grow_in_place.ensures.refused c.if-not-resize_by_moving.ensures.short)
 
 pub returns-then-not-resize_by_moving-clause-one_stretch : goal.returns-then-not-resize_by_moving-clause-one_stretch
@@ -55,11 +58,11 @@ returns-clause-done c = subst (λ (m : Memory). Resized m.bytes c.resize_by_movi
 pub returns-clause-could : goal.returns-clause-could
 returns-clause-could c =
     let none : c.args.found.lock ≡ 0 = let low = c.if-found-gt0.false in omega arith in
-    moved_passes c.args.space.now c.args.found c.args.size c.holds.ensures.accepted c.requires.found (other_not_lent c.args.space.now c.args.found c.holds.ensures.accepted c.requires.found c.requires.other) none
+    moved_passes c.args.size c.holds.ensures c.requires.found (other_not_lent c.holds.ensures c.requires.found c.requires.other) none
     (λ short. c.if-not-resize_by_moving.ensures.not_short (subst (λ (m : Memory). ShortFor m.bytes c.args.found.name.0 (need c.args.size)) (sym c.if-grow_in_place.ensures.refused) short))
 
 pub returns-clause-unmoved : goal.returns-clause-unmoved
-returns-clause-unmoved c fits = absurd (never_fits c.args.space.now.bytes c.args.found.name.0 c.args.found (need c.args.size) c.grow_in_place.result c.holds.ensures.accepted c.requires.found c.requires.movable c.grow_in_place.ensures.tells c.if-grow_in_place.false fits)
+returns-clause-unmoved c fits = absurd (never_fits (need c.args.size) c.holds.ensures.accepted c.requires.found c.requires.movable c.grow_in_place.ensures.tells c.if-grow_in_place.false fits)
 
 pub returns-clause-one_stretch : goal.returns-clause-one_stretch
 returns-clause-one_stretch c = subst (λ (m : Memory). MovesOneStretchAnd m.bytes c.resize_by_moving.new.space.bytes c.args.found.name.0) c.if-grow_in_place.ensures.refused c.resize_by_moving.ensures.one_stretch

@@ -4,7 +4,7 @@ use Rattle.std.specs.List.{flat_map}
 use Rattle.heap_model.specs.Database.{Database, entry_bytes, header_bytes, entry_offset}
 use Rattle.heap_model.specs.Leaving.{Leaves, rewritten}
 use Rattle.heap_model.specs.Reading.{held}
-use Rattle.db_format.specs.Headers.{HasHeader}
+use Rattle.db_format.specs.Headers.{IsHeaderOf}
 use Rattle.laws_store.proofs.Spellings.{length-header_bytes}
 use Rattle.database_edits.proofs.Chunks.{is_movable}
 use Rattle.laws_heap.proofs.KeptLoans.{keeps_then}
@@ -33,7 +33,7 @@ pub returns-clause-written : goal.returns-clause-written
 returns-clause-written c =
     let names : List ℕ = numbers_in c.args.names.now in
     let d : Database ℕ = whole_database c.args.info.now c.args.entries.now names in
-    let has : HasHeader d c.named_header-header.result = whole_header c.named_header-header.result c.args.info.now c.args.entries.now c.args.names.now _ c.named_header-header.ensures.values c.named_header-header.ensures.app_info c.named_header-header.ensures.sort_info c.named_header-header.ensures.entry_count c.requires.whole.entry_count c.requires.names in
+    let has : IsHeaderOf d c.named_header-header.result = whole_header c.named_header-header.result c.args.info.now c.args.entries.now c.args.names.now _ c.named_header-header.ensures.values c.named_header-header.ensures.app_info c.named_header-header.ensures.sort_info c.named_header-header.ensures.entry_count c.requires.whole.entry_count c.requires.names in
     let bytes : c.to_bytes.result ≡ header_bytes d = c.to_bytes.ensures.is d has in
     let size = ap length bytes ∙ length-header_bytes d c.requires.whole.name in
     let puts = puts_front c.args.heap.now.bytes c.sys_write.new.self.bytes c.args.slot.0 c.to_bytes.result c.requires.heap c.requires.owner size (start_room _ _ _ c.requires.body) c.sys_write.ensures.leaves in
@@ -45,7 +45,7 @@ pub returns-clause-fits : goal.returns-clause-fits
 returns-clause-fits c =
     let names : List ℕ = numbers_in c.args.names.now in
     let d : Database ℕ = whole_database c.args.info.now c.args.entries.now names in
-    let has : HasHeader d c.named_header-header.result = whole_header c.named_header-header.result c.args.info.now c.args.entries.now c.args.names.now _ c.named_header-header.ensures.values c.named_header-header.ensures.app_info c.named_header-header.ensures.sort_info c.named_header-header.ensures.entry_count c.requires.whole.entry_count c.requires.names in
+    let has : IsHeaderOf d c.named_header-header.result = whole_header c.named_header-header.result c.args.info.now c.args.entries.now c.args.names.now _ c.named_header-header.ensures.values c.named_header-header.ensures.app_info c.named_header-header.ensures.sort_info c.named_header-header.ensures.entry_count c.requires.whole.entry_count c.requires.names in
     let many = length-named c.args.entries.now (drop 2 names) in
     let few = c.requires.whole.few in
     whole_fits c.named_header-header.result c.to_bytes.result d has c.to_bytes.ensures.written c.requires.whole.name (omega (arith, many, few)) (rw (← c.has_resources-resources.ensures) c.write_entries.ensures.fits)

@@ -1,7 +1,7 @@
 use Rattle.laws_store.proofs.EditedStores.{resize_steps}
 use Rattle.laws_heap.proofs.Results.{if_err}
 use Rattle.heap_model.specs.Refusals.{FirstBrings}
-use Rattle.palm_store.specs.EntryCalls.{IsEntryData, checks_of_growth}
+use Rattle.palm_store.specs.EntryCalls.{IsEntryData, checks_of_data_growth}
 use Rattle.palm_store.proofs.DataChunks.{for_data, data_movable}
 use Rattle.palm_store.proofs.EntryChanges.{named_owner}
 use Rattle.palm_store.proofs.DataGrowth.{none_for_callers, first_for_callers, sized_steps}
@@ -36,7 +36,7 @@ pub returns-in_err-sys_resize-clause-why : goal.returns-in_err-sys_resize-clause
 returns-in_err-sys_resize-clause-why c =
     let own : IsEntryData c.self.inside.heap.bytes c.args.name.0 = rw c.self.view_is c.requires.own in
     let e = c.from_residual.ensures in
-    rw (← c.self.view_is) (if_err (FirstBrings (checks_of_growth c.self.inside.heap c.args.name.0 c.args.size)) c.from_residual.result (e.0, e.1)
+    rw (← c.self.view_is) (if_err (FirstBrings (checks_of_data_growth c.self.inside.heap c.args.name.0 c.args.size)) c.from_residual.result (e.0, e.1)
     (first_for_callers c.self.inside.heap c.args.name.0 c.args.size c.in_err-sys_resize.field-0.0 (named_owner c.self.inside.heap.bytes c.args.name.0 c.self.invariant.accepted own) c.in_err-sys_resize.ensures.why))
 
 pub returns-clause-loan : goal.returns-clause-loan

@@ -1,6 +1,7 @@
 use Rattle.heap_model.specs.Store.{store_of}
 use Rattle.palm_store.proofs.FilledData.{rewritten_steps}
 use Rattle.palm_store.proofs.KnownIds.{stand_still}
+use Rattle.palm_store.proofs.Loans.{seen_bytes}
 use Rattle.palm_store.proofs.store.Store.put_back.Goals as goal
 
 pub invariant_of-self : goal.invariant_of-self
@@ -13,6 +14,7 @@ pub returns-clause-back : goal.returns-clause-back
 returns-clause-back c =
     let own = c.put_back.ensures.owned in
     rw (← c.self.view_is) (record {
+      bytes = seen_bytes c.put_back.new.self.bytes c.args.loan.name.0 c.args.loan.part.bytes c.put_back.ensures.back.bytes;
       leaves = rewritten_steps c.self.inside.heap.bytes c.put_back.new.self.bytes c.args.loan.name.0 c.args.loan.part.bytes c.self.invariant.accepted own c.put_back.ensures.back.leaves;
       unmoved = c.put_back.ensures.back.unmoved;
       at = c.put_back.ensures.back.at;

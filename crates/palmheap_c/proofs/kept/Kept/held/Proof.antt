@@ -26,7 +26,7 @@ use denote.Steps.{nothing, opens, peeks}
 use denote.Triple.Walked.{Stays, walk_of, says, stay_dropped, Goes-spent_ref, ends_at}
 use Rattle.std_alloc.proofs.VecSteps.Shapes.{after}
 use Rattle.std_alloc.specs.Box.Ownership.{box_owns}
-use Rattle.heap_model.specs.Memory.{Memory}
+use Rattle.palmheap_c.specs.Opened.{Opened}
 use Rattle.palmheap_c.specs.contracts.kept.Held as stores
 use Rattle.palmheap_c.specs.Holding.{frees}
 use Rattle.palmheap_c.specs.Keeping.{with_store}
@@ -52,7 +52,7 @@ module _ {M : Type 1} {𝓤 : Ura M} (𝓛 : Logic 𝓤) (d : Kept) (b o b' o' :
   abbrev Rest : Fml
   Rest = fsep (fsep (frees (bare (lone R.mir)) (block_ptr b' o')) (Data.own_val (d.at, tt) us)) (cell_at full_share K.mir us b o)
 
-  back : d.at ≡ block_ptr b' o' → (w : Memory) → ent 𝓤 (sep 𝓤 (sem 𝓛 ((mem R).own_at w b' o')) (sem 𝓛 Rest)) (sem 𝓛 ((mem K).own_at (with_store d w) b o))
+  back : d.at ≡ block_ptr b' o' → (w : Opened) → ent 𝓤 (sep 𝓤 (sem 𝓛 ((mem R).own_at w b' o')) (sem 𝓛 Rest)) (sem 𝓛 ((mem K).own_at (with_store d w) b o))
   unfolding part_of
   back e w =
       qed 𝓛 (‵ (part_at R full_share w b' o') ∷ ‵ Rest ∷ []) ∵ move ! (1 ∷ []) $ fsplit ! $ fsplit ! $
@@ -91,7 +91,7 @@ held_spec 𝓤 𝓛 𝓜 𝓡 wired =
     use1 𝓛 (later (some (λ (δ : GName). raw (Part 𝓛 K R (with_store d) (named 0) κ q b o b' o' γ (sem 𝓛 (Rest 𝓛 d b o b' o' us)) (back 𝓛 d b o b' o' us e) d.store δ))))
     (lends_Part 𝓛 K R (with_store d) (named 0) κ q b o b' o' γ (sem 𝓛 (Rest 𝓛 d b o b' o' us)) (back 𝓛 d b o b' o' us e) (K.coded.code d) (K.coded.code d) d.store) $ await ! tt $ pick ! (λ δ.
     returns ! (look_at ! 0 refl) $ free_all ! refl $ keep ! (0 ∷ []) $
-    let r : MutBor Memory = record { ref_ptr = (b', o'); ghost_name = δ; now = d.store } in
+    let r : MutBor Opened = record { ref_ptr = (b', o'); ghost_name = δ; now = d.store } in
     use1 𝓛 (‵ ((MutRef (named 0) κ R).own_val r (vptr b' o' ∷ [])) ⊛ ‵ (flft κ q) ⊛ ‵ (follows K R γ δ (with_store d))) (id⊢ 𝓤 _) $ split3 ! $
     suffices ! _ (ends_at 𝓛 f.ended stayed c y (vptr b' o') r (tt, tt) (tt, tt)) $
     nothing ! $ nothing ! $ fjoin ! $ join ! $ nothing ! $ move ! (2 ∷ 0 ∷ []) $ join ! $ join ! $ frame ! $ says ! refl $ done !))))))

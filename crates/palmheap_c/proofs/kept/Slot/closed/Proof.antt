@@ -18,7 +18,7 @@ use denote.Signature.{types_at}
 use denote.Steps.{nothing}
 use denote.Triple.Entry.{alive}
 use denote.Triple.Walked.{Stays, walk_of}
-use Rattle.heap_model.specs.Memory.{Memory}
+use Rattle.palmheap_c.specs.Opened.{Opened}
 use Rattle.palmheap_c.proofs.Values.{word, word_in}
 use Rattle.palmheap_c.specs.contracts.kept.Slot as slot
 use Rattle.palmheap_c.specs.contracts.kept.Slot.closed.{ended, clauses}
@@ -36,7 +36,7 @@ closed_spec 𝓤 𝓛 𝓜 𝓡 wired =
     let Λ = (tables 𝓤 H 𝓜 𝓡 𝓡.env).Λ in
     proved_at 𝓛 ended stays c 𝓜 𝓡 tt #self fn (compiled.unfolded 𝓤 H 𝓜 𝓡 wired) (λ z are.
     let Post : Val → SProp 𝓤 = (walk_of 𝓛 ended stays c).post z in
-    let none : Option Memory = None in
+    let none : Option Opened = None in
     let made : slot.the_row.Denot = record { at = null_ptr; store = none } in
     qed 𝓛 ((raw (alive 𝓛 ended.signature z.0.0 z.0.1) ⊛ ‵ (owns (types_at ended.signature.params z.0.0) z.0.3 z.0.4)) ∷ ‵ ftrue ∷ []) ∵ move ! (1 ∷ []) $ drop ! $ split ! $ move ! (1 ∷ []) $ drop ! $
     enter ! C Λ fn [] Post $
@@ -44,5 +44,5 @@ closed_spec 𝓤 𝓛 𝓜 𝓡 wired =
     sets ! (agg ! (and_then ! (lit ! tt) (no_more !))) refl (tt, (record { fits = lit< tt }, tt)) $
     returns ! (look_at ! 0 refl) $ free_all ! refl $
     nothing ! $ word_in ! null_ptr none $
-    use0 𝓛 (raw (fact 𝓤 (none ≡ none))) (fact_i 𝓤 (none ≡ none) (emp 𝓤) refl) $
+    use0 𝓛 (raw (fact 𝓤 ((none ≡ none) × (null_ptr ≡ null_ptr)))) (fact_i 𝓤 ((none ≡ none) × (null_ptr ≡ null_ptr)) (emp 𝓤) (refl, refl)) $
     nothing ! $ move ! (3 ∷ 0 ∷ 2 ∷ 1 ∷ []) $ by ! (leaves 𝓛 ended stays c z (word null_ptr) made tt tt)))

@@ -29,8 +29,8 @@ use Rattle.palmheap_c.specs.contracts.kept.Held as stores
 use Rattle.palmheap_c.specs.contracts.parts.Parts as parts
 use Rattle.palmheap_c.specs.contracts.kept.Slot as slot
 use Rattle.palmheap_c.proofs.Values.{word, both, told, al, parts_good, parts_in}
-use Rattle.palmheap_c.specs.Holding.{IsOpen, frees, kept_in, slot_owns}
-use Rattle.heap_model.specs.Memory.{Memory}
+use Rattle.palmheap_c.specs.Holding.{HoldsStore, frees, kept_in, slot_owns}
+use Rattle.palmheap_c.specs.Opened.{Opened}
 use Rattle.std.specs.Prelude.{Option}
 use Rattle.palmheap_c.specs.contracts.kept.Slot.into_parts.{ended, clauses}
 use Rattle.palmheap_c.specs.contracts.kept.Slot.into_parts.Key.{name as #self}
@@ -54,10 +54,10 @@ into_parts_spec 𝓤 𝓛 𝓜 𝓡 wired =
     proved_at 𝓛 ended stays c 𝓜 𝓡 (Goes-blank 𝓛 0 (plain (λ _. slot.the_row)) ended.kept.0 (λ κs x f. tt), (Goes-blank 𝓛 0 (plain (λ _. Z)) ended.kept.1.0 (λ κs x f. tt), tt)) #self fn (compiled.unfolded 𝓤 H 𝓜 𝓡 wired) (λ z are.
     let Post : Val → SProp 𝓤 = (walk_of 𝓛 ended stays c).post z in
     let Run : List Val → SProp 𝓤 = λ ws. WpFn 𝓤 H C Λ fn ws Post in
-    let self = z.0.3.0 in let a = z.0.3.1.0 in let x = kept_in self.store in let Asked : Type 0 = IsOpen self.store in
+    let self = z.0.3.0 in let a = z.0.3.1.0 in let x = kept_in self.store in let Asked : Type 0 = HoldsStore self.store in
     qed 𝓛 ((raw (alive 𝓛 ended.signature z.0.0 z.0.1) ⊛ ‵ (owns (types_at ended.signature.params z.0.0) z.0.3 z.0.4)) ∷ raw (fact 𝓤 Asked) ∷ []) ∵ move ! (1 ∷ []) $ heard ! Asked (λ asked. split ! $ move ! (1 ∷ []) $
     fsplit3 ! $ fsplit ! $ drop ! $
-    rewrite ! 0 (λ (s : Option Memory). ‵ (slot_owns self.at s)) asked refl $
+    rewrite ! 0 (λ (s : Option Opened). ‵ (slot_owns self.at s)) asked refl $
     in_a_block ! self.at (λ p. box_owns frees R p x) (fst∗ 𝓤 (never 𝓤) (sem 𝓛 (frees (bare (lone R.mir)) null_ptr))) (λ b o at. move ! (1 ∷ []) $
     handle_tells (al R Z heap_laws.the_row_laws heap_impl.ghosts) ! a z.0.4.1.0 (λ h ea fits.
     -- [the handle; the store with the right to free it; true; the tokens]

@@ -24,7 +24,7 @@ use Rattle.std_heap.specs.contracts.GlobalAllocator.TheImpl as heap_impl
 use Rattle.std_heap.proofs.Global.TheLaws as heap_laws
 use Rattle.palmheap_c.specs.contracts.kept.Held as stores
 use Rattle.palmheap_c.specs.contracts.kept.Slot as slot
-use Rattle.heap_model.specs.Memory.{Memory}
+use Rattle.palmheap_c.specs.Opened.{Opened}
 use Rattle.std.specs.Prelude.{Option, Some}
 use Rattle.palmheap_c.specs.contracts.parts.Parts as parts
 use Rattle.palmheap_c.proofs.Values.{both, parts_good, parts_out, word, word_in}
@@ -66,7 +66,7 @@ of_spec 𝓤 𝓛 𝓜 𝓡 wired =
     let x = z.0.3.0.value in
     let made : slot.the_row.Denot = record { at = block_ptr b o; store = Some x } in
     word_in ! (block_ptr b o) (Some x) $
-    use0 𝓛 (raw (fact 𝓤 (◌≡◌ {A = Option Memory} (Some x) (Some x)))) (fact_i 𝓤 (◌≡◌ {A = Option Memory} (Some x) (Some x)) (emp 𝓤) refl) $
+    use0 𝓛 (raw (fact 𝓤 (◌≡◌ {A = Option Opened} (Some x) (Some x)))) (fact_i 𝓤 (◌≡◌ {A = Option Opened} (Some x) (Some x)) (emp 𝓤) refl) $
     returns ! (look_at ! 0 refl) $ free_all ! refl $
     nothing ! $ nothing ! $ fjoin ! $
     move ! (3 ∷ 0 ∷ 2 ∷ 1 ∷ []) $ by ! (leaves 𝓛 ended stays c z (word (block_ptr b o)) made (tt, tt) (tt, tt)))))

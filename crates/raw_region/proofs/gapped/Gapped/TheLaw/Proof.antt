@@ -1,13 +1,13 @@
 -- A `&` to bytes with holes is made of one to each byte that isn't lent. Assumes `Logic`.
 use Rattle.std.proofs.Common.{ℕ, suc, ◌+◌, Bool, true, false, List, [], ◌∷◌}
 use base.Fraction.{full_share}
-use base.Logic.{emp, id⊢, ent, sep}
-use base.Fml.{Fml, Lft, ftrue, fbor, fsep}
+use base.Logic.{emp, id⊢, sep}
+use base.Fml.{Fml, Lft, ftrue, fbor}
 use denote.Builtin.{u8}
 use denote.Memory.{part_at, shared_of}
 use denote.Plain.{uint_row_laws}
 use denote.RawPtr.{Ptr, block_ptr, null_ptr, block_of, count_of, in_block}
-use denote.Sharing.{ShrLaws, said, nothing}
+use denote.Sharing.{ShrLaws, said}
 use denote.SharingLaws.{beside_shr_laws, said_shr_laws, nothing_shr_laws}
 use denote.Param.Shared.{copy_shared}
 use denote.Struct.Field.{RawPtr-field, usize-field, u8-field}

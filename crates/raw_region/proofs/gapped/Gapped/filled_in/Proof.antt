@@ -1,6 +1,6 @@
 -- `filled_in` puts a run into a hole. Assumes `Logic`.
-use Rattle.std.proofs.Common.{◌≡◌, ℕ, ◌+◌, ◌≤◌, ◌<◌, ◌^◌, List, [], ◌∷◌, ◌++◌, length, refl, sym, ap, subst, ◌∙◌, arith}
-use Rattle.std.specs.Prelude.{Option, Some}
+use Rattle.std.proofs.Common.{◌≡◌, ℕ, ◌+◌, ◌≤◌, List, [], ◌∷◌, ◌++◌, length, refl, sym, ap, ◌∙◌, arith}
+use Rattle.std.specs.Prelude.{Some}
 use Rattle.std.proofs.raw_atomic.Walks.{proved_at, leaves}
 use mir.Syntax.{Fn, w64}
 use mir.Val.{Val, vint}
@@ -9,15 +9,13 @@ use base.Fraction.{full_share}
 use prog.Wp.{WpFn}
 use contract.Monad.{fact, fact_i}
 use contract.Running.{tables}
-use types.Kit.{‵, raw, ◌⊛◌, given, learn, prop, ◌$◌, ◌∵◌, !, qed, by, move, keep, drop, use0, use1, use2, rewrite, split, join, regoal, fsplit, fsplit3, fjoin}
+use types.Kit.{‵, raw, ◌⊛◌, given, learn, prop, ◌$◌, ◌∵◌, !, qed, by, move, drop, use0, use1, use2, rewrite, split, regoal, fsplit, fsplit3, fjoin}
 use types.Part.{whole, sub, agg}
 use types.Run.{stop, fld, of_opd, no_more, and_then, returns, enter}
 use types.ByLocal.{alloc_all, pass_all, free_all, look_at, get, get_in, sets}
 use denote.RattleType.{owns}
-use denote.Array.{Array}
 use denote.Builtin.{u8}
 use denote.Index.{row}
-use denote.Memory.{part_at}
 use denote.RawPtr.{Ptr, block_ptr, in_a_block, ◌+ₚ◌}
 use denote.Signature.{types_at}
 use denote.Steps.{nothing, heard}
@@ -31,7 +29,7 @@ use Rattle.raw_region.proofs.Values.{sized_val, sized_own, sized_told, sized_mad
 use Rattle.raw_region.proofs.Bytes.{byte}
 use Rattle.raw_region.proofs.Apart.{hole_filled}
 use Rattle.raw_region.proofs.GapWrites.{length-over}
-use Rattle.raw_region.specs.Ownership.{bytes_at, bytes_but, owned_but}
+use Rattle.raw_region.specs.Ownership.{owns_bytes, bytes_but, owned_but}
 use Rattle.heap_model.specs.Memory.{Misses, without}
 use Rattle.raw_region.specs.Holes.{is_out, count_at}
 use Rattle.raw_region.specs.contracts.gapped.Gapped as gapped
@@ -69,7 +67,7 @@ filled_in_spec 𝓤 𝓛 𝓜 𝓡 wired =
     let all : List ℕ = overwritten x.bytes k part.bytes in
     let fewer = without k x.lents in
     let size : x.len ≡ length all = ok ∙ sym (length-over x.bytes part.bytes k (omega (arith, many, inside, ok))) in
-    rewrite ! 0 (λ (p : Ptr). ‵ (bytes_at p m part.bytes)) next refl $
+    rewrite ! 0 (λ (p : Ptr). ‵ (owns_bytes p m part.bytes)) next refl $
     use1 𝓛 (given (length part.bytes ≡ m) (‵ (row u8 full_share part.bytes b (o + k)))) (Rows.apart byte 𝓛 full_share m part.bytes b (o + k)) $ learn ! (λ same.
     rewrite ! 0 (λ (j : ℕ). ‵ (row u8 full_share part.bytes b j)) there refl $
     move ! (1 ∷ []) $ drop ! $

@@ -26,7 +26,6 @@ use denote.Triple.Walked.{Stays, walk_of, says, stay_dropped, Goes-dropped, ends
 use Rattle.std_alloc.proofs.Words.{pointer_in, pointer_out}
 use Rattle.std_alloc.proofs.VecSteps.Shapes.{after}
 use Rattle.heap_model.specs.Memory.{Misses}
-use Rattle.raw_region.specs.Holes.{is_out}
 use Rattle.raw_region.proofs.Apart.{part_seen}
 use Rattle.raw_region.proofs.GapWrites.{length-part_of}
 use Rattle.raw_region.proofs.GappedFields.{Words, words, shows_ptr}

@@ -23,7 +23,7 @@ use denote.Laws.{shows}
 use denote.Memory.{mem, cell_at, part_of}
 use denote.Plain.{uint_vals, uint_Tells}
 use denote.RattleType.{owns}
-use denote.RawPtr.{Ptr, block_ptr, in_a_block, ◌+ₚ◌}
+use denote.RawPtr.{Ptr, block_ptr, in_a_block}
 use denote.Ref.{MutBor, mut_vals, mut_Tells}
 use denote.Signature.{plain, types_at, mut_ref_to}
 use denote.Follow.{follows}

@@ -1,7 +1,7 @@
 -- `whole` makes bytes with no hole of a run. Assumes `Logic`.
-use Rattle.std.proofs.Common.{◌≡◌, ℕ, ◌+◌, ◌<◌, ◌^◌, List, [], ◌∷◌, ◌++◌, length, refl, sym, ap, ◌∙◌, arith}
+use Rattle.std.proofs.Common.{◌≡◌, ℕ, ◌+◌, List, [], ◌∷◌, ◌++◌, length, refl, sym, arith}
 use Rattle.std.proofs.raw_atomic.Walks.{proved_at, leaves}
-use mir.Syntax.{Fn, w64}
+use mir.Syntax.{Fn}
 use mir.Val.{Val}
 use base.Logic.{SProp, emp, id⊢, never}
 use base.Fml.{Fml, ftrue}
@@ -9,7 +9,7 @@ use base.Fraction.{full_share}
 use prog.Wp.{WpFn}
 use contract.Monad.{fact, fact_i}
 use contract.Running.{tables}
-use types.Kit.{‵, raw, ◌⊛◌, given, learn, prop, ◌$◌, ◌∵◌, !, qed, by, move, keep, drop, use0, use1, rewrite, split, join, regoal, fsplit, fjoin}
+use types.Kit.{‵, raw, ◌⊛◌, given, learn, prop, ◌$◌, ◌∵◌, !, qed, by, move, keep, drop, use0, use1, rewrite, split, regoal, fsplit, fjoin}
 use types.Part.{whole, sub, agg}
 use types.Run.{stop, fld, of_opd, no_more, and_then, returns, enter}
 use types.ByLocal.{alloc_all, pass_all, free_all, look_at, get, get_in, sets}
@@ -18,7 +18,7 @@ use denote.Builtin.{u8}
 use denote.Index.{row}
 use denote.RawPtr.{Ptr, block_ptr, in_a_block}
 use denote.Signature.{types_at}
-use denote.Steps.{nothing, heard}
+use denote.Steps.{nothing}
 use denote.Triple.Entry.{alive}
 use denote.Triple.Walked.{Stays, stay_dropped, walk_of}
 use Rattle.core.proofs.alloc.Calls.{Goes-blank}
@@ -27,7 +27,7 @@ use Rattle.raw_region.proofs.Walks.{slot_at}
 use Rattle.raw_region.proofs.Values.{sized_val, sized_own, sized_told, sized_made}
 use Rattle.raw_region.proofs.Bytes.{byte}
 use Rattle.raw_region.proofs.Each.{none_out}
-use Rattle.raw_region.specs.Ownership.{bytes_at, owned_but}
+use Rattle.raw_region.specs.Ownership.{owns_bytes, owned_but}
 use Rattle.heap_model.specs.Memory.{Lent}
 use Rattle.raw_region.specs.Holes.{is_out}
 use Rattle.raw_region.specs.contracts.gapped.Gapped as gapped
@@ -53,7 +53,7 @@ whole_spec 𝓤 𝓛 𝓜 𝓡 wired =
     let told = sized_told x.ptr n vss.0 are.0.0 in
     let none : List Lent = [] in
     qed 𝓛 ((raw (alive 𝓛 ended.signature z.0.0 z.0.1) ⊛ ‵ (owns (types_at ended.signature.params z.0.0) a vss)) ∷ ‵ ftrue ∷ []) ∵ move ! (1 ∷ []) $ drop ! $ split ! $ move ! (1 ∷ []) $
-    fsplit ! $ fsplit ! $ drop ! $ in_a_block ! x.ptr (λ p. bytes_at p n x.bytes) (id⊢ 𝓤 (never 𝓤)) (λ b o at.
+    fsplit ! $ fsplit ! $ drop ! $ in_a_block ! x.ptr (λ p. owns_bytes p n x.bytes) (id⊢ 𝓤 (never 𝓤)) (λ b o at.
     let there : o ≡ 0 + o = omega arith in
     let owned : owned_but (is_out none) b o 0 x.bytes ≡ row u8 full_share x.bytes b (0 + o) = none_out (is_out none) b o 0 x.bytes (λ j less. refl) in
     use1 𝓛 (given (length x.bytes ≡ n) (‵ (row u8 full_share x.bytes b o))) (Rows.apart byte 𝓛 full_share n x.bytes b o) $ learn ! (λ same.

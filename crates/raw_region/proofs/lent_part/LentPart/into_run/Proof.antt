@@ -22,7 +22,7 @@ use Rattle.core.proofs.alloc.Calls.{Goes-blank}
 use Rattle.raw_region.proofs.Walks.{slot_at}
 use Rattle.raw_region.proofs.Values.{sized_val, sized_own, sized_told, sized_made}
 use Rattle.raw_region.specs.LentParts.{IsFull, bytes_in, owns_part}
-use Rattle.raw_region.specs.Ownership.{bytes_at}
+use Rattle.raw_region.specs.Ownership.{owns_bytes}
 use Rattle.raw_region.specs.contracts.run.Run as run
 use Rattle.raw_region.specs.contracts.lent_part.LentPart.into_run.{ended, clauses}
 use Rattle.raw_region.specs.contracts.lent_part.LentPart.into_run.Key.{name as #self}
@@ -49,7 +49,7 @@ into_run_spec 𝓤 𝓛 𝓜 𝓡 wired =
     qed 𝓛 ((raw (alive 𝓛 ended.signature z.0.0 z.0.1) ⊛ ‵ (owns (types_at ended.signature.params z.0.0) a vss)) ∷ raw (fact 𝓤 Asked) ∷ []) ∵ move ! (1 ∷ []) $ heard ! Asked (λ asked. split ! $ move ! (1 ∷ []) $
     let ok : (n ≡ length bs) × (n < 2 ^ 63) = x.sized asked in
     fsplit ! $ fsplit ! $ drop ! $ rewrite ! 0 (λ (s : Option (List ℕ)). ‵ (owns_part x.bytes n s)) asked refl $
-    in_a_block ! x.bytes (λ p. bytes_at p n bs) (id⊢ 𝓤 (never 𝓤)) (λ b o at. move ! (1 ∷ []) $ drop ! $
+    in_a_block ! x.bytes (λ p. owns_bytes p n bs) (id⊢ 𝓤 (never 𝓤)) (λ b o at. move ! (1 ∷ []) $ drop ! $
     regoal ! (λ (us : List Val). prop (WpFn 𝓤 H C Λ fn us Post)) (λ i. told.0 i ++ []) refl $
     regoal ! (λ (p : Ptr). prop (WpFn 𝓤 H C Λ fn (sized_val p n ∷ []) Post)) at refl $
     enter ! C Λ fn (sized_val (block_ptr b o) n ∷ []) Post $

@@ -22,7 +22,7 @@ use denote.Triple.Walked.{Stays, stay_dropped, walk_of}
 use Rattle.core.proofs.alloc.Calls.{Goes-blank}
 use Rattle.raw_region.proofs.Walks.{slot_at}
 use Rattle.raw_region.proofs.Values.{sized_val, sized_own, sized_told, sized_made}
-use Rattle.raw_region.specs.Ownership.{bytes_at}
+use Rattle.raw_region.specs.Ownership.{owns_bytes}
 use Rattle.raw_region.specs.contracts.lent_part.LentPart as place
 use Rattle.raw_region.specs.contracts.lent_part.LentPart.of_run.{ended, clauses}
 use Rattle.raw_region.specs.contracts.lent_part.LentPart.of_run.Key.{name as #self}
@@ -45,7 +45,7 @@ of_run_spec 𝓤 𝓛 𝓜 𝓡 wired =
     let n = x.len in
     let told = sized_told x.ptr n vss.0 are.0.0 in
     qed 𝓛 ((raw (alive 𝓛 ended.signature z.0.0 z.0.1) ⊛ ‵ (owns (types_at ended.signature.params z.0.0) a vss)) ∷ ‵ ftrue ∷ []) ∵ move ! (1 ∷ []) $ drop ! $ split ! $ move ! (1 ∷ []) $
-    fsplit ! $ fsplit ! $ drop ! $ in_a_block ! x.ptr (λ p. bytes_at p n x.bytes) (id⊢ 𝓤 (never 𝓤)) (λ b o at. move ! (1 ∷ []) $ drop ! $
+    fsplit ! $ fsplit ! $ drop ! $ in_a_block ! x.ptr (λ p. owns_bytes p n x.bytes) (id⊢ 𝓤 (never 𝓤)) (λ b o at. move ! (1 ∷ []) $ drop ! $
     regoal ! (λ (us : List Val). prop (WpFn 𝓤 H C Λ fn us Post)) (λ i. told.0 i ++ []) refl $
     regoal ! (λ (p : Ptr). prop (WpFn 𝓤 H C Λ fn (sized_val p n ∷ []) Post)) at refl $
     enter ! C Λ fn (sized_val (block_ptr b o) n ∷ []) Post $

@@ -1,9 +1,9 @@
-use Rattle.std.proofs.Common.{◌≡◌, ℕ, ◌+◌, ◌/◌, ◌≤◌, ◌<◌, ◌^◌, ap, sym, subst, ◌∙◌, List, ◌∷◌, length, arith}
+use Rattle.std.proofs.Common.{◌≡◌, ℕ, ◌+◌, ◌/◌, ◌<◌, ◌^◌, ap, sym, subst, ◌∙◌, List, ◌∷◌, length, arith}
 use Rattle.std.specs.Prelude.{MatchOption}
 use Rattle.core.specs.List.{refill}
 use denote.RawPtr.{Ptr}
 use Rattle.bit_sets.specs.Sets.{AddsNumber}
-use Rattle.heap_model.specs.Memory.{Memory, Lent, IsWithin, Misses, NoneBegins}
+use Rattle.heap_model.specs.Memory.{Memory, Lent, Misses, NoneBegins}
 use Rattle.raw_region.specs.declared.gapped.Gapped.{Gapped}
 use Rattle.raw_region.specs.Holes.{KnowsLents, lent_at}
 use Rattle.raw_region.specs.Marks.{KnowsMarks}

@@ -1,4 +1,4 @@
-use Rattle.std.proofs.Common.{◌≡◌, ℕ, ◌+◌, ◌-◌, ◌*◌, ◌/◌, ◌≤◌, ◌<◌, ◌^◌, ap, subst, sym, ◌∙◌, length, List, arith}
+use Rattle.std.proofs.Common.{◌≡◌, ℕ, ◌-◌, ◌*◌, ◌/◌, ◌<◌, ◌^◌, ap, subst, sym, ◌∙◌, length, List, arith}
 use Rattle.std.specs.Prelude.{Some, MatchOption}
 use denote.RawPtr.{Ptr, ◌+ₚ◌}
 use Rattle.raw_region.specs.declared.gapped.Gapped.{Gapped}
@@ -6,7 +6,7 @@ use Rattle.heap_model.specs.Memory.{Memory, Lent, Misses, without}
 use Rattle.raw_region.specs.Parts.{PartOut, IsOut}
 use Rattle.raw_region.specs.Holes.{KnowsLents, count_at}
 use Rattle.core.specs.List.{refill}
-use Rattle.bit_sets.specs.Sets.{HasNumber, RemovesNumber}
+use Rattle.bit_sets.specs.Sets.{IsInSet, RemovesNumber}
 use Rattle.raw_region.specs.Marks.{BeginsAt, KnowsMarks}
 use Rattle.raw_region.proofs.GapWrites.{refill_all}
 use Rattle.raw_region.proofs.MarkLaws.{marks_fewer, out_begins, even_at}
@@ -53,7 +53,7 @@ remove-requires-clause-there c =
     let begins = out_begins g.lents at p out in
     let even = (even_at g.lents at c.self.invariant.3.even begins).1 in
     let same : at ≡ 8 * (at / 8) = omega (arith, even) in
-    subst (λ (l : List ℕ). HasNumber l (at / 8)) (sym c.deref_mut.ensures.value) ((c.self.invariant.3.bits (at / 8)).1 (subst (λ (n : ℕ). BeginsAt n g.lents) same begins))
+    subst (λ (l : List ℕ). IsInSet l (at / 8)) (sym c.deref_mut.ensures.value) ((c.self.invariant.3.bits (at / 8)).1 (subst (λ (n : ℕ). BeginsAt n g.lents) same begins))
 
 pub invariant_of-self : goal.invariant_of-self
 invariant_of-self c =

@@ -28,7 +28,7 @@ use Rattle.core.proofs.atomic.Steps.{fm}
 use Rattle.std.proofs.raw_atomic.Walks.{proved_at, leaves}
 use Rattle.raw_region.proofs.Walks.{slot_at, then_runs, out_of_block}
 use Rattle.raw_region.proofs.Values.{sized_val, sized_told, lease_val, lease_told}
-use Rattle.raw_region.specs.Ownership.{bytes_type, room_of}
+use Rattle.raw_region.specs.Ownership.{bytes_type, owns_room}
 use Rattle.raw_region.specs.contracts.room.Room.free.{ended, clauses}
 use Rattle.raw_region.specs.contracts.room.Room.free.Key.{name as #self}
 use Rattle.raw_region.proofs.room.Room.free.Statement.{statement}
@@ -64,7 +64,7 @@ free_spec 𝓤 𝓛 𝓜 𝓡 wired A L g d dd met md =
     let Asked : Type 0 = (k.alloc ≡ h) × (k.ptr ≡ x.ptr) × (k.size ≡ n) in
     qed 𝓛 ((raw (alive 𝓛 En₀.signature z.0.0 z.0.1) ⊛ ‵ (owns (types_at En₀.signature.params z.0.0) a vss)) ∷ (raw (fact 𝓤 (z.0.0.1.0 ⊑ A.lives)) ⊛ raw (fact 𝓤 Asked)) ∷ []) ∵
     move ! (1 ∷ []) $ split ! $ heard ! (z.0.0.1.0 ⊑ A.lives) (λ le. heard ! Asked (λ asked. split ! $ move ! (1 ∷ []) $
-    fsplit3 ! $ fsplit ! $ drop ! $ in_a_block ! x.ptr (λ p. room_of p n) (id⊢ 𝓤 (never 𝓤)) (λ b o at. move ! (1 ∷ []) $ fsplit ! $ drop ! $
+    fsplit3 ! $ fsplit ! $ drop ! $ in_a_block ! x.ptr (λ p. owns_room p n) (id⊢ 𝓤 (never 𝓤)) (λ b o at. move ! (1 ∷ []) $ fsplit ! $ drop ! $
     rewrite ! 0 (λ (u : A.Denot × ℕ × Ptr). ‵ (g.dealloc_token u.0 (bytes_type u.1) u.2)) (λ i. (asked.0 i, asked.2 i, (asked.1 ∙ at) i)) refl $
     move ! (2 ∷ []) $ fsplit ! $ fsplit ! $ drop ! $ move ! (1 ∷ []) $ drop ! $ use1 𝓛 (‵ (seen Y κ handle h)) (id⊢ 𝓤 _) $ move ! (3 ∷ []) $ use1 𝓛 (‵ (flft κ q) ⊛ ‵ (flft z.0.0.1.0 z.0.1.1.0) ⊛ ‵ ftrue) (id⊢ 𝓤 _) $ split ! $ move ! (2 ∷ 0 ∷ []) $ join ! $ move ! (3 ∷ 2 ∷ []) $
     let y = at_gives Y 𝓛 𝓜.mem 𝓡.returns κ q handle h b o n 1 τ in

@@ -1,0 +1,117 @@
+-- No word is said of a file exactly if it is its canonical form.
+use Rattle.std.proofs.Common.{◌≡◌, ℕ, ◌≤◌, Bool, true, false, Option, List, length, refl, sym, ap, subst, ◌∙◌}
+use Rattle.std.specs.Prelude.{◌↔◌, ◌||◌, not, IsTrue, IsFalse}
+use Rattle.heap_model.specs.Bytes.{AreBytes}
+use Rattle.heap_model.specs.Database.{Database, HasName}
+use Rattle.heap_model.specs.Store.{unique_ids}
+use Rattle.heap_model.specs.Files.{HasNoFault, file_of}
+use Rattle.pdb_format.specs.ReadFiles.{database_read}
+use Rattle.pdb_format.proofs.FileNames.{file_named}
+use Rattle.pdb_format.proofs.ReadFiles.{reads}
+use Rattle.pdb_format.proofs.ReadOnce.{read_once}
+use Rattle.canonical_file.specs.Canonical.{IsCanonical}
+use Rattle.canonical_file.specs.declared.changes.Changes.{Changes}
+use Rattle.canonical_file.specs.Changes.{NoneIsBusy, HasFiller, KeepsIds, HasPlainName, IsInOrder, Says, is_none, AreChanges}
+use Rattle.canonical_file.specs.Given.{AreGivenIn}
+use Rattle.canonical_file.proofs.Kept.{Known, file_stays, all_kept}
+use Rattle.canonical_file.proofs.Given.{known_of, says_not}
+
+-- ---- words that are not said
+
+pub record NoneSaid (changes : Changes) : Type 0 where
+  pub busy : IsFalse changes.busy
+  pub filler : IsFalse changes.filler
+  pub ids : IsFalse changes.ids
+  pub name : IsFalse changes.name
+  pub order : IsFalse changes.order
+
+first_false : (a b : Bool) → IsTrue (not (a || b)) → IsFalse a × IsTrue (not b)
+first_false true b e = absurd cc
+first_false false b e = (refl, e)
+
+last_false : (a : Bool) → IsTrue (not a) → IsFalse a
+last_false true e = absurd cc
+last_false false e = refl
+
+none_said : (changes : Changes) → IsTrue (is_none changes) → NoneSaid changes
+none_said changes e =
+    let busy = first_false changes.busy (changes.filler || (changes.ids || (changes.name || changes.order))) e in
+    let filler = first_false changes.filler (changes.ids || (changes.name || changes.order)) busy.1 in
+    let ids = first_false changes.ids (changes.name || changes.order) filler.1 in
+    let name = first_false changes.name changes.order ids.1 in
+    record { busy = busy.0; filler = filler.0; ids = ids.0; name = name.0; order = last_false changes.order name.1 }
+
+more_false : (a b : Bool) → IsFalse a → IsTrue (not b) → IsTrue (not (a || b))
+more_false true b e f = absurd cc
+more_false false b e f = f
+
+one_false : (a : Bool) → IsFalse a → IsTrue (not a)
+one_false true e = absurd cc
+one_false false e = refl
+
+said_none : (changes : Changes) → NoneSaid changes → IsTrue (is_none changes)
+said_none changes none =
+    more_false changes.busy _ none.busy (more_false changes.filler _ none.filler (more_false changes.ids _ none.ids (more_false changes.name _ none.name (one_false changes.order none.order))))
+
+-- ---- the changes of a file
+
+-- what the tests of a file say
+pub record AreTested (file : List ℕ) (changes : Changes) : Type 0 where
+  pub busy : Says changes.busy (NoneIsBusy file)
+  pub filler : Says changes.filler (HasFiller file)
+  pub ids : Says changes.ids (KeepsIds file)
+  pub name : Says changes.name (HasPlainName file)
+  pub order : Says changes.order (IsInOrder file)
+
+stays : (file : List ℕ) (d : Database (Option (List ℕ))) (changes : Changes) → Known file d → AreTested file changes → (IsTrue (is_none changes) ↔ (file_of d ≡ file))
+stays file d changes known tested = (
+  λ e. (
+      let none = none_said changes e in
+      file_stays file d known (record {
+        busy = tested.busy.0 none.busy;
+        filler = tested.filler.0 none.filler;
+        ids = tested.ids.0 none.ids d known.reads;
+        name = tested.name.0 none.name;
+        order = tested.order.0 none.order;
+      })),
+  λ same. (
+      let kept = all_kept file d known same in
+      said_none changes (record {
+        busy = tested.busy.1 kept.busy;
+        filler = tested.filler.1 kept.filler;
+        ids = tested.ids.1 (λ other read. ap (λ (x : Database (Option (List ℕ))). unique_ids x) (read_once file other d read known.reads) ∙ kept.ids);
+        name = tested.name.1 kept.name;
+        order = tested.order.1 kept.order;
+      })),
+)
+
+canonical_is : (file bytes : List ℕ) (d : Database (Option (List ℕ))) → Known file d → (is : IsCanonical file bytes) → bytes ≡ file_of d
+canonical_is file bytes d known is = is.written ∙ ap file_of (read_once file is.database d is.reads known.reads)
+
+pub are_changes : (file ids : List ℕ) (seed : ℕ) (changes : Changes) → AreBytes file → length file ≤ 16777216 → HasNoFault file → AreGivenIn file ids seed → AreTested file changes → AreChanges file changes
+are_changes file ids seed changes bytes short good given tested =
+    let d : Database (Option (List ℕ)) = database_read file ids seed in
+    let known = known_of file ids seed bytes short good given in
+    let both = stays file d changes known tested in
+    record {
+      busy = tested.busy;
+      filler = tested.filler;
+      ids = tested.ids;
+      name = tested.name;
+      order = tested.order;
+      canonical = λ form is. (
+          let written = canonical_is file form d known is in
+          (λ e. written ∙ both.0 e, λ same. both.1 (sym written ∙ same)));
+    }
+
+-- a file of which no word is said is its own canonical form
+pub same_form : (file ids : List ℕ) (seed : ℕ) (changes : Changes) → HasNoFault file → AreGivenIn file ids seed → AreChanges file changes → IsTrue (is_none changes) → IsCanonical file file
+same_form file ids seed changes good given are none =
+    let d : Database (Option (List ℕ)) = database_read file ids seed in
+    let form : IsCanonical file (file_of d) = record { database = d; reads = reads file ids seed good given.have; written = refl } in
+    subst (IsCanonical file) ((are.canonical (file_of d) form).0 none) form
+
+-- ---- the name
+
+pub says_name : (file : List ℕ) (b : Bool) → HasNoFault file → (IsTrue b ↔ HasName file) → Says (not b) (HasPlainName file)
+says_name file b good is = says_not b (HasPlainName file) (λ e. (is.0 e).field, λ plain. is.1 (record { name = file_named file good; field = plain }))

@@ -1,0 +1,7 @@
+use Rattle.std.proofs.Common.{ℕ, ◌<◌}
+use Rattle.heap_model.specs.Database.{entry_in}
+use Rattle.canonical_file.specs.Changes.{IsIdle}
+use Rattle.canonical_file.proofs.entry_changes.has_busy.Given as goal
+
+abbrev pub invariant-loop-index : goal.invariant-loop-index
+invariant-loop-index l = (k : ℕ) → k < l.index → IsIdle (entry_in l.file k)

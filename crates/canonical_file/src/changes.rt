@@ -1,0 +1,86 @@
+//! The changes of a file.
+
+ghost use Rattle.std.specs.Prelude.{◌≡◌, ◌≤◌, ℕ, IsTrue, length, IfOk, OnErr, All};
+ghost use Rattle.heap_model.specs.Bytes.{AreBytes};
+ghost use Rattle.heap_model.specs.Files.{HasNoFault};
+ghost use Rattle.canonical_file.specs.Canonical.{IsCanonical, most_bytes};
+ghost use Rattle.canonical_file.specs.Changes as words;
+ghost use Rattle.canonical_file.specs.Changes.{AreChanges};
+ghost use Rattle.canonical_file.specs.Given.{AreGivenIn};
+
+use crate::entry_changes::{has_busy, keeps_ids};
+use crate::offsets::{has_filler, is_in_order};
+use allowance::Allowance;
+use db_format::has_name;
+use file_ids::{GivenIds, give_ids_from};
+use std::alloc::AllocError;
+
+/// The changes of a file when it is rewritten. Each field has the name of its word in a listing.
+#[derive(Clone, Copy, Debug, PartialEq, Eq)]
+pub struct Changes {
+    /// A record is busy. In the new file it is not busy.
+    pub busy: bool,
+    /// The bytes between the entries and the first block are not exactly two zeros.
+    pub filler: bool,
+    /// A record gets another ID. Its own is 0, or the ID of an earlier record.
+    pub ids: bool,
+    /// The bytes after the name, in its field, are not all zeros.
+    pub name: bool,
+    /// The blocks are not in the order of the list.
+    pub order: bool,
+}
+
+impl Changes {
+    /// Returns whether nothing changes.
+    pub fn is_none(self) -> bool
+        ensures { result ≡ words.is_none self }
+    {
+        !(self.busy || self.filler || self.ids || self.name || self.order)
+    }
+}
+
+/// The numbers in a slice are bytes.
+fn know_bytes(file: &[u8])
+    ensures { AreBytes file.now }
+{
+    let _file = file;
+}
+
+/// The same as `find_changes`, for the IDs that the file's records get. It allocates nothing.
+pub fn changes_by(file: &[u8], given: &GivenIds) -> Changes
+    requires good { HasNoFault file.now }
+    requires short { length file.now ≤ most_bytes }
+    requires given { AreGivenIn file.now given.now.ids.items given.now.seed }
+    ensures changes { AreChanges file.now result }
+    ensures same { IsTrue (words.is_none result) → IsCanonical file.now file.now }
+{
+    know_bytes(file);
+    Changes {
+        busy: has_busy(file),
+        filler: !has_filler(file),
+        ids: !keeps_ids(file, &given.ids),
+        name: !has_name(file),
+        order: !is_in_order(file),
+    }
+}
+
+/// Returns the changes of a file without fault when it is rewritten. If there are none, the file is
+/// its own canonical form.
+///
+/// It allocates a set of IDs and the IDs of the records (see `file_ids`). It doesn't allocate the
+/// canonical form.
+///
+/// # Errors
+///
+/// - `AllocError`: if an allocation failed.
+pub fn find_changes<A: Allowance>(memory: &A, file: &[u8]) -> Result<Changes, AllocError>
+    requires good { HasNoFault file.now }
+    requires short { length file.now ≤ most_bytes }
+    ensures changes { IfOk result (AreChanges file.now) }
+    ensures same { IfOk result (λ changes.
+        IsTrue (words.is_none changes) → IsCanonical file.now file.now) }
+    ensures short { OnErr result (A.is_short memory.now) }
+{
+    let given = give_ids_from(memory, file)?;
+    Ok(changes_by(file, &given))
+}

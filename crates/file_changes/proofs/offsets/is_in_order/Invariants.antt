@@ -1,9 +1,0 @@
-use Rattle.std.proofs.Common.{drop}
-use Rattle.std.specs.Prelude.{◌↔◌}
-use Rattle.heap_model.specs.Files.{offsets_in}
-use Rattle.file_changes.specs.Changes.{AreRising}
-use Rattle.file_changes.proofs.offsets.is_in_order.Given as goal
-
--- all offsets rise exactly if those that are left do
-abbrev pub invariant-loop-rank : goal.invariant-loop-rank
-invariant-loop-rank l = AreRising 0 (offsets_in l.file) ↔ AreRising l.low (drop l.rank (offsets_in l.file))

@@ -1,0 +1,96 @@
+//! What a file looks like, which numbers are allowed at its fault, and what is wrong with a line of
+//! the text that `pack` reads.
+
+ghost use Rattle.std.specs.Prelude.{◌≤◌, length};
+
+use canonical_file::{dropped_filler, dropped_name};
+use command_files::{input_name, report_line_hint, suggest_check};
+use file_listing::damage_of;
+use file_parts::read_listed;
+use heap_model::Bytes;
+use hints::{MAC_HEADER_SIZE, looks_like_image, looks_like_mac, looks_like_page, parts_hint};
+use pdb_format::check_file;
+use program_io::{MOST_INPUT, Status};
+
+/// Reports on standard error how many bytes of a file a rewrite drops. It reports nothing if the
+/// command isn't done. `end` ends each line: whether the bytes were dropped, or would be.
+pub(crate) fn name_dropped<R: Eprint>(rt: &R, path: &str, status: Status, file: &[u8], end: &str) {
+    if status != Status::Done {
+        return;
+    }
+    let Ok(()) = check_file(file) else {
+        return;
+    };
+    let name = input_name(path);
+    let filler = dropped_filler(file);
+    if filler > 0 {
+        let _ = eprintln!(rt; "{name}: filler, {filler} bytes {end}");
+    }
+    let after = dropped_name(file);
+    if after > 0 {
+        let _ = eprintln!(rt; "{name}: after the name, {after} bytes {end}");
+    }
+}
+
+/// Reports the same as `name_dropped` for each of some files that were rewritten.
+pub fn name_each_dropped<R: Eprint>(rt: &R, paths: &[&str], status: Status, files: &[Bytes]) {
+    for (path, file) in paths.iter().zip(files) {
+        name_dropped(rt, path, status, file.as_slice(), DROPPED);
+    }
+}
+
+/// The end of a line of `name_dropped` after a rewrite.
+pub(crate) const DROPPED: &str = "dropped";
+
+/// The same if nothing is rewritten.
+pub(crate) const WOULD_BE_DROPPED: &str = "that a rewrite drops";
+
+/// Reports the same as `suggest_check`. If the file doesn't look like an image, but was refused, it
+/// reports the number at the file's first fault, the numbers that are allowed there, and what a
+/// transfer may have made of the file.
+pub(crate) fn comment_on_file<R: Eprint>(rt: &R, path: &str, status: Status, file: &[u8])
+    requires { length file.now ≤ MOST_INPUT }
+{
+    if looks_like_image(file) {
+        suggest_check(rt, path, status, file);
+    } else if status == Status::Refused {
+        if let Err(fault) = check_file(file) {
+            let damage = damage_of(file, fault);
+            let _ = eprintln!(rt; "{}: {damage}", input_name(path));
+            name_transfer(rt, path, file);
+        }
+    }
+}
+
+/// Reports what a transfer may have made of a file.
+fn name_transfer<R: Eprint>(rt: &R, path: &str, file: &[u8]) {
+    let name = input_name(path);
+    if looks_like_page(file) {
+        let _ = eprintln!(rt;
+            "{name} looks like a web page: a server sent it in place of the file"
+        );
+    } else if looks_like_mac(file) {
+        let _ = eprintln!(rt;
+            "{name} begins with {MAC_HEADER_SIZE} bytes of MacBinary: 'tail -c +129' gives the file after them"
+        );
+    }
+}
+
+/// Reports on standard error what is wrong with the faulty line of the text at a path that `pack`
+/// read, if it was refused.
+pub(crate) fn comment_on_text<R: Eprint + AllocGlobal>(
+    rt: &R,
+    path: &str,
+    status: Status,
+    text: &[u8],
+) {
+    if status != Status::Refused {
+        return;
+    }
+    let Err(fault) = read_listed(&rt.alloc(), text) else {
+        return;
+    };
+    if let Some(hint) = parts_hint(text, fault) {
+        report_line_hint(rt, path, fault.line, hint);
+    }
+}

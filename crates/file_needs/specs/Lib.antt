@@ -1,3 +1,0 @@
-pub mod Needs
-pub mod Blocks
-pub use Rattle.heap_model.specs.Files

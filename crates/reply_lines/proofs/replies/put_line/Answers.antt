@@ -1,5 +1,0 @@
-use Rattle.reply_lines.proofs.Fronts.{ends_first}
-use Rattle.reply_lines.proofs.replies.put_line.Goals as goal
-
-pub returns-then-n-gt0-clause-start : goal.returns-then-n-gt0-clause-start
-returns-then-n-gt0-clause-start g c = λ some. ends_first c.first_line-line.result.now c.args.bytes.now c.in_ok-n.n c.first_line-line.ensures.front c.in_ok-n.ensures.bound some

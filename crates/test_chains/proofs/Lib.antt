@@ -1,0 +1,4 @@
+pub mod OneImage
+pub mod Tried
+pub mod BadTables
+pub mod GrownImages

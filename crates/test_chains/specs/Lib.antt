@@ -1,0 +1,3 @@
+pub mod ChainedImages
+pub mod MigratedImages
+pub mod Laws
