@@ -29,8 +29,8 @@ while IFS= read -r file; do
         ./image_program/src/words.rt | ./palmheap_program/src/stores.rt) ;;
         # it fills room that allowance took
         ./canonical_file/src/blocks.rt) ;;
-        # it makes a box, as docs/C-LIBRARY.md says
-        ./palmheap_c/src/opening.rt) ;;
+        # it makes a box, or an entry of a map, as docs/C-LIBRARY.md says
+        ./palmheap_c/src/opening.rt | ./palmheap_c/src/pointers.rt) ;;
         *) sources+=("$file") ;;
     esac
 done < <(find . -name out -prune -o -path ./allowance -prune -o '(' -name '*.rt' -o -name '*.antt' ')' -print)
@@ -38,6 +38,7 @@ done < <(find . -name out -prune -o -path ./allowance -prune -o '(' -name '*.rt'
 absent 'memory grows outside of allowance' \
     'vec!\[in|format!\(in|(Vec|String|Map|Set|Deque|Heap)::with_capacity|Vec::from|String::from|Box::new|\.(extend_from_slice|reserve|collect|to_vec)\(' \
     "${sources[@]}"
+absent 'a map grows outside of allowance' '\.(insert\([^()]+,|or_insert)' "${sources[@]}"
 absent 'allowance alone may cite its lemma' 'told_of_failure' "${proofs[@]}" "${sources[@]}"
 
 # only PATTERN FILES: these files alone match.

@@ -57,6 +57,9 @@ done
 is 'a refused image' "$("$program" explain BadMagic)" "$("$program" explain 'bad BadMagic')"
 is 'a numbered refusal' "$("$program" explain 1)" "$("$program" explain '3 refused 1 InvalidHandle')"
 
+# a word in other bytes than UTF-8
+says 'a path in Windows-1252' 2 '' "error: a word of the command line isn't UTF-8" check "$(printf 'caf\351.img')"
+
 # OUT is no input, and a file is replaced as a whole: what else names the old one has the old bytes
 cp faulty.txt b.img
 chmod 640 b.img

@@ -185,7 +185,8 @@ def svg(image):
         name, count, kind = entries(header)
         yield (f'<g transform="translate({480 * (index % 2) + 74} {22 * (index // 2) + below + 22})"><path class="c{index % 8 + 6}" '
                f'd="M0 0h12v12h-12z"/><text x="17" y="10">{letter(index + 1)} {name}: {count} {kind}</text></g>')
-    yield f'<text x="74" y="{sizes_at}">free pieces by size, from:</text>'
+    if pieces:
+        yield f'<text x="74" y="{sizes_at}">free pieces by size, from:</text>'
     for index in range(21):
         least = 8 << index
         count = sum(least <= piece < 2 * least for piece in pieces)

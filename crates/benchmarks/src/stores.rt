@@ -69,7 +69,7 @@ fn time_store(
     repeats: u16,
 ) -> io::Result<()> {
     let region = store.image(rt.alloc())?;
-    print_found(rt, check_store(rt.alloc(), &region))?;
+    print_found(rt, check_store(&rt.alloc(), &region))?;
     time_both(rt, &region, repeats)
 }
 
@@ -111,7 +111,7 @@ fn time_store_check(
     requires { region.now.lents ≡ [] }
 {
     let start = Instant::now(rt)?;
-    let _ = check_store(rt.alloc(), region);
+    let _ = check_store(&rt.alloc(), region);
     times.add(start.elapsed(rt)?)?;
     Ok(())
 }

@@ -10,16 +10,16 @@ use Rattle.pdb_format.specs.Blocks.{bytes_at, IsBlockWithin, length_within}
 use Rattle.pdb_format.specs.declared.blocks.Block.{Block}
 use Rattle.pdb_format.proofs.FileBlocks.{block_count, length-blocks, block_of}
 use Rattle.pdb_format.proofs.WrittenOffsets.{all_bytes}
-use Rattle.canonical_file.specs.Canonical.{HasBlocks}
+use Rattle.pdb_format.specs.Opened.{HasPlaces}
 
 blocks_from : (blocks : List (Option (List ℕ))) (i : ℕ) → i < length blocks → all_bytes (drop i blocks) ≡ block_bytes (get_or blocks i None) ++ all_bytes (drop (i + 1) blocks)
 blocks_from blocks i inside = rw (add-one, drop-cons blocks i None) refl
 
-pub same_count : (file : List ℕ) (blocks : List (Option Block)) → HasBlocks file blocks → length blocks ≡ length (blocks_in file)
+pub same_count : (file : List ℕ) (blocks : List (Option Block)) → HasPlaces file blocks → length blocks ≡ length (blocks_in file)
 same_count file blocks has = length-blocks file blocks has.are ∙ sym (block_count file)
 
 -- the block of an index, and those after it
-pub block_here : (file : List ℕ) (blocks : List (Option Block)) (i : ℕ) (bytes : List ℕ) → HasBlocks file blocks → i < length blocks → bytes ≡ block_bytes (bytes_at file (get_or blocks i None))
+pub block_here : (file : List ℕ) (blocks : List (Option Block)) (i : ℕ) (bytes : List ℕ) → HasPlaces file blocks → i < length blocks → bytes ≡ block_bytes (bytes_at file (get_or blocks i None))
     → all_bytes (drop i (blocks_in file)) ≡ bytes ++ all_bytes (drop (i + 1) (blocks_in file))
 block_here file blocks i bytes has inside is =
     let count = same_count file blocks has in
@@ -48,5 +48,5 @@ all_long file (block ∷ blocks) within =
     omega arith
 
 -- and all of them
-pub blocks_long : (file : List ℕ) (blocks : List (Option Block)) → HasBlocks file blocks → length (all_bytes (blocks_in file)) ≡ sum_by length_within blocks
+pub blocks_long : (file : List ℕ) (blocks : List (Option Block)) → HasPlaces file blocks → length (all_bytes (blocks_in file)) ≡ sum_by length_within blocks
 blocks_long file blocks has = ap (λ (bs : List (Option (List ℕ))). length (all_bytes bs)) (sym has.are) ∙ all_long file blocks has.within

@@ -11,7 +11,7 @@ use Rattle.pdb_format.proofs.ReadFiles.{reads}
 use Rattle.pdb_format.proofs.ReadOnce.{read_once}
 use Rattle.canonical_file.specs.Canonical.{IsCanonical}
 use Rattle.canonical_file.specs.declared.changes.Changes.{Changes}
-use Rattle.canonical_file.specs.Changes.{NoneIsBusy, HasFiller, KeepsIds, HasPlainName, IsInOrder, Says, is_none, AreChanges}
+use Rattle.canonical_file.specs.Changes.{NoneIsBusy, HasPlainFiller, KeepsIds, HasPlainName, IsInOrder, Says, is_none, AreChanges}
 use Rattle.canonical_file.specs.Given.{AreGivenIn}
 use Rattle.canonical_file.proofs.Kept.{Known, file_stays, all_kept}
 use Rattle.canonical_file.proofs.Given.{known_of, says_not}
@@ -58,7 +58,7 @@ said_none changes none =
 -- what the tests of a file say
 pub record AreTested (file : List ℕ) (changes : Changes) : Type 0 where
   pub busy : Says changes.busy (NoneIsBusy file)
-  pub filler : Says changes.filler (HasFiller file)
+  pub filler : Says changes.filler (HasPlainFiller file)
   pub ids : Says changes.ids (KeepsIds file)
   pub name : Says changes.name (HasPlainName file)
   pub order : Says changes.order (IsInOrder file)

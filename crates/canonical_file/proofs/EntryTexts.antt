@@ -1,6 +1,6 @@
 -- The entries of a canonical form, one after the other.
 use Rattle.std.proofs.Common.{◌≡◌, ℕ, ◌+◌, ◌<◌, Option, None, List, ◌∷◌, ◌++◌, length, get_or, drop, refl, sym, ap, ◌∙◌, arith, add-one, drop-cons}
-use Rattle.heap_model.specs.Database.{Entry, a_record, a_resource, entry_data, entry_bytes, entry_count_in, entry_in}
+use Rattle.heap_model.specs.Database.{Entry, a_record, a_resource, entry_data, entry_with, entry_bytes, entry_count_in, entry_in}
 use Rattle.heap_model.specs.Files.{idle_attributes, blocks_in, block_size, block_offset}
 use Rattle.pdb_format.specs.FileTexts.{entries_text}
 use Rattle.pdb_format.specs.ReadFiles.{entry_read, entry_read_at, entries_read}
@@ -8,22 +8,11 @@ use Rattle.pdb_format.proofs.ReadFiles.{length-entries_read, entry_read_is, data
 use Rattle.pdb_format.proofs.WrittenFiles.{idle_twice}
 use Rattle.canonical_file.specs.Canonical.{placed_entry}
 
--- a record as it is placed
-pub record_placed : (file ids : List ℕ) (index attributes id at_file idle at offset : ℕ) (block : Option (List ℕ)) → a_record attributes id at_file ≡ entry_in file index → idle ≡ idle_attributes attributes → offset ≡ block_offset at block
-    → block ≡ get_or (blocks_in file) (2 + index) None → a_record idle (get_or ids index 0) offset ≡ placed_entry at (entry_read_at file ids index)
-record_placed file ids index attributes id at_file idle at offset block is is_idle is_offset is_block =
-    let given : ℕ = get_or ids index 0 in
-    ap (λ (a : ℕ). a_record a given offset) (is_idle ∙ idle_twice attributes)
-    ∙ ap (λ (o : ℕ). a_record (idle_attributes (idle_attributes attributes)) given o) (is_offset ∙ ap (block_offset at) is_block)
-    ∙ ap (λ (e : Entry ℕ). placed_entry at (entry_read e given (get_or (blocks_in file) (2 + index) None))) is
-
--- and a resource
-pub resource_placed : (file ids : List ℕ) (index kind id at_file at offset : ℕ) (block : Option (List ℕ)) → a_resource kind id at_file ≡ entry_in file index → offset ≡ block_offset at block
-    → block ≡ get_or (blocks_in file) (2 + index) None → a_resource kind id offset ≡ placed_entry at (entry_read_at file ids index)
-resource_placed file ids index kind id at_file at offset block is is_offset is_block =
-    let given : ℕ = get_or ids index 0 in
-    ap (λ (o : ℕ). a_resource kind id o) (is_offset ∙ ap (block_offset at) is_block)
-    ∙ ap (λ (e : Entry ℕ). placed_entry at (entry_read e given (get_or (blocks_in file) (2 + index) None))) is
+-- an entry as it is placed
+pub written_placed : (entry : Entry ℕ) (given at offset : ℕ) (block : Option (List ℕ)) → offset ≡ block_offset at block → entry_with (λ _. offset) (entry_read entry given block) ≡ placed_entry at (entry_read entry given block)
+written_placed (a_record attributes id at_file) given at offset block is =
+    ap (λ (a : ℕ). a_record a given offset) (idle_twice attributes) ∙ ap (λ (o : ℕ). a_record (idle_attributes (idle_attributes attributes)) given o) is
+written_placed (a_resource kind id at_file) given at offset block is = ap (λ (o : ℕ). a_resource kind id o) is
 
 one_text : (at : ℕ) (e : Entry (Option (List ℕ))) (es : List (Entry (Option (List ℕ)))) → entries_text at (e ∷ es) ≡ entry_bytes (placed_entry at e) ++ entries_text (at + block_size (entry_data e)) es
 one_text at (a_record attributes id block) es = refl

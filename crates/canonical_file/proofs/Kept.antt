@@ -1,10 +1,10 @@
 -- If all of a file is kept, it is the file that is written for its database. All of a written file
 -- is kept.
-use Rattle.std.proofs.Common.{◌≡◌, ◌≢◌, ℕ, ◌+◌, ◌-◌, ◌<◌, ◌≤◌, Bool, true, false, Option, List, ◌∷◌, ◌++◌, length, get_or, take, drop, map, refl, sym, ap, subst, ◌∙◌, arith, length-append, inl, inr}
+use Rattle.std.proofs.Common.{◌≡◌, ◌≢◌, ℕ, ◌+◌, ◌-◌, ◌<◌, ◌≤◌, Bool, true, false, Option, List, [], ◌∷◌, ◌++◌, length, get_or, filter, take, drop, map, slice_range, refl, sym, ap, subst, ◌∙◌, arith, length-append, length-drop, inl, inr}
 use Rattle.std.specs.Prelude.{All, nat_lt}
 use Rattle.std.specs.List.{flat_map}
 use Rattle.std.proofs.lemmas.Bool.{cases_eq, cases_lt}
-use Rattle.std.proofs.lemmas.List.{length-map, take-append-drop, take-append-le, length-take-le, get_or_past, drop_at, drop-drop}
+use Rattle.std.proofs.lemmas.List.{length-map, take-append-drop, take-append-le, length-take, length-take-le, get_or_past, drop_at, drop-drop}
 use Rattle.std.proofs.lemmas.List.FromFn.{length-map-range_with_len, get_or-map-range_with_len}
 use Rattle.heap_model.specs.Bytes.{u32_at, AreBytes}
 use Rattle.heap_model.specs.Lists.{Distinct}
@@ -24,7 +24,9 @@ use Rattle.pdb_format.proofs.ReadIds.{given_same}
 use Rattle.pdb_format.proofs.WrittenHeads.{name_front, resources_front, count_front, u32_front, database_front, spelled_heads}
 use Rattle.pdb_format.proofs.WrittenIds.{ids_stay, header_stays}
 use Rattle.pdb_format.proofs.WrittenOffsets.{all_bytes, running, size_more, offset_most}
-use Rattle.canonical_file.specs.Changes.{IsIdle, NoneIsBusy, first_start, HasFiller, HasPlainName, AreRising, IsInOrder}
+use Rattle.pdb_format.specs.Filler.{first_start}
+use Rattle.pdb_format.proofs.LeastOffsets.{least_most}
+use Rattle.canonical_file.specs.Changes.{IsIdle, NoneIsBusy, HasPlainFiller, HasPlainName, AreRising, IsInOrder}
 use Rattle.canonical_file.proofs.Rising.{first_of, least_first, some_pass}
 use Rattle.canonical_file.proofs.Tiled.{AreTiled, tiled}
 use Rattle.canonical_file.proofs.Placed.{placed, data_from, same_head, entries_back, idle_placed, ids_placed, offsets_placed, fits_placed, rising_running, first_running}
@@ -41,7 +43,7 @@ pub record Known (file : List ℕ) (d : Database (Option (List ℕ))) : Type 0 w
 -- all of the file is kept
 pub record IsKept (file : List ℕ) (d : Database (Option (List ℕ))) : Type 0 where
   pub busy : NoneIsBusy file
-  pub filler : HasFiller file
+  pub filler : HasPlainFiller file
   pub ids : unique_ids d ≡ unique_ids (database_in file)
   pub name : HasPlainName file
   pub order : IsInOrder file
@@ -202,6 +204,19 @@ front_of file bytes good plain =
       fits = subst DatabaseFits same (database_fits front front_bytes shape);
     }
 
+-- ---- its filler
+
+filler_two : (file : List ℕ) → HasPlainFiller file → first_start file ≡ entries_end file + 2
+filler_two file filler =
+    let most = least_most (length file) (filter (nat_lt 0) (offsets_in file)) in
+    let rest = length-drop (entries_end file) file in
+    let long = length-take (first_start file - entries_end file) (drop (entries_end file) file) in
+    let two = ap length filler in
+    omega arith
+
+filler_zeros : (file : List ℕ) → HasPlainFiller file → slice_range file (entries_end file) (entries_end file + 2) ≡ 0 ∷ 0 ∷ []
+filler_zeros file filler = ap (slice_range file (entries_end file)) (sym (filler_two file filler)) ∙ filler
+
 -- ---- a file of which all is kept
 
 whole : DatabaseHeader → ℕ → ℕ → List (Entry ℕ) → Database ℕ
@@ -215,11 +230,11 @@ unfolding whole
 databases_same one other p q r s = same_whole one.header other.header one.app_info other.app_info one.sort_info other.sort_info one.entries other.entries p q r s
 
 -- the places of its blocks
-blocks_stand : (file : List ℕ) (d : Database (Option (List ℕ))) → Reads file d → HasFiller file → IsInOrder file → AreTiled file (first_block d) (data_in d) (offsets_in file)
+blocks_stand : (file : List ℕ) (d : Database (Option (List ℕ))) → Reads file d → HasPlainFiller file → IsInOrder file → AreTiled file (first_block d) (data_in d) (offsets_in file)
 blocks_stand file d reads filler order =
     let inside = offsets_inside file reads.good in
     let start : first_of (length file) (offsets_in file) ≡ first_block d =
-    sym (least_first (nat_lt 0) 0 (length file) (offsets_in file) some_pass order inside) ∙ filler.two ∙ sym (first_read file d reads) in
+    sym (least_first (nat_lt 0) 0 (length file) (offsets_in file) some_pass order inside) ∙ filler_two file filler ∙ sym (first_read file d reads) in
     subst (λ (blocks : List (Option (List ℕ))). AreTiled file (first_block d) blocks (offsets_in file)) (sym reads.blocks)
     (subst (λ (n : ℕ). AreTiled file n (blocks_in file) (offsets_in file)) start (tiled file order inside))
 
@@ -235,13 +250,13 @@ database_stays file d k kept =
     (entries_back (data_from d) was.entries d.entries k.reads.entries (all_idle file kept.busy) kept.ids sort.1)
 
 -- the two zeros after the entries
-zeros_there : (file : List ℕ) → HasFiller file → drop (entries_end file) file ≡ 0 ∷ 0 ∷ drop (entries_end file + 2) file
+zeros_there : (file : List ℕ) → HasPlainFiller file → drop (entries_end file) file ≡ 0 ∷ 0 ∷ drop (entries_end file + 2) file
 zeros_there file filler =
     let end : ℕ = entries_end file in
     let two : end + 2 - end ≡ 2 = omega arith in
     sym (take-append-drop 2 (drop end file))
     ∙ ap (λ (n : ℕ). take n (drop end file) ++ drop 2 (drop end file)) (sym two)
-    ∙ ap (λ (xs : List ℕ). xs ++ drop 2 (drop end file)) filler.zeros
+    ∙ ap (λ (xs : List ℕ). xs ++ drop 2 (drop end file)) (filler_zeros file filler)
     ∙ ap (λ (xs : List ℕ). 0 ∷ 0 ∷ xs) (drop-drop 2 end file)
 
 pub file_stays : (file : List ℕ) (d : Database (Option (List ℕ))) → Known file d → IsKept file d → file_of d ≡ file
@@ -353,12 +368,10 @@ all_kept file d k same =
     let two : end + 2 - end ≡ 2 = omega arith in
     record {
       busy = none_busy file (subst (λ (x : Database ℕ). All IsIdle x.entries) (sym is) (idle_placed (data_from d) d.entries));
-      filler = record {
-        two = start ∙ first;
-        zeros = ap (λ (n : ℕ). take n (drop end file)) two
-            ∙ ap (λ (xs : List ℕ). take 2 (drop end xs)) (sym same ∙ parts d)
-            ∙ ap (take 2) (drop_at (spelled (placed d)) (after d) end ends);
-      };
+      filler = ap (slice_range file end) (start ∙ first)
+          ∙ ap (λ (n : ℕ). take n (drop end file)) two
+          ∙ ap (λ (xs : List ℕ). take 2 (drop end xs)) (sym same ∙ parts d)
+          ∙ ap (take 2) (drop_at (spelled (placed d)) (after d) end ends);
       ids = sym (ap (λ (x : Database ℕ). unique_ids x) is ∙ ids_placed (data_from d) d.entries);
       name = plain_name file d k.reads same;
       order = order;

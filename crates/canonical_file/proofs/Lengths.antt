@@ -6,10 +6,10 @@ use Rattle.heap_model.specs.DatabaseFields.{entry_size}
 use Rattle.heap_model.specs.Database.{Database, Entry, a_record, a_resource, IsDatabaseName, name_in, header_in, resources_in, entry_at, entry_offset, entry_bytes}
 use Rattle.heap_model.specs.Files.{HasNoFault, blocks_in, entries_end, idle_attributes, idle, block_size, block_offset, with_offsets, first_block, file_of}
 use Rattle.laws_store.proofs.Spellings.{length-header_bytes}
-use Rattle.pdb_format.specs.FileTexts.{header_text, entries_text}
+use Rattle.pdb_format.specs.FileTexts.{data_at, header_text, entries_text}
 use Rattle.pdb_format.specs.ReadFiles.{entry_read, entries_read, database_read}
 use Rattle.pdb_format.proofs.FileNames.{file_named}
-use Rattle.pdb_format.proofs.FileParts.{data_at, file_parts, record_long, resource_long}
+use Rattle.pdb_format.proofs.FileParts.{file_parts, record_long, resource_long}
 use Rattle.pdb_format.proofs.ReadFiles.{length-entries_read, entry_read_is, blocks_read_are}
 use Rattle.pdb_format.proofs.WrittenOffsets.{all_bytes}
 

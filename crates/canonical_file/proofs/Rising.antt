@@ -1,10 +1,11 @@
 -- Offsets that rise: which is the first of them, and what is less than all of them.
-use Rattle.std.proofs.Common.{◌≡◌, ℕ, zero, suc, ◌+◌, ◌<◌, ◌≤◌, Bool, true, false, cond, List, [], ◌∷◌, ◌++◌, get_or, take, drop, refl, ap, ◌∙◌, arith}
+use Rattle.std.proofs.Common.{◌≡◌, ℕ, zero, suc, ◌+◌, ◌<◌, ◌≤◌, Bool, true, false, List, [], ◌∷◌, ◌++◌, get_or, take, drop, refl, ap, ◌∙◌, arith}
 use Rattle.std.specs.Prelude.{◌↔◌, min, nat_lt, nat_le, filter}
 use Rattle.std.specs.List.{fold}
 use Rattle.std.proofs.lemmas.Bool.{lt-ltb, le-ltb}
 use Rattle.heap_model.specs.Files.{starts_behind}
 use Rattle.laws_heap.proofs.Tests.{leb-is-true, lt-leb-false}
+use Rattle.pdb_format.proofs.LeastOffsets.{passed_over, kept}
 use Rattle.canonical_file.specs.Changes.{AreRising}
 
 -- the first offset that isn't 0, or a number if there is none
@@ -12,12 +13,6 @@ abbrev pub first_of : ℕ → List ℕ → ℕ
 first_of last [] = last
 first_of last (zero ∷ offsets) = first_of last offsets
 first_of last (suc at ∷ offsets) = suc at
-
-passed_over : (test : ℕ → Bool) (x : ℕ) (xs : List ℕ) → test x ≡ false → filter test (x ∷ xs) ≡ filter test xs
-passed_over test x xs e = ap (λ (b : Bool). cond b (x ∷ filter test xs) (filter test xs)) e
-
-kept : (test : ℕ → Bool) (x : ℕ) (xs : List ℕ) → test x ≡ true → filter test (x ∷ xs) ≡ x ∷ filter test xs
-kept test x xs e = ap (λ (b : Bool). cond b (x ∷ filter test xs) (filter test xs)) e
 
 -- ---- from which number on they rise
 
@@ -102,28 +97,6 @@ some_pass = record { none = le-ltb 0 0 (omega arith); all = λ x low some. lt-lt
 
 pub behind_pass : (at : ℕ) → 0 < at → Passes (nat_le at) at
 behind_pass at some = record { none = lt-leb-false at 0 some; all = λ x above positive. leb-is-true at x above }
-
--- ---- one step over offsets that need not rise
-
-pub lesser_here : (first at : ℕ) (rest : List ℕ) → 0 < at → at < first → fold min first (filter (nat_lt 0) (at ∷ rest)) ≡ fold min at (filter (nat_lt 0) rest)
-lesser_here first at rest some less =
-    let least : min first at ≡ at = omega arith in
-    ap (fold min first) (kept (nat_lt 0) at rest (lt-ltb 0 at some)) ∙ ap (λ (k : ℕ). fold min k (filter (nat_lt 0) rest)) least
-
-pub lesser_stays : (first at : ℕ) (rest : List ℕ) → first ≤ at → fold min first (filter (nat_lt 0) (at ∷ rest)) ≡ fold min first (filter (nat_lt 0) rest)
-lesser_stays first zero rest less = ap (fold min first) (passed_over (nat_lt 0) 0 rest (le-ltb 0 0 (omega arith)))
-lesser_stays first (suc at) rest less =
-    let least : min first (suc at) ≡ first = omega arith in
-    ap (fold min first) (kept (nat_lt 0) (suc at) rest (lt-ltb 0 (suc at) (omega arith))) ∙ ap (λ (k : ℕ). fold min k (filter (nat_lt 0) rest)) least
-
-pub lesser_none : (first at : ℕ) (rest : List ℕ) → at ≡ 0 → fold min first (filter (nat_lt 0) (at ∷ rest)) ≡ fold min first (filter (nat_lt 0) rest)
-lesser_none first zero rest none = ap (fold min first) (passed_over (nat_lt 0) 0 rest (le-ltb 0 0 (omega arith)))
-lesser_none first (suc at) rest none = absurd (omega arith)
-
--- the least is no more than the number
-pub least_most : (last : ℕ) (os : List ℕ) → fold min last os ≤ last
-least_most last [] = omega arith
-least_most last (o ∷ os) = let rest = least_most (min last o) os in omega arith
 
 -- ---- where a block ends
 

@@ -1,12 +1,11 @@
 -- The canonical form of a file.
-use Rattle.std.specs.Prelude.{◌≡◌, ◌≤◌, ◌+◌, ◌++◌, ◌^◌, ℕ, Bool, true, List, length, map, slice_index_or, slice_range, Option, None, All}
-use Rattle.std.specs.List.{sum_by}
+use Rattle.std.specs.Prelude.{◌≡◌, ◌≤◌, ◌++◌, ◌^◌, ℕ, Bool, true, List, length, slice_range, Option}
 use Rattle.palm_text.specs.Counted.{Writing, Writes}
 use Rattle.heap_model.specs.UniqueIds.{greatest_id, seed_in}
 use Rattle.heap_model.specs.Database.{Database, Entry, entry_with, header_in, database_in}
 use Rattle.heap_model.specs.Store.{unique_ids}
-use Rattle.heap_model.specs.Files.{HasNoFault, HaveIds, IsFirstFault, Reads, blocks_in, entries_end, idle_entry, block_bytes, block_offset, file_of}
-use Rattle.pdb_format.specs.Blocks.{bytes_at, IsBlockWithin, length_within}
+use Rattle.heap_model.specs.Files.{HasNoFault, HaveIds, IsFirstFault, Reads, idle_entry, block_bytes, block_offset, file_of}
+use Rattle.pdb_format.specs.Blocks.{bytes_at}
 use Rattle.pdb_format.specs.ReadFiles.{HasIdsFor}
 use Rattle.pdb_format.specs.declared.blocks.Block.{Block}
 use Rattle.file_ids.specs.declared.give.GivenIds.{GivenIds}
@@ -41,27 +40,11 @@ IsCanonicalFault file Write = HasNoFault file
 
 -- ---- its parts
 
--- The file has no fault and at most `most_bytes` bytes. These are the places of its blocks, and the
--- blocks together have at most the size of the file.
-pub record HasBlocks (file : List ℕ) (blocks : List (Option Block)) : Type 0 where
-  pub good : HasNoFault file
-  pub short : length file ≤ most_bytes
-  pub are : map (bytes_at file) blocks ≡ blocks_in file
-  pub within : All (IsBlockWithin (length file)) blocks
-  pub total : sum_by length_within blocks ≤ length file
-
 -- the file's records get these IDs
 pub record GetsIds (file : List ℕ) (given : GivenIds) : Type 0 where
   pub have : HaveIds (seed_in (header_in file).seed) (unique_ids (database_in file)) given.ids.items given.seed
   pub fit : HasIdsFor file given.ids.items
   pub seed : given.seed ≤ greatest_id
-
--- the offset of the first block in the canonical form, and the offset of the data of the entries
-abbrev pub first_place : List ℕ → ℕ
-first_place file = entries_end file + 2
-
-abbrev pub data_place : List ℕ → List (Option Block) → ℕ
-data_place file blocks = first_place file + length_within (slice_index_or blocks 0 None) + length_within (slice_index_or blocks 1 None)
 
 -- an entry as it is written to a file: not busy, with its data at an offset
 abbrev pub placed_entry : ℕ → Entry (Option (List ℕ)) → Entry ℕ

@@ -1,11 +1,11 @@
 -- The differences between a file and its canonical form. The words are in the order in which they
 -- are printed.
-use Rattle.std.specs.Prelude.{◌≡◌, ◌↔◌, ◌<◌, ◌≤◌, ◌+◌, ◌++◌, ◌||◌, ⊤, not, min, nat_lt, if◌then◌else◌, ℕ, zero, suc, Bool, true, false, List, [], ◌∷◌, length, take, filter, slice_range, Option, codes, IsTrue, IsFalse}
-use Rattle.std.specs.List.{fold}
+use Rattle.std.specs.Prelude.{◌≡◌, ◌↔◌, ◌<◌, ◌≤◌, ◌++◌, ◌||◌, ⊤, not, if◌then◌else◌, ℕ, zero, suc, Bool, true, false, List, [], ◌∷◌, take, Option, codes, IsTrue, IsFalse}
 use Rattle.heap_model.specs.DatabaseFields.{name_size}
 use Rattle.heap_model.specs.Database.{Database, Entry, a_record, a_resource, name_field, name_in, entry_count_in, entry_in, database_in}
 use Rattle.heap_model.specs.Store.{unique_ids}
-use Rattle.heap_model.specs.Files.{Reads, entries_end, idle_attributes, offsets_in}
+use Rattle.heap_model.specs.Files.{Reads, idle_attributes, offsets_in}
+use Rattle.pdb_format.specs.Filler.{filler_in, written_filler}
 use Rattle.canonical_file.specs.Canonical.{IsCanonical}
 use Rattle.canonical_file.specs.declared.changes.Changes.{Changes}
 
@@ -21,14 +21,9 @@ IsIdle (a_resource kind id at) = ⊤
 abbrev pub NoneIsBusy : List ℕ → Type 0
 NoneIsBusy file = (index : ℕ) → index < entry_count_in file → IsIdle (entry_in file index)
 
--- the offset of the first block, or the size of the file if there is none
-abbrev pub first_start : List ℕ → ℕ
-first_start file = fold min (length file) (filter (nat_lt 0) (offsets_in file))
-
 -- filler: there are exactly two zeros between the entries and the first block
-pub record HasFiller (file : List ℕ) : Type 0 where
-  pub two : first_start file ≡ entries_end file + 2
-  pub zeros : slice_range file (entries_end file) (entries_end file + 2) ≡ 0 ∷ 0 ∷ []
+abbrev pub HasPlainFiller : List ℕ → Type 0
+HasPlainFiller file = filler_in file ≡ written_filler
 
 -- ids: in the database that is read each record has the ID that it has in the file
 abbrev pub KeepsIds : List ℕ → Type 0
@@ -63,7 +58,7 @@ is_none changes = not (changes.busy || (changes.filler || (changes.ids || (chang
 -- These are the changes of a file. The file is its canonical form exactly if no word is set.
 pub record AreChanges (file : List ℕ) (changes : Changes) : Type 0 where
   pub busy : Says changes.busy (NoneIsBusy file)
-  pub filler : Says changes.filler (HasFiller file)
+  pub filler : Says changes.filler (HasPlainFiller file)
   pub ids : Says changes.ids (KeepsIds file)
   pub name : Says changes.name (HasPlainName file)
   pub order : Says changes.order (IsInOrder file)

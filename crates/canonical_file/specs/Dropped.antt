@@ -1,16 +1,16 @@
 -- The bytes of a file that a rewrite drops.
-use Rattle.std.specs.Prelude.{◌≡◌, ◌-◌, ◌==◌, ◌⊎◌, not, ℕ, Bool, List, length, slice_range}
+use Rattle.std.specs.Prelude.{◌≡◌, ◌==◌, ◌⊎◌, not, ℕ, Bool, List, length, slice_range}
 use Rattle.heap_model.specs.DatabaseFields.{name_size}
 use Rattle.heap_model.specs.Database.{name_in}
-use Rattle.heap_model.specs.Files.{entries_end}
-use Rattle.canonical_file.specs.Changes.{HasFiller, first_start}
+use Rattle.pdb_format.specs.Filler.{filler_in}
+use Rattle.canonical_file.specs.Changes.{HasPlainFiller}
 
 -- This many bytes are between the entries and the first block. If they are exactly two zeros, the
 -- new file has them too.
 abbrev pub IsDroppedFiller : List ℕ → ℕ → Type 0
 IsDroppedFiller file count =
-    (HasFiller file × (count ≡ 0))
-    ⊎ ((HasFiller file → ⊥) × (count ≡ first_start file - entries_end file))
+    (HasPlainFiller file × (count ≡ 0))
+    ⊎ ((HasPlainFiller file → ⊥) × (count ≡ length (filler_in file)))
 
 -- a byte that isn't zero
 abbrev pub is_set : ℕ → Bool

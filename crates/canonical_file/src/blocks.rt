@@ -6,10 +6,10 @@ ghost use Rattle.heap_model.specs.Files as files;
 ghost use Rattle.heap_model.specs.Files.{blocks_in};
 ghost use Rattle.pdb_format.specs.Blocks.{bytes_at, IsBlockWithin, length_within};
 ghost use Rattle.palm_text.specs.Counted.{Writes};
-ghost use Rattle.canonical_file.specs.Canonical.{Continues, HasBlocks, run_bytes};
+ghost use Rattle.canonical_file.specs.Canonical.{Continues, run_bytes};
 
 use palm_text::{Counted, WriteFault, put_all};
-use pdb_format::Block;
+use pdb_format::{Block, PdbFile};
 use std::io::Write;
 
 /// Returns the size of a block in bytes, and 0 if there is none.
@@ -47,12 +47,12 @@ pub(crate) fn block_offset(at: u32, block: Option<Block>) -> u32
 }
 
 /// Returns the bytes of a block, and none if there is no block.
-fn block_bytes(file: &[u8], block: Option<Block>) -> &[u8]
+fn block_bytes<'a>(file: &PdbFile<'a>, block: Option<Block>) -> &'a [u8]
     requires { IsBlockWithin (length file.now) block }
     ensures { result.now ≡ files.block_bytes (bytes_at file.now block) }
 {
     match block {
-        Some(block) => &file[block.start..block.end],
+        Some(block) => file.bytes_of(block),
         None => &[],
     }
 }
@@ -70,13 +70,13 @@ pub(crate) fn append(bytes: &mut Vec<u8>, more: &[u8])
 }
 
 /// Appends the blocks to a vector that has room for them.
-pub(crate) fn append_blocks(file: &[u8], blocks: &[Option<Block>], bytes: &mut Vec<u8>)
-    requires blocks { HasBlocks file.now blocks.now }
-    requires room { vec_len bytes.old + length (flat_map files.block_bytes (blocks_in file.now))
+pub(crate) fn append_blocks(file: &PdbFile<'_>, bytes: &mut Vec<u8>)
+    requires { vec_len bytes.old + length (flat_map files.block_bytes (blocks_in file.now))
         ≤ vec_capacity bytes.old }
     ensures { bytes.new.items ≡ bytes.old.items
         ++ flat_map files.block_bytes (blocks_in file.now) }
 {
+    let blocks = file.blocks();
     for index in 0..blocks.len() {
         append(bytes, block_bytes(file, blocks[index]));
     }
@@ -85,7 +85,7 @@ pub(crate) fn append_blocks(file: &[u8], blocks: &[Option<Block>], bytes: &mut V
 /// Adds a block to a run: neighbouring blocks of the file, which are not written yet. If the block
 /// doesn't begin where the run ends, writes the run, and returns a run of this block alone.
 fn put_unless_next<W: Write>(
-    file: &[u8],
+    file: &PdbFile<'_>,
     run: Block,
     block: Option<Block>,
     out: &mut Counted<W>,
@@ -105,20 +105,19 @@ fn put_unless_next<W: Write>(
             end: block.end,
         });
     }
-    put_all(out, &file[run.start..run.end])?;
+    put_all(out, file.bytes_of(run))?;
     Ok(block)
 }
 
 /// Writes the blocks, one after the other. Neighbouring blocks of the file are one write.
 pub(crate) fn put_blocks<W: Write>(
-    file: &[u8],
-    blocks: &[Option<Block>],
+    file: &PdbFile<'_>,
     out: &mut Counted<W>,
 ) -> Result<(), WriteFault>
-    requires { HasBlocks file.now blocks.now }
     ensures { Writes W.contents out.old out.new
         (flat_map files.block_bytes (blocks_in file.now)) (is_ok result) }
 {
+    let blocks = file.blocks();
     let mut run = Block { start: 0, end: 0 };
     for index in 0..blocks.len() {
         match put_unless_next(file, run, blocks[index], out) {
@@ -126,5 +125,5 @@ pub(crate) fn put_blocks<W: Write>(
             Err(fault) => return Err(fault),
         }
     }
-    put_all(out, &file[run.start..run.end])
+    put_all(out, file.bytes_of(run))
 }

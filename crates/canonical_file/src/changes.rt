@@ -1,8 +1,6 @@
 //! The changes of a file.
 
 ghost use Rattle.std.specs.Prelude.{◌≡◌, ◌≤◌, ℕ, IsTrue, length, IfOk, OnErr, All};
-ghost use Rattle.heap_model.specs.Bytes.{AreBytes};
-ghost use Rattle.heap_model.specs.Files.{HasNoFault};
 ghost use Rattle.canonical_file.specs.Canonical.{IsCanonical, most_bytes};
 ghost use Rattle.canonical_file.specs.Changes as words;
 ghost use Rattle.canonical_file.specs.Changes.{AreChanges};
@@ -11,8 +9,8 @@ ghost use Rattle.canonical_file.specs.Given.{AreGivenIn};
 use crate::entry_changes::{has_busy, keeps_ids};
 use crate::offsets::{has_filler, is_in_order};
 use allowance::Allowance;
-use db_format::has_name;
-use file_ids::{GivenIds, give_ids_from};
+use file_ids::{GivenIds, give_ids};
+use pdb_format::PdbFile;
 use std::alloc::AllocError;
 
 /// The changes of a file when it is rewritten. Each field has the name of its word in a listing.
@@ -39,32 +37,24 @@ impl Changes {
     }
 }
 
-/// The numbers in a slice are bytes.
-fn know_bytes(file: &[u8])
-    ensures { AreBytes file.now }
-{
-    let _file = file;
-}
-
 /// The same as `find_changes`, for the IDs that the file's records get. It allocates nothing.
-pub fn changes_by(file: &[u8], given: &GivenIds) -> Changes
-    requires good { HasNoFault file.now }
+pub fn changes_by(file: &PdbFile<'_>, given: &GivenIds) -> Changes
     requires short { length file.now ≤ most_bytes }
     requires given { AreGivenIn file.now given.now.ids.items given.now.seed }
     ensures changes { AreChanges file.now result }
     ensures same { IsTrue (words.is_none result) → IsCanonical file.now file.now }
 {
-    know_bytes(file);
+    let _ = file.bytes();
     Changes {
         busy: has_busy(file),
         filler: !has_filler(file),
         ids: !keeps_ids(file, &given.ids),
-        name: !has_name(file),
+        name: !file.has_name(),
         order: !is_in_order(file),
     }
 }
 
-/// Returns the changes of a file without fault when it is rewritten. If there are none, the file is
+/// Returns the changes of a file when it is rewritten. If there are none, the file is
 /// its own canonical form.
 ///
 /// It allocates a set of IDs and the IDs of the records (see `file_ids`). It doesn't allocate the
@@ -73,14 +63,13 @@ pub fn changes_by(file: &[u8], given: &GivenIds) -> Changes
 /// # Errors
 ///
 /// - `AllocError`: if an allocation failed.
-pub fn find_changes<A: Allowance>(memory: &A, file: &[u8]) -> Result<Changes, AllocError>
-    requires good { HasNoFault file.now }
-    requires short { length file.now ≤ most_bytes }
+pub fn find_changes<A: Allowance>(memory: &A, file: &PdbFile<'_>) -> Result<Changes, AllocError>
+    requires { length file.now ≤ most_bytes }
     ensures changes { IfOk result (AreChanges file.now) }
     ensures same { IfOk result (λ changes.
         IsTrue (words.is_none changes) → IsCanonical file.now file.now) }
     ensures short { OnErr result (A.is_short memory.now) }
 {
-    let given = give_ids_from(memory, file)?;
+    let given = give_ids(memory, file)?;
     Ok(changes_by(file, &given))
 }

@@ -1,30 +1,20 @@
 //! The entries of a canonical form.
 
 ghost use Rattle.std.specs.Prelude.{◌≡◌, ◌≤◌, ◌<◌, ◌+◌, ◌++◌, ◌^◌, length, vec_len, vec_capacity, slice_index_or, None};
-ghost use Rattle.std.specs.List.{sum_by};
 ghost use Rattle.heap_model.specs.Database.{entry_count_in};
-ghost use Rattle.heap_model.specs.Files.{HasNoFault, blocks_in, idle_attributes};
+ghost use Rattle.heap_model.specs.Files.{blocks_in};
 ghost use Rattle.db_format.specs.EitherEntry.{entry_of, HasFittingId};
-ghost use Rattle.pdb_format.specs.Blocks.{bytes_at, length_within};
+ghost use Rattle.pdb_format.specs.Blocks.{bytes_at};
 ghost use Rattle.pdb_format.specs.FileTexts.{entries_text};
 ghost use Rattle.pdb_format.specs.ReadFiles.{HasIdsFor, entries_read, entry_read_at};
-ghost use Rattle.canonical_file.specs.Canonical.{HasBlocks, placed_entry};
+ghost use Rattle.canonical_file.specs.Canonical.{placed_entry, most_bytes};
 
 use crate::blocks::{append, block_length, block_offset};
-use bitflags::Flags;
-use db_format::{DbEntry, INFO_BLOCKS, RecordAttrs, RecordEntry, entry_count};
-use pdb_format::Block;
-
-/// Returns the attributes without the busy bit.
-fn idle(attributes: RecordAttrs) -> RecordAttrs
-    ensures { result.0 ≡ idle_attributes attributes.0 }
-{
-    attributes.difference(RecordAttrs::BUSY)
-}
+use db_format::{DbEntry, INFO_BLOCKS};
+use pdb_format::{Block, PdbFile};
 
 /// Returns the entry at an index, with its data at an offset. A record gets its ID from `ids`.
-fn entry_at(file: &[u8], ids: &[u32], index: u16, at: u32, block: Option<Block>) -> DbEntry
-    requires good { HasNoFault file.now }
+fn entry_at(file: &PdbFile<'_>, ids: &[u32], index: u16, at: u32, block: Option<Block>) -> DbEntry
     requires inside { index < entry_count_in file.now }
     requires ids { HasIdsFor file.now ids.now }
     requires block { bytes_at file.now block
@@ -32,32 +22,14 @@ fn entry_at(file: &[u8], ids: &[u32], index: u16, at: u32, block: Option<Block>)
     ensures is { entry_of result ≡ placed_entry at (entry_read_at file.now ids.now index) }
     ensures id { HasFittingId result }
 {
-    match DbEntry::read(file, index) {
-        DbEntry::Record(record) => {
-            DbEntry::Record(RecordEntry {
-                attributes: idle(record.attributes),
-                id: ids[index as usize],
-                slot: block_offset(at, block),
-            })
-        }
-        DbEntry::Resource(mut resource) => {
-            resource.slot = block_offset(at, block);
-            DbEntry::Resource(resource)
-        }
-    }
+    file.written_entry(index, ids, block_offset(at, block))
 }
 
 /// Appends the entries to a vector that has room for them. Their data begins at the offset `first`.
-pub(crate) fn append_entries(
-    file: &[u8],
-    blocks: &[Option<Block>],
-    ids: &[u32],
-    first: u32,
-    bytes: &mut Vec<u8>,
-)
-    requires blocks { HasBlocks file.now blocks.now }
+pub(crate) fn append_entries(file: &PdbFile<'_>, ids: &[u32], first: u32, bytes: &mut Vec<u8>)
+    requires size { length file.now ≤ most_bytes }
     requires ids { HasIdsFor file.now ids.now }
-    requires short { first + sum_by length_within blocks.now < 2 ^ 32 }
+    requires short { first ≤ 2 ^ 26 }
     requires room { vec_len bytes.old + length (entries_text first (entries_read file.now ids.now))
         ≤ vec_capacity bytes.old }
     ensures items { bytes.new.items ≡ bytes.old.items
@@ -66,8 +38,9 @@ pub(crate) fn append_entries(
         + length (entries_text first (entries_read file.now ids.now)) }
     ensures capacity { vec_capacity bytes.old ≤ vec_capacity bytes.new }
 {
+    let blocks = file.blocks();
     let mut at = first;
-    for index in 0..entry_count(file) {
+    for index in 0..file.entry_count() {
         let block = blocks[INFO_BLOCKS + index as usize];
         append(
             bytes,

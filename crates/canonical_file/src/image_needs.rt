@@ -1,16 +1,13 @@
 //! The smallest image for the databases of files.
 
-ghost use Rattle.std.specs.Prelude.{◌≡◌, ◌≤◌, ◌+◌, ◌^◌, min, IfOk, OnErr, All};
-ghost use Rattle.heap_model.specs.Files.{HasNoFault};
+ghost use Rattle.std.specs.Prelude.{◌≡◌, ◌≤◌, ◌+◌, ◌^◌, min};
 ghost use Rattle.heap_model.specs.Slots as tables;
 ghost use Rattle.canonical_file.specs.Needs.{AreNeedsOf, enough, full_size};
 
 use crate::block_needs::chunk_need;
 use crate::needs::{Needs, needs_of};
-use allowance::Allowance;
 use chunk_format::{FRAME_SIZE, SLOT_SIZE};
-use heap_model::Bytes;
-use std::alloc::AllocError;
+use pdb_format::PdbFile;
 
 /// More bytes and slots than any heap has. Sums stop at this number.
 pub const ENOUGH: u64 = 1 << 32;
@@ -55,22 +52,16 @@ fn add_up(sum: u64, more: u64) -> u64
     (sum + more).min(ENOUGH)
 }
 
-/// Returns the needs of the databases of files without fault together. Each sum stops at `ENOUGH`.
-///
-/// # Errors
-///
-/// - `AllocError`: if an allocation failed.
-pub fn needs_of_files<A: Allowance>(memory: &A, files: &[Bytes]) -> Result<Needs, AllocError>
-    requires { All HasNoFault files.now }
-    ensures needs { IfOk result (AreNeedsOf files.now) }
-    ensures short { OnErr result (A.is_short memory.now) }
+/// Returns the needs of the databases of files together. Each sum stops at `ENOUGH`.
+pub fn needs_of_files(files: &[PdbFile<'_>]) -> Needs
+    ensures { AreNeedsOf files.now result }
 {
     let mut bytes = 0;
     let mut slots = 0;
     for index in 0..files.len() {
-        let needs = needs_of(memory, files[index].as_slice())?;
+        let needs = needs_of(&files[index]);
         bytes = add_up(bytes, needs.bytes);
         slots = add_up(slots, needs.slots);
     }
-    Ok(Needs { bytes, slots })
+    Needs { bytes, slots }
 }

@@ -41,10 +41,10 @@
 //! | `canonical` | writes the canonical form (`specs/Canonical.antt`) |
 //! | `header`, `entries`, `blocks` | its header, its entries, its blocks |
 //! | `changes` | finds the changes (`specs/Changes.antt`) |
-//! | `entry_changes`, `offsets` | finds those of entries, those of offsets |
+//! | `entry_changes`, `offsets` | finds those of entries, those of the filler and of the order |
 //! | `dropped` | counts the bytes that aren't in the canonical form (`specs/Dropped.antt`) |
 //! | `change_lines` | writes the line of the changes |
-//! | `needs`, `block_needs` | the needs of a file, of its blocks (`specs/Needs.antt`) |
+//! | `needs`, `block_needs` | the needs of a file, of a block (`specs/Needs.antt`) |
 //! | `image_needs` | the needs of several files, and the smallest image for them |
 #![tactic(auto)]
 
@@ -61,7 +61,6 @@ mod image_needs;
 mod needs;
 mod offsets;
 
-pub use block_needs::needs_of_blocks;
 pub use canonical::{CanonicalFault, canonical_bytes, put_canonical_by};
 pub use change_lines::put_changes;
 pub use changes::{Changes, changes_by, find_changes};

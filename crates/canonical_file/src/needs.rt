@@ -1,13 +1,10 @@
 //! The needs of the database of one file.
 
-ghost use Rattle.std.specs.Prelude.{◌≤◌, ◌+◌, ◌^◌, IfOk, OnErr};
-ghost use Rattle.heap_model.specs.Files.{HasNoFault};
+ghost use Rattle.std.specs.Prelude.{◌≤◌, ◌+◌, ◌^◌};
 ghost use Rattle.canonical_file.specs.Needs.{AreNeeds};
 
-use crate::block_needs::needs_of_blocks;
-use allowance::Allowance;
-use pdb_format::find_blocks_from;
-use std::alloc::AllocError;
+use crate::block_needs::{chunk_need, needs_of_block};
+use pdb_format::PdbFile;
 
 /// The part of a heap that databases take, without the directory.
 #[derive(Clone, Copy, Debug, PartialEq, Eq)]
@@ -18,18 +15,19 @@ pub struct Needs {
     pub slots: u64,
 }
 
-/// Returns the needs of the database of a file without fault.
-///
-/// # Errors
-///
-/// - `AllocError`: if an allocation failed.
-pub fn needs_of<A: Allowance>(memory: &A, file: &[u8]) -> Result<Needs, AllocError>
-    requires { HasNoFault file.now }
-    ensures needs { IfOk result (AreNeeds file.now) }
-    ensures small { IfOk result (λ needs. needs.bytes ≤ 2 ^ 63 + 2 ^ 62) }
-    ensures few { IfOk result (λ needs. needs.slots ≤ 2 ^ 17) }
-    ensures short { OnErr result (A.is_short memory.now) }
+/// Returns the needs of the database of a file.
+pub fn needs_of(file: &PdbFile<'_>) -> Needs
+    ensures are { AreNeeds file.now result }
+    ensures short { result.bytes ≤ 2 ^ 63 + 2 ^ 62 }
+    ensures few { result.slots ≤ 2 ^ 17 }
 {
-    let blocks = find_blocks_from(memory, file)?;
-    Ok(needs_of_blocks(file, &blocks))
+    let blocks = file.blocks();
+    let mut bytes = chunk_need(file.entries_end() as u64);
+    let mut slots = 1;
+    for rank in 0..file.rank_count() {
+        let needs = needs_of_block(blocks[rank]);
+        bytes += needs.bytes;
+        slots += needs.slots;
+    }
+    Needs { bytes, slots }
 }

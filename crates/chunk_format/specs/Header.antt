@@ -68,6 +68,10 @@ IsWritableHeader at (headers.Fixed length owner) = (need length < 2 ^ 24) × (ow
 abbrev pub MayStand : ℕ → ℕ → Type 0
 MayStand lock owner = (lock ≡ 0) ⊎ (0 < owner)
 
+-- half the distance from an offset to a slot, as a two's complement of 24 bits
+abbrev pub h_offset_to : ℕ → ℕ → ℕ
+h_offset_to at slot = (slot + 2 ^ 25 - at) / 2 % 2 ^ 24
+
 -- a second word with another lock field
 abbrev pub with_lock_field : ℕ → ℕ → ℕ
 with_lock_field word lock = lock * 2 ^ 28 + word % 2 ^ 28
@@ -76,12 +80,20 @@ with_lock_field word lock = lock * 2 ^ 28 + word % 2 ^ 28
 abbrev pub with_owner_field : ℕ → ℕ → ℕ
 with_owner_field word owner = word / 2 ^ 28 * 2 ^ 28 + owner * 2 ^ 24 + word % 2 ^ 24
 
--- an image with another lock field, or another owner field, in the header at an offset
+-- a second word with another hOffset
+abbrev pub with_h_offset : ℕ → ℕ → ℕ
+with_h_offset word h_offset = word / 2 ^ 24 * 2 ^ 24 + h_offset
+
+-- an image with another lock field, another owner field, or the hOffset of another slot, in the
+-- header at an offset
 abbrev pub with_lock_at : List ℕ → ℕ → ℕ → List ℕ
 with_lock_at image at lock = overwritten image (at + 4) (u32_bytes (with_lock_field (u32_at image (at + 4)) lock))
 
 abbrev pub with_owner_at : List ℕ → ℕ → ℕ → List ℕ
 with_owner_at image at owner = overwritten image (at + 4) (u32_bytes (with_owner_field (u32_at image (at + 4)) owner))
+
+abbrev pub with_slot_at : List ℕ → ℕ → ℕ → List ℕ
+with_slot_at image at slot = overwritten image (at + 4) (u32_bytes (with_h_offset (u32_at image (at + 4)) (h_offset_to at slot)))
 
 -- The movable chunk that was spelled at this offset is spelled there with another lock count, and
 -- is otherwise unchanged.
@@ -94,14 +106,15 @@ pub record Reowns (old new : List ℕ) (at owner : ℕ) : Type 0 where
   pub movable_too : (bytes : List ℕ) (lock was slot : ℕ) → MayStand lock owner → Spelled old at (movable bytes lock was slot) → Spelled new at (movable bytes lock owner slot)
   pub fixed_too : (bytes : List ℕ) (was : ℕ) → managers_owner < was → managers_owner < owner → Spelled old at (fixed bytes was) → Spelled new at (fixed bytes owner)
 
+-- The movable chunk that was spelled at this offset is spelled there with another slot, and is
+-- otherwise unchanged.
+abbrev pub Reslots : List ℕ → List ℕ → ℕ → ℕ → Type 0
+Reslots old new at slot = (bytes : List ℕ) (lock owner was : ℕ) → Spelled old at (movable bytes lock owner was) → Spelled new at (movable bytes lock owner slot)
+
 -- the two words of a live chunk of `length` bytes: sizeAdj above the size, and the lock above the
 -- owner above hOffset
 abbrev pub live_words : ℕ → ℕ → ℕ → ℕ → List ℕ
 live_words length lock owner h_offset = u32_bytes ((need length - 8 - length) * 2 ^ 24 + need length) ++ u32_bytes (lock * 2 ^ 28 + owner * 2 ^ 24 + h_offset)
-
--- half the distance from an offset to a slot, as a two's complement of 24 bits
-abbrev pub h_offset_to : ℕ → ℕ → ℕ
-h_offset_to at slot = (slot + 2 ^ 25 - at) / 2 % 2 ^ 24
 
 -- The bytes that spell a header at an offset. For a free chunk they are only the first word, in
 -- which all bits but the free bit and the size are zero.

@@ -7,7 +7,7 @@ ghost use Rattle.heap_model.specs.Bytes.{overwritten};
 ghost use Rattle.heap_model.specs.Frame.{most_size};
 ghost use Rattle.heap_model.specs.Chunk.{Chunk, need, fixed_lock, data_owner, IsLive, Spelled, HasChunk};
 ghost use Rattle.heap_model.specs.Reading.{chunk_at};
-ghost use Rattle.chunk_format.specs.Header.{HasLive, chunk_with, size_by, live_header_by, h_offset_to, live_words, with_lock_at, with_owner_at, Relocks, Reowns};
+ghost use Rattle.chunk_format.specs.Header.{HasLive, chunk_with, size_by, live_header_by, h_offset_to, live_words, with_lock_at, with_owner_at, with_slot_at, Relocks, Reowns, Reslots};
 
 use crate::frame::MOST_SIZE;
 use raw_region::Region;
@@ -318,6 +318,25 @@ pub fn put_owner(region: &mut Region, at: u32, owner: u8)
     let lock = word / ABOVE_28_BITS * ABOVE_28_BITS;
     let rest = word % ABOVE_24_BITS;
     region.put_u32(second, lock + owner as u32 * ABOVE_24_BITS + rest);
+}
+
+/// Gives the movable chunk at `at` another slot. It writes only the second word, which keeps its
+/// other fields. The caller must prove that the slot is at an even distance.
+#[inline]
+pub fn put_slot(region: &mut Region, at: u32, slot: u32)
+    requires inside { IsWithin region.old at HEADER_SIZE }
+    requires small { length region.old.bytes < 2 ^ 24 }
+    requires slot { slot < 2 ^ 24 }
+    requires even { slot % 2 ≡ at % 2 }
+    ensures after { region.new ≡ record region.old
+        { bytes = with_slot_at region.old.bytes at slot } }
+    ensures len { length region.new.bytes ≡ length region.old.bytes }
+    ensures reslotted { Reslots region.old.bytes region.new.bytes at slot }
+{
+    let second = at as usize + SECOND_WORD_AT;
+    let word = region.get_u32(second);
+    let above = word / ABOVE_24_BITS * ABOVE_24_BITS;
+    region.put_u32(second, above + h_offset(at, slot));
 }
 
 /// Half the distance from the chunk at `at` to a slot, as a two's complement of 24 bits.

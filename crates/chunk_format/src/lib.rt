@@ -28,7 +28,7 @@ pub use frame::{
 };
 pub use header::{
     ABOVE_24_BITS, DATA_OWNER, FIXED_LOCK, HEADER_SIZE, Header, LiveFields, MANAGERS_OWNER,
-    SECOND_WORD_AT, chunk_size, live_fields, put_lock, put_owner, size_of_body,
+    SECOND_WORD_AT, chunk_size, live_fields, put_lock, put_owner, put_slot, size_of_body,
 };
 pub use image::{BlankFault, blank, blank_from};
 pub use laws::blank_images_are_empty;

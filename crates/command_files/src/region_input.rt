@@ -4,7 +4,7 @@ ghost use Rattle.std.specs.Prelude.{[], ◌≡◌, ◌≢◌, ◌+◌, ◌≤◌
 ghost use Rattle.std.specs.Io.KnownBytes.{IsAtEnd, Keeps, prepend_known};
 
 use allowance::{Allowance, zeros};
-use program_io::{InputFault, MOST_INPUT, MOST_READ};
+use program_io::{InputFault, MOST_INPUT, MOST_READ, read_once};
 use raw_region::Region;
 use std::alloc::AllocError;
 use std::fs;
@@ -121,9 +121,9 @@ fn fill<R: Read>(
         (λ all. length region.old.bytes < length all) }
     ensures no_memory { result ≢ Err (SizedFault.Input InputFault.Memory) }
 {
-    let n = match reader.read(turn) {
+    let n = match read_once(reader, turn) {
         Ok(n) => n,
-        Err(error) => return Err(SizedFault::Input(InputFault::Read(error))),
+        Err(failure) => return Err(SizedFault::Input(InputFault::Read(failure))),
     };
     if n > region.len() - *at {
         return Err(SizedFault::OtherSize);

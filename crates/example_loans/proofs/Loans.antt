@@ -22,7 +22,7 @@ use Rattle.palm_store.specs.EntryCalls.{LeavesChanged}
 use Rattle.palm_store.specs.Files.{data_filled}
 use Rattle.palm_store.specs.Loans.{TakesOutOfStore, PutsBackInStore}
 use Rattle.palm_script.specs.Loans.{LoanStays, RunsOnLoan}
-use Rattle.example_loans.specs.Filling.{FillsMeanwhile, HasText, TakesThree, text_over, written}
+use Rattle.example_loans.specs.Filling.{FillsMeanwhile, HasTextOver, TakesThree, text_over, with_text}
 use Rattle.example_loans.specs.declared.filling.Notes.{Notes}
 
 -- ---- one loan
@@ -64,7 +64,7 @@ length_over bytes text = length-overwritten bytes 0 (take (length bytes) text) (
   fits : (n : ℕ) (text : List ℕ) → 0 + length (take n text) ≤ n
   fits n text = let few : length (take n text) ≤ n = subst (λ (k : ℕ). k ≤ n) (sym (length-take n text)) (min-le_left n (length text)) in omega (arith, few)
 
-written_is : (memory : Memory) (loan : OnLoan) (lent : Lent) (text : List ℕ) → IsOf memory loan lent → IsOf memory (written loan text) lent
+written_is : (memory : Memory) (loan : OnLoan) (lent : Lent) (text : List ℕ) → IsOf memory loan lent → IsOf memory (with_text loan text) lent
 written_is memory loan lent text is = (is.0, is.1, length_over loan.part.bytes text ∙ is.2)
 
 -- ---- without one of them
@@ -175,21 +175,21 @@ two_stay before old new first third o stays = record {
 
 -- ---- they are out under their names, with a text written too
 
-second_under : (before : List Lent) (memory : Memory) (first second third : OnLoan) (text : List ℕ) → ThreeOut before memory first second third → IsOutUnder memory second.name.0 (written second text).part
-second_under before memory first second third text o = subst (SomeLent (IsOf memory (written second text))) (sym o.lents) (inr (inl (written_is memory second o.b text o.second_is)))
+second_under : (before : List Lent) (memory : Memory) (first second third : OnLoan) (text : List ℕ) → ThreeOut before memory first second third → IsOutUnder memory second.name.0 (with_text second text).part
+second_under before memory first second third text o = subst (SomeLent (IsOf memory (with_text second text))) (sym o.lents) (inr (inl (written_is memory second o.b text o.second_is)))
 
-first_under : (before : List Lent) (memory : Memory) (first third : OnLoan) (text : List ℕ) → TwoOut before memory first third → IsOutUnder memory first.name.0 (written first text).part
-first_under before memory first third text o = subst (SomeLent (IsOf memory (written first text))) (sym o.lents) (inr (inl (written_is memory first o.a text o.first_is)))
+first_under : (before : List Lent) (memory : Memory) (first third : OnLoan) (text : List ℕ) → TwoOut before memory first third → IsOutUnder memory first.name.0 (with_text first text).part
+first_under before memory first third text o = subst (SomeLent (IsOf memory (with_text first text))) (sym o.lents) (inr (inl (written_is memory first o.a text o.first_is)))
 
 one_under : (before : List Lent) (memory : Memory) (loan : OnLoan) → OneOut before memory loan → IsOutUnder memory loan.name.0 loan.part
 one_under before memory loan o = subst (SomeLent (IsOf memory loan)) (sym o.lents) (inl o.is)
 
-one_written : (before : List Lent) (memory : Memory) (loan : OnLoan) (text : List ℕ) → OneOut before memory loan → OneOut before memory (written loan text)
+one_written : (before : List Lent) (memory : Memory) (loan : OnLoan) (text : List ℕ) → OneOut before memory loan → OneOut before memory (with_text loan text)
 one_written before memory loan text o = record { lent = o.lent; lents = o.lents; is = written_is memory loan o.lent text o.is }
 
 -- ---- they are put back
 
-second_back : (before : List Lent) (old new : Memory) (first second third : OnLoan) (text : List ℕ) → ThreeOut before old first second third → PutsBackInStore old new (written second text) → TwoOut before new first third
+second_back : (before : List Lent) (old new : Memory) (first second third : OnLoan) (text : List ℕ) → ThreeOut before old first second third → PutsBackInStore old new (with_text second text) → TwoOut before new first third
 second_back before old new first second third text o puts = record {
   a = o.a;
   c = o.c;
@@ -199,16 +199,16 @@ second_back before old new first second third text o puts = record {
   ca = o.ca;
 } where
   at : puts.at ≡ o.b.at
-  at = back_at old new (written second text) o.b puts (written_is old second o.b text o.second_is)
+  at = back_at old new (with_text second text) o.b puts (written_is old second o.b text o.second_is)
 
-first_back : (before : List Lent) (old new : Memory) (first third : OnLoan) (text : List ℕ) → TwoOut before old first third → PutsBackInStore old new (written first text) → OneOut before new third
+first_back : (before : List Lent) (old new : Memory) (first third : OnLoan) (text : List ℕ) → TwoOut before old first third → PutsBackInStore old new (with_text first text) → OneOut before new third
 first_back before old new first third text o puts = record {
   lent = o.c;
   lents = ap lents_of puts.rest ∙ ap (without puts.at) o.lents ∙ gone_later o.c (o.a ∷ before) before puts.at (λ e. o.ca (e ∙ at)) (gone_here o.a before puts.at at);
   is = kept old new third o.c (puts.unmoved third.name.0) o.third_is;
 } where
   at : puts.at ≡ o.a.at
-  at = back_at old new (written first text) o.a puts (written_is old first o.a text o.first_is)
+  at = back_at old new (with_text first text) o.a puts (written_is old first o.a text o.first_is)
 
 one_back : (before : List Lent) (old new : Memory) (loan : OnLoan) → OneOut before old loan → PutsBackInStore old new loan → new.lents ≡ before
 one_back before old new loan o puts = ap lents_of puts.rest ∙ ap (without puts.at) o.lents ∙ gone_here o.lent before puts.at (back_at old new loan o.lent puts o.is)
@@ -224,19 +224,19 @@ names_apart : (memory : Memory) (loan other : OnLoan) (lent lent_other : Lent) (
 names_apart memory loan other lent lent_other name name_other is is_other named named_other differs =
     λ same. differs (same_place (sym is.0 ∙ ap (λ (n : Name). place_of memory.bytes n.0) named ∙ ap (place_of memory.bytes) same ∙ ap (λ (n : Name). place_of memory.bytes n.0) (sym named_other) ∙ is_other.0))
 
-has_text : (old from out done back : Memory) (name : Name) (loan : OnLoan) (text : List ℕ) → TakesOutOfStore from out name loan → bytes_of ((store_of from.bytes).map name.0) ≡ bytes_of ((store_of old.bytes).map name.0) → PutsBackInStore done back (written loan text) → HasText old back name text
+has_text : (old from out done back : Memory) (name : Name) (loan : OnLoan) (text : List ℕ) → TakesOutOfStore from out name loan → bytes_of ((store_of from.bytes).map name.0) ≡ bytes_of ((store_of old.bytes).map name.0) → PutsBackInStore done back (with_text loan text) → HasTextOver old back name text
 has_text old from out done back name loan text takes same puts =
     subst (λ (n : Name). bytes_of ((store_of back.bytes).map n.0) ≡ text_over loan.part.bytes text) takes.name_is puts.bytes
     ∙ ap (λ (bytes : List ℕ). text_over bytes text) (takes.bytes ∙ same)
 
-second_has : (old out done back : Memory) (notes : Notes) (first second third : OnLoan) (text : List ℕ) → TakesThree old out notes first second third → PutsBackInStore done back (written second text) → HasText old back notes.second text
+second_has : (old out done back : Memory) (notes : Notes) (first second third : OnLoan) (text : List ℕ) → TakesThree old out notes first second third → PutsBackInStore done back (with_text second text) → HasTextOver old back notes.second text
 second_has old out done back notes first second third text t puts =
     let o = three_out old out notes first second third t in
     has_text old t.one_out t.two_out done back notes.second second text t.takes_second
     (other_stays old t.one_out notes.first.0 notes.second.0 _ t.takes_first.leaves (names_apart out second first o.b o.a notes.second notes.first o.second_is o.first_is t.takes_second.name_is t.takes_first.name_is o.ba))
     puts
 
-third_has : (old out done back : Memory) (notes : Notes) (first second third : OnLoan) (text : List ℕ) → TakesThree old out notes first second third → PutsBackInStore done back (written third text) → HasText old back notes.third text
+third_has : (old out done back : Memory) (notes : Notes) (first second third : OnLoan) (text : List ℕ) → TakesThree old out notes first second third → PutsBackInStore done back (with_text third text) → HasTextOver old back notes.third text
 third_has old out done back notes first second third text t puts =
     let o = three_out old out notes first second third t in
     has_text old t.two_out out done back notes.third third text t.takes_third
@@ -244,7 +244,7 @@ third_has old out done back notes first second third text t puts =
     ∙ other_stays old t.one_out notes.first.0 notes.third.0 _ t.takes_first.leaves (names_apart out third first o.c o.a notes.third notes.first o.third_is o.first_is t.takes_third.name_is t.takes_first.name_is o.ca))
     puts
 
-first_has : (old out done mid new : Memory) (notes : Notes) (first second third : OnLoan) (text : List ℕ) → TakesThree old out notes first second third → PutsBackInStore done mid (written first text) → PutsBackInStore mid new (written third text) → HasText old new notes.first text
+first_has : (old out done mid new : Memory) (notes : Notes) (first second third : OnLoan) (text : List ℕ) → TakesThree old out notes first second third → PutsBackInStore done mid (with_text first text) → PutsBackInStore mid new (with_text third text) → HasTextOver old new notes.first text
 first_has old out done mid new notes first second third text t puts last =
     let o = three_out old out notes first second third t in
     other_stays mid new third.name.0 notes.first.0 _ last.leaves (names_apart out first third o.a o.c notes.first third.name o.first_is o.third_is t.takes_first.name_is refl (λ e. o.ca (sym e)))
@@ -253,10 +253,10 @@ first_has old out done mid new notes first second third text t puts last =
 -- ---- all of it
 
 -- While one is put back, the loan is one with a text written.
-puts_written : (old new : Memory) (loan now : OnLoan) (text : List ℕ) → now ≡ written loan text → PutsBackInStore old new now → PutsBackInStore old new (written loan text)
+puts_written : (old new : Memory) (loan now : OnLoan) (text : List ℕ) → now ≡ with_text loan text → PutsBackInStore old new now → PutsBackInStore old new (with_text loan text)
 puts_written old new loan now text is puts = subst (PutsBackInStore old new) is puts
 
-out_written : (memory : Memory) (loan now : OnLoan) (text : List ℕ) → now ≡ written loan text → IsOutUnder memory loan.name.0 (written loan text).part → IsOutUnder memory now.name.0 now.part
+out_written : (memory : Memory) (loan now : OnLoan) (text : List ℕ) → now ≡ with_text loan text → IsOutUnder memory loan.name.0 (with_text loan text).part → IsOutUnder memory now.name.0 now.part
 out_written memory loan now text is out = subst (λ (l : OnLoan). IsOutUnder memory l.name.0 l.part) (sym is) out
 
 -- out of a store under a name that is given
@@ -267,14 +267,14 @@ three_done : (old out done : Memory) (notes : Notes) (first second third : OnLoa
 three_done old out done notes first second third takes stays = three_stay old.lents out done first second third (three_out old out notes first second third takes) stays
 
 -- the second is out when it is put back
-pub second_out : (old out done : Memory) (notes : Notes) (text : List ℕ) (first second third now : OnLoan) → TakesThree old out notes first second third → LoanStays out done → now ≡ written second text → IsOutUnder done now.name.0 now.part
+pub second_out : (old out done : Memory) (notes : Notes) (text : List ℕ) (first second third now : OnLoan) → TakesThree old out notes first second third → LoanStays out done → now ≡ with_text second text → IsOutUnder done now.name.0 now.part
 second_out old out done notes text first second third now takes stays is =
     out_written done second now text is (second_under old.lents done first second third text (three_done old out done notes first second third takes stays))
 
 module _ (old out done back again : Memory) (notes : Notes) (text : List ℕ) (first second third second_now first_now : OnLoan)
-    (takes : TakesThree old out notes first second third) (stays : LoanStays out done) (second_is : second_now ≡ written second text) (puts_second : PutsBackInStore done back second_now)
-    (stays_again : LoanStays back again) (first_is : first_now ≡ written first text) where
-  puts_second_text : PutsBackInStore done back (written second text)
+    (takes : TakesThree old out notes first second third) (stays : LoanStays out done) (second_is : second_now ≡ with_text second text) (puts_second : PutsBackInStore done back second_now)
+    (stays_again : LoanStays back again) (first_is : first_now ≡ with_text first text) where
+  puts_second_text : PutsBackInStore done back (with_text second text)
   puts_second_text = puts_written done back second second_now text second_is puts_second
 
   two_back : TwoOut old.lents back first third
@@ -288,23 +288,23 @@ module _ (old out done back again : Memory) (notes : Notes) (text : List ℕ) (f
   first_out = out_written again first first_now text first_is (first_under old.lents again first third text two_again)
 
   -- and the third
-  one_near : (near : Memory) → PutsBackInStore again near first_now → OneOut old.lents near (written third text)
+  one_near : (near : Memory) → PutsBackInStore again near first_now → OneOut old.lents near (with_text third text)
   one_near near puts_first = one_written old.lents near third text (first_back old.lents again near first third text two_again (puts_written again near first first_now text first_is puts_first))
 
-  pub third_out : (near : Memory) (third_now : OnLoan) → PutsBackInStore again near first_now → third_now ≡ written third text → IsOutUnder near third_now.name.0 third_now.part
-  third_out near third_now puts_first third_is = out_written near third third_now text third_is (one_under old.lents near (written third text) (one_near near puts_first))
+  pub third_out : (near : Memory) (third_now : OnLoan) → PutsBackInStore again near first_now → third_now ≡ with_text third text → IsOutUnder near third_now.name.0 third_now.part
+  third_out near third_now puts_first third_is = out_written near third third_now text third_is (one_under old.lents near (with_text third text) (one_near near puts_first))
 
   -- At the end all are back, and each name has its text.
-  pub none_left : (near new : Memory) (third_now : OnLoan) → PutsBackInStore again near first_now → third_now ≡ written third text → PutsBackInStore near new third_now → new.lents ≡ old.lents
-  none_left near new third_now puts_first third_is puts_third = one_back old.lents near new (written third text) (one_near near puts_first) (puts_written near new third third_now text third_is puts_third)
+  pub none_left : (near new : Memory) (third_now : OnLoan) → PutsBackInStore again near first_now → third_now ≡ with_text third text → PutsBackInStore near new third_now → new.lents ≡ old.lents
+  none_left near new third_now puts_first third_is puts_third = one_back old.lents near new (with_text third text) (one_near near puts_first) (puts_written near new third third_now text third_is puts_third)
 
-  pub first_text : (near new : Memory) (third_now : OnLoan) → PutsBackInStore again near first_now → third_now ≡ written third text → PutsBackInStore near new third_now → HasText old new notes.first text
+  pub first_text : (near new : Memory) (third_now : OnLoan) → PutsBackInStore again near first_now → third_now ≡ with_text third text → PutsBackInStore near new third_now → HasTextOver old new notes.first text
   first_text near new third_now puts_first third_is puts_third = first_has old out again near new notes first second third text takes (puts_written again near first first_now text first_is puts_first) (puts_written near new third third_now text third_is puts_third)
 
-  pub third_text : (near new : Memory) (third_now : OnLoan) → third_now ≡ written third text → PutsBackInStore near new third_now → HasText old new notes.third text
+  pub third_text : (near new : Memory) (third_now : OnLoan) → third_now ≡ with_text third text → PutsBackInStore near new third_now → HasTextOver old new notes.third text
   third_text near new third_now third_is puts_third = third_has old out near new notes first second third text takes (puts_written near new third third_now text third_is puts_third)
 
-  pub fills : (near new : Memory) (third_now : OnLoan) (calls : List Call) (before after : List Reply) → PutsBackInStore again near first_now → third_now ≡ written third text → PutsBackInStore near new third_now → RunsOnLoan out calls before done → RunsOnLoan back calls after again → FillsMeanwhile old notes text calls before after new
+  pub fills : (near new : Memory) (third_now : OnLoan) (calls : List Call) (before after : List Reply) → PutsBackInStore again near first_now → third_now ≡ with_text third text → PutsBackInStore near new third_now → RunsOnLoan out calls before done → RunsOnLoan back calls after again → FillsMeanwhile old notes text calls before after new
   fills near new third_now calls before after puts_first third_is puts_third runs runs_again = record {
     first = first;
     second = second;

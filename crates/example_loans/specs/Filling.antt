@@ -21,12 +21,12 @@ abbrev pub text_over : List ℕ → List ℕ → List ℕ
 text_over bytes text = overwritten bytes 0 (take (length bytes) text)
 
 -- the loan after a text is written over its first bytes
-abbrev pub written : OnLoan → List ℕ → OnLoan
-written loan text = record loan { part = record loan.part { bytes = text_over loan.part.bytes text } }
+abbrev pub with_text : OnLoan → List ℕ → OnLoan
+with_text loan text = record loan { part = record loan.part { bytes = text_over loan.part.bytes text } }
 
 -- The bytes under a name are those that it had, with a text over the first of them.
-abbrev pub HasText : (old new : Memory) → Name → List ℕ → Type 0
-HasText old new name text = bytes_of ((store_of new.bytes).map name.0) ≡ text_over (bytes_of ((store_of old.bytes).map name.0)) text
+abbrev pub HasTextOver : (old new : Memory) → Name → List ℕ → Type 0
+HasTextOver old new name text = bytes_of ((store_of new.bytes).map name.0) ≡ text_over (bytes_of ((store_of old.bytes).map name.0)) text
 
 -- The bytes under three names were taken out, one after another.
 pub record TakesThree (old new : Memory) (notes : Notes) (first second third : OnLoan) : Type 0 where
@@ -48,15 +48,15 @@ pub record FillsMeanwhile (old : Memory) (notes : Notes) (text : List ℕ) (call
   pub done : Memory
   pub runs : RunsOnLoan out calls before done
   pub second_back : Memory
-  pub puts_second : PutsBackInStore done second_back (written second text)
-  pub second_has : HasText old second_back notes.second text
+  pub puts_second : PutsBackInStore done second_back (with_text second text)
+  pub second_has : HasTextOver old second_back notes.second text
   pub first_stays : IsOutUnder second_back notes.first.0 first.part
   pub third_stays : IsOutUnder second_back notes.third.0 third.part
   pub done_again : Memory
   pub runs_again : RunsOnLoan second_back calls after done_again
   pub first_back : Memory
-  pub puts_first : PutsBackInStore done_again first_back (written first text)
-  pub puts_third : PutsBackInStore first_back new (written third text)
+  pub puts_first : PutsBackInStore done_again first_back (with_text first text)
+  pub puts_third : PutsBackInStore first_back new (with_text third text)
 
 -- Why the bytes of one of three chunks can't be taken out, after those before it were.
 abbrev pub IsWhyNotTaken : Memory → Notes → Refusal → Type 0

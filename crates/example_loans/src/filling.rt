@@ -1,8 +1,8 @@
 //! Fills three chunks while calls run.
 
 ghost use Rattle.std.specs.Prelude.{◌≡◌, IfOk, IfErr, OnErr, OnOk};
-ghost use Rattle.example_loans.specs.Filling.{FillsMeanwhile, HasText, IsWhyNotTaken, IsWhyUnfilled};
-ghost use Rattle.example_loans.specs.Filling.{TakesThree, written};
+ghost use Rattle.example_loans.specs.Filling.{FillsMeanwhile, HasTextOver, IsWhyNotTaken, IsWhyUnfilled};
+ghost use Rattle.example_loans.specs.Filling.{TakesThree, with_text};
 
 use heap_model::{Call, Name, Refusal, Reply};
 use mem_manager::Loan;
@@ -50,8 +50,8 @@ pub(crate) fn fill_meanwhile(
 ) -> Result<(Vec<Reply>, Vec<Reply>), NotFilled>
     ensures filled { IfOk result (λ replies. FillsMeanwhile store.old notes text.now calls.now
         replies.0.items replies.1.items store.new) }
-    ensures first { OnOk result (HasText store.old store.new notes.first text.now) }
-    ensures third { OnOk result (HasText store.old store.new notes.third text.now) }
+    ensures first { OnOk result (HasTextOver store.old store.new notes.first text.now) }
+    ensures third { OnOk result (HasTextOver store.old store.new notes.third text.now) }
     ensures not_filled { IfErr result (IsWhyUnfilled store.old notes) }
     ensures lent { store.new.lents ≡ store.old.lents }
 {
@@ -103,7 +103,7 @@ fn take_three(store: &mut Store, notes: Notes) -> Result<(Loan, Loan, Loan), Ref
 
 /// Writes a text over the first bytes of a loan. Of a longer text it writes what there is room for.
 fn write_front(loan: &mut Loan, text: &[u8])
-    ensures { loan.new ≡ written loan.old text.now }
+    ensures { loan.new ≡ with_text loan.old text.now }
 {
     let count = loan.len().min(text.len());
     loan.write(0, &text[..count]);

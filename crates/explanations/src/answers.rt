@@ -5,48 +5,65 @@ ghost use Rattle.palm_text.specs.Counted.{Writes};
 ghost use Rattle.palm_text.specs.Output.{Puts};
 ghost use Rattle.explanations.specs.Ends.{EndsExplain};
 ghost use Rattle.explanations.specs.Explained as words;
+ghost use Rattle.explanations.specs.Explained.{all_rows, rows_of_sections};
 
-use crate::table::{EXPLANATIONS, Explanation, Topic};
+use crate::table::{Explanation, SECTIONS, Section, Topic, rows_of};
 use itoa::Buffer;
 use palm_text::{Counted, Piece, WriteFault, put_pieces};
 use program_io::{Status, flushed};
 use std::io::Write;
 
-/// Prints the meaning of a word: a line for each row with this name or number. The case of letters
-/// doesn't matter. It returns `BadWords` if there is no row.
-pub fn cmd_explain<V: Write>(word: &[u8], rows: &[Explanation], out: &mut Counted<V>) -> Status
-    ensures { EndsExplain word.now rows.now V.contents out.old out.new result }
+/// Prints the meaning of a word: a line for each row of the table with this name or number. The case
+/// of letters doesn't matter. It returns `BadWords` if there is no row.
+pub fn explain_word<V: Write>(word: &[u8], out: &mut Counted<V>) -> Status
+    ensures ends { EndsExplain word.now all_rows V.contents out.old out.new result }
+    ensures statuses { (result ≡ Status.Done) ⊎ (result ≡ Status.BadWords)
+        ⊎ (result ≡ Status.WriteFault) }
 {
-    if !is_among(word, rows) {
+    explain_by(word, &SECTIONS, out)
+}
+
+/// Prints the meaning of a word, as `explain_word` does, by the rows of some sections.
+fn explain_by<V: Write>(word: &[u8], sections: &[Section], out: &mut Counted<V>) -> Status
+    ensures { EndsExplain word.now (rows_of_sections sections.now) V.contents out.old out.new result }
+{
+    if !is_among_sections(word, sections) {
         return Status::BadWords;
     }
-    match put_flushed(word, rows, out) {
+    match put_flushed(word, sections, out) {
         Ok(()) => Status::Done,
         Err(_) => Status::WriteFault,
     }
-}
-
-/// Prints the meaning of a word, as `cmd_explain` does, by the rows of `EXPLANATIONS`. The prover
-/// spells the table out in each function that names it, so no other function does.
-pub fn explain_word<V: Write>(word: &[u8], out: &mut Counted<V>) -> Status
-    ensures statuses { (result ≡ Status.Done) ⊎ (result ≡ Status.BadWords)
-        ⊎ (result ≡ Status.WriteFault) }
-    ensures unknown { result ≡ Status.BadWords → out.new ≡ out.old }
-{
-    cmd_explain(word, &EXPLANATIONS, out)
 }
 
 /// Writes the lines of the rows of a word, and flushes.
 #[tactic(auto, using(palm_text::proofs::Parts::then_flush))]
 fn put_flushed<V: Write>(
     word: &[u8],
-    rows: &[Explanation],
+    sections: &[Section],
     out: &mut Counted<V>,
 ) -> Result<(), WriteFault>
-    ensures { Puts V.contents out.old out.new (words.answers word.now rows.now) (is_ok result) }
+    ensures { Puts V.contents out.old out.new (words.answers word.now (rows_of_sections sections.now)) (is_ok result) }
 {
-    put_rows(out, word, rows)?;
+    put_sections(out, word, sections)?;
     flushed(out)
+}
+
+/// Writes the lines of the rows of a word, section by section.
+fn put_sections<V: Write>(
+    out: &mut Counted<V>,
+    word: &[u8],
+    sections: &[Section],
+) -> Result<(), WriteFault>
+    ensures { Writes V.contents out.old out.new (words.answers word.now (rows_of_sections sections.now)) (is_ok result) }
+{
+    for section in sections {
+        match put_rows(out, word, rows_of(*section)) {
+            Ok(()) => {}
+            Err(fault) => return Err(fault),
+        }
+    }
+    Ok(())
 }
 
 /// Writes the lines of those rows that have a word as their name or number.
@@ -55,7 +72,7 @@ fn put_rows<V: Write>(
     word: &[u8],
     rows: &[Explanation],
 ) -> Result<(), WriteFault>
-    ensures { Writes V.contents out.old out.new (words.answers word.now rows.now) (is_ok result) }
+    ensures { Writes V.contents out.old out.new (words.answers word.now (words.rows_read rows.now)) (is_ok result) }
 {
     for row in rows {
         match put_asked(out, word, row) {
@@ -73,7 +90,7 @@ fn put_asked<V: Write>(
     word: &[u8],
     row: &Explanation,
 ) -> Result<(), WriteFault>
-    ensures { Writes V.contents out.old out.new (words.line_if_asked word.now row.now) (is_ok result) }
+    ensures { Writes V.contents out.old out.new (words.line_if_asked word.now (words.row_read row.now)) (is_ok result) }
 {
     if is_asked(word, row) {
         put_row(out, row)
@@ -85,7 +102,7 @@ fn put_asked<V: Write>(
 /// Writes the line of a row.
 #[tactic(auto, using(palm_text::proofs::Parts::then, palm_text::proofs::Parts::stops))]
 fn put_row<V: Write>(out: &mut Counted<V>, row: &Explanation) -> Result<(), WriteFault>
-    ensures { Writes V.contents out.old out.new (words.explained_line row.now) (is_ok result) }
+    ensures { Writes V.contents out.old out.new (words.explained_line (words.row_read row.now)) (is_ok result) }
 {
     put_number(out, row.0.number)?;
     put_pieces(
@@ -127,9 +144,23 @@ fn topic_text(topic: Topic) -> &'static [u8]
     }
 }
 
+/// Returns whether a word is the name or number of a row of some sections.
+#[tactic(auto, using(crate::proofs::Rows::among_at))]
+fn is_among_sections(word: &[u8], sections: &[Section]) -> bool
+    ensures { result ≡ words.is_among word.now (rows_of_sections sections.now) }
+{
+    for section in sections {
+        if is_among(word, rows_of(*section)) {
+            return true;
+        }
+    }
+    false
+}
+
 /// Returns whether a word is the name or number of one of some rows.
+#[tactic(auto, using(crate::proofs::Rows::among_row))]
 fn is_among(word: &[u8], rows: &[Explanation]) -> bool
-    ensures { result ≡ words.is_among word.now rows.now }
+    ensures { result ≡ words.is_among word.now (words.rows_read rows.now) }
 {
     for row in rows {
         if is_asked(word, row) {
@@ -141,7 +172,7 @@ fn is_among(word: &[u8], rows: &[Explanation]) -> bool
 
 /// Returns whether a word is the name or number of a row. The case of letters doesn't matter.
 fn is_asked(word: &[u8], row: &Explanation) -> bool
-    ensures { result ≡ words.is_asked word.now row.now }
+    ensures { result ≡ words.is_asked word.now (words.row_read row.now) }
 {
     row.1.0.as_bytes().eq_ignore_ascii_case(word) || is_number(row.0.number, word)
 }

@@ -1,5 +1,8 @@
 //! The rows of the table.
 
+ghost use Rattle.std.specs.Prelude.{◌≡◌};
+ghost use Rattle.explanations.specs.Explained as words;
+
 /// What a row is about.
 #[derive(Clone, Copy)]
 pub enum Topic {
@@ -71,9 +74,8 @@ const ABOUT_CHANGE: Heading = Heading {
     number: None,
 };
 
-/// Every fault, change and refusal: the faults in the order of their topics, the refusals by their
-/// numbers.
-pub const EXPLANATIONS: [Explanation; 63] = [
+/// The faults of an image.
+static IMAGE_ROWS: [Explanation; 12] = [
     (
         ABOUT_IMAGE,
         (
@@ -185,6 +187,10 @@ pub const EXPLANATIONS: [Explanation; 63] = [
             ),
         ),
     ),
+];
+
+/// The faults of the databases of an image.
+static DATABASE_ROWS: [Explanation; 8] = [
     (
         ABOUT_DATABASES,
         (
@@ -276,6 +282,10 @@ pub const EXPLANATIONS: [Explanation; 63] = [
             ),
         ),
     ),
+];
+
+/// The faults of a PDB or PRC file.
+static FILE_ROWS: [Explanation; 5] = [
     (
         ABOUT_FILE,
         (
@@ -320,6 +330,10 @@ pub const EXPLANATIONS: [Explanation; 63] = [
             ),
         ),
     ),
+];
+
+/// The faults of a line.
+static LINE_ROWS: [Explanation; 3] = [
     (
         ABOUT_LINE,
         (
@@ -354,6 +368,10 @@ pub const EXPLANATIONS: [Explanation; 63] = [
             ),
         ),
     ),
+];
+
+/// The faults of a size or a slot count, and of a file or an image that would be too large.
+static SIZE_ROWS: [Explanation; 3] = [
     (
         ABOUT_BLANK,
         (
@@ -384,6 +402,10 @@ pub const EXPLANATIONS: [Explanation; 63] = [
             ),
         ),
     ),
+];
+
+/// The changes in a rewritten file.
+static CHANGE_ROWS: [Explanation; 5] = [
     (
         ABOUT_CHANGE,
         (
@@ -434,6 +456,10 @@ pub const EXPLANATIONS: [Explanation; 63] = [
             ),
         ),
     ),
+];
+
+/// The refusals 1 to 9.
+static FIRST_CALL_ROWS: [Explanation; 9] = [
     (
         Heading {
             topic: Topic::Call,
@@ -531,6 +557,10 @@ pub const EXPLANATIONS: [Explanation; 63] = [
             ),
         ),
     ),
+];
+
+/// The refusals 10 to 18.
+static NEXT_CALL_ROWS: [Explanation; 9] = [
     (
         Heading {
             topic: Topic::Call,
@@ -621,6 +651,10 @@ pub const EXPLANATIONS: [Explanation; 63] = [
             ),
         ),
     ),
+];
+
+/// The refusals from 19 on.
+static LAST_CALL_ROWS: [Explanation; 9] = [
     (
         Heading {
             topic: Topic::Call,
@@ -725,3 +759,103 @@ pub const EXPLANATIONS: [Explanation; 63] = [
         ),
     ),
 ];
+
+/// A section of the table. No function names all rows: the prover spells out each constant that a
+/// function names.
+#[derive(Clone, Copy, Debug, PartialEq, Eq)]
+pub enum Section {
+    Images,
+    Databases,
+    Files,
+    Lines,
+    Sizes,
+    Changes,
+    FirstCalls,
+    NextCalls,
+    LastCalls,
+}
+
+/// All sections: the faults in the order of their topics, then the changes, then the refusals by their
+/// numbers.
+pub(crate) const SECTIONS: [Section; 9] = [
+    Section::Images,
+    Section::Databases,
+    Section::Files,
+    Section::Lines,
+    Section::Sizes,
+    Section::Changes,
+    Section::FirstCalls,
+    Section::NextCalls,
+    Section::LastCalls,
+];
+
+/// Returns the rows of a section.
+pub(crate) fn rows_of(section: Section) -> &'static [Explanation]
+    ensures { words.rows_read result.now ≡ words.section_rows section }
+{
+    match section {
+        Section::Images => image_rows(),
+        Section::Databases => database_rows(),
+        Section::Files => file_rows(),
+        Section::Lines => line_rows(),
+        Section::Sizes => size_rows(),
+        Section::Changes => change_rows(),
+        Section::FirstCalls => first_call_rows(),
+        Section::NextCalls => next_call_rows(),
+        Section::LastCalls => last_call_rows(),
+    }
+}
+
+fn image_rows() -> &'static [Explanation]
+    ensures { words.rows_read result.now ≡ words.section_rows Section.Images }
+{
+    &IMAGE_ROWS
+}
+
+fn database_rows() -> &'static [Explanation]
+    ensures { words.rows_read result.now ≡ words.section_rows Section.Databases }
+{
+    &DATABASE_ROWS
+}
+
+fn file_rows() -> &'static [Explanation]
+    ensures { words.rows_read result.now ≡ words.section_rows Section.Files }
+{
+    &FILE_ROWS
+}
+
+fn line_rows() -> &'static [Explanation]
+    ensures { words.rows_read result.now ≡ words.section_rows Section.Lines }
+{
+    &LINE_ROWS
+}
+
+fn size_rows() -> &'static [Explanation]
+    ensures { words.rows_read result.now ≡ words.section_rows Section.Sizes }
+{
+    &SIZE_ROWS
+}
+
+fn change_rows() -> &'static [Explanation]
+    ensures { words.rows_read result.now ≡ words.section_rows Section.Changes }
+{
+    &CHANGE_ROWS
+}
+
+fn first_call_rows() -> &'static [Explanation]
+    ensures { words.rows_read result.now ≡ words.section_rows Section.FirstCalls }
+{
+    &FIRST_CALL_ROWS
+}
+
+fn next_call_rows() -> &'static [Explanation]
+    ensures { words.rows_read result.now ≡ words.section_rows Section.NextCalls }
+{
+    &NEXT_CALL_ROWS
+}
+
+fn last_call_rows() -> &'static [Explanation]
+    ensures { words.rows_read result.now ≡ words.section_rows Section.LastCalls }
+{
+    &LAST_CALL_ROWS
+}

@@ -1,7 +1,6 @@
 //! The command `canonical`.
 
-ghost use Rattle.std.specs.Prelude.{◌≡◌, ◌≢◌, ◌≤◌, length, false, Err, IfErr, IfOk, IsTrue, OnOk};
-ghost use Rattle.heap_model.specs.Files.{HasNoFault};
+ghost use Rattle.std.specs.Prelude.{◌≡◌, ◌≢◌, ◌≤◌, length, false, Err, IfErr, IfOk, IsTrue, OnErr};
 ghost use Rattle.canonical_file.specs.Canonical.{GetsIds, IsCanonical, IsCanonicalFault, WritesCanonical, WroteCanonical, most_bytes};
 ghost use Rattle.canonical_file.specs.Changes.{is_none};
 ghost use Rattle.canonical_file.specs.Given.{AreGivenIn};
@@ -10,10 +9,11 @@ ghost use Rattle.file_commands.specs.Ends.{EndsCanonical, PutsPart, WroteWhole};
 use crate::faults::{Rewritten, put_rewritten, say_fault};
 use allowance::Allowance;
 use canonical_file::{CanonicalFault, Changes, changes_by, put_canonical_by};
-use file_ids::{GivenIds, give_ids_from};
+use file_ids::{GivenIds, give_ids};
 use palm_text::{Counted, put_all};
-use pdb_format::check_file;
+use pdb_format::{OpenFault, PdbFile};
 use program_io::{Status, flushed};
+use std::alloc::AllocError;
 use std::io::Write;
 
 /// Writes the canonical form of a file to `file_out`. Then prints `ok` and its size to `out`, and
@@ -58,22 +58,44 @@ fn put_flushed<A: Allowance, W: Write>(
         → PutsPart file.now W.contents file_out.old file_out.new }
     ensures short { result ≡ Err CanonicalFault.OutOfMemory → A.is_short memory.now }
 {
-    match ids_of(memory, file) {
-        Ok(given) => put_by_ids(memory, file, &given, file_out),
-        Err(fault) => Err(fault),
+    match PdbFile::open(memory, file) {
+        Ok(file) => put_opened(memory, &file, file_out),
+        Err(OpenFault::BadFile(fault)) => Err(CanonicalFault::BadFile(fault)),
+        Err(OpenFault::OutOfMemory) => Err(CanonicalFault::OutOfMemory),
     }
 }
 
-/// The same as `put_flushed`, for a file without fault and the IDs that its records get.
+/// The same as `put_flushed`, for a file that is opened.
+fn put_opened<A: Allowance, W: Write>(
+    memory: &A,
+    file: &PdbFile<'_>,
+    file_out: &mut Counted<W>,
+) -> Result<Rewritten, CanonicalFault>
+    requires { length file.now ≤ most_bytes }
+    ensures done { IfOk result (WroteWhole file.now W.contents file_out.old file_out.new) }
+    ensures why { IfErr result (IsCanonicalFault file.now) }
+    ensures untouched { IfErr result (λ fault.
+        fault ≢ CanonicalFault.Write → file_out.new ≡ file_out.old) }
+    ensures write { result ≡ Err CanonicalFault.Write
+        → PutsPart file.now W.contents file_out.old file_out.new }
+    ensures short { result ≡ Err CanonicalFault.OutOfMemory → A.is_short memory.now }
+{
+    let _ = file.bytes();
+    match ids_of(memory, file) {
+        Ok(given) => put_by_ids(memory, file, &given, file_out),
+        Err(_) => Err(CanonicalFault::OutOfMemory),
+    }
+}
+
+/// The same as `put_opened`, with the IDs that the file's records get.
 #[tactic(auto, using(crate::proofs::Printed::puts_whole, crate::proofs::Printed::flush_fails, crate::proofs::Printed::canonical_stops))]
 fn put_by_ids<A: Allowance, W: Write>(
     memory: &A,
-    file: &[u8],
+    file: &PdbFile<'_>,
     given: &GivenIds,
     file_out: &mut Counted<W>,
 ) -> Result<Rewritten, CanonicalFault>
     requires short { length file.now ≤ most_bytes }
-    requires good { HasNoFault file.now }
     requires ids { GetsIds file.now given.now }
     requires given { AreGivenIn file.now given.now.ids.items given.now.seed }
     ensures done { IfOk result (WroteWhole file.now W.contents file_out.old file_out.new) }
@@ -84,6 +106,7 @@ fn put_by_ids<A: Allowance, W: Write>(
         → PutsPart file.now W.contents file_out.old file_out.new }
     ensures short { result ≡ Err CanonicalFault.OutOfMemory → A.is_short memory.now }
 {
+    let _ = file.bytes();
     let changes = changes_by(file, given);
     let count = put_form(memory, file, given, changes, file_out)?;
     match flushed(file_out) {
@@ -97,13 +120,12 @@ fn put_by_ids<A: Allowance, W: Write>(
 #[tactic(auto, using(crate::proofs::Printed::wrote_same, crate::proofs::Printed::cut_same))]
 fn put_form<A: Allowance, W: Write>(
     memory: &A,
-    file: &[u8],
+    file: &PdbFile<'_>,
     given: &GivenIds,
     changes: Changes,
     file_out: &mut Counted<W>,
 ) -> Result<usize, CanonicalFault>
     requires short { length file.now ≤ most_bytes }
-    requires good { HasNoFault file.now }
     requires ids { GetsIds file.now given.now }
     requires same { IsTrue (is_none changes) → IsCanonical file.now file.now }
     ensures done { IfOk result (WroteCanonical file.now W.contents file_out.old file_out.new) }
@@ -117,27 +139,21 @@ fn put_form<A: Allowance, W: Write>(
     if !changes.is_none() {
         return put_canonical_by(memory, file, given, file_out);
     }
-    match put_all(file_out, file) {
-        Ok(()) => Ok(file.len()),
+    let bytes = file.bytes();
+    match put_all(file_out, bytes) {
+        Ok(()) => Ok(bytes.len()),
         Err(_) => Err(CanonicalFault::Write),
     }
 }
 
 /// Returns the IDs that the records of a file get when it is rewritten.
-fn ids_of<A: Allowance>(memory: &A, file: &[u8]) -> Result<GivenIds, CanonicalFault>
-    requires { length file.now ≤ most_bytes }
+fn ids_of<A: Allowance>(memory: &A, file: &PdbFile<'_>) -> Result<GivenIds, AllocError>
     ensures ids { IfOk result (GetsIds file.now) }
     ensures given { IfOk result (λ given. AreGivenIn file.now given.ids.items given.seed) }
-    ensures good { OnOk result (HasNoFault file.now) }
-    ensures why { IfErr result (IsCanonicalFault file.now) }
-    ensures writes_nothing { result ≢ Err CanonicalFault.Write }
-    ensures short { result ≡ Err CanonicalFault.OutOfMemory → A.is_short memory.now }
+    ensures short { OnErr result (A.is_short memory.now) }
 {
-    if let Err(fault) = check_file(file) {
-        return Err(CanonicalFault::BadFile(fault));
-    }
-    match give_ids_from(memory, file) {
+    match give_ids(memory, file) {
         Ok(given) => Ok(given),
-        Err(_) => Err(CanonicalFault::OutOfMemory),
+        Err(fault) => Err(fault),
     }
 }

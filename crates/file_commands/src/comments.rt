@@ -8,32 +8,45 @@ use command_files::{input_name, report_line_hint, suggest_check};
 use file_listing::damage_of;
 use file_parts::read_listed;
 use heap_model::Bytes;
-use hints::{MAC_HEADER_SIZE, looks_like_image, looks_like_mac, looks_like_page, parts_hint};
-use pdb_format::check_file;
+use hints::{
+    MAC_HEADER_SIZE, looks_like_image, looks_like_mac, looks_like_page, parts_hint, without_returns,
+};
+use pdb_format::{PdbFile, check_file};
 use program_io::{MOST_INPUT, Status};
 
 /// Reports on standard error how many bytes of a file a rewrite drops. It reports nothing if the
 /// command isn't done. `end` ends each line: whether the bytes were dropped, or would be.
-pub(crate) fn name_dropped<R: Eprint>(rt: &R, path: &str, status: Status, file: &[u8], end: &str) {
+pub(crate) fn name_dropped<R: Eprint + AllocGlobal>(
+    rt: &R,
+    path: &str,
+    status: Status,
+    file: &[u8],
+    end: &str,
+) {
     if status != Status::Done {
         return;
     }
-    let Ok(()) = check_file(file) else {
+    let Ok(file) = PdbFile::open(&rt.alloc(), file) else {
         return;
     };
     let name = input_name(path);
-    let filler = dropped_filler(file);
+    let filler = dropped_filler(&file);
     if filler > 0 {
         let _ = eprintln!(rt; "{name}: filler, {filler} bytes {end}");
     }
-    let after = dropped_name(file);
+    let after = dropped_name(&file);
     if after > 0 {
         let _ = eprintln!(rt; "{name}: after the name, {after} bytes {end}");
     }
 }
 
 /// Reports the same as `name_dropped` for each of some files that were rewritten.
-pub fn name_each_dropped<R: Eprint>(rt: &R, paths: &[&str], status: Status, files: &[Bytes]) {
+pub fn name_each_dropped<R: Eprint + AllocGlobal>(
+    rt: &R,
+    paths: &[&str],
+    status: Status,
+    files: &[Bytes],
+) {
     for (path, file) in paths.iter().zip(files) {
         name_dropped(rt, path, status, file.as_slice(), DROPPED);
     }
@@ -48,7 +61,12 @@ pub(crate) const WOULD_BE_DROPPED: &str = "that a rewrite drops";
 /// Reports the same as `suggest_check`. If the file doesn't look like an image, but was refused, it
 /// reports the number at the file's first fault, the numbers that are allowed there, and what a
 /// transfer may have made of the file.
-pub(crate) fn comment_on_file<R: Eprint>(rt: &R, path: &str, status: Status, file: &[u8])
+pub(crate) fn comment_on_file<R: Eprint + AllocGlobal>(
+    rt: &R,
+    path: &str,
+    status: Status,
+    file: &[u8],
+)
     requires { length file.now ≤ MOST_INPUT }
 {
     if looks_like_image(file) {
@@ -63,7 +81,7 @@ pub(crate) fn comment_on_file<R: Eprint>(rt: &R, path: &str, status: Status, fil
 }
 
 /// Reports what a transfer may have made of a file.
-fn name_transfer<R: Eprint>(rt: &R, path: &str, file: &[u8]) {
+fn name_transfer<R: Eprint + AllocGlobal>(rt: &R, path: &str, file: &[u8]) {
     let name = input_name(path);
     if looks_like_page(file) {
         let _ = eprintln!(rt;
@@ -73,6 +91,19 @@ fn name_transfer<R: Eprint>(rt: &R, path: &str, file: &[u8]) {
         let _ = eprintln!(rt;
             "{name} begins with {MAC_HEADER_SIZE} bytes of MacBinary: 'tail -c +129' gives the file after them"
         );
+    } else if is_converted(rt, file) {
+        let _ = eprintln!(rt;
+            "{name} was transferred as text, with a byte 0d before each 0a: 'perl -pe \"s/\\r\\n/\\n/\"' undoes it"
+        );
+    }
+}
+
+/// Returns whether a file is what a transfer as text makes of a file without a fault. If an
+/// allocation fails, it returns `false`.
+fn is_converted<R: AllocGlobal>(rt: &R, file: &[u8]) -> bool {
+    match without_returns(&rt.alloc(), file) {
+        Ok(Some(original)) => check_file(original.as_slice()).is_ok(),
+        Ok(None) | Err(_) => false,
     }
 }
 

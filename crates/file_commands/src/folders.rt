@@ -58,7 +58,7 @@ fn unpack_to<R: Files + Print + Eprint + AllocGlobal>(rt: &R, file: &[u8], folde
         Ok(unpacked) => unpacked,
         Err(status) => return reported(rt, status, out),
     };
-    match make_folder(rt, folder, file, &unpacked) {
+    match make_folder(rt, folder, &unpacked) {
         Ok(count) => {
             let status = say_count(count, &mut out);
             reported(rt, status, out)
@@ -162,10 +162,9 @@ fn part_path(alloc: Global, folder: &str, name: PartName) -> Result<String, Allo
 fn make_folder<R: Files + Eprint + AllocGlobal>(
     rt: &R,
     folder: &str,
-    file: &[u8],
-    unpacked: &Unpacked,
+    unpacked: &Unpacked<'_>,
 ) -> Result<usize, Status>
-    requires { IsUnpacked file.now unpacked.now }
+    requires { IsUnpacked unpacked.now }
     ensures { IfErr result (λ status. (status ≡ Status.WriteFault) ⊎ (status ≡ Status.NoMemory)) }
 {
     if let Err(reason) = fs::create_dir(rt, folder) {
@@ -173,14 +172,14 @@ fn make_folder<R: Files + Eprint + AllocGlobal>(
         return Err(Status::WriteFault);
     }
     let mut made = Made { ranks: 0, files: 0 };
-    let mut status = write_parts(rt, folder, file, unpacked, &mut made);
+    let mut status = write_parts(rt, folder, unpacked, &mut made);
     if status == Status::Done {
-        status = write_text(rt, folder, file, unpacked);
+        status = write_text(rt, folder, unpacked);
     }
     if status == Status::Done {
         return Ok(made.files + 1);
     }
-    remove_parts(rt, folder, file, unpacked, made.ranks);
+    remove_parts(rt, folder, unpacked, made.ranks);
     let _ = fs::remove_dir(rt, folder);
     Err(status)
 }
@@ -197,20 +196,19 @@ struct Made {
 fn write_parts<R: Files + Eprint + AllocGlobal>(
     rt: &R,
     folder: &str,
-    file: &[u8],
-    unpacked: &Unpacked,
+    unpacked: &Unpacked<'_>,
     made: &mut Made,
 ) -> Status
-    requires unpacked { IsUnpacked file.now unpacked.now }
     requires none { made.old.ranks ≡ 0 }
     requires no_files { made.old.files ≡ 0 }
     ensures statuses { (result ≡ Status.Done) ⊎ (result ≡ Status.WriteFault)
         ⊎ (result ≡ Status.NoMemory) }
-    ensures inside { made.new.ranks ≤ length (blocks_in file.now) }
+    ensures inside { made.new.ranks ≤ length (blocks_in unpacked.now.file) }
     ensures few { made.new.files ≤ made.new.ranks }
+    ensures most { made.new.ranks ≤ 65537 }
 {
     for rank in 0..unpacked.rank_count() {
-        if let Some(part) = unpacked.part(file, rank) {
+        if let Some(part) = unpacked.part(rank) {
             let status = write_part(rt, folder, part);
             if status != Status::Done {
                 return status;
@@ -253,10 +251,9 @@ fn write_new<R: Files>(rt: &R, path: &str, bytes: &[u8]) -> io::Result<()> {
 fn write_text<R: Files + Eprint + AllocGlobal>(
     rt: &R,
     folder: &str,
-    file: &[u8],
-    unpacked: &Unpacked,
+    unpacked: &Unpacked<'_>,
 ) -> Status
-    requires { IsUnpacked file.now unpacked.now }
+    requires { IsUnpacked unpacked.now }
     ensures { (result ≡ Status.Done) ⊎ (result ≡ Status.WriteFault) ⊎ (result ≡ Status.NoMemory) }
 {
     let Ok(path) = path_in(rt.alloc(), folder, TEXT_NAME) else {
@@ -265,7 +262,7 @@ fn write_text<R: Files + Eprint + AllocGlobal>(
     let Ok(unfinished) = path_in(rt.alloc(), folder, UNFINISHED_TEXT) else {
         return fail(rt, Status::NoMemory);
     };
-    let (mut status, mut fault) = write_lines_to(rt, unfinished.as_str(), file, unpacked);
+    let (mut status, mut fault) = write_lines_to(rt, unfinished.as_str(), unpacked);
     if status == Status::Done {
         if let Err(reason) = fs::rename(rt, unfinished.as_str(), path.as_str()) {
             status = Status::WriteFault;
@@ -284,15 +281,14 @@ fn write_text<R: Files + Eprint + AllocGlobal>(
 fn write_lines_to<R: Files + AllocGlobal>(
     rt: &R,
     path: &str,
-    file: &[u8],
-    unpacked: &Unpacked,
+    unpacked: &Unpacked<'_>,
 ) -> (Status, Option<io::Error>)
-    requires { IsUnpacked file.now unpacked.now }
+    requires { IsUnpacked unpacked.now }
     ensures { (result.0 ≡ Status.Done) ⊎ (result.0 ≡ Status.WriteFault)
         ⊎ (result.0 ≡ Status.NoMemory) }
 {
     match File::create_new(rt, path) {
-        Ok(created) => write_lines(rt, created, file, unpacked),
+        Ok(created) => write_lines(rt, created, unpacked),
         Err(reason) => (Status::WriteFault, Some(reason)),
     }
 }
@@ -301,10 +297,9 @@ fn write_lines_to<R: Files + AllocGlobal>(
 fn write_lines<R: AllocGlobal, W: Write + Drop>(
     rt: &R,
     created: W,
-    file: &[u8],
-    unpacked: &Unpacked,
+    unpacked: &Unpacked<'_>,
 ) -> (Status, Option<io::Error>)
-    requires { IsUnpacked file.now unpacked.now }
+    requires { IsUnpacked unpacked.now }
     ensures { (result.0 ≡ Status.Done) ⊎ (result.0 ≡ Status.WriteFault)
         ⊎ (result.0 ≡ Status.NoMemory) }
 {
@@ -312,7 +307,7 @@ fn write_lines<R: AllocGlobal, W: Write + Drop>(
         return (Status::NoMemory, None);
     };
     let mut text = Counted::new(text);
-    let status = match put_database(&mut text, file, unpacked) {
+    let status = match put_database(&mut text, unpacked) {
         Ok(()) => match text.flush() {
             Ok(()) => Status::Done,
             Err(_) => Status::WriteFault,
@@ -323,18 +318,11 @@ fn write_lines<R: AllocGlobal, W: Write + Drop>(
 }
 
 /// Removes the parts of the first ranks from a folder.
-fn remove_parts<R: Files + AllocGlobal>(
-    rt: &R,
-    folder: &str,
-    file: &[u8],
-    unpacked: &Unpacked,
-    ranks: usize,
-)
-    requires unpacked { IsUnpacked file.now unpacked.now }
-    requires inside { ranks ≤ length (blocks_in file.now) }
+fn remove_parts<R: Files + AllocGlobal>(rt: &R, folder: &str, unpacked: &Unpacked<'_>, ranks: usize)
+    requires { ranks ≤ length (blocks_in unpacked.now.file) }
 {
     for rank in 0..ranks {
-        if let Some(part) = unpacked.part(file, rank) {
+        if let Some(part) = unpacked.part(rank) {
             if let Ok(path) = part_path(rt.alloc(), folder, part.name) {
                 let _ = fs::remove_file(rt, path.as_str());
             }

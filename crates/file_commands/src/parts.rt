@@ -32,14 +32,15 @@ use std::io::Write;
 /// - `WriteFault`: if the file has a fault, and a write or a flush of its lines failed.
 /// - `NoMemory`: if an allocation failed.
 #[tactic(auto, using(crate::proofs::PartStatuses::not_unpacked))]
-pub fn unpack_file<A: Allowance, V: Write>(
+pub fn unpack_file<'a, A: Allowance, V: Write>(
     memory: &A,
-    file: &[u8],
+    file: &'a [u8],
     out: &mut Counted<V>,
-) -> Result<Unpacked, Status>
+) -> Result<Unpacked<'a>, Status>
     requires { length file.now ≤ most_bytes }
-    ensures done { IfOk result (IsUnpacked file.now) }
-    ensures reads { IfOk result (λ unpacked. Reads file.now (database_of file.now unpacked)) }
+    ensures same { IfOk result (λ unpacked. unpacked.file ≡ file.now) }
+    ensures done { IfOk result IsUnpacked }
+    ensures reads { IfOk result (λ unpacked. Reads unpacked.file (database_of unpacked)) }
     ensures silent { OnOk result (out.new ≡ out.old) }
     ensures not { IfErr result (NotUnpacked file.now V.contents out.old out.new) }
     ensures short { result ≡ Err Status.NoMemory → A.is_short memory.now }

@@ -6,15 +6,15 @@ ghost use Rattle.heap_model.specs.Database.{resources_in, entry_count_in, header
 ghost use Rattle.heap_model.specs.Store.{unique_ids};
 ghost use Rattle.heap_model.specs.UniqueIds.{greatest_id, seed_in};
 ghost use Rattle.heap_model.specs.EntrySteps.{most_entries};
-ghost use Rattle.heap_model.specs.Files.{HasNoFault, HaveIds};
+ghost use Rattle.heap_model.specs.Files.{HaveIds};
 ghost use Rattle.bit_sets.specs.Sets.{HasNone};
-ghost use Rattle.allowance.specs.Refusals.{GrowthRefused};
 
 use crate::fresh::give_fresh;
 use crate::kept::keep_ids;
 use allowance::{Allowance, filled, zeros};
-use db_format::{GREATEST_ID, entry_count, has_resources};
-use std::alloc::{AllocError, Global};
+use db_format::GREATEST_ID;
+use pdb_format::PdbFile;
+use std::alloc::AllocError;
 
 /// The IDs of the records of a file, in their order, and the seed after the last of them. The seed
 /// has 24 bits.
@@ -31,27 +31,8 @@ pub struct GivenIds {
 ///
 /// # Errors
 ///
-/// - `AllocError`: if an allocation failed.
-pub fn give_ids(alloc: Global, file: &[u8]) -> Result<GivenIds, AllocError>
-    requires { HasNoFault file.now }
-    ensures given { IfOk result (λ given. HaveIds (seed_in (header_in file.now).seed)
-        (unique_ids (database_in file.now)) given.ids.items given.seed) }
-    ensures fit { IfOk result (λ given.
-        All (λ id. (0 < id) × (id ≤ greatest_id)) given.ids.items) }
-    ensures distinct { IfOk result (λ given. Distinct given.ids.items) }
-    ensures seed { IfOk result (λ given. given.seed ≤ greatest_id) }
-    ensures short { OnErr result GrowthRefused }
-{
-    give_ids_from(&alloc, file)
-}
-
-/// The same as `give_ids`. Each allocation asks `memory` for a grant.
-///
-/// # Errors
-///
 /// - `AllocError`: if `memory` refused a grant, or an allocation failed.
-pub fn give_ids_from<A: Allowance>(memory: &A, file: &[u8]) -> Result<GivenIds, AllocError>
-    requires { HasNoFault file.now }
+pub fn give_ids<A: Allowance>(memory: &A, file: &PdbFile<'_>) -> Result<GivenIds, AllocError>
     ensures given { IfOk result (λ given. HaveIds (seed_in (header_in file.now).seed)
         (unique_ids (database_in file.now)) given.ids.items given.seed) }
     ensures fit { IfOk result (λ given.
@@ -60,30 +41,21 @@ pub fn give_ids_from<A: Allowance>(memory: &A, file: &[u8]) -> Result<GivenIds, 
     ensures seed { IfOk result (λ given. given.seed ≤ greatest_id) }
     ensures short { OnErr result (A.is_short memory.now) }
 {
-    if has_resources(file) {
+    if file.has_resources() {
         return Ok(GivenIds {
             ids: Vec::new(memory.allocator()),
-            seed: first_seed(file),
+            seed: file.seed(),
         });
     }
     let mut taken = set_for(memory, GREATEST_ID as usize / 8 + 1)?;
-    let mut ids = zeros_for(memory, entry_count(file))?;
+    let mut ids = zeros_for(memory, file.entry_count())?;
     let seed = put_ids(file, &mut taken, &mut ids);
     Ok(GivenIds { ids, seed })
 }
 
-/// Returns the seed of a file: the low 24 bits of its field.
-fn first_seed(file: &[u8]) -> u32
-    requires { HasNoFault file.now }
-    ensures { result ≡ seed_in (header_in file.now).seed }
-{
-    db_format::seed(file) & GREATEST_ID
-}
-
 /// Writes the ID of each record into `ids`, and returns the new seed. At first all of `ids` are 0,
 /// and the set `taken` is empty.
-fn put_ids(file: &[u8], taken: &mut [u8], ids: &mut [u32]) -> u32
-    requires good { HasNoFault file.now }
+fn put_ids(file: &PdbFile<'_>, taken: &mut [u8], ids: &mut [u32]) -> u32
     requires records { resources_in file.now ≡ false }
     requires bits { greatest_id < 8 * length taken.old }
     requires empty { HasNone taken.old }
@@ -97,7 +69,7 @@ fn put_ids(file: &[u8], taken: &mut [u8], ids: &mut [u32]) -> u32
     ensures seed { result ≤ greatest_id }
 {
     keep_ids(file, taken, ids);
-    give_fresh(taken, ids, first_seed(file))
+    give_fresh(taken, ids, file.seed())
 }
 
 /// Allocates an empty set of `size` bytes.

@@ -10,4 +10,4 @@ mod fresh;
 mod give;
 mod kept;
 
-pub use give::{GivenIds, give_ids, give_ids_from};
+pub use give::{GivenIds, give_ids};

@@ -1,5 +1,4 @@
 pub mod EntryLines
-pub mod Infos
 pub mod Listings
 pub mod Places
 pub mod Allowed

@@ -9,7 +9,7 @@ use Rattle.file_listing.specs.declared.parts.Parts.{Parts}
 use Rattle.file_listing.specs.Listing.{IsListing, WritesListing}
 use Rattle.file_listing.specs.Parts.{HasParts, lines_by}
 
-pub header_is : (file : List ℕ) (header : DbHeader) → IsHeaderOf (database_in file) header → header_values header ≡ header_in file
+header_is : (file : List ℕ) (header : DbHeader) → IsHeaderOf (database_in file) header → header_values header ≡ header_in file
 unfolding database_in
 header_is file header has = has.values
 

@@ -8,7 +8,7 @@ use Rattle.heap_model.specs.Database.{DatabaseHeader, Entry, a_record, a_resourc
 use Rattle.heap_model.specs.Files.{offsets_in, blocks_in}
 use Rattle.palm_text.specs.Pieces.{script_spelled}
 use Rattle.palm_text.specs.Counted.{Writing, Writes}
-use Rattle.code_page.specs.Texts.{text_between}
+use Rattle.unicode_text.specs.Texts.{text_between}
 use Rattle.canonical_file.specs.declared.changes.Changes.{Changes}
 use Rattle.canonical_file.specs.Changes.{AreChanges, changes_line}
 use Rattle.canonical_file.specs.Needs.{least_slots, least_size_for}

@@ -1,7 +1,6 @@
 -- The parts of a listing that are made before its lines are written.
 use Rattle.std.specs.Prelude.{◌++◌, ℕ, List, length, string_bytes}
 use Rattle.heap_model.specs.Database.{DatabaseHeader, header_in}
-use Rattle.canonical_file.specs.Canonical.{HasBlocks}
 use Rattle.canonical_file.specs.Changes.{AreChanges}
 use Rattle.file_listing.specs.declared.moments.Moments.{Moments}
 use Rattle.file_listing.specs.declared.parts.Parts.{Parts}
@@ -14,9 +13,8 @@ pub record AreMoments (header : DatabaseHeader) (moments : Moments) : Type 0 whe
   pub modified : IsMomentText header.modification_date (string_bytes moments.modified)
   pub backup : IsMomentText header.backup_date (string_bytes moments.backup)
 
--- these are the blocks of a file, the texts of its moments, and its changes
+-- these are the texts of the moments of a file, and its changes
 pub record HasParts (file : List ℕ) (parts : Parts) : Type 0 where
-  pub blocks : HasBlocks file parts.blocks.items
   pub moments : AreMoments (header_in file) parts.moments
   pub changes : AreChanges file parts.changes
 

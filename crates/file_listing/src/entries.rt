@@ -6,13 +6,13 @@ ghost use Rattle.db_format.specs.EitherEntry.{entry_of};
 ghost use Rattle.palm_text.specs.Counted.{Writes};
 ghost use Rattle.palm_text.specs.Pieces.{piece_text};
 ghost use Rattle.pdb_format.specs.Blocks.{IsBlockWithin, bytes_at};
-ghost use Rattle.canonical_file.specs.Canonical.{HasBlocks, most_bytes};
+ghost use Rattle.canonical_file.specs.Canonical.{most_bytes};
 ghost use Rattle.file_listing.specs.Listing as listing;
 ghost use Rattle.file_listing.specs.Listing.{entry_count_line, entry_listing, entry_listings, entry_value, list_lines};
 
-use db_format::{DbEntry, INFO_BLOCKS, entry_count, has_resources};
+use db_format::{DbEntry, INFO_BLOCKS};
 use palm_text::{Counted, Piece, WriteFault, put_pieces};
-use pdb_format::Block;
+use pdb_format::{Block, PdbFile};
 use std::io::Write;
 
 /// Returns the attributes of a record, or the type of a resource.
@@ -38,7 +38,7 @@ fn id_of(entry: DbEntry) -> u32
 /// Writes the line of an entry.
 fn put_entry<W: Write>(
     out: &mut Counted<W>,
-    file: &[u8],
+    file: &PdbFile<'_>,
     index: u16,
     entry: DbEntry,
     block: Option<Block>,
@@ -81,35 +81,24 @@ fn put_entry<W: Write>(
 /// Writes the line of the entry at an index.
 fn put_entry_at<W: Write>(
     out: &mut Counted<W>,
-    file: &[u8],
-    blocks: &[Option<Block>],
+    file: &PdbFile<'_>,
     index: u16,
 ) -> Result<(), WriteFault>
-    requires blocks { HasBlocks file.now blocks.now }
+    requires short { length file.now ≤ most_bytes }
     requires inside { index < entry_count_in file.now }
     ensures { Writes W.contents out.old out.new (listing.entry_listing_at file.now index) (is_ok result) }
 {
-    let entry = DbEntry::read(file, index);
-    put_entry(
-        out,
-        file,
-        index,
-        entry,
-        blocks[INFO_BLOCKS + index as usize],
-    )
+    let block = file.block(INFO_BLOCKS + index as usize);
+    put_entry(out, file, index, file.entry(index), block)
 }
 
 /// Writes the lines of all entries.
-fn put_entries<W: Write>(
-    out: &mut Counted<W>,
-    file: &[u8],
-    blocks: &[Option<Block>],
-) -> Result<(), WriteFault>
-    requires { HasBlocks file.now blocks.now }
+fn put_entries<W: Write>(out: &mut Counted<W>, file: &PdbFile<'_>) -> Result<(), WriteFault>
+    requires { length file.now ≤ most_bytes }
     ensures { Writes W.contents out.old out.new (entry_listings file.now) (is_ok result) }
 {
-    for index in 0..entry_count(file) {
-        match put_entry_at(out, file, blocks, index) {
+    for index in 0..file.entry_count() {
+        match put_entry_at(out, file, index) {
             Ok(()) => {}
             Err(fault) => return Err(fault),
         }
@@ -139,14 +128,10 @@ fn put_count<W: Write>(out: &mut Counted<W>, resources: bool, count: u16) -> Res
 
 /// Writes the number of entries, and their lines.
 #[tactic(auto, using(palm_text::proofs::Parts::then, palm_text::proofs::Parts::stops), unfolding(crate::specs::Listing::list_lines))]
-pub(crate) fn put_list<W: Write>(
-    out: &mut Counted<W>,
-    file: &[u8],
-    blocks: &[Option<Block>],
-) -> Result<(), WriteFault>
-    requires { HasBlocks file.now blocks.now }
+pub(crate) fn put_list<W: Write>(out: &mut Counted<W>, file: &PdbFile<'_>) -> Result<(), WriteFault>
+    requires { length file.now ≤ most_bytes }
     ensures { Writes W.contents out.old out.new (list_lines file.now) (is_ok result) }
 {
-    put_count(out, has_resources(file), entry_count(file))?;
-    put_entries(out, file, blocks)
+    put_count(out, file.has_resources(), file.entry_count())?;
+    put_entries(out, file)
 }

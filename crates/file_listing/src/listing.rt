@@ -1,7 +1,7 @@
 //! The listing of a file, on a writer.
 
 ghost use Rattle.std.specs.Prelude.{◌≡◌, ◌≢◌, ◌≤◌, length, false, true, Err, IfErr, OnOk, is_ok};
-ghost use Rattle.canonical_file.specs.Canonical.{HasBlocks, most_bytes};
+ghost use Rattle.canonical_file.specs.Canonical.{most_bytes};
 ghost use Rattle.heap_model.specs.Files.{HasNoFault};
 ghost use Rattle.db_format.specs.Headers.{header_values};
 ghost use Rattle.palm_text.specs.Counted.{Writes};
@@ -16,13 +16,13 @@ use crate::needs::put_needs;
 use crate::parts::{Parts, parts_of};
 use allowance::Allowance;
 use canonical_file::put_changes;
-use code_page::put_text;
 use db_format::DbHeader;
 use heap_model::FileFault;
 use palm_text::{Counted, WriteFault};
-use pdb_format::check_file;
+use pdb_format::{OpenFault, PdbFile};
 use std::io::Write;
 use thiserror::Error;
+use unicode_text::put_text;
 
 /// The reason why a file was not listed.
 #[derive(Clone, Copy, Debug, PartialEq, Eq, Error)]
@@ -40,32 +40,43 @@ pub enum ListFault {
 
 /// Writes the part of a heap that the database takes, and the changes when the file is rewritten.
 #[tactic(auto, using(palm_text::proofs::Parts::then, palm_text::proofs::Parts::stops), unfolding(crate::specs::Listing::last_lines))]
-fn put_last<W: Write>(out: &mut Counted<W>, file: &[u8], parts: &Parts) -> Result<(), WriteFault>
-    requires { HasBlocks file.now parts.now.blocks.items }
+fn put_last<W: Write>(
+    out: &mut Counted<W>,
+    file: &PdbFile<'_>,
+    parts: &Parts,
+) -> Result<(), WriteFault>
     ensures { Writes W.contents out.old out.new (last_lines file.now parts.now.changes) (is_ok result) }
 {
-    put_needs(out, file, parts.blocks.as_slice())?;
+    put_needs(out, file)?;
     put_changes(out, parts.changes)
 }
 
 /// Writes the lines of the entries, the part of a heap that the database takes, and the changes
 /// when the file is rewritten.
 #[tactic(auto, using(palm_text::proofs::Parts::then, palm_text::proofs::Parts::stops), unfolding(crate::specs::Listing::end_lines))]
-fn put_end<W: Write>(out: &mut Counted<W>, file: &[u8], parts: &Parts) -> Result<(), WriteFault>
-    requires { HasBlocks file.now parts.now.blocks.items }
+fn put_end<W: Write>(
+    out: &mut Counted<W>,
+    file: &PdbFile<'_>,
+    parts: &Parts,
+) -> Result<(), WriteFault>
+    requires { length file.now ≤ most_bytes }
     ensures { Writes W.contents out.old out.new (end_lines file.now parts.now.changes) (is_ok result) }
 {
-    put_list(out, file, parts.blocks.as_slice())?;
+    put_list(out, file)?;
     put_last(out, file, parts)
 }
 
 /// Writes the lines after those of the header.
 #[tactic(auto, using(palm_text::proofs::Parts::then, palm_text::proofs::Parts::stops), unfolding(crate::specs::Listing::listing_body))]
-fn put_body<W: Write>(out: &mut Counted<W>, file: &[u8], parts: &Parts) -> Result<(), WriteFault>
-    requires { HasBlocks file.now parts.now.blocks.items }
+fn put_body<W: Write>(
+    out: &mut Counted<W>,
+    file: &PdbFile<'_>,
+    parts: &Parts,
+) -> Result<(), WriteFault>
+    requires { length file.now ≤ most_bytes }
     ensures { Writes W.contents out.old out.new (listing_body file.now parts.now.changes) (is_ok result) }
 {
-    put_infos(out, file, parts.blocks.as_slice())?;
+    put_infos(out, file)?;
     put_end(out, file, parts)
 }
 
@@ -73,11 +84,11 @@ fn put_body<W: Write>(out: &mut Counted<W>, file: &[u8], parts: &Parts) -> Resul
 #[tactic(auto, using(palm_text::proofs::Parts::then, palm_text::proofs::Parts::stops))]
 fn put_rest<W: Write>(
     out: &mut Counted<W>,
-    file: &[u8],
+    file: &PdbFile<'_>,
     header: &DbHeader,
     parts: &Parts,
 ) -> Result<(), WriteFault>
-    requires { HasBlocks file.now parts.now.blocks.items }
+    requires { length file.now ≤ most_bytes }
     ensures { Writes W.contents out.old out.new (rest_lines file.now (header_values header.now)
         parts.now.changes) (is_ok result) }
 {
@@ -89,15 +100,15 @@ fn put_rest<W: Write>(
 #[tactic(auto, using(palm_text::proofs::Parts::then, palm_text::proofs::Parts::stops))]
 fn put_lines<W: Write>(
     out: &mut Counted<W>,
-    file: &[u8],
+    file: &PdbFile<'_>,
     header: &DbHeader,
     parts: &Parts,
 ) -> Result<(), WriteFault>
-    requires { HasBlocks file.now parts.now.blocks.items }
+    requires { length file.now ≤ most_bytes }
     ensures { Writes W.contents out.old out.new (lines_by file.now (header_values header.now)
         parts.now) (is_ok result) }
 {
-    put_head(out, file.len() as u32, header, &parts.moments)?;
+    put_head(out, file.bytes().len() as u32, header, &parts.moments)?;
     put_rest(out, file, header, parts)
 }
 
@@ -111,7 +122,6 @@ fn put_lines<W: Write>(
 /// - `BadFile`: if the file has a fault. It contains the first one.
 /// - `OutOfMemory`: if an allocation failed.
 /// - `Write`: if a write failed, or took 0 bytes.
-#[tactic(auto, using(pdb_format::proofs::FileNames::file_named, crate::proofs::Listings::written))]
 pub fn put_listing<A: Allowance, W: Write>(
     memory: &A,
     file: &[u8],
@@ -126,10 +136,30 @@ pub fn put_listing<A: Allowance, W: Write>(
         → WritesListing file.now W.contents out.old out.new false }
     ensures short { result ≡ Err ListFault.OutOfMemory → A.is_short memory.now }
 {
-    if let Err(fault) = check_file(file) {
-        return Err(ListFault::BadFile(fault));
+    match PdbFile::open(memory, file) {
+        Ok(file) => put_opened(memory, &file, out),
+        Err(OpenFault::BadFile(fault)) => Err(ListFault::BadFile(fault)),
+        Err(OpenFault::OutOfMemory) => Err(ListFault::OutOfMemory),
     }
-    let header = DbHeader::read(file);
+}
+
+/// Writes the listing of a file that is opened.
+#[tactic(auto, using(crate::proofs::Listings::written))]
+fn put_opened<A: Allowance, W: Write>(
+    memory: &A,
+    file: &PdbFile<'_>,
+    out: &mut Counted<W>,
+) -> Result<(), ListFault>
+    requires { length file.now ≤ most_bytes }
+    ensures done { OnOk result (WritesListing file.now W.contents out.old out.new true) }
+    ensures why { IfErr result (IsListFault file.now) }
+    ensures untouched { IfErr result (λ fault. fault ≢ ListFault.Write → out.new ≡ out.old) }
+    ensures write { result ≡ Err ListFault.Write
+        → WritesListing file.now W.contents out.old out.new false }
+    ensures short { result ≡ Err ListFault.OutOfMemory → A.is_short memory.now }
+{
+    let _ = file.bytes();
+    let header = file.header();
     let Ok(parts) = parts_of(memory, file, &header) else {
         return Err(ListFault::OutOfMemory);
     };

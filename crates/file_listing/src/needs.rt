@@ -2,22 +2,20 @@
 
 ghost use Rattle.std.specs.Prelude.{◌≡◌, is_ok};
 ghost use Rattle.palm_text.specs.Counted.{Writes};
-ghost use Rattle.canonical_file.specs.Canonical.{HasBlocks};
 ghost use Rattle.file_listing.specs.Listing.{needed_size, needed_slots, needs_line, size_text, slots_text};
 
-use canonical_file::{image_size, image_slots, needs_of_blocks};
+use canonical_file::{image_size, image_slots, needs_of};
 use itoa::Buffer;
 use palm_text::{Counted, Piece, WriteFault, put_pieces};
-use pdb_format::Block;
+use pdb_format::PdbFile;
 use std::io::Write;
 
 /// Returns the least size and number of slots of a new image with the database of a file.
-pub fn size_and_slots(file: &[u8], blocks: &[Option<Block>]) -> (u64, u64)
-    requires { HasBlocks file.now blocks.now }
+pub fn size_and_slots(file: &PdbFile<'_>) -> (u64, u64)
     ensures size { result.0 ≡ needed_size file.now }
     ensures slots { result.1 ≡ needed_slots file.now }
 {
-    let needs = needs_of_blocks(file, blocks);
+    let needs = needs_of(file);
     let slots = image_slots(needs.slots);
     (image_size(slots, 1, needs.bytes), slots)
 }
@@ -57,13 +55,11 @@ fn put_slots<W: Write>(out: &mut Counted<W>, slots: u64) -> Result<(), WriteFaul
 #[tactic(auto, using(palm_text::proofs::Parts::then, palm_text::proofs::Parts::stops), unfolding(crate::specs::Listing::needs_line))]
 pub(crate) fn put_needs<W: Write>(
     out: &mut Counted<W>,
-    file: &[u8],
-    blocks: &[Option<Block>],
+    file: &PdbFile<'_>,
 ) -> Result<(), WriteFault>
-    requires { HasBlocks file.now blocks.now }
     ensures { Writes W.contents out.old out.new (needs_line file.now) (is_ok result) }
 {
-    let (size, slots) = size_and_slots(file, blocks);
+    let (size, slots) = size_and_slots(file);
     put_size(out, size)?;
     put_slots(out, slots)
 }

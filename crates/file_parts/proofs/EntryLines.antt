@@ -60,3 +60,11 @@ line_joined name e f block is is_block =
     ap (λ (xs : List ℕ). xs ++ part_text (name_if_data name block)) (values_with name e f is)
     ∙ ap (λ (b : Option (List ℕ)). entry_values (entry_with (name_if_data name) e) ++ part_text (name_if_data name b)) is_block
     ∙ ap (λ (b : Option (List ℕ)). entry_values (entry_with (name_if_data name) e) ++ part_text b) (sym (data_with name e))
+
+parts_same : (whole : Entry (Option (List ℕ))) (part : Option (List ℕ)) → entry_with {Data = ℕ} (λ _. part) (entry_with (λ _. 0) whole) ≡ entry_with (λ _. part) whole
+parts_same (a_record attributes id block) part = refl
+parts_same (a_resource kind id block) part = refl
+
+-- an entry that is read, with any part
+pub any_part : (entry : Entry ℕ) (whole : Entry (Option (List ℕ))) → entry ≡ entry_with (λ _. 0) whole → (part : Option (List ℕ)) → entry_with (λ _. part) entry ≡ entry_with (λ _. part) whole
+any_part entry whole is part = ap (entry_with {Data = ℕ} (λ _. part)) is ∙ parts_same whole part

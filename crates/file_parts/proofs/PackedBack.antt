@@ -10,6 +10,8 @@ use Rattle.heap_model.specs.Database.{Database, Entry, a_record, a_resource, IsD
 use Rattle.heap_model.specs.Store.{unique_ids}
 use Rattle.heap_model.specs.Files.{HasNoFault, Reads, blocks_in, idle, idle_entry, file_of}
 use Rattle.heap_model.specs.FileSteps.{size_of_block}
+use Rattle.pdb_format.specs.Opened.{HasPlaces}
+use Rattle.pdb_format.specs.declared.blocks.Block.{Block}
 use Rattle.pdb_format.specs.Writable.{IsWritableEntry, HasFile}
 use Rattle.pdb_format.specs.ReadFiles.{entry_read, entries_read, database_read, HasIdsFor}
 use Rattle.pdb_format.proofs.FileNames.{file_named}
@@ -101,15 +103,16 @@ few file ids seed bytes =
     let small = u16_small file 76 bytes in
     omega arith
 
-has_file : (file : List ℕ) (unpacked : Unpacked) → AreBytes file → IsUnpacked file unpacked → HasFile (database_of file unpacked)
-has_file file unpacked bytes is =
+has_file : (unpacked : Unpacked) (blocks : List (Option Block)) → HasPlaces unpacked.file blocks → AreBytes unpacked.file → IsUnpacked unpacked → HasFile (database_of unpacked)
+has_file unpacked blocks places bytes is =
+    let file = unpacked.file in
     let ids = unpacked.given.ids.items in
     let seed = unpacked.given.seed in
-    let good = is.blocks.good in
+    let good = places.good in
     let first = first_is file ids seed in
-    let data_size = ap (λ (bs : List (Option (List ℕ))). length (all_bytes bs)) (blocks_read_are file ids seed) ∙ blocks_long file unpacked.blocks.items is.blocks in
-    let total = is.blocks.total in
-    let short = is.blocks.short in
+    let data_size = ap (λ (bs : List (Option (List ℕ))). length (all_bytes bs)) (blocks_read_are file ids seed) ∙ blocks_long file blocks places in
+    let total = places.total in
+    let short = is.short in
     let end = (not_truncated file good).1 in
     record {
       name = named file ids seed good;
@@ -119,9 +122,9 @@ has_file file unpacked bytes is =
       size = omega arith;
     }
 
-ids_are : (file : List ℕ) (unpacked : Unpacked) → IsUnpacked file unpacked → unique_ids (database_of file unpacked) ≡ unpacked.given.ids.items
+ids_are : (unpacked : Unpacked) → IsUnpacked unpacked → unique_ids (database_of unpacked) ≡ unpacked.given.ids.items
 unfolding database_read
-ids_are file unpacked is = ids_read file unpacked.given.ids.items _ unpacked.given.seed is.ids.have
+ids_are unpacked is = ids_read unpacked.file unpacked.given.ids.items _ unpacked.given.seed is.ids.have
 
 pub none_zero : (ids : List ℕ) → All (λ id. (0 < id) × (id ≤ greatest_id)) ids → All (λ id. id ≢ 0) ids
 none_zero ids fit = λ k d inside zero. let low = (fit k d inside).0 in omega arith
@@ -148,28 +151,29 @@ read_idle : (file ids : List ℕ) (seed : ℕ) → idle (database_read file ids 
 unfolding database_read
 read_idle file ids seed = ap (λ (es : List (Entry (Option (List ℕ)))). record (database_read file ids seed) { entries = es }) (entries_idle file ids)
 
-reads_idle : (file : List ℕ) (unpacked : Unpacked) → AreBytes file → IsUnpacked file unpacked → Distinct unpacked.given.ids.items → Reads (file_of (database_of file unpacked)) (idle (database_of file unpacked))
-reads_idle file unpacked are is distinct =
-    let same = ids_are file unpacked is in
-    file_reads (database_of file unpacked) (has_file file unpacked are is)
+reads_idle : (unpacked : Unpacked) (blocks : List (Option Block)) → HasPlaces unpacked.file blocks → AreBytes unpacked.file → IsUnpacked unpacked → Distinct unpacked.given.ids.items → Reads (file_of (database_of unpacked)) (idle (database_of unpacked))
+reads_idle unpacked blocks places are is distinct =
+    let same = ids_are unpacked is in
+    file_reads (database_of unpacked) (has_file unpacked blocks places are is)
     (subst (λ (ids : List ℕ). All (λ id. id ≢ 0) ids) (sym same) (none_zero unpacked.given.ids.items is.ids.fit.fit))
     (subst Distinct (sym same) distinct)
 
 -- the canonical form of its file is that file
-pub packed_back : (file : List ℕ) (unpacked : Unpacked) (bytes : List ℕ) → AreBytes file → IsUnpacked file unpacked → Distinct unpacked.given.ids.items → IsCanonical (file_of (database_of file unpacked)) bytes → bytes ≡ file_of (database_of file unpacked)
-packed_back file unpacked bytes are is distinct canonical =
-    let d : Database (Option (List ℕ)) = database_of file unpacked in
-    let reads = reads_idle file unpacked are is distinct in
+pub packed_back : (unpacked : Unpacked) (blocks : List (Option Block)) (bytes : List ℕ) → HasPlaces unpacked.file blocks → AreBytes unpacked.file → IsUnpacked unpacked → Distinct unpacked.given.ids.items → IsCanonical (file_of (database_of unpacked)) bytes
+    → bytes ≡ file_of (database_of unpacked)
+packed_back unpacked blocks bytes places are is distinct canonical =
+    let d : Database (Option (List ℕ)) = database_of unpacked in
+    let reads = reads_idle unpacked blocks places are is distinct in
     canonical.written ∙ ap file_of (read_once (file_of d) canonical.database (idle d) canonical.reads reads) ∙ idle_file d
 
 header_name_bytes : (file ids : List ℕ) (seed : ℕ) → AreBytes file → AreBytes (database_read file ids seed).header.name
 unfolding database_read header_in
 header_name_bytes file ids seed are = name_bytes file are
 
-pub packs_back : (file : List ℕ) (unpacked : Unpacked) → AreBytes file → IsUnpacked file unpacked → Distinct unpacked.given.ids.items → PacksBack (database_of file unpacked)
-packs_back file unpacked are is distinct = record {
-  text = text_back (database_of file unpacked) (has_file file unpacked are is) (header_name_bytes file unpacked.given.ids.items unpacked.given.seed are);
-  parts = parts_back (database_of file unpacked);
-  again = subst (Reads (file_of (database_of file unpacked))) (read_idle file unpacked.given.ids.items unpacked.given.seed) (reads_idle file unpacked are is distinct);
-  file = λ bytes. packed_back file unpacked bytes are is distinct;
+pub packs_back : (unpacked : Unpacked) (blocks : List (Option Block)) → HasPlaces unpacked.file blocks → AreBytes unpacked.file → IsUnpacked unpacked → Distinct unpacked.given.ids.items → PacksBack (database_of unpacked)
+packs_back unpacked blocks places are is distinct = record {
+  text = text_back (database_of unpacked) (has_file unpacked blocks places are is) (header_name_bytes unpacked.file unpacked.given.ids.items unpacked.given.seed are);
+  parts = parts_back (database_of unpacked);
+  again = subst (Reads (file_of (database_of unpacked))) (read_idle unpacked.file unpacked.given.ids.items unpacked.given.seed) (reads_idle unpacked blocks places are is distinct);
+  file = λ bytes. packed_back unpacked blocks bytes places are is distinct;
 }

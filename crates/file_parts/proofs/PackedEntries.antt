@@ -2,7 +2,7 @@
 use Rattle.std.proofs.Common.{◌≡◌, ℕ, zero, suc, ◌+◌, ◌<◌, ◌≤◌, Bool, true, false, Option, Some, None, List, [], ◌∷◌, ◌++◌, length, get_or, drop, map, refl, sym, ap, ◌∙◌, arith, add-one, drop-cons, append_assoc, length-append}
 use Rattle.std.proofs.lemmas.List.{length-map, get_or-map, drop_all}
 use Rattle.heap_model.specs.Database.{has_resources, Entry, a_record, a_resource, entry_data, entry_with, entry_bytes}
-use Rattle.heap_model.specs.Files.{HasNoFault, file_of, idle_entry, block_bytes, block_size, block_offset}
+use Rattle.heap_model.specs.Files.{HasNoFault, file_of, idle_attributes, idle_entry, block_bytes, block_size, block_offset}
 use Rattle.db_format.specs.declared.db_entry.DbEntry.TheVariants.{Record, Resource}
 use Rattle.db_format.specs.declared.db_entry.DbEntry.{DbEntry}
 use Rattle.std.specs.Prelude.{All}
@@ -175,3 +175,9 @@ joined b0 b1 b2 b3 b4 h e z k none first second third fourth =
     fourth
     ∙ ap (λ (xs : List ℕ). xs ++ k) (third ∙ ap (λ (xs : List ℕ). xs ++ z) (second ∙ ap (λ (xs : List ℕ). xs ++ e) (first ∙ ap (λ (xs : List ℕ). xs ++ h) none)))
     ∙ append_assoc (h ++ e) z k ∙ append_assoc h e (z ++ k)
+
+-- an entry as it is placed in the file
+pub entry_placed : (bytes : List ℕ) (at offset : ℕ) (part : Option (List ℕ)) (entry : Entry ℕ) → offset ≡ block_offset at (filled bytes part)
+    → entry_with (λ _. offset) (idle_entry entry) ≡ entry_with (block_offset at) (idle_entry (entry_with (filled bytes) (entry_with (λ _. part) entry)))
+entry_placed bytes at offset part (a_record attributes id slot) is = ap (a_record (idle_attributes attributes) id) is
+entry_placed bytes at offset part (a_resource kind id slot) is = ap (a_resource kind id) is

@@ -1,9 +1,9 @@
 -- The parts of a file that is taken apart.
-use Rattle.std.specs.Prelude.{◌≡◌, ℕ, List, zero, suc, slice_index_or, Option, Some, None}
+use Rattle.std.specs.Prelude.{◌≡◌, ◌≤◌, ℕ, List, length, zero, suc, slice_index_or, Option, Some, None}
 use Rattle.heap_model.specs.Database.{Database, entry_with}
 use Rattle.heap_model.specs.Files.{HasNoFault, IsFirstFault, blocks_in}
 use Rattle.pdb_format.specs.ReadFiles.{database_read, entry_read_at}
-use Rattle.canonical_file.specs.Canonical.{HasBlocks, GetsIds}
+use Rattle.canonical_file.specs.Canonical.{GetsIds, most_bytes}
 use Rattle.file_parts.specs.Texts.{app_name, sort_name, entry_name, entry_line, name_if_data}
 use Rattle.file_parts.specs.declared.unpacked.Unpacked.{Unpacked}
 use Rattle.file_parts.specs.declared.unpacked.Part.{Part}
@@ -12,14 +12,14 @@ use Rattle.file_parts.specs.declared.unpacked.PartName.TheVariants.{App, Sort, E
 use Rattle.file_parts.specs.declared.unpacked.UnpackFault.{UnpackFault}
 use Rattle.file_parts.specs.declared.unpacked.UnpackFault.TheVariants.{BadFile, OutOfMemory}
 
--- these are the places of the blocks of a file, and the IDs that its records get
-pub record IsUnpacked (file : List ℕ) (unpacked : Unpacked) : Type 0 where
-  pub blocks : HasBlocks file unpacked.blocks.items
-  pub ids : GetsIds file unpacked.given
+-- the file has at most `most_bytes` bytes, and its records get these IDs
+pub record IsUnpacked (unpacked : Unpacked) : Type 0 where
+  pub short : length unpacked.file ≤ most_bytes
+  pub ids : GetsIds unpacked.file unpacked.given
 
 -- the database that is read from the file
-abbrev pub database_of : List ℕ → Unpacked → Database (Option (List ℕ))
-database_of file unpacked = database_read file unpacked.given.ids.items unpacked.given.seed
+abbrev pub database_of : Unpacked → Database (Option (List ℕ))
+database_of unpacked = database_read unpacked.file unpacked.given.ids.items unpacked.given.seed
 
 -- the text of a name
 abbrev pub name_text : PartName → List ℕ

@@ -16,13 +16,10 @@ use crate::entries::ListedEntry;
 use crate::listed::Listed;
 use crate::part_file::PartFile;
 use allowance::Allowance;
-use bitflags::Flags;
 use canonical_file::canonical_bytes;
-use db_format::{
-    DATABASE_HEADER_SIZE, DbAttrs, DbEntry, INFO_BLOCKS, RecordAttrs, RecordEntry, ResourceEntry,
-    entry_offset,
-};
+use db_format::{DATABASE_HEADER_SIZE, DbAttrs, DbEntry, INFO_BLOCKS};
 use heap_model::Bytes;
+use pdb_format::{FILLER, PdbFile, first_place_after, idle_entry_at};
 use thiserror::Error;
 
 /// The greatest size of a file in bytes.
@@ -89,14 +86,14 @@ fn end_of(at: u32, block: &[u8]) -> Result<u32, PackFault>
     Ok(at + block.len() as u32)
 }
 
-/// Returns the offset of the first block: after the entries and two bytes.
+/// Returns the offset of the first block.
 fn first_place(listed: &Listed<'_>) -> u32
     requires { IsListed listed.now }
     ensures is { (parts : List (List ℕ)) → result ≡ first_block (database_of_parts listed.now parts) }
     ensures most { result ≤ most_bytes }
 {
     let count = listed.entries.as_slice().len() as u16;
-    (entry_offset(DbAttrs(listed.header.attributes).has_resources(), count) + 2) as u32
+    first_place_after(DbAttrs(listed.header.attributes).has_resources(), count)
 }
 
 /// Returns the offsets at which the blocks of the file begin.
@@ -155,22 +152,7 @@ fn placed(listed: &ListedEntry<'_>, at: u32) -> DbEntry
         ≡ entry_with (files.block_offset at) (idle_entry (entry_with (filled bytes) (entry_listed listed.now))) }
     ensures id { HasFittingId result }
 {
-    match listed.entry {
-        DbEntry::Record(record) => {
-            DbEntry::Record(RecordEntry {
-                attributes: record.attributes.difference(RecordAttrs::BUSY),
-                id: record.id,
-                slot: offset_of(at, &listed.part),
-            })
-        }
-        DbEntry::Resource(resource) => {
-            DbEntry::Resource(ResourceEntry {
-                kind: resource.kind,
-                id: resource.id,
-                slot: offset_of(at, &listed.part),
-            })
-        }
-    }
+    idle_entry_at(listed.entry, offset_of(at, &listed.part))
 }
 
 /// Appends bytes.
@@ -257,7 +239,7 @@ fn file_bytes<A: Allowance>(
         places.entries,
         &mut bytes,
     )?;
-    append(memory, &mut bytes, &[0, 0])?;
+    append(memory, &mut bytes, &FILLER)?;
     append_blocks(memory, listed, parts, &mut bytes)?;
     Ok(bytes)
 }
@@ -284,7 +266,20 @@ pub fn pack<A: Allowance>(
     ensures short { result ≡ Err PackFault.OutOfMemory → A.is_short memory.now }
 {
     let file = file_bytes(memory, listed, parts)?;
-    match canonical_bytes(memory, &file) {
+    match PdbFile::of(memory, &file) {
+        Ok(file) => packed(memory, &file),
+        Err(_) => Err(PackFault::OutOfMemory),
+    }
+}
+
+/// Returns the canonical form of the file that was put together.
+fn packed<A: Allowance>(memory: &A, file: &PdbFile<'_>) -> Result<Vec<u8>, PackFault>
+    requires { length file.now ≤ most_bytes }
+    ensures canonical { IfOk result (λ bytes. IsCanonical file.now bytes.items) }
+    ensures memory { IfErr result (λ fault. fault ≡ PackFault.OutOfMemory) }
+    ensures short { IfErr result (λ _. A.is_short memory.now) }
+{
+    match canonical_bytes(memory, file) {
         Ok(bytes) => Ok(bytes),
         Err(_) => Err(PackFault::OutOfMemory),
     }

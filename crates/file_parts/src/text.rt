@@ -2,23 +2,20 @@
 
 ghost use Rattle.std.specs.Prelude.{◌≡◌, ◌<◌, ◌++◌, ℕ, List, Option, None, codes, is_ok, slice_index_or};
 ghost use Rattle.heap_model.specs.Database.{Database, entry_count_in, entry_with};
-ghost use Rattle.heap_model.specs.Files.{HasNoFault, Reads, blocks_in};
+ghost use Rattle.heap_model.specs.Files.{Reads, blocks_in};
 ghost use Rattle.db_format.specs.Headers.{header_values};
 ghost use Rattle.db_format.specs.EitherEntry.{entry_of};
 ghost use Rattle.palm_text.specs.Counted.{Writes};
-ghost use Rattle.pdb_format.specs.ReadFiles as reading;
-ghost use Rattle.pdb_format.specs.ReadFiles.{HasIdsFor, entries_read, entry_read_at};
+ghost use Rattle.pdb_format.specs.ReadFiles.{HasIdsFor, entries_read};
 ghost use Rattle.pdb_format.specs.Blocks.{bytes_at};
-ghost use Rattle.canonical_file.specs.Canonical.{HasBlocks};
 ghost use Rattle.file_parts.specs.Texts.{app_name, database_text, entry_lines, entry_name, entry_values, header_lines};
 ghost use Rattle.file_parts.specs.Texts.{info_line, name_if_data, named_entries, part_text, sort_name, with_names};
 ghost use Rattle.file_parts.specs.Unpacking.{IsUnpacked, database_of, line_at};
 
 use crate::unpacked::Unpacked;
-use bitflags::Flags;
-use db_format::{DbEntry, DbHeader, INFO_BLOCKS, RecordAttrs, RecordEntry, SEEDS, entry_count};
+use db_format::{DbEntry, DbHeader, INFO_BLOCKS};
 use palm_text::{Counted, Piece, WriteFault, put_pieces};
-use pdb_format::Block;
+use pdb_format::{Block, PdbFile};
 use std::io::Write;
 
 /// Writes the lines of the values of a header.
@@ -130,42 +127,19 @@ fn put_part<W: Write>(
     }
 }
 
-/// Returns the entry at an index as it is read: no record is busy, and each has the ID that it
-/// gets.
-fn entry_at(file: &[u8], ids: &[u32], index: u16) -> DbEntry
-    requires good { HasNoFault file.now }
-    requires ids { HasIdsFor file.now ids.now }
-    requires inside { index < entry_count_in file.now }
-    ensures { (part : Option (List ℕ)) → entry_with (λ _. part) (entry_of result)
-        ≡ entry_with (λ _. part) (entry_read_at file.now ids.now index) }
-{
-    match DbEntry::read(file, index) {
-        DbEntry::Record(record) => {
-            DbEntry::Record(RecordEntry {
-                attributes: record.attributes.difference(RecordAttrs::BUSY),
-                id: ids[index as usize],
-                slot: record.slot,
-            })
-        }
-        DbEntry::Resource(resource) => DbEntry::Resource(resource),
-    }
-}
-
 /// Writes the line of the entry at an index.
 fn put_entry<W: Write>(
     out: &mut Counted<W>,
-    file: &[u8],
-    blocks: &[Option<Block>],
+    file: &PdbFile<'_>,
     ids: &[u32],
     index: u16,
 ) -> Result<(), WriteFault>
-    requires blocks { HasBlocks file.now blocks.now }
     requires ids { HasIdsFor file.now ids.now }
     requires inside { index < entry_count_in file.now }
     ensures { Writes W.contents out.old out.new (line_at file.now ids.now index) (is_ok result) }
 {
-    let block = blocks[INFO_BLOCKS + index as usize];
-    match put_values(out, entry_at(file, ids, index)) {
+    let block = file.block(INFO_BLOCKS + index as usize);
+    match put_values(out, file.written_entry(index, ids, 0)) {
         Ok(()) => put_part(out, index, block),
         Err(fault) => Err(fault),
     }
@@ -174,17 +148,15 @@ fn put_entry<W: Write>(
 /// Writes the lines of all entries.
 fn put_entries<W: Write>(
     out: &mut Counted<W>,
-    file: &[u8],
-    blocks: &[Option<Block>],
+    file: &PdbFile<'_>,
     ids: &[u32],
 ) -> Result<(), WriteFault>
-    requires blocks { HasBlocks file.now blocks.now }
-    requires ids { HasIdsFor file.now ids.now }
+    requires { HasIdsFor file.now ids.now }
     ensures { Writes W.contents out.old out.new
         (entry_lines (named_entries 0 (entries_read file.now ids.now))) (is_ok result) }
 {
-    for index in 0..entry_count(file) {
-        match put_entry(out, file, blocks, ids, index) {
+    for index in 0..file.entry_count() {
+        match put_entry(out, file, ids, index) {
             Ok(()) => {}
             Err(fault) => return Err(fault),
         }
@@ -193,45 +165,30 @@ fn put_entries<W: Write>(
 }
 
 /// Writes the line of the AppInfo block.
-fn put_app<W: Write>(
-    out: &mut Counted<W>,
-    file: &[u8],
-    blocks: &[Option<Block>],
-) -> Result<(), WriteFault>
-    requires { HasBlocks file.now blocks.now }
+fn put_app<W: Write>(out: &mut Counted<W>, file: &PdbFile<'_>) -> Result<(), WriteFault>
     ensures { Writes W.contents out.old out.new
         (info_line (codes "app") (name_if_data app_name (slice_index_or (blocks_in file.now) 0 None))) (is_ok result) }
 {
-    put_info(out, b"app", blocks[0])
+    put_info(out, b"app", file.block(0))
 }
 
 /// Writes the line of the SortInfo block.
-fn put_sort<W: Write>(
-    out: &mut Counted<W>,
-    file: &[u8],
-    blocks: &[Option<Block>],
-) -> Result<(), WriteFault>
-    requires { HasBlocks file.now blocks.now }
+fn put_sort<W: Write>(out: &mut Counted<W>, file: &PdbFile<'_>) -> Result<(), WriteFault>
     ensures { Writes W.contents out.old out.new
         (info_line (codes "sort") (name_if_data sort_name (slice_index_or (blocks_in file.now) 1 None))) (is_ok result) }
 {
-    put_info(out, b"sort", blocks[1])
+    put_info(out, b"sort", file.block(1))
 }
 
 /// Writes the lines of the info blocks.
-fn put_infos<W: Write>(
-    out: &mut Counted<W>,
-    file: &[u8],
-    blocks: &[Option<Block>],
-) -> Result<(), WriteFault>
-    requires { HasBlocks file.now blocks.now }
+fn put_infos<W: Write>(out: &mut Counted<W>, file: &PdbFile<'_>) -> Result<(), WriteFault>
     ensures { Writes W.contents out.old out.new (info_line (codes "app")
         (name_if_data app_name (slice_index_or (blocks_in file.now) 0 None))
         ++ info_line (codes "sort") (name_if_data sort_name (slice_index_or (blocks_in file.now) 1 None)))
         (is_ok result) }
 {
-    match put_app(out, file, blocks) {
-        Ok(()) => put_sort(out, file, blocks),
+    match put_app(out, file) {
+        Ok(()) => put_sort(out, file),
         Err(fault) => Err(fault),
     }
 }
@@ -239,50 +196,31 @@ fn put_infos<W: Write>(
 /// Writes the lines after those of the header.
 fn put_body<W: Write>(
     out: &mut Counted<W>,
-    file: &[u8],
-    blocks: &[Option<Block>],
+    file: &PdbFile<'_>,
     ids: &[u32],
 ) -> Result<(), WriteFault>
-    requires blocks { HasBlocks file.now blocks.now }
-    requires ids { HasIdsFor file.now ids.now }
+    requires { HasIdsFor file.now ids.now }
     ensures { Writes W.contents out.old out.new ((info_line (codes "app")
         (name_if_data app_name (slice_index_or (blocks_in file.now) 0 None))
         ++ info_line (codes "sort") (name_if_data sort_name (slice_index_or (blocks_in file.now) 1 None)))
         ++ entry_lines (named_entries 0 (entries_read file.now ids.now))) (is_ok result) }
 {
-    match put_infos(out, file, blocks) {
-        Ok(()) => put_entries(out, file, blocks, ids),
+    match put_infos(out, file) {
+        Ok(()) => put_entries(out, file, ids),
         Err(fault) => Err(fault),
     }
 }
 
-/// Returns the header as it is read: with the seed that was given last.
-fn header_read(file: &[u8], unpacked: &Unpacked) -> DbHeader
-    requires { IsUnpacked file.now unpacked.now }
-    ensures { header_values result ≡ reading.header_read file.now unpacked.now.given.seed }
-{
-    let mut header = DbHeader::read(file);
-    header.seed = header.seed / SEEDS * SEEDS + unpacked.given.seed;
-    header
-}
-
 /// Writes the text of the database that is read from a file, with the names of its parts.
-fn put_text<W: Write>(
-    out: &mut Counted<W>,
-    file: &[u8],
-    unpacked: &Unpacked,
-) -> Result<(), WriteFault>
-    requires { IsUnpacked file.now unpacked.now }
+fn put_text<W: Write>(out: &mut Counted<W>, unpacked: &Unpacked<'_>) -> Result<(), WriteFault>
+    requires { IsUnpacked unpacked.now }
     ensures { Writes W.contents out.old out.new
-        (database_text (with_names (database_of file.now unpacked.now))) (is_ok result) }
+        (database_text (with_names (database_of unpacked.now))) (is_ok result) }
 {
-    match put_header(out, &header_read(file, unpacked)) {
-        Ok(()) => put_body(
-            out,
-            file,
-            unpacked.blocks.as_slice(),
-            unpacked.given.ids.as_slice(),
-        ),
+    let file = &unpacked.file;
+    let header = file.header_with_seed(unpacked.given.seed);
+    match put_header(out, &header) {
+        Ok(()) => put_body(out, file, unpacked.given.ids.as_slice()),
         Err(fault) => Err(fault),
     }
 }
@@ -296,12 +234,12 @@ fn put_text<W: Write>(
 /// - `WriteFault`: if a write failed, or took 0 bytes.
 pub fn put_database<W: Write>(
     out: &mut Counted<W>,
-    file: &[u8],
-    unpacked: &Unpacked,
+    unpacked: &Unpacked<'_>,
 ) -> Result<(), WriteFault>
-    requires { IsUnpacked file.now unpacked.now }
-    ensures { (database : Database (Option (List ℕ))) → Reads file.now database
+    requires { IsUnpacked unpacked.now }
+    ensures { (database : Database (Option (List ℕ))) → Reads unpacked.now.file database
         → Writes W.contents out.old out.new (database_text (with_names database)) (is_ok result) }
 {
-    put_text(out, file, unpacked)
+    let _ = unpacked.file.bytes();
+    put_text(out, unpacked)
 }

@@ -1,19 +1,17 @@
 //! Files that are taken apart.
 
-ghost use Rattle.std.specs.Prelude.{◌≡◌, ◌≤◌, ◌<◌, ◌+◌, ℕ, List, length, slice_index_or, Err, None, IfOk, IfErr, OnErr, MatchOption};
+ghost use Rattle.std.specs.Prelude.{◌≡◌, ◌≤◌, ◌<◌, length, slice_index_or, Err, None, IfOk, IfErr, MatchOption};
 ghost use Rattle.heap_model.specs.Files.{HasNoFault, Reads, blocks_in};
-ghost use Rattle.heap_model.specs.Bytes.{AreBytes};
 ghost use Rattle.file_parts.specs.Laws.{PacksBack};
-ghost use Rattle.canonical_file.specs.Canonical.{HasBlocks, most_bytes};
+ghost use Rattle.canonical_file.specs.Canonical.{most_bytes};
 ghost use Rattle.file_parts.specs.Unpacking as unpacking;
 ghost use Rattle.file_parts.specs.Unpacking.{IsUnpackFault, IsPartOfRank, IsUnpacked, database_of};
 
 use allowance::Allowance;
 use db_format::INFO_BLOCKS;
-use file_ids::{GivenIds, give_ids_from};
+use file_ids::{GivenIds, give_ids};
 use heap_model::FileFault;
-use pdb_format::{Block, check_file, find_blocks_from};
-use std::alloc::AllocError;
+use pdb_format::{OpenFault, PdbFile};
 use thiserror::Error;
 
 /// The reason why a file was not taken apart.
@@ -27,10 +25,10 @@ pub enum UnpackFault {
     OutOfMemory,
 }
 
-/// The blocks of a file, and the IDs that its records get.
+/// A file with the places of its blocks, and the IDs that its records get.
 #[derive(Drop)]
-pub struct Unpacked {
-    pub(crate) blocks: Vec<Option<Block>>,
+pub struct Unpacked<'a> {
+    pub(crate) file: PdbFile<'a>,
     pub(crate) given: GivenIds,
 }
 
@@ -58,76 +56,70 @@ pub struct Part<'a> {
 ///
 /// - `BadFile`: if the file has a fault. It contains the first one.
 /// - `OutOfMemory`: if an allocation failed.
-pub fn unpack<A: Allowance>(memory: &A, file: &[u8]) -> Result<Unpacked, UnpackFault>
+pub fn unpack<'a, A: Allowance>(memory: &A, file: &'a [u8]) -> Result<Unpacked<'a>, UnpackFault>
     requires { length file.now ≤ most_bytes }
-    ensures done { IfOk result (IsUnpacked file.now) }
-    ensures reads { IfOk result (λ unpacked. Reads file.now (database_of file.now unpacked)) }
-    ensures packs { IfOk result (λ unpacked. PacksBack (database_of file.now unpacked)) }
+    ensures same { IfOk result (λ unpacked. unpacked.file ≡ file.now) }
+    ensures done { IfOk result IsUnpacked }
+    ensures reads { IfOk result (λ unpacked. Reads unpacked.file (database_of unpacked)) }
+    ensures packs { IfOk result (λ unpacked. PacksBack (database_of unpacked)) }
     ensures why { IfErr result (IsUnpackFault file.now) }
     ensures short { result ≡ Err UnpackFault.OutOfMemory → A.is_short memory.now }
 {
-    if let Err(fault) = check_file(file) {
-        return Err(UnpackFault::BadFile(fault));
+    match PdbFile::open(memory, file) {
+        Ok(file) => taken_apart(memory, file),
+        Err(OpenFault::BadFile(fault)) => Err(UnpackFault::BadFile(fault)),
+        Err(OpenFault::OutOfMemory) => Err(UnpackFault::OutOfMemory),
     }
-    match taken_apart(memory, file) {
-        Ok(unpacked) => Ok(unpacked),
+}
+
+/// Takes a file that is opened apart.
+fn taken_apart<'a, A: Allowance>(memory: &A, file: PdbFile<'a>) -> Result<Unpacked<'a>, UnpackFault>
+    requires { length file ≤ most_bytes }
+    ensures same { IfOk result (λ unpacked. unpacked.file ≡ file.entry) }
+    ensures done { IfOk result IsUnpacked }
+    ensures reads { IfOk result (λ unpacked. Reads unpacked.file (database_of unpacked)) }
+    ensures packs { IfOk result (λ unpacked. PacksBack (database_of unpacked)) }
+    ensures memory { IfErr result (λ fault. fault ≡ UnpackFault.OutOfMemory) }
+    ensures short { IfErr result (λ _. A.is_short memory.now) }
+{
+    let _ = file.bytes();
+    let _ = file.blocks();
+    match give_ids(memory, &file) {
+        Ok(given) => Ok(Unpacked { file, given }),
         Err(_) => Err(UnpackFault::OutOfMemory),
     }
 }
 
-/// Takes a file without fault apart.
-fn taken_apart<A: Allowance>(memory: &A, file: &[u8]) -> Result<Unpacked, AllocError>
-    requires good { HasNoFault file.now }
-    requires short { length file.now ≤ most_bytes }
-    ensures done { IfOk result (IsUnpacked file.now) }
-    ensures reads { IfOk result (λ unpacked. Reads file.now (database_of file.now unpacked)) }
-    ensures packs { IfOk result (λ unpacked. PacksBack (database_of file.now unpacked)) }
-    ensures short { OnErr result (A.is_short memory.now) }
-{
-    let _ = are_bytes(file);
-    let blocks = find_blocks_from(memory, file)?;
-    let given = give_ids_from(memory, file)?;
-    Ok(Unpacked { blocks, given })
-}
-
-/// Proves that the bytes are below 256.
-fn are_bytes(file: &[u8]) -> usize
-    ensures { AreBytes file.now }
-{
-    file.len()
-}
-
-impl Unpacked {
+impl<'a> Unpacked<'a> {
     /// Returns the number of ranks: two for the info blocks, and one for each entry.
     pub fn rank_count(&self) -> usize
-        ensures { (file : List ℕ) → IsUnpacked file self.now → result ≡ length (blocks_in file) }
+        ensures is { result ≡ length (blocks_in self.now.file) }
+        ensures most { result ≤ 65537 }
     {
-        self.blocks.as_slice().len()
+        self.file.rank_count()
     }
 
     /// Returns the part of a rank, or `None` if there is no block. The rank is 0 for the AppInfo
     /// block, 1 for the SortInfo block, and 2 more than its index for the data of an entry.
-    pub fn part<'a>(&self, file: &'a [u8], rank: usize) -> Option<Part<'a>>
-        requires unpacked { IsUnpacked file.now self.now }
-        requires inside { rank < length (blocks_in file.now) }
-        ensures { MatchOption result (slice_index_or (blocks_in file.now) rank None ≡ None)
-            (IsPartOfRank file.now rank) }
+    pub fn part(&self, rank: usize) -> Option<Part<'a>>
+        requires { rank < length (blocks_in self.now.file) }
+        ensures { MatchOption result (slice_index_or (blocks_in self.now.file) rank None ≡ None)
+            (IsPartOfRank self.now.file rank) }
     {
-        part_of(file, self.blocks.as_slice(), rank)
+        part_of(&self.file, rank)
     }
 }
 
 /// Returns the part of a rank.
-fn part_of<'a>(file: &'a [u8], blocks: &[Option<Block>], rank: usize) -> Option<Part<'a>>
-    requires blocks { HasBlocks file.now blocks.now }
-    requires inside { rank < length (blocks_in file.now) }
+fn part_of<'a>(file: &PdbFile<'a>, rank: usize) -> Option<Part<'a>>
+    requires { rank < length (blocks_in file.now) }
     ensures { MatchOption result (slice_index_or (blocks_in file.now) rank None ≡ None)
         (IsPartOfRank file.now rank) }
 {
-    match blocks[rank] {
+    match file.block(rank) {
         Some(block) => Some(Part {
             name: name_of(rank),
-            bytes: &file[block.start..block.end],
+            bytes: file.bytes_of(block),
         }),
         None => None,
     }

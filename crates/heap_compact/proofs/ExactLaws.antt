@@ -1,10 +1,5 @@
 -- Laws of images that have exactly the chunks of a list.
-use Rattle.std.proofs.Common.{◌≡◌, ℕ, List, ap, ◌∙◌}
-use Rattle.heap_compact.proofs.Words.{Chunk, area_start, IsHeap, HeapAccepted, chunks_of, merged, Becomes, WritesPlain, BecomesExactly, SameChunks}
-use Rattle.laws_heap.proofs.Runs.{chunks_of-tiled}
-use Rattle.laws_heap.proofs.Replacements.{SameHead}
-use Rattle.laws_heap.proofs.SameLayouts.{frame_of, same_frame, frame_then, becomes_start}
-use Rattle.laws_heap.proofs.Plain.{plain_same, plain_then}
+use Rattle.heap_compact.proofs.Words.{◌≡◌, ℕ, List, ap, ◌∙◌, Chunk, area_start, IsHeap, HeapAccepted, chunks_of, merged, Becomes, WritesPlain, BecomesExactly, SameChunks, chunks_of-tiled, SameHead, frame_of, same_frame, frame_then, becomes_start, plain_same, plain_then}
 
 pub exactly_heap : {old new : List ℕ} {cs : List Chunk} → SameHead old new → IsHeap new cs → WritesPlain old new → BecomesExactly old new cs
 exactly_heap same h plain = record { frame = frame_of _ _ _ same h; exact = chunks_of-tiled _ _ h.tiles; plain = plain }

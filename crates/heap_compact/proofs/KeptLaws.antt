@@ -1,8 +1,5 @@
 -- The remembered tables of a space stay right in the same frame, and after a table is added.
-use Rattle.std.proofs.Common.{Bool, true, false, ◌≡◌, ℕ, ◌++◌, refl, List, [], ◌∷◌, sym, ap, subst, arith, inl, inr}
-use Rattle.std.specs.Prelude.{slice_index}
-use Rattle.std.specs.Bool.{OnTrue, OnFalse}
-use Rattle.heap_compact.proofs.Words.{Memory, Table, further_tables, SameFrame, GrowsInPlace, gained, GainsTable, HoldsHeap, HasLongTable, KnowsTables, Remembered, RemembersPlace}
+use Rattle.heap_compact.proofs.Words.{Bool, true, false, ◌≡◌, ℕ, ◌++◌, refl, List, [], ◌∷◌, sym, subst, arith, inl, inr, slice_index, OnTrue, OnFalse, Memory, Table, further_tables, SameFrame, GrowsInPlace, gained, GainsTable, HoldsHeap, HasLongTable, KnowsTables, Remembered, RemembersPlace, HasLists, IsSpace}
 use Rattle.master_table.proofs.RowLaws.{starts_gained}
 use Rattle.master_table.proofs.FurtherLaws.{knows_still, knows_more}
 
@@ -12,6 +9,13 @@ tables_kept {old} {new} known f knows = knows_still old new known f.tables knows
 -- of a region that is the value of its space
 pub viewed_kept : {old region : Memory} {new : List ℕ} (known : Remembered) → region ≡ old → SameFrame old.bytes new → KnowsTables region.bytes known → KnowsTables new known
 viewed_kept known view f knows = tables_kept known f (subst (λ (m : Memory). KnowsTables m.bytes known) view knows)
+
+-- so the space is one
+pub kept_space : {old : List ℕ} {new : Memory} {heads : List ℕ} {known : Remembered} → HoldsHeap new → HasLists new.bytes heads → SameFrame old new.bytes → KnowsTables old known → IsSpace new heads known
+kept_space {known} heap lists f knows = record { heap = heap; lists = lists; tables = tables_kept known f knows }
+
+pub viewed_space : {old region new : Memory} {heads : List ℕ} {known : Remembered} → region ≡ old → HoldsHeap new → HasLists new.bytes heads → SameFrame old.bytes new.bytes → KnowsTables region.bytes known → IsSpace new heads known
+viewed_space {known} view heap lists f knows = record { heap = heap; lists = lists; tables = viewed_kept known view f knows }
 
 -- so it holds the heap
 pub viewed_heap : {old region : Memory} → region ≡ old → HoldsHeap region → HoldsHeap old

@@ -1,10 +1,6 @@
 -- One walk finds the greatest room of an image.
-use Rattle.std.proofs.Common.{◌≡◌, ℕ, zero, suc, ◌+◌, ◌≤◌, List, [], ◌∷◌, ◌++◌, length, refl, sym, ap, subst, ◌∙◌, append_assoc, append-nil, arith}
-use Rattle.std.specs.Prelude.{max, filter, sum_by}
-use Rattle.std.proofs.lemmas.List.Sums.{sum_by-cons}
-use Rattle.heap_compact.proofs.Words.{Chunk, free, movable, fixed, size_of, total, free_size, area_start, HeapAccepted, chunks_of, onto_first, runs_between, has_chunk, stretches, room_of, rooms_of, rooms, greatest, Header, header_of, size_by, HasHeader, Passed, free_by, HeaderStays, greatest_behind, HaveRooms}
-use Rattle.laws_heap.proofs.Chunks.{total-append}
-use Rattle.heap_place.proofs.WalkLaws.{passed_start, passed_at, passed_more, passed_all}
+use Rattle.heap_compact.proofs.Words.{◌≡◌, ℕ, zero, suc, ◌+◌, ◌≤◌, List, [], ◌∷◌, ◌++◌, length, refl, sym, ap, subst, ◌∙◌, append_assoc, arith, max, filter, sum_by, sum_by-cons, Chunk, free, movable, fixed, size_of, total, free_size, area_start, HeapAccepted, chunks_of, onto_first, runs_between, has_chunk, stretches, room_of, rooms_of, rooms, greatest, Header, header_of, size_by, HasHeader, Passed, free_by, HeaderStays, greatest_behind, HaveRooms, total-append, passed_start, passed_at, passed_more, passed_all}
+use Rattle.std.proofs.Common.{append-nil}
 
 -- ---- the greatest of the rooms
 

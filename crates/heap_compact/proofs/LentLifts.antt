@@ -1,37 +1,30 @@
 -- Lifting chunks touches no lent part, and each lent part stays a body.
-use Rattle.std.proofs.Common.{◌≡◌, ℕ, ◌+◌, ◌-◌, ◌≤◌, ◌<◌, List, [], ◌∷◌, ◌++◌, length, sym, ap, subst, ◌∙◌, append_assoc, arith}
-use Rattle.heap_compact.proofs.Words.{Memory, Lent, Misses, IsWithin, Chunk, free, total, IsSlot, TablesLie, HasTable, tables_of, slots_of, head_end, slot_size, EveryOne, chunks_of, NoneStays, HoldsHeap, Lifting, HasFreeBehind, FreeBehind, Lifts, AreCarried, MendedUpTo, Walks}
-use Rattle.laws_heap.proofs.Chunks.{total-append}
-use Rattle.laws_heap.proofs.Slides.{none_stays-append}
-use Rattle.laws_heap.proofs.Slots.{each_slot, tables_lie, same_slots, ends_listed}
-use Rattle.laws_heap.proofs.Lending.{part_within, part_misses}
-use Rattle.laws_heap.proofs.LentBodies.{run_within, loose_lends}
+use Rattle.heap_compact.proofs.Words.{◌≡◌, ℕ, ◌+◌, ◌-◌, ◌≤◌, ◌<◌, List, [], ◌∷◌, ◌++◌, length, sym, ap, subst, ◌∙◌, append_assoc, arith, Memory, Lent, Misses, IsWithin, Chunk, free, total, IsSlot, TablesLie, HasTable, tables_of, slots_of, head_end, slot_size, EveryOne, chunks_of, NoneStays, HoldsHeap, Lifting, HasFreeBehind, Lifts, AreCarried, MendedUpTo, Walks, total-append, none_stays-append, each_slot, tables_lie, same_slots, ends_listed, part_within, part_misses, run_within, loose_lends}
 use Rattle.heap_compact.proofs.ExactLaws.{exactly_becomes}
 use Rattle.heap_compact.proofs.LiftedWalkLaws.{some_size}
 
 -- ---- the chunks that are lifted, and the free one after them
 
-in_parts : {image : List ℕ} {before mid after : List Chunk} {start end gap : ℕ} → FreeBehind image before mid after start end gap → chunks_of image ≡ before ++ ((mid ++ free gap ∷ []) ++ after)
-in_parts {before} {mid} {after} {gap} f = f.chunks ∙ ap (λ (cs : List Chunk). before ++ cs) (sym (append_assoc mid (free gap ∷ []) after))
+in_parts : {image : List ℕ} {start end gap : ℕ} (b : HasFreeBehind image start end gap) → chunks_of image ≡ b.before ++ ((b.mid ++ free gap ∷ []) ++ b.after)
+in_parts {gap} b = b.chunks ∙ ap (λ (cs : List Chunk). b.before ++ cs) (sym (append_assoc b.mid (free gap ∷ []) b.after))
 
-none_stay : {image : List ℕ} {before mid after : List Chunk} {start end gap : ℕ} → FreeBehind image before mid after start end gap → NoneStays (mid ++ free gap ∷ [])
-none_stay {mid} {gap} f = (none_stays-append mid (free gap ∷ [])).1 (f.loose, tt)
+none_stay : {image : List ℕ} {start end gap : ℕ} (b : HasFreeBehind image start end gap) → NoneStays (b.mid ++ free gap ∷ [])
+none_stay {gap} b = (none_stays-append b.mid (free gap ∷ [])).1 (b.loose, tt)
 
 pub lifted_within : {m : Memory} {start end gap : ℕ} → HoldsHeap m → HasFreeBehind m.bytes start end gap → IsWithin m start (end - start + gap)
 lifted_within {m} {start} {end} {gap} h b =
-    let f = b.behind in
     let sizes = total-append b.mid (free gap ∷ []) in
     part_within _ _ _ start (end - start + gap)
-    (run_within m b.before (b.mid ++ free gap ∷ []) b.after _ h.accepted h.lent (in_parts f) f.from (none_stay f)) (omega arith) (omega (arith, f.to, sizes))
+    (run_within m b.before (b.mid ++ free gap ∷ []) b.after _ h.accepted h.lent (in_parts b) b.from (none_stay b)) (omega arith) (omega (arith, b.to, sizes))
 
 pub lifted_holds : {old new : Memory} {start end gap : ℕ} → HoldsHeap old → new.lents ≡ old.lents → HasFreeBehind old.bytes start end gap → Lifts old.bytes new.bytes start end gap → HoldsHeap new
 lifted_holds {old} {new} {gap} h same b lifts =
     let sizes = total-append b.mid (free gap ∷ []) in
-    let x = lifts b.before b.mid b.after b.behind in
+    let x = lifts b in
     record {
       accepted = x.frame.accepted;
-      lent = loose_lends old new b.before (b.mid ++ free gap ∷ []) (free gap ∷ b.mid) b.after h.lent same (in_parts b.behind)
-          (exactly_becomes x) (omega (arith, sizes)) (none_stay b.behind);
+      lent = loose_lends old new b.before (b.mid ++ free gap ∷ []) (free gap ∷ b.mid) b.after h.lent same (in_parts b)
+          (exactly_becomes x) (omega (arith, sizes)) (none_stay b);
     }
 
 -- ---- the tables, while the chunks are mended
@@ -47,7 +40,7 @@ table_still {old} new t same len tables = record {
 
 pub walk_table : {first : Memory} (now : Memory) {gap start at end : ℕ} → Walks first.bytes now.bytes gap start at end → AreCarried first.bytes gap start end → now.lents ≡ first.lents → HasTable first → HasTable now
 walk_table now w a same t =
-    let s = w a.old a.before a.done a.rest a.after a.lifting a.ends in
+    let s = w a.lift a.done a.rest a.lifting a.ends in
     table_still now t same (s.lifting.len ∙ sym a.lifting.len) (s.lifting.tables ∙ sym a.lifting.tables)
 
 -- a slot, once the header of a chunk is written
@@ -60,11 +53,11 @@ slot_again_within {old} new {slot} t s same lie again = record {
 -- ---- the header at which the walk has come
 
 pub walk_misses : {first image : List ℕ} (lents : List Lent) {gap start at end : ℕ} → Walks first image gap start at end → AreCarried first gap start end → at < end → Misses lents start (end - start) → Misses lents at 8
-walk_misses {image} lents {gap} {start} {at} {end} w a more m = by_back s.back s.lifting s.ends where
-  s : MendedUpTo a.old image a.before a.done a.rest a.after gap at end
-  s = w a.old a.before a.done a.rest a.after a.lifting a.ends
+walk_misses {image} lents {start} {at} {end} w a more m = by_back s.back s.lifting s.ends where
+  s : MendedUpTo a.lift image a.done a.rest at end
+  s = w a.lift a.done a.rest a.lifting a.ends
 
-  by_back : (back : List Chunk) → Lifting a.old image a.before (a.done ++ s.front) back a.after gap at → end ≡ at + total back → Misses lents at 8
+  by_back : (back : List Chunk) → Lifting a.lift image (a.done ++ s.front) back at → end ≡ at + total back → Misses lents at 8
   by_back [] l e = absurd (omega (arith, e, more))
   by_back (c ∷ back) l e =
       let was = a.lifting.there in

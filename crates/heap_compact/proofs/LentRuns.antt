@@ -1,17 +1,5 @@
 -- Resizing, dropping or packing a chunk touches no lent part, and each stays a body.
-use Rattle.std.proofs.Common.{◌≡◌, ◌≢◌, ℕ, zero, suc, ◌+◌, ◌-◌, ◌≤◌, List, [], ◌∷◌, ◌++◌, length, refl, sym, ap, subst, ◌∙◌, arith, inl, inr, append_assoc}
-use Rattle.heap_model.specs.Memory.{Memory, Lent, IsAmong, MissesOne, IsWithin}
-use Rattle.heap_compact.proofs.Words.{Chunk, free, movable, fixed, need, size_of, total, area_start, chunks_of, AnyPlaced, gap, merged, with_length, NoneStays, AllFree, LentHere, IsLentBody, LendsOther, HoldsHeap, LiveChunk, NamedHere, Found, IsOne, RunBehind, Resizes, Droppable, IsDroppable, BehindRoom, packed_one, BecomesExactly, HeaderStays, HasHeader, size_by, Header}
-use Rattle.laws_heap.proofs.Resizings.{length-sized_to}
-use Rattle.laws_heap.proofs.Chunks.{total-append}
-use Rattle.laws_heap.proofs.Exchanges.{gap_total}
-use Rattle.laws_heap.proofs.LentBodies.{each_of, each_to, lent_chunk, run_apart, all_free_loose, apart, in_front, one, behind, stays_here, none_lent, run_within, replaced_lends, loose_lends}
-use Rattle.heap_place.proofs.LentLaws.{one_body_within}
-use Rattle.chunk_format.specs.declared.header.Header.TheVariants as headers
-use Rattle.heap_place.proofs.ResizeLaws.{run_facts}
-use Rattle.heap_compact.proofs.DropLaws.{DropFacts}
-use Rattle.heap_compact.proofs.DropReads.{asked, same_header}
-use Rattle.heap_place.proofs.FoundLaws.{found_size}
+use Rattle.heap_compact.proofs.Words.{◌≡◌, ◌≢◌, ℕ, zero, suc, ◌+◌, ◌-◌, ◌≤◌, List, [], ◌∷◌, ◌++◌, refl, sym, ap, subst, ◌∙◌, arith, inl, inr, append_assoc, Memory, Lent, IsAmong, MissesOne, IsWithin, Chunk, free, movable, fixed, need, size_of, total, area_start, chunks_of, AnyPlaced, gap, merged, with_length, AllFree, LentHere, IsLentBody, LendsOther, HoldsHeap, LiveChunk, NamedHere, Found, IsOne, RunBehind, Resizes, IsDroppable, MovesDown, IsBehindRoom, PackedOne, packed_one, length-sized_to, total-append, gap_total, each_of, each_to, lent_chunk, run_apart, all_free_loose, apart, in_front, one, behind, stays_here, none_lent, run_within, replaced_lends, loose_lends, one_body_within, run_facts, found_size}
 
 -- ---- a chunk that isn't lent, and what is free after it
 
@@ -52,19 +40,17 @@ not_among lent at c run f o x = elim x [
 
 -- ---- a chunk without locks that is dropped over room
 
-unlocked_loose : (room : ℕ) (bytes : List ℕ) {lock : ℕ} (owner slot : ℕ) → lock ≡ 0 → NoneStays (free room ∷ movable bytes lock owner slot ∷ [])
-unlocked_loose room bytes owner slot e = subst (λ (n : ℕ). NoneStays (free room ∷ movable bytes n owner slot ∷ [])) (sym e) tt
+pub dropped_within : {m : Memory} {at room size slot : ℕ} → HoldsHeap m → IsDroppable m.bytes at room size slot → IsWithin m (at - room) (room + size)
+dropped_within {m} {at} {room} {size} {slot} h d =
+    let pair : List Chunk = free room ∷ movable d.bytes 0 d.owner slot ∷ [] in
+    let sizes : total pair ≡ room + size = omega (arith, d.takes) in
+    subst (λ (n : ℕ). IsWithin m (at - room) n) sizes (run_within m d.before pair d.after (at - room) h.accepted h.lent d.chunks (omega (arith, d.there)) tt)
 
-pub dropped_within : {m : Memory} {before : List Chunk} {bytes : List ℕ} {lock owner slot : ℕ} {after : List Chunk} {at room : ℕ} → HoldsHeap m → Droppable m.bytes before bytes lock owner slot after at room → lock ≡ 0 → IsWithin m (at - room) (room + need (length bytes))
-dropped_within {m} {before} {bytes} {lock} {owner} {slot} {after} {at} {room} h d loose =
-    let sizes : total (free room ∷ movable bytes lock owner slot ∷ []) ≡ room + need (length bytes) = omega arith in
-    subst (λ (n : ℕ). IsWithin m (at - room) n) sizes
-    (run_within m before (free room ∷ movable bytes lock owner slot ∷ []) after (at - room) h.accepted h.lent d.chunks (omega (arith, d.there)) (unlocked_loose room bytes owner slot loose))
-
-pub dropped_holds : {old new : Memory} {before : List Chunk} {bytes : List ℕ} {lock owner slot : ℕ} {after : List Chunk} {at room : ℕ} → HoldsHeap old → new.lents ≡ old.lents → Droppable old.bytes before bytes lock owner slot after at room → lock ≡ 0
-    → BecomesExactly old.bytes new.bytes (before ++ movable bytes lock owner slot ∷ free room ∷ after) → HoldsHeap new
-dropped_holds {old} {new} {before} {bytes} {lock} {owner} {slot} {after} {room} h same d loose b =
-    record { accepted = b.frame.accepted; lent = loose_lends old new before (free room ∷ movable bytes lock owner slot ∷ []) (movable bytes lock owner slot ∷ free room ∷ []) after h.lent same d.chunks (record { frame = b.frame; layout = ap merged b.exact }) (omega arith) (unlocked_loose room bytes owner slot loose) }
+pub dropped_holds : {old new : Memory} {at room size slot : ℕ} → HoldsHeap old → new.lents ≡ old.lents → IsDroppable old.bytes at room size slot → MovesDown old.bytes new.bytes at room size slot → HoldsHeap new
+dropped_holds {old} {new} {room} {slot} h same d moves =
+    let v : Chunk = movable d.bytes 0 d.owner slot in
+    let b = moves d in
+    record { accepted = b.frame.accepted; lent = loose_lends old new d.before (free room ∷ v ∷ []) (v ∷ free room ∷ []) d.after h.lent same d.chunks (record { frame = b.frame; layout = ap merged b.exact }) (omega arith) tt }
 
 -- ---- a chunk with room in front of it that is packed
 
@@ -82,40 +68,14 @@ packed_total room (movable bytes zero owner slot) = let b = total-append (gap ro
 packed_total room (movable bytes (suc lock) owner slot) = refl
 packed_total room (fixed bytes owner) = refl
 
-pub packed_holds : {old new : Memory} {before : List Chunk} {c : Chunk} {after : List Chunk} {at room : ℕ} → HoldsHeap old → new.lents ≡ old.lents → BehindRoom old.bytes before c after at room → BecomesExactly old.bytes new.bytes (before ++ (packed_one room c ++ after)) → HoldsHeap new
-packed_holds {old} {new} {before} {c} {after} {room} h same b x =
-    let chunks = b.chunks ∙ ap (λ (cs : List Chunk). before ++ cs) (sym (append_assoc (gap room) (c ∷ []) after)) in
+pub packed_holds : {old new : Memory} {at room size moved room_then : ℕ} {b : IsBehindRoom old.bytes at room} → HoldsHeap old → new.lents ≡ old.lents → PackedOne b new.bytes size moved room_then → HoldsHeap new
+packed_holds {old} {new} {room} {b} h same p =
+    let chunks = b.chunks ∙ ap (λ (cs : List Chunk). b.before ++ cs) (sym (append_assoc (gap room) (b.chunk ∷ []) b.after)) in
+    let x = p.becomes in
     record {
       accepted = x.frame.accepted;
-      lent = replaced_lends old new before (gap room ++ c ∷ []) (packed_one room c) after h.lent same chunks
-          (record { frame = x.frame; layout = ap merged x.exact }) (packed_total room c) (λ lent is y. packed_keeps room c lent _ y);
-    }
-
-pub unlocked_by : {header : Header} (bytes : List ℕ) (lock owner slot : ℕ) → header ≡ headers.Movable (length bytes) lock owner slot → (HeaderStays header → ⊥) → lock ≡ 0
-unlocked_by bytes zero owner slot e loose = refl
-unlocked_by bytes (suc lock) owner slot e loose = absurd (loose (subst HeaderStays (sym e) (omega arith)))
-
--- a chunk without locks can go down: nothing of it or of the room in front of it is lent
-pub record CanDrop (m : Memory) (at room size : ℕ) (header : Header) (d : IsDroppable m.bytes at room) : Type 0 where
-  pub facts : DropFacts m.bytes d.before d.bytes d.lock d.owner d.slot d.after at room (at - room)
-  pub header_is : header ≡ headers.Movable (length d.bytes) d.lock d.owner d.slot
-  pub unlocked : d.lock ≡ 0
-  pub there : at ≡ at - room + room
-  pub least : 8 ≤ room
-  pub within : IsWithin m (at - room) (room + size)
-
-pub can_drop : {m : Memory} {at room size : ℕ} {header : Header} → HoldsHeap m → (d : IsDroppable m.bytes at room) → (HeaderStays header → ⊥) → HasHeader m.bytes at header → size ≡ size_by header → CanDrop m at room size header d
-can_drop {m} {at} {room} h d loose found size_is =
-    let f = asked h.accepted d in
-    let e = same_header f found in
-    let unlocked = unlocked_by d.bytes d.lock d.owner d.slot e loose in
-    record {
-      facts = f;
-      header_is = e;
-      unlocked = unlocked;
-      there = f.at_is;
-      least = f.is_free.header_fits;
-      within = subst (λ (n : ℕ). IsWithin m (at - room) (room + n)) (sym (size_is ∙ ap size_by e)) (dropped_within h d.drops unlocked);
+      lent = replaced_lends old new b.before (gap room ++ b.chunk ∷ []) (packed_one room b.chunk) b.after h.lent same chunks
+          (record { frame = x.frame; layout = ap merged x.exact }) (packed_total room b.chunk) (λ lent is y. packed_keeps room b.chunk lent _ y);
     }
 
 -- ---- a resized chunk

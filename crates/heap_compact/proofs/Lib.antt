@@ -1,14 +1,11 @@
 pub mod Words
 pub mod ResizedLaws
 pub mod MadeRoomLaws
-pub mod ByteLaws
 pub mod CarriedLaws
 pub mod CopyLaws
-pub mod DirectoryLaws
 pub mod DropLaws
-pub mod DropReads
 pub mod ExactLaws
-pub mod GivenBackLaws
+pub mod FoundAgain
 pub mod KeptLaws
 pub mod LargestLaws
 pub mod LentLifts

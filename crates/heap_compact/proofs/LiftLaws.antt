@@ -1,14 +1,5 @@
 -- When all lifted chunks are mended, the image is a heap again.
-use Rattle.std.proofs.Common.{◌≡◌, ℕ, zero, suc, ◌+◌, ◌-◌, ◌^◌, ◌<◌, List, [], ◌∷◌, ◌++◌, length, refl, sym, ap, subst, ◌∙◌, append_assoc, arith, inl, inr}
-use Rattle.std.specs.Prelude.{◌⊎◌, ◌↔◌}
-use Rattle.std.proofs.lemmas.Bool.{cases_eq}
-use Rattle.heap_compact.proofs.Words.{u32_at, Chunk, free, movable, fixed, need, size_of, total, Table, Tables, IsSlot, area_start, further_tables, BodyHere, IsBody, IsKnownIfFixed, ManagersHere, directory_of, HasDirectory, IsHeap, EveryPlaced, AnyPlaced, chunks_of, NoneStays, WritesPlain, lives, Lifting, FreeBehind, Lifts, IsFreeChunk, BecomesExactly}
-use Rattle.laws_heap.proofs.Bodies.{IsBody-low, IsBody-high}
-use Rattle.laws_heap.proofs.Placed.{EveryPlaced-append, EveryPlaced-split, AnyPlaced-left, AnyPlaced-right, AnyPlaced-split}
-use Rattle.laws_heap.proofs.Chunks.{total-append, SameWords}
-use Rattle.laws_heap.proofs.Slots.{slot_alike, start_listed}
-use Rattle.laws_heap.proofs.Plain.{free_plain, lives_plain, middle_plain}
-use Rattle.laws_heap.proofs.Runs.{chunks_of-tiled}
+use Rattle.heap_compact.proofs.Words.{◌≡◌, ℕ, zero, suc, ◌+◌, ◌-◌, ◌^◌, ◌<◌, List, [], ◌∷◌, ◌++◌, length, refl, sym, ap, subst, ◌∙◌, append_assoc, arith, inl, inr, ◌⊎◌, ◌↔◌, cases_eq, u32_at, Chunk, free, movable, fixed, need, size_of, total, Table, Tables, IsSlot, area_start, further_tables, BodyHere, IsBody, IsKnownIfFixed, ManagersHere, directory_of, HasDirectory, IsHeap, EveryPlaced, AnyPlaced, chunks_of, NoneStays, WritesPlain, lives, Lift, Lifting, HasFreeBehind, Lifts, IsFreeChunk, BecomesExactly, IsBody-low, IsBody-high, EveryPlaced-append, EveryPlaced-split, AnyPlaced-left, AnyPlaced-right, AnyPlaced-split, total-append, SameWords, slot_alike, start_listed, free_plain, lives_plain, middle_plain, chunks_of-tiled}
 use Rattle.heap_compact.proofs.ExactLaws.{exactly_start}
 
 -- ---- what does not depend on where a chunk stands
@@ -67,18 +58,18 @@ body_front at xs ys slot place b = AnyPlaced-left (BodyHere slot place) at xs ys
 
 -- ---- all are mended: the ties are whole again
 
-module _ (old image : List ℕ) (before moved after : List Chunk) (gap at : ℕ) (l : Lifting old image before moved [] after gap at) where
+module _ {gap : ℕ} {u : Lift gap} {image : List ℕ} {moved : List Chunk} {at : ℕ} (l : Lifting u image moved [] at) where
   -- the chunks before and after
   abbrev unlifted : List Chunk
-  unlifted = before ++ (moved ++ free gap ∷ after)
+  unlifted = u.before ++ (moved ++ free gap ∷ u.after)
 
   abbrev lifted : List Chunk
-  lifted = before ++ free gap ∷ (moved ++ after)
+  lifted = u.before ++ free gap ∷ (moved ++ u.after)
 
   start : ℕ
-  start = area_start old + total before
+  start = area_start u.old + total u.before
 
-  is_start : start ≡ area_start old + total before
+  is_start : start ≡ area_start u.old + total u.before
   unfolding start
   is_start = refl
 
@@ -87,74 +78,74 @@ module _ (old image : List ℕ) (before moved after : List Chunk) (gap at : ℕ)
   end = l.there
 
   -- a slot that contained a place before
-  to_new : (slot : ℕ) → IsSlot old slot → 0 < u32_at old slot → IsBody (area_start old) lifted slot (u32_at image slot)
-  to_new slot s some = elim (body_in (area_start old) before (moved ++ free gap ∷ after) _ slot (u32_at old slot) is_start ((l.heap.tied slot (u32_at old slot) some).0 (s, refl))) [
+  to_new : (slot : ℕ) → IsSlot u.old slot → 0 < u32_at u.old slot → IsBody (area_start u.old) lifted slot (u32_at image slot)
+  to_new slot s some = elim (body_in (area_start u.old) u.before (moved ++ free gap ∷ u.after) _ slot (u32_at u.old slot) is_start ((l.heap.tied slot (u32_at u.old slot) some).0 (s, refl))) [
     | inl front ↦
-        let high = IsBody-high (area_start old) before slot (u32_at old slot) front in
-        let same : u32_at image slot ≡ u32_at old slot = l.kept slot s (inl (omega (arith, high, is_start))) in
-        body_front (area_start old) before (free gap ∷ (moved ++ after)) slot (u32_at image slot) (subst (λ (p : ℕ). IsBody (area_start old) before slot p) (sym same) front)
-    | inr rest ↦ elim (body_in start moved (free gap ∷ after) (start + total moved) slot (u32_at old slot) refl rest) [
+        let high = IsBody-high (area_start u.old) u.before slot (u32_at u.old slot) front in
+        let same : u32_at image slot ≡ u32_at u.old slot = l.kept slot s (inl (omega (arith, high, is_start))) in
+        body_front (area_start u.old) u.before (free gap ∷ (moved ++ u.after)) slot (u32_at image slot) (subst (λ (p : ℕ). IsBody (area_start u.old) u.before slot p) (sym same) front)
+    | inr rest ↦ elim (body_in start moved (free gap ∷ u.after) (start + total moved) slot (u32_at u.old slot) refl rest) [
       | inl here ↦
-          let low = IsBody-low start moved slot (u32_at old slot) here in
-          let high = IsBody-high start moved slot (u32_at old slot) here in
-          let same : u32_at image slot ≡ u32_at old slot + gap = l.lifted slot s (omega (arith, low, is_start)) (omega (arith, high, end)) in
-          body_behind (area_start old) before (free gap ∷ (moved ++ after)) _ slot (u32_at image slot) is_start
-          (inr (body_front (start + gap) moved after slot (u32_at image slot) (subst (λ (p : ℕ). IsBody (start + gap) moved slot p) (sym same) (bodies_up slot (u32_at old slot) start gap moved here))))
+          let low = IsBody-low start moved slot (u32_at u.old slot) here in
+          let high = IsBody-high start moved slot (u32_at u.old slot) here in
+          let same : u32_at image slot ≡ u32_at u.old slot + gap = l.lifted slot s (omega (arith, low, is_start)) (omega (arith, high, end)) in
+          body_behind (area_start u.old) u.before (free gap ∷ (moved ++ u.after)) _ slot (u32_at image slot) is_start
+          (inr (body_front (start + gap) moved u.after slot (u32_at image slot) (subst (λ (p : ℕ). IsBody (start + gap) moved slot p) (sym same) (bodies_up slot (u32_at u.old slot) start gap moved here))))
       | inr behind ↦ elim behind [
         | inl none ↦ absurd none
         | inr back ↦
-            let low = IsBody-low (start + total moved + gap) after slot (u32_at old slot) back in
-            let same : u32_at image slot ≡ u32_at old slot = l.kept slot s (inr (omega (arith, low, end))) in
+            let low = IsBody-low (start + total moved + gap) u.after slot (u32_at u.old slot) back in
+            let same : u32_at image slot ≡ u32_at u.old slot = l.kept slot s (inr (omega (arith, low, end))) in
             let e : start + total moved + gap ≡ start + gap + total moved = omega arith in
-            body_behind (area_start old) before (free gap ∷ (moved ++ after)) _ slot (u32_at image slot) is_start
-            (inr (body_behind (start + gap) moved after (start + gap + total moved) slot (u32_at image slot) refl (subst (λ (n : ℕ). IsBody n after slot (u32_at image slot)) e (subst (λ (p : ℕ). IsBody (start + total moved + gap) after slot p) (sym same) back))))
+            body_behind (area_start u.old) u.before (free gap ∷ (moved ++ u.after)) _ slot (u32_at image slot) is_start
+            (inr (body_behind (start + gap) moved u.after (start + gap + total moved) slot (u32_at image slot) refl (subst (λ (n : ℕ). IsBody n u.after slot (u32_at image slot)) e (subst (λ (p : ℕ). IsBody (start + total moved + gap) u.after slot p) (sym same) back))))
       ]
     ]
   ]
 
   -- a body that there is now
-  of_old : (slot place : ℕ) → IsBody (area_start old) unlifted slot place → 0 < place → IsSlot old slot × (u32_at old slot ≡ place)
+  of_old : (slot place : ℕ) → IsBody (area_start u.old) unlifted slot place → 0 < place → IsSlot u.old slot × (u32_at u.old slot ≡ place)
   of_old slot place b some = (l.heap.tied slot place some).1 b
 
-  to_old : (slot place : ℕ) → IsBody (area_start old) lifted slot place → IsSlot old slot × (u32_at image slot ≡ place)
-  to_old slot place b = elim (body_in (area_start old) before (free gap ∷ (moved ++ after)) _ slot place is_start b) [
+  to_old : (slot place : ℕ) → IsBody (area_start u.old) lifted slot place → IsSlot u.old slot × (u32_at image slot ≡ place)
+  to_old slot place b = elim (body_in (area_start u.old) u.before (free gap ∷ (moved ++ u.after)) _ slot place is_start b) [
     | inl front ↦
-        let low = IsBody-low (area_start old) before slot place front in
-        let high = IsBody-high (area_start old) before slot place front in
-        let was = of_old slot place (body_front (area_start old) before (moved ++ free gap ∷ after) slot place front) (omega arith) in
+        let low = IsBody-low (area_start u.old) u.before slot place front in
+        let high = IsBody-high (area_start u.old) u.before slot place front in
+        let was = of_old slot place (body_front (area_start u.old) u.before (moved ++ free gap ∷ u.after) slot place front) (omega arith) in
         (was.0, l.kept slot was.0 (inl (omega (arith, high, was.1, is_start))) ∙ was.1)
     | inr rest ↦ elim rest [
       | inl none ↦ absurd none
-      | inr more ↦ elim (body_in (start + gap) moved after (start + gap + total moved) slot place refl more) [
+      | inr more ↦ elim (body_in (start + gap) moved u.after (start + gap + total moved) slot place refl more) [
         | inl here ↦
             let low = IsBody-low (start + gap) moved slot place here in
             let high = IsBody-high (start + gap) moved slot place here in
-            let was = of_old slot (place - gap) (body_behind (area_start old) before (moved ++ free gap ∷ after) _ slot (place - gap) is_start (body_front start moved (free gap ∷ after) slot (place - gap) (bodies_down slot place start gap moved here))) (omega arith) in
-            let e : u32_at old slot + gap ≡ place = omega arith in
+            let was = of_old slot (place - gap) (body_behind (area_start u.old) u.before (moved ++ free gap ∷ u.after) _ slot (place - gap) is_start (body_front start moved (free gap ∷ u.after) slot (place - gap) (bodies_down slot place start gap moved here))) (omega arith) in
+            let e : u32_at u.old slot + gap ≡ place = omega arith in
             (was.0, l.lifted slot was.0 (omega (arith, low, was.1, is_start)) (omega (arith, high, was.1, end)) ∙ e)
         | inr back ↦
-            let low = IsBody-low (start + gap + total moved) after slot place back in
+            let low = IsBody-low (start + gap + total moved) u.after slot place back in
             let e : start + gap + total moved ≡ start + total moved + gap = omega arith in
-            let was = of_old slot place (body_behind (area_start old) before (moved ++ free gap ∷ after) _ slot place is_start
-            (body_behind start moved (free gap ∷ after) (start + total moved) slot place refl (inr (subst (λ (n : ℕ). IsBody n after slot place) e back)))) (omega arith) in
+            let was = of_old slot place (body_behind (area_start u.old) u.before (moved ++ free gap ∷ u.after) _ slot place is_start
+            (body_behind start moved (free gap ∷ u.after) (start + total moved) slot place refl (inr (subst (λ (n : ℕ). IsBody n u.after slot place) e back)))) (omega arith) in
             (was.0, l.kept slot was.0 (inr (omega (arith, low, was.1, end))) ∙ was.1)
       ]
     ]
   ]
 
-  new_start : area_start image ≡ area_start old
-  new_start = start_listed old image l.tables
+  new_start : area_start image ≡ area_start u.old
+  new_start = start_listed u.old image l.tables
 
-  slot_new : (slot : ℕ) → IsSlot old slot → IsSlot image slot
+  slot_new : (slot : ℕ) → IsSlot u.old slot → IsSlot image slot
   slot_new slot s = slot_alike _ image _ l.slots s
 
-  slot_old : (slot : ℕ) → IsSlot image slot → IsSlot old slot
-  slot_old slot s = slot_alike _ old _ (sym l.slots) s
+  slot_old : (slot : ℕ) → IsSlot image slot → IsSlot u.old slot
+  slot_old slot s = slot_alike _ u.old _ (sym l.slots) s
 
-  place_new : (slot place : ℕ) → 0 < place → u32_at image slot ≡ place → IsSlot old slot → IsBody (area_start old) lifted slot place
-  place_new slot place some e s = elim (cases_eq (u32_at old slot) 0) [
-    | inl none ↦ let same : u32_at image slot ≡ u32_at old slot = l.kept slot s (inl (omega (arith, none))) in absurd (omega arith)
-    | inr used ↦ subst (λ (p : ℕ). IsBody (area_start old) lifted slot p) e (to_new slot s (omega arith))
+  place_new : (slot place : ℕ) → 0 < place → u32_at image slot ≡ place → IsSlot u.old slot → IsBody (area_start u.old) lifted slot place
+  place_new slot place some e s = elim (cases_eq (u32_at u.old slot) 0) [
+    | inl none ↦ let same : u32_at image slot ≡ u32_at u.old slot = l.kept slot s (inl (omega (arith, none))) in absurd (omega arith)
+    | inr used ↦ subst (λ (p : ℕ). IsBody (area_start u.old) lifted slot p) e (to_new slot s (omega arith))
   ]
 
   tied_again : (slot place : ℕ) → 0 < place → ((IsSlot image slot × (u32_at image slot ≡ place)) ↔ IsBody (area_start image) lifted slot place)
@@ -165,27 +156,27 @@ module _ (old image : List ℕ) (before moved after : List Chunk) (gap at : ℕ)
 
   known_again : NoneStays moved → EveryPlaced (IsKnownIfFixed (further_tables image)) (area_start image) lifted
   known_again loose =
-      let known : ℕ → Chunk → Type 0 = IsKnownIfFixed (further_tables old) in
-      let first = EveryPlaced-split known (area_start old) before (moved ++ free gap ∷ after) l.heap.fixed_are_known in
-      let second = EveryPlaced-split known (area_start old + total before) moved (free gap ∷ after) first.1 in
-      let here : ℕ = area_start old + total before in
+      let known : ℕ → Chunk → Type 0 = IsKnownIfFixed (further_tables u.old) in
+      let first = EveryPlaced-split known (area_start u.old) u.before (moved ++ free gap ∷ u.after) l.heap.fixed_are_known in
+      let second = EveryPlaced-split known (area_start u.old + total u.before) moved (free gap ∷ u.after) first.1 in
+      let here : ℕ = area_start u.old + total u.before in
       let e : here + total moved + gap ≡ here + gap + total moved = omega arith in
       subst (λ (ts : List Table). EveryPlaced (IsKnownIfFixed ts) (area_start image) lifted) (sym (ap (λ (t : Tables). t.further) l.tables))
       (subst (λ (n : ℕ). EveryPlaced known n lifted) (sym new_start)
-      (EveryPlaced-append known (area_start old) before (free gap ∷ (moved ++ after)) first.0
-      (tt, EveryPlaced-append known (here + gap) moved after (loose_known (further_tables old) (here + gap) moved loose) (subst (λ (n : ℕ). EveryPlaced known n after) e second.1.1))))
+      (EveryPlaced-append known (area_start u.old) u.before (free gap ∷ (moved ++ u.after)) first.0
+      (tt, EveryPlaced-append known (here + gap) moved u.after (loose_known (further_tables u.old) (here + gap) moved loose) (subst (λ (n : ℕ). EveryPlaced known n u.after) e second.1.1))))
 
-  managers_again : (slot : ℕ) → AnyPlaced (ManagersHere slot) (area_start old) unlifted → AnyPlaced (ManagersHere slot) (area_start image) lifted
+  managers_again : (slot : ℕ) → AnyPlaced (ManagersHere slot) (area_start u.old) unlifted → AnyPlaced (ManagersHere slot) (area_start image) lifted
   managers_again slot h =
-      let here : ℕ = area_start image + total before in
+      let here : ℕ = area_start image + total u.before in
       let P : ℕ → Chunk → Type 0 = ManagersHere slot in
-      elim (AnyPlaced-split P (area_start old) before (moved ++ free gap ∷ after) h) [
-        | inl front ↦ AnyPlaced-left P (area_start image) before (free gap ∷ (moved ++ after)) (managers_anywhere slot (area_start old) (area_start image) before front)
-        | inr rest ↦ AnyPlaced-right P (area_start image) before (free gap ∷ (moved ++ after)) (inr (elim (AnyPlaced-split P (area_start old + total before) moved (free gap ∷ after) rest) [
-          | inl mid ↦ AnyPlaced-left P (here + gap) moved after (managers_anywhere slot (area_start old + total before) (here + gap) moved mid)
-          | inr more ↦ AnyPlaced-right P (here + gap) moved after (elim more [
+      elim (AnyPlaced-split P (area_start u.old) u.before (moved ++ free gap ∷ u.after) h) [
+        | inl front ↦ AnyPlaced-left P (area_start image) u.before (free gap ∷ (moved ++ u.after)) (managers_anywhere slot (area_start u.old) (area_start image) u.before front)
+        | inr rest ↦ AnyPlaced-right P (area_start image) u.before (free gap ∷ (moved ++ u.after)) (inr (elim (AnyPlaced-split P (area_start u.old + total u.before) moved (free gap ∷ u.after) rest) [
+          | inl mid ↦ AnyPlaced-left P (here + gap) moved u.after (managers_anywhere slot (area_start u.old + total u.before) (here + gap) moved mid)
+          | inr more ↦ AnyPlaced-right P (here + gap) moved u.after (elim more [
             | inl none ↦ absurd none
-            | inr back ↦ managers_anywhere slot (area_start old + total before + total moved + gap) (here + gap + total moved) after back
+            | inr back ↦ managers_anywhere slot (area_start u.old + total u.before + total moved + gap) (here + gap + total moved) u.after back
           ])
         ]))
       ]
@@ -193,23 +184,23 @@ module _ (old image : List ℕ) (before moved after : List Chunk) (gap at : ℕ)
   directory_again : HasDirectory image lifted
   directory_again = elim l.heap.directory [
     | inl none ↦ inl (l.directory ∙ none)
-    | inr m ↦ inr (subst (λ (d : ℕ). AnyPlaced (ManagersHere d) (area_start image) lifted) (sym l.directory) (managers_again (directory_of old) m))
+    | inr m ↦ inr (subst (λ (d : ℕ). AnyPlaced (ManagersHere d) (area_start image) lifted) (sym l.directory) (managers_again (directory_of u.old) m))
   ]
 
   heap_again : NoneStays moved → IsHeap image lifted
   heap_again loose = record { tiles = l.tiles; tied = tied_again; fixed_are_known = known_again loose; directory = directory_again }
 
-  lift_plain : gap < 2 ^ 24 → lives moved ≡ moved → WritesPlain old image
+  lift_plain : gap < 2 ^ 24 → lives moved ≡ moved → WritesPlain u.old image
   lift_plain small live =
       let sizes = total-append moved (free gap ∷ []) in
-      let was : chunks_of old ≡ before ++ ((moved ++ free gap ∷ []) ++ after) =
-      chunks_of-tiled _ _ l.heap.tiles ∙ ap (λ (cs : List Chunk). before ++ cs) (sym (append_assoc moved (free gap ∷ []) after)) in
+      let was : chunks_of u.old ≡ u.before ++ ((moved ++ free gap ∷ []) ++ u.after) =
+      chunks_of-tiled _ _ l.heap.tiles ∙ ap (λ (cs : List Chunk). u.before ++ cs) (sym (append_assoc moved (free gap ∷ []) u.after)) in
       let word : u32_at image start ≡ 2 ^ 31 + gap = subst (λ (k : ℕ). u32_at image k ≡ 2 ^ 31 + gap) (sym is_start) l.plain in
-      middle_plain old _ before (moved ++ free gap ∷ []) (free gap ∷ moved) after _ was l.tiles new_start is_start (omega (arith, sizes)) l.front
-      (subst (λ (k : ℕ). SameWords old image k after) (let same : at + total [] ≡ start + total (moved ++ free gap ∷ []) = omega (arith, sizes, end) in same) l.back)
+      middle_plain u.old _ u.before (moved ++ free gap ∷ []) (free gap ∷ moved) u.after _ was l.tiles new_start is_start (omega (arith, sizes)) l.front
+      (subst (λ (k : ℕ). SameWords u.old image k u.after) (let same : at + total [] ≡ start + total (moved ++ free gap ∷ []) = omega (arith, sizes, end) in same) l.back)
       (free_plain image start gap moved word small (lives_plain image (start + gap) _ live))
 
-  pub lift_done : gap < 2 ^ 24 → lives moved ≡ moved → NoneStays moved → BecomesExactly old image lifted
+  pub lift_done : gap < 2 ^ 24 → lives moved ≡ moved → NoneStays moved → BecomesExactly u.old image lifted
   lift_done small live loose = record {
     frame = record { accepted = (lifted, heap_again loose); len = l.len; tables = l.tables; slots = l.slots; directory = l.directory };
     exact = chunks_of-tiled _ _ l.tiles;
@@ -217,7 +208,7 @@ module _ (old image : List ℕ) (before moved after : List Chunk) (gap at : ℕ)
   }
 
 -- the free chunk stands where the first of them stood
-pub lifted_room : {old new : List ℕ} {before mid after : List Chunk} {start end gap : ℕ} → FreeBehind old before mid after start end gap → Lifts old new start end gap → IsFreeChunk new start gap
-lifted_room {before} {mid} {after} f lifts =
-    let b = lifts before mid after f in
-    record { before = before; after = mid ++ after; chunks = b.exact; there = f.from ∙ ap (λ (n : ℕ). n + total before) (sym (exactly_start b)) }
+pub lifted_room : {old new : List ℕ} {start end gap : ℕ} → HasFreeBehind old start end gap → Lifts old new start end gap → IsFreeChunk new start gap
+lifted_room f lifts =
+    let b = lifts f in
+    record { before = f.before; after = f.mid ++ f.after; chunks = b.exact; there = f.from ∙ ap (λ (n : ℕ). n + total f.before) (sym (exactly_start b)) }

@@ -1,8 +1,5 @@
 -- A call that slides nothing slides one empty stretch and moves no bytes.
-use Rattle.std.proofs.Common.{◌≡◌, ℕ, ◌+◌, List, [], refl, arith}
-use Rattle.heap_compact.proofs.Words.{HeapAccepted, chunks_of, moved_bytes, SlidesOneStretch}
-use Rattle.laws_heap.proofs.SameLayouts.{same_frame}
-use Rattle.laws_heap.proofs.SlidImages.{unmoved_bytes}
+use Rattle.heap_compact.proofs.Words.{◌≡◌, ℕ, ◌+◌, List, [], refl, arith, HeapAccepted, chunks_of, moved_bytes, SlidesOneStretch, same_frame, unmoved_bytes}
 
 -- nothing slides
 pub slides_nothing : (image : List ℕ) → HeapAccepted image → SlidesOneStretch image image

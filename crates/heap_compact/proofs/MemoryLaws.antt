@@ -1,13 +1,5 @@
 -- Equal memories have equal parts, and a part of a range that may be written may be written.
-use Rattle.std.proofs.Common.{◌≡◌, ℕ, ◌+◌, ◌≤◌, List, ap, subst, sym}
-use Rattle.heap_model.specs.Memory.{Memory, Lent, IsWithin, Misses}
-use Rattle.laws_heap.proofs.Lending.{part_within}
-
-pub same_bytes : {m n : Memory} → m ≡ n → m.bytes ≡ n.bytes
-same_bytes e = ap (λ (m : Memory). m.bytes) e
-
-pub same_lents : {m n : Memory} → m ≡ n → m.lents ≡ n.lents
-same_lents e = ap (λ (m : Memory). m.lents) e
+use Rattle.heap_compact.proofs.Words.{◌≡◌, ℕ, ◌+◌, ◌≤◌, List, ap, subst, sym, Memory, Lent, IsWithin, Misses, part_within}
 
 pub same_slid : {m n : Memory} → m ≡ n → m.slid ≡ n.slid
 same_slid e = ap (λ (m : Memory). m.slid) e

@@ -1,32 +1,14 @@
 -- A chunk that moves to room elsewhere keeps its bytes and its name, step by step.
-use Rattle.std.proofs.Common.{◌≡◌, ◌≢◌, ℕ, ◌+◌, ◌-◌, ◌%◌, ◌^◌, ◌<◌, ◌≤◌, List, [], ◌∷◌, ◌++◌, length, take, drop, replicate, Bool, Option, Some, None, refl, sym, ap, subst, ◌∙◌, arith, inl, inr}
-use Rattle.std.proofs.lemmas.List.{length-replicate, length-take, take_all, take-take, drop-replicate}
-use Rattle.std.proofs.lemmas.Bool.{cases_lt, OnTrue_at, OnTrue_from}
-use Rattle.std.specs.Bool.{OnTrue}
-use Rattle.std.specs.Prelude.{slice_range, min}
-use Rattle.heap_model.specs.Bytes.{u32_at, u32_bytes, overwritten, sized_to}
-use Rattle.heap_compact.proofs.Words.{Chunk, free, movable, fixed, fixed_lock, need, size_of, Spelled, data_owner, total, IsSlot, TablesLie, HeapAccepted, LiveChunk, NamedHere, chunks_of, held, NoRun, place_of, Finds, Becomes, Alters, freed, with_bytes, IsSpot, Claims, WritesPlain, with_length, Relocates, HasHeader, live_words, h_offset_to, Found, IsOne, stand_in, KeepsFound, Copies, with_name, RelocatesToRun, Any, KeepsFree}
+use Rattle.heap_compact.proofs.Words.{◌≡◌, ◌≢◌, ℕ, ◌+◌, ◌-◌, ◌%◌, ◌^◌, ◌<◌, ◌≤◌, List, [], ◌∷◌, ◌++◌, length, take, drop, replicate, Bool, Option, Some, None, refl, sym, ap, subst, ◌∙◌, arith, inl, inr, length-replicate, take_all, take-take, drop-replicate, cases_lt, OnTrue_at, OnTrue_from, OnTrue, slice_range, min, u32_at, u32_bytes, sized_to, Chunk, free, movable, fixed, fixed_lock, need, size_of, Spelled, data_owner, total, IsSlot, TablesLie, HeapAccepted, LiveChunk, NamedHere, chunks_of, held, NoRun, place_of, Finds, Becomes, Alters, freed, with_bytes, IsSpot, Claims, WritesPlain, with_length, Relocates, HasHeader, live_words, h_offset_to, Found, IsOne, stand_in, KeepsFound, Copies, with_name, RelocatesToRun, Any, KeepsFree, ChangesName, claims_change, spot_unheld, spot_is_run, length-sized_to, relocates, slot_unheld, Spelled-size, Spelled-same, plain-callers, plain-movable, u32_at-written, length-overwritten, slot_facts, named_hold_none, slot_beside, wrote_wider, wrote_word, WroteArea, area_replaces, area_slots, beside_same, table_kept, becomes_heap, slot_kept, lives_plain, replaced_plain, heap_in_parts, middle_of, found_inside, own_slot, one_held, when_movable, keeps_replaced, live_apart, header_movable, wrote_words}
+use Rattle.heap_model.specs.Bytes.{overwritten}
+use Rattle.std.proofs.lemmas.List.{length-take}
 use Rattle.laws_heap.proofs.FoundChunks.{held_finds, finds_spelled, finds_body}
 use Rattle.laws_heap.proofs.AlteredChunks.{finds_place, body_stays}
-use Rattle.laws_heap.proofs.Exchanges.{ChangesName}
 use Rattle.laws_heap.proofs.FixedNames.{fixed_name, fixed_live, fixed_has_name, fixed_live_is, fixed_owned}
 use Rattle.laws_heap.proofs.ExchangedNames.{bytes_changes, freed_changes}
-use Rattle.laws_heap.proofs.Spots.{claims_change, spot_unheld, spot_is_run}
-use Rattle.laws_heap.proofs.Resizings.{length-sized_to}
-use Rattle.laws_heap.proofs.Relocation.{relocates}
-use Rattle.laws_heap.proofs.SlidImages.{slot_unheld}
-use Rattle.laws_heap.proofs.Chunks.{Spelled-size, Spelled-same, plain-callers, plain-movable}
-use Rattle.laws_heap.proofs.Frames.{u32_at-written, length-overwritten}
-use Rattle.laws_heap.proofs.Slots.{slot_facts, named_hold_none, slot_beside}
-use Rattle.laws_heap.proofs.Writes.{wrote_wider, wrote_word, WroteArea, area_replaces, area_slots, beside_same, table_kept}
 use Rattle.laws_heap.proofs.FreeChunks.{OtherSlots, claimed}
-use Rattle.laws_heap.proofs.SameLayouts.{becomes_heap, slot_kept}
-use Rattle.laws_heap.proofs.Plain.{lives_plain, replaced_plain}
 use Rattle.chunk_format.specs.declared.header.Header.TheVariants as headers
-use Rattle.heap_place.proofs.FoundLaws.{heap_in_parts, middle_of, found_inside, own_slot, one_held, when_movable}
-use Rattle.heap_place.proofs.KeepLaws.{keeps_replaced, live_apart}
 use Rattle.heap_place.proofs.WithinLaws.{keeps_body}
-use Rattle.heap_place.proofs.CutLaws.{header_movable, wrote_words}
 use Rattle.heap_place.proofs.AlterLaws.{changed_there, written_there}
 
 -- ---- what is held is found

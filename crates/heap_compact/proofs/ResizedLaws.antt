@@ -1,20 +1,6 @@
 -- A name's chunk has its new length after it grew in place, moved, or its stretch was packed.
-use Rattle.std.proofs.Common.{◌≡◌, ℕ, ◌+◌, ◌-◌, ◌<◌, ◌≤◌, List, ◌∷◌, ◌++◌, length, Bool, true, false, Option, Some, refl, sym, ap, subst, ◌∙◌, arith, inl, inr}
-use Rattle.std.proofs.lemmas.Bool.{cases_eq, OnTrue_at}
-use Rattle.std.specs.Prelude.{◌==◌, if◌then◌else◌, IsSome, IsTrue, ◌↔◌}
-use Rattle.std.specs.Bool.{OnTrue, OnFalse}
-use Rattle.heap_compact.proofs.Words.{sized_to, Chunk, movable, need, size_of, HeapAccepted, LiveChunk, chunks_of, held, changed, NoRun, ShortFor, Short, FitsInPlace, MovesAlone, MovesOneStretchAnd, free_front, room_of, IsSpot, SlidesOneStretch, OpensBehind, with_length, GrowsInPlace, Relocates, Found, Stretch, IsFound, IsOne, RelocatesFound, RelocatesToRun, TellsWhetherInPlace, IsLoose, Resized, FitsInStretch}
-use Rattle.laws_heap.proofs.SameLayouts.{frame_then}
-use Rattle.laws_heap.proofs.Exchanges.{ChangesName}
-use Rattle.laws_heap.proofs.Resizings.{live_sized, grow_changes, finds_behind, opened_behind}
-use Rattle.laws_heap.proofs.Relocation.{relocate_changes}
-use Rattle.laws_heap.proofs.Fits.{spot_not_short_for}
-use Rattle.laws_heap.proofs.SlidImages.{slides_alike, slides_move_one, opens_one}
-use Rattle.laws_heap.proofs.Stretches.{short_for_parts, room_of-middle}
+use Rattle.heap_compact.proofs.Words.{◌≡◌, ℕ, ◌+◌, ◌-◌, ◌<◌, ◌≤◌, List, ◌∷◌, ◌++◌, length, Bool, true, false, Option, Some, refl, sym, ap, subst, ◌∙◌, arith, inl, inr, cases_eq, OnTrue_at, ◌==◌, if◌then◌else◌, IsSome, IsTrue, ◌↔◌, OnTrue, OnFalse, sized_to, Chunk, movable, need, size_of, HeapAccepted, LiveChunk, chunks_of, held, changed, NoRun, ShortFor, Short, FitsInPlace, MovesAlone, MovesOneStretchAnd, free_front, room_of, IsSpot, SlidesOneStretch, OpensBehind, with_length, GrowsInPlace, Relocates, Found, Stretch, IsFound, IsOne, RelocatesFound, RelocatesToRun, TellsWhetherInPlace, IsLoose, Resized, FitsInStretch, frame_then, ChangesName, live_sized, grow_changes, finds_behind, opened_behind, relocate_changes, spot_not_short_for, slides_alike, slides_move_one, opens_one, short_for_parts, room_of-middle, name_held, found_inside, middle_of, heap_in_parts, one_held, when_movable, free_within, IsFoundAmong, HasRoomOf}
 use Rattle.laws_heap.proofs.ChangedName.{held_updated}
-use Rattle.heap_place.proofs.FoundLaws.{name_held, found_inside, middle_of, heap_in_parts, one_held, when_movable}
-use Rattle.heap_place.proofs.WalkLaws.{free_within}
-use Rattle.heap_compact.specs.Stretches.{IsFoundAmong, HasRoomOf}
 
 -- what was found is the chunk of its own name
 pub one_of : {image : List ℕ} {name : ℕ} {found : Found} → IsFound image name found → IsOne image found

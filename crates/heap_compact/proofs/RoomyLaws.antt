@@ -1,15 +1,8 @@
 -- The search finds the first stretch whose room has a size, or there is none.
-use Rattle.std.proofs.Common.{◌≡◌, ℕ, zero, suc, ◌+◌, ◌<◌, ◌≤◌, List, [], ◌∷◌, ◌++◌, length, refl, sym, ap, subst, ◌∙◌, append_assoc, arith}
-use Rattle.std.specs.Prelude.{All, IsTrue, filter}
+use Rattle.heap_compact.proofs.Words.{◌≡◌, ℕ, zero, suc, ◌+◌, ◌<◌, ◌≤◌, List, [], ◌∷◌, ◌++◌, length, refl, sym, ap, subst, ◌∙◌, append_assoc, arith, All, IsTrue, filter, sum_by-cons, sum_by-append, Chunk, free, movable, fixed, total, free_size, SpelledAll, area_start, HeapAccepted, chunks_of, stays_put, NoneStays, runs_between, has_chunk, stretches, room_of, rooms_of, Short, EndsStaying, BeginsStaying, size_by, HasHeader, Header, HeaderStays, free_by, Stretch, IsStretch, HasRoom, SeenRooms, SpelledAll-split, SpelledAll-end, chunks_after, stretches_behind, run_then, rooms_of-append, free_of, free_within}
 use Rattle.std.proofs.lemmas.List.Elements.{All-nil, All-cons, All-append}
-use Rattle.std.proofs.lemmas.List.Sums.{sum_by-cons, sum_by-append}
-use Rattle.heap_compact.proofs.Words.{Chunk, free, movable, fixed, total, free_size, SpelledAll, area_start, HeapAccepted, chunks_of, stays_put, NoneStays, runs_between, has_chunk, stretches, room_of, rooms_of, Short, EndsStaying, BeginsStaying, size_by, HasHeader, Header, HeaderStays, free_by, Stretch, IsStretch, HasRoom, SeenRooms}
-use Rattle.laws_heap.proofs.Chunks.{Spelled-size, SpelledAll-split, SpelledAll-end}
-use Rattle.laws_heap.proofs.Runs.{chunks_after}
 use Rattle.laws_heap.proofs.Packings.{no_true}
-use Rattle.laws_heap.proofs.Stretches.{stretches_behind, run_then, rooms_of-append}
-use Rattle.heap_place.proofs.WalkLaws.{free_of, free_within}
-use Rattle.heap_compact.proofs.SeenLaws.{header_stay, seen_more, seen_closed, begins_there, none_there}
+use Rattle.heap_compact.proofs.SeenLaws.{header_stay, seen_more, seen_closed, begins_there, none_there, nothing_after}
 
 -- ---- rooms of lists
 
@@ -46,11 +39,6 @@ rooms_start size h e =
       room_is = refl;
       short = All-nil (λ other. other < size);
     }
-
-beyond : (image : List ℕ) (here : ℕ) (c : Chunk) (after : List Chunk) → SpelledAll image here (c ∷ after) (length image) → length image ≤ here → ⊥
-beyond image here c after s past =
-    let size = Spelled-size image here c s.0 in
-    omega (arith, size.0, size.1, past)
 
 module _ {image : List ℕ} {size start here room : ℕ} (r : SeenRooms image size start here room) where
   open r.seen use {closed, run}
@@ -110,12 +98,9 @@ module _ {image : List ℕ} {size start here room : ℕ} (r : SeenRooms image si
     -- or none is
     pub room_none : length image ≤ here → room < size → Short image size
     room_none past low =
-        let all : chunks_of image ≡ closed ++ (run ++ []) = others.1 ∙ ap (λ (cs : List Chunk). (closed ++ run) ++ cs) (no_more others.0 others.2) ∙ append_assoc closed run [] in
+        let all : chunks_of image ≡ closed ++ (run ++ []) = others.1 ∙ ap (λ (cs : List Chunk). (closed ++ run) ++ cs) (nothing_after image here others.0 others.2 past) ∙ append_assoc closed run [] in
         subst (λ (cs : List Chunk). All (λ other. other < size) (rooms_of (stretches cs))) (sym all)
-        (short_behind size closed run [] [] r.seen.ends r.seen.none_stays refl refl r.short (omega (arith, r.room_is, low))) where
-          no_more : (after : List Chunk) → SpelledAll image here after (length image) → after ≡ []
-          no_more [] spelled = refl
-          no_more (c ∷ after) spelled = absurd (beyond image here c after spelled past)
+        (short_behind size closed run [] [] r.seen.ends r.seen.none_stays refl refl r.short (omega (arith, r.room_is, low)))
 
 pub room_stretch : {image : List ℕ} {size : ℕ} {stretch : Stretch} → HasRoom image size stretch → IsStretch image stretch
 room_stretch r = record { before = r.before; mid = r.mid; after = r.after; is = r.is }

@@ -1,14 +1,6 @@
 -- The search finds the stretch of an unlocked chunk.
-use Rattle.std.proofs.Common.{◌≡◌, ℕ, zero, suc, ◌+◌, ◌-◌, ◌<◌, ◌≤◌, List, [], ◌∷◌, ◌++◌, length, refl, sym, ap, subst, ◌∙◌, append_assoc, arith}
-use Rattle.std.specs.Prelude.{IsTrue}
-use Rattle.std.proofs.lemmas.List.{append-nil}
-use Rattle.heap_compact.proofs.Words.{Chunk, free, movable, fixed, size_of, total, Spelled, SpelledAll, area_start, HeapAccepted, chunks_of, stays_put, NoneStays, EndsStaying, BeginsStaying, LiveChunk, NamedHere, header_of, size_by, HasHeader, Header, Found, IsOne, HeaderStays, IsUnlocked, IsAmongAt, SeenUpTo}
-use Rattle.laws_heap.proofs.Slides.{none_stays-append}
-use Rattle.laws_heap.proofs.Chunks.{Spelled-size, Spelled-unique, SpelledAll-split, SpelledAll-end, SpelledAll-push, SpelledAll-rest}
-use Rattle.laws_heap.proofs.Runs.{chunk_there, chunks_after}
+use Rattle.heap_compact.proofs.Words.{◌≡◌, ℕ, zero, suc, ◌+◌, ◌-◌, ◌<◌, ◌≤◌, List, [], ◌∷◌, ◌++◌, length, refl, sym, ap, subst, ◌∙◌, append_assoc, arith, IsTrue, append-nil, Chunk, free, movable, fixed, size_of, total, Spelled, SpelledAll, area_start, HeapAccepted, chunks_of, stays_put, NoneStays, EndsStaying, BeginsStaying, LiveChunk, NamedHere, header_of, size_by, HasHeader, Header, Found, IsOne, HeaderStays, IsUnlocked, IsAmongAt, SeenUpTo, none_stays-append, Spelled-size, Spelled-unique, SpelledAll-split, SpelledAll-end, SpelledAll-push, SpelledAll-rest, chunk_there, chunks_after, size_by-header_of, heap_in_parts}
 use Rattle.laws_heap.proofs.FixedNames.{fixed_live_is}
-use Rattle.chunk_format.proofs.HeaderLaws.{size_by-header_of}
-use Rattle.heap_place.proofs.FoundLaws.{heap_in_parts}
 
 -- ---- the chunk that was found
 
@@ -121,9 +113,12 @@ pub begins_there : (image : List ℕ) (here : ℕ) (c : Chunk) (after : List Chu
 begins_there image here c [] s p stay = tt
 begins_there image here c (d ∷ after) s p stay = subst (λ (x : Chunk). IsTrue (stays_put x)) (Spelled-unique image here c d p s.0) stay
 
+pub nothing_after : (image : List ℕ) (here : ℕ) (after : List Chunk) → SpelledAll image here after (length image) → length image ≤ here → after ≡ []
+nothing_after image here [] s past = refl
+nothing_after image here (d ∷ after) s past = let size = Spelled-size image here d s.0 in absurd (omega (arith, size.0, size.1, past))
+
 pub none_there : (image : List ℕ) (here : ℕ) (after : List Chunk) → SpelledAll image here after (length image) → length image ≤ here → BeginsStaying after
-none_there image here [] s past = tt
-none_there image here (d ∷ after) s past = let size = Spelled-size image here d s.0 in let a = size.0 in let b = size.1 in absurd (omega (arith, a, b, past))
+none_there image here after s past = subst BeginsStaying (sym (nothing_after image here after s past)) tt
 
 module _ {image : List ℕ} {at name count start here : ℕ} (h : HeapAccepted image) (u : IsUnlocked image at name count) (s : SeenUpTo image at start here) where
   open s use {closed, run}

@@ -1,13 +1,9 @@
 -- What a space keeps when bytes of a chunk's body are written, or a chunk is put into room.
-use Rattle.std.proofs.Common.{◌≡◌, ℕ, ◌+◌, ◌-◌, ◌≤◌, List, length, sym, ap, subst, ◌∙◌}
-use Rattle.heap_compact.proofs.Words.{Memory, IsWithin, Chunk, need, size_of, LendsOther, chunks_of, Alters, Becomes, Claims, with_bytes, WritesPlain, KnowsTables, Remembered, Found, IsOne, CutsRoom, Fills, HasLists, IsSpace}
-use Rattle.heap_model.specs.Bytes.{overwritten}
+use Rattle.heap_compact.proofs.Words.{◌≡◌, ℕ, ◌+◌, ◌-◌, ◌≤◌, List, length, refl, sym, ap, subst, ◌∙◌, arith, length-take, length-drop, Memory, HeapAccepted, changed_every, IsWithin, Chunk, need, size_of, LendsOther, chunks_of, Alters, Becomes, Claims, with_bytes, WritesPlain, KnowsTables, Remembered, Found, IsOne, CutsRoom, Fills, HasLists, IsSpace, overwritten, bytes_inside, one_body_within, written_holds, slice_range, cut_claims, claims_same, same_lents}
 use Rattle.heap_place.proofs.AlterLaws.{written_there}
-use Rattle.heap_place.proofs.LentLaws.{one_body_within, written_holds}
-use Rattle.heap_place.proofs.SpotLaws.{cut_claims, claims_same}
+use Rattle.raw_region.proofs.ChangeLaws.{length-changed_every}
 use Rattle.heap_place.proofs.WithinLaws.{body_lists}
 use Rattle.heap_compact.proofs.KeptLaws.{viewed_kept, viewed_heap}
-use Rattle.heap_compact.proofs.MemoryLaws.{same_lents}
 
 -- The bytes `part` were written at `at` in the body of a found chunk. The lists of free chunks and
 -- the remembered tables are right in the new image too.
@@ -17,6 +13,12 @@ pub record BodyWritten (old new heads : List ℕ) (known : Remembered) (found : 
   pub plain : WritesPlain old new
   pub lists : HasLists new heads
   pub tables : KnowsTables new known
+
+-- The same, of a body that isn't lent.
+pub record SpaceWritten (old : List ℕ) (new : Memory) (heads : List ℕ) (known : Remembered) (found : Found) (at : ℕ) (part : List ℕ) : Type 0 where
+  pub made : Alters old new.bytes (found.place.0 - 8) (with_bytes at part)
+  pub plain : WritesPlain old new.bytes
+  pub space : IsSpace new heads known
 
 module _ {old region : Memory} {heads : List ℕ} {known : Remembered} {found : Found} (view : region ≡ old) (s : IsSpace region heads known) (f : IsOne old.bytes found) where
   -- what is written may depend on the bytes that were there
@@ -37,18 +39,19 @@ module _ {old region : Memory} {heads : List ℕ} {known : Remembered} {found : 
         tables = viewed_kept known view there.0.frame s.tables;
       }
 
-  pub written_space : {at : ℕ} {part : List ℕ} (new : Memory) → LendsOther old found.place.0 → BodyWritten old.bytes new.bytes heads known found at part → new.lents ≡ region.lents → IsSpace new heads known
-  written_space new other w same = record {
-    heap = written_holds _ new found _ _ (viewed_heap view s.heap) (same ∙ same_lents view) f w.made w.fits other;
-    lists = w.lists;
-    tables = w.tables;
-  }
+  module _ (other : LendsOther old found.place.0) where
+    pub space_written : (new : Memory) (at : ℕ) (part : List ℕ → List ℕ) → at + length (part old.bytes) ≤ found.length → new.bytes ≡ overwritten region.bytes (found.place.0 + at) (part region.bytes) → new.lents ≡ region.lents
+        → SpaceWritten old.bytes new heads known found at (part old.bytes)
+    space_written new at part fits is same =
+        let w = body_written at _ part refl fits is in
+        let heap = written_holds _ new found _ _ (viewed_heap view s.heap) (same ∙ same_lents view) f w.made w.fits other in
+        record { made = w.made; plain = w.plain; space = record { heap = heap; lists = w.lists; tables = w.tables } }
 
-  -- such bytes may be written
-  pub body_within : (at n : ℕ) → LendsOther old found.place.0 → at + n ≤ found.length → IsWithin region (found.place.0 + at) n
-  body_within at n other fits =
-      let heap = viewed_heap view s.heap in
-      subst (λ (m : Memory). IsWithin m (found.place.0 + at) n) (sym view) (one_body_within old found at n heap.accepted heap.lent f other fits)
+    -- such bytes may be written
+    pub body_within : (at n : ℕ) → at + n ≤ found.length → IsWithin region (found.place.0 + at) n
+    body_within at n fits =
+        let heap = viewed_heap view s.heap in
+        subst (λ (m : Memory). IsWithin m (found.place.0 + at) n) (sym view) (one_body_within old found at n heap.accepted heap.lent f other fits)
 
 -- ---- a chunk is put into room that was found
 
@@ -58,3 +61,16 @@ pub room_claimed : {old region : Memory} {taken mid new : List ℕ} {at room siz
 room_claimed {region} {taken} {new} {at} {room} count chunk view e is same cut fills built =
     let makes = cut_claims _ _ _ _ room _ _ is same (subst (λ (n : ℕ). CutsRoom region.bytes taken at room n) e cut) fills in
     subst (λ (m : Memory). Claims m.bytes new at room chunk) view (claims_same _ _ _ _ _ chunk makes built)
+
+-- ---- bytes at equal distances are changed
+
+-- the bytes that take their place
+abbrev pub changed_part : List ℕ → Found → ℕ → ℕ → ℕ → ℕ → (ℕ → ℕ) → List ℕ
+changed_part image found at count skip step change = changed_every change step skip (slice_range image (found.place.0 + at) (found.place.0 + at + count))
+
+pub length-changed_part : (image : List ℕ) (found : Found) (at count skip step : ℕ) (change : ℕ → ℕ) → HeapAccepted image → IsOne image found → at + count ≤ found.length → length (changed_part image found at count skip step change) ≡ count
+length-changed_part image found at count skip step change h f within =
+    let inside = bytes_inside _ found h f in
+    let part : List ℕ = slice_range image (found.place.0 + at) (found.place.0 + at + count) in
+    let many : length part ≡ count = simp (length-take, length-drop) (omega arith) in
+    length-changed_every change step skip part ∙ many

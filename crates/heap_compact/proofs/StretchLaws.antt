@@ -1,32 +1,21 @@
 -- A stretch can be packed, and then its room can be opened after one of its chunks.
-use Rattle.std.proofs.Common.{◌≡◌, ℕ, zero, suc, ◌+◌, ◌-◌, ◌<◌, ◌≤◌, List, [], ◌∷◌, ◌++◌, length, refl, sym, ap, subst, ◌∙◌, append_assoc, arith}
-use Rattle.std.proofs.lemmas.List.{append-nil}
-use Rattle.std.proofs.lemmas.List.Sums.{sum_by-cons}
-use Rattle.heap_compact.proofs.Words.{u32_at, Chunk, free, movable, fixed, need, total, free_size, IsSlot, TablesLie, area_start, Memory, HoldsHeap, BodyHere, IsHeap, HeapAccepted, chunks_of, NoneStays, stays_put, room_of, SameFrame, Becomes, gap, merged, IsRoom, WritesPlain, packed, lives, EndsStaying, WholeStretch, opened, OpensBehind, Stretch, FreeBehind, BecomesExactly, RunOf, Packs, LeavesLastRoom, last_room, KeepsApart, StretchIs, IsStretch, IsAmongAt, HasRoomOf, OpensExactly}
-use Rattle.std.specs.Prelude.{IsTrue}
-use Rattle.laws_heap.proofs.Slots.{tiled_table}
-use Rattle.laws_heap.proofs.Chunks.{total-append, SpelledAll-split, SpelledAll-end}
-use Rattle.laws_heap.proofs.Placed.{AnyPlaced-mid}
-use Rattle.laws_heap.proofs.Exchanges.{gap_free, gap_total}
+use Rattle.heap_compact.proofs.Words.{◌≡◌, ℕ, zero, suc, ◌+◌, ◌-◌, ◌<◌, ◌≤◌, List, [], ◌∷◌, ◌++◌, length, refl, sym, ap, subst, ◌∙◌, append_assoc, arith, append-nil, sum_by-cons, u32_at, Chunk, free, movable, fixed, need, total, free_size, IsSlot, area_start, Memory, HoldsHeap, BodyHere, IsHeap, HeapAccepted, chunks_of, NoneStays, stays_put, room_of, SameFrame, Becomes, gap, merged, IsRoom, WritesPlain, packed, lives, EndsStaying, WholeStretch, opened, OpensBehind, Stretch, HasFreeBehind, BecomesExactly, IsRun, Packs, LeavesLastRoom, last_room, KeepsApart, StretchIs, IsStretch, IsAmongAt, HasRoomOf, OpensExactly, IsTrue, total-append, SpelledAll-split, SpelledAll-end, AnyPlaced-mid, gap_free, gap_total, lives-append, lives_total, lives_twice, none_stays-append, stretch_packed, room_of-middle, one_stretch, heap_in_parts}
 use Rattle.laws_heap.proofs.Layouts.{IsNotFree}
-use Rattle.laws_heap.proofs.Slides.{lives-append, lives_total, lives_twice, none_stays-append, stretch_packed}
-use Rattle.laws_heap.proofs.Stretches.{room_of-middle, one_stretch}
-use Rattle.heap_place.proofs.FoundLaws.{heap_in_parts}
 use Rattle.heap_compact.proofs.ExactLaws.{exactly_start, exactly_becomes, exactly_then}
 use Rattle.heap_place.proofs.RoomLaws.{live_keeps}
 use Rattle.heap_compact.proofs.DropLaws.{gap_some, gap_none}
 
 -- ---- a stretch is packed
 
-pub stretch_run : {image : List ℕ} {before mid after : List Chunk} {stretch : Stretch} → StretchIs image before mid after stretch → RunOf image before mid after stretch.start stretch.end
-stretch_run s = record { chunks = s.whole.chunks; from = s.from; to = s.to }
+abbrev pub stretch_run : {image : List ℕ} {before mid after : List Chunk} {stretch : Stretch} → StretchIs image before mid after stretch → IsRun image stretch.start stretch.end
+stretch_run {before} {mid} {after} s = record { before = before; mid = mid; after = after; chunks = s.whole.chunks; from = s.from; to = s.to }
 
 -- of a chunk that is among its own
 pub among_stretch : {image : List ℕ} {at name count : ℕ} {stretch : Stretch} → IsAmongAt image at name count stretch → IsStretch image stretch
 among_stretch {name} a = record { before = a.before; mid = a.front ++ movable a.bytes 0 a.owner name ∷ a.back; after = a.after; is = a.is }
 
 -- all room of chunks of which none stays is at their end
-loose_lives : (cs : List Chunk) → NoneStays cs → NoneStays (lives cs)
+pub loose_lives : (cs : List Chunk) → NoneStays cs → NoneStays (lives cs)
 loose_lives [] n = tt
 loose_lives (free size ∷ cs) n = loose_lives cs n
 loose_lives (movable bytes zero owner slot ∷ cs) n = loose_lives cs n
@@ -43,7 +32,7 @@ last_loose room (fixed bytes owner ∷ cs) n = absurd n
 -- the room that is left of a stretch
 pub room_left : {image : List ℕ} (stretch : Stretch) {room : ℕ} → LeavesLastRoom image stretch.start stretch.end room → HasRoomOf image stretch room
 room_left stretch leaves before mid after s =
-    omega (arith, leaves before mid after (stretch_run s), last_loose 0 mid s.whole.none_stays)
+    omega (arith, leaves (stretch_run s), last_loose 0 mid s.whole.none_stays)
 
 -- chunks with one that stays at their end end with it, and it keeps others apart
 stay_live : (c : Chunk) → IsTrue (stays_put c) → IsNotFree c
@@ -88,7 +77,7 @@ packed_end {new} {before} {mid} {after} {room} s b is =
 
 -- ---- the same chunks in other parts
 
-regroup : (before xs ys after : List Chunk) (v f : Chunk) → before ++ (((xs ++ v ∷ ys) ++ f ∷ []) ++ after) ≡ (before ++ (xs ++ v ∷ [])) ++ (ys ++ f ∷ after)
+pub regroup : (before xs ys after : List Chunk) (v f : Chunk) → before ++ (((xs ++ v ∷ ys) ++ f ∷ []) ++ after) ≡ (before ++ (xs ++ v ∷ [])) ++ (ys ++ f ∷ after)
 regroup before xs ys after v f =
     ap (λ (cs : List Chunk). before ++ cs) (append_assoc (xs ++ v ∷ ys) (f ∷ []) after ∙ append_assoc xs (v ∷ ys) (f ∷ after) ∙ sym (append_assoc xs (v ∷ []) (ys ++ f ∷ after)))
     ∙ sym (append_assoc before (xs ++ v ∷ []) (ys ++ f ∷ after))
@@ -133,11 +122,8 @@ module _ {old mid : List ℕ} {at name count : ℕ} {stretch : Stretch} {room : 
   abbrev rear : List Chunk
   rear = lives a.back
 
-  run : RunOf old a.before (a.front ++ v ∷ a.back) a.after stretch.start stretch.end
-  run = stretch_run a.is
-
   packed_image : BecomesExactly old mid (a.before ++ (packed (a.front ++ v ∷ a.back) ++ a.after))
-  packed_image = packs a.before (a.front ++ v ∷ a.back) a.after run
+  packed_image = packs (stretch_run a.is)
 
   pub packed_frame : SameFrame old mid
   packed_frame = packed_image.frame
@@ -145,7 +131,7 @@ module _ {old mid : List ℕ} {at name count : ℕ} {stretch : Stretch} {room : 
   all_room : room ≡ room_of (a.front ++ v ∷ a.back)
   all_room =
       let loose = last_loose 0 (a.front ++ v ∷ a.back) a.is.whole.none_stays in
-      omega (arith, leaves a.before (a.front ++ v ∷ a.back) a.after run, loose)
+      omega (arith, leaves (stretch_run a.is), loose)
 
   room_is : room ≡ room_of (a.front ++ a.back)
   room_is = let middle = room_of-middle a.front v a.back in omega (arith, all_room, middle)
@@ -154,13 +140,13 @@ module _ {old mid : List ℕ} {at name count : ℕ} {stretch : Stretch} {room : 
   packed_is =
       stretch_packed (a.front ++ v ∷ a.back) a.is.whole.none_stays ∙ ap (λ (cs : List Chunk). cs ++ gap (room_of (a.front ++ v ∷ a.back))) (lives-append a.front (v ∷ a.back)) ∙ ap (λ (n : ℕ). (fore ++ v ∷ rear) ++ gap n) (sym all_room)
 
-  chunks_then : chunks_of mid ≡ a.before ++ (((fore ++ v ∷ rear) ++ gap room) ++ a.after)
+  pub chunks_then : chunks_of mid ≡ a.before ++ (((fore ++ v ∷ rear) ++ gap room) ++ a.after)
   chunks_then = packed_image.exact ∙ ap (λ (cs : List Chunk). a.before ++ (cs ++ a.after)) packed_is
 
   heap_then : IsHeap mid ((a.before ++ fore) ++ v ∷ (rear ++ (gap room ++ a.after)))
   heap_then = heap_in_parts _ _ packed_frame.accepted (chunks_then ∙ regroup_around a.before fore rear (gap room) a.after v)
 
-  starts : area_start mid ≡ area_start old
+  pub starts : area_start mid ≡ area_start old
   starts = exactly_start packed_image
 
   tied_then : IsSlot mid name × (u32_at mid name ≡ area_start mid + total (a.before ++ fore) + 8)
@@ -171,14 +157,11 @@ module _ {old mid : List ℕ} {at name count : ℕ} {stretch : Stretch} {room : 
   pub slot_then : IsSlot mid name
   slot_then = tied_then.0
 
-  pub table_then : TablesLie mid
-  table_then = tiled_table _ _ heap_then.tiles
-
-  place_is : u32_at mid name ≡ stretch.start + total fore + 8
+  pub place_is : u32_at mid name ≡ stretch.start + total fore + 8
   place_is =
       omega (arith, tied_then.1, a.is.from, total-append a.before fore, starts)
 
-  ends : stretch.end ≡ stretch.start + total fore + need (length a.bytes) + total rear + room
+  pub ends : stretch.end ≡ stretch.start + total fore + need (length a.bytes) + total rear + room
   ends =
       let parts = ap total (lives-append a.front (v ∷ a.back)) ∙ total-append fore (v ∷ rear) in
       omega (arith, a.is.to, lives_total (a.front ++ v ∷ a.back), parts, all_room)
@@ -203,12 +186,15 @@ module _ {old mid : List ℕ} {at name count : ℕ} {stretch : Stretch} {room : 
   numbers =
       record { behind_header = omega (arith, place_is); inside = omega (arith, place_is, ends, ap need a.many); within = omega (arith, ends); most = omega (arith, inside, h.1.tiles.head.most); from = omega (arith, place_is) }
 
-  pub room_behind : (start : ℕ) → 0 < room → start ≡ u32_at mid name - 8 + need count → FreeBehind mid (a.before ++ (fore ++ v ∷ [])) rear a.after start (stretch.end - room) room
+  abbrev pub room_behind : (start : ℕ) → 0 < room → start ≡ u32_at mid name - 8 + need count → HasFreeBehind mid start (stretch.end - room) room
   room_behind start some start_is =
       let many = ap need a.many in
       let one = total-append a.before (fore ++ v ∷ []) in
       let two = total-append fore (v ∷ []) in
       record {
+        before = a.before ++ (fore ++ v ∷ []);
+        mid = rear;
+        after = a.after;
         chunks = chunks_then ∙ ap (λ (g : List Chunk). a.before ++ (((fore ++ v ∷ rear) ++ g) ++ a.after)) (gap_some room some) ∙ regroup a.before fore rear a.after v (free room);
         live = lives_twice a.back;
         loose = loose_lives a.back ((none_stays-append a.front (v ∷ a.back)).0 a.is.whole.none_stays).1;

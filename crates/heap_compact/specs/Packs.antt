@@ -21,25 +21,22 @@ pub record BecomesExactly (old new : List ℕ) (chunks : List Chunk) : Type 0 wh
 -- ---- some chunks in a row
 
 -- the chunks `mid` of an image fill it from `start` up to `end`
-pub record RunOf (image : List ℕ) (before mid after : List Chunk) (start end : ℕ) : Type 0 where
-  pub chunks : chunks_of image ≡ before ++ (mid ++ after)
-  pub from : start ≡ area_start image + total before
-  pub to : end ≡ start + total mid
-
--- some chunks of an image fill it from `start` up to `end`
 pub record IsRun (image : List ℕ) (start end : ℕ) : Type 0 where
   pub before : List Chunk
   pub mid : List Chunk
   pub after : List Chunk
-  pub run : RunOf image before mid after start end
+  pub chunks : chunks_of image ≡ before ++ (mid ++ after)
+  pub from : start ≡ area_start image + total before
+  pub to : end ≡ start + total mid
 
 -- the chunks from `start` up to `end` are packed
 abbrev pub Packs : List ℕ → List ℕ → ℕ → ℕ → Type 0
-Packs old new start end = (before mid after : List Chunk) → RunOf old before mid after start end → BecomesExactly old new (before ++ (packed mid ++ after))
+Packs old new start end =
+    (run : IsRun old start end) → BecomesExactly old new (run.before ++ (packed run.mid ++ run.after))
 
 -- `moved` bytes of the chunks from `start` up to `end` move when they are packed
 abbrev pub MovesInRun : List ℕ → ℕ → ℕ → ℕ → Type 0
-MovesInRun image start end moved = (before mid after : List Chunk) → RunOf image before mid after start end → moved ≡ moved_by_packing mid
+MovesInRun image start end moved = (run : IsRun image start end) → moved ≡ moved_by_packing run.mid
 
 -- the room at the end of some chunks when they are packed, if `room` bytes of room are before them
 abbrev pub last_room : ℕ → List Chunk → ℕ
@@ -51,7 +48,7 @@ last_room room (fixed bytes owner ∷ chunks) = last_room 0 chunks
 
 -- `room` bytes of room are at the end of the chunks from `start` up to `end` when they are packed
 abbrev pub LeavesLastRoom : List ℕ → ℕ → ℕ → ℕ → Type 0
-LeavesLastRoom image start end room = (before mid after : List Chunk) → RunOf image before mid after start end → room ≡ last_room 0 mid
+LeavesLastRoom image start end room = (run : IsRun image start end) → room ≡ last_room 0 run.mid
 
 -- ---- one chunk
 
@@ -89,66 +86,58 @@ slot_by (headers.Movable length lock owner slot) = Some slot
 slot_by (headers.Fixed length owner) = None
 
 -- `chunk` begins at `at`; before it are `room` free bytes, in one chunk, or in none if `room` is 0
-pub record BehindRoom (image : List ℕ) (before : List Chunk) (chunk : Chunk) (after : List Chunk) (at room : ℕ) : Type 0 where
-  pub chunks : chunks_of image ≡ before ++ (gap room ++ chunk ∷ after)
-  pub there : at ≡ area_start image + total before + room
-
--- a chunk begins at `at`; before it are `room` free bytes, in one chunk, or in none if `room` is 0
 pub record IsBehindRoom (image : List ℕ) (at room : ℕ) : Type 0 where
   pub before : List Chunk
   pub chunk : Chunk
   pub after : List Chunk
-  pub behind : BehindRoom image before chunk after at room
+  pub chunks : chunks_of image ≡ before ++ (gap room ++ chunk ∷ after)
+  pub there : at ≡ area_start image + total before + room
 
--- `chunk` is packed, with `room` bytes of room before it; the numbers are its size, the bytes of it
+-- a chunk is packed, with `room` bytes of room before it; the numbers are its size, the bytes of it
 -- that moved, and the room after it
-pub record PackedOne (old new : List ℕ) (before : List Chunk) (chunk : Chunk) (after : List Chunk) (room size moved room_then : ℕ) : Type 0 where
-  pub becomes : BecomesExactly old new (before ++ (packed_one room chunk ++ after))
-  pub size_is : size ≡ size_of chunk
-  pub moved_is : moved ≡ moved_one room chunk
-  pub room_is : room_then ≡ room_after room chunk
+pub record PackedOne {old : List ℕ} {at room : ℕ} (b : IsBehindRoom old at room) (new : List ℕ) (size moved room_then : ℕ) : Type 0 where
+  pub becomes : BecomesExactly old new (b.before ++ (packed_one room b.chunk ++ b.after))
+  pub size_is : size ≡ size_of b.chunk
+  pub moved_is : moved ≡ moved_one room b.chunk
+  pub room_is : room_then ≡ room_after room b.chunk
 
 -- the chunk at `at`, of `size` bytes and with `room` bytes of room before it, is packed: `moved`
 -- bytes of it move, and `room_then` bytes of room are after it
 abbrev pub PacksOne : List ℕ → List ℕ → ℕ → ℕ → ℕ → ℕ → ℕ → Type 0
 PacksOne old new at room size moved room_then =
-    (before : List Chunk) (chunk : Chunk) (after : List Chunk) → BehindRoom old before chunk after at room → PackedOne old new before chunk after room size moved room_then
+    (b : IsBehindRoom old at room) → PackedOne b new size moved room_then
 
--- a movable chunk begins at `at`, and before it is a free one of `room` bytes
-pub record Droppable (image : List ℕ) (before : List Chunk) (bytes : List ℕ) (lock owner slot : ℕ) (after : List Chunk) (at room : ℕ) : Type 0 where
-  pub chunks : chunks_of image ≡ before ++ free room ∷ movable bytes lock owner slot ∷ after
-  pub there : at ≡ area_start image + total before + room
-
--- a movable chunk begins at `at`, and before it is a free one of `room` bytes
-pub record IsDroppable (image : List ℕ) (at room : ℕ) : Type 0 where
+-- a movable chunk of `size` bytes begins at `at`, has no locks and names `slot`; before it is a free
+-- chunk of `room` bytes
+pub record IsDroppable (image : List ℕ) (at room size slot : ℕ) : Type 0 where
   pub before : List Chunk
   pub bytes : List ℕ
-  pub lock : ℕ
   pub owner : ℕ
-  pub slot : ℕ
   pub after : List Chunk
-  pub drops : Droppable image before bytes lock owner slot after at room
+  pub chunks : chunks_of image ≡ before ++ free room ∷ movable bytes 0 owner slot ∷ after
+  pub there : at ≡ area_start image + total before + room
+  pub takes : size ≡ need (length bytes)
 
--- the movable chunk at `at` goes down over the free one before it
-abbrev pub MovesDown : List ℕ → List ℕ → ℕ → ℕ → Type 0
-MovesDown old new at room =
-    (before : List Chunk) (bytes : List ℕ) (lock owner slot : ℕ) (after : List Chunk) → Droppable old before bytes lock owner slot after at room → BecomesExactly old new (before ++ movable bytes lock owner slot ∷ free room ∷ after)
+-- that chunk goes down over the free one before it
+abbrev pub MovesDown : List ℕ → List ℕ → ℕ → ℕ → ℕ → ℕ → Type 0
+MovesDown old new at room size slot =
+    (d : IsDroppable old at room size slot) → BecomesExactly old new (d.before ++ movable d.bytes 0 d.owner slot ∷ free room ∷ d.after)
 
 -- ---- the loop
 
--- of the chunks `mid` those before `at` are packed: `moved` bytes of them have moved, and `room`
+-- of the chunks of a run those before `at` are packed: `moved` bytes of them have moved, and `room`
 -- bytes of room are at their end
-pub record Packing (old image : List ℕ) (before mid after : List Chunk) (start end at moved room : ℕ) : Type 0 where
+pub record Packing {old : List ℕ} {start end : ℕ} (run : IsRun old start end) (image : List ℕ) (at moved room : ℕ) : Type 0 where
   pub done : List Chunk
   pub rest : List Chunk
-  pub becomes : BecomesExactly old image (before ++ (done ++ (gap room ++ (rest ++ after))))
-  pub packs : done ++ packed_behind room rest ≡ packed mid
+  pub becomes : BecomesExactly old image (run.before ++ (done ++ (gap room ++ (rest ++ run.after))))
+  pub packs : done ++ packed_behind room rest ≡ packed run.mid
   pub there : at ≡ start + total done + room
   pub ends : end ≡ at + total rest
-  pub moved_is : moved + moved_behind room rest ≡ moved_by_packing mid
-  pub room_is : last_room room rest ≡ last_room 0 mid
+  pub moved_is : moved + moved_behind room rest ≡ moved_by_packing run.mid
+  pub room_is : last_room room rest ≡ last_room 0 run.mid
 
 -- the packing of the chunks from `start` up to `end` is at `at`: `moved` bytes have moved, and
 -- `room` bytes of room are before `at`
 abbrev pub PacksUpTo : List ℕ → List ℕ → ℕ → ℕ → ℕ → ℕ → ℕ → Type 0
-PacksUpTo old image start end at moved room = (before mid after : List Chunk) → RunOf old before mid after start end → Packing old image before mid after start end at moved room
+PacksUpTo old image start end at moved room = (run : IsRun old start end) → Packing run image at moved room

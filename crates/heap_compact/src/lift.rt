@@ -7,7 +7,7 @@ ghost use Rattle.heap_model.specs.Slots.{HasTable};
 ghost use Rattle.heap_model.specs.Lending.{HoldsHeap};
 ghost use Rattle.heap_compact.specs.Lifting.{IsCarried, MendsOne, AreCarried, MendsAll, HasFreeBehind, Lifts};
 
-use chunk_format::{HEADER_SIZE, Header};
+use chunk_format::{HEADER_SIZE, Header, put_slot};
 use heap_model::{Name, Place};
 use raw_region::Region;
 
@@ -53,21 +53,9 @@ fn mend_one(region: &mut Region, at: u32, gap: u32) -> u32
     ensures slid { region.new.slid ≡ region.old.slid }
 {
     let (header, size) = Header::at_with_size(region, at);
-    if let Header::Movable {
-        length,
-        lock,
-        owner,
-        slot,
-    } = header
-    {
+    if let Header::Movable { slot, .. } = header {
         let slot = slot - gap;
-        let mended = Header::Movable {
-            length,
-            lock,
-            owner,
-            slot,
-        };
-        mended.write(region, at);
+        put_slot(region, at, slot);
         master_table::set(region, Name(slot), Place(at + HEADER_SIZE));
     }
     size

@@ -14,10 +14,9 @@ ghost use Rattle.heap_compact.specs.Stretches.{IsStretch, PacksStretch, RoomAtEn
 ghost use Rattle.heap_compact.specs.Packs.{IsRun, Packs, MovesInRun, LeavesLastRoom, IsBehindRoom, PacksOne, IsDroppable, MovesDown, HeaderStays, slot_by};
 ghost use Rattle.heap_place.specs.Lists.{AreLists, HasLists, KeepsFree};
 ghost use Rattle.heap_place.specs.Gathers.{Before};
-ghost use Rattle.chunk_format.specs.Header.{HasHeader, size_by};
 
 use crate::stretch::Stretch;
-use chunk_format::{HEADER_SIZE, Header, area_start};
+use chunk_format::{HEADER_SIZE, Header, area_start, put_slot};
 use heap_model::{Name, Place};
 use heap_place::lists::{Lists, push_room};
 use raw_region::Region;
@@ -134,7 +133,8 @@ fn pack_one(region: &mut Region, lists: &mut Lists, at: u32, room: u32) -> Step
             room: 0,
         };
     }
-    drop_one(region, header, at, size, room);
+    let slot = slot_of(header).unwrap();
+    drop_one(region, slot, at, size, room);
     Step {
         size,
         slid: size,
@@ -154,24 +154,21 @@ pub(crate) fn stays(header: Header) -> bool
     }
 }
 
-/// Moves the movable chunk at `at`, which has this header and size, down over the free chunk before
-/// it, whose size is `room`.
-fn drop_one(region: &mut Region, header: Header, at: u32, size: u32, room: u32)
+/// Moves the movable chunk at `at`, which has no locks, down over the free chunk before it, whose
+/// size is `room`. The chunk has `size` bytes and names `slot`. Its header moves with it, so only
+/// the second word is written anew.
+fn drop_one(region: &mut Region, slot: u32, at: u32, size: u32, room: u32)
     requires heap { HoldsHeap region.old }
-    requires drops { IsDroppable region.old.bytes at room }
-    requires loose { HeaderStays header → ⊥ }
-    requires header { HasHeader region.old.bytes at header }
-    requires size { size ≡ size_by header }
-    ensures dropped { MovesDown region.old.bytes region.new.bytes at room }
+    requires drops { IsDroppable region.old.bytes at room size slot }
+    ensures dropped { MovesDown region.old.bytes region.new.bytes at room size slot }
     ensures keeps { KeepsFree (Before (at - room)) region.old.bytes region.new.bytes }
     ensures out { region.new.lents ≡ region.old.lents }
     ensures slid { region.new.slid ≡ region.old.slid + size }
     ensures heap { HoldsHeap region.new }
 {
-    let slot = slot_of(header).unwrap();
     let to = at - room;
-    region.slide(at as usize, to as usize, size as usize);
-    header.write(region, to);
+    region.slide_down(at as usize, to as usize, size as usize);
+    put_slot(region, to, slot);
     Header::Free { size: room }.write(region, to + size);
     master_table::set(region, Name(slot), Place(to + HEADER_SIZE));
 }

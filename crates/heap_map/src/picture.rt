@@ -21,7 +21,7 @@ use palm_text::{Counted, WriteFault};
 use raw_region::Region;
 use std::alloc::AllocError;
 use std::io::Write;
-use store_check::{StoreFault, StoreSummary, check_store_from};
+use store_check::{StoreFault, StoreSummary, check_store};
 use thiserror::Error;
 
 /// The reason why no picture was written, or not all of it.
@@ -61,7 +61,7 @@ pub fn check_image<A: Allowance>(memory: &A, region: &Region) -> Result<StoreSum
     ensures before { result ≢ Err MapFault.Write }
     ensures short { result ≡ Err MapFault.OutOfMemory → A.is_short memory.now }
 {
-    match check_store_from(memory, region) {
+    match check_store(memory, region) {
         Ok(summary) => Ok(summary),
         Err(fault) => Err(map_fault(fault)),
     }

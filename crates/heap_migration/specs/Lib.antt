@@ -1,3 +1,4 @@
 pub mod Growth
+pub mod Names
 pub mod Stores
 pub mod Writing

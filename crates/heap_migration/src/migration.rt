@@ -15,22 +15,37 @@ use crate::head::{growth, write_head};
 use allowance::Allowance;
 use chunk_format::{is_chained, is_image_size, slot_count};
 use raw_region::Region;
-use thiserror::Error;
+use std::error::Error;
+use std::fmt::{self, Display};
 
 /// The reason why an image isn't migrated. The reasons are tested in this order.
-#[derive(Clone, Copy, Debug, PartialEq, Eq, Error)]
+#[derive(Clone, Copy, Debug, PartialEq, Eq)]
 pub enum MigrateFault {
     /// The body of a chunk is lent. `migrate_from` takes no region with a lent part, so it never
     /// returns this fault: its caller does.
-    #[error("Lent")]
     Lent,
     /// The new image would be larger than 16,777,208 bytes.
-    #[error("TooLarge")]
     TooLarge,
     /// The allocation failed.
-    #[error("OutOfMemory")]
     OutOfMemory,
 }
+
+impl Display for MigrateFault {
+    ghost use Rattle.std.specs.Prelude.{Some};
+    ghost use Rattle.heap_migration.specs.Names.{migrate_fault_name};
+
+    ghost output = { λ fault. Some (migrate_fault_name fault) };
+
+    fn fmt<W: fmt::Write>(&self, f: &mut fmt::Formatter<W>) -> fmt::Result {
+        f.write_str(match self {
+            MigrateFault::Lent => "Lent",
+            MigrateFault::TooLarge => "TooLarge",
+            MigrateFault::OutOfMemory => "OutOfMemory",
+        })
+    }
+}
+
+impl Error for MigrateFault {}
 
 /// Turns an accepted image into one with a chain of tables. Returns an image that has a chain as it
 /// is: for such an image there is no error.

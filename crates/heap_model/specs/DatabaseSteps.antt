@@ -34,16 +34,16 @@ DatabaseCall = given.DatabaseCall Name Db
 
 -- the same call, with its chunk and its database given another way
 abbrev pub database_call : {One Other ThisOne ThisOther : Type 0} → (One → Other) → (ThisOne → ThisOther) → given.DatabaseCall One ThisOne → given.DatabaseCall Other ThisOther
-database_call chunk a_number (Create name kind creator resources date) = Create name kind creator resources date
-database_call chunk a_number (Delete db) = Delete (a_number db)
-database_call chunk a_number (Find name) = Find name
-database_call chunk a_number (Nth index) = Nth index
-database_call chunk a_number Count = Count
-database_call chunk a_number (Info db) = Info (a_number db)
-database_call chunk a_number (SetInfo db info) = SetInfo (a_number db) info
-database_call chunk a_number (SetInfoBlock db which name) = SetInfoBlock (a_number db) which (chunk name)
-database_call chunk a_number (TakeInfoBlock db which owner) = TakeInfoBlock (a_number db) which owner
-database_call chunk a_number (InfoBlock db which) = InfoBlock (a_number db) which
+database_call chunk number (Create name kind creator resources date) = Create name kind creator resources date
+database_call chunk number (Delete db) = Delete (number db)
+database_call chunk number (Find name) = Find name
+database_call chunk number (Nth index) = Nth index
+database_call chunk number Count = Count
+database_call chunk number (Info db) = Info (number db)
+database_call chunk number (SetInfo db info) = SetInfo (number db) info
+database_call chunk number (SetInfoBlock db which name) = SetInfoBlock (number db) which (chunk name)
+database_call chunk number (TakeInfoBlock db which owner) = TakeInfoBlock (number db) which owner
+database_call chunk number (InfoBlock db which) = InfoBlock (number db) which
 
 -- ---- words of the rows
 

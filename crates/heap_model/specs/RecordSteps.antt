@@ -30,27 +30,27 @@ RecordCall = given.RecordCall Name Db
 
 -- the same call, with its chunk and its database given in another way
 abbrev pub record_call : {One Other ThisOne ThisOther : Type 0} → (One → Other) → (ThisOne → ThisOther) → given.RecordCall One ThisOne → given.RecordCall Other ThisOther
-record_call chunk a_number (New db at size) = New (a_number db) at size
-record_call chunk a_number (Delete db index) = Delete (a_number db) index
-record_call chunk a_number (Archive db index) = Archive (a_number db) index
-record_call chunk a_number (Remove db index) = Remove (a_number db) index
-record_call chunk a_number (Move db from to) = Move (a_number db) from to
-record_call chunk a_number (Get db index) = Get (a_number db) index
-record_call chunk a_number (Query db index) = Query (a_number db) index
-record_call chunk a_number (Release db index dirty) = Release (a_number db) index dirty
-record_call chunk a_number (Info db index) = Info (a_number db) index
-record_call chunk a_number (Resize db index size) = Resize (a_number db) index size
-record_call chunk a_number (Count db) = Count (a_number db)
-record_call chunk a_number (Attach db at name) = Attach (a_number db) at (chunk name)
-record_call chunk a_number (AttachReplacing db index name owner) = AttachReplacing (a_number db) index (chunk name) owner
-record_call chunk a_number (Detach db index owner) = Detach (a_number db) index owner
-record_call chunk a_number (SetInfo db index attributes id) = SetInfo (a_number db) index attributes id
-record_call chunk a_number (FindById db id) = FindById (a_number db) id
-record_call chunk a_number (CountInCategory db category) = CountInCategory (a_number db) category
-record_call chunk a_number (NextInCategory db from category) = NextInCategory (a_number db) from category
-record_call chunk a_number (PositionInCategory db index category) = PositionInCategory (a_number db) index category
-record_call chunk a_number (MoveCategory db to from dirty) = MoveCategory (a_number db) to from dirty
-record_call chunk a_number (DeleteCategory db category) = DeleteCategory (a_number db) category
+record_call chunk number (New db at size) = New (number db) at size
+record_call chunk number (Delete db index) = Delete (number db) index
+record_call chunk number (Archive db index) = Archive (number db) index
+record_call chunk number (Remove db index) = Remove (number db) index
+record_call chunk number (Move db from to) = Move (number db) from to
+record_call chunk number (Get db index) = Get (number db) index
+record_call chunk number (Query db index) = Query (number db) index
+record_call chunk number (Release db index dirty) = Release (number db) index dirty
+record_call chunk number (Info db index) = Info (number db) index
+record_call chunk number (Resize db index size) = Resize (number db) index size
+record_call chunk number (Count db) = Count (number db)
+record_call chunk number (Attach db at name) = Attach (number db) at (chunk name)
+record_call chunk number (AttachReplacing db index name owner) = AttachReplacing (number db) index (chunk name) owner
+record_call chunk number (Detach db index owner) = Detach (number db) index owner
+record_call chunk number (SetInfo db index attributes id) = SetInfo (number db) index attributes id
+record_call chunk number (FindById db id) = FindById (number db) id
+record_call chunk number (CountInCategory db category) = CountInCategory (number db) category
+record_call chunk number (NextInCategory db from category) = NextInCategory (number db) from category
+record_call chunk number (PositionInCategory db index category) = PositionInCategory (number db) index category
+record_call chunk number (MoveCategory db to from dirty) = MoveCategory (number db) to from dirty
+record_call chunk number (DeleteCategory db category) = DeleteCategory (number db) category
 
 -- ---- attributes
 
@@ -79,16 +79,16 @@ attributes_set given attributes = bit_or (bit_and attributes 0xA0) (bit_and give
 
 -- the unique ID in a number: its low 24 bits
 abbrev pub id_in : ℕ → ℕ
-id_in a_number = a_number % 2 ^ 24
+id_in number = number % 2 ^ 24
 
 -- the unique ID of a record that is given a number; if the number is 0, the record keeps its ID
 abbrev pub id_set : ℕ → ℕ → ℕ
-id_set a_number id = if id_in a_number == 0 then id else id_in a_number
+id_set number id = if id_in number == 0 then id else id_in number
 
 -- a record that is given attributes and a number
 abbrev pub with_record_info : ℕ → ℕ → Entry ℕ → Entry ℕ
-with_record_info given a_number (a_record attributes id slot) = a_record (attributes_set given attributes) (id_set a_number id) slot
-with_record_info given a_number (a_resource kind id slot) = a_resource kind id slot
+with_record_info given number (a_record attributes id slot) = a_record (attributes_set given attributes) (id_set number id) slot
+with_record_info given number (a_resource kind id slot) = a_resource kind id slot
 
 -- ---- words of the checks
 

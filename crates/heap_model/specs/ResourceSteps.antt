@@ -27,16 +27,16 @@ ResourceCall = given.ResourceCall Name Db
 
 -- the same call, with its chunk and its database given in another way
 abbrev pub resource_call : {One Other ThisOne ThisOther : Type 0} → (One → Other) → (ThisOne → ThisOther) → given.ResourceCall One ThisOne → given.ResourceCall Other ThisOther
-resource_call chunk a_number (New db kind id size) = New (a_number db) kind id size
-resource_call chunk a_number (Attach db kind id name) = Attach (a_number db) kind id (chunk name)
-resource_call chunk a_number (Detach db index owner) = Detach (a_number db) index owner
-resource_call chunk a_number (Remove db index) = Remove (a_number db) index
-resource_call chunk a_number (Resize db index size) = Resize (a_number db) index size
-resource_call chunk a_number (Info db index) = Info (a_number db) index
-resource_call chunk a_number (SetInfo db index kind id) = SetInfo (a_number db) index kind id
-resource_call chunk a_number (Find db kind id) = Find (a_number db) kind id
-resource_call chunk a_number (FindType db kind nth) = FindType (a_number db) kind nth
-resource_call chunk a_number (Count db) = Count (a_number db)
+resource_call chunk number (New db kind id size) = New (number db) kind id size
+resource_call chunk number (Attach db kind id name) = Attach (number db) kind id (chunk name)
+resource_call chunk number (Detach db index owner) = Detach (number db) index owner
+resource_call chunk number (Remove db index) = Remove (number db) index
+resource_call chunk number (Resize db index size) = Resize (number db) index size
+resource_call chunk number (Info db index) = Info (number db) index
+resource_call chunk number (SetInfo db index kind id) = SetInfo (number db) index kind id
+resource_call chunk number (Find db kind id) = Find (number db) kind id
+resource_call chunk number (FindType db kind nth) = FindType (number db) kind nth
+resource_call chunk number (Count db) = Count (number db)
 
 -- ---- types and ids
 
@@ -47,13 +47,13 @@ has_type given (a_resource kind id slot) = kind == given
 
 -- the entry is a resource of this type and this ID
 abbrev pub HasTypeAndId : ℕ → ℕ → Entry ℕ → Type 0
-HasTypeAndId given a_number (a_record attributes id slot) = ⊥
-HasTypeAndId given a_number (a_resource kind id slot) = (kind ≡ given) × (id ≡ a_number)
+HasTypeAndId given number (a_record attributes id slot) = ⊥
+HasTypeAndId given number (a_resource kind id slot) = (kind ≡ given) × (id ≡ number)
 
 -- a resource with another type and ID
 abbrev pub with_type_and_id : ℕ → ℕ → Entry ℕ → Entry ℕ
-with_type_and_id given a_number (a_record attributes id slot) = a_record attributes id slot
-with_type_and_id given a_number (a_resource kind id slot) = a_resource given a_number slot
+with_type_and_id given number (a_record attributes id slot) = a_record attributes id slot
+with_type_and_id given number (a_resource kind id slot) = a_resource given number slot
 
 -- ---- a check that rows share
 

@@ -1,5 +1,5 @@
 -- A live chunk of an accepted heap gets another lock count, another owner or other bytes.
-use Rattle.heap_place.proofs.Words.{◌≡◌, ℕ, zero, suc, ◌+◌, ◌-◌, ◌<◌, ◌≤◌, List, [], ◌∷◌, ◌++◌, length, replicate, refl, sym, ap, subst, ◌∙◌, arith, inl, inr, length-append, length-take, length-drop, ◌⊎◌, slice_range, length-replicate, Memory, u32_bytes, overwritten, Chunk, free, movable, fixed, fixed_lock, HeapAccepted, LiveChunk, Finds, Becomes, Alters, with_lock, with_owner, with_bytes, WritesPlain, overwritten-behind, WroteWithin, wrote_word, wrote_wider, fixed_live_is, fixed_owned, finds_spelled, exchanges_parts, named_live_chunk, body_written, movable_relabelled, fixed_relabelled, Relocks, Reowns, Found, IsOne, CanGoTo, SlidesWithin, same_lock, same_owner}
+use Rattle.heap_place.proofs.Words.{◌≡◌, ℕ, zero, suc, ◌+◌, ◌-◌, ◌<◌, ◌≤◌, List, [], ◌∷◌, ◌++◌, length, refl, sym, ap, subst, ◌∙◌, arith, inl, inr, ◌⊎◌, u32_bytes, overwritten, Chunk, free, movable, fixed, fixed_lock, HeapAccepted, LiveChunk, Finds, Becomes, Alters, with_lock, with_owner, with_bytes, WritesPlain, WroteWithin, wrote_word, wrote_wider, fixed_live_is, fixed_owned, finds_spelled, exchanges_parts, named_live_chunk, body_written, movable_relabelled, fixed_relabelled, Relocks, Reowns, Found, IsOne, CanGoTo, same_lock, same_owner}
 use Rattle.heap_place.proofs.FoundLaws.{Fields, fields_of, bytes_inside}
 
 -- the second word was written
@@ -62,23 +62,3 @@ written_there old new found at part h f within is =
     let place : ℕ = found.place.0 - 8 in
     let done = body_written old new _ place at f.live f.chunk part h f.finds (omega arith) (is ∙ ap (λ n. overwritten old (n + at) part) (sym there)) in
     (changed_there old new found (with_bytes at part) h f done.0, done.1)
-
-pub slid_there : (old region : Memory) (new : List ℕ) (found : Found) (from to count : ℕ) → region ≡ old → HeapAccepted old.bytes → IsOne old.bytes found → from + count ≤ found.length → to + count ≤ found.length
-    → new ≡ overwritten region.bytes (found.place.0 + to) (slice_range region.bytes (found.place.0 + from) (found.place.0 + from + count)) → SlidesWithin old.bytes new found from to count × WritesPlain old.bytes new
-slid_there old region new found from to count same h f in_from in_to is =
-    let inside = bytes_inside _ found h f in
-    let many : length (slice_range old.bytes (found.place.0 + from) (found.place.0 + from + count)) ≡ count = simp (length-take, length-drop) (omega arith) in
-    written_there _ new found to (slice_range old.bytes (found.place.0 + from) (found.place.0 + from + count)) h f (omega arith)
-    (is ∙ ap (λ (m : Memory). overwritten m.bytes (found.place.0 + to) (slice_range m.bytes (found.place.0 + from) (found.place.0 + from + count))) same)
-
-pub filled_there : (old new : List ℕ) (found : Found) (at count byte : ℕ) → HeapAccepted old → IsOne old found → at + count ≤ found.length → new ≡ overwritten old (found.place.0 + at) (replicate count byte) → Alters old new (found.place.0 - 8) (with_bytes at (replicate count byte)) × WritesPlain old new
-filled_there old new found at count byte h f within is =
-    let many : length (replicate {A = ℕ} count byte) ≡ count = length-replicate count byte in
-    written_there old new found at (replicate count byte) h f (omega arith) is
-
-pub ended_there : (old mid new : List ℕ) (found : Found) (at : ℕ) (part : List ℕ) → HeapAccepted old → IsOne old found → at + length part + 1 ≤ found.length → mid ≡ overwritten old (found.place.0 + at) part → new ≡ overwritten mid (found.place.0 + at + length part) (0 ∷ [])
-    → Alters old new (found.place.0 - 8) (with_bytes at (part ++ 0 ∷ [])) × WritesPlain old new
-ended_there old mid new found at part h f within mid_is new_is =
-    let inside = bytes_inside old found h f in
-    let more : length (part ++ 0 ∷ []) ≡ length part + 1 = length-append part (0 ∷ []) in
-    written_there old new found at (part ++ 0 ∷ []) h f (omega arith) (new_is ∙ ap (λ x. overwritten x (found.place.0 + at + length part) (0 ∷ [])) mid_is ∙ overwritten-behind old (found.place.0 + at) part (0 ∷ []) (found.place.0 + at + length part) refl (omega arith))

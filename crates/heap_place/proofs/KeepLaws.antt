@@ -1,6 +1,6 @@
 -- What keeps the free chunks with their two words: chunks that are replaced by others keep all but
 -- those among them, and the second word of a free chunk is written.
-use Rattle.heap_place.proofs.Words.{◌≡◌, ◌≢◌, ℕ, ◌+◌, ◌%◌, ◌^◌, ◌<◌, ◌≤◌, List, [], ◌∷◌, ◌++◌, length, refl, sym, ap, subst, ◌∙◌, arith, inl, inr, ◌⊎◌, slice_index, slice_set, u32_at, u32_bytes, overwritten, Chunk, free, movable, fixed, total, IsFree, area_start, HeapAccepted, Tiles, IsHeap, chunks_of, EveryPlaced, AnyPlaced, IsFreeAt, BeginsFree, WritesPlain, u32_at-written, chunks_of-tiled, TakesBytes, SpelledAll-takes, EveryPlaced-split, AnyPlaced-left, AnyPlaced-right, AnyPlaced-split, AnyPlaced-mid, Replaces, replaced_total, same_start, wrote_none, wrote_word, wrote_wider, wrote_word_apart, WroteArea, area_replaces, wrote_slots, free_replaced, frame_start, becomes_heap, free_inside, free_word, IsOfClass, class_count, ButAt, Outside, KeepsFree, IsFreeChunk, Links, Pushes, cases_eq}
+use Rattle.heap_place.proofs.Words.{◌≡◌, ◌≢◌, ℕ, ◌+◌, ◌%◌, ◌^◌, ◌<◌, ◌≤◌, List, [], ◌∷◌, ◌++◌, length, refl, sym, ap, subst, ◌∙◌, arith, inl, inr, slice_index, slice_set, u32_at, u32_bytes, overwritten, Chunk, free, total, IsFree, area_start, HeapAccepted, Tiles, IsHeap, chunks_of, EveryPlaced, AnyPlaced, IsFreeAt, BeginsFree, WritesPlain, u32_at-written, chunks_of-tiled, TakesBytes, SpelledAll-takes, EveryPlaced-split, AnyPlaced-left, AnyPlaced-right, AnyPlaced-split, AnyPlaced-mid, Replaces, replaced_total, same_start, wrote_none, wrote_word, wrote_wider, wrote_word_apart, WroteArea, area_replaces, wrote_slots, free_replaced, frame_start, becomes_heap, free_inside, free_word, IsOfClass, class_count, ButAt, Outside, KeepsFree, IsFreeChunk, Links, Pushes, cases_eq}
 use Rattle.heap_place.proofs.FoundLaws.{heap_in_parts, middle_of, chunk_middle}
 
 -- ---- chunks that are replaced

@@ -1,5 +1,5 @@
 -- The chunk whose body is lent, by its place.
-use Rattle.heap_place.proofs.Words.{◌≡◌, ℕ, zero, suc, ◌+◌, ◌-◌, ◌≤◌, List, ◌∷◌, ◌++◌, length, Some, None, refl, sym, ap, subst, ◌∙◌, arith, Memory, Lent, Misses, Chunk, free, movable, fixed, total, HasChunk, area_start, HeapAccepted, LiveChunk, chunk_at, chunks_of, Finds, LentHere, IsLentBody, LendsBodies, LentChunk, lent_chunk, some_gives, header_misses, fixed_live, finds_read, finds_spelled, finds_place, Header, header_of, Found, IsFound, IsOne, IsFixed, found_if_movable, some_same, HoldsHeap}
+use Rattle.heap_place.proofs.Words.{◌≡◌, ℕ, zero, suc, ◌+◌, ◌-◌, ◌≤◌, List, ◌∷◌, ◌++◌, length, Some, None, refl, sym, ap, subst, ◌∙◌, arith, Memory, Lent, Misses, Chunk, free, movable, fixed, total, HasChunk, area_start, HeapAccepted, LiveChunk, chunks_of, Finds, LentHere, IsLentBody, LendsBodies, LentChunk, lent_chunk, some_gives, header_misses, fixed_live, finds_read, finds_spelled, finds_place, Header, header_of, Found, IsFound, IsOne, IsFixed, found_if_movable, some_same, HoldsHeap}
 use Rattle.heap_place.proofs.LookupLaws.{ReadsHeader}
 use Rattle.std.specs.Option.{option_map}
 use Rattle.heap_model.specs.declared.names.Place.{Place}

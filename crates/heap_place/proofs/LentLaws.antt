@@ -1,6 +1,6 @@
 -- What is lent is missed by what is done to a chunk that is found, and stays a body.
 use Rattle.heap_place.proofs.Words.{◌≡◌, ◌≢◌, ℕ, zero, suc, ◌+◌, ◌-◌, ◌≤◌, ◌<◌, ◌%◌, ◌^◌, List, [], ◌∷◌, ◌++◌, length, drop, refl, sym, ap, subst, ◌∙◌, arith, inl, inr, append_assoc, length-take, length-drop, Bool, true, false, if◌then◌else◌, ◌==◌, IsTrue, ◌⊎◌, slice_range, Memory, Lent, EachLent, IsAmong, Misses, IsWithin, without, Chunk, free, movable, fixed, fixed_lock, need, size_of, total, HeapAccepted, AnyPlaced, area_start, LiveChunk, NamedHere, chunks_of, Alters, IsSpot, merged, freed, with_lock, with_owner, with_bytes, LentHere, IsLentBody, LendsBodies, LendsOther, HoldsHeap, stays_put, length-overwritten, total-append, named_size, part_within, each_to, altered_lends, lent_chunk, run_apart, all_free_loose, apart, in_front, one, behind, found_within, body_within, run_within, header_misses, other_lends, relocked_lends, reowned_lends, same_lends, loose_lends, becomes_lent, named_not_free, exchanges_parts, AnyPlaced-mid, Found, IsOne, IsFreeChunk, Fills, SameChunks, Becomes, still_within, same_lock, same_length}
-use Rattle.heap_place.proofs.FoundLaws.{middle_of, heap_in_parts, finds_middle}
+use Rattle.heap_place.proofs.FoundLaws.{finds_middle}
 use Rattle.heap_place.proofs.KeepLaws.{free_there}
 use Rattle.heap_place.specs.Relocation.{with_name}
 

@@ -1,5 +1,5 @@
 -- What is lent is no chunk of an owner, while that owner's chunks are made free.
-use Rattle.heap_place.proofs.Words.{◌≡◌, ◌≢◌, ℕ, ◌+◌, ◌-◌, ◌≤◌, true, false, List, [], ◌∷◌, ◌++◌, refl, sym, ap, subst, ◌∙◌, arith, inl, inr, IsTrue, Memory, Lent, EachLent, IsAmong, Chunk, free, movable, fixed, size_of, total, is_owned_by, HeapAccepted, AnyPlaced, area_start, chunks_of, Becomes, Alters, freed, LentHere, IsLentBody, LendsBodies, LendsOther, LendsNoneOf, true_or_false, AnyPlaced-parts, AnyPlaced-mid, any-layout, becomes_start, any_replaced, exchanges_parts, each_of, each_to, stays_here, apart, in_front, one, behind, named_not_free, Found, IsOne}
+use Rattle.heap_place.proofs.Words.{◌≡◌, ◌≢◌, ℕ, ◌+◌, ◌-◌, ◌≤◌, true, false, List, [], ◌∷◌, ◌++◌, refl, sym, ap, subst, ◌∙◌, arith, inl, inr, IsTrue, Memory, Lent, EachLent, IsAmong, Chunk, free, size_of, total, is_owned_by, HeapAccepted, AnyPlaced, area_start, chunks_of, Becomes, Alters, freed, LentHere, IsLentBody, LendsBodies, LendsOther, LendsNoneOf, true_or_false, AnyPlaced-parts, AnyPlaced-mid, any-layout, becomes_start, any_replaced, exchanges_parts, each_of, each_to, stays_here, apart, in_front, one, behind, named_not_free, Found, IsOne}
 use Rattle.laws_heap.proofs.OwnedChunks.{named_owned}
 
 -- the chunk at an offset is lent, and is another owner's

@@ -1,6 +1,6 @@
 -- Chains of free chunks: their length is determined, they visit no chunk twice, and what keeps
 -- them.
-use Rattle.heap_place.proofs.Words.{◌≡◌, ◌≢◌, ℕ, zero, suc, ◌+◌, ◌^◌, ◌<◌, ◌≤◌, List, length, replicate, get_or, refl, sym, ap, subst, ◌∙◌, arith, inl, inr, ◌⊎◌, slice_index, get_or-set_same, get_or-set_other, get_or-replicate, length-set, u32_at, size_field, BeginsFree, class_count, IsOfClass, IsFreeOf, second_of, Chain, OnChain, IsList, AreLists, Any, ButAt, HasLists, KeepsOne, KeepsFree, Pushes, cases_eq}
+use Rattle.heap_place.proofs.Words.{◌≡◌, ◌≢◌, ℕ, zero, suc, ◌+◌, ◌^◌, ◌<◌, ◌≤◌, List, length, replicate, refl, sym, ap, subst, ◌∙◌, arith, inl, inr, ◌⊎◌, slice_index, get_or-set_same, get_or-set_other, get_or-replicate, length-set, u32_at, size_field, BeginsFree, class_count, IsOfClass, IsFreeOf, second_of, Chain, OnChain, IsList, AreLists, Any, ButAt, HasLists, KeepsOne, KeepsFree, Pushes, cases_eq}
 use Rattle.std.proofs.Math.ListN.{set}
 use Rattle.std.proofs.Math.Nat.{pow-le-pow_right}
 

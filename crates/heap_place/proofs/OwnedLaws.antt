@@ -1,6 +1,5 @@
 -- The walk that makes an owner's chunks free.
-use Rattle.heap_place.proofs.Words.{◌≡◌, ◌≢◌, ℕ, ◌+◌, ◌-◌, ◌<◌, ◌≤◌, Bool, true, false, cond, List, [], ◌∷◌, ◌++◌, length, Option, Some, None, refl, sym, ap, subst, ◌∙◌, append_assoc, arith, inl, inr, cases_eq, eqb-true, eq-eqb, ◌==◌, IsTrue, Chunk, free, movable, fixed, fixed_lock, size_of, total, is_owned_by, Spelled, SpelledAll, Memory, Lent, EachLent, LendsOther, LendsNoneOf, area_start, directory_of, HeapAccepted, EveryPlaced, AnyPlaced, LiveChunk, NamedHere, chunks_of, AllFree, Finds, merged, layout_of, Becomes, Alters, FreeUpTo, freed, owned_freed, WritesPlain, cond-true, cond-false, true_or_false, total-append, SpelledAll-split, SpelledAll-end, plain_same, plain_then, TakesBytes, SpelledAll-takes, AnyPlaced-left, AnyPlaced-split, EveryPlaced-split, EveryPlaced-push, fixed_live, fixed_has_name, read_heap, finds_held, IsNotFree, any-merged, same_frame, frame_then, becomes_start, exchanges_parts, Header, header_of, size_by, HasHeader, Found, IsOne, owned_by, Passed, NoneOwned, NoneLentAmong, Freeing, HasChunk, some_same}
-use Rattle.std.proofs.lemmas.List.Sums.{sum_by-append, sum_by-cons}
+use Rattle.heap_place.proofs.Words.{◌≡◌, ◌≢◌, ℕ, ◌+◌, ◌-◌, ◌<◌, ◌≤◌, Bool, true, false, cond, List, [], ◌∷◌, ◌++◌, length, Some, None, refl, sym, ap, subst, ◌∙◌, append_assoc, arith, inl, inr, eqb-true, eq-eqb, ◌==◌, IsTrue, Chunk, free, movable, fixed, fixed_lock, size_of, total, is_owned_by, SpelledAll, Memory, Lent, EachLent, LendsOther, LendsNoneOf, area_start, directory_of, HeapAccepted, EveryPlaced, LiveChunk, NamedHere, chunks_of, merged, layout_of, Becomes, Alters, freed, owned_freed, WritesPlain, cond-true, cond-false, total-append, SpelledAll-split, SpelledAll-end, plain_same, plain_then, EveryPlaced-push, fixed_live, fixed_has_name, read_heap, finds_held, IsNotFree, same_frame, frame_then, becomes_start, exchanges_parts, Header, header_of, size_by, HasHeader, Found, IsOne, owned_by, Passed, NoneOwned, NoneLentAmong, Freeing, HasChunk, some_same}
 use Rattle.raw_region.specs.Marks.{BeginsAt}
 use Rattle.laws_heap.proofs.OwnedChunks.{owned, counted_one, owned-merged, freed_if, owned_freed-append, owned_freed-merged, owned_freed-layout, owned_freed-none, not_directory}
 use Rattle.chunk_format.specs.declared.header.Header.TheVariants as headers
@@ -15,16 +14,16 @@ FindsOwned header at owner found = owned_by header (placed (at + 8)) owner ≡ S
 -- ---- an owner's chunk
 
 -- what the header of an owner's chunk says of it
-record OwnedAs (at owner : ℕ) (c : Chunk) (found : Found) : Type 0 where
-  live : LiveChunk
-  named : 0 < owner → NamedHere found.name.0 live at c
-  is_live : IsNotFree c
-  place : found.place.0 ≡ at + 8
-  count : found.length ≡ length live.bytes
-  lock_is : found.lock ≡ live.lock
-  owner_is : found.owner ≡ live.owner
-  own : found.owner ≡ owner
-  is : is_owned_by owner c ≡ true
+pub record OwnedAs (at owner : ℕ) (c : Chunk) (found : Found) : Type 0 where
+  pub live : LiveChunk
+  pub named : 0 < owner → NamedHere found.name.0 live at c
+  pub is_live : IsNotFree c
+  pub place : found.place.0 ≡ at + 8
+  pub count : found.length ≡ length live.bytes
+  pub lock_is : found.lock ≡ live.lock
+  pub owner_is : found.owner ≡ live.owner
+  pub own : found.owner ≡ owner
+  pub is : is_owned_by owner c ≡ true
 
 -- what the test of a chunk's owner says
 own_test : (own owner : ℕ) (chunk found : Found) → cond (own == owner) (Some chunk) None ≡ Some found → (own ≡ owner) × (chunk ≡ found)
@@ -37,7 +36,7 @@ other_test : (t : Bool) (chunk : Found) → cond t (Some chunk) None ≡ None �
 other_test true chunk s = absurd cc
 other_test false chunk s = refl
 
-owned_named : (at owner : ℕ) {header : Header} (c : Chunk) {found : Found} → header ≡ header_of c → FindsOwned header at owner found → OwnedAs at owner c found
+pub owned_named : (at owner : ℕ) {header : Header} (c : Chunk) {found : Found} → header ≡ header_of c → FindsOwned header at owner found → OwnedAs at owner c found
 owned_named at owner (free size) {found} e f = let g = subst (λ h. owned_by h (placed (at + 8)) owner ≡ Some found) e f in absurd cc
 owned_named at owner (movable bytes lock own slot) {found} e f =
     let t = own_test own owner (record { name = record { 0 = slot }; place = placed (at + 8); length = length bytes; lock = lock; owner = owner }) found (subst (λ h. owned_by h (placed (at + 8)) owner ≡ Some found) e f) in
@@ -56,13 +55,21 @@ not_owned_named at owner (movable bytes lock own slot) e = other_test (own == ow
 not_owned_named at owner (fixed bytes own) e = other_test (own == owner) (record { name = record { 0 = at + 8 }; place = placed (at + 8); length = length bytes; lock = fixed_lock; owner = owner }) e
 
 -- it is found where the walk has come to
-pub owned_one : {image : List ℕ} (P : List Chunk → Type 0) {at : ℕ} (owner : ℕ) {header : Header} {found : Found} → HeapAccepted image → 0 < owner → Passed image P at → HasHeader image at header → FindsOwned header at owner found → IsOne image found
+abbrev pub owned_one : {image : List ℕ} (P : List Chunk → Type 0) {at : ℕ} (owner : ℕ) {header : Header} {found : Found} → HeapAccepted image → 0 < owner → Passed image P at → HasHeader image at header → FindsOwned header at owner found → IsOne image found
 owned_one {image} P {at} owner {found} h some p has is =
     let o = owned_named at owner has.chunk has.header_is is in
     let parts = passed_parts P h p has in
-    let back : found.place.0 - 8 ≡ at = omega arith in
-    let finds : Finds image found.name.0 o.live has.chunk at = record { before = p.front; after = parts.0; chunks = parts.1; there = passed_at image P at p; named = o.named some } in
-    record { live = o.live; chunk = has.chunk; finds = subst (λ n. Finds image found.name.0 o.live has.chunk n) (sym back) finds; behind_header = omega arith; name_is = refl; count = o.count; lock_is = o.lock_is; owner_is = o.owner_is }
+    let back : at ≡ found.place.0 - 8 = omega arith in
+    record {
+      live = o.live;
+      chunk = has.chunk;
+      finds = record { before = p.front; after = parts.0; chunks = parts.1; there = sym back ∙ passed_at image P at p; named = subst (λ n. NamedHere found.name.0 o.live n has.chunk) back (o.named some) };
+      behind_header = omega arith;
+      name_is = refl;
+      count = o.count;
+      lock_is = o.lock_is;
+      owner_is = o.owner_is;
+    }
 
 -- and is not the directory
 pub owned_apart : {image : List ℕ} {at : ℕ} (owner : ℕ) {header : Header} {found : Found} → HeapAccepted image → (f : IsOne image found) → HasHeader image at header → FindsOwned header at owner found → 0 < owner → found.name.0 ≢ directory_of image
@@ -110,64 +117,6 @@ none_of_owner m owner {at} h p beyond = λ before chunk after e own.
 
 -- ---- how many there are
 
-none_free : (owner : ℕ) (run : List Chunk) → AllFree run → NoneOwned owner run
-none_free owner [] f = refl
-none_free owner (free size ∷ run) f = let e : owned owner (free size ∷ run) ≡ 0 + owned owner run = sum_by-cons (λ (x : Chunk). cond (is_owned_by owner x) 1 0) (free size) run in let ih = none_free owner run f in omega arith
-none_free owner (c ∷ run) f = absurd f
-
--- the owner's chunk begins in front of an offset
-abbrev OwnedBelow : ℕ → ℕ → ℕ → Chunk → Type 0
-OwnedBelow owner limit at c = (at < limit) × (is_owned_by owner c ≡ true)
-
-owned_any : (owner limit at : ℕ) (cs : List Chunk) → EveryPlaced TakesBytes at cs → at + total cs ≤ limit → (NoneOwned owner cs → ⊥) → AnyPlaced (OwnedBelow owner limit) at cs
-owned_any owner limit at [] takes inside some = absurd (some refl)
-owned_any owner limit at (c ∷ cs) takes inside some =
-    elim (true_or_false (is_owned_by owner c)) [
-      | inl is ↦ inl (omega arith, is)
-      | inr other ↦ inr (owned_any owner limit (at + size_of c) cs takes.1 (omega arith) (λ none. some (none_front owner c cs other none)))
-    ] where
-      none_front : (owner : ℕ) (c : Chunk) (cs : List Chunk) → is_owned_by owner c ≡ false → NoneOwned owner cs → NoneOwned owner (c ∷ cs)
-      none_front owner c cs other none = let one : cond {A = ℕ} (is_owned_by owner c) 1 0 ≡ 0 = cond-false (is_owned_by owner c) 1 0 other in let rest : owned owner cs ≡ 0 = none in counted_one owner [] c cs ∙ (let zero_front : owned owner [] ≡ 0 = refl in omega arith)
-
-none_any : (owner limit at : ℕ) (cs : List Chunk) → NoneOwned owner cs → AnyPlaced (OwnedBelow owner limit) at cs → ⊥
-none_any owner limit at [] none h = h
-none_any owner limit at (c ∷ cs) none h =
-    let e : owned owner (c ∷ cs) ≡ cond {A = ℕ} (is_owned_by owner c) 1 0 + owned owner cs = sum_by-cons (λ (x : Chunk). cond (is_owned_by owner x) 1 0) c cs in
-    let all : owned owner (c ∷ cs) ≡ 0 = none in
-    elim h [
-      | inl here ↦ let one : cond {A = ℕ} (is_owned_by owner c) 1 0 ≡ 1 = cond-true (is_owned_by owner c) 1 0 here.1 in omega arith
-      | inr later ↦ none_any owner limit (at + size_of c) cs (let z : owned owner cs ≡ 0 = omega arith in z) later
-    ]
-
-none_beyond : (owner limit at : ℕ) (cs : List Chunk) → limit ≤ at → AnyPlaced (OwnedBelow owner limit) at cs → ⊥
-none_beyond owner limit at [] past h = h
-none_beyond owner limit at (c ∷ cs) past h = elim h [ inl here ↦ omega arith | inr later ↦ none_beyond owner limit (at + size_of c) cs (omega arith) later ]
-
--- of a layout none of the owner's chunks begins in front of an offset, where none did
-none_in_front : {now new : List ℕ} (owner : ℕ) {at : ℕ} (front rest before after : List Chunk) → Becomes now new (front ++ rest) → at ≡ area_start now + total front → NoneOwned owner front → chunks_of new ≡ before ++ after → area_start new + total before ≤ at → NoneOwned owner before
-none_in_front {now} {new} owner {at} front rest before after b there none parts low = elim (cases_eq (owned owner before) 0) [ inl zero_there ↦ zero_there | inr some ↦ absurd (not_one some) ] where
-  start : area_start new ≡ area_start now
-  start = becomes_start now new (front ++ rest) b
-
-  takes : EveryPlaced TakesBytes (area_start new) (before ++ after)
-  takes = subst (λ cs. EveryPlaced TakesBytes (area_start new) cs) parts (SpelledAll-takes new (area_start new) (chunks_of new) (length new) (read_heap new b.frame.accepted).tiles.area)
-
-  P : ℕ → Chunk → Type 0
-  P = OwnedBelow owner at
-
-  not_free : (k size : ℕ) → OwnedBelow owner at k (free size) → ⊥
-  not_free k size h = absurd cc
-
-  not_one : (NoneOwned owner before → ⊥) → ⊥
-  not_one some =
-      let one = AnyPlaced-left (OwnedBelow owner at) (area_start new) before after (owned_any owner at (area_start new) before (EveryPlaced-split TakesBytes (area_start new) before after takes).0 low some) in
-      let read = subst (λ n. AnyPlaced (OwnedBelow owner at) n (chunks_of new)) start (subst (λ cs. AnyPlaced (OwnedBelow owner at) (area_start new) cs) (sym parts) one) in
-      let laid = subst (λ cs. AnyPlaced (OwnedBelow owner at) (area_start now) cs) b.layout ((any-merged (OwnedBelow owner at) not_free (area_start now) (chunks_of new)).1 read) in
-      elim (AnyPlaced-split (OwnedBelow owner at) (area_start now) front rest ((any-merged (OwnedBelow owner at) not_free (area_start now) (front ++ rest)).0 laid)) [
-        | inl left ↦ none_any owner at (area_start now) front none left
-        | inr right ↦ none_beyond owner at (area_start now + total front) rest (omega arith) right
-      ]
-
 -- where there are none, one chunk more that is not the owner's changes nothing
 none_more : (owner : ℕ) (front : List Chunk) (c : Chunk) → NoneOwned owner front → is_owned_by owner c ≡ false → NoneOwned owner (front ++ c ∷ [])
 none_more owner front c none not_own = counted_one owner front c [] ∙ (let one : cond {A = ℕ} (is_owned_by owner c) 1 0 ≡ 0 = cond-false (is_owned_by owner c) 1 0 not_own in let end : owned owner [] ≡ 0 = refl in let before : owned owner front ≡ 0 = none in omega arith)
@@ -200,9 +149,9 @@ freeing_kept {old} {now} {owner} {at} {count} {header} f has not_own is =
     }
 
 -- one more was given back
-pub freeing_more : {old now new : List ℕ} {owner at count : ℕ} (size : ℕ) {header : Header} {found : Found} → Freeing old now owner at count → (has : HasHeader now at header) → FindsOwned header at owner found → Alters now new (found.place.0 - 8) freed
-    → FreeUpTo new (found.place.0 - 8) (found.place.0 - 8 + size) → WritesPlain now new → Freeing old new owner (at + size) (count + 1) × (at + size ≤ length now) × (8 ≤ size)
-freeing_more {old} {now} {new} {owner} {at} size {found} f has is x v p =
+pub freeing_more : {old now new : List ℕ} {owner at count : ℕ} (size : ℕ) {header : Header} {found : Found} → (f : Freeing old now owner at count) → (has : HasHeader now at header) → FindsOwned header at owner found → Alters now new (found.place.0 - 8) freed
+    → chunks_of new ≡ f.passed.front ++ free size ∷ (passed_parts (NoneOwned owner) f.frame.accepted f.passed has).0 → WritesPlain now new → Freeing old new owner (at + size) (count + 1) × (at + size ≤ length now) × (8 ≤ size)
+freeing_more {old} {now} {new} {owner} {at} size {found} f has is x exact p =
     let o = owned_named at owner has.chunk has.header_is is in
     let back : found.place.0 - 8 ≡ at = omega arith in
     let parts = passed_parts (NoneOwned owner) f.frame.accepted f.passed has in
@@ -210,28 +159,28 @@ freeing_more {old} {now} {new} {owner} {at} size {found} f has is x v p =
     let front : List Chunk = f.passed.front in
     let after : List Chunk = parts.0 in
     let c : Chunk = has.chunk in
+    let passed : List Chunk = front ++ free size ∷ [] in
     let b = (exchanges_parts now new at (λ chunk. freed chunk ∷ []) front c after f.frame.accepted o.is_live parts.1 there).0 (subst (λ n. Alters now new n freed) back x) in
     let one : cond {A = ℕ} (is_owned_by owner c) 1 0 ≡ 1 = cond-true (is_owned_by owner c) 1 0 o.is in
     let before_is : owned owner (chunks_of now) ≡ owned owner front + (cond {A = ℕ} (is_owned_by owner c) 1 0 + owned owner after) = ap (owned owner) parts.1 ∙ counted_one owner front c after in
-    let now_is : owned owner (chunks_of new) ≡ owned owner front + (0 + owned owner after) = sym (owned-merged owner (chunks_of new)) ∙ ap (owned owner) b.layout ∙ owned-merged owner (front ++ freed c ∷ after) ∙ counted_one owner front (freed c) after in
-    let u = subst (λ n. FreeUpTo new n (n + size)) back v in
-    let sizes = total-append u.before u.run in
-    let split : chunks_of new ≡ (u.before ++ u.run) ++ u.after = u.chunks ∙ sym (append_assoc u.before u.run u.after) in
-    let area = subst (λ cs. SpelledAll new (area_start new) cs (length new)) split (read_heap new b.frame.accepted).tiles.area in
-    let s = SpelledAll-split new (area_start new) (u.before ++ u.run) u.after (length new) area in
-    let end = SpelledAll-end new (area_start new + total (u.before ++ u.run)) u.after (length new) s.1 in
-    let none_before = none_in_front owner front (freed c ∷ after) u.before (u.run ++ u.after) b there f.passed.holds u.chunks u.from in
-    let none_run = none_free owner u.run u.all_free in
+    let now_is : owned owner (chunks_of new) ≡ owned owner front + (0 + owned owner after) = ap (owned owner) exact ∙ counted_one owner front (free size) after in
+    let start = becomes_start now new (front ++ freed c ∷ after) b in
+    let sizes = total-append front (free size ∷ []) in
+    let area = subst (λ cs. SpelledAll new (area_start new) cs (length new)) (exact ∙ sym (append_assoc front (free size ∷ []) after)) (read_heap new b.frame.accepted).tiles.area in
+    let s = SpelledAll-split new (area_start new) passed after (length new) area in
+    let end = SpelledAll-end new (area_start new + total passed) after (length new) s.1 in
+    let least = (SpelledAll-split new (area_start new) front (free size ∷ []) (area_start new + total passed) s.0).1.0.header_fits in
+    let len = b.frame.len in
     let freed_c : freed_if owner c ≡ freed c = cond-true (is_owned_by owner c) (freed c) c o.is in
     let lists : owned_freed owner (front ++ freed c ∷ after) ≡ owned_freed owner (front ++ c ∷ after) = owned_freed-append owner front (freed c ∷ after) ∙ ap (λ d. owned_freed owner front ++ d ∷ owned_freed owner after) (sym freed_c) ∙ sym (owned_freed-append owner front (c ∷ after)) in (
       record {
         frame = frame_then old now new f.frame b.frame;
         same = owned_freed-layout owner (chunks_of new) (front ++ freed c ∷ after) b.layout ∙ ap merged lists ∙ sym (ap (λ cs. merged (owned_freed owner cs)) parts.1) ∙ f.same;
         passed = record {
-          front = u.before ++ u.run;
-          spelled = subst (λ n. SpelledAll new (area_start new) (u.before ++ u.run) n) (let e : area_start new + total (u.before ++ u.run) ≡ at + size = omega arith in e) s.0;
+          front = passed;
+          spelled = subst (λ n. SpelledAll new (area_start new) passed n) (let e : area_start new + total passed ≡ at + size = omega arith in e) s.0;
           inside = omega arith;
-          holds = sum_by-append (λ (d : Chunk). cond (is_owned_by owner d) 1 0) u.before u.run ∙ (let e : owned owner u.before + owned owner u.run ≡ 0 = omega arith in e);
+          holds = none_more owner front (free size) f.passed.holds refl;
         };
         counted = omega arith;
         few = omega arith;

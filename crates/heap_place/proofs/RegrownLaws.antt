@@ -1,5 +1,5 @@
 -- The lists, where a live chunk gets another length in its place.
-use Rattle.heap_place.proofs.Words.{◌≡◌, ◌≢◌, ℕ, zero, suc, ◌+◌, ◌-◌, ◌<◌, ◌≤◌, List, [], ◌∷◌, ◌++◌, length, sym, ap, subst, ◌∙◌, append_assoc, arith, inl, inr, Chunk, free, need, size_of, total, area_start, HeapAccepted, chunks_of, AnyPlaced, EveryPlaced, BeginsFree, IsFreeAt, gap, IsSpot, Finds, with_length, total-append, named_live_chunk, chunks_of-tiled, TakesBytes, SpelledAll-takes, EveryPlaced-split, AnyPlaced-split, free_inside, same_start, size_of-with_length, Found, RunBehind, Resizes, AreLists, HasLists, Any, Outside, KeepsFree, IsFreeChunk, Links, Pushes}
+use Rattle.heap_place.proofs.Words.{◌≡◌, ℕ, zero, suc, ◌+◌, ◌-◌, ◌<◌, ◌≤◌, List, [], ◌∷◌, ◌++◌, length, sym, ap, subst, ◌∙◌, append_assoc, arith, inl, inr, Chunk, free, need, size_of, total, area_start, HeapAccepted, chunks_of, AnyPlaced, EveryPlaced, BeginsFree, IsFreeAt, gap, IsSpot, Finds, with_length, total-append, named_live_chunk, chunks_of-tiled, TakesBytes, SpelledAll-takes, EveryPlaced-split, AnyPlaced-split, free_inside, same_start, size_of-with_length, Found, RunBehind, Resizes, AreLists, HasLists, Any, Outside, KeepsFree, IsFreeChunk, Links, Pushes}
 use Rattle.heap_place.proofs.FoundLaws.{heap_in_parts, found_size}
 use Rattle.heap_place.proofs.ListLaws.{lists_weaker, lists_kept, lists_any, push_lists}
 use Rattle.heap_place.proofs.KeepLaws.{keeps_replaced, outside_apart, live_apart}

@@ -1,5 +1,5 @@
 -- The search for room, step by step.
-use Rattle.heap_place.proofs.Words.{◌≡◌, ℕ, ◌+◌, ◌-◌, ◌<◌, ◌≤◌, List, [], ◌∷◌, ◌++◌, length, refl, sym, ap, subst, ◌∙◌, append_assoc, append-nil, arith, Chunk, free, movable, fixed, size_of, total, Spelled, SpelledAll, area_start, HeapAccepted, chunks_of, AllFree, NoRun, merged, IsRoom, total-append, Spelled-size, SpelledAll-end, SpelledAll-push, chunk_there, chunks_after, chunks_of-area, free_sum, IsNotFree, merged-live, Header, header_of, size_by, HasHeader, size_by-header_of, StaysBelow, run_behind, KeepsApart, Searched, run_by, HasChunk}
+use Rattle.heap_place.proofs.Words.{◌≡◌, ℕ, ◌+◌, ◌-◌, ◌<◌, ◌≤◌, List, [], ◌∷◌, ◌++◌, length, refl, sym, ap, subst, ◌∙◌, append_assoc, append-nil, arith, Chunk, free, size_of, total, SpelledAll, area_start, HeapAccepted, chunks_of, AllFree, NoRun, merged, IsRoom, total-append, Spelled-size, SpelledAll-end, SpelledAll-push, chunk_there, chunks_after, chunks_of-area, free_sum, IsNotFree, merged-live, Header, header_of, size_by, HasHeader, size_by-header_of, StaysBelow, run_behind, KeepsApart, Searched, run_by, HasChunk}
 use Rattle.chunk_format.specs.declared.header.Header.TheVariants as headers
 
 -- ---- runs that stay below a size

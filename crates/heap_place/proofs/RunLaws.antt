@@ -1,5 +1,5 @@
 -- The free chunks directly after a live one are found, and it grows over them.
-use Rattle.heap_place.proofs.Words.{◌≡◌, ℕ, ◌+◌, ◌-◌, ◌<◌, ◌≤◌, true, false, List, [], ◌∷◌, ◌++◌, length, Some, refl, sym, ap, subst, ◌∙◌, append_assoc, arith, Chunk, need, free, movable, fixed, size_of, HasChunk, SpelledAll, area_start, HeapAccepted, chunks_of, chunk_at, free_front, Becomes, gap, with_length, behind_front, GrowsInPlace, total-append, Spelled-size, SpelledAll-split, chunk_at-spelled, chunk_at-none, named_live_chunk, front_parts, grows_parts, header_of, HasHeader, Header, Memory, Misses, LendsBodies, walked_misses, Found, IsOne, size_if_free, free_size_at, free_by, ChunksFrom, RunBehind, Resizes, Ends, IsBound, BeginsWithFree, TellsWhetherInPlace, RunsUpTo, HoldsHeap}
+use Rattle.heap_place.proofs.Words.{◌≡◌, ℕ, ◌+◌, ◌-◌, ◌<◌, ◌≤◌, true, false, List, [], ◌∷◌, ◌++◌, length, Some, refl, sym, ap, subst, ◌∙◌, append_assoc, arith, Chunk, need, free, movable, fixed, size_of, HasChunk, SpelledAll, area_start, HeapAccepted, chunks_of, chunk_at, free_front, Becomes, gap, with_length, behind_front, GrowsInPlace, total-append, Spelled-size, SpelledAll-split, chunk_at-spelled, chunk_at-none, named_live_chunk, front_parts, grows_parts, header_of, HasHeader, Header, Memory, Misses, walked_misses, Found, IsOne, size_if_free, free_size_at, free_by, ChunksFrom, RunBehind, Resizes, Ends, IsBound, BeginsWithFree, TellsWhetherInPlace, RunsUpTo, HoldsHeap}
 use Rattle.heap_place.proofs.FoundLaws.{heap_in_parts, found_size}
 use Rattle.heap_place.proofs.ResizeLaws.{run_facts}
 

@@ -1,5 +1,5 @@
 -- A free chunk is taken out of its list, wherever it stands there.
-use Rattle.heap_place.proofs.Words.{◌≡◌, ◌≢◌, ℕ, zero, suc, ◌+◌, ◌<◌, List, refl, sym, subst, ◌∙◌, arith, inl, inr, ◌⊎◌, slice_index, u32_at, size_field, BeginsFree, class_count, IsOfClass, IsFreeOf, second_of, Chain, OnChain, IsList, AreLists, HasLists, Any, ButAt, KeepsOne, KeepsFree, Links, Walked, Looking, cases_eq}
+use Rattle.heap_place.proofs.Words.{◌≡◌, ◌≢◌, ℕ, zero, suc, ◌+◌, ◌<◌, List, refl, sym, subst, ◌∙◌, arith, slice_index, u32_at, size_field, BeginsFree, class_count, IsOfClass, IsFreeOf, second_of, Chain, OnChain, IsList, AreLists, HasLists, Any, ButAt, KeepsOne, KeepsFree, Links, Walked, Looking}
 use Rattle.heap_place.proofs.ListLaws.{one_class, one_length, chain_apart, chain_each, chain_kept, each_kept, weaker, free_kept, one_and_others}
 
 -- ---- a walk along a list

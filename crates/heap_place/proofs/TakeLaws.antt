@@ -1,6 +1,6 @@
 -- Room that is taken from the lists.
-use Rattle.heap_place.proofs.Words.{◌≡◌, ◌≢◌, ℕ, zero, suc, ◌+◌, ◌-◌, ◌<◌, ◌≤◌, List, [], ◌∷◌, ◌++◌, length, refl, sym, ap, subst, ◌∙◌, arith, inl, inr, slice_index, u32_at, Chunk, free, movable, fixed, total, area_start, HeapAccepted, chunks_of, size_field, AllFree, merged, layout_of, Becomes, BeginsFree, IsFreeAt, gap, IsSpot, frame_start, frame_then, PlacedParts, AnyPlaced-parts, class_count, AreLists, HasLists, ButAt, Outside, KeepsFree, IsFreeChunk, Links, Pushes, CutsRoom, total-append, append_assoc}
-use Rattle.heap_place.proofs.FoundLaws.{heap_in_parts, middle_of, chunk_middle}
+use Rattle.heap_place.proofs.Words.{◌≡◌, ◌≢◌, ℕ, zero, suc, ◌+◌, ◌-◌, ◌<◌, ◌≤◌, List, [], ◌∷◌, ◌++◌, length, sym, ap, subst, ◌∙◌, arith, inl, inr, slice_index, u32_at, Chunk, free, movable, fixed, total, area_start, HeapAccepted, chunks_of, size_field, AllFree, merged, Becomes, BeginsFree, IsFreeAt, gap, IsSpot, frame_start, frame_then, PlacedParts, AnyPlaced-parts, class_count, AreLists, HasLists, ButAt, Outside, KeepsFree, IsFreeChunk, Links, Pushes, CutsRoom, total-append, append_assoc}
+use Rattle.heap_place.proofs.FoundLaws.{chunk_middle}
 use Rattle.heap_place.proofs.ListLaws.{head_free, lists_weaker, lists_kept, push_lists}
 use Rattle.heap_place.proofs.KeepLaws.{free_there}
 

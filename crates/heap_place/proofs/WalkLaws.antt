@@ -1,5 +1,5 @@
 -- Walks over the chunks of an accepted heap.
-use Rattle.heap_place.proofs.Words.{◌≡◌, ℕ, ◌+◌, ◌<◌, ◌≤◌, List, [], ◌∷◌, ◌++◌, length, refl, sym, ap, subst, ◌∙◌, append_assoc, arith, sum_by, Chunk, free, movable, fixed, size_of, total, free_size, Spelled, SpelledAll, area_start, HeapAccepted, chunks_of, Spelled-size, SpelledAll-end, SpelledAll-push, chunk_there, chunks_after, chunks_of-area, Header, header_of, size_by, HasHeader, size_by-header_of, Passed, HaveFreeBytes, free_by, HasChunk, Memory, HoldsHeap, Misses, walked_misses}
+use Rattle.heap_place.proofs.Words.{◌≡◌, ℕ, ◌+◌, ◌<◌, ◌≤◌, List, [], ◌∷◌, ◌++◌, length, refl, sym, ap, subst, ◌∙◌, append_assoc, arith, sum_by, Chunk, free, size_of, total, free_size, Spelled, SpelledAll, area_start, HeapAccepted, chunks_of, Spelled-size, SpelledAll-end, SpelledAll-push, chunk_there, chunks_after, chunks_of-area, Header, header_of, size_by, HasHeader, size_by-header_of, Passed, HaveFreeBytes, free_by, HasChunk, Memory, HoldsHeap, Misses, walked_misses}
 use Rattle.std.proofs.lemmas.List.Sums.{sum_by-append, sum_by-cons}
 use Rattle.chunk_format.specs.declared.header.Header.TheVariants as headers
 

@@ -1,6 +1,6 @@
 -- What is written in a live chunk after its first word, and in front of the chunks, keeps the free
 -- chunks.
-use Rattle.heap_place.proofs.Words.{◌≡◌, ℕ, ◌+◌, ◌-◌, ◌≤◌, List, [], ◌∷◌, ◌++◌, length, replicate, refl, sym, ap, subst, ◌∙◌, arith, inl, inr, length-append, length-take, length-drop, slice_range, length-replicate, Memory, u32_at, u32_bytes, overwritten, Chunk, free, movable, fixed, need, size_of, total, Spelled, SpelledAll, area_start, HeapAccepted, LiveChunk, NamedHere, chunks_of, size_field, AnyPlaced, IsFreeAt, overwritten-behind, Spelled-size, SpelledAll-split, SpelledAll-same, SpelledAll-end, chunk_there, chunks_of-tiled, read_heap, SpelledAll-takes, free_inside, same_start, replaced_tiles, WroteWithin, wrote_none, wrote_part, wrote_word, wrote_wider, wrote_apart, wrote_word_apart, WroteArea, area_replaces, wrote_head, Found, IsOne, Any, KeepsFree, HasLists, HoldNoSlots, named_hold_none}
+use Rattle.heap_place.proofs.Words.{◌≡◌, ℕ, ◌+◌, ◌-◌, ◌≤◌, List, [], ◌∷◌, ◌++◌, length, refl, sym, ap, subst, ◌∙◌, arith, inl, inr, Memory, u32_at, u32_bytes, overwritten, Chunk, free, need, size_of, total, Spelled, SpelledAll, area_start, HeapAccepted, LiveChunk, NamedHere, chunks_of, size_field, AnyPlaced, IsFreeAt, Spelled-size, SpelledAll-split, SpelledAll-same, SpelledAll-end, chunk_there, chunks_of-tiled, read_heap, SpelledAll-takes, free_inside, same_start, replaced_tiles, WroteWithin, wrote_none, wrote_part, wrote_word, wrote_wider, wrote_apart, wrote_word_apart, WroteArea, area_replaces, wrote_head, Found, IsOne, Any, KeepsFree, HasLists, HoldNoSlots}
 use Rattle.heap_model.specs.Frame.{directory_at}
 use Rattle.heap_model.specs.Leaving.{NamesDirectory}
 use Rattle.laws_heap.proofs.Directory.{named_start}
@@ -64,28 +64,6 @@ keeps_body old new found at part h f within is =
 pub body_lists : (old region : Memory) (new heads : List ℕ) (found : Found) (at : ℕ) (part : List ℕ) → region ≡ old → HeapAccepted old.bytes → IsOne old.bytes found → at + length part ≤ found.length → new ≡ overwritten region.bytes (found.place.0 + at) part → HasLists region.bytes heads → HasLists new heads
 body_lists old region new heads found at part same h f within is lists =
     lists_kept Any _ new heads (keeps_body _ new found at part h f within (is ∙ ap (λ (m : Memory). overwritten m.bytes (found.place.0 + at) part) same)) (subst (λ (m : Memory). HasLists m.bytes heads) same lists)
-
-pub filled_lists : (old region : Memory) (new heads : List ℕ) (found : Found) (at count byte : ℕ) → region ≡ old → HeapAccepted old.bytes → IsOne old.bytes found → at + count ≤ found.length → new ≡ overwritten region.bytes (found.place.0 + at) (replicate count byte) → HasLists region.bytes heads → HasLists new heads
-filled_lists old region new heads found at count byte same h f within is lists =
-    let many : length (replicate {A = ℕ} count byte) ≡ count = length-replicate count byte in
-    body_lists old region new heads found at (replicate count byte) same h f (omega arith) is lists
-
-pub slid_lists : (old region : Memory) (new heads : List ℕ) (found : Found) (from to count : ℕ) → region ≡ old → HeapAccepted old.bytes → IsOne old.bytes found → from + count ≤ found.length → to + count ≤ found.length
-    → new ≡ overwritten region.bytes (found.place.0 + to) (slice_range region.bytes (found.place.0 + from) (found.place.0 + from + count)) → HasLists region.bytes heads → HasLists new heads
-slid_lists old region new heads found from to count same h f in_from in_to is lists =
-    let inside = bytes_inside _ found h f in
-    let len : length region.bytes ≡ length old.bytes = ap (λ (m : Memory). length m.bytes) same in
-    let many : length (slice_range region.bytes (found.place.0 + from) (found.place.0 + from + count)) ≡ count = simp (length-take, length-drop) (omega arith) in
-    body_lists old region new heads found to (slice_range region.bytes (found.place.0 + from) (found.place.0 + from + count)) same h f (omega arith) is lists
-
-pub ended_lists : (old region : Memory) (mid new heads : List ℕ) (found : Found) (at : ℕ) (part : List ℕ) → region ≡ old → HeapAccepted old.bytes → IsOne old.bytes found → at + length part + 1 ≤ found.length → mid ≡ overwritten region.bytes (found.place.0 + at) part
-    → new ≡ overwritten mid (found.place.0 + at + length part) (0 ∷ []) → HasLists region.bytes heads → HasLists new heads
-ended_lists old region mid new heads found at part same h f within mid_is new_is lists =
-    let inside = bytes_inside _ found h f in
-    let len : length region.bytes ≡ length old.bytes = ap (λ (m : Memory). length m.bytes) same in
-    let more : length (part ++ 0 ∷ []) ≡ length part + 1 = length-append part (0 ∷ []) in
-    body_lists old region new heads found at (part ++ 0 ∷ []) same h f (omega arith)
-    (new_is ∙ ap (λ x. overwritten x (found.place.0 + at + length part) (0 ∷ [])) mid_is ∙ overwritten-behind region.bytes (found.place.0 + at) part (0 ∷ []) (found.place.0 + at + length part) refl (omega arith)) lists
 
 -- ---- the directory word
 

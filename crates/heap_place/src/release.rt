@@ -7,7 +7,7 @@ ghost use Rattle.heap_model.specs.Lending.{LendsOther, HoldsHeap};
 ghost use Rattle.heap_model.specs.Heap.{directory_of};
 ghost use Rattle.heap_model.specs.Layout.{Alters, FreeUpTo, freed, WritesPlain};
 ghost use Rattle.heap_place.specs.Found.{IsOne, header_offset};
-ghost use Rattle.heap_place.specs.Search.{free_size_at, ChunksFrom};
+ghost use Rattle.heap_place.specs.Search.{free_size_at, ChunksFrom, FreesAlone};
 ghost use Rattle.heap_place.specs.Resizes.{IsBound, BeginsWithFree};
 ghost use Rattle.heap_place.specs.Lists.{Any, IsFreeChunk, KeepsFree, HasLists};
 
@@ -17,39 +17,17 @@ use crate::walks::size_if_free;
 use chunk_format::{FIXED_LOCK, HEADER_SIZE, Header, size_of_body};
 use raw_region::Region;
 
-/// Makes a live chunk free, joins it with the free chunk after it, and empties its slot, if it has
-/// one. Returns the size of the joined chunk.
+/// Makes a live chunk free without joining it with its neighbours, and empties its slot, if it has
+/// one. Returns the size of the free chunk.
+#[inline(always)]
 pub fn release(region: &mut Region, found: Found) -> u32
     requires heap { HoldsHeap region.old }
     requires found { IsOne region.old.bytes found }
     requires other { LendsOther region.old found.place.0 }
     requires no_directory { found.name.0 ≢ directory_of region.old.bytes }
     ensures gone { Alters region.old.bytes region.new.bytes (header_offset found) freed }
-    ensures free { FreeUpTo region.new.bytes (header_offset found) (header_offset found + result) }
-    ensures plain { WritesPlain region.old.bytes region.new.bytes }
-    ensures rest { region.new ≡ record region.old { bytes = region.new.bytes } }
-    ensures heap { HoldsHeap region.new }
-{
-    let at = found.place.0 - HEADER_SIZE;
-    let size = size_of_body(found.length);
-    let joined = size + free_size(region, at + size);
-    Header::Free { size: joined }.write(region, at);
-    if found.lock != FIXED_LOCK {
-        master_table::clear(region, found.name);
-    }
-    joined
-}
-
-/// Makes a live chunk free without joining it with its neighbours, and empties its slot, if it has
-/// one. Returns the size of the free chunk.
-#[inline(always)]
-pub fn release_alone(region: &mut Region, found: Found) -> u32
-    requires heap { HoldsHeap region.old }
-    requires found { IsOne region.old.bytes found }
-    requires other { LendsOther region.old found.place.0 }
-    requires no_directory { found.name.0 ≢ directory_of region.old.bytes }
-    ensures gone { Alters region.old.bytes region.new.bytes (header_offset found) freed }
     ensures chunk { IsFreeChunk region.new.bytes (header_offset found) result }
+    ensures exact { FreesAlone region.old.bytes region.new.bytes found result }
     ensures keeps { KeepsFree Any region.old.bytes region.new.bytes }
     ensures plain { WritesPlain region.old.bytes region.new.bytes }
     ensures rest { region.new ≡ record region.old { bytes = region.new.bytes } }
@@ -80,7 +58,7 @@ pub fn release_listed(region: &mut Region, lists: &mut Lists, found: Found) -> u
     ensures rest { region.new ≡ record region.old { bytes = region.new.bytes } }
     ensures heap { HoldsHeap region.new }
 {
-    let size = release_alone(region, found);
+    let size = release(region, found);
     push(region, lists, found.place.0 - HEADER_SIZE, size);
     size
 }

@@ -1,5 +1,5 @@
 -- The legend: the kinds of chunks, the databases, and the free pieces by size.
-use Rattle.std.specs.Prelude.{◌+◌, ◌*◌, ◌/◌, ◌%◌, ◌^◌, ◌++◌, ◌==◌, ◌&&◌, ◌||◌, nat_le, nat_lt, if◌then◌else◌, ℕ, Bool, true, false, List, [], ◌∷◌, count_by, codes, decimal}
+use Rattle.std.specs.Prelude.{◌+◌, ◌*◌, ◌/◌, ◌%◌, ◌^◌, ◌++◌, ◌==◌, ◌&&◌, ◌||◌, nat_le, nat_lt, if◌then◌else◌, ℕ, Bool, true, false, List, [], ◌∷◌, length, count_by, codes, decimal}
 use Rattle.std.specs.List.{concat, flat_map}
 use Rattle.heap_model.specs.Database.{name_in, resources_in, entry_count_in}
 use Rattle.heap_model.specs.Lists.{numbered}
@@ -109,5 +109,9 @@ size_notes top pieces = concat (numbered (size_note_at top pieces) 21)
 unfoldable pub sizes_head : ℕ → List ℕ
 sizes_head top = codes "<text x=\"74\" y=\"" ++ (decimal top ++ codes "\">free pieces by size, from:</text>\n")
 
+unfoldable pub pieces_by_size : ℕ → List ℕ → List ℕ
+pieces_by_size top pieces = sizes_head top ++ size_notes top pieces
+
+-- nothing if nothing is free
 unfoldable pub pieces_text : ℕ → List ℕ → List ℕ
-pieces_text top pieces = sizes_head top ++ size_notes top pieces
+pieces_text top pieces = if length pieces == 0 then [] else pieces_by_size top pieces

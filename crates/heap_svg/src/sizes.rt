@@ -3,7 +3,7 @@
 ghost use Rattle.std.specs.Prelude.{◌≡◌, ◌<◌, ◌≤◌, ◌+◌, ◌*◌, ◌^◌, count_by, length, is_ok};
 ghost use Rattle.palm_text.specs.Counted.{Writes};
 ghost use Rattle.heap_svg.specs.Legend as texts;
-ghost use Rattle.heap_svg.specs.Legend.{least_of, pieces_text, size_note, size_notes, piece_size_text, sizes_head};
+ghost use Rattle.heap_svg.specs.Legend.{least_of, pieces_by_size, pieces_text, size_note, size_notes, piece_size_text, sizes_head};
 
 use palm_text::{Counted, Piece, WriteFault, put_pieces};
 use std::io::Write;
@@ -126,8 +126,19 @@ fn put_sizes_head<W: Write>(out: &mut Counted<W>, top: u32) -> Result<(), WriteF
     )
 }
 
-/// Writes the free pieces by size, from `top` pixels on.
-#[tactic(auto, using(palm_text::proofs::Parts::then, palm_text::proofs::Parts::stops), unfolding(crate::specs::Legend::pieces_text))]
+/// Writes the line above the classes, and the number of pieces of each class.
+#[tactic(auto, using(palm_text::proofs::Parts::then, palm_text::proofs::Parts::stops), unfolding(crate::specs::Legend::pieces_by_size))]
+fn put_sizes<W: Write>(out: &mut Counted<W>, top: u32, pieces: &[u32]) -> Result<(), WriteFault>
+    requires top { top < 2 ^ 31 }
+    requires few { length pieces.now < 2 ^ 32 }
+    ensures { Writes W.contents out.old out.new (pieces_by_size top pieces.now) (is_ok result) }
+{
+    put_sizes_head(out, top)?;
+    put_size_notes(out, top, pieces)
+}
+
+/// Writes the free pieces by size, from `top` pixels on, if there are any.
+#[tactic(auto, using(palm_text::proofs::Parts::nothing, crate::proofs::ChoiceLaws::when_none, crate::proofs::ChoiceLaws::when_some), unfolding(crate::specs::Legend::pieces_text))]
 pub(crate) fn put_pieces_by_size<W: Write>(
     out: &mut Counted<W>,
     top: u32,
@@ -137,6 +148,9 @@ pub(crate) fn put_pieces_by_size<W: Write>(
     requires few { length pieces.now < 2 ^ 32 }
     ensures { Writes W.contents out.old out.new (pieces_text top pieces.now) (is_ok result) }
 {
-    put_sizes_head(out, top)?;
-    put_size_notes(out, top, pieces)
+    if pieces.len() == 0 {
+        Ok(())
+    } else {
+        put_sizes(out, top, pieces)
+    }
 }

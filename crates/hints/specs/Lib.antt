@@ -1,2 +1,4 @@
 pub mod Imports
 pub mod Lookalikes
+pub mod LineEnds
+pub mod FaultyLines

@@ -1,5 +1,12 @@
 //! What is wrong with the faulty line of a script, or of the text that `pack` reads.
 
+ghost use Rattle.std.specs.Prelude.{◌≡◌, ◌∷◌, Ok, length, option_map, slice_get};
+ghost use Rattle.script_lines.specs.Reading.{words_in};
+ghost use Rattle.script_lines.specs.Words.{words_of};
+ghost use Rattle.std.specs.Str.Lines.{lines};
+ghost use Rattle.hints.specs.FaultyLines as words;
+ghost use Rattle.hints.specs.FaultyLines.{first_wanted_of, hint_of, item_numbered, others_wanted_of};
+
 use script_commands::{Kind, find_command, row_of};
 use script_lines::{LineFault, ScriptFault, WordCut, count_words, cut_line, cut_word};
 
@@ -23,99 +30,187 @@ pub enum LineHint<'a> {
     },
 }
 
+/// What the words of a line have to be.
+#[derive(Clone, Copy)]
+enum Wanted {
+    /// The words after a command are of these kinds.
+    Command(&'static [Kind]),
+    /// The text that `pack` reads has these words after the first one.
+    Part(&'static [&'static str]),
+}
+
+impl Wanted {
+    /// Returns the number of words after the first one.
+    fn count(self) -> usize
+        ensures { result ≡ length (others_wanted_of self) }
+    {
+        match self {
+            Wanted::Command(kinds) => kinds.len(),
+            Wanted::Part(texts) => texts.len(),
+        }
+    }
+
+    /// Returns what the word with this number has to be. The first word has the number 1.
+    fn text(self, number: usize) -> Option<&'static str>
+        ensures { option_map (λ text. text.now) result
+            ≡ item_numbered (first_wanted_of self ∷ others_wanted_of self) number }
+    {
+        let index = number.checked_sub(1)?;
+        match index.checked_sub(1) {
+            None => Some(self.first()),
+            Some(index) => self.other(index),
+        }
+    }
+
+    /// Returns what the first word has to be.
+    fn first(self) -> &'static str
+        ensures { result.now ≡ first_wanted_of self }
+    {
+        match self {
+            Wanted::Command(_) => "a command",
+            Wanted::Part(_) => "among the first 65535 entries",
+        }
+    }
+
+    /// Returns what the word of this index after the first one has to be.
+    fn other(self, index: usize) -> Option<&'static str>
+        ensures { option_map (λ text. text.now) result ≡ slice_get (others_wanted_of self) index }
+    {
+        match self {
+            Wanted::Command(kinds) => Some(wanted_of(*kinds.get(index)?)),
+            Wanted::Part(texts) => texts.get(index).copied(),
+        }
+    }
+}
+
 /// Returns what is wrong with the faulty line of a script. Returns `None` if the script has no such
 /// line.
-pub fn script_hint(script: &[u8], fault: LineFault) -> Option<LineHint<'_>> {
+#[tactic(auto, using(crate::proofs::Hints::counted_words_are_whole, crate::proofs::Hints::broken_word_is_counted))]
+pub fn script_hint(script: &[u8], fault: LineFault) -> Option<LineHint<'_>>
+    ensures { option_map hint_of result ≡ words.script_hint script.now fault }
+{
     let line = line_at(script, fault.line)?;
-    let command = word_at(line, 1)?;
-    match fault.fault {
-        ScriptFault::UnknownCommand => Some(LineHint::Unknown(command)),
-        ScriptFault::WrongCount => Some(LineHint::Count {
-            found: words_after_first(line),
-            wanted: row_of(find_command(command)?).kinds.len(),
-        }),
-        ScriptFault::BadWord(number) => Some(word_hint(
-            line,
-            number,
-            wanted_by_command(command, number),
-        )),
-        ScriptFault::OutOfMemory => None,
+    match count_words(line) {
+        Ok(count) => hint_by(line, count, command_words(line), fault.fault),
+        Err(number) => Some(LineHint::Broken(number)),
     }
 }
 
 /// Returns what is wrong with the faulty line of the text that `pack` reads. Returns `None` if the
 /// text has no such line.
-pub fn parts_hint(text: &[u8], fault: LineFault) -> Option<LineHint<'_>> {
+#[tactic(auto, using(crate::proofs::Hints::counted_words_are_whole, crate::proofs::Hints::broken_word_is_counted))]
+pub fn parts_hint(text: &[u8], fault: LineFault) -> Option<LineHint<'_>>
+    ensures { option_map hint_of result ≡ words.parts_hint text.now fault }
+{
     let line = line_at(text, fault.line)?;
+    match count_words(line) {
+        Ok(count) => hint_by(line, count, part_words(line), fault.fault),
+        Err(number) => Some(LineHint::Broken(number)),
+    }
+}
+
+/// Returns what is wrong with a line without broken words, which has `count` words.
+#[tactic(auto, using(crate::proofs::Hints::begins_with))]
+fn hint_by<'a>(
+    line: &'a [u8],
+    count: usize,
+    wanted: Wanted,
+    fault: ScriptFault,
+) -> Option<LineHint<'a>>
+    requires whole { words_of line.now ≡ Ok (words_in line.now) }
+    requires count { count ≡ length (words_in line.now) }
+    ensures { option_map hint_of result ≡ words.hint_of_words (first_wanted_of wanted) (others_wanted_of wanted) (words_in line.now) fault }
+{
     let first = word_at(line, 1)?;
-    match fault.fault {
+    match fault {
         ScriptFault::UnknownCommand => Some(LineHint::Unknown(first)),
         ScriptFault::WrongCount => Some(LineHint::Count {
-            found: words_after_first(line),
-            wanted: words_of_part_line(first),
+            found: count - 1,
+            wanted: wanted.count(),
         }),
         ScriptFault::BadWord(number) => {
-            Some(word_hint(line, number, wanted_in_parts(first, number)))
+            let word = word_at(line, number)?;
+            let wanted = wanted.text(number)?;
+            Some(LineHint::Wrong { word, wanted })
         }
         ScriptFault::OutOfMemory => None,
     }
 }
 
-/// Returns the hint for the word with this number.
-fn word_hint<'a>(line: &'a [u8], number: usize, wanted: Option<&'static str>) -> LineHint<'a> {
-    match (word_at(line, number), wanted) {
-        (Some(word), Some(wanted)) => LineHint::Wrong { word, wanted },
-        _ => LineHint::Broken(number),
-    }
-}
-
 /// Returns the line with this number. The first line has the number 1.
-fn line_at(text: &[u8], number: usize) -> Option<&[u8]> {
+#[tactic(auto, using(crate::proofs::Hints::later, crate::proofs::Hints::at_number, crate::proofs::Hints::at_no_number))]
+fn line_at(text: &[u8], number: usize) -> Option<&[u8]>
+    ensures { option_map (λ line. line.now) result ≡ item_numbered (lines text.now) number }
+{
     let mut rest = text;
-    for _ in 1..number {
-        if rest.is_empty() {
-            return None;
+    let mut left = number.checked_sub(1)?;
+    while !rest.is_empty() {
+        let cut = cut_line(rest);
+        if left == 0 {
+            return Some(cut.line);
         }
-        rest = cut_line(rest).rest;
+        left -= 1;
+        rest = cut.rest;
     }
-    if rest.is_empty() {
-        return None;
-    }
-    Some(cut_line(rest).line)
+    None
 }
 
 /// Returns the word with this number. The first word of a line has the number 1.
-fn word_at(line: &[u8], number: usize) -> Option<&[u8]> {
+#[tactic(auto, using(crate::proofs::Hints::later, crate::proofs::Hints::at_number, crate::proofs::Hints::at_no_number, crate::proofs::Hints::rest_is_whole, crate::proofs::Hints::words_after_cut))]
+fn word_at(line: &[u8], number: usize) -> Option<&[u8]>
+    requires whole { words_of line.now ≡ Ok (words_in line.now) }
+    ensures { option_map (λ word. word.now) result ≡ item_numbered (words_in line.now) number }
+{
     let mut rest = line;
-    for _ in 1..number {
-        let WordCut::Word { rest: more, .. } = cut_word(rest) else {
+    let mut left = number.checked_sub(1)?;
+    loop {
+        let WordCut::Word { word, rest: behind } = cut_word(rest) else {
             return None;
         };
-        rest = more;
-    }
-    match cut_word(rest) {
-        WordCut::Word { word, .. } => Some(word),
-        WordCut::Absent | WordCut::Broken => None,
-    }
-}
-
-/// Returns the number of words after the first one.
-fn words_after_first(line: &[u8]) -> usize {
-    match count_words(line) {
-        Ok(count) => count.saturating_sub(1),
-        Err(number) => number,
+        if left == 0 {
+            return Some(word);
+        }
+        left -= 1;
+        rest = behind;
     }
 }
 
-/// Returns what a command takes as the word with this number.
-fn wanted_by_command(command: &[u8], number: usize) -> Option<&'static str> {
-    let kinds = row_of(find_command(command)?).kinds;
-    let kind = kinds.get(number.checked_sub(2)?)?;
-    Some(wanted_of(*kind))
+/// Returns the first word of a line without broken words, or no bytes if it has none.
+fn first_word(line: &[u8]) -> &[u8]
+    requires whole { words_of line.now ≡ Ok (words_in line.now) }
+    ensures { result.now ≡ words.first_word_of (words_in line.now) }
+{
+    match word_at(line, 1) {
+        Some(word) => word,
+        None => &[],
+    }
 }
 
-/// Returns what a word of this kind is.
-fn wanted_of(kind: Kind) -> &'static str {
+/// Returns what the words of a script's line have to be.
+fn command_words(line: &[u8]) -> Wanted
+    requires whole { words_of line.now ≡ Ok (words_in line.now) }
+    ensures first { first_wanted_of result ≡ words.wanted_command }
+    ensures texts { others_wanted_of result ≡ words.wanted_after_command (words.first_word_of (words_in line.now)) }
+{
+    match find_command(first_word(line)) {
+        Some(command) => Wanted::Command(row_of(command).kinds),
+        None => Wanted::Command(&[]),
+    }
+}
+
+/// Returns what the words of a line of the text that `pack` reads have to be.
+fn part_words(line: &[u8]) -> Wanted
+    requires whole { words_of line.now ≡ Ok (words_in line.now) }
+    ensures first { first_wanted_of result ≡ words.wanted_entry }
+    ensures texts { others_wanted_of result ≡ words.wanted_after_first (words.first_word_of (words_in line.now)) }
+{
+    Wanted::Part(words_after(first_word(line)))
+}
+
+/// Returns what a word of this kind has to be.
+fn wanted_of(kind: Kind) -> &'static str
+    ensures { result.now ≡ words.wanted_of_kind kind }
+{
     match kind {
         Kind::Chunk | Kind::Database => "a label (a letter, then up to 30 letters, digits or _)",
         Kind::Byte => "a number below 256",
@@ -129,19 +224,6 @@ fn wanted_of(kind: Kind) -> &'static str {
     }
 }
 
-/// Returns the number of words after the first one of a line of the text that `pack` reads.
-fn words_of_part_line(first: &[u8]) -> usize {
-    if first == b"record".as_slice() || first == b"resource".as_slice() {
-        3
-    } else {
-        1
-    }
-}
-
-/// A word of the text that `pack` reads: the first word of its line, its number in the line, and
-/// what it is.
-type PartWord = (&'static [u8], usize, &'static str);
-
 const SHORT: &str = "a number below 65536";
 
 const NUMBER: &str = "a number below 4294967296";
@@ -150,34 +232,53 @@ const FOUR_BYTES: &str = "a text of four bytes, as \"DATA\"";
 
 const PART: &str = "the name of a part (letters, digits, _, - and .), or none";
 
-static PART_WORDS: [PartWord; 18] = [
-    (b"name", 2, "a text of 1 to 31 bytes, as \"MemoDB\""),
-    (b"attributes", 2, "a hex number below 10000"),
-    (b"version", 2, SHORT),
-    (b"created", 2, NUMBER),
-    (b"modified", 2, NUMBER),
-    (b"backup", 2, NUMBER),
-    (b"number", 2, NUMBER),
-    (b"type", 2, FOUR_BYTES),
-    (b"creator", 2, FOUR_BYTES),
-    (b"seed", 2, "a hex number below 100000000"),
-    (b"app", 2, PART),
-    (b"sort", 2, PART),
-    (b"record", 2, "a hex number below 100"),
-    (b"record", 3, "a number below 16777216"),
-    (b"record", 4, PART),
-    (b"resource", 2, FOUR_BYTES),
-    (b"resource", 3, SHORT),
-    (b"resource", 4, PART),
-];
-
-/// Returns what the text that `pack` reads has as the word with this number, in a line that begins
-/// with the word `first`.
-fn wanted_in_parts(first: &[u8], number: usize) -> Option<&'static str> {
-    for (word, place, wanted) in &PART_WORDS {
-        if *word == first && *place == number {
-            return Some(wanted);
-        }
+/// Returns what the words after the first one have to be, in the text that `pack` reads.
+fn words_after(first: &[u8]) -> &'static [&'static str]
+    ensures { others_wanted_of (Wanted.Part result) ≡ words.wanted_after_first first.now }
+{
+    if first == b"name".as_slice() {
+        &["a text of 1 to 31 bytes, as \"MemoDB\""]
+    } else if first == b"attributes".as_slice() {
+        &["a hex number below 10000"]
+    } else if first == b"version".as_slice() {
+        &[SHORT]
+    } else if takes_number(first) {
+        &[NUMBER]
+    } else if takes_four_bytes(first) {
+        &[FOUR_BYTES]
+    } else if first == b"seed".as_slice() {
+        &["a hex number below 100000000"]
+    } else if takes_part(first) {
+        &[PART]
+    } else if first == b"record".as_slice() {
+        &["a hex number below 100", "a number below 16777216", PART]
+    } else if first == b"resource".as_slice() {
+        &[FOUR_BYTES, SHORT, PART]
+    } else {
+        &[]
     }
-    None
+}
+
+/// Returns whether the word after this first one is a number below 2^32.
+fn takes_number(first: &[u8]) -> bool
+    ensures { result ≡ words.takes_number first.now }
+{
+    first == b"created".as_slice()
+        || first == b"modified".as_slice()
+        || first == b"backup".as_slice()
+        || first == b"number".as_slice()
+}
+
+/// Returns whether the word after this first one is a text of four bytes, and the only one.
+fn takes_four_bytes(first: &[u8]) -> bool
+    ensures { result ≡ words.takes_four_bytes first.now }
+{
+    first == b"type".as_slice() || first == b"creator".as_slice()
+}
+
+/// Returns whether the word after this first one is the name of a part, and the only one.
+fn takes_part(first: &[u8]) -> bool
+    ensures { result ≡ words.takes_part first.now }
+{
+    first == b"app".as_slice() || first == b"sort".as_slice()
 }

@@ -14,7 +14,7 @@ use program_io::{Status, say, say_text};
 use raw_region::Region;
 use std::alloc::{AllocError, Global};
 use std::io::Write;
-use store_check::{StoreFault, StoreSummary, check_store_from};
+use store_check::{StoreFault, StoreSummary, check_store};
 
 /// Writes a blank image of this size and slot count to `image_out`, and then `ok` to `out`.
 ///
@@ -90,7 +90,7 @@ pub fn check_region_from<A: Allowance, V: Write>(
     ensures ends { EndsCheck region.now.bytes V.contents out.old out.new result }
     ensures short { result ≡ Status.NoMemory → A.is_short memory.now }
 {
-    match check_store_from(memory, region) {
+    match check_store(memory, region) {
         Ok(summary) => say_text(summary_text(memory, &summary), Status::Done, out),
         Err(fault) if fault == StoreFault::OutOfMemory => Status::NoMemory,
         Err(fault) => say_bad_image(out, fault),

@@ -6,11 +6,11 @@ ghost use Rattle.palm_text.specs.Output.{Puts};
 ghost use Rattle.image_commands.specs.FaultDocuments.{image_fault_json, named_fault_json};
 
 use crate::fault_names::{Numbers, image_fault_name, image_fault_numbers};
-use json_text::{JsonPiece, put_json};
 use palm_text::{Counted, WriteFault};
 use program_io::{Status, flushed};
 use std::io::Write;
 use store_check::StoreFault;
+use unicode_text::{JsonPiece, put_json};
 
 /// Prints the document for the fault of an image.
 pub fn say_image_fault<V: Write>(out: &mut Counted<V>, fault: StoreFault) -> Status

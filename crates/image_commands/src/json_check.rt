@@ -1,7 +1,6 @@
 //! The command `check --json`.
 
 ghost use Rattle.std.specs.Prelude.{[], ◌≡◌};
-ghost use Rattle.allowance.specs.Refusals.{GrowthRefused};
 ghost use Rattle.image_commands.specs.JsonEnds.{EndsCheckJson};
 
 use crate::fault_documents::say_image_fault;
@@ -10,20 +9,11 @@ use allowance::Allowance;
 use palm_text::Counted;
 use program_io::Status;
 use raw_region::Region;
-use std::alloc::Global;
 use std::io::Write;
-use store_check::{StoreFault, check_store_from};
+use store_check::{StoreFault, check_store};
 
 /// Checks an image, and prints the document of its counts, or the document for its first fault.
-pub fn cmd_check_json<V: Write>(alloc: Global, image: &[u8], out: &mut Counted<V>) -> Status
-    ensures ends { EndsCheckJson image.now V.contents out.old out.new result }
-    ensures short { result ≡ Status.NoMemory → GrowthRefused }
-{
-    cmd_check_json_from(&alloc, image, out)
-}
-
-/// The same as `cmd_check_json`. Each allocation asks `memory` for a grant.
-pub fn cmd_check_json_from<A: Allowance, V: Write>(
+pub fn cmd_check_json<A: Allowance, V: Write>(
     memory: &A,
     image: &[u8],
     out: &mut Counted<V>,
@@ -37,7 +27,7 @@ pub fn cmd_check_json_from<A: Allowance, V: Write>(
     }
 }
 
-/// The same as `cmd_check_json_from` for an image in a region. It makes no copy of the image.
+/// The same as `cmd_check_json` for an image in a region. It makes no copy of the image.
 #[tactic(auto, using(crate::proofs::JsonFaults::counts_end, crate::proofs::JsonFaults::fault_ends, crate::proofs::JsonFaults::memory_ends))]
 pub fn check_json_region_from<A: Allowance, V: Write>(
     memory: &A,
@@ -48,7 +38,7 @@ pub fn check_json_region_from<A: Allowance, V: Write>(
     ensures ends { EndsCheckJson region.now.bytes V.contents out.old out.new result }
     ensures short { result ≡ Status.NoMemory → A.is_short memory.now }
 {
-    match check_store_from(memory, region) {
+    match check_store(memory, region) {
         Ok(summary) => say_summary(out, &summary),
         Err(fault) if fault == StoreFault::OutOfMemory => Status::NoMemory,
         Err(fault) => say_image_fault(out, fault),

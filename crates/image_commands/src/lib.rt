@@ -6,7 +6,7 @@
 //! form over any `Allowance`, which reports out of memory only if an allocation failed. Start at
 //! `cmd_new`.
 //!
-//! `check --json` prints the facts that `check` prints as text. `json_text` describes what all
+//! `check --json` prints the facts that `check` prints as text. `unicode_text` describes what all
 //! documents have in common, and `json_documents` has those of files.
 //!
 //! ```text
@@ -43,5 +43,5 @@ pub use fault_documents::say_image_fault;
 pub use fault_lines::say_bad_image;
 pub use fault_names::{Numbers, image_fault_name, image_fault_numbers};
 pub use images::{check, new};
-pub use json_check::{check_json_region_from, cmd_check_json, cmd_check_json_from};
+pub use json_check::{check_json_region_from, cmd_check_json};
 pub use json_images::check_json;

@@ -6,11 +6,11 @@ ghost use Rattle.palm_text.specs.Output.{Puts};
 ghost use Rattle.image_commands.specs.JsonEnds.{heap_json, summary_json};
 
 use heap_check::Summary;
-use json_text::{JsonPiece, put_json};
 use palm_text::{Counted, WriteFault};
 use program_io::{Status, flushed};
 use std::io::Write;
 use store_check::StoreSummary;
+use unicode_text::{JsonPiece, put_json};
 
 /// Writes the document of the counts of a heap, and of its databases.
 #[tactic(auto, unfolding(crate::specs::JsonEnds::heap_json))]

@@ -38,6 +38,10 @@ fn fail_to_read_words<R: Eprint>(rt: &R, error: io::Error) -> Status
     if error.kind() == ErrorKind::OutOfMemory {
         return fail(rt, Status::NoMemory);
     }
-    let _ = eprintln!(rt; "error: the words could not be read: {error}");
+    let _ = if error.kind() == ErrorKind::InvalidData {
+        eprintln!(rt; "error: a word of the command line isn't UTF-8")
+    } else {
+        eprintln!(rt; "error: the words could not be read: {error}")
+    };
     Status::BadWords
 }

@@ -15,7 +15,7 @@ use Rattle.json_documents.specs.Faults.{file_fault_json}
 use Rattle.json_documents.specs.Ends.{PutsDocument, PutsFileFault}
 use Rattle.json_documents.specs.Parts.{HasDocumentParts, WritesDocument, document_by}
 
-pub header_is : (file : List ℕ) (header : DbHeader) → IsHeaderOf (database_in file) header → header_values header ≡ header_in file
+header_is : (file : List ℕ) (header : DbHeader) → IsHeaderOf (database_in file) header → header_values header ≡ header_in file
 unfolding database_in
 header_is file header has = has.values
 

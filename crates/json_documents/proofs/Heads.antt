@@ -2,7 +2,7 @@
 use Rattle.std.proofs.Common.{◌≡◌, ◌++◌, ℕ, List, refl}
 use Rattle.std.specs.Prelude.{codes, decimal}
 use Rattle.heap_model.specs.Database.{DatabaseHeader}
-use Rattle.json_text.specs.Strings.{string, hex_string}
+use Rattle.unicode_text.specs.Strings.{string, hex_string}
 use Rattle.json_documents.specs.FileDocument.{head_json}
 
 abbrev pub head_text : ℕ → (name again : List ℕ) → (attributes version : ℕ) → List ℕ

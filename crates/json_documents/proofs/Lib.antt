@@ -2,4 +2,3 @@ pub mod ChangeWords
 pub mod Documents
 pub mod EntryTexts
 pub mod Heads
-pub mod Infos

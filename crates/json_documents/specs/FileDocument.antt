@@ -9,7 +9,7 @@ use Rattle.canonical_file.specs.declared.changes.Changes.{Changes}
 use Rattle.canonical_file.specs.Changes.{AreChanges, word}
 use Rattle.file_listing.specs.Moments.{IsUtcText}
 use Rattle.file_listing.specs.Listing.{needed_slots, needed_size}
-use Rattle.json_text.specs.Strings.{string, hex_string}
+use Rattle.unicode_text.specs.Strings.{string, hex_string}
 
 -- the size of the file in bytes, and the first values of its header
 unfoldable pub head_json : ℕ → DatabaseHeader → List ℕ

@@ -2,7 +2,6 @@
 use Rattle.std.specs.Prelude.{ℕ, Bool, List, Option, string_bytes}
 use Rattle.heap_model.specs.Database.{DatabaseHeader, header_in}
 use Rattle.heap_model.specs.Files.{HasNoFault, IsFirstFault}
-use Rattle.canonical_file.specs.Canonical.{HasBlocks}
 use Rattle.canonical_file.specs.Changes.{AreChanges}
 use Rattle.palm_text.specs.Counted.{Writing, Writes}
 use Rattle.json_documents.specs.declared.parts.Parts.{Parts}
@@ -17,9 +16,8 @@ pub record AreUtcMoments (header : DatabaseHeader) (moments : Moments) : Type 0 
   pub modified : IsUtcJson header.modification_date (string_bytes moments.modified)
   pub backup : IsUtcJson header.backup_date (string_bytes moments.backup)
 
--- these are the blocks of a file, the texts of its moments, and its changes
+-- these are the texts of the moments of a file, and its changes
 pub record HasDocumentParts (file : List ℕ) (parts : Parts) : Type 0 where
-  pub blocks : HasBlocks file parts.blocks.items
   pub moments : AreUtcMoments (header_in file) parts.moments
   pub changes : AreChanges file parts.changes
 

@@ -2,19 +2,19 @@
 //! rewritten.
 
 ghost use Rattle.std.specs.Prelude.{◌≡◌, ◌&&◌, ◌||◌, is_ok};
-ghost use Rattle.canonical_file.specs.Canonical.{HasBlocks};
 ghost use Rattle.canonical_file.specs.Changes as changes;
 ghost use Rattle.palm_text.specs.Counted.{Writes};
 ghost use Rattle.json_documents.specs.FileDocument.{changes_json, comma_if, last_json, needs_json, size_json, slots_json};
-ghost use Rattle.json_text.specs.Pieces.{json_text};
+ghost use Rattle.unicode_text.specs.Pieces.{json_text};
 
 use crate::parts::Parts;
 use canonical_file::Changes;
 use file_listing::size_and_slots;
 use itoa::Buffer;
-use json_text::{JsonPiece, put_json};
 use palm_text::{Counted, WriteFault};
+use pdb_format::PdbFile;
 use std::io::Write;
+use unicode_text::{JsonPiece, put_json};
 
 /// Writes the least size of a new image with the database.
 #[tactic(auto, unfolding(crate::specs::FileDocument::size_json))]
@@ -115,13 +115,12 @@ fn put_changes<W: Write>(out: &mut Counted<W>, changes: Changes) -> Result<(), W
 #[tactic(auto, using(palm_text::proofs::Parts::then, palm_text::proofs::Parts::stops), unfolding(crate::specs::FileDocument::last_json))]
 pub(crate) fn put_last<W: Write>(
     out: &mut Counted<W>,
-    file: &[u8],
+    file: &PdbFile<'_>,
     parts: &Parts,
 ) -> Result<(), WriteFault>
-    requires { HasBlocks file.now parts.now.blocks.items }
     ensures { Writes W.contents out.old out.new (last_json file.now parts.now.changes) (is_ok result) }
 {
-    let (size, slots) = size_and_slots(file, parts.blocks.as_slice());
+    let (size, slots) = size_and_slots(file);
     put_needs(out, size, slots)?;
     put_changes(out, parts.changes)
 }

@@ -5,16 +5,16 @@ ghost use Rattle.heap_model.specs.Database.{entry_count_in};
 ghost use Rattle.db_format.specs.EitherEntry.{entry_of};
 ghost use Rattle.palm_text.specs.Counted.{Writes};
 ghost use Rattle.pdb_format.specs.Blocks.{IsBlockWithin, bytes_at};
-ghost use Rattle.canonical_file.specs.Canonical.{HasBlocks, most_bytes};
+ghost use Rattle.canonical_file.specs.Canonical.{most_bytes};
 ghost use Rattle.json_documents.specs.FileDocument as words;
 ghost use Rattle.json_documents.specs.FileDocument.{data_json, entries_json, entry_json_at, entry_json, fields_json, index_json, kind_json, value_json};
-ghost use Rattle.json_text.specs.Pieces.{json_text};
+ghost use Rattle.unicode_text.specs.Pieces.{json_text};
 
-use db_format::{DbEntry, INFO_BLOCKS, entry_count};
-use json_text::{JsonPiece, put_json};
+use db_format::{DbEntry, INFO_BLOCKS};
 use palm_text::{Counted, WriteFault, put_all};
-use pdb_format::Block;
+use pdb_format::{Block, PdbFile};
 use std::io::Write;
+use unicode_text::{JsonPiece, put_json};
 
 /// Returns the comma before the entry of an index.
 fn comma(index: u16) -> JsonPiece<'static>
@@ -76,7 +76,7 @@ fn put_value<W: Write>(out: &mut Counted<W>, entry: DbEntry) -> Result<(), Write
 /// Writes the offset and the length of the data of an entry.
 fn put_data<W: Write>(
     out: &mut Counted<W>,
-    file: &[u8],
+    file: &PdbFile<'_>,
     at: u32,
     block: Option<Block>,
 ) -> Result<(), WriteFault>
@@ -103,7 +103,7 @@ fn put_data<W: Write>(
 #[tactic(auto, using(palm_text::proofs::Parts::then, palm_text::proofs::Parts::stops), unfolding(crate::specs::FileDocument::fields_json))]
 fn put_fields<W: Write>(
     out: &mut Counted<W>,
-    file: &[u8],
+    file: &PdbFile<'_>,
     entry: DbEntry,
     block: Option<Block>,
 ) -> Result<(), WriteFault>
@@ -120,7 +120,7 @@ fn put_fields<W: Write>(
 #[tactic(auto, using(palm_text::proofs::Parts::then, palm_text::proofs::Parts::stops), unfolding(crate::specs::FileDocument::entry_json))]
 fn put_entry<W: Write>(
     out: &mut Counted<W>,
-    file: &[u8],
+    file: &PdbFile<'_>,
     index: u16,
     entry: DbEntry,
     block: Option<Block>,
@@ -137,35 +137,27 @@ fn put_entry<W: Write>(
 /// Writes the entry at an index.
 fn put_entry_at<W: Write>(
     out: &mut Counted<W>,
-    file: &[u8],
-    blocks: &[Option<Block>],
+    file: &PdbFile<'_>,
     index: u16,
 ) -> Result<(), WriteFault>
-    requires blocks { HasBlocks file.now blocks.now }
+    requires short { length file.now ≤ most_bytes }
     requires inside { index < entry_count_in file.now }
     ensures { Writes W.contents out.old out.new (entry_json_at file.now index) (is_ok result) }
 {
-    let entry = DbEntry::read(file, index);
-    put_entry(
-        out,
-        file,
-        index,
-        entry,
-        blocks[INFO_BLOCKS + index as usize],
-    )
+    let block = file.block(INFO_BLOCKS + index as usize);
+    put_entry(out, file, index, file.entry(index), block)
 }
 
 /// Writes all entries.
 pub(crate) fn put_entries<W: Write>(
     out: &mut Counted<W>,
-    file: &[u8],
-    blocks: &[Option<Block>],
+    file: &PdbFile<'_>,
 ) -> Result<(), WriteFault>
-    requires { HasBlocks file.now blocks.now }
+    requires { length file.now ≤ most_bytes }
     ensures { Writes W.contents out.old out.new (entries_json file.now) (is_ok result) }
 {
-    for index in 0..entry_count(file) {
-        match put_entry_at(out, file, blocks, index) {
+    for index in 0..file.entry_count() {
+        match put_entry_at(out, file, index) {
             Ok(()) => {}
             Err(fault) => return Err(fault),
         }

@@ -1,7 +1,7 @@
 //! The document of a file, on a writer.
 
 ghost use Rattle.std.specs.Prelude.{◌≡◌, ◌≢◌, ◌≤◌, length, false, true, Err, IfErr, OnOk, is_ok, string_bytes};
-ghost use Rattle.canonical_file.specs.Canonical.{HasBlocks, most_bytes};
+ghost use Rattle.canonical_file.specs.Canonical.{most_bytes};
 ghost use Rattle.heap_model.specs.Files.{HasNoFault};
 ghost use Rattle.db_format.specs.Headers.{header_values};
 ghost use Rattle.palm_text.specs.Counted.{Writes};
@@ -14,10 +14,10 @@ use crate::entries::{put_entries, put_kind};
 use crate::head::{put_head, put_marks, put_moments};
 use crate::parts::{Parts, parts_of};
 use allowance::Allowance;
-use db_format::{DbHeader, has_resources};
+use db_format::DbHeader;
 use heap_model::FileFault;
 use palm_text::{Counted, WriteFault};
-use pdb_format::check_file;
+use pdb_format::{OpenFault, PdbFile};
 use std::io::Write;
 
 /// The reason why the document of a file was not written.
@@ -33,31 +33,43 @@ pub enum DocumentFault {
 
 /// Writes the entries and what follows them.
 #[tactic(auto, using(palm_text::proofs::Parts::then, palm_text::proofs::Parts::stops), unfolding(crate::specs::FileDocument::ending_json))]
-fn put_ending<W: Write>(out: &mut Counted<W>, file: &[u8], parts: &Parts) -> Result<(), WriteFault>
-    requires { HasBlocks file.now parts.now.blocks.items }
+fn put_ending<W: Write>(
+    out: &mut Counted<W>,
+    file: &PdbFile<'_>,
+    parts: &Parts,
+) -> Result<(), WriteFault>
+    requires { length file.now ≤ most_bytes }
     ensures { Writes W.contents out.old out.new (ending_json file.now parts.now.changes) (is_ok result) }
 {
-    put_entries(out, file, parts.blocks.as_slice())?;
+    put_entries(out, file)?;
     put_last(out, file, parts)
 }
 
 /// Writes the kind of the entries and what follows it.
 #[tactic(auto, using(palm_text::proofs::Parts::then, palm_text::proofs::Parts::stops), unfolding(crate::specs::FileDocument::list_json))]
-fn put_list<W: Write>(out: &mut Counted<W>, file: &[u8], parts: &Parts) -> Result<(), WriteFault>
-    requires { HasBlocks file.now parts.now.blocks.items }
+fn put_list<W: Write>(
+    out: &mut Counted<W>,
+    file: &PdbFile<'_>,
+    parts: &Parts,
+) -> Result<(), WriteFault>
+    requires { length file.now ≤ most_bytes }
     ensures { Writes W.contents out.old out.new (list_json file.now parts.now.changes) (is_ok result) }
 {
-    put_kind(out, has_resources(file))?;
+    put_kind(out, file.has_resources())?;
     put_ending(out, file, parts)
 }
 
 /// Writes the info blocks and what follows them.
 #[tactic(auto, using(palm_text::proofs::Parts::then, palm_text::proofs::Parts::stops), unfolding(crate::specs::FileDocument::body_json))]
-fn put_body<W: Write>(out: &mut Counted<W>, file: &[u8], parts: &Parts) -> Result<(), WriteFault>
-    requires { HasBlocks file.now parts.now.blocks.items }
+fn put_body<W: Write>(
+    out: &mut Counted<W>,
+    file: &PdbFile<'_>,
+    parts: &Parts,
+) -> Result<(), WriteFault>
+    requires { length file.now ≤ most_bytes }
     ensures { Writes W.contents out.old out.new (body_json file.now parts.now.changes) (is_ok result) }
 {
-    put_infos(out, file, parts.blocks.as_slice())?;
+    put_infos(out, file)?;
     put_list(out, file, parts)
 }
 
@@ -65,11 +77,11 @@ fn put_body<W: Write>(out: &mut Counted<W>, file: &[u8], parts: &Parts) -> Resul
 #[tactic(auto, using(palm_text::proofs::Parts::then, palm_text::proofs::Parts::stops), unfolding(crate::specs::FileDocument::rest_json))]
 fn put_rest<W: Write>(
     out: &mut Counted<W>,
-    file: &[u8],
+    file: &PdbFile<'_>,
     header: &DbHeader,
     parts: &Parts,
 ) -> Result<(), WriteFault>
-    requires { HasBlocks file.now parts.now.blocks.items }
+    requires { length file.now ≤ most_bytes }
     ensures { Writes W.contents out.old out.new
         (rest_json file.now (header_values header.now) parts.now.changes) (is_ok result) }
 {
@@ -81,11 +93,11 @@ fn put_rest<W: Write>(
 #[tactic(auto, using(palm_text::proofs::Parts::then, palm_text::proofs::Parts::stops), unfolding(crate::specs::FileDocument::dated_json))]
 fn put_dated<W: Write>(
     out: &mut Counted<W>,
-    file: &[u8],
+    file: &PdbFile<'_>,
     header: &DbHeader,
     parts: &Parts,
 ) -> Result<(), WriteFault>
-    requires { HasBlocks file.now parts.now.blocks.items }
+    requires { length file.now ≤ most_bytes }
     ensures { Writes W.contents out.old out.new (dated_json file.now (header_values header.now)
         (string_bytes parts.now.moments.created) (string_bytes parts.now.moments.modified)
         (string_bytes parts.now.moments.backup) parts.now.changes) (is_ok result) }
@@ -98,15 +110,15 @@ fn put_dated<W: Write>(
 #[tactic(auto, using(palm_text::proofs::Parts::then, palm_text::proofs::Parts::stops))]
 fn put_parts<W: Write>(
     out: &mut Counted<W>,
-    file: &[u8],
+    file: &PdbFile<'_>,
     header: &DbHeader,
     parts: &Parts,
 ) -> Result<(), WriteFault>
-    requires { HasBlocks file.now parts.now.blocks.items }
+    requires { length file.now ≤ most_bytes }
     ensures { Writes W.contents out.old out.new (document_by file.now (header_values header.now)
         parts.now) (is_ok result) }
 {
-    put_head(out, file.len() as u32, header)?;
+    put_head(out, file.bytes().len() as u32, header)?;
     put_dated(out, file, header, parts)
 }
 
@@ -120,7 +132,6 @@ fn put_parts<W: Write>(
 /// - `BadFile`: if the file has a fault. It contains the first one.
 /// - `OutOfMemory`: if an allocation failed.
 /// - `Write`: if a write failed, or took 0 bytes.
-#[tactic(auto, using(pdb_format::proofs::FileNames::file_named, crate::proofs::Documents::written))]
 pub fn put_file_document<A: Allowance, W: Write>(
     memory: &A,
     file: &[u8],
@@ -135,10 +146,30 @@ pub fn put_file_document<A: Allowance, W: Write>(
         → WritesDocument file.now W.contents out.old out.new false }
     ensures short { result ≡ Err DocumentFault.OutOfMemory → A.is_short memory.now }
 {
-    if let Err(fault) = check_file(file) {
-        return Err(DocumentFault::BadFile(fault));
+    match PdbFile::open(memory, file) {
+        Ok(file) => put_opened(memory, &file, out),
+        Err(OpenFault::BadFile(fault)) => Err(DocumentFault::BadFile(fault)),
+        Err(OpenFault::OutOfMemory) => Err(DocumentFault::OutOfMemory),
     }
-    let header = DbHeader::read(file);
+}
+
+/// Writes the document of a file that is opened.
+#[tactic(auto, using(crate::proofs::Documents::written))]
+fn put_opened<A: Allowance, W: Write>(
+    memory: &A,
+    file: &PdbFile<'_>,
+    out: &mut Counted<W>,
+) -> Result<(), DocumentFault>
+    requires { length file.now ≤ most_bytes }
+    ensures done { OnOk result (WritesDocument file.now W.contents out.old out.new true) }
+    ensures why { IfErr result (IsDocumentFault file.now) }
+    ensures untouched { IfErr result (λ fault. fault ≢ DocumentFault.Write → out.new ≡ out.old) }
+    ensures write { result ≡ Err DocumentFault.Write
+        → WritesDocument file.now W.contents out.old out.new false }
+    ensures short { result ≡ Err DocumentFault.OutOfMemory → A.is_short memory.now }
+{
+    let _ = file.bytes();
+    let header = file.header();
     let Ok(parts) = parts_of(memory, file, &header) else {
         return Err(DocumentFault::OutOfMemory);
     };

@@ -7,14 +7,14 @@ ghost use Rattle.palm_text.specs.Output.{Puts};
 ghost use Rattle.canonical_file.specs.Canonical.{most_bytes};
 ghost use Rattle.json_documents.specs.Ends.{PutsFileFault};
 ghost use Rattle.json_documents.specs.Faults.{file_fault_fields, file_fault_json};
-ghost use Rattle.json_text.specs.Pieces.{json_text};
+ghost use Rattle.unicode_text.specs.Pieces.{json_text};
 
 use file_listing::fault_place;
 use heap_model::{FileFault, Which};
-use json_text::{JsonPiece, put_json};
 use palm_text::{Counted, WriteFault};
 use program_io::{Status, flushed};
 use std::io::Write;
+use unicode_text::{JsonPiece, put_json};
 
 const NO_JSON: JsonPiece<'static> = JsonPiece::Text(b"");
 

@@ -7,9 +7,9 @@ ghost use Rattle.json_documents.specs.FileDocument.{head_json, marks_json, momen
 
 use crate::parts::Moments;
 use db_format::DbHeader;
-use json_text::{JsonPiece, put_json};
 use palm_text::{Counted, WriteFault};
 use std::io::Write;
+use unicode_text::{JsonPiece, put_json};
 
 /// Writes the size of the file, and the first values of its header.
 pub(crate) fn put_head<W: Write>(

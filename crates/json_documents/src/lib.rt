@@ -1,5 +1,5 @@
 //! JSON documents with the facts that `list` prints as text. `image_commands` has those of images.
-//! `json_text` describes what all documents have in common.
+//! `unicode_text` describes what all documents have in common.
 //!
 //! ```text
 //! {"size":97,"name":"MemoDB","name_hex":"4d656d6f4442","attributes":0,"version":0,
@@ -31,4 +31,4 @@ mod list_command;
 mod parts;
 
 pub use file_document::{DocumentFault, put_file_document};
-pub use list_command::{cmd_list_json, cmd_list_json_from};
+pub use list_command::cmd_list_json;

@@ -1,7 +1,6 @@
 //! The command `list --json`.
 
 ghost use Rattle.std.specs.Prelude.{◌≡◌, ◌≢◌, ◌≤◌, length, true, false, Err, IfErr, OnOk};
-ghost use Rattle.allowance.specs.Refusals.{GrowthRefused};
 ghost use Rattle.canonical_file.specs.Canonical.{most_bytes};
 ghost use Rattle.json_documents.specs.Ends.{EndsListJson, PutsDocument};
 ghost use Rattle.json_documents.specs.Parts.{IsDocumentFault};
@@ -11,20 +10,10 @@ use crate::file_fault::say_file_fault;
 use allowance::Allowance;
 use palm_text::Counted;
 use program_io::{Status, flushed};
-use std::alloc::Global;
 use std::io::Write;
 
 /// Prints the document of a file. If the file has a fault, prints the document for the first fault.
-pub fn cmd_list_json<V: Write>(alloc: Global, file: &[u8], out: &mut Counted<V>) -> Status
-    requires { length file.now ≤ most_bytes }
-    ensures ends { EndsListJson file.now V.contents out.old out.new result }
-    ensures short { result ≡ Status.NoMemory → GrowthRefused }
-{
-    cmd_list_json_from(&alloc, file, out)
-}
-
-/// The same as `cmd_list_json`. Each allocation asks `memory` for a grant.
-pub fn cmd_list_json_from<A: Allowance, V: Write>(
+pub fn cmd_list_json<A: Allowance, V: Write>(
     memory: &A,
     file: &[u8],
     out: &mut Counted<V>,

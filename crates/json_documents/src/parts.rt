@@ -2,9 +2,8 @@
 
 ghost use Rattle.std.specs.Prelude.{◌≡◌, ◌≤◌, length, IfOk, OnErr, string_bytes};
 ghost use Rattle.heap_model.specs.Database.{header_in};
-ghost use Rattle.heap_model.specs.Files.{HasNoFault};
 ghost use Rattle.db_format.specs.Headers.{header_values};
-ghost use Rattle.canonical_file.specs.Canonical.{HasBlocks, most_bytes};
+ghost use Rattle.canonical_file.specs.Canonical.{most_bytes};
 ghost use Rattle.json_documents.specs.FileDocument as document;
 ghost use Rattle.json_documents.specs.FileDocument.{IsQuotedUtc, IsUtcJson};
 ghost use Rattle.json_documents.specs.Parts.{AreUtcMoments, HasDocumentParts};
@@ -13,7 +12,7 @@ use allowance::{Allowance, text_of};
 use canonical_file::{Changes, find_changes};
 use db_format::DbHeader;
 use file_listing::utc_text;
-use pdb_format::{Block, find_blocks_from};
+use pdb_format::PdbFile;
 use std::alloc::AllocError;
 
 /// The UTC texts of the moments of a header.
@@ -24,10 +23,9 @@ pub(crate) struct Moments {
     pub(crate) backup: String,
 }
 
-/// The blocks of a file, the UTC texts of its moments, and the changes when it is rewritten.
+/// The UTC texts of the moments of a file, and the changes when it is rewritten.
 #[derive(Drop)]
 pub(crate) struct Parts {
-    pub(crate) blocks: Vec<Option<Block>>,
     pub(crate) moments: Moments,
     pub(crate) changes: Changes,
 }
@@ -73,30 +71,18 @@ fn moments_of<A: Allowance>(memory: &A, header: &DbHeader) -> Result<Moments, Al
     })
 }
 
-/// Returns the places of the blocks.
-fn blocks_of<A: Allowance>(memory: &A, file: &[u8]) -> Result<Vec<Option<Block>>, AllocError>
-    requires good { HasNoFault file.now }
-    requires short { length file.now ≤ most_bytes }
-    ensures blocks { IfOk result (λ blocks. HasBlocks file.now blocks.items) }
-    ensures short { OnErr result (A.is_short memory.now) }
-{
-    find_blocks_from(memory, file)
-}
-
 /// Returns the parts of a file.
 pub(crate) fn parts_of<A: Allowance>(
     memory: &A,
-    file: &[u8],
+    file: &PdbFile<'_>,
     header: &DbHeader,
 ) -> Result<Parts, AllocError>
-    requires good { HasNoFault file.now }
     requires short { length file.now ≤ most_bytes }
     requires header { header_values header.now ≡ header_in file.now }
     ensures parts { IfOk result (HasDocumentParts file.now) }
     ensures short { OnErr result (A.is_short memory.now) }
 {
     Ok(Parts {
-        blocks: blocks_of(memory, file)?,
         moments: moments_of(memory, header)?,
         changes: find_changes(memory, file)?,
     })

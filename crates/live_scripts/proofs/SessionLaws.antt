@@ -24,6 +24,7 @@ use Rattle.live_scripts.specs.declared.fault.LiveFault.TheVariants as faults
 use Rattle.live_scripts.specs.declared.session.Session.{Session}
 use Rattle.live_scripts.specs.Live.{CutBetweenLines, Prints, ReadStops, RunStops, RunsText}
 use Rattle.live_scripts.specs.Sessions.{EndsOn, HasRun, IsReadFault, LineStops, ReadsLine, RunsLine, RunsOn, StopsAt, StopsOn, bound_in}
+use Rattle.program_io.specs.Status.{IsOfReading}
 use Rattle.program_io.specs.declared.input.InputFault.{InputFault}
 use Rattle.program_io.specs.declared.input.InputFault.TheVariants.{Memory as InputMemory}
 
@@ -302,7 +303,7 @@ module _ {W : Type 0} (short : Type 0) (contents : W → Option (List ℕ)) (inp
     mid = new;
     out_mid = out;
     ran = whole front first out_first session new out has;
-    by = ((λ memory. is.1 (sym is.0 ∙ memory)), refl, refl);
+    by = ((λ memory. is.2 (sym is.0 ∙ memory)), subst IsOfReading (sym is.0) is.1, refl, refl);
   }
   read_fails fault faults.Memory front first out_first session new out is wanted has more = record {
     front = front;

@@ -6,6 +6,7 @@ use Rattle.std.specs.Str.Lines.{lines}
 use Rattle.heap_model.specs.Memory.{Memory as Region}
 use Rattle.heap_model.specs.declared.call.Reply.{Reply}
 use Rattle.palm_text.specs.Counted.{Flushes, Writing, Writes}
+use Rattle.program_io.specs.Status.{IsOfReading}
 use Rattle.program_io.specs.declared.input.InputFault.TheVariants.{Memory as InputMemory}
 use Rattle.script_lines.specs.Reading.{read_script}
 use Rattle.script_lines.specs.declared.line.Line.{Line}
@@ -47,12 +48,12 @@ pub record ReplyFails {W : Type 0} (short : Type 0) (contents : W → Option (Li
 
 -- Why no more lines were run after those of the text `front`, after which the script has `rest`:
 -- - The next line is the first faulty line of the script, and has this fault.
--- - The rest of the script could not be read, and no allocation failed.
+-- - A read failed, or the script is too long, and no allocation failed.
 -- - An allocation failed.
 -- - The reply line of the next line could not be written, or a flush failed.
 abbrev pub StopsBy : {W : Type 0} → Type 0 → (W → Option (List ℕ)) → List (List ℕ) → LiveFault → (front rest : List ℕ) → List Line → Bindings → Region → Writing W → Region → Writing W → Type 0
 StopsBy short contents inputs (faults.Line fault) front rest before bound old out new out_after = (read_script (front ++ rest) ≡ Err fault) × (fault.line ≡ length (lines front) + 1) × (new ≡ old) × (out_after ≡ out)
-StopsBy short contents inputs (faults.Input fault) front rest before bound old out new out_after = (fault ≢ InputMemory) × (new ≡ old) × (out_after ≡ out)
+StopsBy short contents inputs (faults.Input fault) front rest before bound old out new out_after = (fault ≢ InputMemory) × IsOfReading fault × (new ≡ old) × (out_after ≡ out)
 StopsBy short contents inputs faults.Memory front rest before bound old out new out_after = short × (new ≡ old) × (out_after ≡ out)
 StopsBy short contents inputs faults.Write front rest before bound old out new out_after = ReplyFails short contents inputs front rest before bound old out new out_after ⊎ ((new ≡ old) × Flushes contents out out_after false)
 

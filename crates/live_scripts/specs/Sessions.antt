@@ -12,6 +12,7 @@ use Rattle.live_scripts.specs.declared.fault.LiveFault.{LiveFault}
 use Rattle.live_scripts.specs.declared.fault.LiveFault.TheVariants as faults
 use Rattle.live_scripts.specs.declared.session.Session.{Session}
 use Rattle.live_scripts.specs.Live.{CutBetweenLines, Prints, RunStops, RunsText}
+use Rattle.program_io.specs.Status.{IsOfReading}
 use Rattle.program_io.specs.declared.input.InputFault.{InputFault}
 use Rattle.program_io.specs.declared.input.InputFault.TheVariants.{Memory}
 
@@ -91,6 +92,6 @@ StopsAt {W} short contents inputs fault text session old out new out_after = (fr
 -- the reason for which a reader can't be read, as the end of a run
 abbrev pub IsReadFault : InputFault → LiveFault → Type 0
 IsReadFault fault (faults.Line other) = ⊥
-IsReadFault fault (faults.Input other) = (other ≡ fault) × (fault ≢ Memory)
+IsReadFault fault (faults.Input other) = (other ≡ fault) × IsOfReading fault × (fault ≢ Memory)
 IsReadFault fault faults.Memory = fault ≡ Memory
 IsReadFault fault faults.Write = ⊥

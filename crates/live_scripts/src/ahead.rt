@@ -1,8 +1,9 @@
 //! Reads up to a line feed.
 
-ghost use Rattle.std.specs.Prelude.{◌≡◌, ◌<◌, ◌≤◌, Ok, Err, IfSome, OnOk, false, true, length, vec_len};
+ghost use Rattle.std.specs.Prelude.{◌≡◌, ◌<◌, ◌≤◌, Ok, Err, IfErr, IfSome, OnOk, false, true, length, vec_len};
 ghost use Rattle.std.specs.Io.{StartsWith};
 ghost use Rattle.std.specs.Io.KnownBytes.{IsAtEnd, Keeps, prepend_known};
+ghost use Rattle.program_io.specs.Status.{IsOfReading};
 
 use allowance::Allowance;
 use program_io::{InputFault, MOST_INPUT, read_turn};
@@ -34,6 +35,7 @@ pub(crate) fn read_ahead<A: Allowance, R: Read>(
         → IfSome (prepend_known text.old.items (R.remaining reader.old))
         (λ all. MOST_INPUT < length all) }
     ensures no_memory { result ≡ Err InputFault.Memory → A.is_short memory.now }
+    ensures of_reading { IfErr result IsOfReading }
 {
     loop {
         let before = text.len();

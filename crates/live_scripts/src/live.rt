@@ -3,6 +3,7 @@
 ghost use Rattle.std.specs.Prelude.{◌≡◌, ◌<◌, [], Err, IfOk, IfErr, IfSome, OnOk, Some, length, true, false};
 ghost use Rattle.std.specs.Io.KnownBytes.{IsAtEnd};
 ghost use Rattle.palm_text.specs.Counted.{Flushes};
+ghost use Rattle.program_io.specs.Status.{IsOfReading};
 ghost use Rattle.palm_script.specs.Loans.{LoanStays};
 ghost use Rattle.live_scripts.specs.Live.{ReadStops, RunsText};
 ghost use Rattle.live_scripts.specs.Sessions.{IsReadFault};
@@ -79,11 +80,12 @@ pub fn run_read<A: Allowance, R: Read, W: Write>(
 
 /// Returns why a run ends, if its script can't be read.
 fn read_fault(fault: InputFault) -> LiveFault
+    requires { IsOfReading fault }
     ensures { IsReadFault fault result }
 {
     match fault {
         InputFault::Memory => LiveFault::Memory,
-        InputFault::Read(_) | InputFault::TooLong => LiveFault::Input(fault),
+        InputFault::Open(_) | InputFault::Read(_) | InputFault::TooLong => LiveFault::Input(fault),
     }
 }
 

@@ -1,5 +1,5 @@
 -- Rows of slots, one for each table along the chain.
-use Rattle.std.proofs.Common.{true, Option, Some, None, max, ◌≡◌, ◌≢◌, ℕ, zero, suc, ◌+◌, ◌-◌, ◌*◌, ◌/◌, ◌%◌, ◌^◌, ◌<◌, ◌≤◌, List, [], ◌∷◌, ◌++◌, length, refl, sym, ap, subst, ◌∙◌, arith, append_assoc, length-append, inl, inr}
+use Rattle.std.proofs.Common.{true, Option, Some, None, max, min, ◌≡◌, ◌≢◌, ℕ, zero, suc, ◌+◌, ◌-◌, ◌*◌, ◌/◌, ◌%◌, ◌^◌, ◌<◌, ◌≤◌, List, [], ◌∷◌, ◌++◌, length, refl, sym, ap, subst, ◌∙◌, arith, append_assoc, length-append, inl, inr}
 use Rattle.std.proofs.lemmas.List.{append-nil}
 use Rattle.std.proofs.lemmas.Bool.{cases_lt, eqb-true}
 use Rattle.std.specs.Prelude.{◌⊎◌, ◌==◌, IfSome, IfNone}
@@ -19,7 +19,7 @@ use Rattle.chunk_format.specs.Header.{HasLive}
 use Rattle.master_table.specs.declared.slots.Row.{Row}
 use Rattle.master_table.specs.declared.table.EmptySlot.{EmptySlot}
 use Rattle.master_table.proofs.CountLaws.{none_free, some_free}
-use Rattle.master_table.specs.Table.{IsTiled, IsFirstEmpty, UsedBefore, StartsAt, StartsFurther, IsRow, row_start, row_end, tables_from, Behind}
+use Rattle.master_table.specs.Table.{IsTiled, IsFirstEmpty, UsedBefore, StartsAt, StartsFurther, EndsAt, EndsFurther, IsLastStart, IsRow, row_start, row_end, tables_from, Behind}
 
 -- ---- the first
 
@@ -34,7 +34,7 @@ first_row image row t first count before next place = record {
   passed = [];
   tables = ap (λ (w : ℕ). tables_from image w) (sym next);
   numbers = omega (arith, before, count);
-  start = inl (place, before);
+  start = inl (refl, place, before);
 }
 
 -- ---- the numbers of a row
@@ -198,7 +198,7 @@ row_behind image row other t r n first count before next place = record {
     passed = r.passed ++ table_at image row.next ∷ [];
     tables = next_table ∙ sym (append_assoc r.passed (table_at image row.next ∷ []) (tables_from image other.next));
     numbers = one_more image r.passed (table_at image row.next) (row.before + row.count) other.before other.count r.numbers before (count ∙ n.is);
-    start = inr record { front = r.passed; table = table_at image row.next; rest = tables_from image other.next; parts = next_table; there = sym place; count = before ∙ r.numbers };
+    start = inr record { front = r.passed; table = table_at image row.next; parts = refl; there = sym place; count = before ∙ r.numbers };
   };
   start = before;
   fewer = let is = ap length (n.step t.0 t.1).is in let same = ap (λ (w : ℕ). length (tables_from image w)) next in omega (arith, is, same);
@@ -251,14 +251,16 @@ searched_more image row other slot s none b = record {
       elim (stands_split s.is_row.front (slots_in_row row.first row.count) slot (subst (λ (xs : List ℕ). StandsIn xs slot) same h)) [ inl front ↦ s.none front | inr mine ↦ none mine ];
 }
 
+-- no table comes from the word 0
+none_from : (n : ℕ) (image : List ℕ) → tables_within n image 0 ≡ []
+none_from zero image = refl
+none_from (suc n) image = refl
+
 -- the last row ends the list
 last_parts : (image : List ℕ) (row : Row) → (r : IsRow image row) → row.next ≡ 0 → slots_of image ≡ r.front ++ slots_in_row row.first row.count
 last_parts image row r last =
     r.parts ∙ ap (λ (w : ℕ). r.front ++ (slots_in_row row.first row.count ++ slots_further (tables_from image w))) last
-    ∙ ap (λ (ts : List Table). r.front ++ (slots_in_row row.first row.count ++ slots_further ts)) (none_from (length image)) ∙ ap (λ (xs : List ℕ). r.front ++ xs) (append-nil (slots_in_row row.first row.count)) where
-      none_from : (n : ℕ) → tables_within n image 0 ≡ []
-      none_from zero = refl
-      none_from (suc n) = refl
+    ∙ ap (λ (ts : List Table). r.front ++ (slots_in_row row.first row.count ++ slots_further ts)) (none_from (length image) image) ∙ ap (λ (xs : List ℕ). r.front ++ xs) (append-nil (slots_in_row row.first row.count))
 
 pub last_end : (image : List ℕ) (row : Row) → IsRow image row → row.next ≡ 0 → row_end row ≡ slots_total image
 last_end image row r last =
@@ -282,13 +284,20 @@ last_empty image row from (Some slot) is last some none = (λ e. absurd cc, λ e
 
 -- ---- a number that is known to be no greater
 
-pub least_of : (image : List ℕ) (slot number : ℕ) → IsTiled image → StandsBehind image slot number → (least : ℕ) → least ≤ (slot - 16) / 4 → least ≤ slot_count image → least ≤ number
-least_of image slot number t s least low most = elim (cases_lt number (slot_count image)) [
-  | inl below ↦ (let there = same_slot image slot (16 + 4 * number) number s (row_at image row (16 + 4 * number) number (first_row image row t refl refl refl refl refl) (omega arith) (omega arith) (omega arith)) in omega arith)
-  | inr above ↦ omega arith
-] where
+-- the offset of a slot of the first table, by its number
+first_slot : (image : List ℕ) (slot number : ℕ) → IsTiled image → StandsBehind image slot number → number < slot_count image → slot ≡ 16 + 4 * number
+first_slot image slot number t s below = same_slot image slot (16 + 4 * number) number s (row_at image row (16 + 4 * number) number (first_row image row t refl refl refl refl refl) (omega arith) (omega arith) (omega arith)) where
   row : Row
   row = record { place = 0; first = 16; count = slot_count image; before = 0; next = first_next image }
+
+pub least_of : (image : List ℕ) (slot number : ℕ) → IsTiled image → StandsBehind image slot number → (least : ℕ) → least ≤ (slot - 16) / 4 → least ≤ slot_count image → least ≤ number
+least_of image slot number t s least low most = elim (cases_lt number (slot_count image)) [
+  | inl below ↦ (let there = first_slot image slot number t s below in omega arith)
+  | inr above ↦ omega arith
+]
+
+pub exact_of : (image : List ℕ) (slot number : ℕ) → IsTiled image → StandsBehind image slot number → number < slot_count image → (least : ℕ) → least ≡ min ((slot - 16) / 4) (slot_count image) → least ≡ number
+exact_of image slot number t s below least is = let there = first_slot image slot number t s below in omega arith
 
 -- ---- the row of a table that is known
 
@@ -345,7 +354,7 @@ start_row image row place before s st place_is first count before_is next = reco
   passed = s.front ++ s.table ∷ [];
   tables = s.parts ∙ ap (λ (ts : List Table). s.front ++ s.table ∷ ts) behind ∙ sym (append_assoc s.front (s.table ∷ []) (tables_from image row.next));
   numbers = one_more image s.front s.table before row.before row.count s.count before_is table_count;
-  start = inr (subst (λ (n : ℕ). StartsFurther image n row.before) (sym place_is) (subst (λ (n : ℕ). StartsFurther image place n) (sym before_is) s));
+  start = inr record { front = s.front; table = s.table; parts = refl; there = s.there ∙ sym place_is; count = before_is ∙ s.count };
 } where
   table_count : row.count ≡ s.table.count
   table_count = count ∙ st.next.is ∙ ap (λ (x : Table). x.count) st.table_is
@@ -366,6 +375,26 @@ further_start image place before s some = elim s [ inl first ↦ absurd (some fi
 
 pub first_start : (image : List ℕ) (place before : ℕ) → IsTiled image → StartsAt image place before → place ≡ 0 → before ≡ 0
 first_start image place before t s none = elim s [ inl first ↦ first.1 | inr further ↦ (let low = (start_stands image place before t further).next.stands.low in absurd (omega (arith, low, none))) ]
+
+-- the start of a row's table
+pub row_starts : (image : List ℕ) (row : Row) → IsRow image row → StartsAt image row.place row.before
+row_starts image row r = elim r.start [
+  | inl first ↦ inl (first.1, first.2)
+  | inr e ↦ inr record {
+    front = e.front;
+    table = e.table;
+    rest = tables_from image row.next;
+    parts = r.tables ∙ ap (λ (ts : List Table). ts ++ tables_from image row.next) e.parts ∙ append_assoc e.front (e.table ∷ []) (tables_from image row.next);
+    there = e.there;
+    count = e.count;
+  }
+]
+
+-- it is the last table's if no word `next` leads on
+pub row_ends : (image : List ℕ) (row : Row) → IsRow image row → row.next ≡ 0 → EndsAt image (further_tables image) row.place row.before
+row_ends image row r last = subst (λ (ts : List Table). EndsAt image ts row.place row.before) (sym all) r.start where
+  all : further_tables image ≡ r.passed
+  all = r.tables ∙ ap (λ (w : ℕ). r.passed ++ tables_from image w) last ∙ ap (λ (ts : List Table). r.passed ++ ts) (none_from (length image) image) ∙ append-nil r.passed
 
 -- ---- if the tables are the same, or one more
 

@@ -1,5 +1,5 @@
 -- The table as a partial map from slots to places.
-use Rattle.std.specs.Prelude.{◌≡◌, ◌≢◌, ◌<◌, ◌+◌, ◌++◌, ◌∷◌, ◌==◌, ◌⊎◌, ℕ, zero, suc, false, List, length, count_by}
+use Rattle.std.specs.Prelude.{◌≡◌, ◌≢◌, ◌<◌, ◌+◌, ◌++◌, [], ◌∷◌, ◌==◌, ◌⊎◌, ℕ, zero, suc, false, List, length, count_by}
 use Rattle.heap_model.specs.Bytes.{u32_at}
 use Rattle.heap_model.specs.Placed.{EveryOne}
 use Rattle.heap_model.specs.Chunk.{Chunk}
@@ -36,6 +36,22 @@ StartsAt image place before = ((place ≡ 0) × (before ≡ 0)) ⊎ StartsFurthe
 abbrev pub IsStart : List ℕ → TableStart → Type 0
 IsStart image start = StartsAt image start.place start.before
 
+-- the last of some further tables has its body at a place, and `before` slots come before its own
+pub record EndsFurther (image : List ℕ) (tables : List Table) (place before : ℕ) : Type 0 where
+  pub front : List Table
+  pub table : Table
+  pub parts : tables ≡ front ++ table ∷ []
+  pub there : table.place ≡ place
+  pub count : before ≡ slot_count image + length (slots_further front)
+
+-- the same, or there is none of these further tables, and the place is 0 for the first table
+abbrev pub EndsAt : List ℕ → List Table → ℕ → ℕ → Type 0
+EndsAt image tables place before = ((tables ≡ []) × (place ≡ 0) × (before ≡ 0)) ⊎ EndsFurther image tables place before
+
+-- it is the start of the last table of the image
+abbrev pub IsLastStart : List ℕ → TableStart → Type 0
+IsLastStart image start = EndsAt image (further_tables image) start.place start.before
+
 -- the offset of the word `next` of the table at a place, or of the first table's if the place is 0
 abbrev pub next_word : List ℕ → ℕ → ℕ
 next_word image zero = table_end image
@@ -48,8 +64,9 @@ row_start row = row.before
 abbrev pub row_end : Row → ℕ
 row_end row = row.before + row.count
 
--- these are slots of the image in a row, with `before` slots before them; the slots of the tables
--- that a word `next` leads to follow them
+-- These are the slots of a table of the image, with `before` slots before them. The tables that the
+-- word `next` leads to follow it. It is the first table, or the last of the further tables
+-- `passed`.
 pub record IsRow (image : List ℕ) (row : Row) : Type 0 where
   pub front : List ℕ
   pub parts : slots_of image ≡ front ++ (slots_in_row row.first row.count ++ slots_further (tables_from image row.next))
@@ -59,7 +76,7 @@ pub record IsRow (image : List ℕ) (row : Row) : Type 0 where
   pub passed : List Table
   pub tables : further_tables image ≡ passed ++ tables_from image row.next
   pub numbers : row.before + row.count ≡ slot_count image + length (slots_further passed)
-  pub start : StartsAt image row.place row.before
+  pub start : EndsAt image passed row.place row.before
 
 -- the row of the next table follows another directly
 pub record Behind (image : List ℕ) (row other : Row) : Type 0 where

@@ -7,7 +7,7 @@ ghost use Rattle.std.specs.Bool.{OnTrue};
 ghost use Rattle.heap_model.specs.Lending.{LendsBodies};
 ghost use Rattle.heap_model.specs.Slots.{IsSlot, further_tables, slots_total as model_total};
 ghost use Rattle.heap_model.specs.Heap.{IsTablePlace};
-ghost use Rattle.master_table.specs.Table.{IsTiled, IsStart};
+ghost use Rattle.master_table.specs.Table.{IsTiled, IsStart, IsLastStart};
 ghost use Rattle.master_table.specs.Known.{KnowsTables, KnowsNone, RemembersPlace, IsWordOf, entry_of_block};
 
 use crate::distances::{distance, words};
@@ -99,6 +99,8 @@ impl KnownTables {
         requires knows { KnowsTables region.now.bytes self.old }
         ensures knows { KnowsTables region.now.bytes self.new }
         ensures start { IsStart region.now.bytes result }
+        ensures last { IsLastStart region.now.bytes result }
+        ensures latest { self.new.latest ≡ result }
     {
         let last = last_row(region, self.latest).table();
         self.latest = last;

@@ -6,7 +6,7 @@ ghost use Rattle.heap_model.specs.Bytes.{u32_at};
 ghost use Rattle.heap_model.specs.Frame.{HasFrame};
 ghost use Rattle.heap_model.specs.Lending.{LendsBodies};
 ghost use Rattle.heap_model.specs.Slots.{IsSlot, StandsBehind, StandsIn, slots_in_row, is_chained};
-ghost use Rattle.master_table.specs.Table.{IsTiled, IsStart, IsRow, next_word};
+ghost use Rattle.master_table.specs.Table.{IsTiled, IsStart, IsLastStart, IsRow, next_word};
 
 use crate::distances::{distance, words};
 use chunk_format::{
@@ -105,7 +105,9 @@ impl Row {
     /// Returns the start of their table.
     #[inline]
     pub(crate) fn table(self) -> TableStart
-        ensures { (image : List ℕ) → IsRow image self → IsStart image result }
+        ensures start { (image : List ℕ) → IsRow image self → IsStart image result }
+        ensures last { (image : List ℕ) → IsRow image self → self.next ≡ 0
+            → IsLastStart image result }
     {
         TableStart {
             place: self.place,

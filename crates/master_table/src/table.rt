@@ -5,7 +5,7 @@ ghost use Rattle.std.specs.Prelude.{◌≡◌, ◌<◌, ◌≤◌, ◌↔◌, �
 ghost use Rattle.heap_model.specs.Bytes.{u32_at, u32_bytes, overwritten};
 ghost use Rattle.heap_model.specs.Memory.{IsWithin};
 ghost use Rattle.heap_model.specs.Lending.{LendsBodies};
-ghost use Rattle.heap_model.specs.Slots.{IsSlot, HasTable, StandsBehind, slots_total as model_total};
+ghost use Rattle.heap_model.specs.Slots.{IsSlot, HasTable, StandsBehind, slot_count as model_count, slots_total as model_total};
 ghost use Rattle.heap_model.specs.Heap.{HeapAccepted};
 ghost use Rattle.heap_model.specs.Space.{free_slots};
 ghost use Rattle.std.specs.Bool.{OnTrue};
@@ -56,7 +56,9 @@ pub fn slots_before(region: &Region, name: Name) -> Option<u32>
 pub fn least_number(region: &Region, name: Name) -> u32
     requires tiled { IsTiled region.now.bytes }
     requires lent { LendsBodies region.now }
-    ensures { (number : ℕ) → StandsBehind region.now.bytes name.0 number → result ≤ number }
+    ensures least { (number : ℕ) → StandsBehind region.now.bytes name.0 number → result ≤ number }
+    ensures exact { (number : ℕ) → StandsBehind region.now.bytes name.0 number
+        → number < model_count region.now.bytes → result ≡ number }
 {
     let number = name.0.saturating_sub(FRAME_SIZE) / SLOT_SIZE;
     number.min(slot_count(region) as u32)

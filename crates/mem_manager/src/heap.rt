@@ -18,6 +18,7 @@ mod managing;
 mod moving;
 
 use crate::known::KnownNames;
+pub use changing::MOST_LOCKS;
 use heap_check::{HeapFault, check_heap};
 use heap_compact::Space;
 use heap_model::{Name, Place};

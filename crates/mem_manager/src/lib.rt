@@ -16,6 +16,6 @@ mod lookup;
 
 pub use bounds::check_owner;
 pub use chunk_format::{DATA_OWNER, FIXED_LOCK, MANAGERS_OWNER};
-pub use heap::{Heap, Locked, NotAHeap};
+pub use heap::{Heap, Locked, MOST_LOCKS, NotAHeap};
 pub use heap_place::Found;
 pub use loan::Loan;

@@ -5,6 +5,7 @@ use Rattle.heap_model.specs.Space.{Still}
 use Rattle.heap_model.specs.Store.{Accepted, Means, store_of}
 use Rattle.heap_model.specs.StoreSteps.{Call, DoesInStore}
 use Rattle.heap_model.specs.declared.call.Reply.{Reply}
+use Rattle.script_calls.specs.Movement.{Moves}
 use Rattle.store_check.specs.declared.fault.StoreFault.TheVariants.{OutOfMemory as CheckOutOfMemory}
 use Rattle.palm_script.specs.declared.lists.NotRun.{NotRun}
 use Rattle.palm_script.specs.declared.lists.NotRun.TheVariants.{NotAStore, OutOfMemory}
@@ -16,7 +17,7 @@ use Rattle.palm_script.specs.declared.lists.NotRun.TheVariants.{NotAStore, OutOf
 -- `region count` is the region after the first `count` calls. It is an accepted image, and means
 -- the store of the run at that point. Each reply is that of its call's step from one of these
 -- stores to the next. In each step every chunk that was locked or fixed, and is still live, keeps
--- its place.
+-- its place. `Moves` limits which other chunks five of the calls move.
 pub record AnswersAsRun (image : Memory) (calls : List Call) (replies : List Reply) (last : Memory) : Type 0 where
   pub region : ℕ → Memory
   pub first : region 0 ≡ image
@@ -26,6 +27,7 @@ pub record AnswersAsRun (image : Memory) (calls : List Call) (replies : List Rep
   pub replied : length replies ≡ length calls
   pub step : (count : ℕ) (call : Call) (reply : Reply) → slice_get calls count ≡ Some call → slice_get replies count ≡ Some reply → DoesInStore (region count) call reply (region (count + 1))
   pub still : (count : ℕ) → count < length calls → Still (region count).bytes (region (count + 1)).bytes
+  pub moves : (count : ℕ) (call : Call) → slice_get calls count ≡ Some call → Moves (region count) call (region (count + 1))
 
 -- No call was done, and the region is returned unchanged. Either it is no accepted image, or an
 -- allocation failed, for the check or for the replies.

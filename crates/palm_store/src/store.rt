@@ -37,7 +37,7 @@ use std::alloc::Global;
 use std::fmt;
 use std::io::Write;
 use std::marker::Model;
-use store_check::{StoreFault, StoreSummary, check_store_from};
+use store_check::{StoreFault, StoreSummary, check_store};
 use thiserror::Error;
 
 /// A region that is an accepted image. Contracts see only the region's value. Only `check`,
@@ -124,7 +124,7 @@ impl Store {
         ensures no_memory { IfErr result (λ error.
             error.fault ≡ StoreFault.OutOfMemory → A.is_short memory.now) }
     {
-        match check_store_from(memory, &region) {
+        match check_store(memory, &region) {
             Ok(_) => Ok(Store::of_accepted(region)),
             Err(fault) => Err(NotAStore { fault, region }),
         }

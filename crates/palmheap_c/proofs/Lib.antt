@@ -3,6 +3,8 @@ pub mod BlockLaws
 pub mod CallLaws
 pub mod EndLaws
 pub mod NameLaws
+pub mod OutLaws
+pub mod PinLaws
 pub mod PointerLaws
 pub mod RefusalLaws
 pub mod RunLaws

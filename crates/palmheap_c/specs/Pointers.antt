@@ -1,5 +1,5 @@
 -- What the calls do that give a pointer to the bytes of a chunk, and unlock it.
-use Rattle.std.specs.Prelude.{◌≡◌, ◌<◌, ◌+◌, ◌-◌, ◌≤◌, ◌⊎◌, ℕ, List, ◌∷◌, [], Option, Some, None, length}
+use Rattle.std.specs.Prelude.{◌≡◌, ◌<◌, ◌+◌, ◌-◌, ◌≤◌, ◌⊎◌, ℕ, List, ◌∷◌, [], Option, Some, None, Result, Ok, Err, length}
 use Rattle.std.specs.BTreeMap.{insert_entry, is_at}
 use Rattle.std.specs.Map.{lookup, remove_entry, set_value}
 use Rattle.std.specs.Mem.{manually_drop_value}
@@ -7,10 +7,10 @@ use Rattle.std.specs.Ordering.{nat_cmp}
 use denote.RawPtr.{Ptr}
 use Rattle.allowance.specs.Refusals.{GrowthRefused}
 use Rattle.heap_model.specs.Chunk.{fixed_lock, most_locks}
-use Rattle.heap_model.specs.Lending.{IsLentAs}
+use Rattle.heap_model.specs.Lending.{IsLent}
 use Rattle.heap_model.specs.Maps.{callers_map}
 use Rattle.heap_model.specs.Memory.{Memory}
-use Rattle.heap_model.specs.MemorySteps.{lent_out, unknown, where_it}
+use Rattle.heap_model.specs.MemorySteps.{Of, lent_out, unknown, where_it}
 use Rattle.heap_model.specs.Numbers.{number_of}
 use Rattle.heap_model.specs.Refusals.{Check, FirstBrings}
 use Rattle.heap_model.specs.StoreSteps.{DoesInStore}
@@ -23,8 +23,9 @@ use Rattle.heap_model.specs.declared.refusal.Refusal.TheVariants.{ChunkFixed, Lo
 use Rattle.mem_manager.specs.Loans.{IsOutUnder, OnLoan}
 use Rattle.palm_store.specs.Loans as stores
 use Rattle.palmheap_c.specs.Calls.{as_name}
-use Rattle.palmheap_c.specs.Loans.{RefusesOutAlso}
 use Rattle.palmheap_c.specs.Opened.{Opened}
+use Rattle.palmheap_c.specs.declared.pointers.NotUnlocked.{NotUnlocked}
+use Rattle.palmheap_c.specs.declared.pointers.NotUnlocked.TheVariants.{LockRefused, NoPointer}
 use Rattle.palmheap_c.specs.declared.pointers.Pinned.{Pinned}
 
 -- ---- the chunks to which pointers are out
@@ -48,10 +49,11 @@ loan_of it = manually_drop_value it.loan
 pub record IsPinned (store : Memory) (name : ℕ) (it : Pinned) : Type 0 where
   pub named_so : (loan_of it).name ≡ as_name name
   pub out : IsOutUnder store name (loan_of it).part
-  pub is_lent : IsLentAs store name (length (loan_of it).part.bytes)
 
 -- The bytes of each chunk to which pointers are out are lent. A store has this when it is opened,
--- and keeps it: no call puts back bytes that pointers are out to, unless it unlocks the last one.
+-- and each call leaves it so. For the functions on loans and pointers the clause `holds` states it,
+-- for other calls the laws `calls_keep`, `always_keep` and `data_keep` do. `palmheap_put_back` must
+-- get no loan of a chunk to which pointers are out.
 abbrev pub HoldsPointers : Opened → Type 0
 HoldsPointers store = (name : ℕ) (it : Pinned) → pinned store.pointers name ≡ Some it → IsPinned store.memory name it
 
@@ -109,6 +111,10 @@ pointer_checks old name =
     ∷ lent_out old (callers_map old.bytes) name
     ∷ []
 
+-- the bytes of the chunk are out
+abbrev pub HasBytesOut : Memory → ℕ → Type 0
+HasBytesOut store name = Of (callers_map store.bytes name) (λ live. IsLent store name)
+
 -- the pointer is out as often as it can be
 pub record IsOutMost (old new : Opened) (name result : ℕ) : Type 0 where
   pub it : Pinned
@@ -129,15 +135,6 @@ pub record RefusesLock (old new : Opened) (name result : ℕ) : Type 0 where
   pub refusal : Refusal
   pub is : result ≡ number_of refusal
   pub refused : DoesInStore old.memory (calls.Memory (Lock (as_name name))) (Refused refusal) new.memory
-  pub same : new.pointers ≡ old.pointers
-
--- The chunk was locked, and then its bytes were refused. This never happens: it was asked before
--- whether they are lent. But no contract of the layers below says that a lock moves no chunk.
-pub record RefusesBytes (old new : Opened) (name result : ℕ) : Type 0 where
-  pub place : Place
-  pub locks : ℕ
-  pub locked : DoesInStore old.memory (calls.Memory (Lock (as_name name))) (Locked place locks) new.memory
-  pub refused : RefusesOutAlso new.memory name result
   pub same : new.pointers ≡ old.pointers
 
 -- a lock was taken off, or that was refused
@@ -167,11 +164,11 @@ pub record WantsEntry (old new : Opened) (name result : ℕ) : Type 0 where
   pub same : out.pointers ≡ old.pointers
   pub goes : LetsLoanGo out new name loan
 
+-- No pointer to the chunk is out, and none was given.
 abbrev pub RefusesFirst : (old new : Opened) → (name result : ℕ) → Type 0
 RefusesFirst old new name result =
-    IsOutElsewhere old new name result
-    ⊎ (RefusesLock old new name result
-    ⊎ (RefusesBytes old new name result ⊎ WantsEntry old new name result))
+    (pinned old.pointers name ≡ None)
+    × (IsOutElsewhere old new name result ⊎ (RefusesLock old new name result ⊎ WantsEntry old new name result))
 
 abbrev pub RefusesPointer : (old new : Opened) → (name result : ℕ) → Type 0
 RefusesPointer old new name result = IsOutMost old new name result ⊎ RefusesFirst old new name result
@@ -181,6 +178,12 @@ RefusesPointer old new name result = IsOutMost old new name result ⊎ RefusesFi
 -- the result of unlocking if no pointer to the chunk is out
 abbrev pub call_no_pointer : ℕ
 call_no_pointer = 102
+
+-- the number of a result of unlocking
+abbrev pub unlock_code : {A : Type 0} → Result A NotUnlocked → ℕ
+unlock_code (Ok done) = 0
+unlock_code (Err NoPointer) = call_no_pointer
+unlock_code (Err (LockRefused refusal)) = number_of refusal
 
 -- no pointer to the chunk is out
 pub record HasNoPointer (old new : Opened) (name result : ℕ) : Type 0 where
@@ -204,6 +207,7 @@ pub record UnlocksBytes (old new : Opened) (name result : ℕ) (it : Pinned) : T
   pub unlocked : ((result ≡ 0) × ((left : ℕ) × DoesInStore back (calls.Memory (Unlock (as_name name))) (Number left) new.memory))
       ⊎ ((refusal : Refusal) × (result ≡ number_of refusal) × DoesInStore back (calls.Memory (Unlock (as_name name))) (Refused refusal) new.memory)
   pub less : new.pointers ≡ remove_entry (is_at (nat_cmp name)) old.pointers
+  pub gone : pinned new.pointers name ≡ None
 
 abbrev pub LetsGo : (old new : Opened) → (name result : ℕ) → Type 0
 LetsGo old new name result = (it : Pinned) → pinned old.pointers name ≡ Some it → UnlocksBytes old new name result it

@@ -1,10 +1,9 @@
 //! Functions on PDB and PRC files (Palm OS File Format Specification). They keep no state between
 //! calls.
 
-ghost use Rattle.std.specs.Prelude.{◌≡◌, ◌⊎◌, All, length, map, IfOk, IfErr};
-ghost use Rattle.heap_model.specs.Files.{HasNoFault, blocks_in};
-ghost use Rattle.pdb_format.specs.Blocks.{IsBlockWithin, bytes_at, places_in};
-ghost use Rattle.canonical_file.specs.Canonical.{IsCanonical};
+ghost use Rattle.std.specs.Prelude.{◌≡◌, ◌≤◌, ◌⊎◌, length, IfOk, OnOk, IfErr};
+ghost use Rattle.heap_model.specs.Files.{HasNoFault};
+ghost use Rattle.canonical_file.specs.Canonical.{IsCanonical, most_bytes};
 ghost use Rattle.file_listing.specs.Listing.{IsListing};
 ghost use Rattle.palmheap_c.specs.Answers.{IsFileAnswer, IsFileFault, IsFileRefusal, IsMemoryAnswer};
 ghost use Rattle.palmheap_c.specs.Blocks.{IsBlocksAnswer};
@@ -16,7 +15,7 @@ use crate::buffers::{put_bytes, refused_write};
 use canonical_file::canonical_bytes;
 use file_listing::{ListFault, put_listing};
 use palm_text::Counted;
-use pdb_format::{Block as FileBlock, check_file, find_blocks};
+use pdb_format::{OpenFault, PdbFile, check_file};
 use std::alloc::Global;
 
 /// The greatest size of a file that can be listed or rewritten: 16 MiB.
@@ -46,32 +45,30 @@ pub extern "C" fn palmheap_pdb_blocks(
 ) -> Answer
     ensures { IsBlocksAnswer file.now blocks.old blocks.new count.old count.new result }
 {
-    let found = match blocks_of(alloc, file) {
-        Ok(found) => found,
+    let opened = match open(alloc, file) {
+        Ok(opened) => opened,
         Err(answer) => return answer,
     };
+    let found = opened.blocks();
     *count = found.len();
     if blocks.len() < found.len() {
         return NO_ROOM;
     }
-    put_blocks(blocks, &found);
+    put_blocks(blocks, found);
     NO_FAULT
 }
 
-/// Returns the places of the blocks of a file.
-fn blocks_of(alloc: Global, file: &[u8]) -> Result<Vec<Option<FileBlock>>, Answer>
-    ensures good { IfOk result (λ blocks. HasNoFault file.now) }
-    ensures places { IfOk result (λ blocks. blocks.items ≡ places_in file.now) }
-    ensures are { IfOk result (λ blocks. map (bytes_at file.now) blocks.items ≡ blocks_in file.now) }
-    ensures inside { IfOk result (λ blocks. All (IsBlockWithin (length file.now)) blocks.items) }
-    ensures memory { IfErr result (λ answer. IsMemoryAnswer answer ⊎ IsFileFault file.now answer) }
+/// Opens a file.
+fn open<'a>(alloc: Global, file: &'a [u8]) -> Result<PdbFile<'a>, Answer>
+    ensures opened { IfOk result (λ opened. opened ≡ file.now) }
+    ensures good { OnOk result (HasNoFault file.now) }
+    ensures err { IfErr result (λ answer.
+        IsFileFault file.now answer ⊎ (HasNoFault file.now × IsMemoryAnswer answer)) }
 {
-    if let Err(fault) = check_file(file) {
-        return Err(of_file(fault));
-    }
-    match find_blocks(alloc, file) {
-        Ok(blocks) => Ok(blocks),
-        Err(_) => Err(NO_MEMORY),
+    match PdbFile::open(&alloc, file) {
+        Ok(opened) => Ok(opened),
+        Err(OpenFault::BadFile(fault)) => Err(of_file(fault)),
+        Err(OpenFault::OutOfMemory) => Err(NO_MEMORY),
     }
 }
 
@@ -101,9 +98,18 @@ fn canonical_of(alloc: Global, file: &[u8]) -> Result<Vec<u8>, Answer>
     if file.len() > MOST_LISTED_BYTES {
         return Err(TOO_LARGE);
     }
-    if let Err(fault) = check_file(file) {
-        return Err(of_file(fault));
+    match open(alloc, file) {
+        Ok(opened) => rewritten(alloc, &opened),
+        Err(answer) => Err(answer),
     }
+}
+
+/// Returns the canonical form of a file that is opened.
+fn rewritten(alloc: Global, file: &PdbFile<'_>) -> Result<Vec<u8>, Answer>
+    requires { length file.now ≤ most_bytes }
+    ensures ok { IfOk result (λ bytes. IsCanonical file.now bytes.items) }
+    ensures err { IfErr result IsMemoryAnswer }
+{
     match canonical_bytes(&alloc, file) {
         Ok(bytes) => Ok(bytes),
         Err(_) => Err(NO_MEMORY),
@@ -134,9 +140,6 @@ fn listing_of(alloc: Global, file: &[u8]) -> Result<Vec<u8>, Answer>
 {
     if file.len() > MOST_LISTED_BYTES {
         return Err(TOO_LARGE);
-    }
-    if let Err(fault) = check_file(file) {
-        return Err(of_file(fault));
     }
     let mut out = Counted::new(Vec::new(alloc));
     match put_listing(&alloc, file, &mut out) {

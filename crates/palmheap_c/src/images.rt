@@ -50,7 +50,7 @@ pub extern "C" fn palmheap_check(alloc: Global, image: &[u8], counts: &mut Count
     let Ok(region) = Region::from_bytes(alloc, image) else {
         return NO_MEMORY;
     };
-    match check_store(alloc, &region) {
+    match check_store(&alloc, &region) {
         Ok(summary) => {
             *counts = counts_of(&summary);
             NO_FAULT

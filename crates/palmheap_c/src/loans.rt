@@ -6,6 +6,7 @@ ghost use Rattle.heap_model.specs.Lending.{IsLent};
 ghost use Rattle.mem_manager.specs.Loans.{IsNextLoan};
 ghost use Rattle.raw_region.specs.Marks.{NoneBeginsAbove};
 ghost use Rattle.palmheap_c.specs.Loans.{HoldsLoan, HoldsNoLoan, Keeps, PutsBackInC, RefusesOut, RefusesOutAlso, TakesOutInC};
+ghost use Rattle.palmheap_c.specs.Pointers.{HoldsPointers, pinned};
 
 use crate::calls::refused;
 use crate::kept::Kept;
@@ -48,6 +49,7 @@ pub extern "C" fn palmheap_take_out(store: &mut Kept, name: u32, loan: &mut Kept
     ensures pointers { store.new.store.pointers ≡ store.old.store.pointers }
     ensures refused { result ≢ 0 → RefusesOut store.old.store.memory name result }
     ensures left { result ≢ 0 → (store.new.store ≡ store.old.store) × (loan.new ≡ loan.old) }
+    ensures holds { HoldsPointers store.old.store → HoldsPointers store.new.store }
 {
     match store.as_mut().take_out(Name(name)) {
         Ok(taken) => {
@@ -69,6 +71,7 @@ pub extern "C" fn palmheap_take_out_also(store: &mut Kept, name: u32, loan: &mut
     ensures pointers { store.new.store.pointers ≡ store.old.store.pointers }
     ensures refused { result ≢ 0 → RefusesOutAlso store.old.store.memory name result }
     ensures left { result ≢ 0 → (store.new.store ≡ store.old.store) × (loan.new ≡ loan.old) }
+    ensures holds { HoldsPointers store.old.store → HoldsPointers store.new.store }
 {
     match store.as_mut().take_out_also(Name(name)) {
         Ok(taken) => {
@@ -86,6 +89,8 @@ pub extern "C" fn palmheap_put_back(store: &mut Kept, loan: &mut KeptLoan)
     ensures back { PutsBackInC store.old.store.memory store.new.store.memory loan.old }
     ensures empty { HoldsNoLoan loan.new }
     ensures pointers { store.new.store.pointers ≡ store.old.store.pointers }
+    ensures holds { pinned store.old.store.pointers loan.old.name ≡ None
+        → HoldsPointers store.old.store → HoldsPointers store.new.store }
 {
     let empty = KeptLoan {
         part: LentPart::empty(),

@@ -5,25 +5,22 @@
 ghost use Rattle.std.specs.Prelude.{◌≡◌, ◌≢◌, ◌+◌, IfOk, IfErr, IfSome, IfNone, None};
 ghost use Rattle.heap_model.specs.Numbers.{number_of};
 ghost use Rattle.heap_model.specs.Refusals.{FirstBrings};
+ghost use Rattle.heap_model.specs.declared.call.MemoryCall.{MemoryCall};
+ghost use Rattle.heap_model.specs.declared.call.Reply.{Reply};
+ghost use Rattle.palm_store.specs.Replies.{DoesMemory};
 ghost use Rattle.raw_region.specs.LentParts.{IsFull};
 ghost use Rattle.mem_manager.specs.Loans.{IsOutUnder};
-ghost use Rattle.palmheap_c.specs.Pointers.{HoldsPointers, GivesPointer, LetsGo, LetsLoanGo, LocksFirst, LocksPointer, RefusesFirst, RefusesPointer, CountsPointers, UnlocksPointer, most_times, pinned, pointer_checks};
+ghost use Rattle.palmheap_c.specs.Pointers.{HasBytesOut, HoldsPointers, GivesPointer, LetsGo, LetsLoanGo, LocksFirst, LocksPointer, RefusesFirst, RefusesPointer, CountsPointers, UnlocksPointer, most_times, pinned, pointer_checks, unlock_code};
 
 use crate::buffers::refused_entry;
 use crate::calls::refused;
 use crate::kept::{Held, Kept};
 use heap_model::{Name, Refusal};
-use mem_manager::Loan;
+use mem_manager::{FIXED_LOCK, Loan, MOST_LOCKS};
 use palm_store::Store;
 use raw_region::LentPart;
 use std::alloc::Global;
 use std::mem::ManuallyDrop;
-
-/// The lock count of a fixed chunk, as `Store::locks` returns it.
-const FIXED_LOCK: u8 = 15;
-
-/// The maximum number of locks of a movable chunk.
-const MOST_LOCKS: u8 = 14;
 
 /// The result of `palmheap_unlock_pointer` if no pointer to the chunk is out.
 const CALL_NO_POINTER: u32 = 102;
@@ -36,6 +33,15 @@ pub struct Pinned {
     pub loan: ManuallyDrop<Loan>,
     pub at: *mut u8,
     pub locks: u32,
+}
+
+/// Why a pointer was not unlocked.
+#[derive(Clone, Copy, Debug, PartialEq, Eq)]
+pub enum NotUnlocked {
+    /// No pointer to the chunk is out.
+    NoPointer,
+    /// The bytes were put back, but the lock of the chunk was not taken off.
+    LockRefused(Refusal),
 }
 
 /// Locks a movable chunk, and lends its bytes, if no pointer to them is out. Sets `bytes` to them,
@@ -57,6 +63,7 @@ pub extern "C" fn palmheap_lock_pointer(
         → LocksPointer store.old.store store.new.store name bytes.new count.new }
     ensures refused { result ≢ 0 → RefusesPointer store.old.store store.new.store name result }
     ensures left { result ≢ 0 → (bytes.new ≡ bytes.old) × (count.new ≡ count.old) }
+    ensures holds { HoldsPointers store.old.store → HoldsPointers store.new.store }
 {
     match store.held().lock_pointer(alloc, name) {
         Ok(given) => {
@@ -77,9 +84,14 @@ pub extern "C" fn palmheap_lock_pointer(
 #[unsafe(no_mangle)]
 pub extern "C" fn palmheap_unlock_pointer(store: &mut Kept, name: u32) -> u32
     requires { HoldsPointers store.old.store }
-    ensures { UnlocksPointer store.old.store store.new.store name result }
+    ensures unlocks { UnlocksPointer store.old.store store.new.store name result }
+    ensures holds { HoldsPointers store.new.store }
 {
-    store.held().unlock_pointer(name)
+    match store.held().unlock_pointer(name) {
+        Ok(()) => 0,
+        Err(NotUnlocked::NoPointer) => CALL_NO_POINTER,
+        Err(NotUnlocked::LockRefused(refusal)) => refused(refusal),
+    }
 }
 
 impl Held {
@@ -160,33 +172,33 @@ impl Held {
         }
     }
 
-    fn unlock_pointer(&mut self, name: u32) -> u32
+    fn unlock_pointer(&mut self, name: u32) -> Result<(), NotUnlocked>
         requires { HoldsPointers self.old }
-        ensures { UnlocksPointer self.old self.new name result }
+        ensures { UnlocksPointer self.old self.new name (unlock_code result) }
     {
         let Some(pinned) = self.pointers.get(&name) else {
-            return CALL_NO_POINTER;
+            return Err(NotUnlocked::NoPointer);
         };
         let locks = pinned.locks;
         if locks > 1 {
             self.relock(name, locks - 1);
-            return 0;
+            return Ok(());
         }
         self.unlock_last(name)
     }
 
     /// Puts the bytes of a chunk back, and takes off the lock that it had for them.
-    fn unlock_last(&mut self, name: u32) -> u32
+    fn unlock_last(&mut self, name: u32) -> Result<(), NotUnlocked>
         requires { HoldsPointers self.old }
-        ensures { LetsGo self.old self.new name result }
+        ensures { LetsGo self.old self.new name (unlock_code result) }
     {
         let Some(pinned) = self.pointers.remove(&name) else {
-            return CALL_NO_POINTER;
+            return Err(NotUnlocked::NoPointer);
         };
         self.store.put_back(ManuallyDrop::into_inner(pinned.loan));
         match self.store.unlock(Name(name)) {
-            Ok(_) => 0,
-            Err(refusal) => refused(refusal),
+            Ok(_) => Ok(()),
+            Err(refusal) => Err(NotUnlocked::LockRefused(refusal)),
         }
     }
 }
@@ -204,11 +216,25 @@ fn one_more(count: u32) -> Option<u32>
 
 /// Returns why a chunk whose bytes are out can't be locked for a pointer.
 fn refusal_if_lent(store: &Store, name: Name) -> Option<Refusal>
-    ensures { IfSome result (FirstBrings (pointer_checks store.now name.0)) }
+    ensures some { IfSome result (FirstBrings (pointer_checks store.now name.0)) }
+    ensures none { IfNone result (HasBytesOut store.now name.0 → ⊥) }
 {
-    let Err(Refusal::Lent) = store.read(name, 0, 0) else {
-        return None;
-    };
+    match store.read(name, 0, 0) {
+        Ok(_) => None,
+        Err(refusal) => match refusal {
+            Refusal::Lent => refusal_of_lent(store, name),
+            _ => None,
+        },
+    }
+}
+
+/// Returns why a chunk can't be locked for a pointer, if reading it was refused as its bytes are
+/// out.
+fn refusal_of_lent(store: &Store, name: Name) -> Option<Refusal>
+    requires { DoesMemory store.now (MemoryCall.Read name 0 0) (Reply.Refused Refusal.Lent) store.now }
+    ensures some { IfSome result (FirstBrings (pointer_checks store.now name.0)) }
+    ensures none { result ≢ None }
+{
     match store.locks(name) {
         Ok(locks) => {
             if locks == FIXED_LOCK {

@@ -16,7 +16,7 @@ use std::io::{ErrorKind, Input, Write};
 use std::rt::Files;
 use std::{fs, io, str};
 use store_commands::{
-    Ended, ExportedFile, ImageChoice, cmd_import_from, databases_region_from, export_files,
+    Ended, ExportedFile, ImageChoice, cmd_import, databases_region_from, export_files,
     migrate_region_from,
 };
 
@@ -91,7 +91,7 @@ pub(crate) fn import<R: Files + Input + Print + Eprint + AllocGlobal>(
     };
     let mut image_out = Counted::new(Noted::new(image_out));
     let mut out = Counted::new(Noted::new(io::writer(rt)));
-    let ended = cmd_import_from(
+    let ended = cmd_import(
         &rt.alloc(),
         choice,
         files.as_slice(),

@@ -7,14 +7,14 @@ use Rattle.heap_model.specs.Meaning.{ChunkMap}
 use Rattle.heap_model.specs.Lists.{numbered}
 use Rattle.heap_model.specs.Bytes.{u32_at}
 use Rattle.heap_model.specs.DatabaseFields.{app_info_at, sort_info_at}
-use Rattle.heap_model.specs.Database.{Database, Entry, entry_with, header_in, resources_in, entry_offset, entry_in, entry_count_in, database_in}
+use Rattle.heap_model.specs.Database.{Database, Entry, a_record, a_resource, entry_data, entry_with, header_in, resources_in, entry_offset, entry_in, entry_count_in, database_in}
 use Rattle.heap_model.specs.Store.{bytes_named, content}
-use Rattle.heap_model.specs.Files.{idle_entry, idle, block_size, block_offset, with_offsets, first_block}
+use Rattle.heap_model.specs.Files.{idle_attributes, idle_entry, idle, block_size, block_offset, with_offsets, first_block}
 use Rattle.db_format.specs.declared.header.DbHeader.{DbHeader}
 use Rattle.db_format.specs.Headers.{IsHeaderOf}
 use Rattle.pdb_format.proofs.FileParts.{length-with_offsets}
 use Rattle.pdb_files.specs.declared.exporting.places.Places.{Places}
-use Rattle.pdb_files.specs.FileParts.{ArePlaces}
+use Rattle.pdb_files.specs.FileParts.{ArePlaces, file_entry}
 
 -- the entries
 abbrev pub entries_of : ChunkMap → List ℕ → List (Entry (Option (List ℕ)))
@@ -73,3 +73,8 @@ header_placed chunks d header places has are =
     let at : ℕ = first_block c + block_size c.app_info + block_size c.sort_info in
     let count = length-with_offsets at (map idle_entry c.entries) ∙ length-map c.entries idle_entry ∙ length-map d.entries (entry_with (bytes_named chunks)) in
     record { values = has.values; app_info = are.app_info; sort_info = are.sort_info; entry_count = has.entry_count ∙ sym count }
+
+-- an entry as its file has it
+pub entry_in_file : (chunks : ChunkMap) (at offset : ℕ) (entry : Entry ℕ) → offset ≡ block_offset at (bytes_named chunks (entry_data entry)) → entry_with (λ _. offset) (idle_entry entry) ≡ file_entry chunks at entry
+entry_in_file chunks at offset (a_record attributes id slot) is = ap (a_record (idle_attributes attributes) id) is
+entry_in_file chunks at offset (a_resource kind id slot) is = ap (a_resource kind id) is

@@ -10,8 +10,8 @@ use Rattle.heap_model.specs.Store.{bytes_named, content}
 use Rattle.heap_model.specs.Files.{idle_attributes, idle, block_size, block_offset, with_offsets, first_block, file_of}
 use Rattle.laws_store.proofs.Spellings.{length-header_bytes}
 use Rattle.pdb_format.specs.Writable.{file_size}
-use Rattle.pdb_format.specs.FileTexts.{header_text, entries_text}
-use Rattle.pdb_format.proofs.FileParts.{data_at, file_parts, record_long, resource_long}
+use Rattle.pdb_format.specs.FileTexts.{data_at, header_text, entries_text}
+use Rattle.pdb_format.proofs.FileParts.{file_parts, record_long, resource_long}
 use Rattle.pdb_format.specs.FileTexts.{blocks_text}
 
 entries_long : (r : Bool) (chunks : ChunkMap) (at : ℕ) (es : List (Entry ℕ)) → All (EntryFits r) es → length (entries_text at (map (entry_with (bytes_named chunks)) es)) ≡ entry_size r * length es

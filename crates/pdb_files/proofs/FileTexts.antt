@@ -8,10 +8,10 @@ use Rattle.heap_model.specs.Database.{Database, Entry, a_record, a_resource, ent
 use Rattle.heap_model.specs.Store.{bytes_named}
 use Rattle.heap_model.specs.Files.{block_bytes, block_size, file_of}
 use Rattle.palm_text.proofs.Parts.{then, stops, nothing}
-use Rattle.pdb_format.specs.FileTexts.{header_text, entries_text, data_text}
+use Rattle.pdb_format.specs.FileTexts.{data_at, header_text, entries_text, data_text}
 use Rattle.pdb_files.specs.FileParts.{file_entry}
 use Rattle.pdb_format.specs.FileTexts.{blocks_text}
-use Rattle.pdb_format.proofs.FileParts.{file_parts, data_at}
+use Rattle.pdb_format.proofs.FileParts.{file_parts}
 use Rattle.pdb_files.proofs.Contents.{entries_of, length-entries, entry_here}
 
 -- ---- the entries

@@ -1,5 +1,5 @@
 -- What is planned of each entry, together with the header and the blocks, is a plan.
-use Rattle.std.proofs.Common.{◌≡◌, ℕ, zero, suc, ◌+◌, ◌<◌, ◌≤◌, Bool, None, List, [], length, get_or, map, refl, sym, ap, subst, ◌∙◌, arith, inl, inr}
+use Rattle.std.proofs.Common.{◌≡◌, ℕ, zero, suc, ◌+◌, ◌<◌, ◌≤◌, Bool, Option, None, List, [], length, get_or, map, refl, sym, ap, subst, ◌∙◌, arith, inl, inr}
 use Rattle.std.specs.Prelude.{All}
 use Rattle.std.specs.List.{AllZip, filter_map}
 use Rattle.std.proofs.lemmas.List.{length-map, get_or-map, ext_get_or, nil_from_length}
@@ -18,6 +18,7 @@ use Rattle.palm_store.specs.declared.databases.whole.WholeEntry.{WholeEntry}
 use Rattle.palm_store.specs.declared.databases.whole.WholeEntry.TheVariants as whole
 use Rattle.palm_store.specs.declared.databases.whole.BlockSizes.{BlockSizes}
 use Rattle.palm_store.specs.WholeDatabases.{size_of_data, data_sizes, CanCome, id_asked, CanBeWhole, header_asked}
+use Rattle.pdb_format.specs.declared.blocks.Block.{Block}
 use Rattle.pdb_format.specs.Blocks.{size_within}
 use Rattle.pdb_format.specs.ReadFiles.{header_read}
 use Rattle.pdb_files.specs.Plans.{IsPlannedAs, id_planned, ArePlannedOf, IsPlan}
@@ -102,20 +103,17 @@ sizes_planned file ids sizes entries app sort are =
 
 -- ---- all of it
 
-pub planned : (file ids : List ℕ) (plan : Plan) (last : ℕ) → HaveIds (seed_in (header_in file).seed) (unique_ids (database_in file)) ids last → Distinct ids → IsDatabaseName plan.info.name → header_asked plan.info ≡ header_read file last
+pub planned : (file ids : List ℕ) (plan : Plan) (last : ℕ) (blocks : List (Option Block)) → HaveIds (seed_in (header_in file).seed) (unique_ids (database_in file)) ids last → Distinct ids → IsDatabaseName plan.info.name → header_asked plan.info ≡ header_read file last
     → plan.info.entry_count ≡ entry_count_in file → plan.info.entry_count ≤ most_entries → ArePlannedOf file ids plan.entries.items (entry_count_in file)
-    → plan.sizes.app_info ≡ size_within (get_or plan.blocks.items 0 None) → plan.sizes.sort_info ≡ size_within (get_or plan.blocks.items 1 None) → map (bytes_at file) plan.blocks.items ≡ blocks_in file → All (IsBlockWithin (length file)) plan.blocks.items
-    → IsPlan file plan
-planned file ids plan last have distinct named header count few are app sort blocks inside =
+    → plan.sizes.app_info ≡ size_within (get_or blocks 0 None) → plan.sizes.sort_info ≡ size_within (get_or blocks 1 None) → map (bytes_at file) blocks ≡ blocks_in file → All (IsBlockWithin (length file)) blocks → IsPlan file plan
+planned file ids plan last blocks have distinct named header count few are app sort here inside =
     let entries : List WholeEntry = plan.entries.items in
-    let long = length-blocks file plan.blocks.items blocks in
+    let long = length-blocks file blocks here in
     record {
       can = can_be_whole file ids plan.info entries (seed_in (header_in file).seed) last named header count few have distinct are;
       last_seed = last;
       ids = ids_planned file ids entries (seed_in (header_in file).seed) last have are;
       header = header;
       entries = entries_planned file ids entries are;
-      sizes = sizes_planned file ids plan.sizes entries (size_at file plan.blocks.items 0 plan.sizes.app_info blocks inside (omega arith) app) (size_at file plan.blocks.items 1 plan.sizes.sort_info blocks inside (omega arith) sort) are;
-      blocks = blocks;
-      inside = inside;
+      sizes = sizes_planned file ids plan.sizes entries (size_at file blocks 0 plan.sizes.app_info here inside (omega arith) app) (size_at file blocks 1 plan.sizes.sort_info here inside (omega arith) sort) are;
     }

@@ -37,6 +37,8 @@ use Rattle.pdb_files.specs.declared.importing.plan.Plan.{Plan}
 use Rattle.pdb_files.specs.Plans.{IsPlannedAs, IsPlan}
 use Rattle.pdb_files.specs.Filling.{HasBlock, zeros_for, AreFilled, Refills}
 use Rattle.pdb_format.proofs.Zips.{zip_long, zip_at}
+use Rattle.pdb_format.specs.Blocks.{bytes_at}
+use Rattle.pdb_format.specs.declared.blocks.Block.{Block}
 use Rattle.pdb_format.proofs.FileBlocks.{length-blocks}
 use Rattle.pdb_files.proofs.Plans.{kind_planned}
 use Rattle.pdb_files.proofs.Refusals.{behind_front, good_brings, good_none}
@@ -222,9 +224,9 @@ no_room_left old new file plan refusal a good free few is why leaves before loan
 
 -- ---- the names that the caller lends
 
-pub names_enough : (file : List ℕ) (plan : Plan) → IsPlan file plan → length plan.blocks.items ≡ 2 + length plan.entries.items
-names_enough file plan is =
-    let blocks = length-blocks file plan.blocks.items is.blocks in
+pub names_enough : (file : List ℕ) (plan : Plan) (blocks : List (Option Block)) → map (bytes_at file) blocks ≡ blocks_in file → IsPlan file plan → length blocks ≡ 2 + length plan.entries.items
+names_enough file plan blocks are is =
+    let long = length-blocks file blocks are in
     let entries_long = zip_long IsPlannedAs (database_in file).entries plan.entries.items is.entries in
     let count = entries_count file in
     omega arith

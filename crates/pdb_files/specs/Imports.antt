@@ -8,9 +8,12 @@ use Rattle.heap_model.specs.FileSteps.{fault_checks}
 use Rattle.heap_model.specs.DatabaseSteps.{taken}
 use Rattle.heap_model.specs.declared.refusal.Refusal.TheVariants.{TooManyEntries}
 
-abbrev pub checks_in_front : List ℕ → List ℕ → List Check
-checks_in_front image file =
-    fault_checks file (file_faults file)
-    (taken (store_of image) 0 (name_in file)
+-- whether a database of this name can be added
+abbrev pub checks_of_new : List ℕ → List ℕ → List Check
+checks_of_new image name =
+    taken (store_of image) 0 name
     ∷ ((most_databases ≤ length (store_of image).databases) brings TooManyEntries)
-    ∷ [])
+    ∷ []
+
+abbrev pub checks_in_front : List ℕ → List ℕ → List Check
+checks_in_front image file = fault_checks file (file_faults file) (checks_of_new image (name_in file))

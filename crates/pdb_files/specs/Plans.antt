@@ -1,12 +1,11 @@
 -- The plan for the database that is read from a file, before any of it is made.
-use Rattle.std.specs.Prelude.{◌≡◌, ◌<◌, ◌+◌, ◌-◌, ◌^◌, ℕ, Bool, true, false, List, length, map, slice_index, slice_index_or, Option, Some, None, All}
+use Rattle.std.specs.Prelude.{◌≡◌, ◌<◌, ◌+◌, ◌-◌, ◌^◌, ℕ, Bool, true, false, List, length, slice_index, slice_index_or, Option, Some, None}
 use Rattle.std.specs.List.{AllZip, filter_map}
 use Rattle.heap_model.specs.UniqueIds.{seed_in}
 use Rattle.heap_model.specs.Database.{Entry, a_record, a_resource, header_in, resources_in, entry_in, database_in}
 use Rattle.heap_model.specs.Store.{unique_ids}
 use Rattle.heap_model.specs.Files.{HaveIds, idle_attributes, blocks_in}
 use Rattle.heap_model.specs.FileSteps.{size_of_block, block_sizes}
-use Rattle.pdb_format.specs.Blocks.{bytes_at, IsBlockWithin}
 use Rattle.pdb_format.specs.ReadFiles.{header_read}
 use Rattle.pdb_format.specs.declared.blocks.Block.{Block}
 use Rattle.palm_store.specs.declared.databases.whole.WholeEntry.{WholeEntry}
@@ -49,7 +48,7 @@ pub record ArePlannedOf (file ids : List ℕ) (entries : List WholeEntry) (count
 
 -- A database can be made by the plan, and it is the one read from the file. Its header and its
 -- entries are those of the file, with the IDs that the records get. The sizes are those of the
--- file's blocks, which are where the plan says.
+-- file's blocks.
 pub record IsPlan (file : List ℕ) (plan : Plan) : Type 0 where
   pub can : CanBeWhole plan.info plan.entries.items
   pub last_seed : ℕ
@@ -57,5 +56,3 @@ pub record IsPlan (file : List ℕ) (plan : Plan) : Type 0 where
   pub header : header_asked plan.info ≡ header_read file last_seed
   pub entries : AllZip IsPlannedAs (database_in file).entries plan.entries.items
   pub sizes : data_sizes plan.sizes plan.entries.items ≡ block_sizes file
-  pub blocks : map (bytes_at file) plan.blocks.items ≡ blocks_in file
-  pub inside : All (IsBlockWithin (length file)) plan.blocks.items

@@ -9,9 +9,11 @@ ghost use Rattle.heap_model.specs.Files.{HasNoFault};
 ghost use Rattle.heap_model.specs.StoreSteps.{DoesInStore};
 ghost use Rattle.heap_model.specs.declared.call.Call as calls;
 ghost use Rattle.heap_model.specs.declared.call.FileCall.{FileCall};
+ghost use Rattle.heap_model.specs.declared.call.Reply.{Reply};
 ghost use Rattle.palm_store.specs.Replies.{database_or_refused};
 ghost use Rattle.pdb_files.specs.Plans.{IsPlan};
-ghost use Rattle.pdb_files.specs.Imports.{checks_in_front};
+ghost use Rattle.pdb_format.specs.OpenFaults.{IsOpenFault};
+ghost use Rattle.pdb_files.specs.Imports.{checks_of_new};
 ghost use Rattle.allowance.specs.Refusals.{GrowthRefused};
 
 mod filling;
@@ -22,7 +24,7 @@ use db_format::{MOST_DATABASES, name_in};
 use filling::fill_blocks;
 use heap_model::{Db, DbName, Name, Refusal};
 use palm_store::Store;
-use pdb_format::{Block, check_file, find_blocks_from};
+use pdb_format::{Block, OpenFault, PdbFile};
 use plan::{Plan, are_short, read_plan};
 use std::alloc::{AllocError, Global};
 
@@ -57,42 +59,80 @@ pub fn import_from<A: Allowance>(memory: &A, store: &mut Store, file: &[u8]) -> 
         refusal ≢ Refusal.NotEnoughSpace → store.new ≡ store.old) }
     ensures no_memory { result ≡ Err Refusal.OutOfMemory → A.is_short memory.now }
 {
-    check_import(store, file)?;
-    let Ok(blocks) = find_blocks_from(memory, file) else {
-        return Err(Refusal::OutOfMemory);
-    };
-    if !are_short(&blocks) {
+    match PdbFile::open(memory, file) {
+        Ok(file) => import_opened(memory, store, &file),
+        Err(fault) => Err(refusal_of(store, file, fault)),
+    }
+}
+
+/// The same as `import_from`, for a file that is opened.
+pub fn import_opened<A: Allowance>(
+    memory: &A,
+    store: &mut Store,
+    file: &PdbFile<'_>,
+) -> Result<Db, Refusal>
+    ensures does { DoesInStore store.old (calls.Call.File (FileCall.Import file.now))
+        (database_or_refused result) store.new }
+    ensures untouched { IfErr result (λ refusal.
+        refusal ≢ Refusal.NotEnoughSpace → store.new ≡ store.old) }
+    ensures no_memory { result ≡ Err Refusal.OutOfMemory → A.is_short memory.now }
+{
+    let _ = file.bytes();
+    check_new(store, file.name())?;
+    let blocks = file.blocks();
+    if !are_short(blocks) {
         return Err(Refusal::NotEnoughSpace);
     }
     let Ok(plan) = read_plan(memory, file, blocks) else {
         return Err(Refusal::OutOfMemory);
     };
-    let Ok(mut names) = no_names(memory, &plan.blocks) else {
+    let Ok(mut names) = no_names(memory, blocks) else {
         return Err(Refusal::OutOfMemory);
     };
     make(store, file, &plan, &mut names)
 }
 
-/// Checks that the database of a file can be imported, apart from memory and room.
+/// Returns the refusal of a file that wasn't opened.
+fn refusal_of(store: &Store, file: &[u8], fault: OpenFault) -> Refusal
+    requires { IsOpenFault file.now fault }
+    ensures does { DoesInStore store.now (calls.Call.File (FileCall.Import file.now))
+        (Reply.Refused result) store.now }
+    ensures no_memory { result ≡ Refusal.OutOfMemory → fault ≡ OpenFault.OutOfMemory }
+{
+    let _ = store.count();
+    match fault {
+        OpenFault::BadFile(fault) => Refusal::BadFile(fault),
+        OpenFault::OutOfMemory => refusal_without_memory(store, file),
+    }
+}
+
+/// Returns the refusal of a file without fault if memory ran out when it was opened.
+fn refusal_without_memory(store: &Store, file: &[u8]) -> Refusal
+    requires { HasNoFault file.now }
+    ensures { DoesInStore store.now (calls.Call.File (FileCall.Import file.now))
+        (Reply.Refused result) store.now }
+{
+    match check_new(store, name_in(file)) {
+        Ok(()) => Refusal::OutOfMemory,
+        Err(refusal) => refusal,
+    }
+}
+
+/// Checks that a database of this name can be added, apart from memory and room.
 ///
 /// # Errors
-/// - `BadFile`: if the file has a fault.
 /// - `AlreadyExists`: if a database of the store has the name.
 /// - `TooManyEntries`: if the store has 1,024 databases.
-fn check_import(store: &Store, file: &[u8]) -> Result<(), Refusal>
+fn check_new(store: &Store, name: &[u8]) -> Result<(), Refusal>
+    requires { length name.now < 32 }
     ensures accepted { Accepted store.now.bytes }
-    ensures good { OnOk result (HasNoFault file.now) }
-    ensures free { OnOk result
-        (IsTaken (store_of store.now.bytes) 0 (databases.name_in file.now) → ⊥) }
+    ensures free { OnOk result (IsTaken (store_of store.now.bytes) 0 name.now → ⊥) }
     ensures few { OnOk result (length (store_of store.now.bytes).databases < most_databases) }
-    ensures why { IfErr result (FirstBrings (checks_in_front store.now.bytes file.now)) }
+    ensures why { IfErr result (FirstBrings (checks_of_new store.now.bytes name.now)) }
     ensures takes_no_memory { IfErr result (λ refusal. refusal ≢ Refusal.OutOfMemory) }
 {
     let count = store.count();
-    if let Err(fault) = check_file(file) {
-        return Err(Refusal::BadFile(fault));
-    }
-    if store.find(&DbName::of(name_in(file))).is_ok() {
+    if store.find(&DbName::of(name)).is_ok() {
         return Err(Refusal::AlreadyExists);
     }
     if count >= MOST_DATABASES {
@@ -106,9 +146,13 @@ fn check_import(store: &Store, file: &[u8]) -> Result<(), Refusal>
 ///
 /// # Errors
 /// - `NotEnoughSpace`: if slots or room ran out.
-fn make(store: &mut Store, file: &[u8], plan: &Plan, names: &mut [Name]) -> Result<Db, Refusal>
+fn make(
+    store: &mut Store,
+    file: &PdbFile<'_>,
+    plan: &Plan,
+    names: &mut [Name],
+) -> Result<Db, Refusal>
     requires accepted { Accepted store.old.bytes }
-    requires good { HasNoFault file.now }
     requires free { IsTaken (store_of store.old.bytes) 0 (databases.name_in file.now) → ⊥ }
     requires few { length (store_of store.old.bytes).databases < most_databases }
     requires plan { IsPlan file.now plan.now }
@@ -119,8 +163,9 @@ fn make(store: &mut Store, file: &[u8], plan: &Plan, names: &mut [Name]) -> Resu
         refusal ≢ Refusal.NotEnoughSpace → store.new ≡ store.old) }
     ensures takes_no_memory { IfErr result (λ refusal. refusal ≢ Refusal.OutOfMemory) }
 {
+    let blocks = file.blocks();
     let db = store.create_whole(&plan.info, plan.sizes, &plan.entries, names)?;
-    fill_blocks(store, file, &plan.blocks, names);
+    fill_blocks(store, file, blocks, names);
     Ok(db)
 }
 

@@ -9,4 +9,4 @@ mod exporting;
 mod importing;
 
 pub use exporting::{ExportFault, export, exported};
-pub use importing::{import, import_from};
+pub use importing::{import, import_from, import_opened};

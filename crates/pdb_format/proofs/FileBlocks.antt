@@ -4,13 +4,12 @@ use Rattle.std.specs.Prelude.{All, slice_range, slice_index}
 use Rattle.std.proofs.lemmas.List.{length-map, length-take, get_or-map}
 use Rattle.std.proofs.lemmas.List.FromFn.{length-map-range_with_len, get_or-map-range_with_len}
 use Rattle.heap_model.specs.Database.{Entry, a_record, a_resource, entry_data, resources_in, entry_count_in, entry_offset, entry_in, is_deleted}
-use Rattle.heap_model.specs.Files.{HasBadOffset, HasFault, HasNoFault, offsets_in, block_at, blocks_in}
+use Rattle.heap_model.specs.Files.{HasBadOffset, HasNoFault, offsets_in, block_at, blocks_in}
 use Rattle.heap_model.specs.FileSteps.{size_of_block}
-use Rattle.heap_model.specs.declared.file_fault.FileFault.TheVariants.{Truncated, BadOffset}
 use Rattle.laws_heap.proofs.Tests.{true_or_false}
 use Rattle.pdb_format.specs.Blocks.{bytes_at, IsBlockWithin}
 use Rattle.pdb_format.specs.declared.blocks.Block.{Block}
-use Rattle.pdb_format.proofs.GoodFiles.{offset_count, entry_offset_is}
+use Rattle.pdb_format.proofs.GoodFiles.{offset_count, entry_offset_is, good_offset}
 use Rattle.pdb_format.specs.Blocks.{size_within}
 
 -- how many there are
@@ -61,23 +60,17 @@ none_planned file index entry inside is none =
     get_or-map-range_with_len (λ rank. block_at file rank (slice_index (offsets_in file) rank)) 0 (length (offsets_in file)) (2 + index) (2 + index) None (omega arith) (omega arith) in
     ap (entry_data {Data = ℕ}) is ∙ sym at ∙ none_at file (2 + index) (slice_index (offsets_in file) (2 + index)) (ap size_of_block (sym block) ∙ none)
 
-good_entry : (file : List ℕ) → HasNoFault file → (index : ℕ) → index < entry_count_in file → HasBadOffset file (entry_in file index) → ⊥
-good_entry file good index inside bad =
-    let long = length-map-range_with_len BadOffset 0 (entry_count_in file) in
-    let fault = get_or-map-range_with_len BadOffset 0 (entry_count_in file) index index Truncated inside (omega arith) in
-    subst (λ f. HasFault file f → ⊥) fault (good (suc (suc (suc (suc (suc index))))) Truncated (omega arith)) (inside, bad)
-
 -- a record has none only if it is deleted
 pub record_block : (file : List ℕ) (index attributes id at : ℕ) → HasNoFault file → index < entry_count_in file → a_record attributes id at ≡ entry_in file index → at ≡ 0 → is_deleted attributes ≡ true
 record_block file index attributes id at good inside is none = elim (true_or_false (is_deleted attributes)) [
   | inl deleted ↦ deleted
   | inr live ↦
       let header = at_least_header (resources_in file) (entry_count_in file) in
-      absurd (subst (λ (e : Entry ℕ). HasBadOffset file e → ⊥) (sym is) (good_entry file good index inside) (inr live, inl (omega arith)))
+      absurd (subst (λ (e : Entry ℕ). HasBadOffset file e → ⊥) (sym is) (good_offset file good index inside) (inr live, inl (omega arith)))
 ]
 
 -- and a resource has one
 pub resource_block : (file : List ℕ) (index kind id at : ℕ) → HasNoFault file → index < entry_count_in file → a_resource kind id at ≡ entry_in file index → at ≡ 0 → ⊥
 resource_block file index kind id at good inside is none =
     let header = at_least_header (resources_in file) (entry_count_in file) in
-    subst (λ (e : Entry ℕ). HasBadOffset file e → ⊥) (sym is) (good_entry file good index inside) (inl (omega arith))
+    subst (λ (e : Entry ℕ). HasBadOffset file e → ⊥) (sym is) (good_offset file good index inside) (inl (omega arith))

@@ -2,13 +2,9 @@
 use Rattle.std.proofs.Common.{◌≡◌, ℕ, ◌+◌, Option, List, [], ◌∷◌, ◌++◌, length, refl, arith, append_assoc, length-append}
 use Rattle.heap_model.specs.Bytes.{u16_bytes, u24_bytes, u32_bytes}
 use Rattle.heap_model.specs.Database.{Database, Entry, a_record, a_resource, entry_bytes, entry_data, spelled}
-use Rattle.heap_model.specs.Files.{block_bytes, block_size, entries_with_offsets, first_block, file_of}
-use Rattle.pdb_format.specs.FileTexts.{header_text, entries_text, data_text, blocks_text}
+use Rattle.heap_model.specs.Files.{block_bytes, block_size, entries_with_offsets, file_of}
+use Rattle.pdb_format.specs.FileTexts.{data_at, header_text, entries_text, data_text, blocks_text}
 use Rattle.pdb_format.specs.Writable.{file_size}
-
--- where the data of the entries begins
-abbrev pub data_at : Database (Option (List ℕ)) → ℕ
-data_at database = first_block database + block_size database.app_info + block_size database.sort_info
 
 pub file_parts : (d : Database (Option (List ℕ))) → file_of d ≡ header_text d ++ (entries_text (data_at d) d.entries ++ (0 ∷ 0 ∷ [] ++ blocks_text d))
 unfolding file_of spelled

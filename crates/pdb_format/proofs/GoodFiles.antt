@@ -2,7 +2,7 @@
 -- within it.
 use Rattle.std.proofs.Common.{◌≡◌, ℕ, zero, suc, ◌+◌, ◌<◌, ◌≤◌, Bool, true, false, List, length, get_or, refl, ap, subst, ◌∙◌, arith, inl, inr}
 use Rattle.std.proofs.lemmas.Bool.{cases_eq, cases_lt}
-use Rattle.std.proofs.lemmas.List.{length-map, get_or-map}
+use Rattle.std.proofs.lemmas.List.{length-map, get_or-map, get_or_past}
 use Rattle.std.proofs.lemmas.List.FromFn.{length-map-range_with_len, get_or-map-range_with_len}
 use Rattle.heap_model.specs.Bytes.{u32_at}
 use Rattle.heap_model.specs.Lists.{numbered}
@@ -80,6 +80,13 @@ data_inside file (a_record attributes id at) good = elim (cases_eq at 0) [
 ]
 data_inside file (a_resource kind id at) good = not_outside file at good
 
+-- the offset of an entry isn't bad
+pub good_offset : (file : List ℕ) → HasNoFault file → (index : ℕ) → index < entry_count_in file → HasBadOffset file (entry_in file index) → ⊥
+good_offset file good index inside bad =
+    let long = length-map-range_with_len BadOffset 0 (entry_count_in file) in
+    let fault = get_or-map-range_with_len BadOffset 0 (entry_count_in file) index index Truncated inside (omega arith) in
+    subst (λ f. HasFault file f → ⊥) fault (good (suc (suc (suc (suc (suc index))))) Truncated (omega arith)) (inside, bad)
+
 pub offset_inside_file : (file : List ℕ) → HasNoFault file → (rank : ℕ) → rank < length (offsets_in file) → get_or (offsets_in file) rank 0 ≤ length file
 offset_inside_file file good zero inside =
     let e = app_offset file in
@@ -92,10 +99,42 @@ offset_inside_file file good (suc zero) inside =
 offset_inside_file file good (suc (suc index)) inside =
     let count = offset_count file in
     let less : index < entry_count_in file = omega arith in
-    let long = length-map-range_with_len BadOffset 0 (entry_count_in file) in
-    let fault = get_or-map-range_with_len BadOffset 0 (entry_count_in file) index index Truncated less (omega arith) in
-    let none = good (suc (suc (suc (suc (suc index))))) Truncated (omega arith) in
-    let absent : HasFault file (BadOffset index) → ⊥ = subst (λ f. HasFault file f → ⊥) fault none in
     let e = entry_offset_is file index less in
-    let most = data_inside file (entry_in file index) (λ bad. absent (less, bad)) in
+    let most = data_inside file (entry_in file index) (good_offset file good index less) in
     omega arith
+
+-- ---- they come after the entries
+
+not_before : (file : List ℕ) (at : ℕ) → (IsOutside file at → ⊥) → entries_end file ≤ at
+not_before file at good = elim (cases_lt at (entries_end file)) [
+  | inl less ↦ absurd (good (inl less))
+  | inr enough ↦ omega arith
+]
+
+data_after : (file : List ℕ) (entry : Entry ℕ) → (HasBadOffset file entry → ⊥) → 0 < entry_data entry → entries_end file ≤ entry_data entry
+data_after file (a_record attributes id at) good some = not_before file at (λ outside. good (inl (λ none. absurd (omega arith)), outside))
+data_after file (a_resource kind id at) good some = not_before file at good
+
+info_after : (file : List ℕ) (at : ℕ) → (IsBadInfo file at → ⊥) → 0 < at → entries_end file ≤ at
+info_after file at good some = not_before file at (λ outside. good ((λ none. absurd (omega arith)), outside))
+
+pub offset_after : (file : List ℕ) → HasNoFault file → (rank : ℕ) → 0 < get_or (offsets_in file) rank 0 → entries_end file ≤ get_or (offsets_in file) rank 0
+offset_after file good zero some =
+    let e = app_offset file in
+    let after = info_after file (u32_at file app_info_at) (good 3 Truncated (omega arith)) (omega arith) in
+    omega arith
+offset_after file good (suc zero) some =
+    let e = sort_offset file in
+    let after = info_after file (u32_at file sort_info_at) (good 4 Truncated (omega arith)) (omega arith) in
+    omega arith
+offset_after file good (suc (suc index)) some = elim (cases_lt index (entry_count_in file)) [
+  | inl less ↦
+      let e = entry_offset_is file index less in
+      let absent = good_offset file good index less in
+      let after = data_after file (entry_in file index) absent (omega arith) in
+      omega arith
+  | inr past ↦
+      let count = offset_count file in
+      let none = get_or_past (offsets_in file) (suc (suc index)) 0 (omega arith) in
+      absurd (omega arith)
+]

@@ -4,8 +4,10 @@ pub mod FileIds
 pub mod FileNames
 pub mod FileParts
 pub mod GoodFiles
+pub mod LeastOffsets
 pub mod NamedSizes
 pub mod PlacedBlocks
+pub mod Places
 pub mod ReadFiles
 pub mod ReadHeaders
 pub mod ReadIds

@@ -1,5 +1,5 @@
 -- The header that is read off a file, with another seed.
-use Rattle.std.proofs.Common.{◌≡◌, ℕ, ◌+◌, ◌*◌, ◌/◌, List, refl, ap, ◌∙◌, arith}
+use Rattle.std.proofs.Common.{◌≡◌, ℕ, List, refl, ap, ◌∙◌}
 use Rattle.std.proofs.lemmas.List.FromFn.{length-map-range_with_len}
 use Rattle.heap_model.specs.UniqueIds.{with_seed}
 use Rattle.heap_model.specs.Database.{DatabaseHeader, name_in, header_in, entry_count_in, entry_in, database_in}
@@ -7,7 +7,7 @@ use Rattle.db_format.specs.declared.header.DbHeader.{DbHeader}
 use Rattle.db_format.specs.Headers.{header_values, IsHeaderOf}
 use Rattle.pdb_format.specs.ReadFiles.{header_read}
 
-values_are : (file : List ℕ) (header : DbHeader) → IsHeaderOf (database_in file) header → header_values header ≡ header_in file
+pub values_are : (file : List ℕ) (header : DbHeader) → IsHeaderOf (database_in file) header → header_values header ≡ header_in file
 unfolding database_in
 values_are file header has = has.values
 
@@ -22,16 +22,12 @@ pub count_is : (file : List ℕ) (header : DbHeader) → IsHeaderOf (database_in
 unfolding database_in
 count_is file header has = has.entry_count ∙ length-map-range_with_len (entry_in file) 0 (entry_count_in file)
 
-seed_set : (field seed : ℕ) → field / 16777216 * 16777216 + seed ≡ with_seed field seed
-seed_set field seed = omega arith
-
 -- a header with this seed
 seeded : DatabaseHeader → ℕ → DatabaseHeader
 seeded header seed = record header { seed = seed }
 
-pub header_is : (file : List ℕ) (header : DbHeader) (seed : ℕ) → IsHeaderOf (database_in file) header
-    → record (header_values header) { seed = header.seed / 16777216 * 16777216 + seed } ≡ header_read file seed
+pub header_is : (file : List ℕ) (header : DbHeader) (seed field : ℕ) → IsHeaderOf (database_in file) header → field ≡ with_seed header.seed seed → record (header_values header) { seed = field } ≡ header_read file seed
 unfolding seeded
-header_is file header seed has =
-    ap (λ (s : ℕ). seeded (header_values header) s) (seed_set header.seed seed)
+header_is file header seed field has is =
+    ap (λ (s : ℕ). seeded (header_values header) s) is
     ∙ ap (λ (h : DatabaseHeader). seeded h (with_seed h.seed seed)) (values_are file header has)

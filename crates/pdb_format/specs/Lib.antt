@@ -1,6 +1,9 @@
 pub mod Blocks
 pub mod FileTexts
+pub mod Filler
 pub mod Laws
+pub mod OpenFaults
+pub mod Opened
 pub mod ReadFiles
 pub mod Starts
 pub mod Writable

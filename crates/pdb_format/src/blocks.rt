@@ -6,11 +6,11 @@ ghost use Rattle.heap_model.specs.Files.{offsets_in, blocks_in, HasNoFault};
 ghost use Rattle.pdb_format.specs.Starts.{starts_in, order, begins};
 ghost use Rattle.std.specs.List.{sum_by};
 ghost use Rattle.pdb_format.specs.Blocks.{bytes_at, places_in, IsBlockWithin, length_within};
-ghost use Rattle.allowance.specs.Refusals.{GrowthRefused};
+ghost use Rattle.pdb_format.specs.Opened.{HasPlaces};
 
 use crate::starts::{Start, rank_count, sorted_starts};
 use allowance::{Allowance, filled};
-use std::alloc::{AllocError, Global};
+use std::alloc::AllocError;
 
 /// The place of a block in a file: from its offset up to where the next block begins, in bytes from
 /// the file's start.
@@ -60,34 +60,13 @@ fn put_blocks(file: &[u8], starts: &[Start], blocks: &mut [Option<Block>])
 ///
 /// # Errors
 ///
-/// - `AllocError`: if an allocation failed.
-pub fn find_blocks(alloc: Global, file: &[u8]) -> Result<Vec<Option<Block>>, AllocError>
-    requires { HasNoFault file.now }
-    ensures places { IfOk result (λ blocks. blocks.items ≡ places_in file.now) }
-    ensures are { IfOk result (λ blocks. map (bytes_at file.now) blocks.items ≡ blocks_in file.now) }
-    ensures inside { IfOk result (λ blocks. All (IsBlockWithin (length file.now)) blocks.items) }
-    ensures total { IfOk result (λ blocks.
-        sum_by length_within blocks.items ≤ length file.now) }
-    ensures short { OnErr result GrowthRefused }
-{
-    find_blocks_from(&alloc, file)
-}
-
-/// The same as `find_blocks`. Each allocation asks `memory` for a grant.
-///
-/// # Errors
-///
 /// - `AllocError`: if `memory` refused a grant, or an allocation failed.
-pub fn find_blocks_from<A: Allowance>(
+pub(crate) fn find_blocks<A: Allowance>(
     memory: &A,
     file: &[u8],
 ) -> Result<Vec<Option<Block>>, AllocError>
     requires { HasNoFault file.now }
-    ensures places { IfOk result (λ blocks. blocks.items ≡ places_in file.now) }
-    ensures are { IfOk result (λ blocks. map (bytes_at file.now) blocks.items ≡ blocks_in file.now) }
-    ensures inside { IfOk result (λ blocks. All (IsBlockWithin (length file.now)) blocks.items) }
-    ensures total { IfOk result (λ blocks.
-        sum_by length_within blocks.items ≤ length file.now) }
+    ensures places { IfOk result (λ blocks. HasPlaces file.now blocks.items) }
     ensures short { OnErr result (A.is_short memory.now) }
 {
     let starts = sorted_starts(memory, file)?;

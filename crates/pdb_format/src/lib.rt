@@ -13,13 +13,18 @@
 
 mod blocks;
 mod faults;
+mod filler;
 mod laws;
+mod pdb_file;
 mod starts;
+mod written;
 
-pub use blocks::{Block, find_blocks, find_blocks_from};
+pub use blocks::Block;
 pub use faults::check_file;
+pub use filler::{FILLER, first_place_after};
 pub use laws::{
     contents_are_short, contents_are_writable, files_are_read, files_are_read_once,
     written_files_are_read, written_files_have_their_size,
 };
-pub use starts::{offset_of, rank_count};
+pub use pdb_file::{OpenFault, PdbFile};
+pub use written::{idle_attributes, idle_entry_at};

@@ -32,7 +32,7 @@ impl Start {
 ///
 /// The rank of a block is 0 for the AppInfo block and 1 for the SortInfo block. The data of entry I
 /// has rank I + 2.
-pub fn rank_count(file: &[u8]) -> u32
+pub(crate) fn rank_count(file: &[u8]) -> u32
     requires { HasNoFault file.now }
     ensures is { result ≡ length (offsets_in file.now) }
     ensures most { result ≤ 65537 }
@@ -42,7 +42,7 @@ pub fn rank_count(file: &[u8]) -> u32
 
 /// Returns the offset of the block of a rank, in bytes from the file's start. It is 0 if the file
 /// doesn't have the block.
-pub fn offset_of(file: &[u8], rank: u32) -> u32
+fn offset_of(file: &[u8], rank: u32) -> u32
     requires good { HasNoFault file.now }
     requires inside { rank < length (offsets_in file.now) }
     requires few { rank ≤ 65536 }

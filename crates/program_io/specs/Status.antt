@@ -5,7 +5,7 @@ use Rattle.std.specs.declared.io.Error.{Error}
 use Rattle.std.specs.declared.io.ErrorKind.TheVariants.{OutOfMemory}
 use Rattle.std.specs.declared.option.Option.TheVariants.{None, Some}
 use Rattle.program_io.specs.declared.input.InputFault.{InputFault}
-use Rattle.program_io.specs.declared.input.InputFault.TheVariants.{Read, TooLong, Memory}
+use Rattle.program_io.specs.declared.input.InputFault.TheVariants.{Open, Read, TooLong, Memory}
 use Rattle.program_io.specs.declared.status.Status.{Status}
 use Rattle.program_io.specs.declared.status.Status.TheVariants.{Done, Refused, BadWords, ReadFault, WriteFault, NoMemory}
 
@@ -20,12 +20,19 @@ fault_word NoMemory = Some (codes "memory")
 
 -- the fault of a file that couldn't be opened: out of memory, or the error itself
 abbrev pub FaultOf : Error → InputFault → Type 0
-FaultOf error (Read other) = other ≡ error
+FaultOf error (Open other) = other ≡ error
+FaultOf error (Read failure) = ⊥
 FaultOf error TooLong = ⊥
 FaultOf error Memory = error_kind error ≡ OutOfMemory
 
+-- a fault of a file that was opened
+abbrev pub IsOfReading : InputFault → Type 0
+IsOfReading (Open error) = ⊥
+IsOfReading fault = Unit {0}
+
 -- the status of a run that can't read an input file
 abbrev pub status_of : InputFault → Status
-status_of (Read error) = ReadFault
+status_of (Open error) = ReadFault
+status_of (Read failure) = ReadFault
 status_of TooLong = ReadFault
 status_of Memory = NoMemory

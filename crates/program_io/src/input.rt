@@ -1,10 +1,12 @@
 //! Reading an input file.
 
-ghost use Rattle.std.specs.Prelude.{◌≡◌, ◌+◌, ◌++◌, ◌≤◌, ◌<◌, IfOk, OnOk, OnErr, IfSome, vec_len, length};
+ghost use Rattle.std.specs.Prelude.{◌≡◌, ◌+◌, ◌++◌, ◌≤◌, ◌<◌, IfOk, IfErr, OnOk, OnErr, IfSome, vec_len, length};
 ghost use Rattle.std.specs.Io.{StartsWith};
 ghost use Rattle.std.specs.Io.KnownBytes.{IsAtEnd, Keeps, prepend_known};
 ghost use Rattle.allowance.specs.Refusals.{GrowthRefused};
+ghost use Rattle.program_io.specs.Status.{IsOfReading};
 
+use crate::reading::{ReadFailure, read_once};
 use allowance::{Allowance, zeros};
 use std::alloc::{AllocError, Global};
 use std::io;
@@ -20,9 +22,12 @@ pub const MOST_READ: usize = 65_536;
 /// The reason why a file could not be read.
 #[derive(Clone, Copy, Debug, Error)]
 pub enum InputFault {
-    /// The file couldn't be opened, or a read failed.
+    /// The file couldn't be opened.
     #[error("{0}")]
-    Read(io::Error),
+    Open(io::Error),
+    /// A read failed.
+    #[error("{0}")]
+    Read(ReadFailure),
     /// The file has more than `MOST_INPUT` bytes.
     #[error("longer than {MOST_INPUT} bytes")]
     TooLong,
@@ -40,7 +45,7 @@ impl From<io::Error> for InputFault {
     fn from(error: io::Error) -> InputFault {
         match error.kind() {
             ErrorKind::OutOfMemory => InputFault::Memory,
-            _ => InputFault::Read(error),
+            _ => InputFault::Open(error),
         }
     }
 }
@@ -62,6 +67,7 @@ pub fn read_input<R: Read>(alloc: Global, reader: &mut R) -> Result<Vec<u8>, Inp
     ensures too_long { result ≡ Err InputFault.TooLong
         → IfSome (R.remaining reader.old) (λ all. MOST_INPUT < length all) }
     ensures no_memory { result ≡ Err InputFault.Memory → GrowthRefused }
+    ensures of_reading { IfErr result IsOfReading }
 {
     read_input_from(&alloc, reader)
 }
@@ -78,6 +84,7 @@ pub fn read_input_from<A: Allowance, R: Read>(
     ensures too_long { result ≡ Err InputFault.TooLong
         → IfSome (R.remaining reader.old) (λ all. MOST_INPUT < length all) }
     ensures no_memory { result ≡ Err InputFault.Memory → A.is_short memory.now }
+    ensures of_reading { IfErr result IsOfReading }
 {
     let Ok(mut turn) = buffer(memory, MOST_READ) else {
         return Err(InputFault::Memory);
@@ -122,10 +129,11 @@ pub fn read_turn<A: Allowance, R: Read>(
         → IfSome (prepend_known bytes.old.items (R.remaining reader.old))
         (λ all. MOST_INPUT < length all) }
     ensures no_memory { result ≡ Err InputFault.Memory → A.is_short memory.now }
+    ensures of_reading { IfErr result IsOfReading }
 {
-    let n = match reader.read(turn) {
+    let n = match read_once(reader, turn) {
         Ok(n) => n,
-        Err(error) => return Err(InputFault::Read(error)),
+        Err(failure) => return Err(InputFault::Read(failure)),
     };
     if n > MOST_INPUT - bytes.len() {
         return Err(InputFault::TooLong);

@@ -11,6 +11,7 @@
 //! | `requested` | the request of the words that were matched |
 //! | `help_texts` | the texts of the help |
 //! | `input` | reads a file to its end, within the limit |
+//! | `reading` | one read, and its failure |
 //! | `output` | prints a line and returns the status of the run, or flushes a writer |
 //! | `output_file` | a file that replaces another as a whole |
 //! | `error_output` | standard error, as a writer |
@@ -28,6 +29,7 @@ mod input;
 mod noted;
 mod output;
 mod output_file;
+mod reading;
 mod requested;
 mod status;
 
@@ -37,4 +39,5 @@ pub use input::{InputFault, MOST_INPUT, MOST_READ, read_input, read_input_from, 
 pub use noted::Noted;
 pub use output::{flushed, say, say_text};
 pub use output_file::OutputFile;
+pub use reading::{ReadFailure, read_once};
 pub use status::Status;

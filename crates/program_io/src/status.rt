@@ -60,7 +60,7 @@ impl From<InputFault> for Status {
 
     fn from(fault: InputFault) -> Status {
         match fault {
-            InputFault::Read(_) | InputFault::TooLong => Status::ReadFault,
+            InputFault::Open(_) | InputFault::Read(_) | InputFault::TooLong => Status::ReadFault,
             InputFault::Memory => Status::NoMemory,
         }
     }

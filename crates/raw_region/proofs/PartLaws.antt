@@ -147,17 +147,7 @@ slid_up old part from to n by within apart is =
     slid_in_part old part from (to + n - from) 0 by k (omega (arith, apart)) source target is
     ∙ rw (start, same, sym apart) refl
 
--- a list of which n bytes were copied to where they are not, further up
-pub copied_up : (old new : List ℕ) (from to n : ℕ) → from + n ≤ to → to + n ≤ length old
-    → new ≡ slice_range (take to old) from (from + n)
-    → take to old ++ (new ++ drop n (drop to old)) ≡ overwritten old to (slice_range old from (from + n))
-copied_up old new from to n apart within is =
-    let part = slice_range old from (from + n) in
-    let same = part-in-part old to from (from + n - from) (omega (arith, apart)) in
-    let many : n ≡ length part = omega (arith, length-taken old from (from + n - from) (omega (arith, apart, within))) in
-    overwritten_by_part old to n new part (is ∙ same) many
-
--- and further down
+-- a list of which n bytes were copied further down, to where they are not
 pub copied_down : (old new : List ℕ) (from to n : ℕ) → to + n ≤ from → from + n ≤ length old
     → new ≡ take n (drop from old)
     → (take to (take from old) ++ (new ++ drop (to + n - to) (drop to (take from old)))) ++ drop from old

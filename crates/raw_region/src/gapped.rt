@@ -216,4 +216,19 @@ impl Gapped {
     {
         words::slide(self.part_mut(at, count), from - at, to - at, n);
     }
+
+    /// The same as `slide_within`, for a copy down.
+    #[inline]
+    #[tactic(auto, using(crate::proofs::GapWrites::slid_among))]
+    pub(crate) fn slide_down(&mut self, at: usize, count: usize, from: usize, to: usize, n: usize)
+        requires within { (at + count ≤ self.old.len) × Misses self.old.lents at count }
+        requires from { (at ≤ from) × (from + n ≤ at + count) }
+        requires to { (at ≤ to) × (to + n ≤ at + count) }
+        requires down { to ≤ from }
+        ensures bytes { self.new.bytes ≡ overwritten self.old.bytes to
+            (slice_range self.old.bytes from (from + n)) }
+        ensures places { (self.new.ptr ≡ self.old.ptr) × (self.new.len ≡ self.old.len) × (self.new.lents ≡ self.old.lents) }
+    {
+        words::slide_down(self.part_mut(at, count), from - at, to - at, n);
+    }
 }

@@ -1,6 +1,6 @@
 //! The type `Region`, and its methods to read, write, slide and lend bytes.
 
-ghost use Rattle.std.specs.Prelude.{◌≡◌, ◌+◌, ◌<◌, ◌≤◌, ◌%◌, ◌^◌, ◌↔◌, IsTrue, length, slice_range, replicate, IfOk, OnErr, IfSome, IfNone, [], ◌∷◌};
+ghost use Rattle.std.specs.Prelude.{◌≡◌, ◌+◌, ◌-◌, ◌<◌, ◌≤◌, ◌%◌, ◌^◌, ◌↔◌, IsTrue, length, slice_range, replicate, IfOk, OnErr, IfSome, IfNone, [], ◌∷◌};
 ghost use Rattle.heap_model.specs.Memory.{IsWithin, NoneBegins, without};
 ghost use Rattle.raw_region.specs.Parts.{IsOut};
 ghost use Rattle.raw_region.specs.Marks.{BeginsAt, IsMarkable, IsNextLent, NoneBeginsAbove};
@@ -274,6 +274,22 @@ impl Region {
     {
         self.slid.add(n);
         self.run.slide(from, to, n);
+    }
+
+    /// Copies the `n` bytes at `from` down to `to`, and counts them. The two parts may overlap. No
+    /// byte between them may be lent.
+    #[inline]
+    pub fn slide_down(&mut self, from: usize, to: usize, n: usize)
+        requires down { to ≤ from }
+        requires within { IsWithin self.old to (from - to + n) }
+        ensures bytes { self.new.bytes
+            ≡ overwritten self.old.bytes to (slice_range self.old.bytes from (from + n)) }
+        ensures slid { self.new.slid ≡ self.old.slid + n }
+        ensures lent { self.new.lents ≡ self.old.lents }
+        ensures len { length self.new.bytes ≡ length self.old.bytes }
+    {
+        self.slid.add(n);
+        self.run.slide_down(to, from - to + n, from, to, n);
     }
 
     /// Lends the `n` bytes at `at`. Until they are taken back, the region doesn't own them. They

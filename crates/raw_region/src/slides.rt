@@ -41,19 +41,14 @@ fn open_gap<const BY: usize>(part: &mut [u8])
     part.copy_within(0..part.len() - BY, BY);
 }
 
-/// Copies the `n` bytes at `from` to `to`. The two parts must not overlap.
-#[tactic(auto, using(crate::proofs::PartLaws::copied_up, crate::proofs::PartLaws::copied_down))]
-pub(crate) fn copy_apart(bytes: &mut [u8], from: usize, to: usize, n: usize)
-    requires from { from + n ≤ length bytes.old }
-    requires to { to + n ≤ length bytes.old }
-    requires apart { (from + n ≤ to) ⊎ (to + n ≤ from) }
+/// Copies the `n` bytes at `from` down to `to`. The two parts must not overlap.
+#[inline]
+#[tactic(auto, using(crate::proofs::PartLaws::copied_down))]
+pub(crate) fn copy_down(bytes: &mut [u8], from: usize, to: usize, n: usize)
+    requires within { from + n ≤ length bytes.old }
+    requires apart { to + n ≤ from }
     ensures { bytes.new ≡ overwritten bytes.old to (slice_range bytes.old from (from + n)) }
 {
-    if from < to {
-        let (front, back) = bytes.split_at_mut(to);
-        back[..n].copy_from_slice(&front[from..from + n]);
-    } else {
-        let (front, back) = bytes.split_at_mut(from);
-        front[to..to + n].copy_from_slice(&back[..n]);
-    }
+    let (front, back) = bytes.split_at_mut(from);
+    front[to..to + n].copy_from_slice(&back[..n]);
 }

@@ -24,10 +24,11 @@ pub record MovesForResize (old : Region) (name size : ℕ) (new : Region) : Type
   pub unmoved : FitsInPlace old.bytes name (need size) → MovesNothing old.bytes new.bytes
   pub one_stretch : MovesOneStretchAnd old.bytes new.bytes name
 
--- A compaction packs each stretch, and keeps the order of its chunks.
+-- A compaction packs each stretch, and keeps the order of its chunks. No byte is slid twice.
 pub record MovesForCompact (old new : Region) : Type 0 where
   pub packed : Packed (chunks_of new.bytes)
   pub chunks : Slid (chunks_of old.bytes) (chunks_of new.bytes)
+  pub once : new.slid ≡ old.slid + moved_bytes old.bytes new.bytes
 
 -- the chunks that a call of the memory manager moves, even if it is refused
 abbrev pub MovesInHeap : Region → MemoryCall → Region → Type 0

@@ -14,7 +14,6 @@ ghost use Rattle.bit_sets.specs.Sets.{HasNone};
 ghost use Rattle.store_check.specs.Ids.{HasRoomForAll};
 ghost use Rattle.store_check.specs.Names.{name_numbers};
 ghost use Rattle.store_check.specs.Checks.{IsFirstOr, IsRefusal, SummarizesStore, IsAnswered, listed_faults, marked_faults, own_faults};
-ghost use Rattle.allowance.specs.Refusals.{GrowthRefused};
 
 use crate::chunks::{first_twice, first_unmarked};
 use crate::entries::find_bad_entry;
@@ -32,7 +31,6 @@ use allowance::Allowance;
 use db_format::MOST_DATABASES;
 use heap_check::{MOST_MARKS, NO_OWNER, check_heap, check_heap_noting, marks_needed};
 use raw_region::Region;
-use std::alloc::Global;
 
 /// Checks whether the bytes of a region are an accepted heap with databases, and returns its
 /// counts. It changes nothing. It allocates:
@@ -44,26 +42,7 @@ use std::alloc::Global;
 /// # Errors
 /// - `OutOfMemory`: an allocation failed.
 /// - Any other fault: the image's first one, in the order of `all_faults`.
-pub fn check_store(alloc: Global, region: &Region) -> Result<StoreSummary, StoreFault>
-    requires whole { region.now.lents ≡ [] }
-    ensures accepted { OnOk result (Accepted region.now.bytes) }
-    ensures summary { IfOk result (SummarizesStore region.now.bytes) }
-    ensures fault { IfErr result (IsAnswered region.now.bytes) }
-    ensures refused { IfErr result (IsRefusal region.now.bytes) }
-    ensures no_memory { result ≡ Err StoreFault.OutOfMemory → GrowthRefused }
-{
-    check_store_from(&alloc, region)
-}
-
-/// Checks an image as `check_store` does, with memory from an allowance.
-///
-/// # Errors
-/// - `OutOfMemory`: an allocation failed.
-/// - Any other fault: the image's first one, in the order of `all_faults`.
-pub fn check_store_from<A: Allowance>(
-    memory: &A,
-    region: &Region,
-) -> Result<StoreSummary, StoreFault>
+pub fn check_store<A: Allowance>(memory: &A, region: &Region) -> Result<StoreSummary, StoreFault>
     requires whole { region.now.lents ≡ [] }
     ensures accepted { OnOk result (Accepted region.now.bytes) }
     ensures summary { IfOk result (SummarizesStore region.now.bytes) }

@@ -5,7 +5,7 @@ use Rattle.std.proofs.lemmas.List.{take_all}
 use Rattle.heap_model.specs.Bytes.{u32_bytes}
 use Rattle.heap_model.specs.Database.{has_resources}
 use Rattle.heap_model.specs.declared.database.DbInfo.{DbInfo}
-use Rattle.json_text.specs.Strings.{string, hex_string}
+use Rattle.unicode_text.specs.Strings.{string, hex_string}
 use Rattle.store_commands.specs.declared.databases.Row.{Row}
 use Rattle.store_commands.specs.DatabasesJson.{info_json, kind_and_type_json, more_json, row_json, rows_json}
 

@@ -1,9 +1,10 @@
 -- Lines one after the other.
 use Rattle.std.proofs.Common.{◌≡◌, ℕ, ◌+◌, ◌-◌, ◌<◌, ◌≤◌, Bool, true, false, Option, Some, List, [], ◌∷◌, ◌++◌, length, get_or, drop, take, refl, sym, ap, subst, ◌∙◌, arith, add-one, drop-cons}
-use Rattle.std.specs.Prelude.{replicate, slice_get, map}
+use Rattle.std.specs.Prelude.{All, replicate, slice_get, map}
 use Rattle.std.specs.List.{flat_map, concat, AllZip}
 use Rattle.std.proofs.lemmas.List.{append-nil, drop_all, take_more, map_push}
 use Rattle.std.proofs.lemmas.Option.{slice_get_within, get_or_from_slice_get}
+use Rattle.std.proofs.lemmas.List.Elements.{All-push}
 use Rattle.std.proofs.lemmas.List.Concat.{flat_map-append}
 use Rattle.heap_model.specs.Store.{Store}
 use Rattle.palm_text.specs.Counted.{Writing, Writes}
@@ -64,6 +65,10 @@ module _ {W : Type 0} (contents : W → Option (List ℕ)) (text : List ℕ) whe
 pub taken_more : {X : Type 0} (xs : List X) (i : ℕ) (x : X) → slice_get xs i ≡ Some x → take (i + 1) xs ≡ take i xs ++ x ∷ []
 taken_more {X} xs i x at =
     take_more xs i x (slice_get_within xs i x at) ∙ ap (λ (y : X). take i xs ++ y ∷ []) (get_or_from_slice_get xs i x x at)
+
+-- what holds of each item of a list up to an index, and of the next one
+pub all_more : {X : Type 0} (P : X → Type 0) (xs : List X) (i : ℕ) (x : X) → All P (take i xs) → slice_get xs i ≡ Some x → P x → All P (take (i + 1) xs)
+all_more P xs i x so_far at one = subst (All P) (sym (taken_more xs i x at)) (All-push P (take i xs) x so_far one)
 
 -- what is made of the items of a list up to an index, and of the next one
 pub made_more : {X Y : Type 0} (make : X → Y) (xs : List X) (ys : List Y) (y : Y) (i : ℕ) (x : X) → ys ≡ map make (take i xs) → slice_get xs i ≡ Some x → y ≡ make x → ys ++ y ∷ [] ≡ map make (take (i + 1) xs)

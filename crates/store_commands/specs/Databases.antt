@@ -9,7 +9,7 @@ use Rattle.heap_model.specs.Files.{file_of}
 use Rattle.heap_model.specs.Store.{StoredDatabase, Store, Accepted, content, store_of}
 use Rattle.heap_model.specs.declared.database.DbInfo.{DbInfo}
 use Rattle.palm_text.specs.Pieces.{script_spelled}
-use Rattle.code_page.specs.Texts.{text_between}
+use Rattle.unicode_text.specs.Texts.{text_between}
 use Rattle.palm_text.specs.Counted.{Writing}
 use Rattle.palm_text.specs.Output.{Puts}
 use Rattle.image_commands.specs.FaultLines.{PutsBadImage}

@@ -7,7 +7,7 @@ use Rattle.heap_model.specs.Store.{Store, Accepted, store_of}
 use Rattle.heap_model.specs.declared.database.DbInfo.{DbInfo}
 use Rattle.palm_text.specs.Counted.{Writing}
 use Rattle.palm_text.specs.Output.{Puts}
-use Rattle.json_text.specs.Strings.{string, hex_string}
+use Rattle.unicode_text.specs.Strings.{string, hex_string}
 use Rattle.image_commands.specs.JsonEnds.{PutsImageFault}
 use Rattle.program_io.specs.declared.status.Status.{Status}
 use Rattle.program_io.specs.declared.status.Status.TheVariants.{Done, Refused, BadWords, ReadFault, WriteFault, NoMemory}

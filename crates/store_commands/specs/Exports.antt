@@ -1,6 +1,9 @@
 -- What `export` makes of an image. Where a definition ends in a `Bool`, it says whether all was written and flushed.
-use Rattle.std.specs.Prelude.{◌≡◌, ◌≢◌, ◌<◌, ◌⊎◌, ℕ, Bool, true, false, List, length, map, [], take, slice_index_or, Option, Some, None, All}
+use Rattle.std.specs.Prelude.{◌≡◌, ◌≢◌, ◌<◌, ◌⊎◌, ◌==◌, ◌&&◌, ℕ, Bool, true, false, List, length, map, [], ◌∷◌, take, drop, slice_index_or, Option, Some, None, All}
+use Rattle.std.specs.Char.{encode_utf8}
 use Rattle.std.specs.List.{AllZip}
+use Rattle.std.specs.Str.{bytes_eq}
+use Rattle.unicode_text.specs.Windows1252.{character_of}
 use Rattle.heap_model.specs.DatabaseFields.{name_size}
 use Rattle.heap_model.specs.Database.{has_resources}
 use Rattle.heap_model.specs.Files.{file_of}
@@ -30,16 +33,40 @@ file_for store one = record {
 abbrev pub meant_by : List ℕ → List ℕ
 meant_by word = take name_size word
 
+-- a text begins with a character in UTF-8, if there is a character
+abbrev pub begins_with_character : Option ℕ → List ℕ → Bool
+begins_with_character None text = false
+begins_with_character (Some code) text = bytes_eq (take (length (encode_utf8 code)) text) (encode_utf8 code)
+
+-- the text after it
+abbrev pub after_character : Option ℕ → List ℕ → List ℕ
+after_character None text = text
+after_character (Some code) text = drop (length (encode_utf8 code)) text
+
+-- A word spells a name in UTF-8: it has the character of each byte in Windows-1252, in order, and no other.
+abbrev pub is_spelled : (name word : List ℕ) → Bool
+is_spelled [] word = length word == 0
+is_spelled (byte ∷ bytes) word =
+    begins_with_character (character_of byte) word && is_spelled bytes (after_character (character_of byte) word)
+
+-- no database has the bytes of the word for its name
+abbrev pub HasNoName : Store → List ℕ → Type 0
+HasNoName store word = All (λ other. other ≢ meant_by word) (names_of store.databases)
+
+-- the name that a word names: the one with its bytes, or if there is none, the one that it spells in UTF-8
+abbrev pub IsNamedBy : Store → List ℕ → List ℕ → Type 0
+IsNamedBy store word name = (name ≡ meant_by word) ⊎ (HasNoName store word × (is_spelled name word ≡ true))
+
 -- this is the file of the database that a word names
 pub record IsFileNamed (store : Store) (word : List ℕ) (file : ExportedFile) : Type 0 where
   pub one : StoredDatabase
   pub there : with_number store one.db ≡ Some one
-  pub named : one.database.header.name ≡ meant_by word
+  pub named : IsNamedBy store word one.database.header.name
   pub is : file ≡ file_for store one
 
--- the store has no database of this name
+-- the store has no database that the word names
 abbrev pub IsMissing : Store → List ℕ → Type 0
-IsMissing store word = All (λ other. other ≢ meant_by word) (names_of store.databases)
+IsMissing store word = HasNoName store word × All (λ other. is_spelled other word ≡ false) (names_of store.databases)
 
 -- These are the files of all databases, in their order, if no word names one; or else those that the words name.
 abbrev pub AreExported : Store → List (List ℕ) → List ExportedFile → Type 0

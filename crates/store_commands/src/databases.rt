@@ -8,11 +8,9 @@ ghost use Rattle.palm_text.specs.Counted.{Writes};
 ghost use Rattle.palm_text.specs.Output.{Puts};
 ghost use Rattle.store_commands.specs.Databases.{EndsDatabases, database_count_line, first_words, kind_word, last_words, listed_row_end, listed_row_line, listed_row, listed_rows, rows_text};
 ghost use Rattle.heap_model.specs.Database as databases;
-ghost use Rattle.allowance.specs.Refusals.{GrowthRefused};
 
 use crate::images::{count_of, file_of_database, info_of, nth_of, opened};
 use allowance::{Allowance, push};
-use code_page::put_text;
 use db_format::DbAttrs;
 use heap_model::{Db, DbInfo};
 use itoa::Buffer;
@@ -20,19 +18,12 @@ use palm_store::Store;
 use palm_text::{Counted, Piece, WriteFault, put_all, put_pieces};
 use program_io::{Status, flushed};
 use raw_region::Region;
-use std::alloc::{AllocError, Global};
+use std::alloc::AllocError;
 use std::io::Write;
+use unicode_text::put_text;
 
 /// Checks an image, and prints a line for each of its databases, or `bad` and the first fault.
-pub fn cmd_databases<V: Write>(alloc: Global, image: &[u8], out: &mut Counted<V>) -> Status
-    ensures ends { EndsDatabases image.now V.contents out.old out.new result }
-    ensures short { result ≡ Status.NoMemory → GrowthRefused }
-{
-    cmd_databases_from(&alloc, image, out)
-}
-
-/// `cmd_databases`, where each growth asks for a grant.
-pub fn cmd_databases_from<A: Allowance, V: Write>(
+pub fn cmd_databases<A: Allowance, V: Write>(
     memory: &A,
     image: &[u8],
     out: &mut Counted<V>,
@@ -46,7 +37,7 @@ pub fn cmd_databases_from<A: Allowance, V: Write>(
     }
 }
 
-/// `cmd_databases_from`, of an image that lies in a region, of which nothing may be lent.
+/// `cmd_databases`, of an image that lies in a region, of which nothing may be lent.
 pub fn databases_region_from<A: Allowance, V: Write>(
     memory: &A,
     region: Region,

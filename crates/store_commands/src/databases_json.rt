@@ -1,7 +1,6 @@
 //! The command `databases --json`: a document of the databases of an image.
 
 ghost use Rattle.std.specs.Prelude.{[], ◌≡◌, ◌⊎◌, Err, IfOk, IfErr, OnOk, is_ok, true, false};
-ghost use Rattle.allowance.specs.Refusals.{GrowthRefused};
 ghost use Rattle.heap_model.specs.Store.{Accepted};
 ghost use Rattle.heap_model.specs.Database as databases;
 ghost use Rattle.palm_text.specs.Counted.{Writes};
@@ -15,24 +14,15 @@ use db_format::DbAttrs;
 use heap_model::DbInfo;
 use image_commands::say_image_fault;
 use itoa::Buffer;
-use json_text::{JsonPiece, put_json};
 use palm_store::{NotAStore, Store, StoreFault};
 use palm_text::{Counted, WriteFault, put_all};
 use program_io::{Status, flushed};
 use raw_region::Region;
-use std::alloc::Global;
 use std::io::Write;
+use unicode_text::{JsonPiece, put_json};
 
 /// Checks an image, and prints the document of its databases, or the document for its first fault.
-pub fn cmd_databases_json<V: Write>(alloc: Global, image: &[u8], out: &mut Counted<V>) -> Status
-    ensures ends { EndsDatabasesJson image.now V.contents out.old out.new result }
-    ensures short { result ≡ Status.NoMemory → GrowthRefused }
-{
-    cmd_databases_json_from(&alloc, image, out)
-}
-
-/// `cmd_databases_json`, where each growth asks for a grant.
-pub fn cmd_databases_json_from<A: Allowance, V: Write>(
+pub fn cmd_databases_json<A: Allowance, V: Write>(
     memory: &A,
     image: &[u8],
     out: &mut Counted<V>,
@@ -46,7 +36,7 @@ pub fn cmd_databases_json_from<A: Allowance, V: Write>(
     }
 }
 
-/// `cmd_databases_json_from`, of an image that lies in a region, of which nothing may be lent.
+/// `cmd_databases_json`, of an image that lies in a region, of which nothing may be lent.
 pub fn databases_json_region_from<A: Allowance, V: Write>(
     memory: &A,
     region: Region,

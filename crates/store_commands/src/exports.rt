@@ -1,12 +1,14 @@
 //! The command `export`, but for the folder: the files of databases, with their names.
 
-ghost use Rattle.std.specs.Prelude.{[], ◌≡◌, ◌⊎◌, Err, IfOk, IfErr, OnOk, OnErr, IfSome, IfNone, Some, None, map, true, false};
+ghost use Rattle.std.specs.Prelude.{[], ◌≡◌, ◌⊎◌, Err, IfOk, IfErr, OnOk, OnErr, IfSome, IfNone, MatchOption, Some, None, All, map, true, false};
 ghost use Rattle.std.specs.List.{AllZip};
-ghost use Rattle.heap_model.specs.Store.{Accepted, database_under, store_of};
+ghost use Rattle.unicode_text.specs.Windows1252 as characters;
+ghost use Rattle.heap_model.specs.Store.{Accepted, database_under, names_of, store_of};
 ghost use Rattle.palm_store.specs.Databases.{HasNumber};
 ghost use Rattle.palm_text.specs.Output.{Puts};
 ghost use Rattle.script_calls.specs.Lines.{refusal_line};
-ghost use Rattle.store_commands.specs.Exports.{AreExported, IsFileNamed, IsMissing, NotExported, IsNotNamed, file_for, meant_by};
+ghost use Rattle.store_commands.specs.Exports as words;
+ghost use Rattle.store_commands.specs.Exports.{AreExported, IsFileNamed, IsMissing, IsNamedBy, NotExported, IsNotNamed, file_for};
 
 use crate::file_names::file_name;
 use crate::images::{count_of, file_of_database, info_of, nth_of, opened, say_refusal};
@@ -19,6 +21,7 @@ use program_io::Status;
 use raw_region::Region;
 use std::alloc::AllocError;
 use std::io::Write;
+use unicode_text::character_of;
 
 /// A file of a database: its name in a folder, in ASCII, and its bytes.
 #[derive(Drop)]
@@ -35,8 +38,8 @@ pub struct Ended {
     pub word: Option<usize>,
 }
 
-/// Returns the files of the databases of an image that words name by their bytes, in that order, or
-/// of all databases if there is no word. If the image is refused, prints why. If a word names no
+/// Returns the files of the databases of an image that words name, by their bytes or by their
+/// characters in UTF-8, in that order, or of all databases if there is no word. If the image is refused, prints why. If a word names no
 /// database, prints the reply line for that.
 ///
 /// # Errors
@@ -122,17 +125,61 @@ enum NotNamed {
     OutOfMemory,
 }
 
+/// Returns whether a word spells a name in UTF-8. The bytes of the name are characters in Windows-1252.
+fn is_spelled(name: &[u8], word: &[u8]) -> bool
+    ensures { result ≡ words.is_spelled name.now word.now }
+{
+    let mut rest = word;
+    for byte in name {
+        match after_character(*byte, rest) {
+            Some(behind) => rest = behind,
+            None => return false,
+        }
+    }
+    rest.is_empty()
+}
+
+/// Returns the text after the character of a byte, if the text begins with it.
+fn after_character(byte: u8, text: &[u8]) -> Option<&[u8]>
+    ensures { MatchOption result
+        (words.begins_with_character (characters.character_of byte) text.now ≡ false)
+        (λ behind. (words.begins_with_character (characters.character_of byte) text.now ≡ true)
+        × (behind.now ≡ words.after_character (characters.character_of byte) text.now)) }
+{
+    let character = character_of(byte)?;
+    let mut buffer = [0; 4];
+    text.strip_prefix(character.encode_utf8(&mut buffer).as_bytes())
+}
+
+/// Returns the number of the first database whose name a word spells in UTF-8.
+#[tactic(auto, using(crate::proofs::Lines::all_more))]
+fn spelled_number(store: &Store, word: &[u8]) -> Option<Db>
+    ensures there { IfSome result (λ db. HasNumber store.now.bytes db.0) }
+    ensures named { IfSome result (λ db.
+        words.is_spelled (database_under store.now.bytes db.0).database.header.name word.now ≡ true) }
+    ensures none { IfNone result (All (λ other. words.is_spelled other word.now ≡ false)
+        (names_of (store_of store.now.bytes).databases)) }
+{
+    for index in 0..count_of(store) {
+        let db = nth_of(store, index);
+        if is_spelled(info_of(store, db).name.as_slice(), word) {
+            return Some(db);
+        }
+    }
+    None
+}
+
 /// The number of the database that a word names.
 #[tactic(auto, using(crate::proofs::Lookups::name_there, crate::proofs::Lookups::name_is, crate::proofs::Lookups::name_missing))]
 fn number_of(store: &Store, word: &[u8]) -> Option<Db>
     ensures there { IfSome result (λ db. HasNumber store.now.bytes db.0) }
-    ensures named { IfSome result (λ db. (database_under store.now.bytes db.0).database.header.name
-        ≡ meant_by word.now) }
+    ensures named { IfSome result (λ db. IsNamedBy (store_of store.now.bytes) word.now
+        (database_under store.now.bytes db.0).database.header.name) }
     ensures none { IfNone result (IsMissing (store_of store.now.bytes) word.now) }
 {
     match store.find(&DbName::of(word)) {
         Ok(db) => Some(db),
-        Err(_) => None,
+        Err(_) => spelled_number(store, word),
     }
 }
 

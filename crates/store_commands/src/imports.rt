@@ -1,9 +1,8 @@
 //! The command `import`: an image that is just large enough for some files, with their databases in
 //! it.
 
-ghost use Rattle.std.specs.Prelude.{[], ◌≡◌, ◌≢◌, ◌≤◌, ◌⊎◌, ℕ, List, Err, IfOk, IfErr, OnOk, None, IfSome, IfNone, All, is_ok, min, replicate, codes, true, false};
+ghost use Rattle.std.specs.Prelude.{[], ◌≡◌, ◌≢◌, ◌<◌, ◌≤◌, ◌⊎◌, ℕ, List, Err, IfOk, IfErr, OnOk, None, IfSome, IfNone, All, is_ok, length, min, replicate, slice_index_or, take, codes, true, false};
 ghost use Rattle.std.specs.List.{concat};
-ghost use Rattle.allowance.specs.Refusals.{GrowthRefused};
 ghost use Rattle.heap_model.specs.Files.{HasNoFault};
 ghost use Rattle.heap_model.specs.Store.{Accepted};
 ghost use Rattle.chunk_format.specs.Blank.{IsRegionSize};
@@ -15,16 +14,15 @@ ghost use Rattle.store_commands.specs.Imports.{EndsImport, EndsRefused, ImportsA
 
 use crate::exports::Ended;
 use crate::images::{put_store, say_refusal};
-use allowance::Allowance;
+use allowance::{Allowance, push};
 use canonical_file::{ENOUGH, image_size, image_slots, needs_of_files};
 use chunk_format::{BlankFault, blank_from, is_image_size};
 use heap_model::{Bytes, Refusal};
 use palm_store::Store;
 use palm_text::{Counted, Piece, WriteFault, put_all, put_pieces};
-use pdb_files::import_from;
-use pdb_format::check_file;
+use pdb_files::import_opened;
+use pdb_format::{OpenFault, PdbFile};
 use program_io::{Status, flushed, say};
-use std::alloc::Global;
 use std::io::Write;
 
 /// The size in bytes and the slot count that are chosen for a new image. What isn't chosen is the
@@ -64,22 +62,7 @@ pub(crate) enum NotImported {
 /// before the others are imported. If the files need more than an image may have, prints `bad
 /// TooLarge`. If no image has the size or the slots that are chosen, prints `bad BadSize` or `bad
 /// BadSlotCount`.
-pub fn cmd_import<W: Write, V: Write>(
-    alloc: Global,
-    choice: ImageChoice,
-    files: &[Bytes],
-    image_out: &mut Counted<W>,
-    out: &mut Counted<V>,
-) -> Ended
-    ensures ends { EndsImport choice files.now W.contents image_out.old image_out.new
-        V.contents out.old out.new result }
-    ensures short { result.status ≡ Status.NoMemory → GrowthRefused }
-{
-    cmd_import_from(&alloc, choice, files, image_out, out)
-}
-
-/// `cmd_import`, where each growth asks for a grant.
-pub fn cmd_import_from<A: Allowance, W: Write, V: Write>(
+pub fn cmd_import<A: Allowance, W: Write, V: Write>(
     memory: &A,
     choice: ImageChoice,
     files: &[Bytes],
@@ -107,17 +90,17 @@ fn filled_store<A: Allowance>(
     ensures why { IfErr result (IsWhy choice files.now) }
     ensures short { result ≡ Err NotImported.OutOfMemory → A.is_short memory.now }
 {
-    match check_files(files) {
-        Ok(()) => filled_with(memory, choice, files),
+    match open_files(memory, files) {
+        Ok(opened) => filled_with(memory, choice, &opened),
         Err(why) => Err(why),
     }
 }
 
-/// A new image with the databases of files that have no fault.
+/// A new image with the databases of files that are opened.
 fn filled_with<A: Allowance>(
     memory: &A,
     choice: ImageChoice,
-    files: &[Bytes],
+    files: &[PdbFile<'_>],
 ) -> Result<(NewImage, Store), NotImported>
     requires { All HasNoFault files.now }
     ensures filled { IfOk result (λ made. IsFilled choice files.now made.0 made.1) }
@@ -125,7 +108,7 @@ fn filled_with<A: Allowance>(
     ensures why { IfErr result (IsWhy choice files.now) }
     ensures short { result ≡ Err NotImported.OutOfMemory → A.is_short memory.now }
 {
-    let image = chosen(memory, choice, files)?;
+    let image = chosen(choice, files)?;
     let mut store = new_store(memory, image)?;
     match import_all(memory, &mut store, files) {
         Ok(()) => Ok((image, store)),
@@ -133,35 +116,60 @@ fn filled_with<A: Allowance>(
     }
 }
 
-/// Looks for the first file with a fault.
-fn check_files(files: &[Bytes]) -> Result<(), NotImported>
+/// Opens files, in their order, up to the first with a fault.
+fn open_files<'a, A: Allowance>(
+    memory: &A,
+    files: &'a [Bytes],
+) -> Result<Vec<PdbFile<'a>>, NotImported>
+    ensures same { IfOk result (λ opened. opened.items ≡ files.now) }
     ensures good { OnOk result (All HasNoFault files.now) }
     ensures why { (choice : ImageChoice) → IfErr result (IsWhy choice files.now) }
-    ensures takes_no_memory { result ≢ Err NotImported.OutOfMemory }
+    ensures short { result ≡ Err NotImported.OutOfMemory → A.is_short memory.now }
 {
+    let mut opened = Vec::new(memory.allocator());
     for index in 0..files.len() {
-        if let Err(fault) = check_file(files[index].as_slice()) {
-            return Err(NotImported::RefusedFile(index, Refusal::BadFile(fault)));
-        }
+        let file = match open_at(memory, files, index) {
+            Ok(file) => file,
+            Err(why) => return Err(why),
+        };
+        let Ok(()) = push(memory, &mut opened, file) else {
+            return Err(NotImported::OutOfMemory);
+        };
     }
-    Ok(())
+    Ok(opened)
+}
+
+/// Opens the file of an index. The files before it have no fault.
+fn open_at<'a, A: Allowance>(
+    memory: &A,
+    files: &'a [Bytes],
+    index: usize,
+) -> Result<PdbFile<'a>, NotImported>
+    requires inside { index < length files.now }
+    requires before { All HasNoFault (take index files.now) }
+    ensures opened { IfOk result (λ file. file ≡ slice_index_or files.now index []) }
+    ensures good { OnOk result (HasNoFault (slice_index_or files.now index [])) }
+    ensures why { (choice : ImageChoice) → IfErr result (IsWhy choice files.now) }
+    ensures short { result ≡ Err NotImported.OutOfMemory → A.is_short memory.now }
+{
+    match PdbFile::open(memory, files[index].as_slice()) {
+        Ok(file) => Ok(file),
+        Err(OpenFault::BadFile(fault)) => {
+            Err(NotImported::RefusedFile(index, Refusal::BadFile(fault)))
+        }
+        Err(OpenFault::OutOfMemory) => Err(NotImported::OutOfMemory),
+    }
 }
 
 /// The size and the slot count of the image for some files.
-fn chosen<A: Allowance>(
-    memory: &A,
-    choice: ImageChoice,
-    files: &[Bytes],
-) -> Result<NewImage, NotImported>
+fn chosen(choice: ImageChoice, files: &[PdbFile<'_>]) -> Result<NewImage, NotImported>
     requires { All HasNoFault files.now }
     ensures image { IfOk result (IsChosen choice files.now) }
     ensures within { OnOk result (StayWithinLimits choice files.now) }
     ensures why { IfErr result (IsWhy choice files.now) }
-    ensures short { result ≡ Err NotImported.OutOfMemory → A.is_short memory.now }
+    ensures takes_no_memory { result ≢ Err NotImported.OutOfMemory }
 {
-    let Ok(needs) = needs_of_files(memory, files) else {
-        return Err(NotImported::OutOfMemory);
-    };
+    let needs = needs_of_files(files);
     let slots = match choice.slots {
         Some(slots) => u64::from(slots),
         None => image_slots(needs.slots),
@@ -224,7 +232,7 @@ fn new_store<A: Allowance>(memory: &A, image: NewImage) -> Result<Store, NotImpo
 fn import_all<A: Allowance>(
     memory: &A,
     store: &mut Store,
-    files: &[Bytes],
+    files: &[PdbFile<'_>],
 ) -> Result<(), NotImported>
     requires { Accepted store.old.bytes }
     ensures done { OnOk result (ImportsAll store.old files.now store.new) }
@@ -234,7 +242,7 @@ fn import_all<A: Allowance>(
     ensures short { result ≡ Err NotImported.OutOfMemory → A.is_short memory.now }
 {
     for index in 0..files.len() {
-        match import_from(memory, store, files[index].as_slice()) {
+        match import_opened(memory, store, &files[index]) {
             Ok(_) => {}
             Err(refusal) => return Err(not_imported(index, refusal)),
         }

@@ -25,10 +25,10 @@ mod images;
 mod imports;
 mod migrate_command;
 
-pub use databases::{cmd_databases, cmd_databases_from, databases_region_from};
-pub use databases_json::{cmd_databases_json, cmd_databases_json_from, databases_json_region_from};
+pub use databases::{cmd_databases, databases_region_from};
+pub use databases_json::{cmd_databases_json, databases_json_region_from};
 pub use exports::{Ended, ExportedFile, export_files};
 pub use file_names::file_name;
 pub use images::{opened, put_store};
-pub use imports::{ImageChoice, cmd_import, cmd_import_from};
+pub use imports::{ImageChoice, cmd_import};
 pub use migrate_command::{cmd_migrate, cmd_migrate_from, migrate_region_from};

@@ -7,7 +7,7 @@ use Rattle.heap_model.specs.Slots.{Table}
 use Rattle.heap_model.specs.Heap.{TableHere, IsTablePlace}
 use Rattle.heap_model.specs.Reading.{chunk_at, chunks_from, chunks_of}
 use Rattle.heap_check.specs.Faults.{Leads}
-use Rattle.test_chains.specs.ChainedImages.{table, next_is_free, cycle, two_tables}
+use Rattle.test_chains.specs.ChainedImages.{made_table, next_is_free, cycle, two_tables}
 
 -- no other table of an image is at a place
 abbrev NoOther : List ℕ → List Table → ℕ → Type 0
@@ -24,7 +24,7 @@ free_once (t ∷ ts) next count leads = elim leads.1 [ inl none ↦ none | inr n
 
 pub cycle_none : (tables : List Table) (next : ℕ) → length tables ≡ 0 → Leads cycle (chunks_of cycle) 32 tables next → NoOther cycle tables next → ⊥
 unfolding u16_at u32_at u32_bytes seen chunk_at chunks_from chunks_of
-cycle_none [] next count leads other = other (table 32 1) (inl (refl, refl, refl, omega arith)) leads
+cycle_none [] next count leads other = other (made_table 32 1) (inl (refl, refl, refl, omega arith)) leads
 cycle_none (t ∷ ts) next count leads other = absurd cc
 
 pub cycle_once : (tables : List Table) (next : ℕ) → length tables ≡ 1 → Leads cycle (chunks_of cycle) 32 tables next → NoOther cycle tables next → ⊥
@@ -32,7 +32,7 @@ unfolding u16_at u32_at u32_bytes seen chunk_at chunks_from chunks_of
 cycle_once [] next count leads other = absurd cc
 cycle_once (t ∷ []) next count leads other =
     let second : 48 ≡ next = sym (after cycle t.place 32 leads.0) ∙ leads.3 in
-    elim (other (table 48 1) (inr (inl (refl, refl, refl, omega arith))) second) [ inl e ↦ (let first = leads.0 in absurd (omega arith)) | inr none ↦ none ]
+    elim (other (made_table 48 1) (inr (inl (refl, refl, refl, omega arith))) second) [ inl e ↦ (let first = leads.0 in absurd (omega arith)) | inr none ↦ none ]
 cycle_once (t ∷ u ∷ ts) next count leads other = absurd (omega arith)
 
 pub cycle_thrice : (tables : List Table) (next : ℕ) → length tables ≡ 3 → Leads cycle (chunks_of cycle) 32 tables next → ⊥
@@ -49,7 +49,7 @@ cycle_thrice (t ∷ u ∷ v ∷ ts) next count leads =
 -- a right chain has none
 pub two_right : (tables : List Table) (next : ℕ) → Leads two_tables (chunks_of two_tables) 32 tables next → next ≢ 0 → NoOther two_tables tables next → ⊥
 unfolding u16_at u32_at u32_bytes seen chunk_at chunks_from chunks_of
-two_right [] next leads more other = other (table 32 1) (inl (refl, refl, refl, omega arith)) leads
+two_right [] next leads more other = other (made_table 32 1) (inl (refl, refl, refl, omega arith)) leads
 two_right (t ∷ []) next leads more other = more (sym leads.3 ∙ after two_tables t.place 32 leads.0)
 two_right (t ∷ u ∷ ts) next leads more other =
     let none : 0 ≡ u.place = sym (after two_tables t.place 32 leads.0) ∙ leads.3.0 in

@@ -9,8 +9,8 @@ abbrev pub chained_image : ℕ → ℕ → ℕ → List ℕ → List ℕ
 chained_image size slot next chunks = flat_map u32_bytes (0x50484932 ∷ size ∷ 0x00010000 ∷ 0 ∷ slot ∷ next ∷ chunks)
 
 -- a further table, by its place and the count of its slots
-abbrev pub table : ℕ → ℕ → Table
-table place count = record { place = place; count = count }
+abbrev pub made_table : ℕ → ℕ → Table
+made_table place count = record { place = place; count = count }
 
 -- a table of one slot at 32, and a chunk of 4 bytes in that slot
 abbrev pub two_tables : List ℕ

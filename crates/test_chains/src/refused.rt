@@ -8,14 +8,14 @@ ghost use Rattle.heap_model.specs.Slots.{further_tables};
 ghost use Rattle.heap_model.specs.Heap.{IsKnownIfFixed};
 ghost use Rattle.heap_model.specs.Reading.{chunks_of, is_accepted};
 ghost use Rattle.heap_check.specs.Faults.{IsBadTable};
-ghost use Rattle.test_chains.specs.ChainedImages.{table, two_tables, behind_chunk, cycle, stray_table, next_is_free};
+ghost use Rattle.test_chains.specs.ChainedImages.{made_table, two_tables, behind_chunk, cycle, stray_table, next_is_free};
 
 /// A fixed chunk is known if it is one of the tables, or a caller's.
 fn fixed_chunks_are_known()
-    ensures in_list { IsKnownIfFixed (table 32 1 ∷ table 64 1 ∷ []) 56 (fixed [] 0) }
-    ensures not_another { IsKnownIfFixed (table 32 1 ∷ table 64 1 ∷ []) 40 (fixed [] 0) → ⊥ }
+    ensures in_list { IsKnownIfFixed (made_table 32 1 ∷ made_table 64 1 ∷ []) 56 (fixed [] 0) }
+    ensures not_another { IsKnownIfFixed (made_table 32 1 ∷ made_table 64 1 ∷ []) 40 (fixed [] 0) → ⊥ }
     ensures callers { IsKnownIfFixed [] 40 (fixed [] 14) }
-    ensures not_data { IsKnownIfFixed (table 32 1 ∷ []) 24 (fixed [] 15) → ⊥ }
+    ensures not_data { IsKnownIfFixed (made_table 32 1 ∷ []) 24 (fixed [] 15) → ⊥ }
     ensures in_chain { EveryPlaced (IsKnownIfFixed (further_tables two_tables)) 24
         (chunks_of two_tables) }
     ensures with_a_callers { EveryPlaced (IsKnownIfFixed (further_tables behind_chunk)) 24

@@ -6,12 +6,12 @@ ghost use Rattle.heap_model.specs.Chunk.{free, movable, fixed, seen};
 ghost use Rattle.heap_model.specs.Slots.{further_tables, slots_of};
 ghost use Rattle.heap_model.specs.Reading.{chunk_at, chunks_of, held, area_tests, is_accepted};
 ghost use Rattle.heap_model.specs.Space.{place_of};
-ghost use Rattle.test_chains.specs.ChainedImages.{table, two_tables, empty_tables, three_tables, behind_chunk, cycle, stray_table};
+ghost use Rattle.test_chains.specs.ChainedImages.{made_table, two_tables, empty_tables, three_tables, behind_chunk, cycle, stray_table};
 
 /// A table, and a chunk in its slot. The table has no name.
 fn two_tables_are_read()
     ensures accepted { is_accepted two_tables ≡ true }
-    ensures further { further_tables two_tables ≡ table 32 1 ∷ [] }
+    ensures further { further_tables two_tables ≡ made_table 32 1 ∷ [] }
     ensures slots { slots_of two_tables ≡ 16 ∷ 36 ∷ [] }
     ensures chunks { chunks_of two_tables
         ≡ fixed (replicate 8 0) 0 ∷ movable (0x41 ∷ 0x42 ∷ 0x43 ∷ 0x44 ∷ []) 0 1 36 ∷ free 8 ∷ [] }
@@ -25,7 +25,7 @@ fn two_tables_are_read()
 /// Slots have the order of the chain, not that of the offsets.
 fn three_tables_are_read()
     ensures accepted { is_accepted three_tables ≡ true }
-    ensures further { further_tables three_tables ≡ table 56 1 ∷ table 32 1 ∷ [] }
+    ensures further { further_tables three_tables ≡ made_table 56 1 ∷ made_table 32 1 ∷ [] }
     ensures slots { slots_of three_tables ≡ 16 ∷ 60 ∷ 36 ∷ [] }
     ensures held { held three_tables 60 ≡ Some (record { bytes = []; lock = 0; owner = 1 }) }
     ensures place { place_of three_tables 60 ≡ Some 48 }
@@ -36,7 +36,7 @@ fn three_tables_are_read()
 /// A table need not be the first chunk. Its slack is no slot.
 fn table_after_a_chunk_is_read()
     ensures accepted { is_accepted behind_chunk ≡ true }
-    ensures further { further_tables behind_chunk ≡ table 40 2 ∷ [] }
+    ensures further { further_tables behind_chunk ≡ made_table 40 2 ∷ [] }
     ensures slots { slots_of behind_chunk ≡ 16 ∷ 44 ∷ 48 ∷ [] }
     ensures chunks { chunks_of behind_chunk
         ≡ movable [] 0 1 16 ∷ fixed (replicate 12 0) 0 ∷ fixed [] 1 ∷ [] }
@@ -50,7 +50,7 @@ fn cycle_is_read()
     ensures refused { is_accepted cycle ≡ false }
     ensures chain_alone { area_tests cycle
         ≡ true ∷ false ∷ true ∷ true ∷ true ∷ true ∷ [] }
-    ensures further { take 3 (further_tables cycle) ≡ table 32 1 ∷ table 48 1 ∷ table 32 1 ∷ [] }
+    ensures further { take 3 (further_tables cycle) ≡ made_table 32 1 ∷ made_table 48 1 ∷ made_table 32 1 ∷ [] }
     ensures ends { length (further_tables cycle) ≡ 64 }
     ensures slots { take 4 (slots_of cycle) ≡ 16 ∷ 36 ∷ 52 ∷ 36 ∷ [] }
 {}

@@ -3,7 +3,7 @@
 
 use crate::samples::{MIXED_FILE, changed, documented, listed, rewritten};
 use file_commands::{cmd_canonical_from, cmd_list_from};
-use json_documents::cmd_list_json_from;
+use json_documents::cmd_list_json;
 use palm_text::Counted;
 use program_io::Status;
 use std::alloc::Global;
@@ -45,7 +45,7 @@ fn refused_memory_prints_no_document(rt: HostRuntime) -> Result<(), Fail> {
     for granted in 0..100 {
         let memory = RefusesOne::behind(rt.alloc(), granted);
         let mut out = Counted::new(Vec::new(rt.alloc()));
-        let status = cmd_list_json_from(&memory, &file, &mut out);
+        let status = cmd_list_json(&memory, &file, &mut out);
         if !memory.has_refused() {
             holds(granted, granted > 10)?;
             return equal(granted, status, Status::Done);
@@ -124,14 +124,15 @@ fn check_form_cuts(alloc: Global, file: &[u8]) -> Result<(), Fail> {
     Ok(())
 }
 
-/// A file that stays the same is not copied: the allocations are a set of IDs, and the IDs.
+/// A file that stays the same is not copied: the allocations are its sorted offsets, the places of
+/// its blocks, a set of IDs, and the IDs.
 #[test]
 fn a_canonical_file_takes_little_memory(rt: HostRuntime) -> Result<(), Fail> {
     let file = bytes_of(rt.alloc(), TINY_FILE)?;
     if file.len() > MOST_BROKEN {
         return Ok(());
     }
-    let memory = RefusesOne::behind(rt.alloc(), 2);
+    let memory = RefusesOne::behind(rt.alloc(), 4);
     let mut file_out = Counted::new(Vec::new(rt.alloc()));
     let mut out = Counted::new(Vec::new(rt.alloc()));
     let status = cmd_canonical_from(&memory, &file, &mut file_out, &mut out);
@@ -172,7 +173,7 @@ fn check_document_cuts(alloc: Global, file: &[u8]) -> Result<(), Fail> {
     }
     for room in 0..text.len() {
         let mut out = Counted::new(Narrow::new(alloc, room, 5, WhenFull::TakesNothing));
-        let status = cmd_list_json_from(&alloc, file, &mut out);
+        let status = cmd_list_json(&alloc, file, &mut out);
         equal(room, status, Status::WriteFault)?;
         let narrow = out.into_inner();
         holds(room, narrow.is_cut_at(room))?;
@@ -192,7 +193,7 @@ fn flushes_that_fail(rt: HostRuntime) -> Result<(), Fail> {
     let status = cmd_list_from(&rt.alloc(), &file, &mut out);
     equal("list", status, Status::WriteFault)?;
     let mut out = Counted::new(Unflushed(Vec::new(rt.alloc())));
-    let status = cmd_list_json_from(&rt.alloc(), &file, &mut out);
+    let status = cmd_list_json(&rt.alloc(), &file, &mut out);
     equal("list --json", status, Status::WriteFault)?;
     let mut file_out = Counted::new(Unflushed(Vec::new(rt.alloc())));
     let mut out = Counted::new(Vec::new(rt.alloc()));

@@ -1,14 +1,13 @@
 //! Documents of files, and of damaged ones.
 
 use crate::samples::{MEMO_FILE, MIXED_FILE, changed, documented};
-use code_page::put_text;
-use json_text::{JsonPiece, put_json};
 use palm_text::Counted;
 use program_io::Status;
 use std::alloc::Global;
 use std::str;
 use std::test::*;
 use test_support::{EMPTY_FILE, EMPTY_WRITTEN, ORDER_FILE, TINY_FILE, bytes_of, equal, holds};
+use unicode_text::{JsonPiece, put_json, put_text};
 
 const EMPTY_DOCUMENT: &str = "\
     {\"size\":78,\"name\":\"Empty\",\"name_hex\":\"456d707479\",\"attributes\":0,\"version\":0,\

@@ -31,10 +31,10 @@ fn folder_of(alloc: Global, file: &[u8]) -> Result<Option<Folder>, Fail> {
         return Ok(None);
     };
     let mut text = Counted::new(Vec::new(alloc));
-    let _ = put_database(&mut text, file, &unpacked);
+    let _ = put_database(&mut text, &unpacked);
     let mut parts = Vec::new(alloc);
     for rank in 0..unpacked.rank_count() {
-        let bytes = match unpacked.part(file, rank) {
+        let bytes = match unpacked.part(rank) {
             Some(part) => Vec::from_slice(alloc, part.bytes)?,
             None => Vec::new(alloc),
         };

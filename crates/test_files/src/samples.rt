@@ -54,7 +54,7 @@ pub(crate) fn documented(alloc: Global, file: &[u8]) -> Result<(Status, Vec<u8>)
         return Err("a file that is too long")?;
     }
     let mut out = Counted::new(Vec::new(alloc));
-    let status = cmd_list_json(alloc, file, &mut out);
+    let status = cmd_list_json(&alloc, file, &mut out);
     Ok((status, out.into_inner()))
 }
 

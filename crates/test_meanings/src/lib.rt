@@ -11,6 +11,8 @@ mod faulty_lines;
 #[cfg(test)]
 mod imports;
 #[cfg(test)]
+mod line_ends;
+#[cfg(test)]
 mod lookalikes;
 #[cfg(test)]
 mod names;

@@ -2,13 +2,13 @@
 //! fails after each byte, and a flush fails.
 
 use crate::stores::image_of;
-use image_commands::cmd_check_json_from;
+use image_commands::cmd_check_json;
 use palm_text::Counted;
 use program_io::Status;
 use std::alloc::Global;
 use std::io::{ErrorKind, Write};
 use std::test::*;
-use store_commands::cmd_databases_json_from;
+use store_commands::cmd_databases_json;
 use test_support::{Narrow, ORDER_FILE, RefusesOne, TINY_FILE, Unflushed, WhenFull, equal, holds};
 
 /// A command that prints a document of an image.
@@ -30,8 +30,8 @@ fn run_on<V: Write>(
     out: &mut Counted<V>,
 ) -> Status {
     match command {
-        Command::Check => cmd_check_json_from(memory, image, out),
-        Command::Databases => cmd_databases_json_from(memory, image, out),
+        Command::Check => cmd_check_json(memory, image, out),
+        Command::Databases => cmd_databases_json(memory, image, out),
     }
 }
 

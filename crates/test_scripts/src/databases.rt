@@ -174,7 +174,7 @@ static RUNS: [(&str, &str); 8] = [
 const NOTES: Db = Db(16);
 
 /// Calls on it, of which the last deletes it.
-const CALLS: [Call; 5] = [
+const DATABASE_CALLS: [Call; 5] = [
     Call::Database(DatabaseCall::Nth(0)),
     Call::Database(DatabaseCall::Count),
     Call::Database(DatabaseCall::Info(NOTES)),
@@ -198,7 +198,12 @@ fn calls_on_databases_are_answered(rt: HostRuntime) -> Result<(), Fail> {
         0], length: 5 }, attributes: 0, version: 0, creation_date: 3, modification_date: 3, backup_date: 0, \
         modification_number: 0, kind: 1, creator: 2, seed: 0, entry_count: 0 }); Refused(NoSuchDatabase); Done; \
         Refused(NoSuchDatabase); ";
-    check_calls(rt.alloc(), &mut store, &[&front, &CALLS, &behind], said)?;
+    check_calls(
+        rt.alloc(),
+        &mut store,
+        &[&front, &DATABASE_CALLS, &behind],
+        said,
+    )?;
     equal("databases", store.summary().databases, 0)
 }
 

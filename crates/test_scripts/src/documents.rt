@@ -89,7 +89,7 @@ static CHECKS: [(&str, Status, &str); 3] = [
 
 fn checked_json(alloc: Global, image: &[u8]) -> (Status, Vec<u8>) {
     let mut out = Counted::new(Vec::new(alloc));
-    let status = cmd_check_json(alloc, image, &mut out);
+    let status = cmd_check_json(&alloc, image, &mut out);
     (status, out.into_inner())
 }
 
@@ -135,7 +135,7 @@ fn documents_have_the_counts_of_texts(rt: HostRuntime) -> Result<(), Fail> {
 
 fn databases_json(alloc: Global, image: &[u8]) -> (Status, Vec<u8>) {
     let mut out = Counted::new(Vec::new(alloc));
-    let status = cmd_databases_json(alloc, image, &mut out);
+    let status = cmd_databases_json(&alloc, image, &mut out);
     (status, out.into_inner())
 }
 

@@ -21,6 +21,8 @@ mod files;
 #[cfg(test)]
 mod files_in_scripts;
 #[cfg(test)]
+mod flushes;
+#[cfg(test)]
 mod giving;
 #[cfg(test)]
 mod grammar;

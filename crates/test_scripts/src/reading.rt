@@ -19,7 +19,7 @@ enum Outcome {
 fn outcome_of(read: Result<Vec<u8>, InputFault>) -> Outcome {
     match read {
         Ok(bytes) => Outcome::Bytes(bytes.len()),
-        Err(InputFault::Read(_)) => Outcome::ReadFault,
+        Err(InputFault::Open(_) | InputFault::Read(_)) => Outcome::ReadFault,
         Err(InputFault::TooLong) => Outcome::TooLong,
         Err(InputFault::Memory) => Outcome::NoMemory,
     }

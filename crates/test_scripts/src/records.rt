@@ -263,7 +263,7 @@ static RUNS: [(&str, &str); 11] = [
 const NOTES_OF_RECORDS: Db = Db(16);
 
 /// Calls on its records, and one on those of no database.
-const CALLS: [Call; 14] = [
+const RECORD_CALLS: [Call; 14] = [
     Call::Record(RecordCall::New {
         db: NOTES_OF_RECORDS,
         at: 9,
@@ -310,7 +310,7 @@ fn calls_on_records_are_answered(rt: HostRuntime) -> Result<(), Fail> {
         Refused(RecordBusy); Done; Named(Name(28)); Done; \
         Record(RecordInfo { attributes: 96, id: 1, data: Some(Name(24)) }); Done; Done; Done; \
         Record(RecordInfo { attributes: 192, id: 2, data: None }); Done; Refused(NoSuchDatabase); ";
-    check_calls(rt.alloc(), &mut store, &[&first, &CALLS], said)
+    check_calls(rt.alloc(), &mut store, &[&first, &RECORD_CALLS], said)
 }
 
 /// Calls of each kind on the database of a number.

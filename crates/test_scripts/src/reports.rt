@@ -55,7 +55,7 @@ fn check_input(alloc: Global, fault: InputFault, wanted: &str) -> Result<(), Fai
 #[test]
 fn a_file_that_is_not_read_is_named(rt: HostRuntime) -> Result<(), Fail> {
     let alloc = rt.alloc();
-    let denied = InputFault::Read(io::Error::from(ErrorKind::PermissionDenied));
+    let denied = InputFault::Open(io::Error::from(ErrorKind::PermissionDenied));
     check_input(alloc, denied, "fault read\na.img: permission denied\n")?;
     check_input(
         alloc,

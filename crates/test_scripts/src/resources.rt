@@ -278,7 +278,7 @@ const CODE: u32 = 0x636F_6465;
 const PROGRAM: Db = Db(16);
 
 /// Calls on its resources.
-const CALLS: [Call; 12] = [
+const RESOURCE_CALLS: [Call; 12] = [
     Call::Resource(ResourceCall::New {
         db: PROGRAM,
         kind: CODE,
@@ -338,5 +338,5 @@ fn calls_on_resources_are_answered(rt: HostRuntime) -> Result<(), Fail> {
         "Database(Db(16)); Made { index: 0, name: Name(24) }; Made { index: 1, name: Name(28) }; Number(2); \
         Number(1); Number(1); Done; Resource(ResourceInfo { kind: 1, id: 9, data: Name(24) }); Done; \
         Named(Name(24)); Number(1); Done; Refused(IndexOutOfRange); ";
-    check_calls(rt.alloc(), &mut store, &[&first, &CALLS], said)
+    check_calls(rt.alloc(), &mut store, &[&first, &RESOURCE_CALLS], said)
 }

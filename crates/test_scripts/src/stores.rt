@@ -8,10 +8,7 @@ use raw_region::Region;
 use std::alloc::Global;
 use std::str;
 use std::test::Fail;
-use store_commands::{
-    Ended, ExportedFile, ImageChoice, cmd_databases, cmd_databases_from, cmd_import,
-    cmd_import_from, export_files,
-};
+use store_commands::{Ended, ExportedFile, ImageChoice, cmd_databases, cmd_import, export_files};
 use test_support::{
     EMPTY_FILE, EMPTY_WRITTEN, Narrow, ORDER_FILE, ORDER_WRITTEN, RefusesOne, TINY_FILE, WhenFull,
     bytes_of, equal, holds,
@@ -45,7 +42,7 @@ fn files_of(alloc: Global, listings: &[&str]) -> Result<Vec<Bytes>, Fail> {
 fn import_on(alloc: Global, choice: ImageChoice, files: &[Bytes]) -> Told {
     let mut image = Counted::new(Vec::new(alloc));
     let mut out = Counted::new(Vec::new(alloc));
-    let ended = cmd_import(alloc, choice, files, &mut image, &mut out);
+    let ended = cmd_import(&alloc, choice, files, &mut image, &mut out);
     Told {
         ended,
         image: image.into_inner(),
@@ -187,7 +184,7 @@ fn databases_are_listed(rt: HostRuntime) -> Result<(), Fail> {
         &[TINY_FILE, ORDER_FILE, CAFE_DATABASE, EMPTY_FILE],
     )?;
     let mut out = Counted::new(Vec::new(rt.alloc()));
-    let status = cmd_databases(rt.alloc(), &image, &mut out);
+    let status = cmd_databases(&rt.alloc(), &image, &mut out);
     equal("status", status, Status::Done)?;
     equal(
         "lines",
@@ -208,8 +205,12 @@ fn check_file(alloc: Global, file: &ExportedFile, name: &str, listing: &str) -> 
     )
 }
 
-/// The files that come out of an image, all of them or those that words name.
-fn exported_of(alloc: Global, image: &[u8], words: &[&str]) -> Result<Vec<ExportedFile>, Fail> {
+/// What `export` returns for an image: all files or those that words name, or how it ended.
+fn export_of(
+    alloc: Global,
+    image: &[u8],
+    words: &[&str],
+) -> Result<Result<Vec<ExportedFile>, Ended>, Fail> {
     let mut names = Vec::new(alloc);
     for word in words {
         names.push(Bytes::of(word.as_bytes().to_vec(alloc)?))?;
@@ -219,7 +220,12 @@ fn exported_of(alloc: Global, image: &[u8], words: &[&str]) -> Result<Vec<Export
         Err(_) => return Err(Fail::new("memory")),
     };
     let mut out = Counted::new(Vec::new(alloc));
-    match export_files(&alloc, region, &names, &mut out) {
+    Ok(export_files(&alloc, region, &names, &mut out))
+}
+
+/// The files that come out of an image, all of them or those that words name.
+fn exported_of(alloc: Global, image: &[u8], words: &[&str]) -> Result<Vec<ExportedFile>, Fail> {
+    match export_of(alloc, image, words)? {
         Ok(files) => Ok(files),
         Err(ended) => Err(Fail::new(format_args!("{ended:?}"))),
     }
@@ -252,13 +258,47 @@ fn databases_come_out_as_files(rt: HostRuntime) -> Result<(), Fail> {
     Ok(())
 }
 
+/// A file without entries, whose name is `Café` in UTF-8.
+const CAFE_IN_UTF8: &str =
+    "436166c3a9 00*27 0000 0000 00*24 44415441 54657374 00000000 00000000 0000 0000";
+
+#[test]
+fn databases_are_named_in_utf_8(rt: HostRuntime) -> Result<(), Fail> {
+    let image = image_of(rt.alloc(), &[TINY_FILE, CAFE_DATABASE])?;
+    check_name(rt.alloc(), &image, "Café", "Caf%e9.pdb")?;
+    for word in ["Caf", "Cafe", "Café ", "CAFÉ"] {
+        let missing = Ended {
+            status: Status::Refused,
+            word: Some(0),
+        };
+        equal(
+            word,
+            export_of(rt.alloc(), &image, &[word])?.err(),
+            Some(missing),
+        )?;
+    }
+    // the name with these bytes comes first
+    let image = image_of(rt.alloc(), &[CAFE_DATABASE, CAFE_IN_UTF8])?;
+    check_name(rt.alloc(), &image, "Café", "Caf%c3%a9.pdb")
+}
+
+/// Checks that one file comes out under a word, and the name of this file.
+fn check_name(alloc: Global, image: &[u8], word: &str, wanted: &str) -> Result<(), Fail> {
+    let files = exported_of(alloc, image, &[word])?;
+    equal(word, files.len(), 1)?;
+    match files.first() {
+        Some(file) => equal(word, str::from_utf8(file.name.as_slice())?, wanted),
+        None => Err(Fail::new("no file")),
+    }
+}
+
 /// Checks what `import` wrote of the image and of its lines, if there is room for `image_room` and
 /// `room` bytes.
 fn check_room(alloc: Global, image_room: usize, room: usize, wanted: Status) -> Result<(), Fail> {
     let files = files_of(alloc, &[TINY_FILE, ORDER_FILE])?;
     let mut image = Counted::new(Narrow::new(alloc, image_room, 100, WhenFull::TakesNothing));
     let mut out = Counted::new(Narrow::new(alloc, room, 4, WhenFull::TakesNothing));
-    let ended = cmd_import(alloc, NOTHING_CHOSEN, &files, &mut image, &mut out);
+    let ended = cmd_import(&alloc, NOTHING_CHOSEN, &files, &mut image, &mut out);
     let (image, out) = (image.into_inner(), out.into_inner());
     equal("status", ended.status, wanted)?;
     equal("image", image.taken.len(), image_room)?;
@@ -304,7 +344,7 @@ fn import_refused(alloc: Global, before: u32) -> Result<bool, Fail> {
     let memory = RefusesOne::behind(alloc, before);
     let mut image = Counted::new(Vec::new(alloc));
     let mut out = Counted::new(Vec::new(alloc));
-    let ended = cmd_import_from(&memory, NOTHING_CHOSEN, &files, &mut image, &mut out);
+    let ended = cmd_import(&memory, NOTHING_CHOSEN, &files, &mut image, &mut out);
     let is_empty = image.into_inner().is_empty() && out.into_inner().is_empty();
     check_memory(&memory, "import", ended.status, is_empty)
 }
@@ -312,7 +352,7 @@ fn import_refused(alloc: Global, before: u32) -> Result<bool, Fail> {
 fn databases_refused(alloc: Global, image: &[u8], before: u32) -> Result<bool, Fail> {
     let memory = RefusesOne::behind(alloc, before);
     let mut out = Counted::new(Vec::new(alloc));
-    let status = cmd_databases_from(&memory, image, &mut out);
+    let status = cmd_databases(&memory, image, &mut out);
     check_memory(&memory, "databases", status, out.into_inner().is_empty())
 }
 

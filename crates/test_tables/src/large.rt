@@ -96,7 +96,7 @@ fn a_table_has_millions_of_slots(rt: HostRuntime) -> Result<(), Fail> {
     let mut region = many_slots(rt.alloc())?;
     let right = [MOST_WITH_TABLES, LARGE_TABLE_SLOTS + 1, 1, 1, 0];
     equal("slots", counted(check_heap(&region)), Ok(right))?;
-    match check_store(rt.alloc(), &region) {
+    match check_store(&rt.alloc(), &region) {
         Ok(summary) => equal("databases", summary.databases, 0)?,
         Err(fault) => return Err(fault)?,
     }

@@ -98,7 +98,7 @@ fn check_row(
 ) -> Result<(), Fail> {
     let mut region = image(alloc, 256, &WORDS)?;
     put_words(&mut region, words)?;
-    let found = match check_store(alloc, &region) {
+    let found = match check_store(&alloc, &region) {
         Ok(summary) => Ok(summary.databases),
         Err(fault) => Err(fault),
     };

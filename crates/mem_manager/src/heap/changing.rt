@@ -1,8 +1,9 @@
 //! Calls that change a chunk in its place.
 #![tactic(auto, using(crate::proofs::Places::found_named, laws_heap::proofs::LentBodies::table_within))]
 
-ghost use Rattle.std.specs.Prelude.{◌≡◌, ◌≤◌, ◌<◌, OnErr};
+ghost use Rattle.std.specs.Prelude.{◌≡◌, ◌≤◌, ◌<◌, ℕ, OnErr};
 ghost use Rattle.heap_model.specs.MemorySteps.{Does};
+ghost use Rattle.heap_model.specs.Space.{place_of};
 ghost use Rattle.heap_model.specs.declared.call.MemoryCall.{MemoryCall};
 ghost use Rattle.mem_manager.specs.Replies.{done_or_refused, number_or_refused, lock_or_refused};
 
@@ -14,11 +15,11 @@ use crate::lookup::{
 use heap_model::{Name, Refusal};
 
 /// The maximum number of locks of a movable chunk.
-const MOST_LOCKS: u8 = 14;
+pub const MOST_LOCKS: u8 = 14;
 
 impl Heap {
     /// Locks a movable chunk once more, and returns its place and its new lock count. While the
-    /// lock count isn't 0, the chunk keeps its place.
+    /// lock count isn't 0, the chunk keeps its place. The lock itself moves no chunk.
     ///
     /// # Errors
     ///
@@ -28,6 +29,8 @@ impl Heap {
     pub fn lock(&mut self, name: Name) -> Result<Locked, Refusal>
         ensures does { Does self.old (MemoryCall.Lock name) (lock_or_refused result) self.new }
         ensures refused { OnErr result (self.new ≡ self.old) }
+        ensures unmoved { (other : ℕ)
+            → place_of self.new.bytes other ≡ place_of self.old.bytes other }
     {
         let found = find(&self.space, &self.known, name)?;
         check_movable(found)?;

@@ -1,7 +1,8 @@
 //! Calls of the memory manager that change a chunk at its place.
 
-ghost use Rattle.std.specs.Prelude.{◌≡◌, OnErr};
+ghost use Rattle.std.specs.Prelude.{◌≡◌, ℕ, OnErr};
 ghost use Rattle.heap_model.specs.MemorySteps.{reply_of};
+ghost use Rattle.heap_model.specs.Space.{place_of};
 ghost use Rattle.heap_model.specs.declared.call.MemoryCall.{MemoryCall};
 ghost use Rattle.heap_model.specs.declared.call.Reply.{Reply};
 ghost use Rattle.palm_store.specs.Replies.{DoesMemory, done_or_refused, number_or_refused};
@@ -12,7 +13,7 @@ use mem_manager::Locked;
 
 impl Store {
     /// Locks a movable chunk once more, up to 14 times, and returns its place and the new lock
-    /// count. While the count is not 0, the chunk keeps its place.
+    /// count. While the count is not 0, the chunk keeps its place. The lock itself moves no chunk.
     ///
     /// # Errors
     /// - `InvalidHandle`: if the name is neither a caller's chunk nor data of a database.
@@ -22,6 +23,8 @@ impl Store {
         ensures does { DoesMemory self.old (MemoryCall.Lock name)
             (reply_of (λ locked. Reply.Locked locked.place locked.count) result) self.new }
         ensures refused { OnErr result (self.new ≡ self.old) }
+        ensures unmoved { (other : ℕ)
+            → place_of self.new.bytes other ≡ place_of self.old.bytes other }
     {
         self.heap.lock(name)
     }

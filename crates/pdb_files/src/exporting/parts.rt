@@ -11,12 +11,10 @@ ghost use Rattle.pdb_format.specs.FileTexts.{header_text, entries_text, data_tex
 ghost use Rattle.pdb_files.specs.FileParts.{content_of, NamesReadableData, IsExportable, ArePlaces, file_entry};
 
 use crate::exporting::places::{Places, block, block_offset, block_size, find_places};
-use bitflags::Flags;
-use db_format::{
-    DbEntry, DbHeader, RecordAttrs, app_info, entry_count, entry_slot, has_resources, sort_info,
-};
+use db_format::{DbEntry, DbHeader, app_info, entry_count, entry_slot, has_resources, sort_info};
 use palm_store::Store;
 use palm_text::{Counted, WriteFault, put_all};
+use pdb_format::{FILLER, idle_entry_at};
 use std::io::Write;
 
 /// Writes the file of a database, given by its bytes.
@@ -32,7 +30,7 @@ pub(crate) fn put_file<W: Write>(
     let places = find_places(store, bytes);
     put_header(store, bytes, places, out)?;
     put_entries(store, bytes, places.data, out)?;
-    put_all(out, &[0, 0])?;
+    put_all(out, &FILLER)?;
     put_blocks(store, bytes, out)
 }
 
@@ -84,17 +82,7 @@ fn in_file(entry: DbEntry, at: u32) -> DbEntry
     ensures is { (chunks : ChunkMap) → entry_of result ≡ file_entry chunks at (entry_of entry) }
     ensures id { HasFittingId result }
 {
-    match entry {
-        DbEntry::Record(mut record) => {
-            record.attributes.remove(RecordAttrs::BUSY);
-            record.slot = block_offset(at, record.slot);
-            DbEntry::Record(record)
-        }
-        DbEntry::Resource(mut resource) => {
-            resource.slot = block_offset(at, resource.slot);
-            DbEntry::Resource(resource)
-        }
-    }
+    idle_entry_at(entry, block_offset(at, entry.slot()))
 }
 
 /// Writes the blocks.

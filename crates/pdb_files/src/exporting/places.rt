@@ -6,9 +6,10 @@ ghost use Rattle.heap_model.specs.Store.{bytes_named};
 ghost use Rattle.heap_model.specs.Files as files;
 ghost use Rattle.pdb_files.specs.FileParts.{block_under, content_of, MayBeRead, IsExportable, ArePlaces};
 
-use db_format::{app_info, entries_end, entry_count, entry_slot, has_resources, sort_info};
+use db_format::{app_info, entry_count, entry_slot, has_resources, sort_info};
 use heap_model::Name;
 use palm_store::Store;
+use pdb_format::first_place_after;
 
 /// The offsets of the info blocks in a file, 0 for an absent block, and the offset where the data
 /// of the entries begins.
@@ -50,13 +51,12 @@ pub(crate) fn block_offset(at: u32, slot: u32) -> u32
     if slot == 0 { 0 } else { at }
 }
 
-/// Returns the offset of the first block in the file of a database: after the entries and two
-/// bytes.
+/// Returns the offset of the first block in the file of a database.
 fn first_block(store: &Store, bytes: &[u8]) -> u32
     requires { IsExportable store.now bytes.now }
     ensures { result ≡ files.first_block (content_of store.now.bytes bytes.now) }
 {
-    (entries_end(bytes) + 2) as u32
+    first_place_after(has_resources(bytes), entry_count(bytes))
 }
 
 /// Finds the offsets of the blocks in the file of a database, given by its bytes.

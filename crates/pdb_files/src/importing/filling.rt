@@ -9,11 +9,16 @@ ghost use Rattle.pdb_files.specs.Filling.{AreFilled, AreOnce, Refills};
 
 use heap_model::Name;
 use palm_store::Store;
-use pdb_format::Block;
+use pdb_format::{Block, PdbFile};
 
 /// Fills the chunks of a file's blocks. They are zeros before, and each is under the name at the
 /// index of its block. The name of an absent block is `Name(0)`.
-pub(super) fn fill_blocks(store: &mut Store, file: &[u8], blocks: &[Option<Block>], names: &[Name])
+pub(super) fn fill_blocks(
+    store: &mut Store,
+    file: &PdbFile<'_>,
+    blocks: &[Option<Block>],
+    names: &[Name],
+)
     requires accepted { Accepted store.old.bytes }
     requires long { length names.now ≡ length blocks.now }
     requires inside { All (IsBlockWithin (length file.now)) blocks.now }
@@ -28,7 +33,7 @@ pub(super) fn fill_blocks(store: &mut Store, file: &[u8], blocks: &[Option<Block
 {
     for index in 0..names.len() {
         if let Some(block) = blocks[index] {
-            store.fill_data(names[index], &file[block.start..block.end]);
+            store.fill_data(names[index], file.bytes_of(block));
         }
     }
 }

@@ -1,56 +1,54 @@
 //! The plan for the database of a file, before any of it is made.
 
-ghost use Rattle.std.specs.Prelude.{◌≡◌, ◌<◌, ◌≤◌, ◌+◌, ◌↔◌, None, IsTrue, length, map, IfOk, OnErr, All, slice_index_or};
+ghost use Rattle.std.specs.Prelude.{◌≡◌, ◌<◌, ◌≤◌, ◌+◌, ◌^◌, ◌↔◌, None, IsTrue, length, IfOk, OnErr, All, slice_index_or};
 ghost use Rattle.heap_model.specs.Database.{entry_count_in, IsDatabaseName};
 ghost use Rattle.heap_model.specs.EntrySteps.{most_entries};
 ghost use Rattle.heap_model.specs.UniqueIds.{greatest_id};
-ghost use Rattle.heap_model.specs.Files.{HasNoFault, blocks_in, idle_attributes};
+ghost use Rattle.heap_model.specs.Files.{blocks_in};
 ghost use Rattle.heap_model.specs.FileSteps.{size_of_block};
-ghost use Rattle.pdb_format.specs.Blocks.{bytes_at, IsBlockWithin};
+ghost use Rattle.pdb_format.specs.Blocks.{IsBlockWithin};
+ghost use Rattle.pdb_format.specs.Opened.{HasPlaces};
 ghost use Rattle.palm_store.specs.WholeDatabases.{header_asked};
 ghost use Rattle.pdb_format.specs.Blocks.{size_within};
 ghost use Rattle.pdb_format.specs.ReadFiles.{header_read, HasIdsFor};
 ghost use Rattle.pdb_files.specs.Plans.{IsShort, IsPlannedOf, ArePlannedOf, IsPlan};
 
 use allowance::{Allowance, push};
-use bitflags::Flags;
-use db_format::{DbEntry, DbHeader, INFO_BLOCKS, RecordAttrs, SEEDS, entry_count};
-use file_ids::give_ids_from;
+use db_format::{DbEntry, INFO_BLOCKS};
+use file_ids::give_ids;
 use heap_model::DbInfo;
 use palm_store::{BlockSizes, WholeEntry};
-use pdb_format::Block;
+use pdb_format::{Block, PdbFile, idle_attributes};
 use std::alloc::AllocError;
 
-/// The plan for the database of a file: the header, the sizes of the info blocks, the entries with
-/// the sizes of their data, and where the blocks are in the file.
+/// The plan for the database of a file: the header, the sizes of the info blocks, and the entries
+/// with the sizes of their data.
 #[derive(Drop)]
 pub(super) struct Plan {
     pub(super) info: DbInfo,
     pub(super) sizes: BlockSizes,
     pub(super) entries: Vec<WholeEntry>,
-    pub(super) blocks: Vec<Option<Block>>,
 }
 
-/// Reads the plan for the database of a file. The only error is a failed allocation.
+/// Reads the plan for the database of a file with blocks at these places. The only error is a
+/// failed allocation.
 pub(super) fn read_plan<A: Allowance>(
     memory: &A,
-    file: &[u8],
-    blocks: Vec<Option<Block>>,
+    file: &PdbFile<'_>,
+    blocks: &[Option<Block>],
 ) -> Result<Plan, AllocError>
-    requires good { HasNoFault file.now }
-    requires blocks { map (bytes_at file.now) blocks.items ≡ blocks_in file.now }
-    requires within { All (IsBlockWithin (length file.now)) blocks.items }
-    requires short { All IsShort blocks.items }
+    requires places { HasPlaces file.now blocks.now }
+    requires size { length file.now < 2 ^ 63 }
+    requires short { All IsShort blocks.now }
     ensures plan { IfOk result (IsPlan file.now) }
     ensures short { OnErr result (A.is_short memory.now) }
 {
-    let given = give_ids_from(memory, file)?;
-    let entries = plan_entries(memory, file, &blocks, &given.ids)?;
+    let given = give_ids(memory, file)?;
+    let entries = plan_entries(memory, file, blocks, &given.ids)?;
     Ok(Plan {
         info: header_of(file, given.seed),
-        sizes: sizes_of(&blocks),
+        sizes: sizes_of(blocks),
         entries,
-        blocks,
     })
 }
 
@@ -79,17 +77,14 @@ pub(super) fn are_short(blocks: &[Option<Block>]) -> bool
 }
 
 /// Returns the header of a file's database, with `seed` as the low 24 bits of its seed field.
-fn header_of(file: &[u8], seed: u32) -> DbInfo
-    requires good { HasNoFault file.now }
-    requires seed { seed ≤ greatest_id }
+fn header_of(file: &PdbFile<'_>, seed: u32) -> DbInfo
+    requires { seed ≤ greatest_id }
     ensures header { header_asked result ≡ header_read file.now seed }
     ensures entry_count { result.entry_count ≡ entry_count_in file.now }
     ensures few { result.entry_count ≤ most_entries }
     ensures name { IsDatabaseName result.name }
 {
-    let mut info = DbHeader::read(file).info();
-    info.seed = info.seed / SEEDS * SEEDS + seed;
-    info
+    file.header_with_seed(seed).info()
 }
 
 /// Returns how many bytes a block has, if there is one.
@@ -118,24 +113,17 @@ fn sizes_of(blocks: &[Option<Block>]) -> BlockSizes
     }
 }
 
-/// The attributes of a record that isn't busy.
-fn idle(attributes: RecordAttrs) -> u8
-    ensures { result ≡ idle_attributes attributes.0 }
-{
-    attributes.difference(RecordAttrs::BUSY).bits()
-}
-
 /// Plans an entry of a file. A record gets its ID from `ids`, and its data has this size.
-fn plan_entry(file: &[u8], index: u16, ids: &[u32], size: Option<u32>) -> WholeEntry
-    requires good { HasNoFault file.now }
+fn plan_entry(file: &PdbFile<'_>, index: u16, ids: &[u32], size: Option<u32>) -> WholeEntry
     requires inside { index < entry_count_in file.now }
     requires ids { HasIdsFor file.now ids.now }
     requires size { size ≡ size_of_block (slice_index_or (blocks_in file.now) (2 + index) None) }
     ensures { IsPlannedOf file.now ids.now index result }
 {
-    match DbEntry::read(file, index) {
+    let _ = file.bytes();
+    match file.entry(index) {
         DbEntry::Record(record) => WholeEntry::Record {
-            attributes: idle(record.attributes),
+            attributes: idle_attributes(record.attributes).0,
             id: ids[index as usize],
             size,
         },
@@ -150,13 +138,12 @@ fn plan_entry(file: &[u8], index: u16, ids: &[u32], size: Option<u32>) -> WholeE
 /// Plans the entries of a file, in their order.
 fn plan_entries<A: Allowance>(
     memory: &A,
-    file: &[u8],
+    file: &PdbFile<'_>,
     blocks: &[Option<Block>],
     ids: &[u32],
 ) -> Result<Vec<WholeEntry>, AllocError>
-    requires good { HasNoFault file.now }
-    requires blocks { map (bytes_at file.now) blocks.now ≡ blocks_in file.now }
-    requires within { All (IsBlockWithin (length file.now)) blocks.now }
+    requires places { HasPlaces file.now blocks.now }
+    requires size { length file.now < 2 ^ 63 }
     requires short { All IsShort blocks.now }
     requires ids { HasIdsFor file.now ids.now }
     ensures planned { IfOk result (λ entries.
@@ -164,7 +151,7 @@ fn plan_entries<A: Allowance>(
     ensures short { OnErr result (A.is_short memory.now) }
 {
     let mut entries = Vec::new(memory.allocator());
-    for index in 0..entry_count(file) {
+    for index in 0..file.entry_count() {
         let size = size_of(blocks[INFO_BLOCKS + index as usize]);
         push(memory, &mut entries, plan_entry(file, index, ids, size))?;
     }

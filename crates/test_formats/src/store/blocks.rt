@@ -1,6 +1,6 @@
 //! Where the blocks of files of databases stand.
 
-use pdb_format::{Block, check_file, find_blocks};
+use pdb_format::{Block, PdbFile};
 use std::alloc::Global;
 use std::test::*;
 use test_support::{ORDER_FILE, TINY_FILE, bytes_of, equal};
@@ -102,17 +102,12 @@ static BLOCKS: [(&str, &[Option<Block>]); 4] = [
     ),
 ];
 
-/// The blocks of a file without fault.
-fn blocks_of(alloc: Global, file: &[u8]) -> Result<Vec<Option<Block>>, Fail> {
-    match check_file(file) {
-        Ok(()) => Ok(find_blocks(alloc, file)?),
-        Err(_) => Err("a file with a fault")?,
-    }
-}
-
 fn check_blocks(alloc: Global, (listing, blocks): (&str, &[Option<Block>])) -> Result<(), Fail> {
-    let found = blocks_of(alloc, &bytes_of(alloc, listing)?)?;
-    equal(listing, found.as_slice(), blocks)
+    let bytes = bytes_of(alloc, listing)?;
+    let Ok(file) = PdbFile::open(&alloc, &bytes) else {
+        return Err("a file with a fault")?;
+    };
+    equal(listing, file.blocks(), blocks)
 }
 
 #[test]

@@ -4,7 +4,7 @@ use crate::store::blocks::BACKWARD;
 use allowance::Allowance;
 use canonical_file::{CanonicalFault, canonical_bytes};
 use heap_model::FileFault;
-use pdb_format::check_file;
+use pdb_format::{OpenFault, PdbFile};
 use std::alloc::Global;
 use std::test::*;
 use test_support::{
@@ -38,12 +38,13 @@ fn form_of<A: Allowance>(memory: &A, file: &[u8]) -> Option<Result<Vec<u8>, Cano
     if file.len() > MOST_FILE {
         return None;
     }
-    if let Err(fault) = check_file(file) {
-        return Some(Err(CanonicalFault::BadFile(fault)));
-    }
-    match canonical_bytes(memory, file) {
-        Ok(form) => Some(Ok(form)),
-        Err(_) => Some(Err(CanonicalFault::OutOfMemory)),
+    match PdbFile::open(memory, file) {
+        Ok(file) => match canonical_bytes(memory, &file) {
+            Ok(form) => Some(Ok(form)),
+            Err(_) => Some(Err(CanonicalFault::OutOfMemory)),
+        },
+        Err(OpenFault::BadFile(fault)) => Some(Err(CanonicalFault::BadFile(fault))),
+        Err(OpenFault::OutOfMemory) => Some(Err(CanonicalFault::OutOfMemory)),
     }
 }
 

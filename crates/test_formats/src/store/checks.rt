@@ -8,7 +8,7 @@ use test_support::{ONE_DATABASE, equal, image};
 
 fn check_case(alloc: Global, listing: &str, changes: &str, text: &str) -> Result<(), Fail> {
     let region = image(alloc, listing, changes)?;
-    let found = text_of(alloc, check_store(alloc, &region))?;
+    let found = text_of(alloc, check_store(&alloc, &region))?;
     equal(
         format_args!("{listing}, changed: {changes}"),
         found.as_str(),

@@ -1,8 +1,8 @@
 //! The IDs that the records of files are given, with some seeds and IDs in the files.
 
 use crate::store::ids::{database, header_of, nth_behind};
-use file_ids::{GivenIds, give_ids, give_ids_from};
-use pdb_format::check_file;
+use file_ids::{GivenIds, give_ids};
+use pdb_format::PdbFile;
 use std::alloc::{AllocError, Global};
 use std::test::*;
 use test_support::{RefusesOne, equal};
@@ -21,8 +21,8 @@ fn file_of(alloc: Global, seed: u32, ids: &[u32]) -> Result<Vec<u8>, AllocError>
 
 /// What is given to the records of a file without fault.
 fn given_by(alloc: Global, file: &[u8]) -> Option<GivenIds> {
-    match check_file(file) {
-        Ok(()) => give_ids(alloc, file).ok(),
+    match PdbFile::open(&alloc, file) {
+        Ok(file) => give_ids(&alloc, &file).ok(),
         Err(_) => None,
     }
 }
@@ -148,8 +148,8 @@ fn resources_are_given_none(rt: HostRuntime) -> Result<(), Fail> {
 /// Whether IDs are given if this number of allocations is granted.
 fn is_given(alloc: Global, file: &[u8], granted: u32) -> bool {
     let memory = RefusesOne::behind(alloc, granted);
-    match check_file(file) {
-        Ok(()) => give_ids_from(&memory, file).is_ok(),
+    match PdbFile::open(&alloc, file) {
+        Ok(file) => give_ids(&memory, &file).is_ok(),
         Err(_) => false,
     }
 }

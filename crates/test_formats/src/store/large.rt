@@ -119,7 +119,7 @@ fn check_found(alloc: Global, mut region: Region, row: (&[(u32, u32)], &str)) ->
 {
     let (changes, text) = row;
     change(&mut region, changes)?;
-    let found = text_of(alloc, check_store(alloc, &region))?;
+    let found = text_of(alloc, check_store(&alloc, &region))?;
     equal(format_args!("{changes:?}"), found.as_str(), text)
 }
 

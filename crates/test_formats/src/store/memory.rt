@@ -6,7 +6,7 @@ use crate::store::found::text_of;
 use raw_region::Region;
 use std::alloc::{AllocError, Global};
 use std::test::*;
-use store_check::check_store_from;
+use store_check::check_store;
 use test_support::{ONE_DATABASE, RefusesOne, equal, image};
 
 /// The number of allocations that are granted, changes of the image, and what is found: marks for
@@ -29,7 +29,7 @@ fn found_with(alloc: Global, granted: u32, region: &Region) -> Result<String, Al
     requires { region.now.lents ≡ [] }
 {
     let memory = RefusesOne::behind(alloc, granted);
-    let found = check_store_from(&memory, region);
+    let found = check_store(&memory, region);
     text_of(alloc, found)
 }
 

@@ -8,20 +8,20 @@ use Rattle.canonical_file.proofs.blocks.append_blocks.Goals as goal
 
 pub append-requires : goal.append-requires
 append-requires c =
-    let inside : c.loop-index.index < length c.args.blocks.now = search rules in
+    let inside : c.loop-index.index < length c.blocks-blocks.result.now = search rules in
     let file = c.args.file.now in
-    let parts = block_here file c.args.blocks.now c.loop-index.index c.block_bytes.result.now c.requires.blocks inside c.block_bytes.ensures in
+    let parts = block_here file c.blocks-blocks.result.now c.loop-index.index c.block_bytes.result.now c.blocks-blocks.ensures.places inside c.block_bytes.ensures in
     let old = c.loop-index.invariant.capacity in
-    let room = c.requires.room in
+    let room = c.requires in
     room_left (vec_len c.loop-index.bytes) _ (vec_capacity c.loop-index.bytes) c.block_bytes.result.now _ _ parts c.loop-index.invariant.len (omega arith)
 
 pub loop-index-preserved : goal.loop-index-preserved
 loop-index-preserved c =
-    let inside : c.loop-index.index < length c.args.blocks.now = search rules in
+    let inside : c.loop-index.index < length c.blocks-blocks.result.now = search rules in
     let file = c.args.file.now in
     let more = c.block_bytes.result.now in
     let behind = all_bytes (drop (c.loop-index.index + 1) (blocks_in file)) in
-    let parts = block_here file c.args.blocks.now c.loop-index.index more c.requires.blocks inside c.block_bytes.ensures in
+    let parts = block_here file c.blocks-blocks.result.now c.loop-index.index more c.blocks-blocks.ensures.places inside c.block_bytes.ensures in
     let len = length_more (vec_len c.loop-index.bytes) _ more _ _ parts c.loop-index.invariant.len in
     let long = c.append.ensures.len in
     let kept = c.append.ensures.capacity in
@@ -34,7 +34,7 @@ loop-index-preserved c =
 
 pub returns : goal.returns
 returns c =
-    let count = same_count c.args.file.now c.args.blocks.now c.requires.blocks in
+    let count = same_count c.args.file.now c.blocks-blocks.result.now c.blocks-blocks.ensures.places in
     let past : length (blocks_in c.args.file.now) ≤ c.loop-index.index = omega arith in
     sym (append-nil c.loop-index.bytes.items)
     ∙ ap (λ (xs : List ℕ). c.loop-index.bytes.items ++ xs) (sym (ap all_bytes (drop_all c.loop-index.index (blocks_in c.args.file.now) past)))

@@ -16,10 +16,10 @@ returns-in-Err g c =
 
 pub loop-index-preserved : goal.loop-index-preserved
 loop-index-preserved g c =
-    let inside : c.loop-index.index < length c.args.blocks.now = search rules in
+    let inside : c.loop-index.index < length c.blocks-blocks.result.now = search rules in
     let file = c.args.file.now in
     let rest = all_bytes (drop (c.loop-index.index + 1) (blocks_in file)) in
-    let parts = block_here file c.args.blocks.now c.loop-index.index _ c.requires inside refl in
+    let parts = block_here file c.blocks-blocks.result.now c.loop-index.index _ c.blocks-blocks.ensures.places inside refl in
     record {
       within = c.in-Ok.ensures.within;
       text = λ new ok w.

@@ -1,13 +1,8 @@
-use Rattle.std.proofs.Common.{◌≡◌, ℕ, None, List, [], ◌∷◌, ◌++◌, length, sym, ap, ◌∙◌, arith, append_assoc}
-use Rattle.std.proofs.lemmas.List.Sums.{get_or-le-sum_by}
+use Rattle.std.proofs.Common.{◌≡◌, ℕ, List, [], ◌∷◌, ◌++◌, length, sym, ap, ◌∙◌, arith, append_assoc}
 use Rattle.heap_model.specs.Files.{blocks_in}
-use Rattle.pdb_format.specs.Blocks.{length_within}
 use Rattle.pdb_format.specs.FileTexts.{header_text, entries_text}
 use Rattle.pdb_format.specs.ReadFiles.{entries_read, database_read}
-use Rattle.pdb_format.proofs.FileBlocks.{length-blocks}
-use Rattle.pdb_format.proofs.GoodFiles.{not_truncated}
 use Rattle.pdb_format.proofs.WrittenOffsets.{all_bytes}
-use Rattle.canonical_file.proofs.Headers.{data_place_is}
 use Rattle.canonical_file.proofs.Lengths.{header_long, entries_read_long, parts_read}
 use Rattle.canonical_file.proofs.canonical.append_head.Goals as goal
 
@@ -16,22 +11,10 @@ append-requires c =
     let file = c.args.file.now in
     let ids = c.args.given.now.ids.items in
     let seed = c.args.given.now.seed in
-    let head = ap length (c.header_bytes.ensures ids) ∙ header_long file ids seed c.requires.blocks.good in
+    let head = ap length (c.header_bytes.ensures ids) ∙ header_long file ids seed c.bytes.ensures.good in
     let entries = entries_read_long file ids 0 in
     let none = c.requires.none in
     let room = c.requires.room in
-    omega arith
-
-pub append_entries-requires-clause-short : goal.append_entries-requires-clause-short
-append_entries-requires-clause-short c =
-    let blocks = c.args.blocks.now in
-    let count = length-blocks c.args.file.now blocks c.requires.blocks.are in
-    let app = get_or-le-sum_by length_within blocks 0 None (omega arith) in
-    let sort = get_or-le-sum_by length_within blocks 1 None (omega arith) in
-    let end = (not_truncated c.args.file.now c.requires.blocks.good).1 in
-    let total = c.requires.blocks.total in
-    let short = c.requires.blocks.short in
-    let place = c.data_start.ensures in
     omega arith
 
 pub append_entries-requires-clause-room : goal.append_entries-requires-clause-room
@@ -39,7 +22,7 @@ append_entries-requires-clause-room c =
     let file = c.args.file.now in
     let ids = c.args.given.now.ids.items in
     let seed = c.args.given.now.seed in
-    let head = ap length (c.header_bytes.ensures ids) ∙ header_long file ids seed c.requires.blocks.good in
+    let head = ap length (c.header_bytes.ensures ids) ∙ header_long file ids seed c.bytes.ensures.good in
     let entries = entries_read_long file c.deref.result.now c.data_start.result in
     let none = c.requires.none in
     let room = c.requires.room in
@@ -52,7 +35,7 @@ append-requires-2 c =
     let file = c.args.file.now in
     let ids = c.args.given.now.ids.items in
     let seed = c.args.given.now.seed in
-    let head = ap length (c.header_bytes.ensures ids) ∙ header_long file ids seed c.requires.blocks.good in
+    let head = ap length (c.header_bytes.ensures ids) ∙ header_long file ids seed c.bytes.ensures.good in
     let entries = entries_read_long file c.deref.result.now c.data_start.result in
     let none = c.requires.none in
     let room = c.requires.room in
@@ -67,7 +50,7 @@ returns-clause-len c =
     let file = c.args.file.now in
     let ids = c.args.given.now.ids.items in
     let seed = c.args.given.now.seed in
-    let head = ap length (c.header_bytes.ensures ids) ∙ header_long file ids seed c.requires.blocks.good in
+    let head = ap length (c.header_bytes.ensures ids) ∙ header_long file ids seed c.bytes.ensures.good in
     let entries = entries_read_long file c.deref.result.now c.data_start.result in
     let none = c.requires.none in
     let len = c.append.ensures.len in
@@ -86,7 +69,7 @@ returns-clause-items c =
     let file = c.args.file.now in
     let ids = c.args.given.now.ids.items in
     let seed = c.args.given.now.seed in
-    let place = c.data_start.ensures ∙ sym (data_place_is file ids seed c.args.blocks.now c.requires.blocks) in
+    let place = c.data_start.ensures.is ids seed in
     let entries = ap (λ (given : List ℕ). entries_text c.data_start.result (entries_read file given)) c.deref.ensures.value
     ∙ ap (λ (at : ℕ). entries_text at (entries_read file ids)) place in
     joined c.args.bytes.now.items c.append.new.bytes.items c.append_entries.new.bytes.items c.append-2.new.bytes.items c.header_bytes.result

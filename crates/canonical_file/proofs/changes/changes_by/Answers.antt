@@ -1,21 +1,15 @@
-use Rattle.std.proofs.Common.{◌≡◌, ℕ, List, length, ap, ◌∙◌, subst, arith}
+use Rattle.std.proofs.Common.{◌≡◌, ℕ, List, length, ap, ◌∙◌, subst}
 use Rattle.std.specs.Prelude.{◌↔◌, IsTrue}
 use Rattle.heap_model.specs.Database.{database_in}
 use Rattle.heap_model.specs.Store.{unique_ids}
-use Rattle.pdb_format.proofs.GoodFiles.{not_truncated}
-use Rattle.canonical_file.specs.Changes.{HasFiller, IsInOrder}
+use Rattle.canonical_file.specs.Changes.{HasPlainFiller, IsInOrder}
 use Rattle.canonical_file.proofs.Given.{ids_long, says_not, says_ids}
 use Rattle.canonical_file.proofs.Canonicals.{are_changes, same_form, says_name}
 use Rattle.canonical_file.proofs.changes.changes_by.Goals as goal
 
-pub keeps_ids-requires-clause-count : goal.keeps_ids-requires-clause-count
-keeps_ids-requires-clause-count c =
+pub keeps_ids-requires : goal.keeps_ids-requires
+keeps_ids-requires c =
     ap (λ (xs : List ℕ). length xs) c.deref.ensures.value ∙ ids_long c.args.file.now c.args.given.now.ids.items c.args.given.now.seed c.requires.given
-
-pub has_name-requires : goal.has_name-requires
-has_name-requires c =
-    let header = (not_truncated c.args.file.now c.requires.good).0 in
-    omega arith
 
 pub returns-clause-changes : goal.returns-clause-changes
 returns-clause-changes c =
@@ -23,13 +17,13 @@ returns-clause-changes c =
     let ids = c.args.given.now.ids.items in
     let seed = c.args.given.now.seed in
     let kept = subst (λ (xs : List ℕ). IsTrue c.keeps_ids.result ↔ (xs ≡ unique_ids (database_in file))) c.deref.ensures.value c.keeps_ids.ensures in
-    are_changes file ids seed _ c.know_bytes.ensures c.requires.short c.requires.good c.requires.given (record {
+    are_changes file ids seed _ c.bytes.ensures.numbers c.requires.short c.bytes.ensures.good c.requires.given (record {
       busy = c.has_busy.ensures;
-      filler = says_not c.has_filler.result (HasFiller file) c.has_filler.ensures;
-      ids = says_ids file ids seed c.keeps_ids.result c.requires.good c.requires.given kept;
-      name = says_name file c.has_name.result c.requires.good c.has_name.ensures;
+      filler = says_not c.has_filler.result (HasPlainFiller file) c.has_filler.ensures;
+      ids = says_ids file ids seed c.keeps_ids.result c.bytes.ensures.good c.requires.given kept;
+      name = says_name file c.has_name.result c.bytes.ensures.good c.has_name.ensures;
       order = says_not c.is_in_order.result (IsInOrder file) c.is_in_order.ensures;
     })
 
 pub returns-clause-same : goal.returns-clause-same
-returns-clause-same c = same_form c.args.file.now c.args.given.now.ids.items c.args.given.now.seed _ c.requires.good c.requires.given (returns-clause-changes c)
+returns-clause-same c = same_form c.args.file.now c.args.given.now.ids.items c.args.given.now.seed _ c.bytes.ensures.good c.requires.given (returns-clause-changes c)

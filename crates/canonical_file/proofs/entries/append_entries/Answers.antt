@@ -15,8 +15,10 @@ use Rattle.canonical_file.proofs.entries.append_entries.Goals as goal
 
 pub loop-index-init : goal.loop-index-init
 loop-index-init c =
-    let sum = sum_by-take-drop length_within c.args.blocks.now 2 in
+    let sum = sum_by-take-drop length_within c.blocks-blocks.result.now 2 in
     let all = c.requires.short in
+    let size = c.requires.size in
+    let total = c.blocks-blocks.ensures.places.total in
     record {
       short = omega arith;
       text = refl;
@@ -27,44 +29,44 @@ loop-index-init c =
 pub bounds-blocks-index : goal.bounds-blocks-index
 bounds-blocks-index c =
     let below : c.loop-index.index < entry_count_in c.args.file.now = omega arith in
-    let long = length-blocks c.args.file.now c.args.blocks.now c.requires.blocks.are in
+    let long = length-blocks c.args.file.now c.blocks-blocks.result.now c.blocks-blocks.ensures.places.are in
     omega arith
 
 pub entry_at-requires-clause-block : goal.entry_at-requires-clause-block
 entry_at-requires-clause-block c =
     let below : c.loop-index.index < entry_count_in c.args.file.now = omega arith in
-    let long = length-blocks c.args.file.now c.args.blocks.now c.requires.blocks.are in
-    block_of c.args.file.now c.args.blocks.now (2 + c.loop-index.index) c.requires.blocks.are (omega arith)
+    let long = length-blocks c.args.file.now c.blocks-blocks.result.now c.blocks-blocks.ensures.places.are in
+    block_of c.args.file.now c.blocks-blocks.result.now (2 + c.loop-index.index) c.blocks-blocks.ensures.places.are (omega arith)
 
 pub append-requires : goal.append-requires
 append-requires c =
     let file = c.args.file.now in
-    let blocks = c.args.blocks.now in
+    let blocks = c.blocks-blocks.result.now in
     let i = c.loop-index.index in
     let below : i < entry_count_in file = omega arith in
-    let long = length-blocks file blocks c.requires.blocks.are in
-    let is_block = block_of file blocks (2 + i) c.requires.blocks.are (omega arith) in
+    let long = length-blocks file blocks c.blocks-blocks.ensures.places.are in
+    let is_block = block_of file blocks (2 + i) c.blocks-blocks.ensures.places.are (omega arith) in
     let is = c.as_slice.ensures ∙ c.to_bytes.ensures.is ∙ ap entry_bytes c.entry_at.ensures.is in
-    let parts = entry_here file c.args.ids.now i c.loop-index.at (length_within (get_or blocks (2 + i) None)) c.as_slice.result.now _ below is is_block (block_long file (get_or blocks (2 + i) None) (c.requires.blocks.within (2 + i) None (omega arith))) in
+    let parts = entry_here file c.args.ids.now i c.loop-index.at (length_within (get_or blocks (2 + i) None)) c.as_slice.result.now _ below is is_block (block_long file (get_or blocks (2 + i) None) (c.blocks-blocks.ensures.places.within (2 + i) None (omega arith))) in
     let old = c.loop-index.invariant.capacity in
     let room = c.requires.room in
     room_left (vec_len c.loop-index.bytes) _ (vec_capacity c.loop-index.bytes) c.as_slice.result.now _ _ parts c.loop-index.invariant.len (omega arith)
 
 pub overflow_add-at : goal.overflow_add-at
 overflow_add-at c =
-    let blocks = c.args.blocks.now in
+    let blocks = c.blocks-blocks.result.now in
     let i = c.loop-index.index in
     let below : i < entry_count_in c.args.file.now = omega arith in
-    let long = length-blocks c.args.file.now blocks c.requires.blocks.are in
+    let long = length-blocks c.args.file.now blocks c.blocks-blocks.ensures.places.are in
     let more = sum_by-drop_more length_within blocks (2 + i) None (omega arith) in
     omega (arith, more, c.loop-index.invariant.short, c.block_length.ensures)
 
 pub overflow_cast-at : goal.overflow_cast-at
 overflow_cast-at c =
-    let blocks = c.args.blocks.now in
+    let blocks = c.blocks-blocks.result.now in
     let i = c.loop-index.index in
     let below : i < entry_count_in c.args.file.now = omega arith in
-    let long = length-blocks c.args.file.now blocks c.requires.blocks.are in
+    let long = length-blocks c.args.file.now blocks c.blocks-blocks.ensures.places.are in
     let more = sum_by-drop_more length_within blocks (2 + i) None (omega arith) in
     omega (arith, more, c.loop-index.invariant.short, c.block_length.ensures)
 
@@ -72,15 +74,15 @@ pub loop-index-preserved : goal.loop-index-preserved
 loop-index-preserved c =
     let file = c.args.file.now in
     let ids = c.args.ids.now in
-    let blocks = c.args.blocks.now in
+    let blocks = c.blocks-blocks.result.now in
     let i = c.loop-index.index in
     let at = c.loop-index.at in
     let size = c.block_length.result in
     let below : i < entry_count_in file = omega arith in
-    let long = length-blocks file blocks c.requires.blocks.are in
-    let is_block = block_of file blocks (2 + i) c.requires.blocks.are (omega arith) in
+    let long = length-blocks file blocks c.blocks-blocks.ensures.places.are in
+    let is_block = block_of file blocks (2 + i) c.blocks-blocks.ensures.places.are (omega arith) in
     let is = c.as_slice.ensures ∙ c.to_bytes.ensures.is ∙ ap entry_bytes c.entry_at.ensures.is in
-    let is_size = block_long file (get_or blocks (2 + i) None) (c.requires.blocks.within (2 + i) None (omega arith)) ∙ sym c.block_length.ensures in
+    let is_size = block_long file (get_or blocks (2 + i) None) (c.blocks-blocks.ensures.places.within (2 + i) None (omega arith)) ∙ sym c.block_length.ensures in
     let parts = entry_here file ids i at size c.as_slice.result.now _ below is is_block is_size in
     let behind = entries_text (at + size) (drop (i + 1) (entries_read file ids)) in
     let sum = sum_by-drop_more length_within blocks (2 + i) None (omega arith) in

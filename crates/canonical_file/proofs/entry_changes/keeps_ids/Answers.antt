@@ -9,13 +9,13 @@ use Rattle.canonical_file.proofs.entry_changes.keeps_ids.Goals as goal
 pub returns-then-has_resources : goal.returns-then-has_resources
 returns-then-has_resources c =
     let none = no_ids c.args.file.now (sym c.has_resources.ensures ∙ c.if-has_resources.true) in
-    let empty : length c.args.ids.now ≡ 0 = c.requires.count ∙ ap length none in
+    let empty : length c.args.ids.now ≡ 0 = c.requires ∙ ap length none in
     (λ _. nil_from_length c.args.ids.now empty ∙ sym none, λ _. refl)
 
 pub bounds-ids-index : goal.bounds-ids-index
 bounds-ids-index c =
     let count = id_count c.args.file.now (sym c.has_resources.ensures ∙ c.if-has_resources.false) in
-    let same = c.requires.count in
+    let same = c.requires in
     omega arith
 
 pub returns-then-ids-index : goal.returns-then-ids-index
@@ -39,5 +39,5 @@ pub returns : goal.returns
 returns c =
     let known : List ℕ = unique_ids (database_in c.args.file.now) in
     let count = id_count c.args.file.now (sym c.has_resources.ensures ∙ c.if-has_resources.false) in
-    let same = c.requires.count in
+    let same = c.requires in
     (λ _. ext_get_or 0 c.args.ids.now known same (λ k inside. c.loop-index.invariant k (omega arith)), λ _. refl)

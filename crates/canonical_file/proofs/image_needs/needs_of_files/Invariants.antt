@@ -5,7 +5,7 @@ use Rattle.canonical_file.specs.Needs.{enough, file_bytes, file_slots}
 use Rattle.canonical_file.proofs.image_needs.needs_of_files.Given as goal
 
 abbrev pub invariant-loop-index : goal.invariant-loop-index
-invariant-loop-index g l = record {
+invariant-loop-index l = record {
   bytes : l.bytes ≡ min enough (sum_by file_bytes (take l.index l.files));
   slots : l.slots ≡ min enough (sum_by file_slots (take l.index l.files));
 }

@@ -1,7 +1,7 @@
-use Rattle.std.proofs.Common.{◌≡◌, false, take}
-use Rattle.std.specs.List.{list_any}
-use Rattle.explanations.specs.Explained.{is_asked}
+use Rattle.std.proofs.Common.{◌≡◌, drop}
+use Rattle.explanations.specs.Explained.{is_among, rows_read}
 use Rattle.explanations.proofs.answers.is_among.Given as goal
 
+-- the word is none of the rows so far
 abbrev pub invariant-loop-row : goal.invariant-loop-row
-invariant-loop-row l = list_any (is_asked l.word) (take l.row-index l.rows) ≡ false
+invariant-loop-row l = is_among l.word (rows_read l.rows) ≡ is_among l.word (rows_read (drop l.row-index l.rows))

@@ -14,17 +14,17 @@ give_fresh-requires-clause-room c =
 
 pub returns-clause-given : goal.returns-clause-given
 returns-clause-given c =
-    subst (λ (seed : ℕ). HaveIds seed (unique_ids (database_in c.args.file.now)) c.give_fresh.new.ids c.give_fresh.result) c.first_seed.ensures
-    (both_passes c.first_seed.result (unique_ids (database_in c.args.file.now)) c.keep_ids.new.ids c.give_fresh.new.ids c.give_fresh.result c.keep_ids.ensures.kept
+    subst (λ (seed : ℕ). HaveIds seed (unique_ids (database_in c.args.file.now)) c.give_fresh.new.ids c.give_fresh.result) c.seed.ensures.is
+    (both_passes c.seed.result (unique_ids (database_in c.args.file.now)) c.keep_ids.new.ids c.give_fresh.new.ids c.give_fresh.result c.keep_ids.ensures.kept
     (c.give_fresh.ensures.given (kept_ids [] (unique_ids (database_in c.args.file.now))) c.keep_ids.ensures.taken))
 
 pub returns-clause-fit : goal.returns-clause-fit
 returns-clause-fit c =
-    given_fit (kept_ids [] (unique_ids (database_in c.args.file.now))) c.first_seed.result c.keep_ids.new.ids c.give_fresh.new.ids c.give_fresh.result (omega arith) c.keep_ids.ensures.most
+    given_fit (kept_ids [] (unique_ids (database_in c.args.file.now))) c.seed.result c.keep_ids.new.ids c.give_fresh.new.ids c.give_fresh.result (omega arith) c.keep_ids.ensures.most
     (c.give_fresh.ensures.given (kept_ids [] (unique_ids (database_in c.args.file.now))) c.keep_ids.ensures.taken)
 
 pub returns-clause-distinct : goal.returns-clause-distinct
 returns-clause-distinct c =
-    given_distinct c.first_seed.result (unique_ids (database_in c.args.file.now)) c.give_fresh.new.ids c.give_fresh.result
-    (both_passes c.first_seed.result (unique_ids (database_in c.args.file.now)) c.keep_ids.new.ids c.give_fresh.new.ids c.give_fresh.result c.keep_ids.ensures.kept
+    given_distinct c.seed.result (unique_ids (database_in c.args.file.now)) c.give_fresh.new.ids c.give_fresh.result
+    (both_passes c.seed.result (unique_ids (database_in c.args.file.now)) c.keep_ids.new.ids c.give_fresh.new.ids c.give_fresh.result c.keep_ids.ensures.kept
     (c.give_fresh.ensures.given (kept_ids [] (unique_ids (database_in c.args.file.now))) c.keep_ids.ensures.taken))

@@ -1,30 +1,15 @@
-use Rattle.std.proofs.Common.{◌++◌, List, ℕ, Option, None, get_or, ap, ◌∙◌, subst, arith}
+use Rattle.std.proofs.Common.{◌++◌, List, ℕ, Option, get_or, ap, ◌∙◌, subst}
 use Rattle.std.specs.Prelude.{codes, is_ok}
 use Rattle.heap_model.specs.Files.{offsets_in}
 use Rattle.palm_text.specs.Counted.{Writes}
 use Rattle.pdb_format.specs.Blocks.{bytes_at}
-use Rattle.pdb_format.proofs.FileBlocks.{length-blocks, block_of}
 use Rattle.file_listing.specs.Listing.{info_listing, place_text}
-use Rattle.file_listing.proofs.Infos.{sort_offset}
 use Rattle.file_listing.proofs.blocks.put_sort.Goals as goal
-
-pub bounds-blocks-1 : goal.bounds-blocks-1
-bounds-blocks-1 g c =
-    let long = length-blocks c.args.file.now c.args.blocks.now c.requires.are in
-    omega arith
-
-pub put_info-requires-clause-within : goal.put_info-requires-clause-within
-put_info-requires-clause-within g c =
-    let long = length-blocks c.args.file.now c.args.blocks.now c.requires.are in
-    c.requires.within 1 None (omega arith)
 
 pub returns : goal.returns
 unfolding info_listing
 returns g c =
     let file = c.args.file.now in
-    let blocks = c.args.blocks.now in
-    let long = length-blocks file blocks c.requires.are in
-    let found : Option (List ℕ) = bytes_at file (get_or blocks 1 None) in
-    let line = ap (λ (at : ℕ). codes "sort" ++ place_text at found) (c.sort_info.ensures ∙ sort_offset file)
-    ∙ ap (λ (block : Option (List ℕ)). codes "sort" ++ place_text (get_or (offsets_in file) 1 0) block) (block_of file blocks 1 c.requires.are (omega arith)) in
+    let line = ap (λ (at : ℕ). codes "sort" ++ place_text at (bytes_at file c.block.result)) c.offset.ensures.is
+    ∙ ap (λ (block : Option (List ℕ)). codes "sort" ++ place_text (get_or (offsets_in file) 1 0) block) c.block.ensures.is in
     subst (λ (text : List ℕ). Writes g.W.Write.contents c.args.out.now c.put_info.new.out text (is_ok c.put_info.result)) line c.put_info.ensures

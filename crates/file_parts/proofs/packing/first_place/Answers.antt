@@ -9,4 +9,4 @@ returns-clause-is c = λ parts.
     let items : List ListedEntry = c.args.listed.now.entries.items in
     let r : Bool = has_resources c.args.listed.now.header.attributes in
     let count = ap (λ (xs : List ListedEntry). length xs) c.as_slice.ensures.value ∙ sym (length-packed items parts) in
-    ap (λ (n : ℕ). n + 2) (c.entry_offset.ensures ∙ ap (λ (r : Bool). entry_offset r (length c.as_slice.result.now)) c.has_resources.ensures ∙ ap (entry_offset r) count)
+    c.first_place_after.ensures ∙ ap (λ (r : Bool). entry_offset r (length c.as_slice.result.now) + 2) c.has_resources.ensures ∙ ap (λ (n : ℕ). entry_offset r n + 2) count

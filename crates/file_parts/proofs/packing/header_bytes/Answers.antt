@@ -2,7 +2,8 @@ use Rattle.std.proofs.Common.{List, ℕ, Option, length, map, ap, ◌∙◌, sym
 use Rattle.heap_model.specs.Database.{Database}
 use Rattle.heap_model.specs.Files.{idle, idle_entry, with_offsets, first_block, block_offset}
 use Rattle.std.proofs.lemmas.List.{length-map}
-use Rattle.pdb_format.proofs.FileParts.{length-with_offsets, data_at}
+use Rattle.pdb_format.proofs.FileParts.{length-with_offsets}
+use Rattle.pdb_format.specs.FileTexts.{data_at}
 use Rattle.file_parts.specs.declared.entries.ListedEntry.{ListedEntry}
 use Rattle.file_parts.specs.Packing.{database_of_parts, part_at}
 use Rattle.file_parts.proofs.PackedEntries.{length-packed}

@@ -1,15 +1,12 @@
 use Rattle.std.proofs.Common.{arith, sym, ap, ◌∙◌}
 use Rattle.pdb_format.specs.Blocks.{bytes_at}
-use Rattle.pdb_format.proofs.FileBlocks.{block_of}
-use Rattle.canonical_file.proofs.BlockTexts.{same_count}
+use Rattle.pdb_format.proofs.FileBlocks.{block_count}
 use Rattle.file_parts.proofs.unpacked.part_of.Goals as goal
 
-pub bounds-blocks-rank : goal.bounds-blocks-rank
-bounds-blocks-rank c =
-    let count = same_count c.args.file.now c.args.blocks.now c.requires.blocks in
-    omega (arith, count, c.requires.inside)
+pub block-requires : goal.block-requires
+block-requires c =
+    let count = block_count c.args.file.now in
+    omega (arith, count, c.requires)
 
 pub returns-in-None : goal.returns-in-None
-returns-in-None c =
-    let count = same_count c.args.file.now c.args.blocks.now c.requires.blocks in
-    sym (block_of c.args.file.now c.args.blocks.now c.args.rank c.requires.blocks.are (omega (arith, count, c.requires.inside))) ∙ ap (bytes_at c.args.file.now) c.in-None.is
+returns-in-None c = sym c.block.ensures.is ∙ ap (bytes_at c.args.file.now) c.in-None.is

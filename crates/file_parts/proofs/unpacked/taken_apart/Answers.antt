@@ -3,24 +3,18 @@ use Rattle.pdb_format.proofs.ReadFiles.{reads}
 use Rattle.file_parts.proofs.PackedBack.{packs_back}
 use Rattle.file_parts.proofs.unpacked.taken_apart.Goals as goal
 
-pub returns-clause-done : goal.returns-clause-done
-returns-clause-done g c = record {
-  blocks = record {
-    good = c.requires.good;
-    short = c.requires.short;
-    are = c.in_ok-blocks.ensures.are;
-    within = c.in_ok-blocks.ensures.inside;
-    total = c.in_ok-blocks.ensures.total;
-  };
+pub returns-in-Ok-clause-done : goal.returns-in-Ok-clause-done
+returns-in-Ok-clause-done g c = record {
+  short = c.requires;
   ids = record {
-    have = c.in_ok-given.ensures.given;
-    fit = ids_for c.args.file.now c.in_ok-given.given.ids.items _ _ c.in_ok-given.ensures.given c.in_ok-given.ensures.fit;
-    seed = c.in_ok-given.ensures.seed;
+    have = c.in-Ok.ensures.given;
+    fit = ids_for c.args.file c.in-Ok.given.ids.items _ _ c.in-Ok.ensures.given c.in-Ok.ensures.fit;
+    seed = c.in-Ok.ensures.seed;
   };
 }
 
-pub returns-clause-reads : goal.returns-clause-reads
-returns-clause-reads g c = reads c.args.file.now c.in_ok-given.given.ids.items c.in_ok-given.given.seed c.requires.good c.in_ok-given.ensures.given
+pub returns-in-Ok-clause-reads : goal.returns-in-Ok-clause-reads
+returns-in-Ok-clause-reads g c = reads c.args.file c.in-Ok.given.ids.items c.in-Ok.given.seed c.bytes.ensures.good c.in-Ok.ensures.given
 
-pub returns-clause-packs : goal.returns-clause-packs
-returns-clause-packs g c = packs_back c.args.file.now (record { blocks = c.in_ok-blocks.blocks; given = c.in_ok-given.given }) c.are_bytes.ensures (returns-clause-done g c) c.in_ok-given.ensures.distinct
+pub returns-in-Ok-clause-packs : goal.returns-in-Ok-clause-packs
+returns-in-Ok-clause-packs g c = packs_back (record { file = c.args.file; given = c.in-Ok.given }) c.blocks-2.result.now c.blocks-2.ensures.places c.bytes.ensures.numbers (returns-in-Ok-clause-done g c) c.in-Ok.ensures.distinct

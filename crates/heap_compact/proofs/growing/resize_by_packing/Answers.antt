@@ -1,7 +1,5 @@
-use Rattle.std.proofs.Common.{◌≡◌, ℕ, sym, subst, arith}
-use Rattle.heap_compact.proofs.Words.{Short, MovesOneStretchAnd, Memory, need}
-use Rattle.laws_heap.proofs.Fits.{short_for_beyond}
-use Rattle.laws_heap.proofs.Spots.{room_spot, spot_is_run}
+-- The chunk grows in its own stretch, moves to another that was packed, or no stretch has the room.
+use Rattle.heap_compact.proofs.Words.{◌≡◌, ℕ, sym, subst, arith, Short, MovesOneStretchAnd, Memory, need, short_for_beyond, room_spot, spot_is_run}
 use Rattle.laws_heap.proofs.Unmoved.{itself_alone}
 use Rattle.heap_compact.proofs.ResizedLaws.{is_loose, loose_slid, slid_then, slid_alone, fits_in_stretch, fits_not_short, short_own, own_fits, room_fits}
 use Rattle.heap_compact.proofs.growing.resize_by_packing.Goals as goal

@@ -1,6 +1,6 @@
-use Rattle.std.proofs.Common.{◌-◌, refl, sym, subst, ◌∙◌, arith}
+-- A walk over the lifted chunks mends one at each step.
+use Rattle.heap_compact.proofs.Words.{◌-◌, refl, sym, subst, ◌∙◌, arith, Lent, Misses}
 use Rattle.std.specs.Prelude.{List}
-use Rattle.heap_model.specs.Memory.{Lent, Misses}
 use Rattle.heap_compact.proofs.LiftedWalkLaws.{walk_start, walk_more, walk_state, walk_next, walk_on, walk_done}
 use Rattle.heap_compact.proofs.LentLifts.{walk_table, walk_misses}
 use Rattle.heap_compact.proofs.lift.mend.Goals as goal
@@ -8,17 +8,15 @@ use Rattle.heap_compact.proofs.lift.mend.Goals as goal
 pub loop-at-init : goal.loop-at-init
 loop-at-init c = (walk_start c.args.region.now.bytes c.args.gap c.args.start c.args.end, refl, refl)
 
-pub mend_one-at-requires-clause-carried : goal.mend_one-at-requires-clause-carried
-mend_one-at-requires-clause-carried c =
-    walk_next (walk_state c.loop-at.invariant.0 c.requires.carried) (omega arith)
-
-pub mend_one-at-requires-clause-table : goal.mend_one-at-requires-clause-table
-mend_one-at-requires-clause-table c = walk_table c.loop-at.region c.loop-at.invariant.0 c.requires.carried c.loop-at.invariant.2 c.requires.table
-
-pub mend_one-at-requires-clause-misses : goal.mend_one-at-requires-clause-misses
-mend_one-at-requires-clause-misses c =
-    walk_misses c.loop-at.region.lents c.loop-at.invariant.0 c.requires.carried (omega arith)
-    (subst (λ (x : List Lent). Misses x c.args.start (c.args.end - c.args.start)) (sym c.loop-at.invariant.2) c.requires.misses)
+pub mend_one-at-requires : goal.mend_one-at-requires
+mend_one-at-requires c =
+    let i = c.loop-at.invariant in
+    record {
+      carried = walk_next (walk_state i.0 c.requires.carried) (omega arith);
+      table = walk_table c.loop-at.region i.0 c.requires.carried i.2 c.requires.table;
+      misses = walk_misses c.loop-at.region.lents i.0 c.requires.carried (omega arith)
+          (subst (λ (x : List Lent). Misses x c.args.start (c.args.end - c.args.start)) (sym i.2) c.requires.misses);
+    }
 
 pub overflow_add-at : goal.overflow_add-at
 overflow_add-at c =

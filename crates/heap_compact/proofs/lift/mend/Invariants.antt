@@ -1,5 +1,5 @@
-use Rattle.std.proofs.Common.{◌-◌, ◌≡◌}
-use Rattle.heap_compact.specs.Lifting.{Walks}
+-- The chunks before `at` are mended.
+use Rattle.heap_compact.proofs.Words.{◌-◌, ◌≡◌, Walks}
 use Rattle.heap_compact.proofs.lift.mend.Given as goal
 
 abbrev pub invariant-loop-at : goal.invariant-loop-at

@@ -1,8 +1,7 @@
-use Rattle.std.proofs.Common.{◌-◌, ap, ◌∙◌, arith}
-use Rattle.chunk_format.specs.Header.{size_by}
-use Rattle.heap_compact.proofs.MendLaws.{next_of, reads_movable, can_mend, table_there, stepped_mended, stepped_kept}
+-- A movable chunk names its slot again, and the slot gets its new place; any other chunk stays as it is.
+use Rattle.heap_compact.proofs.Words.{◌-◌, arith, same_bytes, same_lents}
+use Rattle.heap_compact.proofs.MendLaws.{next_of, mends, stepped_kept}
 use Rattle.heap_compact.proofs.LentLifts.{slot_again_within}
-use Rattle.heap_compact.proofs.MemoryLaws.{same_bytes, same_lents}
 use Rattle.heap_compact.proofs.lift.mend_one.Goals as goal
 
 pub at_with_size-header-requires-clause-chunk : goal.at_with_size-header-requires-clause-chunk
@@ -15,24 +14,24 @@ at_with_size-header-requires-clause-small c =
 
 pub overflow_sub-slot : goal.overflow_sub-slot
 overflow_sub-slot c =
-    (can_mend (reads_movable _ c.requires.carried.lifting (rw c.in-Movable.is at c.at_with_size-header.ensures.header))).0
+    (mends _ c.requires.carried.lifting c.at_with_size-header.ensures.header c.at_with_size-header.ensures.size c.in-Movable.is).up
 
-pub write-requires-clause-writable : goal.write-requires-clause-writable
-write-requires-clause-writable c =
-    (can_mend (reads_movable _ c.requires.carried.lifting (rw c.in-Movable.is at c.at_with_size-header.ensures.header))).1.writable
+pub put_slot-requires : goal.put_slot-requires
+put_slot-requires c =
+    let m = mends _ c.requires.carried.lifting c.at_with_size-header.ensures.header c.at_with_size-header.ensures.size c.in-Movable.is in
+    record { inside = record { inside = m.can.inside; misses = c.requires.misses }; small = m.can.small; slot = m.can.low; even = m.can.even }
 
 pub set-requires : goal.set-requires
 set-requires c =
-    let read = reads_movable _ c.requires.carried.lifting (rw c.in-Movable.is at c.at_with_size-header.ensures.header) in
-    let can = (can_mend read).1 in
-    let t = table_there can (same_bytes c.write.ensures.after) read.mendable.area in
-    record { slot = t.1; within = slot_again_within c.write.new.region c.requires.table can.is_slot (same_lents c.write.ensures.after) t.0 t.1 }
+    let m = mends _ c.requires.carried.lifting c.at_with_size-header.ensures.header c.at_with_size-header.ensures.size c.in-Movable.is in
+    let t = m.can.table _ (same_bytes c.put_slot.ensures.after) in
+    record { slot = t.1; within = slot_again_within c.put_slot.new.region c.requires.table m.can.is_slot (same_lents c.put_slot.ensures.after) t.0 t.1 }
 
 pub returns-in-Movable-clause-mended : goal.returns-in-Movable-clause-mended
-returns-in-Movable-clause-mended c = λ old before done chunk rest after l.
-    stepped_mended l (rw c.in-Movable.is at c.at_with_size-header.ensures.header) (c.at_with_size-header.ensures.size ∙ ap size_by c.in-Movable.is)
-    (same_bytes c.write.ensures.after) c.write.ensures.spelled (same_bytes c.set.ensures.after)
+returns-in-Movable-clause-mended c = λ lift done chunk rest l.
+    (mends _ l c.at_with_size-header.ensures.header c.at_with_size-header.ensures.size c.in-Movable.is).step
+    _ _ (same_bytes c.put_slot.ensures.after) c.put_slot.ensures.reslotted (same_bytes c.set.ensures.after)
 
 pub returns-in_default-clause-mended : goal.returns-in_default-clause-mended
-returns-in_default-clause-mended c = λ old before done chunk rest after l.
+returns-in_default-clause-mended c = λ lift done chunk rest l.
     stepped_kept _ l c.at_with_size-header.ensures.header c.at_with_size-header.ensures.size c.in_default.not-Movable

@@ -1,4 +1,5 @@
-use Rattle.laws_heap.proofs.Spots.{spot_not_short}
+-- Room is found, or made by packing one stretch, or no stretch has it.
+use Rattle.heap_compact.proofs.Words.{spot_not_short}
 use Rattle.heap_compact.proofs.MadeRoomLaws.{slides_nothing, moves_none}
 use Rattle.heap_compact.proofs.making.make_room.Goals as goal
 

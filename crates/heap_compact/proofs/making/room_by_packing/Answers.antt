@@ -1,6 +1,5 @@
-use Rattle.std.proofs.Common.{arith}
-use Rattle.laws_heap.proofs.SlidImages.{packs_one, one_packed_moved}
-use Rattle.laws_heap.proofs.Fits.{stretch_not_short}
+-- The packed stretch has its room at its end, or no stretch has it.
+use Rattle.heap_compact.proofs.Words.{arith, packs_one, one_packed_moved, stretch_not_short}
 use Rattle.heap_compact.proofs.MadeRoomLaws.{slides_nothing, moves_none}
 use Rattle.heap_compact.proofs.making.room_by_packing.Goals as goal
 

@@ -1,10 +1,8 @@
-use Rattle.std.proofs.Common.{◌-◌, ◌≤◌, arith}
-use Rattle.heap_model.specs.Packing.{lives}
-use Rattle.laws_heap.proofs.SlidImages.{moved_within}
+-- The packed stretch has its room at its end, and later chunks are lifted over it.
+use Rattle.heap_compact.proofs.Words.{◌-◌, ◌≤◌, arith, moved_within, table_within, same_lents, ◌∙◌}
 use Rattle.heap_compact.proofs.ExactLaws.{exactly_linked}
 use Rattle.heap_compact.proofs.StretchLaws.{StretchPacked, pack_facts, stretch_run, among_stretch, packed_frame, slot_then, numbers, room_behind, OpensRoom, opened_some, opened_none}
 use Rattle.heap_compact.proofs.LiftLaws.{lifted_room}
-use Rattle.laws_heap.proofs.LentBodies.{table_within}
 use Rattle.heap_compact.proofs.MemoryLaws.{same_slid}
 use Rattle.heap_compact.proofs.open.open_in.Goals.{After-pack-room, After-push_alone}
 use Rattle.heap_compact.proofs.open.open_in.Goals as goal
@@ -15,17 +13,17 @@ packed c = pack_facts c.requires.heap c.requires.among c.pack-room.ensures.packe
 slid_few : (c : After-pack-room) → c.pack-room.result.slid ≤ c.args.stretch.end - c.args.stretch.start
 slid_few c =
     let s = among_stretch c.requires.among in
-    omega (arith, c.pack-room.ensures.moved s.before s.mid s.after (stretch_run s.is), moved_within 0 s.mid, s.is.to)
+    omega (arith, c.pack-room.ensures.moved (stretch_run s.is), moved_within 0 s.mid, s.is.to)
 
 -- room was opened
 opens : (c : After-push_alone) → OpensRoom (pack_facts c.requires.heap c.requires.among c.pack-room.ensures.packed c.pack-room.ensures.room) c.push_alone.new.region.bytes
 opens c =
     let p = pack_facts c.requires.heap c.requires.among c.pack-room.ensures.packed c.pack-room.ensures.room in
     let behind = room_behind p _ (omega arith) (omega (arith, c.word_of-place.ensures, c.size_of_body.ensures)) in
-    opened_some p _ (omega arith) (exactly_linked (c.lift.ensures.lifted _ _ _ behind) c.push_alone.ensures.same)
+    opened_some p _ (omega arith) (exactly_linked (c.lift.ensures.lifted behind) c.push_alone.ensures.same)
 
 pub pack-room-requires-clause-run : goal.pack-room-requires-clause-run
-pack-room-requires-clause-run c = let a = c.requires.among in record { before = a.before; mid = _; after = a.after; run = stretch_run a.is }
+pack-room-requires-clause-run c = stretch_run c.requires.among.is
 
 pub word_of-place-requires : goal.word_of-place-requires
 word_of-place-requires c =
@@ -51,47 +49,31 @@ pub overflow_sub-stretch : goal.overflow_sub-stretch
 overflow_sub-stretch c = (numbers (packed (goal.at.overflow_sub-stretch c).After-pack-room)).within
 
 pub lift-requires-clause-behind : goal.lift-requires-clause-behind
-lift-requires-clause-behind c = record {
-  before = _;
-  mid = lives c.requires.among.back;
-  after = c.requires.among.after;
-  behind = room_behind (packed (goal.at.lift-requires-clause-behind c).After-pack-room) _ (omega arith)
-      (omega (arith, c.word_of-place.ensures, c.size_of_body.ensures));
-}
+lift-requires-clause-behind c =
+    room_behind (packed (goal.at.lift-requires-clause-behind c).After-pack-room) _ (omega arith) (omega (arith, c.word_of-place.ensures, c.size_of_body.ensures))
 
-pub returns-then-room-gt0-clause-opened : goal.returns-then-room-gt0-clause-opened
-returns-then-room-gt0-clause-opened c = (opens (goal.at.returns-then-room-gt0-clause-opened c).After-push_alone).opened_behind
+pub returns-then-room-gt0 : goal.returns-then-room-gt0
+returns-then-room-gt0 c =
+    let p = (goal.at.returns-then-room-gt0 c).After-pack-room in
+    let o = opens (goal.at.returns-then-room-gt0 c).After-push_alone in
+    let last = c.push_alone.ensures in
+    record {
+      lists = last.lists;
+      opened = o.opened_behind;
+      exact = o.exact;
+      frame = o.frame;
+      plain = o.plain;
+      out = same_lents last.rest ∙ c.lift.ensures.out ∙ c.pack-room.ensures.out;
+      few = omega (arith, slid_few p, (numbers (packed p)).from, c.pack-room.ensures.slid, c.lift.ensures.slid, same_slid last.rest, c.word_of-place.ensures);
+      heap = last.heap;
+    }
 
-pub returns-else-room-gt0-clause-opened : goal.returns-else-room-gt0-clause-opened
-returns-else-room-gt0-clause-opened c = (opened_none (packed (goal.at.returns-else-room-gt0-clause-opened c).After-pack-room) (omega arith)).opened_behind
-
-pub returns-then-room-gt0-clause-exact : goal.returns-then-room-gt0-clause-exact
-returns-then-room-gt0-clause-exact c = (opens (goal.at.returns-then-room-gt0-clause-exact c).After-push_alone).exact
-
-pub returns-else-room-gt0-clause-exact : goal.returns-else-room-gt0-clause-exact
-returns-else-room-gt0-clause-exact c = (opened_none (packed (goal.at.returns-else-room-gt0-clause-exact c).After-pack-room) (omega arith)).exact
-
-pub returns-then-room-gt0-clause-frame : goal.returns-then-room-gt0-clause-frame
-returns-then-room-gt0-clause-frame c = (opens (goal.at.returns-then-room-gt0-clause-frame c).After-push_alone).frame
-
-pub returns-else-room-gt0-clause-frame : goal.returns-else-room-gt0-clause-frame
-returns-else-room-gt0-clause-frame c = (opened_none (packed (goal.at.returns-else-room-gt0-clause-frame c).After-pack-room) (omega arith)).frame
-
-pub returns-then-room-gt0-clause-plain : goal.returns-then-room-gt0-clause-plain
-returns-then-room-gt0-clause-plain c = (opens (goal.at.returns-then-room-gt0-clause-plain c).After-push_alone).plain
-
-pub returns-else-room-gt0-clause-plain : goal.returns-else-room-gt0-clause-plain
-returns-else-room-gt0-clause-plain c = (opened_none (packed (goal.at.returns-else-room-gt0-clause-plain c).After-pack-room) (omega arith)).plain
-
-pub returns-then-room-gt0-clause-few : goal.returns-then-room-gt0-clause-few
-returns-then-room-gt0-clause-few c =
-    let p = (goal.at.returns-then-room-gt0-clause-few c).After-pack-room in
-    let third = same_slid c.push_alone.ensures.rest in
-    omega (arith, slid_few p, (numbers (packed p)).from, c.pack-room.ensures.slid, c.lift.ensures.slid, third, c.word_of-place.ensures)
-
-pub returns-else-room-gt0-clause-few : goal.returns-else-room-gt0-clause-few
-returns-else-room-gt0-clause-few c =
-    omega (arith, slid_few (goal.at.returns-else-room-gt0-clause-few c).After-pack-room, c.pack-room.ensures.slid)
+pub returns-else-room-gt0 : goal.returns-else-room-gt0
+returns-else-room-gt0 c =
+    let p = (goal.at.returns-else-room-gt0 c).After-pack-room in
+    let o = opened_none (packed p) (omega arith) in
+    let last = c.pack-room.ensures in
+    record { lists = last.lists; opened = o.opened_behind; exact = o.exact; frame = o.frame; plain = o.plain; out = last.out; few = omega (arith, slid_few p, last.slid); heap = last.heap }
 
 pub push_alone-requires-clause-free : goal.push_alone-requires-clause-free
 push_alone-requires-clause-free c =

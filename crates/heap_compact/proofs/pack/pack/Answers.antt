@@ -1,7 +1,6 @@
-use Rattle.std.proofs.Common.{ℕ, List, ◌-◌, sym, subst, ◌∙◌, arith, refl}
-use Rattle.heap_compact.proofs.Words.{packed, AreLists, Before}
+-- Each step packs one more chunk of the run, and the last room goes into its list.
+use Rattle.heap_compact.proofs.Words.{ℕ, List, ◌-◌, sym, subst, ◌∙◌, arith, refl, packed, AreLists, Before, new_lists, lists_any, same_lents}
 use Rattle.heap_compact.proofs.ExactLaws.{exactly_linked}
-use Rattle.heap_place.proofs.ListLaws.{new_lists, lists_any}
 use Rattle.heap_compact.proofs.PackLaws.{packing_start, packing_more, packing_next, packing_on, packing_done, room_packed}
 use Rattle.heap_compact.proofs.MemoryLaws.{same_slid}
 use Rattle.heap_compact.proofs.pack.pack.Goals as goal
@@ -37,25 +36,23 @@ loop-at-preserved c =
       c.pack_one-step.ensures.out ∙ c.loop-at.invariant.4,
     )
 
-pub push_room-requires-clause-within : goal.push_room-requires-clause-within
-push_room-requires-clause-within c = (room_packed c.loop-at.invariant.0 c.requires.run).0
+pub push_room-requires : goal.push_room-requires
+push_room-requires c =
+    let i = c.loop-at.invariant in
+    let room = room_packed i.0 c.requires.run in
+    record { heap = i.3; within = room.0; free = room.1; lists = i.2 }
 
-pub push_room-requires-clause-free : goal.push_room-requires-clause-free
-push_room-requires-clause-free c = (room_packed c.loop-at.invariant.0 c.requires.run).1
-
-pub returns-clause-lists : goal.returns-clause-lists
-returns-clause-lists c = lists_any _ _ _ c.push_room.ensures.lists
-
-pub returns-clause-slid : goal.returns-clause-slid
-returns-clause-slid c = same_slid c.push_room.ensures.rest ∙ c.loop-at.invariant.1
-
-pub returns-clause-packed : goal.returns-clause-packed
-returns-clause-packed c = λ before mid after run.
-    exactly_linked
-    (packing_done c.loop-at.invariant.0 (omega arith) run).becomes c.push_room.ensures.same
-
-pub returns-clause-moved : goal.returns-clause-moved
-returns-clause-moved c = λ before mid after run. (packing_done c.loop-at.invariant.0 (omega arith) run).moved_is
-
-pub returns-clause-room : goal.returns-clause-room
-returns-clause-room c = λ before mid after run. (packing_done c.loop-at.invariant.0 (omega arith) run).room_is
+pub returns : goal.returns
+returns c =
+    let i = c.loop-at.invariant in
+    let all = packing_done i.0 (omega arith) in
+    let p = c.push_room.ensures in
+    record {
+      lists = lists_any _ _ _ p.lists;
+      packed = λ run. exactly_linked (all run).becomes p.same;
+      moved = λ run. (all run).moved_is;
+      room = λ run. (all run).room_is;
+      out = same_lents p.rest ∙ i.4;
+      slid = same_slid p.rest ∙ i.1;
+      heap = p.heap;
+    }

@@ -1,5 +1,5 @@
-use Rattle.std.proofs.Common.{◌-◌, ◌+◌, ◌≡◌}
-use Rattle.heap_compact.proofs.Words.{AreLists, Before, PacksUpTo, HoldsHeap}
+-- The chunks before `at` are packed, and all room but the last is in its list.
+use Rattle.heap_compact.proofs.Words.{◌-◌, ◌+◌, ◌≡◌, AreLists, Before, PacksUpTo, HoldsHeap}
 use Rattle.heap_compact.proofs.pack.pack.Given as goal
 
 abbrev pub invariant-loop-at : goal.invariant-loop-at

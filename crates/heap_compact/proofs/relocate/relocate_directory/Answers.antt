@@ -1,41 +1,42 @@
-use Rattle.std.proofs.Common.{◌∙◌, inl, inr, refl}
-use Rattle.laws_heap.proofs.Plain.{plain_then}
+-- The directory is no directory while it moves, and is named again then.
+use Rattle.heap_compact.proofs.Words.{◌∙◌, inl, inr, refl, plain_then, lists_kept, same_lents, ap, ℕ, ◌+◌, IsOne}
+use Rattle.std.specs.Prelude.{min}
+use Rattle.heap_compact.proofs.MemoryLaws.{same_slid}
 use Rattle.laws_heap.proofs.Directory.{named_spot, relocated_again}
-use Rattle.heap_place.proofs.ListLaws.{lists_kept}
-use Rattle.heap_compact.proofs.DirectoryLaws.{named_one, some_name, moved_owner}
+use Rattle.heap_compact.proofs.FoundAgain.{named_one, some_name, moved_owner}
 use Rattle.heap_compact.proofs.relocate.relocate_directory.Goals as goal
 
 pub name_directory-requires-clause-managers : goal.name_directory-requires-clause-managers
 name_directory-requires-clause-managers c = inl refl
 
-pub relocate_other-requires-clause-found : goal.relocate_other-requires-clause-found
-relocate_other-requires-clause-found c = named_one c.args.found c.name_directory.ensures.names c.requires.found
-
-pub relocate_other-requires-clause-no_directory : goal.relocate_other-requires-clause-no_directory
-relocate_other-requires-clause-no_directory c e = some_name c.args.found c.requires.heap.accepted c.requires.found (e ∙ c.name_directory.ensures.names.directory)
-
-pub relocate_other-requires-clause-room : goal.relocate_other-requires-clause-room
-relocate_other-requires-clause-room c = named_spot _ _ _ _ _ c.name_directory.ensures.names c.requires.room
+pub relocate_other-requires : goal.relocate_other-requires
+relocate_other-requires c =
+    let n = c.name_directory.ensures in
+    record {
+      heap = n.heap;
+      found = named_one c.args.found n.names c.requires.found;
+      unlocked = c.requires.unlocked;
+      no_directory = λ e. some_name c.args.found c.requires.heap.accepted c.requires.found (e ∙ n.names.directory);
+      room = named_spot _ _ _ _ _ n.names c.requires.room;
+      enough = c.requires.enough;
+      lists = lists_kept _ _ _ _ n.keeps c.requires.lists;
+    }
 
 pub name_directory-requires-2-clause-managers : goal.name_directory-requires-2-clause-managers
 name_directory-requires-2-clause-managers c = inr (moved_owner c.relocate_other.new.region.bytes c.args.found c.args.count c.requires.heap.accepted c.requires.found c.requires.unlocked c.requires.directory
     c.name_directory.ensures.names (named_spot _ _ _ _ _ c.name_directory.ensures.names c.requires.room) c.requires.enough c.relocate_other.ensures.moved)
 
-pub returns-clause-moved : goal.returns-clause-moved
-returns-clause-moved c f =
-    relocated_again _ _ _ _ _ _ c.args.room.at c.args.room.size _ c.name_directory.ensures.names
-    (c.relocate_other.ensures.moved (named_one c.args.found c.name_directory.ensures.names f)) c.name_directory-2.ensures.names c.requires.directory
-
-pub returns-clause-frame : goal.returns-clause-frame
-returns-clause-frame c = (returns-clause-moved c c.requires.found c.requires.room).frame
-
-pub returns-clause-plain : goal.returns-clause-plain
-returns-clause-plain c =
-    plain_then c.args.region.now.bytes c.relocate_other.new.region.bytes c.name_directory-2.new.region.bytes
-    (plain_then c.args.region.now.bytes c.name_directory.new.region.bytes c.relocate_other.new.region.bytes c.name_directory.ensures.plain c.relocate_other.ensures.plain) c.name_directory-2.ensures.plain
-
-pub relocate_other-requires-clause-lists : goal.relocate_other-requires-clause-lists
-relocate_other-requires-clause-lists c = lists_kept _ _ _ _ c.name_directory.ensures.keeps c.requires.lists
-
-pub returns-clause-lists : goal.returns-clause-lists
-returns-clause-lists c = lists_kept _ _ _ _ c.name_directory-2.ensures.keeps c.relocate_other.ensures.lists
+pub returns : goal.returns
+returns c =
+    let first = c.name_directory.ensures in let other = c.relocate_other.ensures in let last = c.name_directory-2.ensures in
+    let moved = λ (f : IsOne c.args.region.now.bytes c.args.found). relocated_again _ _ _ _ _ _ c.args.room.at c.args.room.size _ first.names (other.moved (named_one c.args.found first.names f)) last.names c.requires.directory in
+    record {
+      lists = lists_kept _ _ _ _ last.keeps other.lists;
+      moved = moved;
+      frame = (moved c.requires.found c.requires.room).frame;
+      plain = plain_then c.args.region.now.bytes c.relocate_other.new.region.bytes c.name_directory-2.new.region.bytes
+          (plain_then c.args.region.now.bytes c.name_directory.new.region.bytes c.relocate_other.new.region.bytes first.plain other.plain) last.plain;
+      out = same_lents last.rest ∙ other.out ∙ same_lents first.rest;
+      slid = same_slid last.rest ∙ other.slid ∙ ap (λ (n : ℕ). n + min c.args.found.length c.args.count) (same_slid first.rest);
+      heap = last.heap;
+    }

@@ -1,9 +1,5 @@
-use Rattle.std.proofs.Common.{ℕ, ap, subst, arith}
-use Rattle.std.proofs.lemmas.List.{length-replicate}
-use Rattle.heap_compact.proofs.Words.{need, IsFreeChunk, CutsRoom}
-use Rattle.heap_place.proofs.CutLaws.{room_facts}
-use Rattle.heap_place.proofs.ListLaws.{lists_kept, lists_any}
-use Rattle.heap_place.proofs.SpotLaws.{cut_chunk, cut_claims}
+-- A fixed chunk is made where the room is, and every chunk that was found stays.
+use Rattle.heap_compact.proofs.Words.{ℕ, ap, subst, arith, rules, length-replicate, need, IsFreeChunk, CutsRoom, room_facts, lists_kept, lists_any, cut_chunk, cut_claims}
 use Rattle.heap_compact.proofs.RelocateLaws.{stands_there, stand_keeps}
 use Rattle.heap_compact.proofs.relocate.stand_in_at.Goals as goal
 
@@ -22,18 +18,17 @@ claim_fixed_at-requires-clause-free c =
     subst (λ (n : ℕ). IsFreeChunk c.take.new.region.bytes c.args.room.at n) c.size_of_body.ensures
     (cut_chunk _ _ _ _ c.size_of_body.result c.take.ensures.same c.requires.room c.take.ensures.cut)
 
-pub returns-clause-made : goal.returns-clause-made
-returns-clause-made c =
-    cut_claims _ _ _ _ c.args.room.size _ _
-    (ap need (length-replicate {A = ℕ} c.args.count 0)) c.take.ensures.same (subst (λ (n : ℕ). CutsRoom c.args.region.now.bytes c.take.new.region.bytes c.args.room.at c.args.room.size n) c.size_of_body.ensures c.take.ensures.cut) c.claim_fixed_at.ensures.made
-
-pub returns-clause-found : goal.returns-clause-found
-returns-clause-found c = stands_there _ c.args.count c.requires.heap.accepted c.requires.room c.requires.enough (returns-clause-made c)
-
-pub returns-clause-others : goal.returns-clause-others
-returns-clause-others c = stand_keeps _ c.args.count c.requires.heap.accepted c.requires.room c.requires.enough (returns-clause-made c)
-
-pub returns-clause-lists : goal.returns-clause-lists
-returns-clause-lists c =
-    lists_any _ _ _
-    (lists_kept _ _ _ _ c.claim_fixed_at.ensures.keeps c.take.ensures.lists)
+pub returns : goal.returns
+returns c =
+    let cut = subst (λ (n : ℕ). CutsRoom c.args.region.now.bytes c.take.new.region.bytes c.args.room.at c.args.room.size n) c.size_of_body.ensures c.take.ensures.cut in
+    let made = cut_claims _ _ _ _ c.args.room.size _ _ (ap need (length-replicate {A = ℕ} c.args.count 0)) c.take.ensures.same cut c.claim_fixed_at.ensures.made in
+    record {
+      lists = lists_any _ _ _ (lists_kept _ _ _ _ c.claim_fixed_at.ensures.keeps c.take.ensures.lists);
+      made = made;
+      is = search rules;
+      found = stands_there _ c.args.count c.requires.heap.accepted c.requires.room c.requires.enough made;
+      others = stand_keeps _ c.args.count c.requires.heap.accepted c.requires.room c.requires.enough made;
+      plain = search rules;
+      rest = search rules;
+      heap = search rules;
+    }

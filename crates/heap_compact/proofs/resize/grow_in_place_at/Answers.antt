@@ -1,5 +1,5 @@
-use Rattle.std.proofs.Common.{arith}
-use Rattle.heap_place.proofs.FoundLaws.{found_inside}
+-- The free chunks after the chunk suffice, or they don't.
+use Rattle.heap_compact.proofs.Words.{arith, found_inside}
 use Rattle.heap_place.proofs.RunLaws.{bound_behind, free_behind_found, all_behind, grows, in_place_facts, in_place_yes, in_place_no}
 use Rattle.heap_compact.proofs.resize.grow_in_place_at.Goals as goal
 

@@ -1,12 +1,8 @@
-use Rattle.std.proofs.Common.{◌-◌, ap, sym, subst, arith, ◌∙◌}
-use Rattle.heap_compact.proofs.Words.{RunBehind, size_by, IsWritableHeader}
-use Rattle.heap_place.proofs.CutLaws.{rest_length}
-use Rattle.heap_place.proofs.ResizeLaws.{run_facts, sized_writable, WasResized, resized_by}
+-- Zeros, the header of the rest and the chunk's own header are written.
+use Rattle.heap_compact.proofs.Words.{◌-◌, ap, sym, subst, arith, rules, ◌∙◌, RunBehind, size_by, IsWritableHeader, rest_length, run_facts, sized_writable, WasResized, resized_by, part_within, found_size, same_bytes, same_lents}
 use Rattle.heap_place.proofs.RegrownLaws.{resized_keeps, resized_rest}
-use Rattle.laws_heap.proofs.Lending.{part_within}
 use Rattle.heap_compact.proofs.LentRuns.{regrown_within, resized_holds, resized_total, length_size}
-use Rattle.heap_place.proofs.FoundLaws.{found_size}
-use Rattle.heap_compact.proofs.MemoryLaws.{same_bytes, same_lents, within_misses}
+use Rattle.heap_compact.proofs.MemoryLaws.{within_misses}
 use Rattle.heap_compact.proofs.resize.resize_at.Goals.{After-write}
 use Rattle.heap_compact.proofs.resize.resize_at.Goals as goal
 
@@ -44,20 +40,16 @@ overflow_add-at c =
     let f = run_facts _ _ _ c.requires.heap.accepted c.requires.behind in
     omega (arith, f.inside, f.most, c.requires.fits, c.size_of_body-size.ensures)
 
-pub write_rest-requires-clause-inside : goal.write_rest-requires-clause-inside
-write_rest-requires-clause-inside c =
+pub write_rest-requires : goal.write_rest-requires
+write_rest-requires c =
     let f = run_facts _ _ _ c.requires.heap.accepted c.requires.behind in
-    omega (arith, f.inside, c.requires.fits, c.size_of_body.ensures, c.size_of_body-size.ensures, c.fill.ensures.len)
-
-pub write_rest-requires-clause-whole : goal.write_rest-requires-clause-whole
-write_rest-requires-clause-whole c =
-    let f = run_facts _ _ _ c.requires.heap.accepted c.requires.behind in
-    omega (arith, f.whole, c.requires.fits, c.size_of_body.ensures, c.size_of_body-size.ensures)
-
-pub write_rest-requires-clause-misses : goal.write_rest-requires-clause-misses
-write_rest-requires-clause-misses c =
-    within_misses _ _ (regrown_within c.requires.heap c.requires.behind c.requires.other) (same_lents c.fill.ensures.after)
-    (omega arith) (omega (arith, c.size_of_body.ensures, c.size_of_body-size.ensures, c.requires.fits))
+    record {
+      inside = omega (arith, f.inside, c.requires.fits, c.size_of_body.ensures, c.size_of_body-size.ensures, c.fill.ensures.len);
+      whole = omega (arith, f.whole, c.requires.fits, c.size_of_body.ensures, c.size_of_body-size.ensures);
+      small = omega (arith, f.most, c.fill.ensures.len);
+      misses = within_misses _ _ (regrown_within c.requires.heap c.requires.behind c.requires.other) (same_lents c.fill.ensures.after)
+          (omega arith) (omega (arith, c.size_of_body.ensures, c.size_of_body-size.ensures, c.requires.fits));
+    }
 
 pub write-requires : goal.write-requires
 write-requires c =
@@ -76,29 +68,21 @@ write-requires c =
       writable = subst (λ h. IsWritableHeader (c.args.found.place.0 - 8) h) (sym c.header_with.ensures) w.0;
     }
 
-pub returns-clause-resized : goal.returns-clause-resized
-returns-clause-resized c = λ r. (resized (goal.at.returns-clause-resized c).After-write r).becomes
-
-pub returns-clause-plain : goal.returns-clause-plain
-returns-clause-plain c = (resized (goal.at.returns-clause-plain c).After-write c.requires.behind).plain
-
-pub returns-clause-left : goal.returns-clause-left
-returns-clause-left c = omega (arith, c.size_of_body.ensures, c.size_of_body-size.ensures)
-
-pub returns-clause-keeps : goal.returns-clause-keeps
-returns-clause-keeps c =
-    resized_keeps _ _ _ _ _ c.requires.heap.accepted _ (resized (goal.at.returns-clause-keeps c).After-write c.requires.behind)
-
-pub returns-clause-chunk : goal.returns-clause-chunk
-returns-clause-chunk c some =
-    resized_rest _ _ _ _ _ _ c.requires.heap.accepted _ (resized (goal.at.returns-clause-chunk c).After-write c.requires.behind)
-    (omega (arith, c.size_of_body.ensures, c.size_of_body-size.ensures)) some
-
-pub returns-clause-heap : goal.returns-clause-heap
-returns-clause-heap c =
-    let r = c.requires.behind in
+pub returns : goal.returns
+returns c =
+    let after = (goal.at.returns c).After-write in
+    let b = c.requires.behind in
+    let x = resized after b in
     let same = same_lents c.write.ensures.after ∙ same_lents c.write_rest.ensures.rest ∙ same_lents c.fill.ensures.after in
-    let size = found_size c.args.region.now.bytes c.args.found r.one in
-    let own = length_size c.args.count c.args.found.name.0 _ r.one.live r.one.chunk r.one.finds.named in
-    resized_holds c.args.count c.requires.heap same r c.requires.other (returns-clause-resized c)
-    (resized_total c.args.count r.one.chunk r.run (sym r.sums) (own, omega (arith, size, c.requires.fits)))
+    let size = found_size c.args.region.now.bytes c.args.found b.one in
+    let own = length_size c.args.count c.args.found.name.0 _ b.one.live b.one.chunk b.one.finds.named in
+    let sizes = resized_total c.args.count b.one.chunk b.run (sym b.sums) (own, omega (arith, size, c.requires.fits)) in
+    record {
+      resized = λ r. (resized after r).becomes;
+      left = omega (arith, c.size_of_body.ensures, c.size_of_body-size.ensures);
+      chunk = λ some. resized_rest _ _ _ _ _ _ c.requires.heap.accepted _ x (omega (arith, c.size_of_body.ensures, c.size_of_body-size.ensures)) some;
+      keeps = resized_keeps _ _ _ _ _ c.requires.heap.accepted _ x;
+      plain = x.plain;
+      rest = search rules;
+      heap = resized_holds c.args.count c.requires.heap same b c.requires.other (λ r. (resized after r).becomes) sizes;
+    }

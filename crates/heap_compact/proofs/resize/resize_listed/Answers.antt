@@ -1,8 +1,5 @@
-use Rattle.std.proofs.Common.{◌+◌, ◌-◌, ℕ, sym, subst, arith}
-use Rattle.heap_compact.proofs.Words.{need, IsFreeChunk}
-use Rattle.laws_heap.proofs.Plain.{plain_then}
-use Rattle.heap_place.proofs.KeepLaws.{links_plain}
-use Rattle.heap_place.proofs.ResizeLaws.{run_facts}
+-- What the chunk takes leaves its lists, and the rest goes into its own.
+use Rattle.heap_compact.proofs.Words.{◌+◌, ◌-◌, ℕ, sym, subst, arith, need, IsFreeChunk, plain_then, links_plain, run_facts, rules}
 use Rattle.heap_place.proofs.RegrownLaws.{run_spot, resized_lists, regrown_lists, regrown_all, resizes_links}
 use Rattle.heap_place.proofs.AlikeLaws.{alike_behind, alike_resizes}
 use Rattle.heap_compact.proofs.resize.resize_listed.Goals as goal
@@ -37,37 +34,28 @@ pub push-requires-clause-free : goal.push-requires-clause-free
 push-requires-clause-free c =
     subst (λ (n : ℕ). IsFreeChunk c.resize_at-left.new.region.bytes (c.args.found.place.0 - 8 + n) c.resize_at-left.result) (sym c.size_of_body-then-left-gt0.ensures) (c.resize_at-left.ensures.chunk c.if-left-gt0.true)
 
-pub returns-then-left-gt0-clause-resized : goal.returns-then-left-gt0-clause-resized
-returns-then-left-gt0-clause-resized c =
-    alike_resizes _ _ _ _ c.args.count _ c.unlink_run.ensures.same
-    (resizes_links _ _ _ _ c.args.count _ _ _ c.resize_at-left.ensures.resized c.push.ensures.pushed.links)
+pub returns-then-left-gt0 : goal.returns-then-left-gt0
+returns-then-left-gt0 c =
+    let u = c.unlink_run.ensures in let k = c.resize_at-left.ensures in let p = c.push.ensures in
+    let size = c.size_of_body-then-left-gt0.ensures in let left = k.left in let some = c.if-left-gt0.true in
+    let lists = resized_lists _ _ _ _ _ _ c.size_of_body.ensures u.same.frame.accepted (alike_behind _ _ _ _ u.same c.requires.behind) k.keeps u.lists in
+    record {
+      resized = alike_resizes _ _ _ _ c.args.count _ u.same (resizes_links _ _ _ _ c.args.count _ _ _ k.resized p.pushed.links);
+      lists = regrown_lists _ _ _ _ (c.args.found.place.0 - 8) (need c.args.found.length + c.args.behind) c.size_of_body-then-left-gt0.result (omega arith) (omega arith) lists p.pushed;
+      plain = plain_then c.args.region.now.bytes c.unlink_run.new.region.bytes c.push.new.region.bytes u.same.plain
+          (plain_then c.unlink_run.new.region.bytes c.resize_at-left.new.region.bytes c.push.new.region.bytes k.plain (links_plain _ _ _ _ p.pushed.links));
+      rest = search rules;
+      heap = p.heap;
+    }
 
-pub returns-else-left-gt0-clause-resized : goal.returns-else-left-gt0-clause-resized
-returns-else-left-gt0-clause-resized c =
-    alike_resizes _ _ _ _ c.args.count _ c.unlink_run.ensures.same c.resize_at-left.ensures.resized
-
-pub returns-then-left-gt0-clause-lists : goal.returns-then-left-gt0-clause-lists
-returns-then-left-gt0-clause-lists c =
-    let size = c.size_of_body-then-left-gt0.ensures in
-    let left = c.resize_at-left.ensures.left in
-    let some = c.if-left-gt0.true in
-    regrown_lists _ _ _ _ (c.args.found.place.0 - 8) (need c.args.found.length + c.args.behind) c.size_of_body-then-left-gt0.result (omega arith) (omega arith)
-    (resized_lists _ _ _ _ _ _ c.size_of_body.ensures c.unlink_run.ensures.same.frame.accepted
-    (alike_behind _ _ _ _ c.unlink_run.ensures.same c.requires.behind) c.resize_at-left.ensures.keeps c.unlink_run.ensures.lists)
-    c.push.ensures.pushed
-
-pub returns-else-left-gt0-clause-lists : goal.returns-else-left-gt0-clause-lists
-returns-else-left-gt0-clause-lists c =
-    regrown_all _ _ (c.args.found.place.0 - 8) (need c.args.found.length + c.args.behind)
-    (resized_lists _ _ _ _ _ _ c.size_of_body.ensures c.unlink_run.ensures.same.frame.accepted
-    (alike_behind _ _ _ _ c.unlink_run.ensures.same c.requires.behind) c.resize_at-left.ensures.keeps c.unlink_run.ensures.lists)
-
-pub returns-then-left-gt0-clause-plain : goal.returns-then-left-gt0-clause-plain
-returns-then-left-gt0-clause-plain c =
-    plain_then c.args.region.now.bytes c.unlink_run.new.region.bytes c.push.new.region.bytes c.unlink_run.ensures.same.plain
-    (plain_then c.unlink_run.new.region.bytes c.resize_at-left.new.region.bytes c.push.new.region.bytes c.resize_at-left.ensures.plain
-    (links_plain _ _ _ _ c.push.ensures.pushed.links))
-
-pub returns-else-left-gt0-clause-plain : goal.returns-else-left-gt0-clause-plain
-returns-else-left-gt0-clause-plain c =
-    plain_then c.args.region.now.bytes c.unlink_run.new.region.bytes c.resize_at-left.new.region.bytes c.unlink_run.ensures.same.plain c.resize_at-left.ensures.plain
+pub returns-else-left-gt0 : goal.returns-else-left-gt0
+returns-else-left-gt0 c =
+    let u = c.unlink_run.ensures in let k = c.resize_at-left.ensures in
+    let lists = resized_lists _ _ _ _ _ _ c.size_of_body.ensures u.same.frame.accepted (alike_behind _ _ _ _ u.same c.requires.behind) k.keeps u.lists in
+    record {
+      resized = alike_resizes _ _ _ _ c.args.count _ u.same k.resized;
+      lists = regrown_all _ _ (c.args.found.place.0 - 8) (need c.args.found.length + c.args.behind) lists;
+      plain = plain_then c.args.region.now.bytes c.unlink_run.new.region.bytes c.resize_at-left.new.region.bytes u.same.plain k.plain;
+      rest = search rules;
+      heap = k.heap;
+    }

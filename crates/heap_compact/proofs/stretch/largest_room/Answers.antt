@@ -1,19 +1,20 @@
-use Rattle.std.proofs.Common.{ℕ, ◌+◌, ◌∙◌, sym, ap, subst, arith}
-use Rattle.std.specs.Prelude.{max}
-use Rattle.heap_compact.proofs.Words.{size_by, Passed, HaveRooms}
-use Rattle.heap_place.proofs.WalkLaws.{passed_there, passed_size, free_fits_by}
+-- When the walk ends, the greatest room of all stretches is known.
+use Rattle.heap_compact.proofs.Words.{ℕ, ◌+◌, ◌∙◌, sym, ap, subst, arith, max, size_by, Passed, HaveRooms, passed_there, passed_size, free_fits_by, walked_misses}
 use Rattle.heap_compact.proofs.LargestLaws.{rooms_start, rooms_fit, rooms_closed, rooms_more, rooms_all}
-use Rattle.laws_heap.proofs.LentBodies.{walked_misses}
 use Rattle.heap_compact.proofs.stretch.largest_room.Goals as goal
 use Rattle.heap_compact.proofs.stretch.largest_room.Goals.{then-stays, else-stays}
 
 pub loop-at-init : goal.loop-at-init
 loop-at-init c = subst (λ n. Passed c.args.region.now.bytes (HaveRooms 0 0) n) (sym c.area_start-at.ensures) (rooms_start c.requires.heap.accepted)
 
-pub at_with_size-header-requires-clause-chunk : goal.at_with_size-header-requires-clause-chunk
-at_with_size-header-requires-clause-chunk c =
+pub at_with_size-header-requires : goal.at_with_size-header-requires
+at_with_size-header-requires c =
     let chunk = passed_there _ _ _ c.requires.heap.accepted c.loop-at.invariant (omega arith) in
-    record { chunk = chunk.0; spelled = chunk.1 }
+    record {
+      chunk = record { chunk = chunk.0; spelled = chunk.1 };
+      small = omega (arith, c.requires.heap.accepted.1.tiles.head.most);
+      misses = walked_misses c.args.region.now c.loop-at.invariant.front c.loop-at.at c.requires.heap.accepted c.requires.heap.lent c.loop-at.invariant.spelled (omega arith);
+    }
 
 pub overflow_add-room : goal.overflow_add-room
 overflow_add-room c =
@@ -40,6 +41,3 @@ loop-at-preserved c =
 
 pub returns : goal.returns
 returns c = c.max.ensures ∙ rooms_all c.loop-at.largest c.loop-at.room c.requires.heap.accepted c.loop-at.invariant (omega arith)
-
-pub at_with_size-header-requires-clause-misses : goal.at_with_size-header-requires-clause-misses
-at_with_size-header-requires-clause-misses c = walked_misses c.args.region.now c.loop-at.invariant.front c.loop-at.at c.requires.heap.accepted c.requires.heap.lent c.loop-at.invariant.spelled (omega arith)

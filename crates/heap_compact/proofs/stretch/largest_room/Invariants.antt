@@ -1,5 +1,5 @@
-use Rattle.std.proofs.Common.{◌-◌}
-use Rattle.heap_compact.proofs.Words.{Passed, HaveRooms}
+-- The greatest room of all stretches but the last is known, and the room of the last so far.
+use Rattle.heap_compact.proofs.Words.{◌-◌, Passed, HaveRooms}
 use Rattle.heap_compact.proofs.stretch.largest_room.Given as goal
 
 abbrev pub invariant-loop-at : goal.invariant-loop-at

@@ -1,5 +1,5 @@
-use Rattle.std.proofs.Common.{◌-◌}
-use Rattle.heap_compact.specs.Stretches.{SumsUpTo}
+-- The free bytes of the stretch's chunks before `at` are summed.
+use Rattle.heap_compact.proofs.Words.{◌-◌, SumsUpTo}
 use Rattle.heap_compact.proofs.stretch.room_of_stretch.Given as goal
 
 abbrev pub invariant-loop-at : goal.invariant-loop-at

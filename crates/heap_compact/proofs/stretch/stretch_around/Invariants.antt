@@ -1,5 +1,5 @@
-use Rattle.std.proofs.Common.{◌-◌}
-use Rattle.heap_compact.specs.Stretches.{SeenUpTo}
+-- The last chunk that stays, of those before `here`, ends at `start`.
+use Rattle.heap_compact.proofs.Words.{◌-◌, SeenUpTo}
 use Rattle.heap_compact.proofs.stretch.stretch_around.Given as goal
 
 abbrev pub invariant-loop-here : goal.invariant-loop-here

@@ -1,5 +1,5 @@
-use Rattle.std.proofs.Common.{◌-◌}
-use Rattle.heap_compact.specs.Stretches.{SeenRooms}
+-- Every stretch that has ended has less room, and the last one has `room` bytes so far.
+use Rattle.heap_compact.proofs.Words.{◌-◌, SeenRooms}
 use Rattle.heap_compact.proofs.stretch.stretch_with_room.Given as goal
 
 abbrev pub invariant-loop-here : goal.invariant-loop-here

@@ -1,3 +1,4 @@
+-- Another owner is written into the second word, so the chunk has it, and nothing else changes.
 use Rattle.heap_place.proofs.Words.{rules, same_bytes, same_lents}
 use Rattle.heap_place.proofs.AlterLaws.{reowned_there}
 use Rattle.heap_place.proofs.WithinLaws.{keeps_second}

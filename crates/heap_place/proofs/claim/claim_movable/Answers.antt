@@ -1,19 +1,14 @@
+-- A header and zeros make the free chunk a movable one, and the empty slot gets its place.
 use Rattle.heap_place.proofs.Words.{◌∙◌, ap, inl, refl, arith, rules, IsFreeChunk, need, slot_facts, length-replicate, slot_still_within, same_bytes, same_lents}
 use Rattle.heap_place.proofs.CutLaws.{cut_facts, claimed_table, claimed_write}
 use Rattle.heap_place.proofs.LentLaws.{words_within, body_still, filled_holds}
 use Rattle.heap_place.proofs.claim.claim_movable.Goals as goal
 
-pub write-requires-clause-inside : goal.write-requires-clause-inside
-write-requires-clause-inside c = (cut_facts c.requires.heap.accepted c.requires.free).0
-
-pub write-requires-clause-writable : goal.write-requires-clause-writable
-write-requires-clause-writable c =
+pub write-requires : goal.write-requires
+write-requires c =
     let f = cut_facts c.requires.heap.accepted c.requires.free in
     let s = slot_facts _ _ _ c.requires.heap.accepted.1.tiles c.requires.slot in
-    (omega arith, omega arith, omega arith, inl refl, omega arith, omega arith)
-
-pub write-requires-clause-misses : goal.write-requires-clause-misses
-write-requires-clause-misses c = (words_within c.requires.heap c.requires.free).misses
+    record { inside = f.0; misses = (words_within c.requires.heap c.requires.free).misses; small = omega arith; writable = (omega arith, omega arith, omega arith, inl refl, omega arith, omega arith) }
 
 pub fill-requires : goal.fill-requires
 fill-requires c = body_still c.args.count c.requires.heap c.requires.free (same_lents c.write.ensures.after) c.write.ensures.len

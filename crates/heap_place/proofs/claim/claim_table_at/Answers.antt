@@ -1,3 +1,4 @@
+-- A header and zeros make the free chunk a table, and the last table leads to it.
 use Rattle.heap_place.proofs.Words.{◌∙◌, arith, rules, same_bytes, same_lents}
 use Rattle.laws_heap.proofs.Replacements.{head_tables}
 use Rattle.laws_heap.proofs.MoreTables.{written_replaces, written_new, written_chained, second_adds}
@@ -8,14 +9,10 @@ use Rattle.heap_place.proofs.CutLaws.{cut_facts}
 use Rattle.heap_place.proofs.NewTables.{table_written, table_lays, table_claimed}
 use Rattle.heap_place.proofs.claim.claim_table_at.Goals as goal
 
-pub write-requires-clause-inside : goal.write-requires-clause-inside
-write-requires-clause-inside c = (cut_facts c.requires.heap.accepted c.requires.free).0
-
-pub write-requires-clause-writable : goal.write-requires-clause-writable
-write-requires-clause-writable c = let f = cut_facts c.requires.heap.accepted c.requires.free in (omega arith, omega arith)
-
-pub write-requires-clause-misses : goal.write-requires-clause-misses
-write-requires-clause-misses c = (words_within c.requires.heap c.requires.free).misses
+pub write-requires : goal.write-requires
+write-requires c =
+    let f = cut_facts c.requires.heap.accepted c.requires.free in
+    record { inside = f.0; misses = (words_within c.requires.heap c.requires.free).misses; small = omega arith; writable = (omega arith, omega arith) }
 
 pub fill-requires : goal.fill-requires
 fill-requires c = body_still 64 c.requires.heap c.requires.free (same_lents c.write.ensures.after) c.write.ensures.len

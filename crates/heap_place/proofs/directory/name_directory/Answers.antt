@@ -1,3 +1,4 @@
+-- A movable chunk of the manager's, or none, is named in the directory word.
 use Rattle.heap_place.proofs.Words.{arith, same_bytes, same_lents, rules}
 use Rattle.laws_heap.proofs.Directory.{directory_written, named_start}
 use Rattle.heap_place.proofs.WithinLaws.{keeps_directory}

@@ -1,3 +1,4 @@
+-- When the walk ends, every free chunk is in its list.
 use Rattle.heap_place.proofs.GatherLaws.{gathered}
 use Rattle.heap_place.proofs.gather.gather.Goals as goal
 

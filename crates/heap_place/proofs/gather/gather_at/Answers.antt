@@ -1,3 +1,4 @@
+-- The free chunks from `at` on become one in its list, or the chunk there is live.
 use Rattle.heap_place.proofs.Words.{◌+◌, sym, subst, arith, IsBound, plain_then, rules}
 use Rattle.heap_place.proofs.KeepLaws.{links_chunk, links_plain}
 use Rattle.heap_place.proofs.SpotLaws.{cut_chunk}
@@ -6,8 +7,10 @@ use Rattle.heap_place.proofs.GatherLaws.{bound_chunk, bound_spot, spot_least, ch
 use Rattle.heap_place.proofs.RunLaws.{bound_misses}
 use Rattle.heap_place.proofs.gather.gather_at.Goals as goal
 
-pub at_with_size-taken-requires-clause-chunk : goal.at_with_size-taken-requires-clause-chunk
-at_with_size-taken-requires-clause-chunk c = bound_chunk c.requires.heap.accepted c.requires.bound c.requires.inside
+pub at_with_size-taken-requires : goal.at_with_size-taken-requires
+at_with_size-taken-requires c =
+    let most = c.requires.heap.accepted.1.tiles.head.most in
+    record { chunk = bound_chunk c.requires.heap.accepted c.requires.bound c.requires.inside; small = omega arith; misses = bound_misses c.requires.heap c.requires.bound c.requires.inside }
 
 pub returns-then-size-eq0-clause-bound : goal.returns-then-size-eq0-clause-bound
 returns-then-size-eq0-clause-bound c =
@@ -46,6 +49,3 @@ returns c =
       rest = search rules;
       heap = c.push.ensures.heap;
     }
-
-pub at_with_size-taken-requires-clause-misses : goal.at_with_size-taken-requires-clause-misses
-at_with_size-taken-requires-clause-misses c = bound_misses c.requires.heap c.requires.bound c.requires.inside

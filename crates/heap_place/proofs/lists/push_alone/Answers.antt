@@ -1,3 +1,4 @@
+-- The chunk is put into lists that are empty, so only it is in them.
 use Rattle.heap_place.proofs.Words.{sym, subst, AreLists, ButAt}
 use Rattle.heap_place.proofs.ListLaws.{new_lists}
 use Rattle.heap_place.proofs.AlikeLaws.{one_word}

@@ -1,3 +1,4 @@
+-- The room is put into its list, or there is none.
 use Rattle.heap_place.proofs.Words.{◌-◌, arith, Before}
 use Rattle.heap_place.proofs.ListLaws.{lists_weaker}
 use Rattle.heap_place.proofs.TakeLaws.{chunk_inside}

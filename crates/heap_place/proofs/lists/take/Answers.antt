@@ -1,3 +1,4 @@
+-- The room leaves its lists and is cut, and its rest goes into its own list.
 use Rattle.heap_place.proofs.Words.{arith, plain_then, rules}
 use Rattle.heap_place.proofs.CutLaws.{room_facts}
 use Rattle.heap_place.proofs.KeepLaws.{links_plain}

@@ -1,3 +1,4 @@
+-- One chunk that is all the room leaves its list, or all lists are dropped.
 use Rattle.heap_place.proofs.Words.{sym, subst, ◌∙◌, IsFreeChunk}
 use Rattle.heap_place.proofs.TakeLaws.{spot_front}
 use Rattle.heap_place.proofs.AlikeLaws.{taken_outside}

@@ -1,3 +1,4 @@
+-- Room of no bytes is in no list.
 use Rattle.heap_place.proofs.Words.{arith}
 use Rattle.heap_place.proofs.GatherLaws.{spot_least}
 use Rattle.heap_place.proofs.RegrownLaws.{none_unlinked}

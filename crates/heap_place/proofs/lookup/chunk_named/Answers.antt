@@ -1,3 +1,4 @@
+-- If no slot has the name, it is a fixed chunk's.
 use Rattle.heap_place.proofs.Words.{refl}
 use Rattle.heap_place.proofs.LookupLaws.{is_fixed}
 use Rattle.heap_place.proofs.lookup.chunk_named.Goals as goal

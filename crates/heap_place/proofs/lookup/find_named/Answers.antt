@@ -1,3 +1,4 @@
+-- A name that has a chunk is in a slot, or is a fixed chunk's place.
 use Rattle.heap_place.proofs.LookupLaws.{unheld}
 use Rattle.heap_place.proofs.lookup.find_named.Goals as goal
 

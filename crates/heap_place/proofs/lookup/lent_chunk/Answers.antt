@@ -1,5 +1,5 @@
 -- The header of a lent body is that of a movable chunk in its slot, or of a fixed one.
-use Rattle.heap_place.proofs.Words.{sym, subst, ◌∙◌, IsFound}
+use Rattle.heap_place.proofs.Words.{arith, sym, subst, ◌∙◌, IsFound}
 use Rattle.heap_place.proofs.LookupLaws.{header_read}
 use Rattle.heap_place.proofs.LentChunks.{lent_low, lent_misses, lent_has_chunk, lent_movable_one, lent_fixed_one, fixed_at_place}
 use Rattle.heap_place.proofs.lookup.lent_chunk.Goals as goal
@@ -7,11 +7,10 @@ use Rattle.heap_place.proofs.lookup.lent_chunk.Goals as goal
 pub overflow_sub-place : goal.overflow_sub-place
 overflow_sub-place c = lent_low c.args.region.now c.args.place.0 c.requires.heap.lent c.requires.begins
 
-pub at-header-requires-clause-chunk : goal.at-header-requires-clause-chunk
-at-header-requires-clause-chunk c = lent_has_chunk c.args.place.0 c.requires.heap c.requires.begins
-
-pub at-header-requires-clause-misses : goal.at-header-requires-clause-misses
-at-header-requires-clause-misses c = lent_misses c.args.place.0 c.requires.heap c.requires.begins
+pub at-header-requires : goal.at-header-requires
+at-header-requires c =
+    let most = c.requires.heap.accepted.1.tiles.head.most in
+    record { chunk = lent_has_chunk c.args.place.0 c.requires.heap c.requires.begins; small = omega arith; misses = lent_misses c.args.place.0 c.requires.heap c.requires.begins }
 
 pub fixed_at-requires-clause-fixed : goal.fixed_at-requires-clause-fixed
 fixed_at-requires-clause-fixed c =

@@ -1,4 +1,5 @@
-use Rattle.heap_place.proofs.Words.{◌+◌, sym, subst, ◌∙◌, arith, both_ways, Passed, NoneLentAmong, walked_misses}
+-- The walk finds a lent chunk of the owner, or has passed all chunks and found none.
+use Rattle.heap_place.proofs.Words.{◌+◌, sym, subst, ◌∙◌, arith, both_ways, Passed, NoneLentAmong}
 use Rattle.heap_place.proofs.WalkLaws.{passed_chunk, passed_misses}
 use Rattle.heap_place.proofs.OwnedLaws.{owned_one, owned_place, lent_not_owned, lent_elsewhere, begins_other, none_of_owner}
 use Rattle.heap_place.proofs.FoundLaws.{bytes_inside}

@@ -1,3 +1,4 @@
+-- No chunk before `at` is lent and the owner's.
 use Rattle.heap_place.proofs.Words.{◌-◌, length, Passed, NoneLentAmong}
 use Rattle.heap_place.proofs.owned.lent_of_owner.Given as goal
 

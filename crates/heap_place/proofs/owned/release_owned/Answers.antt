@@ -1,4 +1,5 @@
-use Rattle.heap_place.proofs.Words.{refl, sym, ap, subst, ◌∙◌, arith, Memory, NoneOwned, Freeing, walked_misses, same_lents}
+-- When the walk ends, all chunks of the owner are free.
+use Rattle.heap_place.proofs.Words.{refl, sym, ap, subst, ◌∙◌, arith, Memory, NoneOwned, Freeing, same_lents}
 use Rattle.heap_place.proofs.OwnedLaws.{owned_one, owned_apart, freeing_start, freeing_there, freeing_kept, freeing_more, freeing_all, owned_other}
 use Rattle.heap_place.proofs.WalkLaws.{passed_misses}
 use Rattle.heap_place.proofs.LentOwners.{freed_none_lent}
@@ -22,12 +23,20 @@ release-at-requires c =
 
 pub overflow_add-at-in-Some : goal.overflow_add-at-in-Some
 overflow_add-at-in-Some c =
-    let more = freeing_more c.release-at.result c.loop-at.invariant.0 c.at_with_size-header.ensures.header (sym c.if_owned.ensures ∙ c.in-Some.is) c.release-at.ensures.gone c.release-at.ensures.free c.release-at.ensures.plain in
+    let f = c.loop-at.invariant.0 in let e = c.release-at.ensures in
+    let header = c.at_with_size-header.ensures.header in
+    let is = sym c.if_owned.ensures ∙ c.in-Some.is in
+    let one = owned_one (NoneOwned c.args.owner) c.args.owner f.frame.accepted c.requires.some_owner f.passed header is in
+    let more = freeing_more c.release-at.result f header is e.gone (e.exact one) e.plain in
     omega arith
 
 pub loop-at-smaller-in-Some : goal.loop-at-smaller-in-Some
 loop-at-smaller-in-Some c =
-    let more = freeing_more c.release-at.result c.loop-at.invariant.0 c.at_with_size-header.ensures.header (sym c.if_owned.ensures ∙ c.in-Some.is) c.release-at.ensures.gone c.release-at.ensures.free c.release-at.ensures.plain in
+    let f = c.loop-at.invariant.0 in let e = c.release-at.ensures in
+    let header = c.at_with_size-header.ensures.header in
+    let is = sym c.if_owned.ensures ∙ c.in-Some.is in
+    let one = owned_one (NoneOwned c.args.owner) c.args.owner f.frame.accepted c.requires.some_owner f.passed header is in
+    let more = freeing_more c.release-at.result f header is e.gone (e.exact one) e.plain in
     omega arith
 
 pub loop-at-preserved-in-Some : goal.loop-at-preserved-in-Some
@@ -37,7 +46,7 @@ loop-at-preserved-in-Some c =
     let header = c.at_with_size-header.ensures.header in
     let is = sym c.if_owned.ensures ∙ c.in-Some.is in
     let one = owned_one (NoneOwned c.args.owner) c.args.owner i.0.frame.accepted c.requires.some_owner i.0.passed header is in (
-      (freeing_more c.release-at.result i.0 header is e.gone e.free e.plain).0,
+      (freeing_more c.release-at.result i.0 header is e.gone (e.exact one) e.plain).0,
       e.rest ∙ ap (λ (m : Memory). record m { bytes = c.release-at.new.region.bytes }) i.1,
       e.heap,
       freed_none_lent c.loop-at.region c.release-at.new.region c.args.owner i.0.frame.accepted i.2.lent i.3 (same_lents e.rest) one (owned_other c.loop-at.region c.args.owner i.3 one header is) e.gone,

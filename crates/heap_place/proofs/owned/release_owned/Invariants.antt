@@ -1,3 +1,4 @@
+-- The owner's chunks before `at` are free and counted.
 use Rattle.heap_place.proofs.Words.{◌-◌, ◌≡◌, length, LendsNoneOf, HoldsHeap, Freeing}
 use Rattle.heap_place.proofs.owned.release_owned.Given as goal
 

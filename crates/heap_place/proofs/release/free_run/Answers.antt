@@ -1,3 +1,4 @@
+-- The walk sums the sizes of free chunks up to the first live one.
 use Rattle.heap_place.proofs.Words.{arith}
 use Rattle.heap_place.proofs.RunLaws.{from_bound, from_running, run_start, run_inside, run_more, run_done, bound_misses, bound_on}
 use Rattle.heap_place.proofs.release.free_run.Goals as goal
@@ -20,14 +21,14 @@ returns c = run_done c.loop-size.invariant.0 (omega arith)
 pub loop-size-smaller : goal.loop-size-smaller
 loop-size-smaller c = let r = run_inside c.requires.bound c.loop-size.invariant.0 in omega arith
 
-pub free_size-size-requires-clause-chunks : goal.free_size-size-requires-clause-chunks
-free_size-size-requires-clause-chunks c = from_bound c.requires.heap.accepted c.requires.bound
+pub free_size-size-requires : goal.free_size-size-requires
+free_size-size-requires c =
+    let most = c.requires.heap.accepted.1.tiles.head.most in
+    record { small = omega arith; chunks = from_bound c.requires.heap.accepted c.requires.bound; misses = bound_misses c.requires.heap c.requires.bound }
 
-pub free_size-size-requires-in-loop-size-clause-chunks : goal.free_size-size-requires-in-loop-size-clause-chunks
-free_size-size-requires-in-loop-size-clause-chunks c = from_running c.requires.bound c.loop-size.invariant.0 (omega arith)
-
-pub free_size-size-requires-clause-misses : goal.free_size-size-requires-clause-misses
-free_size-size-requires-clause-misses c inside = bound_misses c.requires.heap c.requires.bound inside
-
-pub free_size-size-requires-in-loop-size-clause-misses : goal.free_size-size-requires-in-loop-size-clause-misses
-free_size-size-requires-in-loop-size-clause-misses c inside = bound_misses c.requires.heap (bound_on c.requires.heap.accepted c.loop-size.invariant.1 c.loop-size.invariant.0.there (omega arith)) inside
+pub free_size-size-requires-in-loop-size : goal.free_size-size-requires-in-loop-size
+free_size-size-requires-in-loop-size c =
+    let h = c.requires.heap.accepted in
+    let most = h.1.tiles.head.most in
+    let i = c.loop-size.invariant in
+    record { small = omega arith; chunks = from_running c.requires.bound i.0 (omega arith); misses = bound_misses c.requires.heap (bound_on h i.1 i.0.there (omega arith)) }

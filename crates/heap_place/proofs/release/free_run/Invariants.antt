@@ -1,3 +1,4 @@
+-- The free chunks from `at` on take `size` bytes so far.
 use Rattle.heap_place.proofs.Words.{◌-◌, length, RunsUpTo, IsBound}
 use Rattle.heap_place.proofs.release.free_run.Given as goal
 

@@ -1,3 +1,4 @@
+-- No run before the last one that was passed has the room.
 use Rattle.heap_place.proofs.Words.{◌-◌, length, Searched}
 use Rattle.heap_place.proofs.room.find_room.Given as goal
 

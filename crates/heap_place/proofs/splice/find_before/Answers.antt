@@ -1,3 +1,4 @@
+-- The chunk before another in its list is found, or there is none.
 use Rattle.heap_place.proofs.Words.{sym, subst, ◌∙◌, Looking}
 use Rattle.heap_place.proofs.SpliceLaws.{look_more, looked_free}
 use Rattle.heap_place.proofs.TakeLaws.{begun_chunk}

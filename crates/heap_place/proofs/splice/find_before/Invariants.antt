@@ -1,3 +1,4 @@
+-- The chunk is not among those of its list that were passed.
 use Rattle.heap_place.proofs.Words.{Looking}
 use Rattle.heap_place.proofs.splice.find_before.Given as goal
 

@@ -1,3 +1,4 @@
+-- The chunk before gets the link of the one that leaves the list.
 use Rattle.heap_place.proofs.Words.{arith, rules, same_bytes, same_lents}
 use Rattle.heap_place.proofs.SpliceLaws.{looked_free}
 use Rattle.heap_place.proofs.TakeLaws.{begun_chunk}

@@ -1,3 +1,4 @@
+-- The chunk leaves its list as the first of it, or past the chunk before it.
 use Rattle.heap_place.proofs.Words.{ap, sym, subst, ◌∙◌, arith, slice_set, AreLists, ButAt}
 use Rattle.heap_place.proofs.TakeLaws.{chunk_inside}
 use Rattle.heap_place.proofs.ListLaws.{popped}

@@ -1,4 +1,5 @@
-use Rattle.heap_place.proofs.Words.{◌+◌, sym, subst, arith, Misses, NoneBeginsAt, Passed, walked_misses}
+-- The walk comes to the chunk, or passes all chunks and begins none there.
+use Rattle.heap_place.proofs.Words.{◌+◌, sym, subst, arith, Misses, NoneBeginsAt, Passed}
 use Rattle.heap_place.proofs.WalkLaws.{passed_chunk, passed_misses, passed_all}
 use Rattle.heap_place.proofs.LookupLaws.{begins_passed}
 use Rattle.heap_place.proofs.walks.begins_at.Goals as goal

@@ -1,3 +1,4 @@
+-- No chunk before `at` begins at the offset.
 use Rattle.heap_place.proofs.Words.{◌-◌, length, NoneBeginsAt, Passed}
 use Rattle.heap_place.proofs.walks.begins_at.Given as goal
 

@@ -1,4 +1,5 @@
-use Rattle.heap_place.proofs.Words.{◌+◌, sym, subst, ◌∙◌, arith, NoneFixedAs, Passed, walked_misses}
+-- The walk comes to the fixed chunk, or passes all chunks and finds none.
+use Rattle.heap_place.proofs.Words.{◌+◌, sym, subst, ◌∙◌, arith, NoneFixedAs, Passed}
 use Rattle.heap_place.proofs.WalkLaws.{passed_chunk, passed_misses, passed_all}
 use Rattle.heap_place.proofs.LookupLaws.{fixed_found, fixed_there, fixed_passed}
 use Rattle.heap_place.proofs.walks.find_fixed.Goals as goal
@@ -8,10 +9,11 @@ at_with_size-header-requires c =
     let heap = c.requires.heap in let p = c.loop-at.invariant in
     record { chunk = passed_chunk heap.accepted p (omega arith); small = omega arith; misses = passed_misses heap p (omega arith) }
 
-pub returns-in-Some-clause-found : goal.returns-in-Some-clause-found
-returns-in-Some-clause-found c =
-    fixed_found (NoneFixedAs c.args.region.now.bytes c.args.name.0) c.args.name c.requires.heap.accepted c.loop-at.invariant c.at_with_size-header.ensures.header
-    (sym c.as_fixed.ensures ∙ c.in-Some.is)
+pub returns-in-Some : goal.returns-in-Some
+returns-in-Some c =
+    let header = c.at_with_size-header.ensures.header in
+    let is = sym c.as_fixed.ensures ∙ c.in-Some.is in
+    record { found = fixed_found (NoneFixedAs c.args.region.now.bytes c.args.name.0) c.args.name c.requires.heap.accepted c.loop-at.invariant header is; there = fixed_there c.args.name header is; none = tt }
 
 pub loop-at-preserved : goal.loop-at-preserved
 loop-at-preserved c =
@@ -20,7 +22,3 @@ loop-at-preserved c =
 
 pub returns-clause-none : goal.returns-clause-none
 returns-clause-none c = passed_all _ (NoneFixedAs c.args.region.now.bytes c.args.name.0) _ c.requires.heap.accepted c.loop-at.invariant (omega arith)
-
-pub returns-in-Some-clause-there : goal.returns-in-Some-clause-there
-returns-in-Some-clause-there c =
-    fixed_there c.args.name c.at_with_size-header.ensures.header (sym c.as_fixed.ensures ∙ c.in-Some.is)

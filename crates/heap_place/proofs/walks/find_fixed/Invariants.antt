@@ -1,3 +1,4 @@
+-- No chunk before `at` is a fixed one of the name.
 use Rattle.heap_place.proofs.Words.{◌-◌, length, NoneFixedAs, Passed}
 use Rattle.heap_place.proofs.walks.find_fixed.Given as goal
 

@@ -1,4 +1,5 @@
-use Rattle.heap_place.proofs.Words.{◌+◌, sym, subst, arith, Passed, HaveFreeBytes, free_by, walked_misses}
+-- When the walk ends, the free bytes of all chunks are summed.
+use Rattle.heap_place.proofs.Words.{◌+◌, sym, subst, arith, Passed, HaveFreeBytes, free_by}
 use Rattle.heap_place.proofs.WalkLaws.{passed_chunk, passed_misses, passed_size, passed_all, free_fits, free_fits_by, free_passed}
 use Rattle.heap_place.proofs.walks.free_bytes.Goals as goal
 

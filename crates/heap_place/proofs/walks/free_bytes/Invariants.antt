@@ -1,3 +1,4 @@
+-- The free bytes of the chunks before `at` are summed.
 use Rattle.heap_place.proofs.Words.{◌-◌, length, Passed, HaveFreeBytes}
 use Rattle.heap_place.proofs.walks.free_bytes.Given as goal
 

@@ -1,7 +1,7 @@
 use Rattle.std.proofs.Common.{List, ℕ, subst}
 use Rattle.std.specs.Prelude.{is_ok}
 use Rattle.palm_text.specs.Counted.{Writes}
-use Rattle.json_text.specs.Pieces.{json_text}
+use Rattle.unicode_text.specs.Pieces.{json_text}
 use Rattle.json_documents.proofs.ChangeWords.{changes_are}
 use Rattle.json_documents.proofs.ending.put_changes.Goals as goal
 

@@ -5,7 +5,7 @@ use Rattle.db_format.specs.declared.db_entry.DbEntry.{DbEntry}
 use Rattle.db_format.specs.EitherEntry.{entry_of}
 use Rattle.palm_text.specs.Counted.{Writes}
 use Rattle.json_documents.specs.FileDocument.{value_json}
-use Rattle.json_text.specs.Strings.{string, hex_string}
+use Rattle.unicode_text.specs.Strings.{string, hex_string}
 use Rattle.json_documents.proofs.entries.put_value.Goals as goal
 
 pub returns-in-Record : goal.returns-in-Record

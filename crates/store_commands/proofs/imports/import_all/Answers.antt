@@ -9,17 +9,17 @@ use Rattle.store_commands.proofs.imports.import_all.Goals as goal
 
 pub loop-index-preserved : goal.loop-index-preserved
 loop-index-preserved g c =
-    let does = subst (λ (file : List ℕ). Imports c.loop-index.store file (Database c.in-Ok.field-0) c.import_from.new.store) c.as_slice.ensures c.in-Ok.ensures.does in
+    let does = c.in-Ok.ensures.does in
     record {
-      imported = imports_next c.args.store.now c.loop-index.store c.import_from.new.store c.args.files.now c.loop-index.index c.index-files-index.result c.in-Ok.field-0 c.loop-index-test.true c.index-files-index.is c.loop-index.invariant.imported does;
+      imported = imports_next c.args.store.now c.loop-index.store c.import_opened.new.store c.args.files.now c.loop-index.index c.index-files-index.result c.in-Ok.field-0 c.loop-index-test.true c.index-files-index.is c.loop-index.invariant.imported does;
       accepted = does.accepted;
       lent = ap (λ (memory : Memory). memory.lents) does.rest ∙ c.loop-index.invariant.lent;
     }
 
 pub returns-in-Err-clause-why : goal.returns-in-Err-clause-why
 returns-in-Err-clause-why g c =
-    let does = subst (λ (file : List ℕ). Imports c.loop-index.store file (Refused c.in-Err.refusal) c.import_from.new.store) c.as_slice.ensures c.in-Err.ensures.does in
-    not_imported_stops c.args.store.now c.loop-index.store c.import_from.new.store c.args.files.now c.loop-index.index c.index-files-index.result c.in-Err.refusal c.not_imported.result c.loop-index-test.true c.index-files-index.is c.loop-index.invariant.imported does c.not_imported.ensures
+    let does = c.in-Err.ensures.does in
+    not_imported_stops c.args.store.now c.loop-index.store c.import_opened.new.store c.args.files.now c.loop-index.index c.index-files-index.result c.in-Err.refusal c.not_imported.result c.loop-index-test.true c.index-files-index.is c.loop-index.invariant.imported does c.not_imported.ensures
 
 pub returns-in-Err-clause-short : goal.returns-in-Err-clause-short
 returns-in-Err-clause-short g c = λ same.

@@ -4,7 +4,7 @@ use Rattle.heap_model.specs.Chunk.{seen}
 use Rattle.heap_model.specs.Slots.{slots_of, further_tables}
 use Rattle.heap_model.specs.Reading.{chunk_at, chunks_from, chunks_of, held, is_accepted}
 use Rattle.laws_heap.proofs.Runs.{chunks_from-spelled}
-use Rattle.test_chains.specs.ChainedImages.{table, next_is_free, cycle}
+use Rattle.test_chains.specs.ChainedImages.{made_table, next_is_free, cycle}
 use Rattle.test_chains.proofs.BadTables.{free_once, cycle_none, cycle_once, cycle_thrice, two_right}
 use Rattle.test_chains.proofs.refused.bad_tables_are_found.Goals as goal
 
@@ -28,7 +28,7 @@ pub returns-clause-circle : goal.returns-clause-circle
 unfolding u16_at u32_at u32_bytes seen slots_of further_tables chunk_at chunks_from chunks_of held is_accepted
 returns-clause-circle c = record {
   area = chunks_from-spelled cycle 24;
-  tables = table 32 1 ∷ table 48 1 ∷ [];
+  tables = made_table 32 1 ∷ made_table 48 1 ∷ [];
   count = refl;
   next = 32;
   leads = (

@@ -1,11 +1,7 @@
-use Rattle.std.proofs.Common.{ℕ, replicate, ap, sym, subst, ◌∙◌, arith}
-use Rattle.std.proofs.lemmas.List.{length-replicate}
-use Rattle.heap_compact.proofs.Words.{Memory, u32_at, movable, need, IsSlot, Claims}
-use Rattle.laws_heap.proofs.SameLayouts.{same_slots, slot_kept}
-use Rattle.heap_place.proofs.CutLaws.{room_facts}
-use Rattle.heap_place.proofs.ListLaws.{lists_kept, lists_any}
-use Rattle.heap_place.proofs.SpotLaws.{taken_chunk}
-use Rattle.heap_compact.proofs.KeptLaws.{viewed_kept, viewed_heap}
+-- The room is taken from its lists, and a movable chunk is put there.
+use Rattle.heap_compact.proofs.Words.{ℕ, replicate, ap, sym, subst, ◌∙◌, arith, length-replicate, Memory, u32_at, movable, need, IsSlot, Claims, slot_kept, room_facts, lists_kept, lists_any, taken_chunk}
+use Rattle.laws_heap.proofs.SameLayouts.{same_slots}
+use Rattle.heap_compact.proofs.KeptLaws.{viewed_heap, viewed_space}
 use Rattle.heap_compact.proofs.SpaceWrites.{room_claimed}
 use Rattle.heap_compact.proofs.space.Space.claim.Goals.{After-build_unless_packed}
 use Rattle.heap_compact.proofs.space.Space.claim.Goals as goal
@@ -42,8 +38,5 @@ claim_movable-requires-clause-slot c =
     slot_kept _ _ _ _ c.take.ensures.same (subst (λ (m : Memory). IsSlot m.bytes c.args.slot.0) (sym c.self.view_is) c.requires.slot)
 
 pub invariant_of-self : goal.invariant_of-self
-invariant_of-self c = record {
-  heap = c.build_unless_packed.ensures.heap;
-  lists = c.build_unless_packed.ensures.lists;
-  tables = viewed_kept c.self.inside.tables c.self.view_is (claimed (goal.at.invariant_of-self c).After-build_unless_packed c.requires.room).frame c.self.invariant.tables;
-}
+invariant_of-self c =
+    viewed_space c.self.view_is c.build_unless_packed.ensures.heap c.build_unless_packed.ensures.lists (claimed (goal.at.invariant_of-self c).After-build_unless_packed c.requires.room).frame c.self.invariant.tables

@@ -1,10 +1,6 @@
-use Rattle.std.proofs.Common.{ℕ, replicate, ap, arith}
-use Rattle.std.proofs.lemmas.List.{length-replicate}
-use Rattle.heap_compact.proofs.Words.{fixed, need, Claims}
-use Rattle.heap_place.proofs.CutLaws.{room_facts}
-use Rattle.heap_place.proofs.ListLaws.{lists_kept, lists_any}
-use Rattle.heap_place.proofs.SpotLaws.{taken_chunk}
-use Rattle.heap_compact.proofs.KeptLaws.{viewed_kept, viewed_heap}
+-- The room is taken from its lists, and a fixed chunk is put there.
+use Rattle.heap_compact.proofs.Words.{ℕ, replicate, ap, arith, length-replicate, fixed, need, Claims, room_facts, lists_kept, lists_any, taken_chunk}
+use Rattle.heap_compact.proofs.KeptLaws.{viewed_heap, viewed_space}
 use Rattle.heap_compact.proofs.SpaceWrites.{room_claimed}
 use Rattle.heap_compact.proofs.space.Space.claim_fixed.Goals.{After-build_unless_packed}
 use Rattle.heap_compact.proofs.space.Space.claim_fixed.Goals as goal
@@ -36,8 +32,5 @@ overflow_add-result c =
     omega (arith, f.0, f.2)
 
 pub invariant_of-self : goal.invariant_of-self
-invariant_of-self c = record {
-  heap = c.build_unless_packed.ensures.heap;
-  lists = c.build_unless_packed.ensures.lists;
-  tables = viewed_kept c.self.inside.tables c.self.view_is (claimed (goal.at.invariant_of-self c).After-build_unless_packed c.requires.room).frame c.self.invariant.tables;
-}
+invariant_of-self c =
+    viewed_space c.self.view_is c.build_unless_packed.ensures.heap c.build_unless_packed.ensures.lists (claimed (goal.at.invariant_of-self c).After-build_unless_packed c.requires.room).frame c.self.invariant.tables

@@ -1,9 +1,6 @@
-use Rattle.std.proofs.Common.{◌+◌, ap, subst, ◌∙◌, arith}
-use Rattle.heap_compact.proofs.Words.{Memory, Tables, is_chained, PutsTable, KnowsTables}
+-- The room is taken from its lists, and a table is put there and remembered.
+use Rattle.heap_compact.proofs.Words.{◌+◌, ap, subst, ◌∙◌, arith, Memory, Tables, is_chained, PutsTable, room_facts, lists_kept, lists_any, taken_chunk}
 use Rattle.laws_heap.proofs.MoreTables.{puts_after, puts_before}
-use Rattle.heap_place.proofs.CutLaws.{room_facts}
-use Rattle.heap_place.proofs.ListLaws.{lists_kept, lists_any}
-use Rattle.heap_place.proofs.SpotLaws.{taken_chunk}
 use Rattle.heap_compact.proofs.KeptLaws.{tables_kept, tables_gained, viewed_heap}
 use Rattle.heap_compact.proofs.space.Space.claim_table.Goals.{After-build_unless_packed}
 use Rattle.heap_compact.proofs.space.Space.claim_table.Goals as goal

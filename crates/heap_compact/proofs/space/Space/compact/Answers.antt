@@ -1,9 +1,7 @@
-use Rattle.heap_compact.proofs.KeptLaws.{tables_kept}
+-- All lists are built by packing, and no table moves.
+use Rattle.heap_compact.proofs.KeptLaws.{kept_space}
 use Rattle.heap_compact.proofs.space.Space.compact.Goals as goal
 
 pub invariant_of-self : goal.invariant_of-self
-invariant_of-self c = record {
-  heap = c.compact.ensures.heap;
-  lists = c.compact.ensures.lists;
-  tables = tables_kept c.self.inside.tables c.compact.ensures.packed.frame c.self.invariant.tables;
-}
+invariant_of-self c =
+    kept_space c.compact.ensures.heap c.compact.ensures.lists c.compact.ensures.packed.frame c.self.invariant.tables

@@ -1,8 +1,7 @@
-use Rattle.std.proofs.Common.{◌-◌, sym, subst, ◌∙◌, ap}
-use Rattle.heap_compact.proofs.Words.{Memory, directory_of, Alters, freed, WritesPlain, IsOne}
-use Rattle.laws_heap.proofs.Plain.{plain_then}
-use Rattle.heap_compact.proofs.GivenBackLaws.{same_found, then_freed}
-use Rattle.heap_compact.proofs.KeptLaws.{viewed_kept}
+-- The lists are built, and the chunk that became free is in its own.
+use Rattle.heap_compact.proofs.Words.{◌-◌, sym, subst, ◌∙◌, ap, Memory, directory_of, Alters, freed, WritesPlain, IsOne, plain_then}
+use Rattle.heap_compact.proofs.FoundAgain.{same_found, then_freed}
+use Rattle.heap_compact.proofs.KeptLaws.{viewed_space}
 use Rattle.heap_compact.proofs.space.Space.give_back.Goals.{After-release_listed}
 use Rattle.heap_compact.proofs.space.Space.give_back.Goals as goal
 
@@ -29,8 +28,5 @@ returns-clause-plain c =
     (plain_then c.self.inside.region.bytes c.build.new.region.bytes c.release_listed.new.region.bytes c.build.ensures.plain c.release_listed.ensures.plain)
 
 pub invariant_of-self : goal.invariant_of-self
-invariant_of-self c = record {
-  heap = c.release_listed.ensures.heap;
-  lists = c.release_listed.ensures.lists;
-  tables = viewed_kept c.self.inside.tables c.self.view_is (gone (goal.at.invariant_of-self c).After-release_listed).frame c.self.invariant.tables;
-}
+invariant_of-self c =
+    viewed_space c.self.view_is c.release_listed.ensures.heap c.release_listed.ensures.lists (gone (goal.at.invariant_of-self c).After-release_listed).frame c.self.invariant.tables

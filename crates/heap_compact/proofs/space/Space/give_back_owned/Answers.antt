@@ -1,8 +1,7 @@
-use Rattle.std.proofs.Common.{sym, subst}
-use Rattle.heap_compact.proofs.Words.{Memory, LendsNoneOf, Becomes, layout_of, owned_freed, WritesPlain}
-use Rattle.laws_heap.proofs.Plain.{plain_then}
+-- The owner's chunks become free, and all lists are built.
+use Rattle.heap_compact.proofs.Words.{sym, subst, Memory, LendsNoneOf, Becomes, layout_of, owned_freed, WritesPlain, plain_then}
 use Rattle.heap_place.proofs.GatherLaws.{becomes_twice}
-use Rattle.heap_compact.proofs.KeptLaws.{tables_kept}
+use Rattle.heap_compact.proofs.KeptLaws.{kept_space}
 use Rattle.heap_compact.proofs.space.Space.give_back_owned.Goals as goal
 
 pub release_owned-count-requires-clause-none_lent : goal.release_owned-count-requires-clause-none_lent
@@ -19,8 +18,5 @@ returns-clause-plain c =
     (plain_then c.self.inside.region.bytes c.release_owned-count.new.region.bytes c.gather.new.region.bytes c.release_owned-count.ensures.plain c.gather.ensures.plain)
 
 pub invariant_of-self : goal.invariant_of-self
-invariant_of-self c = record {
-  heap = c.gather.ensures.heap;
-  lists = c.gather.ensures.lists;
-  tables = tables_kept c.self.inside.tables (becomes_twice _ _ _ _ c.release_owned-count.ensures.gone c.gather.ensures.same).frame c.self.invariant.tables;
-}
+invariant_of-self c =
+    kept_space c.gather.ensures.heap c.gather.ensures.lists (becomes_twice _ _ _ _ c.release_owned-count.ensures.gone c.gather.ensures.same).frame c.self.invariant.tables

@@ -1,5 +1,5 @@
-use Rattle.std.proofs.Common.{◌-◌, subst}
-use Rattle.heap_compact.proofs.Words.{Memory, need, TellsWhetherInPlace}
+-- A chunk that grew moved no table, and one that didn't changed nothing.
+use Rattle.heap_compact.proofs.Words.{◌-◌, subst, Memory, need, TellsWhetherInPlace}
 use Rattle.heap_compact.proofs.KeptLaws.{grown_kept}
 use Rattle.heap_compact.proofs.space.Space.grow_in_place.Goals as goal
 

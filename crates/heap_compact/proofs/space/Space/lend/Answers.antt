@@ -1,10 +1,7 @@
-use Rattle.std.proofs.Common.{ℕ, ◌≡◌, ◌+◌, ◌∷◌, replicate, refl, sym, ap, subst, ◌∙◌, arith}
-use Rattle.std.proofs.lemmas.List.{length-replicate}
-use Rattle.heap_compact.proofs.Words.{Memory, Lent, NoneBegins, HoldsHeap}
-use Rattle.heap_place.proofs.LentLaws.{found_markable, lending_lends}
+-- The body reads as zeros, and is one lent part more.
+use Rattle.heap_compact.proofs.Words.{ℕ, ◌≡◌, ◌+◌, ◌∷◌, replicate, refl, sym, ap, subst, ◌∙◌, arith, length-replicate, Memory, Lent, NoneBegins, HoldsHeap, found_markable, lending_lends, same_bytes, same_lents}
 use Rattle.heap_compact.proofs.KeptLaws.{viewed_heap}
 use Rattle.heap_compact.proofs.SpaceWrites.{BodyWritten, body_written, body_within}
-use Rattle.heap_compact.proofs.MemoryLaws.{same_bytes, same_lents}
 use Rattle.heap_compact.proofs.space.Space.lend.Goals.{After-lend}
 use Rattle.heap_compact.proofs.space.Space.lend.Goals as goal
 
@@ -12,7 +9,7 @@ pub lend-requires : goal.lend-requires
 lend-requires c =
     let start : c.args.found.place.0 + 0 ≡ c.args.found.place.0 = omega arith in
     record {
-      within = rw start at (body_within c.self.view_is c.self.invariant c.requires.found 0 c.args.found.length c.requires.other (omega arith));
+      within = rw start at (body_within c.self.view_is c.self.invariant c.requires.found c.requires.other 0 c.args.found.length (omega arith));
       begins = subst (λ (m : Memory). NoneBegins c.args.found.place.0 m.lents) (sym c.self.view_is) c.requires.other;
       place = found_markable _ c.args.found (viewed_heap c.self.view_is c.self.invariant.heap).accepted c.requires.found;
     }

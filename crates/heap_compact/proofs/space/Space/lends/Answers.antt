@@ -1,7 +1,5 @@
-use Rattle.std.proofs.Common.{ap, length, arith}
-use Rattle.heap_model.specs.Memory.{Memory}
-use Rattle.heap_place.proofs.FoundLaws.{bytes_inside}
-use Rattle.heap_place.proofs.LentLaws.{found_markable}
+-- A body's place can be marked.
+use Rattle.heap_compact.proofs.Words.{ap, length, arith, Memory, bytes_inside, found_markable}
 use Rattle.heap_compact.proofs.KeptLaws.{viewed_heap}
 use Rattle.heap_compact.proofs.space.Space.lends.Goals as goal
 

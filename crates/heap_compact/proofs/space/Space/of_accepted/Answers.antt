@@ -1,6 +1,5 @@
-use Rattle.std.proofs.Common.{ℕ, List, sym, subst}
-use Rattle.heap_place.specs.Lists.{Any, HasLists}
-use Rattle.heap_place.proofs.ListLaws.{new_lists}
+-- No chunk is in a list, and the tables of the chain are remembered.
+use Rattle.heap_compact.proofs.Words.{ℕ, List, sym, subst, Any, HasLists, new_lists}
 use Rattle.heap_compact.proofs.space.Space.of_accepted.Goals as goal
 
 pub invariant_of-result : goal.invariant_of-result

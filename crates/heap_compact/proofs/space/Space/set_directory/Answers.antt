@@ -1,6 +1,5 @@
-use Rattle.heap_place.proofs.ListLaws.{lists_kept}
-use Rattle.std.proofs.Common.{ap}
-use Rattle.heap_model.specs.Slots.{Tables}
+-- Another directory leaves lists and tables as they are.
+use Rattle.heap_compact.proofs.Words.{lists_kept}
 use Rattle.master_table.proofs.FurtherLaws.{knows_still}
 use Rattle.heap_compact.proofs.space.Space.set_directory.Goals as goal
 

@@ -1,8 +1,6 @@
-use Rattle.std.proofs.Common.{sym, subst}
-use Rattle.heap_model.specs.Memory.{Memory}
-use Rattle.heap_place.specs.Resizes.{RunBehind, Resizes}
-use Rattle.heap_place.proofs.ResizeLaws.{none_behind, shrinks}
-use Rattle.heap_compact.proofs.KeptLaws.{viewed_kept, viewed_heap}
+-- The chunk is resized with no free chunk after it.
+use Rattle.heap_compact.proofs.Words.{sym, subst, Memory, RunBehind, Resizes, none_behind, shrinks}
+use Rattle.heap_compact.proofs.KeptLaws.{viewed_heap, viewed_space}
 use Rattle.heap_compact.proofs.space.Space.shrink.Goals as goal
 
 pub resize_listed-requires-clause-behind : goal.resize_listed-requires-clause-behind
@@ -14,9 +12,6 @@ returns-clause-made c =
     (subst (λ (m : Memory). Resizes m.bytes c.resize_listed.new.region.bytes c.args.found c.args.count 0) c.self.view_is c.resize_listed.ensures.resized)
 
 pub invariant_of-self : goal.invariant_of-self
-invariant_of-self c = record {
-  heap = c.resize_listed.ensures.heap;
-  lists = c.resize_listed.ensures.lists;
-  tables = viewed_kept c.self.inside.tables c.self.view_is (shrinks _ _ _ c.args.count (viewed_heap c.self.view_is c.self.invariant.heap).accepted c.requires.found
-      (subst (λ (m : Memory). Resizes m.bytes c.resize_listed.new.region.bytes c.args.found c.args.count 0) c.self.view_is c.resize_listed.ensures.resized)).frame c.self.invariant.tables;
-}
+invariant_of-self c =
+    viewed_space c.self.view_is c.resize_listed.ensures.heap c.resize_listed.ensures.lists (shrinks _ _ _ c.args.count (viewed_heap c.self.view_is c.self.invariant.heap).accepted c.requires.found
+    (subst (λ (m : Memory). Resizes m.bytes c.resize_listed.new.region.bytes c.args.found c.args.count 0) c.self.view_is c.resize_listed.ensures.resized)).frame c.self.invariant.tables

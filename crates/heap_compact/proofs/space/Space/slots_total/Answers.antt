@@ -1,6 +1,5 @@
-use Rattle.std.proofs.Common.{ap, ◌∙◌}
-use Rattle.heap_model.specs.Memory.{Memory}
-use Rattle.heap_model.specs.Slots.{slots_total}
+-- The slots are those of the tables that tile the image.
+use Rattle.heap_compact.proofs.Words.{ap, ◌∙◌, Memory, slots_total}
 use Rattle.heap_compact.proofs.space.Space.slots_total.Goals as goal
 
 pub slots_total-requires-clause-tiled : goal.slots_total-requires-clause-tiled

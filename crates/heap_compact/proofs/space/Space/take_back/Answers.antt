@@ -1,9 +1,7 @@
-use Rattle.std.proofs.Common.{ap, sym, subst, ◌∙◌, arith}
-use Rattle.heap_compact.proofs.Words.{Memory, without, HoldsHeap, IsOut}
-use Rattle.heap_place.proofs.LentLaws.{found_markable, back_lends}
+-- The bytes are written over the zeros of the body, which is lent no more.
+use Rattle.heap_compact.proofs.Words.{ap, sym, subst, ◌∙◌, arith, Memory, without, HoldsHeap, IsOut, found_markable, back_lends, same_bytes, same_lents}
 use Rattle.heap_compact.proofs.KeptLaws.{viewed_heap}
 use Rattle.heap_compact.proofs.SpaceWrites.{BodyWritten, body_written}
-use Rattle.heap_compact.proofs.MemoryLaws.{same_bytes, same_lents}
 use Rattle.heap_compact.proofs.space.Space.take_back.Goals.{After-take_back}
 use Rattle.heap_compact.proofs.space.Space.take_back.Goals as goal
 

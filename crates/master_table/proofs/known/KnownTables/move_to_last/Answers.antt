@@ -10,4 +10,7 @@ last_row-requires-clause-start c = subst (λ (k : Remembered). IsStart c.args.re
 pub returns-clause-knows : goal.returns-clause-knows
 returns-clause-knows c =
     knows_later c.args.region.now.bytes c.args.self.now _ c.requires.knows (ap (λ (k : Remembered). k.places) c.self.view_is)
-    (c.table-last.ensures c.args.region.now.bytes c.last_row.ensures.row)
+    (c.table-last.ensures.start c.args.region.now.bytes c.last_row.ensures.row)
+
+pub returns-clause-last : goal.returns-clause-last
+returns-clause-last c = c.table-last.ensures.last c.args.region.now.bytes c.last_row.ensures.row c.last_row.ensures.last

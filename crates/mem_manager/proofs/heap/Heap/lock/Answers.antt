@@ -3,6 +3,7 @@ use Rattle.std.proofs.Common.{◌≢◌, refl, arith, inl, inr}
 use Rattle.heap_model.specs.declared.call.Reply.{Reply}
 use Rattle.mem_manager.proofs.StepWords.{one_of, has_lock, managed_changed, no_lock, refused, has_chunk, answers}
 use Rattle.mem_manager.proofs.ChunkCalls.{relock_changes, locked, below_fixed}
+use Rattle.mem_manager.proofs.LoanCalls.{out_unmoved}
 use Rattle.mem_manager.proofs.heap.Heap.lock.Goals as goal
 
 pub returns-in_err-check_movable-clause-does : goal.returns-in_err-check_movable-clause-does
@@ -44,3 +45,8 @@ invariant_of-self c =
 pub returns-clause-does : goal.returns-clause-does
 returns-clause-does c =
     rw (← c.self.view_is) (locked c.in_ok-found.ensures.callers c.relock.ensures.rest c.in_ok-check_movable.ensures.ok c.if-found-eq-MOST_LOCKS.false c.relock.ensures.made)
+
+pub returns-clause-unmoved : goal.returns-clause-unmoved
+returns-clause-unmoved c =
+    let o = c.in_ok-found.ensures.callers in
+    rw (← c.self.view_is) (out_unmoved o.heap.accepted o.is (relock_changes _ o.heap.accepted o.is c.in_ok-check_movable.ensures.ok c.relock.ensures.made))

@@ -9,7 +9,7 @@ use Rattle.heap_model.specs.Maps.{put}
 use Rattle.heap_model.specs.Reading.{held}
 use Rattle.heap_model.specs.Store.{bytes_under}
 use Rattle.raw_region.specs.ByteChanges.{changed_every}
-use Rattle.heap_compact.proofs.ByteLaws.{changed_part, length-changed_part}
+use Rattle.heap_compact.proofs.SpaceWrites.{changed_part, length-changed_part}
 use Rattle.mem_manager.proofs.ChunkCalls.{write_changes}
 use Rattle.mem_manager.proofs.heap.Heap.sys_change_every.Goals as goal
 

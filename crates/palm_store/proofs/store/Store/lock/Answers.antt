@@ -6,3 +6,6 @@ invariant_of-self c = kept c.self.inside.heap c.lock.new.self _ _ c.self.invaria
 
 pub returns-clause-does : goal.returns-clause-does
 returns-clause-does c = forwarded c.self.inside.heap c.args.self.now c.lock.new.self _ _ c.self.view_is c.self.invariant c.lock.ensures.does
+
+pub returns-clause-unmoved : goal.returns-clause-unmoved
+returns-clause-unmoved c = rw (← c.self.view_is) c.lock.ensures.unmoved

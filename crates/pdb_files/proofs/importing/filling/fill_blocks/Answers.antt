@@ -30,8 +30,9 @@ fill_data-requires c =
     let many = length-map c.args.names.now (λ (name : Name). name.0) in
     let bytes : List ℕ = slice_range c.args.file.now c.in-Some.block.start c.in-Some.block.end in
     let is = block_at c.args.file.now c.args.blocks.now c.loop-index.index (Some c.in-Some.block) (omega arith) c.in-Some.is in
-    subst (λ (name : ℕ). HasDataOf c.loop-index.store.bytes name (length bytes)) (name_at c.args.names.now c.loop-index.index (record { 0 = 0 }) inside)
-    (next_data c.loop-index.store.bytes _ (numbers_in c.args.names.now) c.loop-index.index bytes (omega arith) is c.loop-index.invariant.filled)
+    subst (λ (xs : List ℕ). HasDataOf c.loop-index.store.bytes (get_or c.args.names.now c.loop-index.index (record { 0 = 0 })).0 (length xs)) (sym c.bytes_of.ensures)
+    (subst (λ (name : ℕ). HasDataOf c.loop-index.store.bytes name (length bytes)) (name_at c.args.names.now c.loop-index.index (record { 0 = 0 }) inside)
+    (next_data c.loop-index.store.bytes _ (numbers_in c.args.names.now) c.loop-index.index bytes (omega arith) is c.loop-index.invariant.filled))
 
 pub loop-index-preserved : goal.loop-index-preserved
 loop-index-preserved c =
@@ -44,7 +45,8 @@ loop-index-preserved c =
       | in-Some w ↦
           let bytes : List ℕ = slice_range c.args.file.now w.in-Some.block.start w.in-Some.block.end in
           let is = block_at c.args.file.now c.args.blocks.now c.loop-index.index (Some w.in-Some.block) (omega arith) w.in-Some.is in
-          let leaves = subst (λ (name : ℕ). LeavesStore c.loop-index.store.bytes w.fill_data.new.self.bytes (data_filled (store_of c.loop-index.store.bytes) name bytes)) (sym (name_at c.args.names.now c.loop-index.index (record { 0 = 0 }) inside)) w.fill_data.ensures.filled in
+          let filled = subst (λ (xs : List ℕ). LeavesStore c.loop-index.store.bytes w.fill_data.new.self.bytes (data_filled (store_of c.loop-index.store.bytes) (get_or c.args.names.now c.loop-index.index (record { 0 = 0 })).0 xs)) w.bytes_of.ensures w.fill_data.ensures.filled in
+          let leaves = subst (λ (name : ℕ). LeavesStore c.loop-index.store.bytes w.fill_data.new.self.bytes (data_filled (store_of c.loop-index.store.bytes) name bytes)) (sym (name_at c.args.names.now c.loop-index.index (record { 0 = 0 }) inside)) filled in
           subst (λ (store : Memory). IsFilling c.args.store.now store blocks names (c.loop-index.index + 1)) (sym w.store-is)
           (one_more c.args.store.now c.loop-index.store w.fill_data.new.self blocks names c.loop-index.index bytes c.requires.once (omega arith) is leaves w.fill_data.ensures.unmoved w.fill_data.ensures.loan w.fill_data.ensures.rest c.loop-index.invariant)
       | in_default w ↦

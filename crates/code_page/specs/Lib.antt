@@ -1,2 +1,0 @@
-pub mod Windows1252
-pub mod Texts

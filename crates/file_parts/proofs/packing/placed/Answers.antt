@@ -1,0 +1,8 @@
+use Rattle.std.proofs.Common.{◌∙◌}
+use Rattle.db_format.specs.EitherEntry.{entry_of}
+use Rattle.file_parts.proofs.PackedEntries.{entry_placed}
+use Rattle.file_parts.proofs.packing.placed.Goals as goal
+
+pub returns-clause-is : goal.returns-clause-is
+returns-clause-is c = λ bytes.
+    c.idle_entry_at.ensures.is ∙ entry_placed bytes c.args.at c.offset_of.result c.args.listed.now.part (entry_of c.args.listed.now.entry) (c.offset_of.ensures bytes)

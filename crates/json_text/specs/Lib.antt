@@ -1,2 +1,0 @@
-pub mod Strings
-pub mod Pieces

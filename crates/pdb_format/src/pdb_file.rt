@@ -1,0 +1,284 @@
+//! Files that are opened.
+
+ghost use Rattle.std.specs.Prelude.{◌≡◌, ◌≤◌, ◌<◌, ◌+◌, false, Err, Some, None, ◌^◌, ◌↔◌, IsTrue, IfOk, OnOk, IfErr, OnErr, length, slice_index, slice_index_or, slice_range};
+ghost use Rattle.heap_model.specs.Bytes.{AreBytes};
+ghost use Rattle.heap_model.specs.UniqueIds.{greatest_id, seed_in};
+ghost use Rattle.heap_model.specs.Database.{IsDatabaseName, HasName, name_in, database_in, header_in, resources_in, entry_count_in, entry_in, entry_with};
+ghost use Rattle.heap_model.specs.Store.{unique_id};
+ghost use Rattle.heap_model.specs.Files as files;
+ghost use Rattle.heap_model.specs.Files.{HasNoFault, blocks_in, offsets_in};
+ghost use Rattle.db_format.specs.EitherEntry.{entry_of, is_resource, HasFittingId};
+ghost use Rattle.db_format.specs.Headers.{IsHeaderOf, header_values};
+ghost use Rattle.pdb_format.specs.Blocks.{bytes_at, places_in, IsBlockWithin};
+ghost use Rattle.pdb_format.specs.Filler as fillers;
+ghost use Rattle.pdb_format.specs.ReadFiles.{HasIdsFor, entry_read_at, header_read};
+ghost use Rattle.pdb_format.specs.Opened.{HasPlaces};
+ghost use Rattle.pdb_format.specs.OpenFaults.{IsOpenFault};
+
+use crate::blocks::{Block, find_blocks};
+use crate::faults::check_file;
+use crate::filler::{first_place_after, first_start};
+use crate::written::{idle_entry_at, with_seed};
+use allowance::Allowance;
+use db_format::{DbEntry, DbHeader, GREATEST_ID, INFO_BLOCKS};
+use heap_model::FileFault;
+use std::alloc::AllocError;
+use std::marker::Model;
+
+/// The reason why a file was not opened.
+#[derive(Clone, Copy)]
+pub enum OpenFault {
+    /// The file has this first fault.
+    BadFile(FileFault),
+    /// An allocation failed.
+    OutOfMemory,
+}
+
+/// A PDB or PRC file without fault, with the places of its blocks. It borrows the file's bytes.
+/// Contracts see these bytes.
+///
+/// The rank of a block is 0 for the AppInfo block, 1 for the SortInfo block, and 2 more than its
+/// index for the data of an entry.
+#[derive(Drop)]
+pub struct PdbFile<'a> {
+    bytes: &'a [u8],
+    blocks: Vec<Option<Block>>,
+}
+
+impl<'a> Model for PdbFile<'a> {
+    ghost use Rattle.std.specs.Prelude.{ℕ, List};
+    ghost use Rattle.pdb_format.specs.Opened.{HasPlaces};
+
+    ghost Value = { List ℕ };
+
+    ghost view = { λ file. file.bytes.now };
+
+    ghost invariant = { λ file. HasPlaces file.bytes.now file.blocks.items };
+}
+
+impl<'a> PdbFile<'a> {
+    /// Checks a file, and finds the places of its blocks. It sorts the offsets once.
+    ///
+    /// # Errors
+    ///
+    /// - `BadFile`: if the file has a fault. It contains the first one, as `check_file` has it.
+    /// - `OutOfMemory`: if `memory` refused a grant, or an allocation failed.
+    pub fn open<A: Allowance>(memory: &A, bytes: &'a [u8]) -> Result<PdbFile<'a>, OpenFault>
+        ensures opened { IfOk result (λ file. file ≡ bytes.now) }
+        ensures good { OnOk result (HasNoFault bytes.now) }
+        ensures why { IfErr result (IsOpenFault bytes.now) }
+        ensures short { result ≡ Err OpenFault.OutOfMemory → A.is_short memory.now }
+    {
+        if let Err(fault) = check_file(bytes) {
+            return Err(OpenFault::BadFile(fault));
+        }
+        match PdbFile::of(memory, bytes) {
+            Ok(file) => Ok(file),
+            Err(_) => Err(OpenFault::OutOfMemory),
+        }
+    }
+
+    /// Finds the places of the blocks of a file that is known to have no fault.
+    ///
+    /// # Errors
+    ///
+    /// - `AllocError`: if `memory` refused a grant, or an allocation failed.
+    pub fn of<A: Allowance>(memory: &A, bytes: &'a [u8]) -> Result<PdbFile<'a>, AllocError>
+        requires { HasNoFault bytes.now }
+        ensures opened { IfOk result (λ file. file ≡ bytes.now) }
+        ensures short { OnErr result (A.is_short memory.now) }
+    {
+        match find_blocks(memory, bytes) {
+            Ok(blocks) => Ok(PdbFile { bytes, blocks }),
+            Err(fault) => Err(fault),
+        }
+    }
+
+    /// Returns the bytes of the file.
+    pub fn bytes(&self) -> &'a [u8]
+        ensures bytes { result.now ≡ self.now }
+        ensures good { HasNoFault self.now }
+        ensures numbers { AreBytes self.now }
+    {
+        know_bytes(self.bytes);
+        self.bytes
+    }
+
+    /// Returns the name.
+    pub fn name(&self) -> &'a [u8]
+        ensures is { result.now ≡ name_in self.now }
+        ensures valid { IsDatabaseName (name_in self.now) }
+    {
+        db_format::name_in(self.bytes)
+    }
+
+    /// Returns whether only zeros follow the name in its field.
+    pub fn has_name(&self) -> bool
+        ensures { IsTrue result ↔ HasName self.now }
+    {
+        db_format::has_name(self.bytes)
+    }
+
+    /// Returns the header.
+    pub fn header(&self) -> DbHeader
+        ensures is { IsHeaderOf (database_in self.now) result }
+        ensures values { header_values result ≡ header_in self.now }
+    {
+        DbHeader::read(self.bytes)
+    }
+
+    /// Returns the header as it is read, with this seed in the low 24 bits of its field.
+    pub fn header_with_seed(&self, seed: u32) -> DbHeader
+        requires { seed ≤ greatest_id }
+        ensures values { header_values result ≡ header_read self.now seed }
+        ensures entry_count { result.entry_count ≡ entry_count_in self.now }
+        ensures name { IsDatabaseName result.name }
+    {
+        let mut header = DbHeader::read(self.bytes);
+        header.seed = with_seed(header.seed, seed);
+        header
+    }
+
+    /// Returns the seed of the unique IDs: the low 24 bits of its field.
+    pub fn seed(&self) -> u32
+        ensures is { result ≡ seed_in (header_in self.now).seed }
+        ensures most { result ≤ greatest_id }
+    {
+        db_format::seed(self.bytes) & GREATEST_ID
+    }
+
+    /// Returns whether the entries are resources. Otherwise they are records.
+    pub fn has_resources(&self) -> bool
+        ensures { result ≡ resources_in self.now }
+    {
+        db_format::has_resources(self.bytes)
+    }
+
+    /// Returns the number of entries.
+    pub fn entry_count(&self) -> u16
+        ensures { result ≡ entry_count_in self.now }
+    {
+        db_format::entry_count(self.bytes)
+    }
+
+    /// Returns the entry at an index.
+    pub fn entry(&self, index: u16) -> DbEntry
+        requires { index < entry_count_in self.now }
+        ensures is { entry_of result ≡ entry_in self.now index }
+        ensures kind { is_resource result ≡ resources_in self.now }
+        ensures id { HasFittingId result }
+    {
+        DbEntry::read(self.bytes, index)
+    }
+
+    /// Returns the unique ID of the record at an index.
+    pub fn record_id(&self, index: u16) -> u32
+        requires inside { index < entry_count_in self.now }
+        requires records { resources_in self.now ≡ false }
+        ensures is { Some result ≡ unique_id (entry_in self.now index) }
+        ensures most { result ≤ greatest_id }
+    {
+        db_format::record_id(self.bytes, index)
+    }
+
+    /// Returns the entry at an index as it is written: it isn't busy, a record has its ID of `ids`,
+    /// and the data is at the offset `at`.
+    pub fn written_entry(&self, index: u16, ids: &[u32], at: u32) -> DbEntry
+        requires inside { index < entry_count_in self.now }
+        requires ids { HasIdsFor self.now ids.now }
+        ensures is { entry_of result
+            ≡ entry_with (λ _. at) (entry_read_at self.now ids.now index) }
+        ensures kind { is_resource result ≡ resources_in self.now }
+        ensures id { HasFittingId result }
+    {
+        match idle_entry_at(self.entry(index), at) {
+            DbEntry::Record(mut record) => {
+                record.id = ids[index as usize];
+                DbEntry::Record(record)
+            }
+            DbEntry::Resource(resource) => DbEntry::Resource(resource),
+        }
+    }
+
+    /// Returns the offset at which the entries end.
+    pub fn entries_end(&self) -> usize
+        ensures is { result ≡ files.entries_end self.now }
+        ensures inside { result ≤ length self.now }
+    {
+        db_format::entries_end(self.bytes)
+    }
+
+    /// Returns the offset of the first block when the file is written again.
+    pub fn first_place(&self) -> u32
+        ensures is { result ≡ fillers.first_place self.now }
+        ensures most { result ≤ length self.now + 2 }
+    {
+        let _ = self.bytes();
+        first_place_after(self.has_resources(), self.entry_count())
+    }
+
+    /// Returns the bytes between the entries and the first block, or up to the end of the file if
+    /// there is none.
+    pub fn filler(&self) -> &'a [u8]
+        ensures { result.now ≡ fillers.filler_in self.now }
+    {
+        let start = self.entries_end();
+        &self.bytes()[start..first_start(self)]
+    }
+
+    /// Returns the number of ranks: two for the info blocks, and one for each entry.
+    pub fn rank_count(&self) -> usize
+        ensures is { result ≡ 2 + entry_count_in self.now }
+        ensures blocks { result ≡ length (blocks_in self.now) }
+        ensures offsets { result ≡ length (offsets_in self.now) }
+        ensures most { result ≤ 65537 }
+    {
+        INFO_BLOCKS + self.entry_count() as usize
+    }
+
+    /// Returns the offset of the block of a rank, or 0 if the file doesn't have the block.
+    pub fn offset(&self, rank: usize) -> usize
+        requires { rank < 2 + entry_count_in self.now }
+        ensures is { result ≡ slice_index (offsets_in self.now) rank }
+        ensures inside { result ≤ length self.now }
+    {
+        match self.block(rank) {
+            Some(block) => block.start,
+            None => 0,
+        }
+    }
+
+    /// Returns the places of the blocks by their rank.
+    pub fn blocks(&self) -> &[Option<Block>]
+        ensures places { HasPlaces self.now result.now }
+        ensures size { length self.now < 2 ^ 63 }
+    {
+        &self.blocks
+    }
+
+    /// Returns the place of the block of a rank, if the file has the block.
+    pub fn block(&self, rank: usize) -> Option<Block>
+        requires { rank < 2 + entry_count_in self.now }
+        ensures place { result ≡ slice_index_or (places_in self.now) rank None }
+        ensures is { bytes_at self.now result ≡ slice_index_or (blocks_in self.now) rank None }
+        ensures within { IsBlockWithin (length self.now) result }
+    {
+        let blocks = self.blocks();
+        blocks[rank]
+    }
+
+    /// Returns the bytes at a place in the file.
+    pub fn bytes_of(&self, block: Block) -> &'a [u8]
+        requires { IsBlockWithin (length self.now) (Some block) }
+        ensures { result.now ≡ slice_range self.now block.start block.end }
+    {
+        &self.bytes[block.start..block.end]
+    }
+}
+
+/// Proves that the numbers in a slice are bytes.
+fn know_bytes(bytes: &[u8])
+    ensures { AreBytes bytes.now }
+{
+    let _bytes = bytes;
+}

@@ -1,0 +1,4 @@
+pub mod Windows1252
+pub mod Texts
+pub mod Strings
+pub mod Pieces

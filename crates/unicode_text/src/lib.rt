@@ -1,0 +1,24 @@
+//! Text in Unicode: names in UTF-8, and JSON documents. Bytes are read as Windows-1252. Start with
+//! `specs/Windows1252.antt`, which lists the characters.
+//!
+//! A document is written piece by piece by `put_json`, without memory of its own. It is one object
+//! on one line, in ASCII. A string has a character for each byte: that of the byte in Windows-1252
+//! or, if there is none, that of its own code. Beside each string from a file stands the same in
+//! hex, so a reader can get the exact bytes.
+//!
+//! | module | does |
+//! |---|---|
+//! | `characters` | the characters of bytes |
+//! | `texts` | names in UTF-8 |
+//! | `pieces` | pieces of JSON documents |
+//! | `strings` | strings of JSON |
+#![tactic(auto)]
+
+mod characters;
+mod pieces;
+mod strings;
+mod texts;
+
+pub use characters::character_of;
+pub use pieces::{JsonPiece, put_json};
+pub use texts::put_text;
