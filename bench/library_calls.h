@@ -127,6 +127,23 @@ static void heap_put_back(struct heap *heap)
     palmheap_put_back(&heap->store, &heap->loan);
 }
 
+/* The loans of many chunks. One that is refused has no bytes. */
+static palmheap_loan loans[MOST_OUT];
+
+static void heap_take_out_many(struct heap *heap, const uint32_t *names, size_t count)
+{
+    for (size_t i = 0; i < count; i++)
+        if (palmheap_take_out_also(&heap->store, names[i], &loans[i]) != 0)
+            loans[i] = (palmheap_loan){0};
+}
+
+static void heap_put_back_many(struct heap *heap, size_t count)
+{
+    for (size_t i = 0; i < count; i++)
+        if (loans[i].bytes != NULL)
+            palmheap_put_back(&heap->store, &loans[i]);
+}
+
 static uint32_t free_bytes(const struct heap *heap)
 {
     uint32_t count = 0;

@@ -6,7 +6,7 @@
 #define MEMORY_LOAD_H
 
 /* What the calls here are done with. */
-enum { OWNER = 1, MOST_BYTES = 64, WIDTH = 16, MOST_MOVED = 2000 };
+enum { OWNER = 1, MOST_BYTES = 64, WIDTH = 16, MOST_MOVED = 2000, MOST_OUT = 1000 };
 
 #ifdef LIBRARY
 #include "library_calls.h"
@@ -123,9 +123,15 @@ static void ask_locks(struct load *load)
     }
 }
 
-static void read_chunks(struct load *load)
+/* How many bodies are out while the other chunks are read. */
+static size_t out_among(const struct load *load)
 {
-    for (size_t i = 0; i < load->wide_count; i++) {
+    return load->wide_count / 2 < MOST_OUT ? load->wide_count / 2 : MOST_OUT;
+}
+
+static void read_chunks(struct load *load, size_t from)
+{
+    for (size_t i = from; i < load->wide_count; i++) {
         const uint8_t *bytes;
         enum refusal refusal = heap_read(&load->heap, load->wide[i], 0, WIDTH, &bytes);
         if (refusal != DONE) {
@@ -161,26 +167,30 @@ static void take_out_and_put_back(struct load *load)
     }
 }
 
-enum call { LOCK_AND_UNLOCK, ASK_SIZE, ASK_OWNER, ASK_LOCKS, READ, WRITE, TAKE_OUT_AND_PUT_BACK, CALLS };
+enum call { LOCK_AND_UNLOCK, ASK_SIZE, ASK_OWNER, ASK_LOCKS, READ, WRITE, TAKE_OUT_AND_PUT_BACK, READ_WITH_OUT, CALLS };
 
 static const char *const CALL_NAMES[CALLS] = {
-    "lock_and_unlock", "size", "owner", "locks", "read", "write", "take_out_and_put_back",
+    "lock_and_unlock", "size", "owner", "locks", "read", "write", "take_out_and_put_back", "read_with_1000_out",
 };
 
 /* Does a call at each handle, or at each one of a chunk that has 16 bytes, so many times. */
 static void repeat(struct load *load, enum call call, uint32_t passes)
 {
+    size_t out = call == READ_WITH_OUT ? out_among(load) : 0;
+    heap_take_out_many(&load->heap, load->wide, out);
     for (uint32_t pass = 0; pass < passes; pass++) {
         switch (call) {
         case LOCK_AND_UNLOCK: lock_and_unlock(load); break;
         case ASK_SIZE: ask_sizes(load); break;
         case ASK_OWNER: ask_owners(load); break;
         case ASK_LOCKS: ask_locks(load); break;
-        case READ: read_chunks(load); break;
+        case READ: read_chunks(load, 0); break;
+        case READ_WITH_OUT: read_chunks(load, out); break;
         case WRITE: write_chunks(load, (uint8_t)pass); break;
         default: take_out_and_put_back(load); break;
         }
     }
+    heap_put_back_many(&load->heap, out);
 }
 
 /* How many calls a pass of this kind has. */
@@ -190,6 +200,8 @@ static size_t calls_of_pass(const struct load *load, enum call call)
         return 2 * load->handle_count;
     if (call == TAKE_OUT_AND_PUT_BACK)
         return 2 * load->wide_count;
+    if (call == READ_WITH_OUT)
+        return load->wide_count - out_among(load);
     return call < READ ? load->handle_count : load->wide_count;
 }
 

@@ -132,6 +132,17 @@ static void heap_put_back(struct heap *heap)
     heap->lent = 0;
 }
 
+/* Plain C lends one chunk at a time. So nothing is out here while other chunks are read. */
+static void heap_take_out_many(struct heap *heap, const uint32_t *names, size_t count)
+{
+    (void)heap, (void)names, (void)count;
+}
+
+static void heap_put_back_many(struct heap *heap, size_t count)
+{
+    (void)heap, (void)count;
+}
+
 static enum refusal heap_handle_new(struct heap *heap, uint32_t length, uint32_t owner,
                                     uint32_t *name)
 {

@@ -567,7 +567,26 @@ uint32_t palmheap_lock_pointer(palmheap_store *store, uint32_t name, uint8_t **b
 
 /* Unlocks the pointer to the bytes of a chunk once. The last time it puts the bytes back, and unlocks the chunk once.
  * Returns PALMHEAP_CALL_NO_POINTER, and changes nothing, if no pointer to the chunk is out. */
-uint32_t palmheap_unlock_pointer(palmheap_store *store, uint32_t name);
+uint32_t palmheap_unlock_handle(palmheap_store *store, uint32_t name);
+
+/* Sets start to the address at which the image of a store starts, until the store is closed. A pointer that is out is
+ * start plus the place of its chunk. The bytes there belong to the store: do not read or write through start. */
+void palmheap_start(palmheap_store *store, uint8_t **start);
+
+/* Unlocks a pointer once, as palmheap_unlock_handle unlocks its chunk: bytes is the pointer that palmheap_lock_pointer
+ * gave. bytes may be any pointer: this returns PALMHEAP_CALL_NO_POINTER, and changes nothing, if it is not one that is
+ * out. This function is in the header only: the library does not export it. */
+static inline uint32_t palmheap_unlock_pointer(palmheap_store *store, const void *bytes) {
+    const uint32_t longest = 16777208; /* the size of the longest image */
+    uint8_t *start;
+    uint32_t name;
+    palmheap_start(store, &start);
+    /* An address below start gives a place that is too large. */
+    const uintptr_t place = (uintptr_t)bytes - (uintptr_t)start;
+    if (place > longest || palmheap_MemPtrRecoverHandle(store, (uint32_t)place, &name) != 0)
+        return PALMHEAP_CALL_NO_POINTER;
+    return palmheap_unlock_handle(store, name);
+}
 
 #ifdef __cplusplus
 }

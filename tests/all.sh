@@ -1,6 +1,6 @@
 #!/bin/bash
-# Runs the scripts that the gate does not run: those of tests/, and those of bench/ with little work, which stop
-# if C and Rattle answer otherwise. Times that it prints mean nothing; docs/MEASUREMENTS.md has those.
+# Runs the scripts of tests/ but for the gate, and those of bench/ with little work, which stop if C and Rattle
+# answer otherwise. Times that it prints mean nothing; docs/MEASUREMENTS.md has those.
 #
 #   tests/all.sh
 #
@@ -51,6 +51,8 @@ run 'rt' tests/program.sh
 run 'rt cmp' tests/hostile.sh
 run 'rt awk diff python3' tests/maps.sh
 run 'rt gcc python3' tests/library.sh 1000
+run 'rt gcc python3' tests/python.sh
+run 'rt gcc python3 dpkg-deb' tests/debian.sh
 run 'rt perl Palm::PDB txt2pdbdoc pgmtoimgv imgvtopnm' tests/peers.sh
 run 'rt cc python3' bench/check_heap.sh 1 1
 run 'rt' bench/check_store.sh 1

@@ -4,7 +4,7 @@
 #
 #   tests/dropped_loans.sh
 #
-# Needs rt, proves nothing, and takes some two minutes. The status is 1 if a case fails. The gate doesn't run this.
+# Needs rt, proves nothing, and takes some two minutes. The status is 1 if a case fails.
 top=$(cd -- "$(dirname -- "$0")/.." && pwd)
 folder=$(mktemp -d) || exit 1
 trap 'rm -rf -- "$folder"' EXIT
@@ -34,8 +34,8 @@ use raw_region::Region;
 use std::alloc::AllocError;
 
 fn main(rt: HostRuntime) -> Result<(), AllocError> {
-    let mut region = Region::zeroed(rt.alloc(), 8)?;
-    let part = region.lend(2, 3);
+    let mut region = Region::zeroed(rt.alloc(), 16)?;
+    let part = region.lend(8, 3);
     $1
     Ok(())
 }
@@ -93,7 +93,7 @@ refuses() {
     fi
 }
 
-takes part 'region.take_back(part);'
+takes part 'region.take_back(8, part);'
 refuses part Part 'let _kept = &region;'
 refuses part Part 'let _there = part.len();'
 takes loan 'heap.put_back(loan);'

@@ -13,10 +13,7 @@ import subprocess
 import sys
 import tempfile
 
-TOP = os.path.dirname(os.path.dirname(os.path.realpath(__file__)))
-sys.path.insert(0, f"{TOP}/examples/python")
-sys.dont_write_bytecode = True
-import palmheap
+import c_calls as palmheap
 
 KINDS = {60: "Truncated", 61: "ChainedList", 62: "EmptyName", 63: "BadInfo app", 64: "BadInfo sort", 65: "BadOffset"}
 # Draws are made in parts, each from its own seed, side by side on all processors.
@@ -695,13 +692,20 @@ class Calls:
         self.replies.append(("ok", f" {self.ask('MemHandleLockCount', name)}"))
         self.fill_lent(h, given)
 
+    def unlock_once(self, name, given):
+        """Unlocks bytes by the name of their chunk or by their address."""
+        if self.rng.random() < 0.5:
+            self.store.unlock_handle(name)
+        else:
+            self.store.unlock_pointer(given)
+
     def unlock_pointer(self, name):
         if self.pinned[name][1] == 1:
             self.put_back(name)
             return
         self.pinned[name][1] -= 1
         locks = self.ask("MemHandleLockCount", name)
-        self.store.unlock_pointer(name)
+        self.unlock_once(name, self.lent[name][0])
         if self.ask("MemHandleLockCount", name) != locks or name not in self.store.lent():
             sys.exit(f"the pointer to {name} is no longer out")
 
@@ -729,7 +733,7 @@ class Calls:
             sys.exit(f"the chunk {name} is lent, and a call is not refused")
         loan[half:] = data[half:]
         if name in self.pinned:
-            self.store.unlock_pointer(name)
+            self.unlock_once(name, loan)
             self.lines.append(f"unlock {self.pinned.pop(name)[0]}")
             self.replies.append(("ok", f" {self.ask('MemHandleLockCount', name)}"))
         else:
@@ -737,7 +741,7 @@ class Calls:
         del self.lent[name]
         self.check_lent()
         try:
-            self.store.unlock_pointer(name)
+            self.unlock_once(name, loan)
             sys.exit(f"no pointer to {name} is out, and one is unlocked")
         except palmheap.Refused as refused:
             if refused.number != NO_POINTER:

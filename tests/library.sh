@@ -3,7 +3,7 @@
 #
 #   tests/library.sh [FILES]
 #
-# Runs the bindings in examples/, those for C also under valgrind and with the address and undefined-behavior
+# Runs the programs in examples/, those for C also under valgrind and with the address and undefined-behavior
 # sanitizers, and compares the library with the commands `list` and `canonical` on FILES damaged files (100000). It
 # compares as many calls on a store, and palmheap_run on scripts of the same calls, with the command `run`: by text,
 # files and image, with buffers that are long enough or too short, and on scripts and images with faults.
@@ -49,6 +49,8 @@ done <<'END'
 /palmheap_DmSet(/s/uint32_t at, uint32_t count/uint32_t count, uint32_t at/
 /palmheap_pdb_check(/s/const uint8_t/uint8_t/
 s/^bool palmheap_lent/uint32_t palmheap_lent/
+s/^void palmheap_start(.*/void palmheap_start(palmheap_store *store, uint8_t *start);/
+s/palmheap_unlock_pointer/palmheap_start/
 s/^void palmheap_put_back/uint8_t *palmheap_more(void);\n&/
 s/uint16_t attributes;/uint8_t attributes;/
 /PALMHEAP_REFUSED_CHUNK_LOCKED =/s/3/4/
@@ -133,7 +135,7 @@ fi
 if command -v cargo >/dev/null; then
     (cd "$top/examples/rust" && CARGO_TARGET_DIR=$room/target RUSTFLAGS="-L $room/lib/lib" \
         cargo run -q --offline -- "$room/memos.pdb") >"$room/rust" || fail 'the demo in Rust failed'
-    python3 "$top/examples/python/palmheap.py" "$room/memos.pdb" >"$room/python" || fail 'the demo in Python failed'
+    python3 "$top/tests/c_calls.py" "$room/memos.pdb" >"$room/python" || fail 'the demo in Python failed'
     cmp "$room/rust" "$room/python" || fail 'the demos in Rust and Python differ'
 else
     echo 'not run: cargo'

@@ -1,5 +1,6 @@
 /* Part of tests/library.sh: lends chunks at random, by loans and by pointers, many at once, and puts them back in any
- * order, with other calls between.
+ * order, with other calls between. It unlocks a pointer by its chunk or by its address, and tries addresses that no
+ * pointer has.
  *
  *   gcc library_loans.c libpalmheap.a -o loans && ./loans STEPS SEED
  *
@@ -25,7 +26,7 @@ static palmheap_store store;
 static struct chunk chunks[MOST];
 static uint8_t image[SIZE];
 static uint32_t count, out, goal, most_out;
-static unsigned lent_by_loan, lent_by_pointer, given_again, refused, no_space;
+static unsigned lent_by_loan, lent_by_pointer, given_again, by_address, no_pointer, refused, no_space;
 static uint64_t state;
 
 /* ---- what should be */
@@ -198,11 +199,38 @@ static void change(struct chunk *it) {
     for (uint32_t i = draw(MOST_BYTES); i < it->size; i++) it->bytes[i] = it->content[i] = (uint8_t)draw(256);
 }
 
-/* Unlocks a pointer, or puts a loan back. */
+static uint8_t *start_of_image(void) {
+    uint8_t *start;
+    palmheap_start(&store, &start);
+    return start;
+}
+
+/* The address of the bytes of a chunk. If it can't be locked, that of the image. */
+static const uint8_t *address_of(const struct chunk *it) {
+    uint32_t place = 0;
+    uint8_t locks;
+    if (it->bytes) return it->bytes;
+    if (palmheap_MemHandleLock(&store, it->name, &place, &locks) == 0)
+        want("unlock again", palmheap_MemHandleUnlock(&store, it->name, &locks), 0);
+    return start_of_image() + place;
+}
+
+/* Unlocks a pointer to a chunk once, by the chunk or by its address. */
+static void unlock_pointer(const struct chunk *it) {
+    uint32_t wanted = it->pointers ? 0 : PALMHEAP_CALL_NO_POINTER;
+    if (draw(2)) {
+        want("unlock handle", palmheap_unlock_handle(&store, it->name), wanted);
+        return;
+    }
+    want("unlock pointer", palmheap_unlock_pointer(&store, address_of(it)), wanted);
+    by_address += wanted == 0;
+}
+
+/* Unlocks or puts back a lent chunk. Other chunks are unlocked in vain. */
 static void give_back(struct chunk *it) {
     uint8_t locks;
     if (it->bytes) change(it);
-    want("unlock pointer", palmheap_unlock_pointer(&store, it->name), it->pointers ? 0 : PALMHEAP_CALL_NO_POINTER);
+    unlock_pointer(it);
     if (it->bytes == NULL) return;
     if (it->pointers == 0) palmheap_put_back(&store, &it->loan);
     else if (--it->pointers) return;
@@ -223,10 +251,27 @@ static void check_lent(void) {
         uint32_t i = 0;
         while (i < count && (chunks[i].name != name || chunks[i].bytes == NULL)) i++;
         if (i == count || place <= after) fail("a lent chunk", name, place);
+        if (chunks[i].bytes != start_of_image() + place) fail("the address of a lent chunk", name, place);
         after = place;
         found++;
     }
     if (found != out || palmheap_lent(&store, &name) != (out != 0)) fail("lent chunks", found, out);
+}
+
+/* Unlocks an address that no pointer has: NULL, one before, behind or within the image, or in the body of a chunk. */
+static void unlock_wrong(const struct chunk *it) {
+    const uintptr_t start = (uintptr_t)start_of_image();
+    const uint32_t far = draw(SIZE), kind = draw(5);
+    const uintptr_t within = (uintptr_t)address_of(it) + 1 + far % (it->size + 1);
+    const uintptr_t wrong[] = {0, start - 1 - far, start + SIZE + far, start + far, within};
+    uint8_t locks;
+    for (uint32_t i = 0; i < count; i++)
+        if (chunks[i].pointers && (uintptr_t)chunks[i].bytes == wrong[kind]) return;
+    want("unlock nothing", palmheap_unlock_pointer(&store, (const void *)wrong[kind]), PALMHEAP_CALL_NO_POINTER);
+    no_pointer++;
+    want("lock count", palmheap_MemHandleLockCount(&store, it->name, &locks), 0);
+    if (locks != it->locks) fail("locks after it was not unlocked", locks, it->locks);
+    if (draw(50) == 0) check_lent();
 }
 
 /* Puts all back, and closes the store and opens its image. */
@@ -259,7 +304,8 @@ static void step(void) {
     else if (kind < 50) read_part(it);
     else if (kind < 56) write_part(it);
     else if (kind < 57) whole_store();
-    else if (kind < 65 && lent) change(lent);
+    else if (kind < 62 && lent) change(lent);
+    else if (kind < 65) unlock_wrong(lent && draw(2) ? lent : it);
     else if (out < goal && draw(4)) (draw(2) ? take_out : lock_pointer)(it);
     else give_back(lent ? lent : it);
 }
@@ -282,6 +328,7 @@ int main(int argc, char **argv) {
     want("close", palmheap_close(&store), 0);
     printf("%ld steps: %u loans, %u pointers, %u of them given again; at most %u out\n", steps, lent_by_loan,
         lent_by_pointer + given_again, given_again, most_out);
+    printf("%u pointers were unlocked by address, and %u addresses in vain\n", by_address, no_pointer);
     printf("%u calls were refused, and %u chunks not made for want of space\n", refused, no_space);
     return 0;
 }

@@ -130,7 +130,7 @@ int main(void) {
     if (palmheap_MemHandleNew(&store, 8, 1, &chunk) != 0) return 1;
     int before_pointers = blocks;
     try("lock_pointer", lock_pointer, PALMHEAP_REFUSED_OUT_OF_MEMORY, 1);
-    if (palmheap_unlock_pointer(&store, chunk) != 0 || palmheap_MemHandleLockCount(&store, chunk, &locks) != 0) return 1;
+    if (palmheap_unlock_pointer(&store, memory.bytes) != 0 || palmheap_MemHandleLockCount(&store, chunk, &locks) != 0) return 1;
     if (locks != 0 || blocks > before_pointers + 1) return 1;
     if (palmheap_close(&store) != 0 || blocks != closed) return 1;
     return blocks != 0;

@@ -5,7 +5,7 @@
 #   tests/program.sh [PROGRAM]
 #
 # PROGRAM is the one that `../palmheap --build` builds, if none is given. Each case that fails has a line on standard error; the status is
-# 1 then. The gate runs none of this; what needs no more than files and a runtime stands in crates/test_program.
+# 1 then. What needs no more than files and a runtime stands in crates/test_program.
 top=$(cd -- "$(dirname -- "$0")/.." && pwd)
 program=${1:-$top/crates/palmheap/out/palmheap}
 if [ $# = 0 ]; then
@@ -198,6 +198,26 @@ is 'nothing is packed' '' "$(ls out.pdb 2>/dev/null)"
 (trap '' XFSZ; ulimit -f 0 && exec "$program" unpack empty.pdb full) >printed 2>complained
 is 'an unpacked file over a limit leaves nothing' '' "$(ls full 2>/dev/null)"
 rm -r parts hanging
+
+# a file that a transfer as text has changed: a byte 0d comes before each 0a
+{
+    printf Note
+    head -c 32 /dev/zero
+    printf '\n'
+    head -c 23 /dev/zero
+    printf 'DATATest\000\000\000\001'
+    head -c 8 /dev/zero
+} >note.pdb
+sed '1s/$/\r/' note.pdb >text.pdb
+converted='text.pdb: found 16777216, and only 0 is allowed
+text.pdb was transferred as text, with a byte 0d before each 0a: '\''perl -pe "s/\r\n/\n/"'\'' undoes it'
+says 'a file that was transferred as text' 1 'bad ChainedList
+at 72' "$converted" list text.pdb
+says 'an image of it' 1 'refused 25 BadFile ChainedList' "text.pdb: refused
+$converted" import d.img text.pdb
+says 'the file before that' 0 'ok 80
+canonical' '' canonical note.pdb text.pdb
+rm note.pdb text.pdb
 
 # images of files, and files of images: what is there stays, and what can't be written whole leaves nothing
 says 'an image of a file' 0 'ok 128 2

@@ -5,8 +5,9 @@
 
 Each exported function must be declared once, with the same result and the same parameters in order, by type and name.
 Each structure must have the same fields in order. Each kind of answer and each refusal must have the number that the
-Rattle code gives it. The comment on a function must list the same refusals as that in the Rattle code. HEADER is
-another file to compare. Prints each difference; the status is 1 if there is one.
+Rattle code gives it. The comment on a function must list the same refusals as that in the Rattle code. Functions that
+the header itself defines (static inline) are left out, and none of them may be exported. HEADER is another file to
+compare. Prints each difference; the status is 1 if there is one.
 """
 
 import os
@@ -20,6 +21,8 @@ NUMBERS = {"u8": "uint8_t", "u16": "uint16_t", "u32": "uint32_t", "u64": "uint64
 STRUCTS = {"Kept": "palmheap_store", "Slot": "palmheap_store", "KeptLoan": "palmheap_loan"}
 # Structures that C sees only as fields of another one.
 PARTS = {"palmheap_lent_part"}
+# A function that the header defines.
+INLINE = re.compile(r"^static inline [^;{]*?\b(\w+)\([^;{]*\{.*?^\}", re.M | re.S)
 # Pointers in structures, by the name of the field.
 POINTERS = {"at": "void *", "bytes": "uint8_t *"}
 
@@ -145,6 +148,8 @@ def main():
     text = "\n".join(text_of(f"{SOURCES}/{it}") for it in sorted(os.listdir(SOURCES)) if it.endswith(".rt"))
     text += text_of(f"{TOP}/crates/raw_region/src/lent_part.rt")
     whole = text_of(sys.argv[1] if len(sys.argv) > 1 else f"{TOP}/include/palmheap.h")
+    inline = [it[1] for it in INLINE.finditer(whole)]
+    whole = INLINE.sub("", whole)
     header = without_comments(whole)
     numbers = re.findall(r"\bPALMHEAP_(\w+) = (\d+)", header)
     wrong = []
@@ -163,6 +168,7 @@ def main():
     named = [(name, int(number)) for name, number in numbers]
     compare("the kind", list(kinds_of(text)), [it for it in named if not it[0].startswith("REFUSED_")], wrong)
     compare("the refusal", list(refusals), [it for it in named if it[0].startswith("REFUSED_")], wrong)
+    wrong += [f"the header defines {it}, and the crate exports it" for it, *_ in exported(text) if it in inline]
     print("\n".join(wrong) if wrong else f"{len(list(exported(text)))} functions are declared as they are exported")
     return 1 if wrong else 0
 

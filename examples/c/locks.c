@@ -61,7 +61,7 @@ static char first_letter(const struct entry *entry) {
     want("lock again", palmheap_lock_pointer(&store, entry->chunk, &bytes, &count), 0);
     if ((char *)bytes != entry->text) exit(3);
     char first = (char)bytes[0];
-    want("unlock once", palmheap_unlock_pointer(&store, entry->chunk), 0);
+    want("unlock once", palmheap_unlock_pointer(&store, bytes), 0);
     return first;
 }
 
@@ -108,8 +108,8 @@ int main(void) {
     want("write image", palmheap_write_image(&store, copy, sizeof copy, &count), PALMHEAP_REFUSED_LENT);
     want("close", palmheap_close(&store), PALMHEAP_REFUSED_LENT);
 
-    for (uint32_t i = 0; i < COUNT; i++) want("unlock", palmheap_unlock_pointer(&store, entries[i].chunk), 0);
-    want("unlock once more", palmheap_unlock_pointer(&store, name), PALMHEAP_CALL_NO_POINTER);
+    for (uint32_t i = 0; i < COUNT; i++) want("unlock", palmheap_unlock_pointer(&store, entries[i].text), 0);
+    want("unlock once more", palmheap_unlock_pointer(&store, entries[0].text), PALMHEAP_CALL_NO_POINTER);
     for (uint32_t i = 0; i < COUNT; i += 40) {
         want("query", palmheap_DmQueryRecord(&store, db, i, &name), 0);
         want("size", palmheap_MemHandleSize(&store, name, &size), 0);

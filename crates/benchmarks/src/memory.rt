@@ -1,7 +1,9 @@
 //! The calls of the memory manager. `memory SIZE SLOTS PASSES ROUNDS` makes a heap of SIZE bytes
 //! with SLOTS slots, and a chunk under each slot. It frees and makes chunks. Then it does the calls
 //! whose time doesn't depend on the heap, PASSES times at each handle. `tables`, with the same
-//! words, does the same on a heap whose slots are in further tables of 15.
+//! words, does the same on a heap whose slots are in further tables of 15. In the row
+//! `read_with_1000_out` the bodies of 1,000 chunks are out, or of half of them if they are fewer,
+//! and the others are read.
 //!
 //! Calls that walk through all chunks or move them use another heap: chunks fill it, and every
 //! second chunk is free. A third heap is used with orders of calls for which lists of free chunks
@@ -15,6 +17,7 @@
 ghost use Rattle.std.specs.Prelude.{[], ◌≡◌, IfOk};
 
 mod heaps;
+mod lending;
 mod load;
 mod numbers;
 mod walks;
@@ -51,7 +54,7 @@ const MOST_MOVED: u16 = 2000;
 const MOST_BODY: u16 = 64;
 
 /// The calls whose time doesn't depend on the heap, with the names that are printed.
-static CALLS: [(&str, Call); 7] = [
+static CALLS: [(&str, Call); 8] = [
     ("lock_and_unlock", Call::LockAndUnlock),
     ("size", Call::Size),
     ("owner", Call::Owner),
@@ -59,6 +62,7 @@ static CALLS: [(&str, Call); 7] = [
     ("read", Call::Read),
     ("write", Call::Write),
     ("take_out_and_put_back", Call::TakeOutAndPutBack),
+    ("read_with_1000_out", Call::ReadWithOut),
 ];
 
 /// The calls that walk through all chunks or move them, with the names that are printed.

@@ -64,7 +64,7 @@ fn append_head(file: &PdbFile<'_>, given: &GivenIds, bytes: &mut Vec<u8>)
 
 /// Returns the canonical form of a file.
 ///
-/// It allocates the canonical form and the IDs of the records.
+/// It allocates the canonical form, a set of IDs, and the IDs of the records (see `file_ids`).
 ///
 /// # Errors
 ///

@@ -54,8 +54,8 @@ pub fn changes_by(file: &PdbFile<'_>, given: &GivenIds) -> Changes
     }
 }
 
-/// Returns the changes of a file when it is rewritten. If there are none, the file is
-/// its own canonical form.
+/// Returns the changes of a file when it is rewritten. If there are none, the file is its own
+/// canonical form.
 ///
 /// It allocates a set of IDs and the IDs of the records (see `file_ids`). It doesn't allocate the
 /// canonical form.

@@ -1,33 +1,35 @@
 //! The bytes that a rewrite drops.
 
 ghost use Rattle.std.specs.Prelude.{◌≡◌, count_by, length};
+ghost use Rattle.heap_model.specs.Files.{HasNoFault};
 ghost use Rattle.canonical_file.specs.Dropped as words;
 ghost use Rattle.canonical_file.specs.Dropped.{IsDroppedFiller, after_name};
 
-use crate::offsets::has_filler;
-use db_format::NAME_SIZE;
-use pdb_format::PdbFile;
+use db_format::{NAME_SIZE, name_in};
+use pdb_format::{FILLER, filler_of};
 
 /// Returns how many bytes of no block a rewrite of a file drops: those between the entries and the
 /// first block, unless they are exactly two zeros.
-pub fn dropped_filler(file: &PdbFile<'_>) -> usize
+pub fn dropped_filler(file: &[u8]) -> usize
+    requires { HasNoFault file.now }
     ensures { IsDroppedFiller file.now result }
 {
-    if has_filler(file) {
+    let filler = filler_of(file);
+    if filler == FILLER.as_slice() {
         0
     } else {
-        file.filler().len()
+        filler.len()
     }
 }
 
 /// Returns how many bytes that aren't zero a rewrite of a file drops from the field of the name,
 /// after the name.
 #[tactic(auto, using(pdb_format::proofs::FileNames::name_short))]
-pub fn dropped_name(file: &PdbFile<'_>) -> usize
+pub fn dropped_name(file: &[u8]) -> usize
+    requires { HasNoFault file.now }
     ensures { result ≡ count_by words.is_set (after_name file.now) }
 {
-    let bytes = file.bytes();
-    count_set(&bytes[file.name().len()..NAME_SIZE])
+    count_set(&file[name_in(file).len()..NAME_SIZE])
 }
 
 /// Returns how many bytes aren't zero.

@@ -1,3 +1,4 @@
 pub mod Header
 pub mod Blank
+pub mod FaultNames
 pub mod Laws

@@ -4,6 +4,7 @@
 ghost use Rattle.std.specs.Prelude.{[], ◌≡◌, ◌↔◌, IfOk, Err, replicate};
 ghost use Rattle.heap_model.specs.Store.{Accepted, store_of};
 ghost use Rattle.chunk_format.specs.Blank.{IsRegionSize, LeavesRoom, IsPlanned, IsBlank, IsEmpty};
+ghost use Rattle.chunk_format.specs.FaultNames.{blank_fault_name};
 ghost use Rattle.allowance.specs.Refusals.{GrowthRefused};
 
 use crate::frame::{is_image_size, start_behind, write_frame};
@@ -15,16 +16,27 @@ use thiserror::Error;
 
 /// The reason why no blank image was made. The reasons are tested in this order.
 #[derive(Clone, Copy, Debug, PartialEq, Eq, Error)]
+#[error("{}", self.name())]
 pub enum BlankFault {
     /// The size is below 64 or above 16,777,208, or isn't a multiple of 8.
-    #[error("BadSize")]
     BadSize,
     /// There are no slots, or they leave less than 8 bytes after the table and its padding.
-    #[error("BadSlotCount")]
     BadSlotCount,
     /// The allocation failed.
-    #[error("OutOfMemory")]
     OutOfMemory,
+}
+
+impl BlankFault {
+    /// Returns the name of the reason.
+    pub fn name(self) -> &'static str
+        ensures { result.now ≡ blank_fault_name self }
+    {
+        match self {
+            BlankFault::BadSize => "BadSize",
+            BlankFault::BadSlotCount => "BadSlotCount",
+            BlankFault::OutOfMemory => "OutOfMemory",
+        }
+    }
 }
 
 /// Makes an image of `size` bytes with `slots` slots and one free chunk. All other bytes are zero.

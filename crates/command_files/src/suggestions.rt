@@ -4,7 +4,7 @@ ghost use Rattle.std.specs.Prelude.{[], ◌≡◌};
 ghost use Rattle.hints.specs.Lookalikes as words;
 
 use crate::faults::input_name;
-use chunk_format::is_image_size;
+use chunk_format::{BlankFault, is_image_size};
 use heap_model::Bytes;
 use hints::{looks_like_database, looks_like_image};
 use program_io::Status;
@@ -53,16 +53,16 @@ pub fn suggest_checks<R: Eprint>(rt: &R, paths: &[&str], status: Status, files: 
 /// reports nothing with another status than `BadWords`. `size` is the chosen size, if any.
 pub fn suggest_explain<R: Eprint>(rt: &R, status: Status, size: Option<u32>) {
     if status == Status::BadWords {
-        let name = blank_fault(size);
+        let name = blank_fault(size).name();
         let _ = eprintln!(rt; "'palmheap explain {name}' says what {name} means");
     }
 }
 
-/// Returns the name of the fault of a size and a slot count of which there is no image: that of the
-/// size, if no image has the size.
-fn blank_fault(size: Option<u32>) -> &'static str {
+/// Returns the fault of a size and a slot count of which there is no image: that of the size, if no
+/// image has the size.
+fn blank_fault(size: Option<u32>) -> BlankFault {
     match size {
-        Some(size) if !is_image_size(size as usize) => "BadSize",
-        _ => "BadSlotCount",
+        Some(size) if !is_image_size(size as usize) => BlankFault::BadSize,
+        _ => BlankFault::BadSlotCount,
     }
 }

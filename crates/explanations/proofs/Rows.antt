@@ -5,13 +5,13 @@ use Rattle.std.proofs.lemmas.List.Folds.{list_any-append}
 use Rattle.palm_text.specs.Counted.{Writing, Writes}
 use Rattle.palm_text.proofs.Parts.{then, stops}
 use Rattle.std.specs.Borrow.{Bor}
-use Rattle.explanations.specs.declared.table.Heading.{Heading}
+use Rattle.explanations.specs.declared.table.Subject.{Subject}
 use Rattle.explanations.specs.Explained.{Explanation, row_read, rows_read, line_if_asked, answers, is_among, is_asked, rows_of_sections, section_rows}
 use Rattle.explanations.specs.declared.table.Section.{Section}
 
 -- a row that the program reads
 abbrev Row : Type 0
-Row = Heading × (Bor (List ℕ) × (Bor (List ℕ) × Bor (List ℕ)))
+Row = Subject × (Bor (List ℕ) × Bor (List ℕ))
 
 -- the text from a row on
 text_at : (word : List ℕ) (rows : List Row) (i : ℕ) (d : Row) → i < length rows → answers word (rows_read (drop i rows)) ≡ line_if_asked word (row_read (get_or rows i d)) ++ answers word (rows_read (drop (i + 1) rows))

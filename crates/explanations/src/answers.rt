@@ -1,20 +1,22 @@
 //! The rows of a word.
 
 ghost use Rattle.std.specs.Prelude.{◌≡◌, ◌⊎◌, is_ok};
+ghost use Rattle.std.specs.Str.{str_eq_ignore_ascii_case};
 ghost use Rattle.palm_text.specs.Counted.{Writes};
 ghost use Rattle.palm_text.specs.Output.{Puts};
 ghost use Rattle.explanations.specs.Ends.{EndsExplain};
 ghost use Rattle.explanations.specs.Explained as words;
 ghost use Rattle.explanations.specs.Explained.{all_rows, rows_of_sections};
+ghost use Rattle.explanations.specs.Subjects as subjects;
 
-use crate::table::{Explanation, SECTIONS, Section, Topic, rows_of};
+use crate::table::{Explanation, SECTIONS, Section, Subject, rows_of};
 use itoa::Buffer;
 use palm_text::{Counted, Piece, WriteFault, put_pieces};
 use program_io::{Status, flushed};
 use std::io::Write;
 
-/// Prints the meaning of a word: a line for each row of the table with this name or number. The case
-/// of letters doesn't matter. It returns `BadWords` if there is no row.
+/// Prints the meaning of a word: a line for each row of the table with this name or number. The
+/// case of letters doesn't matter. It returns `BadWords` if there is no row.
 pub fn explain_word<V: Write>(word: &[u8], out: &mut Counted<V>) -> Status
     ensures ends { EndsExplain word.now all_rows V.contents out.old out.new result }
     ensures statuses { (result ≡ Status.Done) ⊎ (result ≡ Status.BadWords)
@@ -104,14 +106,14 @@ fn put_asked<V: Write>(
 fn put_row<V: Write>(out: &mut Counted<V>, row: &Explanation) -> Result<(), WriteFault>
     ensures { Writes V.contents out.old out.new (words.explained_line (words.row_read row.now)) (is_ok result) }
 {
-    put_number(out, row.0.number)?;
+    put_number(out, row.0.number())?;
     put_pieces(
         out,
         &[
+            Piece::Text(row.0.name().as_bytes()),
             Piece::Text(row.1.0.as_bytes()),
-            Piece::Text(row.1.1.0.as_bytes()),
-            Piece::Text(topic_text(row.0.topic)),
-            Piece::Text(row.1.1.1.as_bytes()),
+            Piece::Text(topic_text(row.0)),
+            Piece::Text(row.1.1.as_bytes()),
             Piece::Text(b".\n"),
         ],
     )
@@ -128,19 +130,19 @@ fn put_number<V: Write>(out: &mut Counted<V>, number: Option<u8>) -> Result<(), 
     }
 }
 
-/// Returns the text of a topic, which follows the name.
-fn topic_text(topic: Topic) -> &'static [u8]
-    ensures { result.now ≡ words.topic_text topic }
+/// Returns the text after the name, which says what has it.
+fn topic_text(subject: Subject) -> &'static [u8]
+    ensures { result.now ≡ subjects.topic_text subject }
 {
-    match topic {
-        Topic::Image => b", a fault of an image: ",
-        Topic::Databases => b", a fault of the databases of an image: ",
-        Topic::File => b", a fault of a PDB or PRC file: ",
-        Topic::Line => b", a fault of a line: ",
-        Topic::Blank => b", a fault of 'new' and 'import': ",
-        Topic::Output => b", a fault of 'migrate', 'pack' and 'import': ",
-        Topic::Change => b", a change in a rewritten file: ",
-        Topic::Call => b", a refusal: ",
+    match subject {
+        Subject::Heap(_) => b", a fault of an image: ",
+        Subject::Databases(_) => b", a fault of the databases of an image: ",
+        Subject::File(_) => b", a fault of a PDB or PRC file: ",
+        Subject::Line(_) => b", a fault of a line: ",
+        Subject::Blank(_) => b", a fault of 'new' and 'import': ",
+        Subject::Output(_) => b", a fault of 'migrate', 'pack' and 'import': ",
+        Subject::Change(_) => b", a change in a rewritten file: ",
+        Subject::Call(_) => b", a refusal: ",
     }
 }
 
@@ -174,7 +176,14 @@ fn is_among(word: &[u8], rows: &[Explanation]) -> bool
 fn is_asked(word: &[u8], row: &Explanation) -> bool
     ensures { result ≡ words.is_asked word.now (words.row_read row.now) }
 {
-    row.1.0.as_bytes().eq_ignore_ascii_case(word) || is_number(row.0.number, word)
+    is_name(row.0.name(), word) || is_number(row.0.number(), word)
+}
+
+/// Returns whether a word is a name. The case of letters doesn't matter.
+fn is_name(name: &str, word: &[u8]) -> bool
+    ensures { result ≡ str_eq_ignore_ascii_case name.now word.now }
+{
+    name.as_bytes().eq_ignore_ascii_case(word)
 }
 
 /// Returns whether a word is the number of a refusal, in decimal.

@@ -1,7 +1,8 @@
 //! The meaning of each fault and each refusal, in the words of docs/FORMAT.md and docs/USING.md.
 //!
-//! The module `table` has the rows, in sections: start there. `explain_word` writes the rows for a name
-//! or a number. The crate `test_meanings` proves that no fault and no refusal lacks a row.
+//! The module `table` has the rows, in sections: start there. `explain_word` writes the rows for a
+//! name or a number. The crate `test_meanings` proves that each fault, each change in a rewritten
+//! file and each refusal has exactly one row.
 //!
 //! | module | does |
 //! |---|---|
@@ -13,4 +14,4 @@ mod answers;
 mod table;
 
 pub use answers::explain_word;
-pub use table::{Heading, Section, Topic};
+pub use table::{FileChange, Section, Subject};

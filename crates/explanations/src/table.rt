@@ -2,189 +2,178 @@
 
 ghost use Rattle.std.specs.Prelude.{◌≡◌};
 ghost use Rattle.explanations.specs.Explained as words;
+ghost use Rattle.explanations.specs.Subjects.{change_name, subject_name, subject_number};
 
-/// What a row is about.
+use chunk_format::BlankFault;
+use heap_check::HeapFault;
+use heap_migration::MigrateFault;
+use heap_model::{FileFault, Refusal, Which};
+use script_lines::ScriptFault;
+use store_check::StoreFault;
+
+/// A change in a rewritten file. `list` and `canonical` print its name after `changes`.
 #[derive(Clone, Copy)]
-pub enum Topic {
-    /// A heap image. `check` prints the fault after `bad`.
-    Image,
-    /// The databases of an image. `check` prints the fault after `bad` if the heap has none.
-    Databases,
-    /// A PDB or PRC file. `list` prints the fault after `bad`, a script line after `BadFile`.
-    File,
-    /// A line of a script, or of the text of a folder. `run` and `pack` print the fault after
+pub enum FileChange {
+    Busy,
+    Filler,
+    Ids,
+    Name,
+    Order,
+}
+
+impl FileChange {
+    /// Returns the name of the change.
+    fn name(self) -> &'static str
+        ensures { result.now ≡ change_name self }
+    {
+        match self {
+            FileChange::Busy => "busy",
+            FileChange::Filler => "filler",
+            FileChange::Ids => "ids",
+            FileChange::Name => "name",
+            FileChange::Order => "order",
+        }
+    }
+}
+
+/// What a row explains. A row is for a fault with any numbers: those in the table have no meaning.
+#[derive(Clone, Copy)]
+pub enum Subject {
+    /// A fault of a heap image. `check` prints it after `bad`.
+    Heap(HeapFault),
+    /// A fault of the databases of an image. `check` prints it after `bad` if the heap has none.
+    Databases(StoreFault),
+    /// A fault of a PDB or PRC file. `list` prints it after `bad`, a script line after `BadFile`.
+    File(FileFault),
+    /// A fault of a line of a script, or of the text of a folder. `run` and `pack` print it after
     /// `line` and the number of the line.
-    Line,
-    /// A size or a slot count that no image has. `new` and `import` print the fault after `bad`.
-    Blank,
-    /// A file or an image that would be too large. `migrate`, `pack` and `import` print the fault
-    /// after `bad`.
-    Output,
-    /// A change in a rewritten file. `list` and `canonical` print it after `changes`.
-    Change,
-    /// A call. A script line prints the refusal after `refused`.
-    Call,
+    Line(ScriptFault),
+    /// A size or a slot count that no image has. `new` and `import` print it after `bad`.
+    Blank(BlankFault),
+    /// A file or an image that would be too large. `migrate`, `pack` and `import` print it after
+    /// `bad`.
+    Output(MigrateFault),
+    /// A change in a rewritten file.
+    Change(FileChange),
+    /// A refusal of a call. A script line prints it after `refused`.
+    Call(Refusal),
 }
 
-/// What a row is about: its topic, and the number of a refusal. Faults have no number.
-#[derive(Clone, Copy)]
-pub struct Heading {
-    pub topic: Topic,
-    pub number: Option<u8>,
+impl Subject {
+    /// Returns the name that is printed.
+    pub(crate) fn name(self) -> &'static str
+        ensures { result.now ≡ subject_name self }
+    {
+        match self {
+            Subject::Heap(fault) => fault.name(),
+            Subject::Databases(fault) => fault.name(),
+            Subject::File(fault) => fault.name(),
+            Subject::Line(fault) => fault.name(),
+            Subject::Blank(fault) => fault.name(),
+            Subject::Output(fault) => fault.name(),
+            Subject::Change(change) => change.name(),
+            Subject::Call(refusal) => refusal.name(),
+        }
+    }
+
+    /// Returns the number of a refusal. Faults and changes have none.
+    pub(crate) fn number(self) -> Option<u8>
+        ensures { result ≡ subject_number self }
+    {
+        match self {
+            Subject::Call(refusal) => Some(refusal.number()),
+            _ => None,
+        }
+    }
 }
 
-/// A row of the table: its heading, its name, its values and its text. The values are a space and a
-/// letter for each number that is printed after the name. The text is the condition of the fault or
-/// refusal, by these letters and without the period. Definitions name the table, and they can't
-/// name one whose rows are structs of texts.
-pub type Explanation = (Heading, (&'static str, (&'static str, &'static str)));
-
-const ABOUT_IMAGE: Heading = Heading {
-    topic: Topic::Image,
-    number: None,
-};
-
-const ABOUT_DATABASES: Heading = Heading {
-    topic: Topic::Databases,
-    number: None,
-};
-
-const ABOUT_FILE: Heading = Heading {
-    topic: Topic::File,
-    number: None,
-};
-
-const ABOUT_LINE: Heading = Heading {
-    topic: Topic::Line,
-    number: None,
-};
-
-const ABOUT_BLANK: Heading = Heading {
-    topic: Topic::Blank,
-    number: None,
-};
-
-const ABOUT_OUTPUT: Heading = Heading {
-    topic: Topic::Output,
-    number: None,
-};
-
-const ABOUT_CHANGE: Heading = Heading {
-    topic: Topic::Change,
-    number: None,
-};
+/// A row of the table: what it explains, its values and its text. The values are a space and a
+/// letter for each number or word that is printed after the name. The text says by these letters
+/// when the fault or the refusal comes, or what changes, without a period at its end. A row is a
+/// tuple: definitions name the table, and they can't name one whose rows are structs with texts.
+pub type Explanation = (Subject, (&'static str, &'static str));
 
 /// The faults of an image.
 static IMAGE_ROWS: [Explanation; 12] = [
     (
-        ABOUT_IMAGE,
+        Subject::Heap(HeapFault::TooShort),
         (
-            "TooShort",
-            (
-                "",
-                "the image has under 16 bytes, or the magic is there and the size field is \
-                    above the length",
-            ),
+            "",
+            "the image has under 16 bytes, or the magic is there and the size field is \
+                above the length",
         ),
     ),
     (
-        ABOUT_IMAGE,
+        Subject::Heap(HeapFault::BadMagic),
+        ("", "the first four bytes are neither PHI1 nor PHI2"),
+    ),
+    (
+        Subject::Heap(HeapFault::BadSize),
         (
-            "BadMagic",
-            ("", "the first four bytes are neither PHI1 nor PHI2"),
+            "",
+            "the size field isn't the length, or isn't a multiple of 8 from 64 to 16777208",
         ),
     ),
     (
-        ABOUT_IMAGE,
+        Subject::Heap(HeapFault::BadSlotCount),
         (
-            "BadSize",
-            (
-                "",
-                "the size field isn't the length, or isn't a multiple of 8 from 64 to 16777208",
-            ),
+            "",
+            "there are no slots, or less than 8 bytes are left after the first table, its \
+                next in PHI2, and the padding",
         ),
     ),
     (
-        ABOUT_IMAGE,
+        Subject::Heap(HeapFault::BadReserved),
+        ("", "bytes 10 and 11 aren't zero"),
+    ),
+    (
+        Subject::Heap(HeapFault::BadPadding),
+        ("", "a padding byte isn't zero"),
+    ),
+    (
+        Subject::Heap(HeapFault::BadChunk(0)),
+        (" o", "the first chunk out of shape is at the offset o"),
+    ),
+    (
+        Subject::Heap(HeapFault::BadTable(0)),
         (
-            "BadSlotCount",
-            (
-                "",
-                "there are no slots, or less than 8 bytes are left after the first table, its \
-                    next in PHI2, and the padding",
-            ),
+            " i",
+            "only in PHI2: the next of index i in the chain, from 0, is the first that is \
+                neither 0 nor the body offset of a table. A table is a fixed chunk of owner 0, \
+                its length is a multiple of 4 and at least 8, and it isn't earlier in the \
+                chain",
         ),
     ),
     (
-        ABOUT_IMAGE,
-        ("BadReserved", ("", "bytes 10 and 11 aren't zero")),
-    ),
-    (
-        ABOUT_IMAGE,
-        ("BadPadding", ("", "a padding byte isn't zero")),
-    ),
-    (
-        ABOUT_IMAGE,
+        Subject::Heap(HeapFault::SlotMismatch(0)),
         (
-            "BadChunk",
-            (" o", "the first chunk out of shape is at the offset o"),
+            " s",
+            "the slot at the offset s is the first in use, in the order of the chain, that \
+                doesn't hold the place of a movable chunk that names it",
         ),
     ),
     (
-        ABOUT_IMAGE,
+        Subject::Heap(HeapFault::ChunkWithoutSlot(0)),
         (
-            "BadTable",
-            (
-                " i",
-                "only in PHI2: the next of index i in the chain, from 0, is the first that is \
-                    neither 0 nor the body offset of a table. A table is a fixed chunk of owner 0, \
-                    its length is a multiple of 4 and at least 8, and it isn't earlier in the \
-                    chain",
-            ),
+            " o",
+            "the chunk at the offset o is the first movable one that names no slot with its \
+                place",
         ),
     ),
     (
-        ABOUT_IMAGE,
+        Subject::Heap(HeapFault::BadFixedOwner(0)),
         (
-            "SlotMismatch",
-            (
-                " s",
-                "the slot at the offset s is the first in use, in the order of the chain, that \
-                    doesn't hold the place of a movable chunk that names it",
-            ),
+            " o",
+            "the chunk at the offset o is the first fixed one with owner 15, or with owner \
+                0 and no table of the chain",
         ),
     ),
     (
-        ABOUT_IMAGE,
+        Subject::Heap(HeapFault::BadDirectory),
         (
-            "ChunkWithoutSlot",
-            (
-                " o",
-                "the chunk at the offset o is the first movable one that names no slot with its \
-                    place",
-            ),
-        ),
-    ),
-    (
-        ABOUT_IMAGE,
-        (
-            "BadFixedOwner",
-            (
-                " o",
-                "the chunk at the offset o is the first fixed one with owner 15, or with owner \
-                    0 and no table of the chain",
-            ),
-        ),
-    ),
-    (
-        ABOUT_IMAGE,
-        (
-            "BadDirectory",
-            (
-                "",
-                "the directory word isn't 0, nor the offset of a slot in use whose chunk has \
-                    owner 0",
-            ),
+            "",
+            "the directory word isn't 0, nor the offset of a slot in use whose chunk has \
+                owner 0",
         ),
     ),
 ];
@@ -192,94 +181,70 @@ static IMAGE_ROWS: [Explanation; 12] = [
 /// The faults of the databases of an image.
 static DATABASE_ROWS: [Explanation; 8] = [
     (
-        ABOUT_DATABASES,
+        Subject::Databases(StoreFault::BadDirectorySlot(0)),
         (
-            "BadDirectorySlot",
-            (
-                " i",
-                "the word of index i in the directory, from 0, is incomplete, or comes after \
-                    the 1024th. Or it isn't the slot of a chunk of owner 0, is the directory's own \
-                    slot, or came earlier",
-            ),
+            " i",
+            "the word of index i in the directory, from 0, is incomplete, or comes after \
+                the 1024th. Or it isn't the slot of a chunk of owner 0, is the directory's own \
+                slot, or came earlier",
         ),
     ),
     (
-        ABOUT_DATABASES,
+        Subject::Databases(StoreFault::BadHeader(0)),
         (
-            "BadHeader",
-            (
-                " d",
-                "the chunk of the database d, from 0, is below 78 bytes, isn't zero at 72, or \
-                    isn't as long as its number of entries asks for. Or an info word is neither 0 \
-                    nor the slot of a chunk of owner 15",
-            ),
+            " d",
+            "the chunk of the database d, from 0, is below 78 bytes, isn't zero at 72, or \
+                isn't as long as its number of entries asks for. Or an info word is neither 0 \
+                nor the slot of a chunk of owner 15",
         ),
     ),
     (
-        ABOUT_DATABASES,
+        Subject::Databases(StoreFault::BadEntry(0, 0)),
         (
-            "BadEntry",
-            (
-                " d e",
-                "the slot of the entry e of the database d, both from 0, is 0, and the entry \
-                    isn't a record with the delete bit. Or it is neither 0 nor that of a chunk of \
-                    owner 15",
-            ),
+            " d e",
+            "the slot of the entry e of the database d, both from 0, is 0, and the entry \
+                isn't a record with the delete bit. Or it is neither 0 nor that of a chunk of \
+                owner 15",
         ),
     ),
     (
-        ABOUT_DATABASES,
+        Subject::Databases(StoreFault::SharedChunk(0)),
         (
-            "SharedChunk",
-            (
-                " s",
-                "the slot at s is the least slot, by its offset, that two entries or info words \
-                    name",
-            ),
+            " s",
+            "the slot at s is the least slot, by its offset, that two entries or info words \
+                name",
         ),
     ),
     (
-        ABOUT_DATABASES,
+        Subject::Databases(StoreFault::StrayChunk(0)),
         (
-            "StrayChunk",
-            (
-                " s",
-                "the slot at s is the least slot, by its offset, whose chunk has owner 15, and \
-                    no entry or info word names it. Or the chunk has owner 0, and is neither the \
-                    directory nor listed there",
-            ),
+            " s",
+            "the slot at s is the least slot, by its offset, whose chunk has owner 15, and \
+                no entry or info word names it. Or the chunk has owner 0, and is neither the \
+                directory nor listed there",
         ),
     ),
     (
-        ABOUT_DATABASES,
+        Subject::Databases(StoreFault::BadId(0, 0)),
         (
-            "BadId",
-            (
-                " d e",
-                "the unique ID of the record e of the database d, both from 0, is 0, or that of \
-                    an earlier record of its database",
-            ),
+            " d e",
+            "the unique ID of the record e of the database d, both from 0, is 0, or that of \
+                an earlier record of its database",
         ),
     ),
     (
-        ABOUT_DATABASES,
+        Subject::Databases(StoreFault::BadName(0)),
         (
-            "BadName",
-            (
-                " d",
-                "the name field of the database d, from 0, has no name: 1 to 31 bytes other \
-                    than zero, then zeros",
-            ),
+            " d",
+            "the name field of the database d, from 0, has no name: 1 to 31 bytes other \
+                than zero, then zeros",
         ),
     ),
     (
-        ABOUT_DATABASES,
+        Subject::Databases(StoreFault::SameName(0)),
         (
-            "SameName",
-            (
-                " d",
-                "the database d, from 0, has the name of an earlier database",
-            ),
+            " d",
+            "the database d, from 0, has the name of an earlier database",
         ),
     ),
 ];
@@ -287,47 +252,38 @@ static DATABASE_ROWS: [Explanation; 8] = [
 /// The faults of a PDB or PRC file.
 static FILE_ROWS: [Explanation; 5] = [
     (
-        ABOUT_FILE,
+        Subject::File(FileFault::Truncated),
         (
-            "Truncated",
-            (
-                "",
-                "the file is under 78 bytes, or ends before its list of entries does",
-            ),
+            "",
+            "the file is under 78 bytes, or ends before its list of entries does",
         ),
     ),
     (
-        ABOUT_FILE,
+        Subject::File(FileFault::ChainedList),
         (
-            "ChainedList",
-            (
-                "",
-                "the bytes at 72 aren't zero: the list of entries would go on elsewhere",
-            ),
-        ),
-    ),
-    (ABOUT_FILE, ("EmptyName", ("", "the first byte is zero"))),
-    (
-        ABOUT_FILE,
-        (
-            "BadInfo",
-            (
-                " b",
-                "the offset of the info block b, app or sort, isn't 0, and is below the end of \
-                    the entries or above the length of the file",
-            ),
+            "",
+            "the bytes at 72 aren't zero: the list of entries would go on elsewhere",
         ),
     ),
     (
-        ABOUT_FILE,
+        Subject::File(FileFault::EmptyName),
+        ("", "the first byte is zero"),
+    ),
+    (
+        Subject::File(FileFault::BadInfo(Which::App)),
         (
-            "BadOffset",
-            (
-                " e",
-                "the data offset of the entry e, from 0, is the first that is below the end of \
-                    the entries or above the length of the file. A record with the delete bit may \
-                    have 0",
-            ),
+            " b",
+            "the offset of the info block b, app or sort, isn't 0, and is below the end of \
+                the entries or above the length of the file",
+        ),
+    ),
+    (
+        Subject::File(FileFault::BadOffset(0)),
+        (
+            " e",
+            "the data offset of the entry e, from 0, is the first that is below the end of \
+                the entries or above the length of the file. A record with the delete bit may \
+                have 0",
         ),
     ),
 ];
@@ -335,37 +291,28 @@ static FILE_ROWS: [Explanation; 5] = [
 /// The faults of a line.
 static LINE_ROWS: [Explanation; 3] = [
     (
-        ABOUT_LINE,
+        Subject::Line(ScriptFault::UnknownCommand),
         (
-            "UnknownCommand",
-            (
-                "",
-                "no command has this name. A quoted word names none. In the text of a folder: \
-                    the first word is not the one that the line needs",
-            ),
+            "",
+            "no command has this name. A quoted word names none. In the text of a folder: \
+                the first word is not the one that the line needs",
         ),
     ),
     (
-        ABOUT_LINE,
+        Subject::Line(ScriptFault::WrongCount),
         (
-            "WrongCount",
-            (
-                "",
-                "there are too few or too many words. In the text of a folder: a line that is \
-                    missing has no words",
-            ),
+            "",
+            "there are too few or too many words. In the text of a folder: a line that is \
+                missing has no words",
         ),
     ),
     (
-        ABOUT_LINE,
+        Subject::Line(ScriptFault::BadWord(0)),
         (
-            "BadWord",
-            (
-                " K",
-                "word K, from 1, is a quoted word that isn't closed, or something follows its \
-                    closing quote. Or it is the first word that isn't of its kind: a text or a \
-                    type needs quotes",
-            ),
+            " K",
+            "word K, from 1, is a quoted word that isn't closed, or something follows its \
+                closing quote. Or it is the first word that isn't of its kind: a text or a \
+                type needs quotes",
         ),
     ),
 ];
@@ -373,33 +320,24 @@ static LINE_ROWS: [Explanation; 3] = [
 /// The faults of a size or a slot count, and of a file or an image that would be too large.
 static SIZE_ROWS: [Explanation; 3] = [
     (
-        ABOUT_BLANK,
+        Subject::Blank(BlankFault::BadSize),
+        ("", "SIZE isn't a multiple of 8 from 64 to 16777208"),
+    ),
+    (
+        Subject::Blank(BlankFault::BadSlotCount),
         (
-            "BadSize",
-            ("", "SIZE isn't a multiple of 8 from 64 to 16777208"),
+            "",
+            "SLOTS is 0, or less than 8 bytes are left after the header of 16 bytes and 4 \
+                bytes for each slot, padded to a multiple of 8",
         ),
     ),
     (
-        ABOUT_BLANK,
+        Subject::Output(MigrateFault::TooLarge),
         (
-            "BadSlotCount",
-            (
-                "",
-                "SLOTS is 0, or less than 8 bytes are left after the header of 16 bytes and 4 \
-                    bytes for each slot, padded to a multiple of 8",
-            ),
-        ),
-    ),
-    (
-        ABOUT_OUTPUT,
-        (
-            "TooLarge",
-            (
-                "",
-                "the image that migrate or import would write has more than 16777208 bytes, \
-                    import needs more than 65535 slots, or the file that pack would write has \
-                    more than 16777216 bytes",
-            ),
+            "",
+            "the image that migrate or import would write has more than 16777208 bytes, \
+                import needs more than 65535 slots, or the file that pack would write has \
+                more than 16777216 bytes",
         ),
     ),
 ];
@@ -407,53 +345,38 @@ static SIZE_ROWS: [Explanation; 3] = [
 /// The changes in a rewritten file.
 static CHANGE_ROWS: [Explanation; 5] = [
     (
-        ABOUT_CHANGE,
+        Subject::Change(FileChange::Busy),
+        ("", "a record has the busy bit, 0x20. It is cleared"),
+    ),
+    (
+        Subject::Change(FileChange::Filler),
         (
-            "busy",
-            ("", "a record has the busy bit, 0x20. It is cleared"),
+            "",
+            "other bytes than two zeros come after the entries, up to the first block or the \
+                end of a file without blocks. They become two zeros",
         ),
     ),
     (
-        ABOUT_CHANGE,
+        Subject::Change(FileChange::Ids),
         (
-            "filler",
-            (
-                "",
-                "other bytes than two zeros come after the entries, up to the first block or the \
-                    end of a file without blocks. They become two zeros",
-            ),
+            "",
+            "a record has the ID 0, or an earlier record's. It gets a fresh ID, and the seed \
+                moves with it",
         ),
     ),
     (
-        ABOUT_CHANGE,
+        Subject::Change(FileChange::Name),
         (
-            "ids",
-            (
-                "",
-                "a record has the ID 0, or an earlier record's. It gets a fresh ID, and the seed \
-                    moves with it",
-            ),
+            "",
+            "a byte other than zero comes after the name, in its field of 32 bytes. It \
+                becomes zero",
         ),
     ),
     (
-        ABOUT_CHANGE,
+        Subject::Change(FileChange::Order),
         (
-            "name",
-            (
-                "",
-                "a byte other than zero comes after the name, in its field of 32 bytes. It \
-                    becomes zero",
-            ),
-        ),
-    ),
-    (
-        ABOUT_CHANGE,
-        (
-            "order",
-            (
-                "",
-                "two blocks aren't in list order: AppInfo, SortInfo, data. All are put in it",
-            ),
+            "",
+            "two blocks aren't in list order: AppInfo, SortInfo, data. All are put in it",
         ),
     ),
 ];
@@ -461,100 +384,58 @@ static CHANGE_ROWS: [Explanation; 5] = [
 /// The refusals 1 to 9.
 static FIRST_CALL_ROWS: [Explanation; 9] = [
     (
-        Heading {
-            topic: Topic::Call,
-            number: Some(1),
-        },
+        Subject::Call(Refusal::InvalidHandle),
+        ("", "the name is neither a caller's chunk nor a database's"),
+    ),
+    (
+        Subject::Call(Refusal::OwnedByDatabase),
         (
-            "InvalidHandle",
-            ("", "the name is neither a caller's chunk nor a database's"),
+            "",
+            "the chunk is a database's, even the very one that is to be replaced",
         ),
     ),
     (
-        Heading {
-            topic: Topic::Call,
-            number: Some(2),
-        },
+        Subject::Call(Refusal::ChunkLocked),
         (
-            "OwnedByDatabase",
-            (
-                "",
-                "the chunk is a database's, even the very one that is to be replaced",
-            ),
+            "",
+            "the lock count of the chunk, or of the entry's data, is 1 to 14. For dbdelete: \
+                of some chunk of the database. For catdelete: of some record's data. For \
+                resize, recresize and resresize: only if the chunk and the free chunks \
+                directly after it are too small",
         ),
     ),
     (
-        Heading {
-            topic: Topic::Call,
-            number: Some(3),
-        },
+        Subject::Call(Refusal::ChunkNotLocked),
+        ("", "the lock count is 0"),
+    ),
+    (
+        Subject::Call(Refusal::LockOverflow),
+        ("", "the lock count is 14"),
+    ),
+    (
+        Subject::Call(Refusal::ChunkFixed),
+        ("", "the chunk is fixed"),
+    ),
+    (
+        Subject::Call(Refusal::InvalidOwner),
+        ("", "the owner isn't 1 to 14"),
+    ),
+    (
+        Subject::Call(Refusal::NotEnoughSpace),
         (
-            "ChunkLocked",
-            (
-                "",
-                "the lock count of the chunk, or of the entry's data, is 1 to 14. For dbdelete: \
-                    of some chunk of the database. For catdelete: of some record's data. For \
-                    resize, recresize and resresize: only if the chunk and the free chunks \
-                    directly after it are too small",
-            ),
+            "",
+            "a slot or room is missing. A chunk takes 8 bytes and its size rounded up to a \
+                multiple of 8, in one stretch: all chunks from one locked or fixed chunk to \
+                the next. The line largest has the most room, 'palmheap map' shows what is \
+                locked, and unlock joins stretches; compact makes no room. 'palmheap check' \
+                counts slots; after 'palmheap migrate', moreslots adds some",
         ),
     ),
     (
-        Heading {
-            topic: Topic::Call,
-            number: Some(4),
-        },
-        ("ChunkNotLocked", ("", "the lock count is 0")),
-    ),
-    (
-        Heading {
-            topic: Topic::Call,
-            number: Some(5),
-        },
-        ("LockOverflow", ("", "the lock count is 14")),
-    ),
-    (
-        Heading {
-            topic: Topic::Call,
-            number: Some(6),
-        },
-        ("ChunkFixed", ("", "the chunk is fixed")),
-    ),
-    (
-        Heading {
-            topic: Topic::Call,
-            number: Some(7),
-        },
-        ("InvalidOwner", ("", "the owner isn't 1 to 14")),
-    ),
-    (
-        Heading {
-            topic: Topic::Call,
-            number: Some(8),
-        },
+        Subject::Call(Refusal::OutOfBounds),
         (
-            "NotEnoughSpace",
-            (
-                "",
-                "a slot or room is missing. A chunk takes 8 bytes and its size rounded up to a \
-                    multiple of 8, in one stretch: all chunks from one locked or fixed chunk to \
-                    the next. The line largest has the most room, 'palmheap map' shows what is \
-                    locked, and unlock joins stretches; compact makes no room. 'palmheap check' \
-                    counts slots; after 'palmheap migrate', moreslots adds some",
-            ),
-        ),
-    ),
-    (
-        Heading {
-            topic: Topic::Call,
-            number: Some(9),
-        },
-        (
-            "OutOfBounds",
-            (
-                "",
-                "the range ends after the chunk's last byte. For strcopy the zero byte counts",
-            ),
+            "",
+            "the range ends after the chunk's last byte. For strcopy the zero byte counts",
         ),
     ),
 ];
@@ -562,93 +443,54 @@ static FIRST_CALL_ROWS: [Explanation; 9] = [
 /// The refusals 10 to 18.
 static NEXT_CALL_ROWS: [Explanation; 9] = [
     (
-        Heading {
-            topic: Topic::Call,
-            number: Some(10),
-        },
+        Subject::Call(Refusal::NoSuchDatabase),
         (
-            "NoSuchDatabase",
-            (
-                "",
-                "the label stands for no database, or no database has the name (find) or index \
-                    (nth)",
-            ),
+            "",
+            "the label stands for no database, or no database has the name (find) or index \
+                (nth)",
         ),
     ),
     (
-        Heading {
-            topic: Topic::Call,
-            number: Some(11),
-        },
-        ("NotRecordDatabase", ("", "the database has resources")),
+        Subject::Call(Refusal::NotRecordDatabase),
+        ("", "the database has resources"),
     ),
     (
-        Heading {
-            topic: Topic::Call,
-            number: Some(12),
-        },
-        ("NotResourceDatabase", ("", "the database has records")),
+        Subject::Call(Refusal::NotResourceDatabase),
+        ("", "the database has records"),
     ),
     (
-        Heading {
-            topic: Topic::Call,
-            number: Some(13),
-        },
-        ("ReadOnly", ("", "the attributes of the database have 0002")),
+        Subject::Call(Refusal::ReadOnly),
+        ("", "the attributes of the database have 0002"),
     ),
     (
-        Heading {
-            topic: Topic::Call,
-            number: Some(14),
-        },
+        Subject::Call(Refusal::IndexOutOfRange),
         (
-            "IndexOutOfRange",
-            (
-                "",
-                "there are not that many entries. For recmove: the second number may be the \
-                    number of records. For catnext: no record of the category is there or later",
-            ),
+            "",
+            "there are not that many entries. For recmove: the second number may be the \
+                number of records. For catnext: no record of the category is there or later",
         ),
     ),
     (
-        Heading {
-            topic: Topic::Call,
-            number: Some(15),
-        },
-        ("RecordDeleted", ("", "the record is deleted")),
+        Subject::Call(Refusal::RecordDeleted),
+        ("", "the record is deleted"),
     ),
     (
-        Heading {
-            topic: Topic::Call,
-            number: Some(16),
-        },
-        ("RecordBusy", ("", "the record is busy")),
+        Subject::Call(Refusal::RecordBusy),
+        ("", "the record is busy"),
     ),
     (
-        Heading {
-            topic: Topic::Call,
-            number: Some(17),
-        },
+        Subject::Call(Refusal::TooManyEntries),
         (
-            "TooManyEntries",
-            (
-                "",
-                "there are 1024 databases, or 65535 records or resources. Only an image with a \
-                    chain of tables has slots for that many resources",
-            ),
+            "",
+            "there are 1024 databases, or 65535 records or resources. Only an image with a \
+                chain of tables has slots for that many resources",
         ),
     ),
     (
-        Heading {
-            topic: Topic::Call,
-            number: Some(18),
-        },
+        Subject::Call(Refusal::InvalidCategory),
         (
-            "InvalidCategory",
-            (
-                "",
-                "the category isn't 0 to 15, nor 255 in catcount, catnext and catpos",
-            ),
+            "",
+            "the category isn't 0 to 15, nor 255 in catcount, catnext and catpos",
         ),
     ),
 ];
@@ -656,106 +498,52 @@ static NEXT_CALL_ROWS: [Explanation; 9] = [
 /// The refusals from 19 on.
 static LAST_CALL_ROWS: [Explanation; 9] = [
     (
-        Heading {
-            topic: Topic::Call,
-            number: Some(19),
-        },
+        Subject::Call(Refusal::DuplicateId),
         (
-            "DuplicateId",
-            (
-                "",
-                "another record of the database has the ID, deleted or not",
-            ),
+            "",
+            "another record of the database has the ID, deleted or not",
         ),
     ),
     (
-        Heading {
-            topic: Topic::Call,
-            number: Some(20),
-        },
+        Subject::Call(Refusal::UniqueIdNotFound),
+        ("", "no record of the database has the ID"),
+    ),
+    (
+        Subject::Call(Refusal::AlreadyExists),
         (
-            "UniqueIdNotFound",
-            ("", "no record of the database has the ID"),
+            "",
+            "another database has the name. For infoset: the database has the info block",
         ),
     ),
     (
-        Heading {
-            topic: Topic::Call,
-            number: Some(21),
-        },
+        Subject::Call(Refusal::InvalidName),
+        ("", "the name isn't 1 to 31 bytes without a zero byte"),
+    ),
+    (
+        Subject::Call(Refusal::ResourceNotFound),
         (
-            "AlreadyExists",
-            (
-                "",
-                "another database has the name. For infoset: the database has the info block",
-            ),
+            "",
+            "no resource has the type and the ID. For restype: not that many have the type",
         ),
     ),
     (
-        Heading {
-            topic: Topic::Call,
-            number: Some(22),
-        },
+        Subject::Call(Refusal::NoInfoBlock),
+        ("", "the database doesn't have the info block"),
+    ),
+    (
+        Subject::Call(Refusal::BadFile(FileFault::Truncated)),
         (
-            "InvalidName",
-            ("", "the name isn't 1 to 31 bytes without a zero byte"),
+            "",
+            "no database is read from the file. Its first fault follows the name",
         ),
     ),
+    (Subject::Call(Refusal::OutOfMemory), ("", "out of memory")),
     (
-        Heading {
-            topic: Topic::Call,
-            number: Some(23),
-        },
+        Subject::Call(Refusal::Lent),
         (
-            "ResourceNotFound",
-            (
-                "",
-                "no resource has the type and the ID. For restype: not that many have the type",
-            ),
-        ),
-    ),
-    (
-        Heading {
-            topic: Topic::Call,
-            number: Some(24),
-        },
-        (
-            "NoInfoBlock",
-            ("", "the database doesn't have the info block"),
-        ),
-    ),
-    (
-        Heading {
-            topic: Topic::Call,
-            number: Some(25),
-        },
-        (
-            "BadFile",
-            (
-                "",
-                "no database is read from the file. Its first fault follows the name",
-            ),
-        ),
-    ),
-    (
-        Heading {
-            topic: Topic::Call,
-            number: Some(26),
-        },
-        ("OutOfMemory", ("", "out of memory")),
-    ),
-    (
-        Heading {
-            topic: Topic::Call,
-            number: Some(27),
-        },
-        (
-            "Lent",
-            (
-                "",
-                "never in a script: a program that uses the libraries has taken the bytes of \
-                    the chunk out",
-            ),
+            "",
+            "never in a script: a program that uses the libraries has taken the bytes of \
+                the chunk out",
         ),
     ),
 ];
@@ -775,7 +563,7 @@ pub enum Section {
     LastCalls,
 }
 
-/// All sections: the faults in the order of their topics, then the changes, then the refusals by their
+/// All sections: the faults in the order of `Subject`, then the changes, then the refusals by their
 /// numbers.
 pub(crate) const SECTIONS: [Section; 9] = [
     Section::Images,

@@ -1,8 +1,6 @@
 //! What a file looks like, which numbers are allowed at its fault, and what is wrong with a line of
 //! the text that `pack` reads.
 
-ghost use Rattle.std.specs.Prelude.{◌≤◌, length};
-
 use canonical_file::{dropped_filler, dropped_name};
 use command_files::{input_name, report_line_hint, suggest_check};
 use file_listing::damage_of;
@@ -11,42 +9,32 @@ use heap_model::Bytes;
 use hints::{
     MAC_HEADER_SIZE, looks_like_image, looks_like_mac, looks_like_page, parts_hint, without_returns,
 };
-use pdb_format::{PdbFile, check_file};
+use pdb_format::check_file;
 use program_io::{MOST_INPUT, Status};
 
 /// Reports on standard error how many bytes of a file a rewrite drops. It reports nothing if the
-/// command isn't done. `end` ends each line: whether the bytes were dropped, or would be.
-pub(crate) fn name_dropped<R: Eprint + AllocGlobal>(
-    rt: &R,
-    path: &str,
-    status: Status,
-    file: &[u8],
-    end: &str,
-) {
+/// command isn't done. `end` ends each line: whether the bytes were dropped, or would be. It checks
+/// the file again, but sorts and allocates nothing.
+pub(crate) fn name_dropped<R: Eprint>(rt: &R, path: &str, status: Status, file: &[u8], end: &str) {
     if status != Status::Done {
         return;
     }
-    let Ok(file) = PdbFile::open(&rt.alloc(), file) else {
+    let Ok(()) = check_file(file) else {
         return;
     };
     let name = input_name(path);
-    let filler = dropped_filler(&file);
+    let filler = dropped_filler(file);
     if filler > 0 {
         let _ = eprintln!(rt; "{name}: filler, {filler} bytes {end}");
     }
-    let after = dropped_name(&file);
+    let after = dropped_name(file);
     if after > 0 {
         let _ = eprintln!(rt; "{name}: after the name, {after} bytes {end}");
     }
 }
 
 /// Reports the same as `name_dropped` for each of some files that were rewritten.
-pub fn name_each_dropped<R: Eprint + AllocGlobal>(
-    rt: &R,
-    paths: &[&str],
-    status: Status,
-    files: &[Bytes],
-) {
+pub fn name_each_dropped<R: Eprint>(rt: &R, paths: &[&str], status: Status, files: &[Bytes]) {
     for (path, file) in paths.iter().zip(files) {
         name_dropped(rt, path, status, file.as_slice(), DROPPED);
     }
@@ -58,25 +46,30 @@ pub(crate) const DROPPED: &str = "dropped";
 /// The same if nothing is rewritten.
 pub(crate) const WOULD_BE_DROPPED: &str = "that a rewrite drops";
 
-/// Reports the same as `suggest_check`. If the file doesn't look like an image, but was refused, it
-/// reports the number at the file's first fault, the numbers that are allowed there, and what a
-/// transfer may have made of the file.
+/// Reports the same as `suggest_check`, and the same as `comment_on_damage` if the file was refused.
 pub(crate) fn comment_on_file<R: Eprint + AllocGlobal>(
     rt: &R,
     path: &str,
     status: Status,
     file: &[u8],
-)
-    requires { length file.now ≤ MOST_INPUT }
-{
-    if looks_like_image(file) {
-        suggest_check(rt, path, status, file);
-    } else if status == Status::Refused {
-        if let Err(fault) = check_file(file) {
-            let damage = damage_of(file, fault);
-            let _ = eprintln!(rt; "{}: {damage}", input_name(path));
-            name_transfer(rt, path, file);
-        }
+) {
+    suggest_check(rt, path, status, file);
+    if status == Status::Refused {
+        comment_on_damage(rt, path, file);
+    }
+}
+
+/// Reports the number at the first fault of a file, the numbers that are allowed there, and what a
+/// transfer may have made of the file. It reports nothing if the file has no fault, looks like an
+/// image, or is longer than all files that are read.
+pub fn comment_on_damage<R: Eprint + AllocGlobal>(rt: &R, path: &str, file: &[u8]) {
+    if file.len() > MOST_INPUT || looks_like_image(file) {
+        return;
+    }
+    if let Err(fault) = check_file(file) {
+        let damage = damage_of(file, fault);
+        let _ = eprintln!(rt; "{}: {damage}", input_name(path));
+        name_transfer(rt, path, file);
     }
 }
 

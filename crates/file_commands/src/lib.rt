@@ -32,7 +32,7 @@ mod list_command;
 mod parts;
 
 pub use canonical_command::cmd_canonical_from;
-pub use comments::name_each_dropped;
+pub use comments::{comment_on_damage, name_each_dropped};
 pub use file_listings::{canonical, list};
 pub use folders::{pack, path_in, unpack};
 pub use json_listings::list_json;

@@ -10,7 +10,7 @@ use Rattle.heap_model.specs.Database.{a_record, is_deleted, name_in, resources_i
 use Rattle.heap_model.specs.Files.{HasBadOffset, IsBadInfo, IsOutside, entries_end}
 use Rattle.heap_model.specs.declared.names.Which.TheVariants.{App, Sort}
 use Rattle.heap_model.specs.declared.file_fault.FileFault.TheVariants.{Truncated, ChainedList, EmptyName, BadInfo, BadOffset}
-use Rattle.file_listing.specs.FaultLines.{data_field}
+use Rattle.file_listing.specs.Damage.{data_field}
 use Rattle.file_listing.specs.Damage.{IsBetween, Allows, IsExact, DamagesAreExact, found_at, found_in, is_deleted_record}
 use Rattle.file_listing.specs.declared.damage.Damage.{Damage}
 use Rattle.file_listing.specs.declared.damage.Damage.TheVariants.{ResourceOutside, RecordOutside}

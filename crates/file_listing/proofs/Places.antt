@@ -12,7 +12,7 @@ use Rattle.heap_model.specs.declared.file_fault.FileFault.{FileFault}
 use Rattle.heap_model.specs.declared.file_fault.FileFault.TheVariants.{Truncated, BadOffset}
 use Rattle.db_format.specs.Headers.{info_block_at}
 use Rattle.pdb_format.proofs.FaultLaws.{IsWithout}
-use Rattle.file_listing.specs.FaultLines.{data_field}
+use Rattle.file_listing.specs.Damage.{data_field}
 
 pub info_near : (which : Which) → info_block_at which ≤ 78
 info_near App = omega arith

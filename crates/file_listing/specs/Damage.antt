@@ -1,15 +1,28 @@
--- The number that a file with a fault has at the place of the fault, and the numbers that are allowed
--- there.
-use Rattle.std.specs.Prelude.{◌≡◌, ◌↔◌, ◌<◌, ◌≤◌, ◌⊎◌, ⊤, ℕ, Bool, true, false, List, length, slice_index, nat_lt, if◌then◌else◌}
+-- The place of a fault in a file, the number that the file has there, and the numbers that are
+-- allowed there.
+use Rattle.std.specs.Prelude.{◌≡◌, ◌↔◌, ◌+◌, ◌<◌, ◌≤◌, ◌⊎◌, ⊤, ℕ, Bool, true, false, List, length, slice_index, nat_lt, if◌then◌else◌}
 use Rattle.heap_model.specs.Bytes.{AreBytes, u32_at}
-use Rattle.heap_model.specs.DatabaseFields.{header_size}
-use Rattle.heap_model.specs.Database.{Entry, a_record, a_resource, resources_in, entry_count_in, entry_in, is_deleted}
+use Rattle.heap_model.specs.DatabaseFields.{header_size, next_list_at, resource_data_at}
+use Rattle.heap_model.specs.Database.{Entry, a_record, a_resource, resources_in, entry_count_in, entry_in, entry_offset, is_deleted}
 use Rattle.heap_model.specs.Files.{HasFault, entries_end}
 use Rattle.heap_model.specs.declared.file_fault.FileFault.{FileFault}
 use Rattle.heap_model.specs.declared.file_fault.FileFault.TheVariants.{Truncated, ChainedList, EmptyName, BadInfo, BadOffset}
-use Rattle.file_listing.specs.FaultLines.{fault_place}
+use Rattle.db_format.specs.Headers.{info_block_at}
 use Rattle.file_listing.specs.declared.damage.Damage.{Damage}
 use Rattle.file_listing.specs.declared.damage.Damage.TheVariants.{Short, NotZero, Zero, InfoOutside, RecordOutside, ResourceOutside}
+
+-- the offset, in an entry, of the field with the offset of its data
+abbrev pub data_field : Bool → ℕ
+data_field true = resource_data_at
+data_field false = 0
+
+-- The offset of the field that has the fault. The fault of a truncated file is at its end.
+abbrev pub fault_place : List ℕ → FileFault → ℕ
+fault_place file Truncated = length file
+fault_place file ChainedList = next_list_at
+fault_place file EmptyName = 0
+fault_place file (BadInfo which) = info_block_at which
+fault_place file (BadOffset index) = entry_offset (resources_in file) index + data_field (resources_in file)
 
 -- a truncated file needs its header, or its list of entries
 abbrev pub short_of : List ℕ → Damage

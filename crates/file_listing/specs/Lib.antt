@@ -1,5 +1,5 @@
 pub mod Moments
 pub mod Listing
-pub mod FaultLines
 pub mod Damage
+pub mod FaultLines
 pub mod Parts

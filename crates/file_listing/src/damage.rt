@@ -1,15 +1,19 @@
-//! The number at the place of a fault, and the numbers that are allowed there.
+//! The place of a fault, the number there, and the numbers that are allowed there.
 
 ghost use Rattle.std.specs.Prelude.{◌≡◌, ◌≤◌, ◌+◌, length};
 ghost use Rattle.heap_model.specs.Bytes.{u32_at};
+ghost use Rattle.heap_model.specs.Database.{resources_in};
+ghost use Rattle.heap_model.specs.Database as databases;
 ghost use Rattle.heap_model.specs.DatabaseFields.{header_size};
 ghost use Rattle.heap_model.specs.Files.{IsFirstFault};
 ghost use Rattle.canonical_file.specs.Canonical.{most_bytes};
 ghost use Rattle.file_listing.specs.Damage as words;
 
-use crate::fault_lines::fault_place;
 use byteorder::{BigEndian, ByteOrder};
-use db_format::{DATABASE_HEADER_SIZE, entries_end, has_resources};
+use db_format::{
+    DATABASE_HEADER_SIZE, NEXT_LIST_AT, RECORD_SIZE, RESOURCE_DATA_AT, RESOURCE_SIZE, entries_end,
+    has_resources, info_block_at,
+};
 use heap_model::FileFault;
 use thiserror::Error;
 
@@ -51,6 +55,36 @@ pub enum Damage {
         least: usize,
         most: usize,
     },
+}
+
+/// Returns the offset of the field that has the first fault of a file. It is the size of the file
+/// if the file is truncated.
+pub fn fault_place(file: &[u8], fault: FileFault) -> usize
+    requires short { length file.now ≤ most_bytes }
+    requires first { IsFirstFault file.now fault }
+    ensures is { result ≡ words.fault_place file.now fault }
+    ensures most { result ≤ most_bytes }
+{
+    match fault {
+        FileFault::Truncated => file.len(),
+        FileFault::ChainedList => NEXT_LIST_AT,
+        FileFault::EmptyName => 0,
+        FileFault::BadInfo(which) => info_block_at(which),
+        FileFault::BadOffset(index) => data_place(file, index),
+    }
+}
+
+/// Returns the offset at which the entry at an index has the offset of its data.
+fn data_place(file: &[u8], index: u32) -> usize
+    requires { header_size ≤ length file.now }
+    ensures { result ≡ databases.entry_offset (resources_in file.now) index
+        + words.data_field (resources_in file.now) }
+{
+    if has_resources(file) {
+        DATABASE_HEADER_SIZE + RESOURCE_SIZE * index as usize + RESOURCE_DATA_AT
+    } else {
+        DATABASE_HEADER_SIZE + RECORD_SIZE * index as usize
+    }
 }
 
 /// Returns the number that a file has at the place of its first fault, and the numbers that are

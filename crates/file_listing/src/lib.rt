@@ -37,8 +37,8 @@ mod moments;
 mod needs;
 mod parts;
 
-pub use damage::{Damage, damage_of};
-pub use fault_lines::{fault_place, put_fault};
+pub use damage::{Damage, damage_of, fault_place};
+pub use fault_lines::put_fault;
 pub use laws::damages_are_exact;
 pub use listing::{ListFault, put_listing};
 pub use moments::utc_text;

@@ -1,5 +1,5 @@
 -- The faults of a heap image, in the order in which they are tested.
-use Rattle.std.specs.Prelude.{◌≡◌, ◌≢◌, ◌<◌, ◌+◌, ◌⊎◌, ℕ, List, [], ◌∷◌, length}
+use Rattle.std.specs.Prelude.{◌≡◌, ◌≢◌, ◌<◌, ◌+◌, ◌⊎◌, ℕ, List, [], ◌∷◌, length, codes}
 use Rattle.heap_model.specs.Bytes.{u16_at, u32_at}
 use Rattle.heap_model.specs.Chunk.{Chunk, Spelled, SpelledAll}
 use Rattle.heap_model.specs.Placed.{AnyPlaced, FirstWithout, FirstOne}
@@ -11,6 +11,8 @@ use Rattle.heap_model.specs.Reading.{chunks_of}
 use Rattle.chunk_format.specs.Blank.{IsRegionSize}
 use Rattle.heap_check.specs.declared.fault.HeapFault.{HeapFault}
 use Rattle.heap_check.specs.declared.fault.HeapFault.TheVariants.{TooShort, BadMagic, BadSize, BadSlotCount, BadReserved, BadPadding, BadChunk, BadTable, SlotMismatch, ChunkWithoutSlot, BadFixedOwner, BadDirectory}
+use Rattle.heap_check.specs.declared.fault.Numbers.{Numbers}
+use Rattle.heap_check.specs.declared.fault.Numbers.TheVariants.{Zero, One}
 
 -- ---- each fault by itself
 
@@ -126,3 +128,34 @@ FirstBrought {Fault} (row ∷ rows) fault = row fault ⊎ (((other : Fault) → 
 -- the image has the fault, and none of those that are tested earlier
 abbrev pub IsFirstHeapFault : List ℕ → HeapFault → Type 0
 IsFirstHeapFault image fault = FirstBrought (faults image) fault
+
+-- ---- names and numbers
+
+-- the name of the fault of a heap, and its number
+abbrev pub heap_fault_name : HeapFault → List ℕ
+heap_fault_name TooShort = codes "TooShort"
+heap_fault_name BadMagic = codes "BadMagic"
+heap_fault_name BadSize = codes "BadSize"
+heap_fault_name BadSlotCount = codes "BadSlotCount"
+heap_fault_name BadReserved = codes "BadReserved"
+heap_fault_name BadPadding = codes "BadPadding"
+heap_fault_name (BadChunk at) = codes "BadChunk"
+heap_fault_name (BadTable index) = codes "BadTable"
+heap_fault_name (SlotMismatch at) = codes "SlotMismatch"
+heap_fault_name (ChunkWithoutSlot at) = codes "ChunkWithoutSlot"
+heap_fault_name (BadFixedOwner at) = codes "BadFixedOwner"
+heap_fault_name BadDirectory = codes "BadDirectory"
+
+abbrev pub heap_fault_numbers : HeapFault → Numbers
+heap_fault_numbers TooShort = Zero
+heap_fault_numbers BadMagic = Zero
+heap_fault_numbers BadSize = Zero
+heap_fault_numbers BadSlotCount = Zero
+heap_fault_numbers BadReserved = Zero
+heap_fault_numbers BadPadding = Zero
+heap_fault_numbers (BadChunk at) = One at
+heap_fault_numbers (BadTable index) = One index
+heap_fault_numbers (SlotMismatch at) = One at
+heap_fault_numbers (ChunkWithoutSlot at) = One at
+heap_fault_numbers (BadFixedOwner at) = One at
+heap_fault_numbers BadDirectory = Zero

@@ -19,7 +19,7 @@ mod summary;
 mod survey;
 
 pub use check::{check_heap, check_heap_noting};
-pub use fault::HeapFault;
+pub use fault::{HeapFault, Numbers};
 pub use marks::{MOST_MARKS, NO_OWNER, mark_number, marks_needed};
 pub use owners::note_owners;
 pub use summary::Summary;

@@ -2,6 +2,7 @@
 //! tables.
 
 ghost use Rattle.std.specs.Prelude.{◌≡◌, ◌≢◌, ◌≤◌, ◌<◌, ◌+◌, ◌-◌, ◌*◌, ◌++◌, ◌∷◌, ◌⊎◌, [], length, replicate, slice_range, min, count_by, IsSome, IfSome, IfNone, Some, None, true, IsTrue, ◌↔◌};
+ghost use Rattle.raw_region.specs.Holes.{AllLieIn};
 ghost use Rattle.raw_region.specs.Parts.{IsOut};
 ghost use Rattle.raw_region.specs.Marks.{BeginsAt, IsNextLent, NoneBeginsAbove};
 ghost use Rattle.heap_model.specs.Memory.{without};
@@ -515,6 +516,14 @@ impl Space {
         ensures none { IfNone result (NoneBeginsAbove after.0 self.now.lents) }
     {
         lent_above(&self.region, after)
+    }
+
+    /// Returns where the region's bytes begin in the machine's memory.
+    #[inline]
+    pub fn start(&self) -> *mut u8
+        ensures { AllLieIn result (length self.now.bytes) self.now.lents }
+    {
+        self.region.start()
     }
 
     /// Returns whether nothing is lent.

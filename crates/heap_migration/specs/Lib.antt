@@ -1,4 +1,4 @@
 pub mod Growth
-pub mod Names
 pub mod Stores
+pub mod FaultNames
 pub mod Writing

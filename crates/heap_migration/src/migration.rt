@@ -7,6 +7,7 @@ ghost use Rattle.heap_model.specs.Heap.{HeapAccepted};
 ghost use Rattle.heap_model.specs.Slots.{is_chained as model_chained};
 ghost use Rattle.heap_model.specs.Migration.{MigratesBytes};
 ghost use Rattle.heap_model.specs.Store.{Accepted};
+ghost use Rattle.heap_migration.specs.FaultNames.{migrate_fault_name};
 ghost use Rattle.heap_migration.specs.Growth.{growth_of};
 ghost use Rattle.heap_migration.specs.Stores.{IsMigrated, IsTooLarge};
 
@@ -30,18 +31,27 @@ pub enum MigrateFault {
     OutOfMemory,
 }
 
+impl MigrateFault {
+    /// Returns the name of the reason.
+    pub fn name(self) -> &'static str
+        ensures { result.now ≡ migrate_fault_name self }
+    {
+        match self {
+            MigrateFault::Lent => "Lent",
+            MigrateFault::TooLarge => "TooLarge",
+            MigrateFault::OutOfMemory => "OutOfMemory",
+        }
+    }
+}
+
 impl Display for MigrateFault {
     ghost use Rattle.std.specs.Prelude.{Some};
-    ghost use Rattle.heap_migration.specs.Names.{migrate_fault_name};
+    ghost use Rattle.heap_migration.specs.FaultNames.{migrate_fault_name};
 
     ghost output = { λ fault. Some (migrate_fault_name fault) };
 
     fn fmt<W: fmt::Write>(&self, f: &mut fmt::Formatter<W>) -> fmt::Result {
-        f.write_str(match self {
-            MigrateFault::Lent => "Lent",
-            MigrateFault::TooLarge => "TooLarge",
-            MigrateFault::OutOfMemory => "OutOfMemory",
-        })
+        f.write_str(self.name())
     }
 }
 

@@ -4,7 +4,7 @@
 -- A file has offsets where a header in a heap has slots, so one function, `database_in`, reads
 -- both. An info block that isn't there has the offset 0. So has the data of a deleted record that
 -- has none. The lengths of blocks aren't stored.
-use Rattle.std.specs.Prelude.{◌≡◌, ◌≢◌, ◌<◌, ◌+◌, ◌==◌, ◌&&◌, ◌⊎◌, ◌++◌, not, min, nat_lt, nat_le, if◌then◌else◌, ℕ, zero, suc, true, false, Bool, List, [], ◌∷◌, length, take, drop, map, filter, slice_index, slice_range, bit_and, Option, Some, None, All}
+use Rattle.std.specs.Prelude.{◌≡◌, ◌≢◌, ◌<◌, ◌+◌, ◌==◌, ◌&&◌, ◌⊎◌, ◌++◌, not, min, nat_lt, nat_le, if◌then◌else◌, ℕ, zero, suc, true, false, Bool, List, [], ◌∷◌, length, take, drop, map, filter, slice_index, slice_range, bit_and, Option, Some, None, All, codes}
 use Rattle.std.specs.List.{AllZip, flat_map, fold}
 use Rattle.heap_model.specs.Bytes.{u32_at}
 use Rattle.heap_model.specs.Lists.{numbered, times}
@@ -13,6 +13,8 @@ use Rattle.heap_model.specs.Database.{Database, Entry, a_record, a_resource, ent
 use Rattle.heap_model.specs.UniqueIds.{IsFresh, seed_in, with_seed}
 use Rattle.heap_model.specs.Store.{unique_ids}
 use Rattle.heap_model.specs.declared.names.Which.TheVariants.{App, Sort}
+use Rattle.heap_model.specs.declared.file_fault.FaultyPart.{FaultyPart}
+use Rattle.heap_model.specs.declared.file_fault.FaultyPart.TheVariants as parts
 use Rattle.heap_model.specs.declared.file_fault.FileFault.{FileFault}
 use Rattle.heap_model.specs.declared.file_fault.FileFault.TheVariants.{Truncated, ChainedList, EmptyName, BadInfo, BadOffset}
 
@@ -45,6 +47,21 @@ HasFault file EmptyName = name_in file ≡ []
 HasFault file (BadInfo App) = IsBadInfo file (u32_at file app_info_at)
 HasFault file (BadInfo Sort) = IsBadInfo file (u32_at file sort_info_at)
 HasFault file (BadOffset index) = (index < entry_count_in file) × HasBadOffset file (entry_in file index)
+
+-- the name of the fault, and the part of the file that has it
+abbrev pub file_fault_name : FileFault → List ℕ
+file_fault_name Truncated = codes "Truncated"
+file_fault_name ChainedList = codes "ChainedList"
+file_fault_name EmptyName = codes "EmptyName"
+file_fault_name (BadInfo which) = codes "BadInfo"
+file_fault_name (BadOffset index) = codes "BadOffset"
+
+abbrev pub faulty_part : FileFault → FaultyPart
+faulty_part Truncated = parts.Whole
+faulty_part ChainedList = parts.Whole
+faulty_part EmptyName = parts.Whole
+faulty_part (BadInfo which) = parts.Block which
+faulty_part (BadOffset index) = parts.Entry index
 
 -- the faults in their order; those of entries are in the order of the entries
 abbrev pub file_faults : List ℕ → List FileFault

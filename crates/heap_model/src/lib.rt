@@ -66,7 +66,7 @@ pub use bytes::Bytes;
 pub use call::{Call, DatabaseCall, FileCall, MemoryCall, RecordCall, Reply, ResourceCall};
 pub use database::{DbInfo, DbName};
 pub use entry::{Entry, RecordInfo, ResourceInfo};
-pub use file_fault::FileFault;
+pub use file_fault::{FaultyPart, FileFault};
 pub use names::{Db, Name, Place, Which};
 pub use refusal::Refusal;
 pub use tally::Tally;

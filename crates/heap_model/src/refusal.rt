@@ -143,7 +143,7 @@ impl Refusal {
 impl Display for Refusal {
     fn fmt<W: fmt::Write>(&self, f: &mut fmt::Formatter<W>) -> fmt::Result {
         match self {
-            Refusal::BadFile(fault) => write!(f, "BadFile {fault}"),
+            Refusal::BadFile(fault) => write!(f, "{} {fault}", self.name()),
             refusal => f.write_str(refusal.name()),
         }
     }

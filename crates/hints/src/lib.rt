@@ -1,11 +1,11 @@
 //! Hints for standard error. They name the lines of a script that import a file that was not given,
-//! say what is wrong with a faulty line, and name files that look like PDB or PRC files, or like heap
-//! images.
+//! and say what is wrong with a faulty line. They name files that look like PDB or PRC files, like
+//! heap images, or like what a transfer makes of a file.
 //!
 //! | module | does |
 //! |---|---|
 //! | `numbers` | finds the numbers of the lines of a script that are run |
-//! | `faulty_lines` | finds what is wrong with a faulty line of a script, or of the text for `pack` |
+//! | `faulty_lines` | finds what is wrong with a faulty line, of a script or of a text for `pack` |
 //! | `imports` | finds the lines that import a file that was not given |
 //! | `lookalikes` | finds what a file looks like |
 //! | `line_ends` | undoes what a transfer as text does to a file |

@@ -110,8 +110,8 @@ fn begins_with(file: &[u8], word: &[u8]) -> bool
     file.len() >= word.len() && &file[..word.len()] == word
 }
 
-/// Returns whether a file looks like a page of the web, as a server sends in place of a file that it
-/// doesn't have.
+/// Returns whether a file looks like a page of the web. A server sends one in place of a file that
+/// it doesn't have.
 pub fn looks_like_page(file: &[u8]) -> bool
     ensures { result ≡ words.looks_like_page file.now }
 {

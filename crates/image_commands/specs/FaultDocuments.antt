@@ -1,9 +1,9 @@
 -- The document for an image that is refused.
 use Rattle.std.specs.Prelude.{◌++◌, ℕ, List, codes, decimal}
+use Rattle.store_check.specs.Faults.{store_fault_name, store_fault_numbers}
 use Rattle.store_check.specs.declared.fault.StoreFault.{StoreFault}
-use Rattle.image_commands.specs.FaultNames.{image_fault_name, image_fault_numbers}
-use Rattle.image_commands.specs.declared.fault_names.Numbers.{Numbers}
-use Rattle.image_commands.specs.declared.fault_names.Numbers.TheVariants.{Zero, One, Two}
+use Rattle.heap_check.specs.declared.fault.Numbers.{Numbers}
+use Rattle.heap_check.specs.declared.fault.Numbers.TheVariants.{Zero, One, Two}
 
 -- the numbers, and the end of the document
 abbrev pub numbers_json : Numbers → List ℕ
@@ -17,4 +17,4 @@ named_fault_json name numbers = codes "{\"fault\":\"" ++ (name ++ (codes "\",\"n
 
 -- the document for an image that is refused
 abbrev pub image_fault_json : StoreFault → List ℕ
-image_fault_json fault = named_fault_json (image_fault_name fault) (image_fault_numbers fault)
+image_fault_json fault = named_fault_json (store_fault_name fault) (store_fault_numbers fault)

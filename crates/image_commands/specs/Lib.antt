@@ -2,7 +2,6 @@ pub mod Commands
 pub use Rattle.heap_model.specs.Store
 pub use Rattle.chunk_format.specs.Blank
 pub use Rattle.store_check.specs.Checks
-pub mod FaultNames
 pub mod FaultLines
 pub mod FaultDocuments
 pub mod JsonEnds

@@ -3,9 +3,9 @@
 ghost use Rattle.std.specs.Prelude.{[], ◌≡◌, IfOk, OnErr, is_ok, string_bytes};
 ghost use Rattle.image_commands.specs.Commands.{EndsCheck, EndsNew, heap_line, summary_lines};
 ghost use Rattle.allowance.specs.Refusals.{GrowthRefused};
-ghost use Rattle.palm_text.specs.Output.{Puts};
+ghost use Rattle.palm_text.specs.Output.{Puts, output};
 
-use crate::fault_lines::say_bad_image;
+use crate::fault_lines::{say_bad_image, say_no_image};
 use allowance::{Allowance, text_of};
 use chunk_format::{BlankFault, blank_from};
 use heap_check::Summary;
@@ -26,8 +26,8 @@ pub fn cmd_new<W: Write, V: Write>(
     image_out: &mut Counted<W>,
     out: &mut Counted<V>,
 ) -> Status
-    ensures ends { EndsNew size slots W.contents image_out.old image_out.new
-        V.contents out.old out.new result }
+    ensures ends { EndsNew size slots (output W.contents image_out.old image_out.new)
+        (output V.contents out.old out.new) result }
     ensures short { result ≡ Status.NoMemory → GrowthRefused }
 {
     cmd_new_from(&alloc, size, slots, image_out, out)
@@ -41,15 +41,15 @@ pub fn cmd_new_from<A: Allowance, W: Write, V: Write>(
     image_out: &mut Counted<W>,
     out: &mut Counted<V>,
 ) -> Status
-    ensures ends { EndsNew size slots W.contents image_out.old image_out.new
-        V.contents out.old out.new result }
+    ensures ends { EndsNew size slots (output W.contents image_out.old image_out.new)
+        (output V.contents out.old out.new) result }
     ensures short { result ≡ Status.NoMemory → A.is_short memory.now }
 {
     let region = match blank_from(memory, size, slots) {
         Ok(region) => region,
         Err(BlankFault::OutOfMemory) => return Status::NoMemory,
-        Err(BlankFault::BadSize) => return say(b"bad BadSize\n", Status::BadWords, out),
-        Err(BlankFault::BadSlotCount) => return say(b"bad BadSlotCount\n", Status::BadWords, out),
+        Err(BlankFault::BadSize) => return say_no_image(BlankFault::BadSize, out),
+        Err(BlankFault::BadSlotCount) => return say_no_image(BlankFault::BadSlotCount, out),
     };
     match put_image(image_out, &region) {
         Ok(()) => say(b"ok\n", Status::Done, out),
@@ -59,7 +59,7 @@ pub fn cmd_new_from<A: Allowance, W: Write, V: Write>(
 
 /// Checks an image, and prints its summary, or `bad` and the first fault.
 pub fn cmd_check<V: Write>(alloc: Global, image: &[u8], out: &mut Counted<V>) -> Status
-    ensures ends { EndsCheck image.now V.contents out.old out.new result }
+    ensures ends { EndsCheck image.now (output V.contents out.old out.new) result }
     ensures short { result ≡ Status.NoMemory → GrowthRefused }
 {
     cmd_check_from(&alloc, image, out)
@@ -71,7 +71,7 @@ pub fn cmd_check_from<A: Allowance, V: Write>(
     image: &[u8],
     out: &mut Counted<V>,
 ) -> Status
-    ensures ends { EndsCheck image.now V.contents out.old out.new result }
+    ensures ends { EndsCheck image.now (output V.contents out.old out.new) result }
     ensures short { result ≡ Status.NoMemory → A.is_short memory.now }
 {
     match Region::copied_from(memory, image) {
@@ -87,7 +87,7 @@ pub fn check_region_from<A: Allowance, V: Write>(
     out: &mut Counted<V>,
 ) -> Status
     requires whole { region.now.lents ≡ [] }
-    ensures ends { EndsCheck region.now.bytes V.contents out.old out.new result }
+    ensures ends { EndsCheck region.now.bytes (output V.contents out.old out.new) result }
     ensures short { result ≡ Status.NoMemory → A.is_short memory.now }
 {
     match check_store(memory, region) {

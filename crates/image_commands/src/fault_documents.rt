@@ -5,7 +5,7 @@ ghost use Rattle.palm_text.specs.Counted.{Writes};
 ghost use Rattle.palm_text.specs.Output.{Puts};
 ghost use Rattle.image_commands.specs.FaultDocuments.{image_fault_json, named_fault_json};
 
-use crate::fault_names::{Numbers, image_fault_name, image_fault_numbers};
+use heap_check::Numbers;
 use palm_text::{Counted, WriteFault};
 use program_io::{Status, flushed};
 use std::io::Write;
@@ -39,7 +39,7 @@ fn put_flushed<V: Write>(out: &mut Counted<V>, fault: StoreFault) -> Result<(), 
 fn put_image_fault<W: Write>(out: &mut Counted<W>, fault: StoreFault) -> Result<(), WriteFault>
     ensures { Writes W.contents out.old out.new (image_fault_json fault) (is_ok result) }
 {
-    put_named(out, image_fault_name(fault), image_fault_numbers(fault))
+    put_named(out, fault.name().as_bytes(), fault.numbers())
 }
 
 /// Writes the document for a fault with this name and these numbers.

@@ -1,13 +1,16 @@
-//! The line for the fault of an image.
+//! The line for the fault of an image, or for a size and a slot count of which there is no image.
 
 ghost use Rattle.std.specs.Prelude.{◌≡◌, ◌⊎◌, is_ok, true, false};
 ghost use Rattle.palm_text.specs.Counted.{Writes};
 ghost use Rattle.palm_text.specs.Output.{Puts};
+ghost use Rattle.chunk_format.specs.FaultNames.{blank_fault_name};
+ghost use Rattle.program_io.specs.BadLines.{bad_line};
 ghost use Rattle.image_commands.specs.FaultLines.{fault_line, named_fault_line};
 
-use crate::fault_names::{Numbers, image_fault_name, image_fault_numbers};
+use chunk_format::BlankFault;
+use heap_check::Numbers;
 use palm_text::{Counted, Piece, WriteFault, put_pieces};
-use program_io::{Status, flushed};
+use program_io::{Status, flushed, say_bad};
 use std::io::Write;
 use store_check::StoreFault;
 
@@ -39,7 +42,7 @@ fn put_flushed<V: Write>(out: &mut Counted<V>, fault: StoreFault) -> Result<(), 
 fn put_fault<W: Write>(out: &mut Counted<W>, fault: StoreFault) -> Result<(), WriteFault>
     ensures { Writes W.contents out.old out.new (fault_line fault) (is_ok result) }
 {
-    put_named(out, image_fault_name(fault), image_fault_numbers(fault))
+    put_named(out, fault.name().as_bytes(), fault.numbers())
 }
 
 /// Writes the line for a fault with this name and these numbers.
@@ -78,4 +81,16 @@ fn put_named<W: Write>(
             ],
         ),
     }
+}
+
+/// Prints `bad` and the name of the reason why there is no image. Returns `BadWords`, or `WriteFault`
+/// if a write or the flush failed.
+pub fn say_no_image<V: Write>(reason: BlankFault, out: &mut Counted<V>) -> Status
+    ensures statuses { (result ≡ Status.BadWords) ⊎ (result ≡ Status.WriteFault) }
+    ensures said { result ≡ Status.BadWords
+        → Puts V.contents out.old out.new (bad_line (blank_fault_name reason)) true }
+    ensures write { result ≡ Status.WriteFault
+        → Puts V.contents out.old out.new (bad_line (blank_fault_name reason)) false }
+{
+    say_bad(reason.name(), Status::BadWords, out)
 }

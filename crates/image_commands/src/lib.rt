@@ -21,7 +21,6 @@
 //! |---|---|
 //! | `commands` | the commands over bytes |
 //! | `images` | the commands over files |
-//! | `fault_names` | the name and the numbers of a fault (`specs/FaultNames.antt`) |
 //! | `fault_lines` | the line for a fault |
 //! | `fault_documents` | the document for a fault |
 //! | `summary_documents` | the document of the counts of an image |
@@ -32,7 +31,6 @@
 mod commands;
 mod fault_documents;
 mod fault_lines;
-mod fault_names;
 mod images;
 mod json_check;
 mod json_images;
@@ -40,8 +38,7 @@ mod summary_documents;
 
 pub use commands::{check_region_from, cmd_check, cmd_check_from, cmd_new, cmd_new_from};
 pub use fault_documents::say_image_fault;
-pub use fault_lines::say_bad_image;
-pub use fault_names::{Numbers, image_fault_name, image_fault_numbers};
+pub use fault_lines::{say_bad_image, say_no_image};
 pub use images::{check, new};
 pub use json_check::{check_json_region_from, cmd_check_json};
 pub use json_images::check_json;

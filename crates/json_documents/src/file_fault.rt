@@ -6,11 +6,11 @@ ghost use Rattle.palm_text.specs.Counted.{Writes};
 ghost use Rattle.palm_text.specs.Output.{Puts};
 ghost use Rattle.canonical_file.specs.Canonical.{most_bytes};
 ghost use Rattle.json_documents.specs.Ends.{PutsFileFault};
-ghost use Rattle.json_documents.specs.Faults.{file_fault_fields, file_fault_json};
+ghost use Rattle.json_documents.specs.Faults.{faulty_fields, file_fault_json};
 ghost use Rattle.unicode_text.specs.Pieces.{json_text};
 
 use file_listing::fault_place;
-use heap_model::{FileFault, Which};
+use heap_model::{FaultyPart, FileFault, Which};
 use palm_text::{Counted, WriteFault};
 use program_io::{Status, flushed};
 use std::io::Write;
@@ -18,21 +18,16 @@ use unicode_text::{JsonPiece, put_json};
 
 const NO_JSON: JsonPiece<'static> = JsonPiece::Text(b"");
 
-/// Returns the name of a fault, the word of its info block, and the index of its entry.
-fn fault_pieces(fault: FileFault) -> (&'static [u8], JsonPiece<'static>)
-    ensures { result.0.now ++ json_text result.1 ≡ file_fault_fields fault }
+/// Returns the fields after the name of a fault: the word of an info block, and the index of an
+/// entry.
+fn part_fields(part: FaultyPart) -> (&'static [u8], JsonPiece<'static>)
+    ensures { result.0.now ++ json_text result.1 ≡ faulty_fields part }
 {
-    match fault {
-        FileFault::Truncated => (b"\"Truncated\",\"numbers\":[", NO_JSON),
-        FileFault::ChainedList => (b"\"ChainedList\",\"numbers\":[", NO_JSON),
-        FileFault::EmptyName => (b"\"EmptyName\",\"numbers\":[", NO_JSON),
-        FileFault::BadInfo(Which::App) => {
-            (b"\"BadInfo\",\"block\":\"app\",\"numbers\":[", NO_JSON)
-        }
-        FileFault::BadInfo(Which::Sort) => {
-            (b"\"BadInfo\",\"block\":\"sort\",\"numbers\":[", NO_JSON)
-        }
-        FileFault::BadOffset(index) => (b"\"BadOffset\",\"numbers\":[", JsonPiece::Number(index)),
+    match part {
+        FaultyPart::Whole => (b"\",\"numbers\":[", NO_JSON),
+        FaultyPart::Block(Which::App) => (b"\",\"block\":\"app\",\"numbers\":[", NO_JSON),
+        FaultyPart::Block(Which::Sort) => (b"\",\"block\":\"sort\",\"numbers\":[", NO_JSON),
+        FaultyPart::Entry(index) => (b"\",\"numbers\":[", JsonPiece::Number(index)),
     }
 }
 
@@ -46,13 +41,14 @@ fn put_file_fault<W: Write>(
     requires first { IsFirstFault file.now fault }
     ensures { Writes W.contents out.old out.new (file_fault_json file.now fault) (is_ok result) }
 {
-    let (name, of) = fault_pieces(fault);
+    let (fields, index) = part_fields(fault.part());
     put_json(
         out,
         &[
-            JsonPiece::Text(b"{\"fault\":"),
-            JsonPiece::Text(name),
-            of,
+            JsonPiece::Text(b"{\"fault\":\""),
+            JsonPiece::Text(fault.name().as_bytes()),
+            JsonPiece::Text(fields),
+            index,
             JsonPiece::Text(b"],\"at\":"),
             JsonPiece::Number(fault_place(file, fault) as u32),
             JsonPiece::Text(b"}\n"),

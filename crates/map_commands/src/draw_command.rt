@@ -4,6 +4,7 @@ ghost use Rattle.std.specs.Prelude.{[], ◌≡◌, ◌≢◌, Err, IfErr, OnOk, 
 ghost use Rattle.heap_model.specs.Store.{Accepted};
 ghost use Rattle.heap_map.specs.Pictures.{IsMapFault};
 ghost use Rattle.map_commands.specs.Drawing.{EndsDraw, PutsDrawing};
+ghost use Rattle.palm_text.specs.Output.{output};
 
 use allowance::Allowance;
 use heap_map::MapFault;
@@ -24,8 +25,8 @@ pub fn cmd_draw_from<A: Allowance, W: Write, V: Write>(
     file_out: &mut Counted<W>,
     out: &mut Counted<V>,
 ) -> Status
-    ensures ends { EndsDraw image.now W.contents file_out.old file_out.new
-        V.contents out.old out.new result }
+    ensures ends { EndsDraw image.now (output W.contents file_out.old file_out.new)
+        (output V.contents out.old out.new) result }
     ensures short { result ≡ Status.NoMemory → A.is_short memory.now }
 {
     match Region::copied_from(memory, image) {
@@ -42,8 +43,8 @@ pub fn draw_region_from<A: Allowance, W: Write, V: Write>(
     out: &mut Counted<V>,
 ) -> Status
     requires whole { region.now.lents ≡ [] }
-    ensures ends { EndsDraw region.now.bytes W.contents file_out.old file_out.new
-        V.contents out.old out.new result }
+    ensures ends { EndsDraw region.now.bytes (output W.contents file_out.old file_out.new)
+        (output V.contents out.old out.new) result }
     ensures short { result ≡ Status.NoMemory → A.is_short memory.now }
 {
     match put_flushed(memory, region, file_out) {
@@ -64,11 +65,11 @@ fn put_flushed<A: Allowance, W: Write>(
     requires whole { region.now.lents ≡ [] }
     ensures accepted { OnOk result (Accepted region.now.bytes) }
     ensures done { OnOk result
-        (PutsDrawing region.now.bytes W.contents file_out.old file_out.new true) }
+        (PutsDrawing region.now.bytes (output W.contents file_out.old file_out.new) true) }
     ensures why { IfErr result (IsMapFault region.now.bytes) }
     ensures untouched { IfErr result (λ fault. fault ≢ MapFault.Write → file_out.new ≡ file_out.old) }
     ensures write { result ≡ Err MapFault.Write
-        → PutsDrawing region.now.bytes W.contents file_out.old file_out.new false }
+        → PutsDrawing region.now.bytes (output W.contents file_out.old file_out.new) false }
     ensures short { result ≡ Err MapFault.OutOfMemory → A.is_short memory.now }
 {
     put_svg(memory, region, file_out)?;

@@ -4,6 +4,7 @@ ghost use Rattle.std.specs.Prelude.{[], ◌≡◌, ◌≢◌, Err, IfErr, OnOk, 
 ghost use Rattle.heap_model.specs.Store.{Accepted};
 ghost use Rattle.heap_map.specs.Pictures.{IsMapFault};
 ghost use Rattle.map_commands.specs.Mapping.{EndsMap, PutsMap};
+ghost use Rattle.palm_text.specs.Output.{output};
 
 use allowance::Allowance;
 use heap_map::{MapFault, put_map};
@@ -21,7 +22,7 @@ pub fn map_region_from<A: Allowance, V: Write>(
     out: &mut Counted<V>,
 ) -> Status
     requires whole { region.now.lents ≡ [] }
-    ensures ends { EndsMap region.now.bytes V.contents out.old out.new result }
+    ensures ends { EndsMap region.now.bytes (output V.contents out.old out.new) result }
     ensures short { result ≡ Status.NoMemory → A.is_short memory.now }
 {
     match put_flushed(memory, region, out) {
@@ -41,11 +42,11 @@ fn put_flushed<A: Allowance, V: Write>(
 ) -> Result<(), MapFault>
     requires whole { region.now.lents ≡ [] }
     ensures accepted { OnOk result (Accepted region.now.bytes) }
-    ensures done { OnOk result (PutsMap region.now.bytes V.contents out.old out.new true) }
+    ensures done { OnOk result (PutsMap region.now.bytes (output V.contents out.old out.new) true) }
     ensures why { IfErr result (IsMapFault region.now.bytes) }
     ensures untouched { IfErr result (λ fault. fault ≢ MapFault.Write → out.new ≡ out.old) }
     ensures write { result ≡ Err MapFault.Write
-        → PutsMap region.now.bytes V.contents out.old out.new false }
+        → PutsMap region.now.bytes (output V.contents out.old out.new) false }
     ensures short { result ≡ Err MapFault.OutOfMemory → A.is_short memory.now }
 {
     put_map(memory, region, out)?;

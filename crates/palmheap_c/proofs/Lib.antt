@@ -5,6 +5,7 @@ pub mod EndLaws
 pub mod NameLaws
 pub mod OutLaws
 pub mod PinLaws
+pub mod PlaceLaws
 pub mod PointerLaws
 pub mod RefusalLaws
 pub mod RunLaws

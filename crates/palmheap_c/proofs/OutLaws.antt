@@ -39,7 +39,7 @@ place_above at (fixed bytes owner ∷ chunks) name place is = elim (branch (is_f
   | inr later ↦ (let low = place_above (at + need (length bytes)) chunks name place later in omega (arith, low))
 ]
 
-one_under : (at : ℕ) (chunks : List Chunk) (name other place : ℕ) → place_under at chunks name ≡ Some place → place_under at chunks other ≡ Some place → name ≡ other
+pub one_under : (at : ℕ) (chunks : List Chunk) (name other place : ℕ) → place_under at chunks name ≡ Some place → place_under at chunks other ≡ Some place → name ≡ other
 one_under at [] name other place is too = absurd cc
 one_under at (free size ∷ chunks) name other place is too = one_under (at + size) chunks name other place is too
 one_under at (movable bytes lock owner slot ∷ chunks) name other place is too =

@@ -169,7 +169,7 @@ stay : (old new : Opened) → new.pointers ≡ old.pointers → ((name : ℕ) (i
 stay old new same keeps holds name it was =
     let there = subst (λ (ps : Pointers). pinned ps name ≡ Some it) same was in
     let is = holds name it there in
-    record { named_so = is.named_so; out = keeps name it there is.out }
+    record { named_so = is.named_so; out = keeps name it there is.out; starts = is.starts }
 
 step_keeps : (old new : Opened) (call : Call) (reply : Reply) → DoesInStore old.memory call reply new.memory → new.pointers ≡ old.pointers → HoldsPointers old → HoldsPointers new
 step_keeps old new call reply does same = stay old new same (λ name it was. step_out old.memory new.memory call reply name (loan_of it).part does)
@@ -219,8 +219,8 @@ counted_keep old new name it locks was more holds = subst (λ (o : Opened). Hold
     | inl same ↦
         let is = holds name it was in
         let now : found ≡ locked_times it locks = one_pin (sym there ∙ ap (pinned (set_value (is_at (nat_cmp name)) old.pointers (locked_times it locks))) same ∙ set_own old.pointers name it (locked_times it locks) was) in
-        subst (λ (x : ℕ × Pinned). IsPinned old.memory x.0 x.1) (λ i. (sym same i, sym now i)) (record { named_so = is.named_so; out = is.out })
-    | inr differs ↦ (let is = holds other found (sym (set_other old.pointers name other (locked_times it locks) differs) ∙ there) in record { named_so = is.named_so; out = is.out })
+        subst (λ (x : ℕ × Pinned). IsPinned old.memory x.0 x.1) (λ i. (sym same i, sym now i)) (record { named_so = is.named_so; out = is.out; starts = is.starts })
+    | inr differs ↦ (let is = holds other found (sym (set_other old.pointers name other (locked_times it locks) differs) ∙ there) in record { named_so = is.named_so; out = is.out; starts = is.starts })
   ]
 
 -- a pointer to the bytes of a loan that is out is given
@@ -233,9 +233,13 @@ gives_keep old new name loan at count gives none named out holds = subst (λ (o 
   held other found there = elim (cases_eq other name) [
     | inl same ↦
         let now : found ≡ it = one_pin (sym there ∙ ap (pinned (insert_entry nat_cmp old.pointers name it)) same ∙ insert_own old.pointers name it none) in
-        let own : IsPinned old.memory name it = record { named_so = ap (λ (l : OnLoan). l.name) gives.is ∙ named; out = subst (λ (l : OnLoan). IsOutUnder old.memory name l.part) (sym gives.is) out } in
+        let own : IsPinned old.memory name it = record {
+          named_so = ap (λ (l : OnLoan). l.name) gives.is ∙ named;
+          out = subst (λ (l : OnLoan). IsOutUnder old.memory name l.part) (sym gives.is) out;
+          starts = gives.starts ∙ sym (ap (λ (l : OnLoan). l.part.start) gives.is);
+        } in
         subst (λ (x : ℕ × Pinned). IsPinned old.memory x.0 x.1) (λ i. (sym same i, sym now i)) own
-    | inr differs ↦ (let is = holds other found (sym (insert_other old.pointers name other it differs) ∙ there) in record { named_so = is.named_so; out = is.out })
+    | inr differs ↦ (let is = holds other found (sym (insert_other old.pointers name other it differs) ∙ there) in record { named_so = is.named_so; out = is.out; starts = is.starts })
   ]
 
 again_keeps : (old new : Opened) (name : ℕ) (at : Ptr) (count : ℕ) → LocksAgain old new name at count → HoldsPointers old → HoldsPointers new
@@ -293,7 +297,7 @@ last_keeps old new name result last holds = elim last.lets.unlocked [
     | inr differs ↦
         let was = sym (ap (λ (ps : Pointers). pinned ps other) last.lets.less ∙ remove_other old.pointers name other differs) ∙ there in
         let is = holds other it was in
-        record { named_so = is.named_so; out = puts_out old.memory last.lets.back (loan_of last.it) other (loan_of it).part (apart other differs) last.lets.puts is.out }
+        record { named_so = is.named_so; out = puts_out old.memory last.lets.back (loan_of last.it) other (loan_of it).part (apart other differs) last.lets.puts is.out; starts = is.starts }
   ]
 
 pub unlock_pointer_keeps : (old new : Opened) (name result : ℕ) → UnlocksPointer old new name result → HoldsPointers old → HoldsPointers new

@@ -4,7 +4,7 @@ use Rattle.std.specs.BTreeMap.{insert_entry, is_at}
 use Rattle.std.specs.Map.{lookup, remove_entry, set_value}
 use Rattle.std.specs.Mem.{manually_drop_value}
 use Rattle.std.specs.Ordering.{nat_cmp}
-use denote.RawPtr.{Ptr}
+use denote.RawPtr.{Ptr, ◌+ₚ◌}
 use Rattle.allowance.specs.Refusals.{GrowthRefused}
 use Rattle.heap_model.specs.Chunk.{fixed_lock, most_locks}
 use Rattle.heap_model.specs.Lending.{IsLent}
@@ -13,6 +13,7 @@ use Rattle.heap_model.specs.Memory.{Memory}
 use Rattle.heap_model.specs.MemorySteps.{Of, lent_out, unknown, where_it}
 use Rattle.heap_model.specs.Numbers.{number_of}
 use Rattle.heap_model.specs.Refusals.{Check, FirstBrings}
+use Rattle.heap_model.specs.Space.{place_of}
 use Rattle.heap_model.specs.StoreSteps.{DoesInStore}
 use Rattle.heap_model.specs.declared.call.Call.TheVariants as calls
 use Rattle.heap_model.specs.declared.call.MemoryCall.TheVariants.{Lock, Unlock}
@@ -45,10 +46,11 @@ locked_times it locks = record it { locks = locks }
 abbrev pub loan_of : Pinned → OnLoan
 loan_of it = manually_drop_value it.loan
 
--- the bytes of a chunk are out, under this name
+-- the bytes of a chunk are out, under this name, and the pointer is to them
 pub record IsPinned (store : Memory) (name : ℕ) (it : Pinned) : Type 0 where
   pub named_so : (loan_of it).name ≡ as_name name
   pub out : IsOutUnder store name (loan_of it).part
+  pub starts : it.at ≡ (loan_of it).part.start
 
 -- The bytes of each chunk to which pointers are out are lent. A store has this when it is opened,
 -- and each call leaves it so. For the functions on loans and pointers the clause `holds` states it,
@@ -56,6 +58,17 @@ pub record IsPinned (store : Memory) (name : ℕ) (it : Pinned) : Type 0 where
 -- get no loan of a chunk to which pointers are out.
 abbrev pub HoldsPointers : Opened → Type 0
 HoldsPointers store = (name : ℕ) (it : Pinned) → pinned store.pointers name ≡ Some it → IsPinned store.memory name it
+
+-- the pointer to a chunk is where an image starts, plus the place of the chunk
+pub record IsAtPlace (start : Ptr) (store : Memory) (name : ℕ) (it : Pinned) : Type 0 where
+  pub place : ℕ
+  pub of_chunk : place_of store.bytes name ≡ Some place
+  pub within : place ≤ length store.bytes
+  pub at_is : it.at ≡ start +ₚ place
+
+-- so is each pointer that is out
+abbrev pub AreAtPlaces : Ptr → Opened → Type 0
+AreAtPlaces start store = (name : ℕ) (it : Pinned) → pinned store.pointers name ≡ Some it → IsAtPlace start store.memory name it
 
 -- the most times that a pointer can be out
 abbrev pub most_times : ℕ

@@ -70,7 +70,9 @@ pub use memory_calls::{
     palmheap_MemPtrRecoverHandle, palmheap_largest_stretch, palmheap_more_slots,
 };
 pub use opening::{palmheap_close, palmheap_open, palmheap_write_image};
-pub use pointers::{NotUnlocked, Pinned, palmheap_lock_pointer, palmheap_unlock_pointer};
+pub use pointers::{
+    NotUnlocked, Pinned, palmheap_lock_pointer, palmheap_start, palmheap_unlock_handle,
+};
 pub use record_calls::{
     palmheap_DmArchiveRecord, palmheap_DmAttachRecord, palmheap_DmDeleteCategory,
     palmheap_DmDeleteRecord, palmheap_DmDetachRecord, palmheap_DmFindRecordByID,

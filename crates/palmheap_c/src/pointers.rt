@@ -10,7 +10,7 @@ ghost use Rattle.heap_model.specs.declared.call.Reply.{Reply};
 ghost use Rattle.palm_store.specs.Replies.{DoesMemory};
 ghost use Rattle.raw_region.specs.LentParts.{IsFull};
 ghost use Rattle.mem_manager.specs.Loans.{IsOutUnder};
-ghost use Rattle.palmheap_c.specs.Pointers.{HasBytesOut, HoldsPointers, GivesPointer, LetsGo, LetsLoanGo, LocksFirst, LocksPointer, RefusesFirst, RefusesPointer, CountsPointers, UnlocksPointer, most_times, pinned, pointer_checks, unlock_code};
+ghost use Rattle.palmheap_c.specs.Pointers.{AreAtPlaces, HasBytesOut, HoldsPointers, GivesPointer, LetsGo, LetsLoanGo, LocksFirst, LocksPointer, RefusesFirst, RefusesPointer, CountsPointers, UnlocksPointer, most_times, pinned, pointer_checks, unlock_code};
 
 use crate::buffers::refused_entry;
 use crate::calls::refused;
@@ -22,7 +22,7 @@ use raw_region::LentPart;
 use std::alloc::Global;
 use std::mem::ManuallyDrop;
 
-/// The result of `palmheap_unlock_pointer` if no pointer to the chunk is out.
+/// The result of `palmheap_unlock_handle` if no pointer to the chunk is out.
 const CALL_NO_POINTER: u32 = 102;
 
 /// A chunk to which pointers are out: the loan of its bytes, where these begin, and how often the
@@ -45,9 +45,9 @@ pub enum NotUnlocked {
 }
 
 /// Locks a movable chunk, and lends its bytes, if no pointer to them is out. Sets `bytes` to them,
-/// and `count` to their number. They stay there until as many calls of `palmheap_unlock_pointer` were
-/// made as of this function, whatever other calls are made. While they are out, the chunk has one
-/// lock more.
+/// and `count` to their number. They stay there until the chunk was unlocked as often as this
+/// function was called, whatever other calls are made. While they are out, the chunk has one lock
+/// more.
 ///
 /// # Errors
 /// The refusals 1, 6, 5, 27, 26, in this order. 5 also if the pointer is out 4,294,967,295 times.
@@ -82,7 +82,7 @@ pub extern "C" fn palmheap_lock_pointer(
 /// # Errors
 /// `CALL_NO_POINTER` if no pointer to the chunk is out.
 #[unsafe(no_mangle)]
-pub extern "C" fn palmheap_unlock_pointer(store: &mut Kept, name: u32) -> u32
+pub extern "C" fn palmheap_unlock_handle(store: &mut Kept, name: u32) -> u32
     requires { HoldsPointers store.old.store }
     ensures unlocks { UnlocksPointer store.old.store store.new.store name result }
     ensures holds { HoldsPointers store.new.store }
@@ -92,6 +92,18 @@ pub extern "C" fn palmheap_unlock_pointer(store: &mut Kept, name: u32) -> u32
         Err(NotUnlocked::NoPointer) => CALL_NO_POINTER,
         Err(NotUnlocked::LockRefused(refusal)) => refused(refusal),
     }
+}
+
+/// Sets `start` to where the image of the store begins in the machine's memory. A pointer that is out
+/// is `start` plus the place of its chunk: so the header's `palmheap_unlock_pointer` finds the chunk.
+/// The bytes there belong to the store.
+#[unsafe(no_mangle)]
+pub extern "C" fn palmheap_start(store: &mut Kept, start: &mut *mut u8)
+    ensures pointers { HoldsPointers store.old.store → AreAtPlaces start.new store.old.store }
+    ensures same { store.new.store ≡ store.old.store }
+{
+    let at = store.as_mut().start();
+    *start = at;
 }
 
 impl Held {

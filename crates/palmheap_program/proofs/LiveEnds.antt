@@ -15,12 +15,13 @@ use Rattle.program_io.specs.declared.status.Status.TheVariants.{Refused, WriteFa
 use Rattle.palmheap_program.specs.declared.live_command.LiveEnd.{LiveEnd}
 use Rattle.palmheap_program.specs.declared.live_command.LiveEnd.TheVariants as ends
 use Rattle.palmheap_program.specs.LiveRuns.{EndsAtLine, EndsEarlyLive, EndsLive, EndsLiveBy, LiveBreaksOff, PutsLiveRefusal, LiveRunWantsMemory}
+use Rattle.palm_text.specs.Output.{output}
 
 module _ {W V : Type 0} (short : Type 0) (region : Memory) (known : Option (List ℕ)) (script : List ℕ) (inputs : List (List ℕ)) (contents : V → Option (List ℕ)) (old new : Writing V) (image_contents : W → Option (List ℕ)) (image_old image_new : Writing W) where
   abbrev By : Status → Type 0
-  By status = EndsLiveBy short region known script inputs contents old new image_contents image_old image_new status
+  By status = EndsLiveBy short region known script inputs (output contents old new) (output image_contents image_old image_new) status
 
-  by_refused : (status : Status) → status ≡ Refused → PutsLiveRefusal short region known inputs contents old new true → image_new ≡ image_old → By status
+  by_refused : (status : Status) → status ≡ Refused → PutsLiveRefusal short region known inputs (output contents old new) true → image_new ≡ image_old → By status
   by_refused status is puts same = record {
     refused = λ _. puts;
     write_fault = λ e. absurd cc;
@@ -31,7 +32,7 @@ module _ {W V : Type 0} (short : Type 0) (region : Memory) (known : Option (List
     reads_all = λ e. cc;
   }
 
-  pub by_write : (status : Status) → status ≡ WriteFault → LiveBreaksOff short region known script inputs contents old new image_contents image_old image_new → By status
+  pub by_write : (status : Status) → status ≡ WriteFault → LiveBreaksOff short region known script inputs (output contents old new) (output image_contents image_old image_new) → By status
   by_write status is off = record {
     refused = λ e. absurd cc;
     write_fault = λ _. off;
@@ -42,7 +43,7 @@ module _ {W V : Type 0} (short : Type 0) (region : Memory) (known : Option (List
     reads_all = λ e. cc;
   }
 
-  pub by_memory : (status : Status) → status ≡ NoMemory → short → LiveRunWantsMemory short region known inputs contents old new → image_new ≡ image_old → By status
+  pub by_memory : (status : Status) → status ≡ NoMemory → short → LiveRunWantsMemory short region known inputs (output contents old new) → image_new ≡ image_old → By status
   by_memory status is wanted wants same = record {
     refused = λ e. absurd cc;
     write_fault = λ e. absurd cc;
@@ -55,14 +56,14 @@ module _ {W V : Type 0} (short : Type 0) (region : Memory) (known : Option (List
 
   -- an image that is not accepted
   pub by_bad : {S : Type 0} (result : Result S Status) (status : Status) → result ≡ Err status → (status ≡ Refused) ⊎ ((status ≡ WriteFault) ⊎ (status ≡ NoMemory)) → ((result ≡ Err Refused) ⊎ (result ≡ Err WriteFault) → Accepted region.bytes → ⊥)
-      → (result ≡ Err Refused → PutsBadImage region.bytes contents old new true) → (result ≡ Err WriteFault → PutsBadImage region.bytes contents old new false) → (result ≡ Err NoMemory → new ≡ old) → (result ≡ Err NoMemory → short) → image_new ≡ image_old → By status
+      → (result ≡ Err Refused → PutsBadImage region.bytes (output contents old new) true) → (result ≡ Err WriteFault → PutsBadImage region.bytes (output contents old new) false) → (result ≡ Err NoMemory → new ≡ old) → (result ≡ Err NoMemory → short) → image_new ≡ image_old → By status
   by_bad result status was (inl is) refused said fault none wanted same = let e : result ≡ Err Refused = cc in by_refused status is (inl (refused (inl e), said e)) same
   by_bad result status was (inr (inl is)) refused said fault none wanted same = let e : result ≡ Err WriteFault = cc in by_write status is (inl (inl (refused (inr e), fault e), same))
   by_bad result status was (inr (inr is)) refused said fault none wanted same = let e : result ≡ Err NoMemory = cc in by_memory status is (wanted e) (inl (none e)) same
 
   -- a run that a fault ended
-  pub stopped : (region_after : Memory) (mid : Writing V) (fault : LiveFault) (end : LiveEnd) → Accepted region.bytes → ReadStops short contents inputs known region old fault region_after mid → (fault ≡ faults.Memory → short) → EndsEarlyLive short contents mid new fault end → image_new ≡ image_old
-      → EndsLive short region known script inputs contents old new image_contents image_old image_new end
+  pub stopped : (region_after : Memory) (mid : Writing V) (fault : LiveFault) (end : LiveEnd) → Accepted region.bytes → ReadStops short contents inputs known region old fault region_after mid → (fault ≡ faults.Memory → short) → EndsEarlyLive short (output contents mid new) fault end → image_new ≡ image_old
+      → EndsLive short region known script inputs (output contents old new) (output image_contents image_old image_new) end
   stopped region_after mid (faults.Line fault) (ends.Ended status) accepted stops wanted (inl (is, puts)) same = by_refused status is (inr (fault, mid, (accepted, (region_after, stops)), puts)) same
   stopped region_after mid (faults.Line fault) (ends.Ended status) accepted stops wanted (inr (inl (is, puts))) same = by_write status is (inl (inr (fault, mid, (accepted, (region_after, stops)), puts), same))
   stopped region_after mid (faults.Line fault) (ends.Ended status) accepted stops wanted (inr (inr (is, shorted, ok, flush))) same = by_memory status is shorted (inr (inr (mid, ok, fault, (accepted, (region_after, stops)), flush))) same
@@ -75,17 +76,17 @@ module _ {W V : Type 0} (short : Type 0) (region : Memory) (known : Option (List
   stopped region_after mid faults.Write (ends.Unread other) accepted stops wanted none same = absurd none
 
 -- the end of a run at a faulty line
-pub at_line_short : {V short : Type 0} (contents : V → Option (List ℕ)) (old mid new : Writing V) (fault : LineFault) (ok : Bool) → short → mid ≡ old → Flushes contents mid new ok → EndsAtLine short contents old new fault NoMemory
+pub at_line_short : {V short : Type 0} (contents : V → Option (List ℕ)) (old mid new : Writing V) (fault : LineFault) (ok : Bool) → short → mid ≡ old → Flushes contents mid new ok → EndsAtLine short (output contents old new) fault NoMemory
 at_line_short {V} contents old mid new fault ok wanted same flush = inr (inr (refl, wanted, ok, subst (λ (w : Writing V). Flushes contents w new ok) same flush))
 
 pub at_line_said : {V short : Type 0} (contents : V → Option (List ℕ)) (old new : Writing V) (fault : LineFault) (status : Status) → (status ≡ NoMemory → ⊥) → (status ≡ Refused) ⊎ ((status ≡ WriteFault) ⊎ (status ≡ NoMemory)) → (status ≡ Refused → PutsScriptRefused fault contents old new true)
-    → (status ≡ WriteFault → PutsScriptRefused fault contents old new false) → EndsAtLine short contents old new fault status
+    → (status ≡ WriteFault → PutsScriptRefused fault contents old new false) → EndsAtLine short (output contents old new) fault status
 at_line_said contents old new fault status other (inl is) said failed = inl (is, said is)
 at_line_said contents old new fault status other (inr (inl is)) said failed = inr (inl (is, failed is))
 at_line_said contents old new fault status other (inr (inr is)) said failed = absurd (other is)
 
 -- a script that could not be read ends a run only by that fault
-pub unread_input : {W : Type 0} (short : Type 0) (contents : W → Option (List ℕ)) (old new : Writing W) (fault : LiveFault) (end : LiveEnd) (reason : InputFault) → EndsEarlyLive short contents old new fault end → end ≡ ends.Unread reason → fault ≡ faults.Input reason
+pub unread_input : {W : Type 0} (short : Type 0) (contents : W → Option (List ℕ)) (old new : Writing W) (fault : LiveFault) (end : LiveEnd) (reason : InputFault) → EndsEarlyLive short (output contents old new) fault end → end ≡ ends.Unread reason → fault ≡ faults.Input reason
 unread_input short contents old new (faults.Line fault) (ends.Ended status) reason early is = absurd cc
 unread_input short contents old new (faults.Line fault) (ends.Unread other) reason early is = absurd early
 unread_input short contents old new (faults.Input fault) (ends.Ended status) reason early is = absurd early

@@ -3,6 +3,7 @@
 ghost use Rattle.std.specs.Prelude.{◌≡◌, ◌≢◌, ◌<◌, [], Err, IfOk, IfErr, IfSome, length, true};
 ghost use Rattle.heap_model.specs.Store.{Accepted};
 ghost use Rattle.palmheap_program.specs.LiveRuns.{EndsAtLine, EndsEarlyLive, EndsLive, RunsLive};
+ghost use Rattle.palm_text.specs.Output.{output};
 
 use allowance::Allowance;
 use file_commands::say_line_fault;
@@ -44,11 +45,13 @@ pub fn run_live_region_from<A: Allowance, R: Read, W: Write, V: Write>(
     requires whole { region.lents ≡ [] }
     requires none { script.old.items ≡ [] }
     ensures done { IfOk result (λ files. RunsLive (A.is_short memory.now)
-        region (R.remaining reader.old) script.new.items inputs.entry.files.now V.contents out.old out.new
-        W.contents image_out.old image_out.new files.items true) }
+        region (R.remaining reader.old) script.new.items inputs.entry.files.now
+        (output V.contents out.old out.new)
+        (output W.contents image_out.old image_out.new) files.items true) }
     ensures ends { IfErr result (λ end. EndsLive (A.is_short memory.now)
-        region (R.remaining reader.old) script.new.items inputs.entry.files.now V.contents out.old out.new
-        W.contents image_out.old image_out.new end) }
+        region (R.remaining reader.old) script.new.items inputs.entry.files.now
+        (output V.contents out.old out.new)
+        (output W.contents image_out.old image_out.new) end) }
     ensures too_long { result ≡ Err (LiveEnd.Unread InputFault.TooLong)
         → IfSome (R.remaining reader.old) (λ all. MOST_INPUT < length all) }
     ensures good_words { result ≢ Err (LiveEnd.Ended Status.BadWords) }
@@ -73,11 +76,13 @@ fn run_store<A: Allowance, R: Read, W: Write, V: Write>(
     requires accepted { Accepted store.bytes }
     requires none { script.old.items ≡ [] }
     ensures done { IfOk result (λ files. RunsLive (A.is_short memory.now)
-        store (R.remaining reader.old) script.new.items inputs.entry.files.now V.contents out.old out.new
-        W.contents image_out.old image_out.new files.items true) }
+        store (R.remaining reader.old) script.new.items inputs.entry.files.now
+        (output V.contents out.old out.new)
+        (output W.contents image_out.old image_out.new) files.items true) }
     ensures ends { IfErr result (λ end. EndsLive (A.is_short memory.now)
-        store (R.remaining reader.old) script.new.items inputs.entry.files.now V.contents out.old out.new
-        W.contents image_out.old image_out.new end) }
+        store (R.remaining reader.old) script.new.items inputs.entry.files.now
+        (output V.contents out.old out.new)
+        (output W.contents image_out.old image_out.new) end) }
     ensures too_long { result ≡ Err (LiveEnd.Unread InputFault.TooLong)
         → IfSome (R.remaining reader.old) (λ all. MOST_INPUT < length all) }
     ensures good_words { result ≢ Err (LiveEnd.Ended Status.BadWords) }
@@ -95,7 +100,8 @@ fn run_store<A: Allowance, R: Read, W: Write, V: Write>(
 /// Prints the line for a faulty line, if one ended a run, and returns how the run ended. If an
 /// allocation failed, it flushes the replies.
 fn end_early<A: Allowance, V: Write>(memory: &A, fault: LiveFault, out: &mut Counted<V>) -> LiveEnd
-    ensures ends { EndsEarlyLive (A.is_short memory.now) V.contents out.old out.new fault result }
+    ensures ends { EndsEarlyLive (A.is_short memory.now)
+        (output V.contents out.old out.new) fault result }
     ensures good_words { result ≢ LiveEnd.Ended Status.BadWords }
 {
     match fault {
@@ -111,7 +117,8 @@ fn end_early<A: Allowance, V: Write>(memory: &A, fault: LiveFault, out: &mut Cou
 
 /// Prints the line for a faulty line of a script. If an allocation failed, it flushes the replies.
 fn end_at_line<A: Allowance, V: Write>(memory: &A, fault: LineFault, out: &mut Counted<V>) -> Status
-    ensures ends { EndsAtLine (A.is_short memory.now) V.contents out.old out.new fault result }
+    ensures ends { EndsAtLine (A.is_short memory.now)
+        (output V.contents out.old out.new) fault result }
     ensures good_words { result ≢ Status.BadWords }
 {
     match say_line_fault(memory, fault, out) {

@@ -6,6 +6,7 @@ ghost use Rattle.script_lines.specs.Reading.{read_script};
 ghost use Rattle.palmheap_program.specs.Runs.{EndsEarly, EndsRun, PrintingFails, PutsRefusal, PutsScriptFault, RunBreaksOffShort};
 ghost use Rattle.palmheap_program.specs.Runs.{RunsAndFlushes, RunsAndWrites, RunsScriptShort};
 ghost use Rattle.allowance.specs.Refusals.{GrowthRefused};
+ghost use Rattle.palm_text.specs.Output.{output};
 
 use allowance::Allowance;
 use file_commands::say_line_fault;
@@ -34,16 +35,17 @@ pub fn cmd_run<W: Write, V: Write>(
     files: &mut Vec<Bytes>,
     out: &mut Counted<V>,
 ) -> Status
-    ensures ends { EndsRun image.now script.now inputs.now V.contents out.old out.new
-        W.contents image_out.old image_out.new files.new.items result }
+    ensures ends { EndsRun image.now script.now inputs.now (output V.contents out.old out.new)
+        (output W.contents image_out.old image_out.new) files.new.items result }
     ensures files_kept { result ≢ Status.Done → files.new ≡ files.old }
     ensures short { result ≡ Status.NoMemory → GrowthRefused }
     ensures done_short { result ≡ Status.Done → RunsScriptShort GrowthRefused
         image.now script.now inputs.now
-        V.contents out.old out.new W.contents image_out.old image_out.new files.new.items true }
+        (output V.contents out.old out.new)
+        (output W.contents image_out.old image_out.new) files.new.items true }
     ensures write_short { result ≡ Status.WriteFault → RunBreaksOffShort GrowthRefused
         image.now script.now inputs.now
-        V.contents out.old out.new W.contents image_out.old image_out.new }
+        (output V.contents out.old out.new) (output W.contents image_out.old image_out.new) }
 {
     cmd_run_from(&alloc, image, script, inputs, image_out, files, out)
 }
@@ -58,16 +60,17 @@ pub fn cmd_run_from<A: Allowance, W: Write, V: Write>(
     files: &mut Vec<Bytes>,
     out: &mut Counted<V>,
 ) -> Status
-    ensures ends { EndsRun image.now script.now inputs.now V.contents out.old out.new
-        W.contents image_out.old image_out.new files.new.items result }
+    ensures ends { EndsRun image.now script.now inputs.now (output V.contents out.old out.new)
+        (output W.contents image_out.old image_out.new) files.new.items result }
     ensures files_kept { result ≢ Status.Done → files.new ≡ files.old }
     ensures short { result ≡ Status.NoMemory → A.is_short memory.now }
     ensures done_short { result ≡ Status.Done → RunsScriptShort (A.is_short memory.now)
         image.now script.now inputs.now
-        V.contents out.old out.new W.contents image_out.old image_out.new files.new.items true }
+        (output V.contents out.old out.new)
+        (output W.contents image_out.old image_out.new) files.new.items true }
     ensures write_short { result ≡ Status.WriteFault → RunBreaksOffShort (A.is_short memory.now)
         image.now script.now inputs.now
-        V.contents out.old out.new W.contents image_out.old image_out.new }
+        (output V.contents out.old out.new) (output W.contents image_out.old image_out.new) }
 {
     match Region::copied_from(memory, image) {
         Ok(region) => run_region_from(memory, region, script, inputs, image_out, files, out),
@@ -86,16 +89,17 @@ pub fn run_region_from<A: Allowance, W: Write, V: Write>(
     out: &mut Counted<V>,
 ) -> Status
     requires whole { region.lents ≡ [] }
-    ensures ends { EndsRun region.bytes script.now inputs.now V.contents out.old out.new
-        W.contents image_out.old image_out.new files.new.items result }
+    ensures ends { EndsRun region.bytes script.now inputs.now (output V.contents out.old out.new)
+        (output W.contents image_out.old image_out.new) files.new.items result }
     ensures files_kept { result ≢ Status.Done → files.new ≡ files.old }
     ensures short { result ≡ Status.NoMemory → A.is_short memory.now }
     ensures done_short { result ≡ Status.Done → RunsScriptShort (A.is_short memory.now)
         region.bytes script.now inputs.now
-        V.contents out.old out.new W.contents image_out.old image_out.new files.new.items true }
+        (output V.contents out.old out.new)
+        (output W.contents image_out.old image_out.new) files.new.items true }
     ensures write_short { result ≡ Status.WriteFault → RunBreaksOffShort (A.is_short memory.now)
         region.bytes script.now inputs.now
-        V.contents out.old out.new W.contents image_out.old image_out.new }
+        (output V.contents out.old out.new) (output W.contents image_out.old image_out.new) }
 {
     match read(memory, region, script, out) {
         Ok((store, script)) => run_script(memory, store, &script, inputs, image_out, files, out),
@@ -119,9 +123,9 @@ fn read<'a, A: Allowance, V: Write>(
     ensures faults { IfErr result (λ status. (status ≡ Status.Refused)
         ⊎ (status ≡ Status.WriteFault) ⊎ (status ≡ Status.NoMemory)) }
     ensures refused { result ≡ Err Status.Refused
-        → PutsRefusal region.bytes script.now V.contents out.old out.new true }
+        → PutsRefusal region.bytes script.now (output V.contents out.old out.new) true }
     ensures write { result ≡ Err Status.WriteFault
-        → PutsRefusal region.bytes script.now V.contents out.old out.new false }
+        → PutsRefusal region.bytes script.now (output V.contents out.old out.new) false }
     ensures memory { result ≡ Err Status.NoMemory → out.new ≡ out.old }
     ensures short { result ≡ Err Status.NoMemory → A.is_short memory.now }
 {
@@ -145,9 +149,9 @@ fn parsed<'a, A: Allowance, V: Write>(
     ensures faults { IfErr result (λ status. (status ≡ Status.Refused)
         ⊎ (status ≡ Status.WriteFault) ⊎ (status ≡ Status.NoMemory)) }
     ensures refused { result ≡ Err Status.Refused
-        → PutsScriptFault script.now V.contents out.old out.new true }
+        → PutsScriptFault script.now (output V.contents out.old out.new) true }
     ensures write { result ≡ Err Status.WriteFault
-        → PutsScriptFault script.now V.contents out.old out.new false }
+        → PutsScriptFault script.now (output V.contents out.old out.new) false }
     ensures memory { result ≡ Err Status.NoMemory → out.new ≡ out.old }
     ensures short { result ≡ Err Status.NoMemory → A.is_short memory.now }
 {
@@ -172,19 +176,21 @@ fn run_script<A: Allowance, W: Write, V: Write>(
     ensures statuses { (result ≡ Status.Done) ⊎ (result ≡ Status.WriteFault)
         ⊎ (result ≡ Status.NoMemory) }
     ensures done { result ≡ Status.Done → RunsAndWrites (Unit {0}) inputs.now script.now store
-        V.contents out.old out.new W.contents image_out.old image_out.new files.new.items true }
+        (output V.contents out.old out.new)
+        (output W.contents image_out.old image_out.new) files.new.items true }
     ensures files_kept { result ≢ Status.Done → files.new ≡ files.old }
-    ensures write_fault { result ≡ Status.WriteFault → EndsEarly (Unit {0}) inputs.now script.now store
-        V.contents out.old out.new W.contents image_out.old image_out.new }
+    ensures write_fault { result ≡ Status.WriteFault → EndsEarly (Unit {0})
+        inputs.now script.now store (output V.contents out.old out.new) (output W.contents image_out.old image_out.new) }
     ensures no_memory { result ≡ Status.NoMemory
         → (image_out.new ≡ image_out.old) × (out.new ≡ out.old) }
     ensures short { result ≡ Status.NoMemory → A.is_short memory.now }
     ensures done_short { result ≡ Status.Done → RunsAndWrites (A.is_short memory.now)
         inputs.now script.now store
-        V.contents out.old out.new W.contents image_out.old image_out.new files.new.items true }
+        (output V.contents out.old out.new)
+        (output W.contents image_out.old image_out.new) files.new.items true }
     ensures write_short { result ≡ Status.WriteFault → EndsEarly (A.is_short memory.now)
         inputs.now script.now store
-        V.contents out.old out.new W.contents image_out.old image_out.new }
+        (output V.contents out.old out.new) (output W.contents image_out.old image_out.new) }
 {
     let exported = match print_replies(memory, &mut store, script, inputs, out) {
         Ok(exported) => exported,
@@ -209,18 +215,18 @@ fn print_replies<A: Allowance, V: Write>(
     out: &mut Counted<V>,
 ) -> Result<Vec<Bytes>, Status>
     ensures lent { store.new.lents ≡ store.old.lents }
-    ensures ok { IfOk result (λ files. RunsAndFlushes (Unit {0}) V.contents inputs.now script.now
-        store.old out.old store.new out.new files.items true) }
+    ensures ok { IfOk result (λ files. RunsAndFlushes (Unit {0}) inputs.now script.now
+        store.old store.new (output V.contents out.old out.new) files.items true) }
     ensures faults { IfErr result (λ status.
         (status ≡ Status.WriteFault) ⊎ (status ≡ Status.NoMemory)) }
-    ensures write { result ≡ Err Status.WriteFault → PrintingFails (Unit {0}) V.contents inputs.now script.now
-        store.old out.old store.new out.new }
+    ensures write { result ≡ Err Status.WriteFault → PrintingFails (Unit {0}) inputs.now script.now
+        store.old store.new (output V.contents out.old out.new) }
     ensures memory { result ≡ Err Status.NoMemory → out.new ≡ out.old }
     ensures short { result ≡ Err Status.NoMemory → A.is_short memory.now }
-    ensures ok_short { IfOk result (λ files. RunsAndFlushes (A.is_short memory.now) V.contents
-        inputs.now script.now store.old out.old store.new out.new files.items true) }
+    ensures ok_short { IfOk result (λ files. RunsAndFlushes (A.is_short memory.now)
+        inputs.now script.now store.old store.new (output V.contents out.old out.new) files.items true) }
     ensures write_short { result ≡ Err Status.WriteFault → PrintingFails (A.is_short memory.now)
-        V.contents inputs.now script.now store.old out.old store.new out.new }
+        inputs.now script.now store.old store.new (output V.contents out.old out.new) }
 {
     match run_from(memory, store, script, inputs, out) {
         Ok(files) => match out.flush() {

@@ -7,7 +7,7 @@ use command_files::{
     STANDARD_OUTPUT, fail, looks_like_file, output_for_image, read_file_or_input, read_image,
     suggest_checks, suggest_explain, suggest_list, write_file,
 };
-use file_commands::{name_each_dropped, path_in, say_count};
+use file_commands::{comment_on_damage, name_each_dropped, path_in, say_count};
 use heap_model::Bytes;
 use palm_text::Counted;
 use program_io::{Noted, Status, report_outcome, report_write_fault};
@@ -108,6 +108,7 @@ pub(crate) fn import<R: Files + Input + Print + Eprint + AllocGlobal>(
     );
     name_refused(rt, ended, paths);
     suggest_checks(rt, paths, ended.status, files.as_slice());
+    comment_on_refused(rt, ended, paths, files.as_slice());
     name_each_dropped(rt, paths, ended.status, files.as_slice());
     suggest_explain(rt, ended.status, choice.size);
     ended.status
@@ -160,6 +161,24 @@ fn name_refused<R: Eprint>(rt: &R, ended: Ended, words: &[&str]) {
         if let Some(word) = words.get(index) {
             let _ = eprintln!(rt; "{word}: refused");
         }
+    }
+}
+
+/// Reports the damage of the file that a command was refused for, if it was for one.
+fn comment_on_refused<R: Eprint + AllocGlobal>(
+    rt: &R,
+    ended: Ended,
+    paths: &[&str],
+    files: &[Bytes],
+) {
+    if ended.status != Status::Refused {
+        return;
+    }
+    let Some(index) = ended.word else {
+        return;
+    };
+    if let (Some(path), Some(file)) = (paths.get(index), files.get(index)) {
+        comment_on_damage(rt, path, file.as_slice());
     }
 }
 

@@ -2,10 +2,10 @@
 
 ghost use Rattle.std.specs.Prelude.{◌≡◌, ◌<◌, ◌≤◌, ◌∷◌, ℕ, List, length, filter, min, nat_lt};
 ghost use Rattle.std.specs.List.{fold};
-ghost use Rattle.heap_model.specs.Files.{entries_end};
+ghost use Rattle.heap_model.specs.Files.{HasNoFault, entries_end};
 ghost use Rattle.pdb_format.specs.Filler as words;
 
-use crate::pdb_file::PdbFile;
+use crate::starts::{offset_of, rank_count};
 use db_format::entry_offset;
 
 /// The bytes that are written between the entries and the first block.
@@ -28,14 +28,24 @@ fn lesser(first: usize, at: usize) -> usize
 }
 
 /// Returns the offset of the first block. If there is none, returns the size of the file.
-pub(crate) fn first_start(file: &PdbFile<'_>) -> usize
+fn first_start(file: &[u8]) -> usize
+    requires { HasNoFault file.now }
     ensures is { result ≡ words.first_start file.now }
     ensures after { entries_end file.now ≤ result }
     ensures inside { result ≤ length file.now }
 {
-    let mut first = file.bytes().len();
-    for rank in 0..file.rank_count() {
-        first = lesser(first, file.offset(rank));
+    let mut first = file.len();
+    for rank in 0..rank_count(file) {
+        first = lesser(first, offset_of(file, rank) as usize);
     }
     first
+}
+
+/// Returns the bytes between the entries and the first block of a file, or up to the end of the
+/// file if there is none. It allocates nothing.
+pub fn filler_of(file: &[u8]) -> &[u8]
+    requires { HasNoFault file.now }
+    ensures { result.now ≡ words.filler_in file.now }
+{
+    &file[db_format::entries_end(file)..first_start(file)]
 }

@@ -21,7 +21,7 @@ mod written;
 
 pub use blocks::Block;
 pub use faults::check_file;
-pub use filler::{FILLER, first_place_after};
+pub use filler::{FILLER, filler_of, first_place_after};
 pub use laws::{
     contents_are_short, contents_are_writable, files_are_read, files_are_read_once,
     written_files_are_read, written_files_have_their_size,

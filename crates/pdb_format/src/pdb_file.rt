@@ -17,7 +17,7 @@ ghost use Rattle.pdb_format.specs.OpenFaults.{IsOpenFault};
 
 use crate::blocks::{Block, find_blocks};
 use crate::faults::check_file;
-use crate::filler::{first_place_after, first_start};
+use crate::filler::{filler_of, first_place_after};
 use crate::written::{idle_entry_at, with_seed};
 use allowance::Allowance;
 use db_format::{DbEntry, DbHeader, GREATEST_ID, INFO_BLOCKS};
@@ -222,8 +222,7 @@ impl<'a> PdbFile<'a> {
     pub fn filler(&self) -> &'a [u8]
         ensures { result.now ≡ fillers.filler_in self.now }
     {
-        let start = self.entries_end();
-        &self.bytes()[start..first_start(self)]
+        filler_of(self.bytes)
     }
 
     /// Returns the number of ranks: two for the info blocks, and one for each entry.

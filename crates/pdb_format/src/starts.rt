@@ -42,7 +42,7 @@ pub(crate) fn rank_count(file: &[u8]) -> u32
 
 /// Returns the offset of the block of a rank, in bytes from the file's start. It is 0 if the file
 /// doesn't have the block.
-fn offset_of(file: &[u8], rank: u32) -> u32
+pub(crate) fn offset_of(file: &[u8], rank: u32) -> u32
     requires good { HasNoFault file.now }
     requires inside { rank < length (offsets_in file.now) }
     requires few { rank ≤ 65536 }

@@ -37,7 +37,7 @@ pub use error_output::ErrorOutput;
 pub use fault_report::{report_fault, report_input_fault, report_outcome, report_write_fault};
 pub use input::{InputFault, MOST_INPUT, MOST_READ, read_input, read_input_from, read_turn};
 pub use noted::Noted;
-pub use output::{flushed, say, say_text};
+pub use output::{flushed, say, say_bad, say_text};
 pub use output_file::OutputFile;
 pub use reading::{ReadFailure, read_once};
 pub use status::Status;

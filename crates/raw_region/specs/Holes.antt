@@ -21,8 +21,12 @@ pub record LiesIn (start : Ptr) (size : ℕ) (lent : Lent) : Type 0 where
   pub inside : lent.at + lent.count ≤ size
   pub there : lent.start ≡ start +ₚ lent.at
 
+-- Each lent part does. So its offset is the distance of its start to that pointer.
+abbrev pub AllLieIn : Ptr → ℕ → List Lent → Type 0
+AllLieIn start size lents = EachLent (LiesIn start size) lents
+
 abbrev pub KnowsLents : Ptr → ℕ → List Lent → Type 0
-KnowsLents start size lents = EachLent (LiesIn start size) lents × AreApart lents
+KnowsLents start size lents = AllLieIn start size lents × AreApart lents
 
 -- the length of the first of some lent parts that begins at an offset
 abbrev pub count_at : ℕ → List Lent → Option ℕ

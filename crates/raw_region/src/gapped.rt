@@ -75,6 +75,14 @@ impl Gapped {
         Gapped { ptr, len }
     }
 
+    /// Returns where the bytes begin.
+    #[inline]
+    pub(crate) fn start(&self) -> *mut u8
+        ensures { result ≡ self.now.ptr }
+    {
+        self.ptr
+    }
+
     /// Returns the `n` bytes at `at`, to be read.
     #[inline(always)]
     pub(crate) fn part(&self, at: usize, n: usize) -> &[u8]

@@ -2,6 +2,7 @@
 
 ghost use Rattle.std.specs.Prelude.{◌≡◌, ◌+◌, ◌-◌, ◌<◌, ◌≤◌, ◌%◌, ◌^◌, ◌↔◌, IsTrue, length, slice_range, replicate, IfOk, OnErr, IfSome, IfNone, [], ◌∷◌};
 ghost use Rattle.heap_model.specs.Memory.{IsWithin, NoneBegins, without};
+ghost use Rattle.raw_region.specs.Holes.{AllLieIn};
 ghost use Rattle.raw_region.specs.Parts.{IsOut};
 ghost use Rattle.raw_region.specs.Marks.{BeginsAt, IsMarkable, IsNextLent, NoneBeginsAbove};
 ghost use Rattle.heap_model.specs.Bytes.{AreBytes, u16_at, u32_at, u16_bytes, u32_bytes, overwritten};
@@ -157,6 +158,15 @@ impl Region {
         ensures { result ≡ length self.now.bytes }
     {
         self.len
+    }
+
+    /// Returns where the region's bytes begin in the machine's memory. The region still owns them: a
+    /// caller can compare the pointer to those of lent parts.
+    #[inline]
+    pub fn start(&self) -> *mut u8
+        ensures { AllLieIn result (length self.now.bytes) self.now.lents }
+    {
+        self.run.start()
     }
 
     /// Returns all bytes of the region, in order.

@@ -6,8 +6,8 @@
 //! `put_reply` prints a reply line. `specs/Lines.antt` defines the calls of lines, and what lines
 //! bind, print and export.
 //!
-//! `Replies` and `LiveReplies` are writers for the reply lines of a script. They write the number of
-//! its line before each reply, and record whether a reply was a refusal. `specs/Replies.antt`
+//! `Replies` and `LiveReplies` are writers for the reply lines of a script. They write the number
+//! of its line before each reply, and record whether a reply was a refusal. `specs/Replies.antt`
 //! defines what is written before a reply.
 //!
 //! | module | does |

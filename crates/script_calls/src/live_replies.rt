@@ -5,7 +5,7 @@ ghost use Rattle.std.specs.Io.{WritesAtMost};
 ghost use Rattle.std.specs.Io.KnownBytes.{Appends};
 ghost use Rattle.script_calls.specs.Replies.{ends_line, front, says_refused};
 
-use crate::numbered_replies::{is_reply, put_first, put_line};
+use crate::numbered_replies::put_numbered;
 use std::cell::Cell;
 use std::io;
 use std::io::Write;
@@ -42,7 +42,6 @@ impl<'a, W: Write> LiveReplies<'a, W> {
     }
 
     /// Writes bytes of replies as a `Replies` with these numbers does.
-    #[tactic(auto, using(crate::proofs::Fronts::both))]
     fn put(&mut self, numbers: &[usize], bytes: &[u8]) -> io::Result<usize>
         ensures bound { WritesAtMost result bytes.now }
         ensures bytes { IfOk result (λ n. Appends (W.contents self.old.writer)
@@ -53,15 +52,13 @@ impl<'a, W: Write> LiveReplies<'a, W> {
         ensures start { IfOk result (λ n. 0 < n → self.new.at_start ≡ ends_line (take n bytes.now)) }
         ensures numbered { self.new.has_numbers ≡ self.old.has_numbers }
     {
-        let Some(first) = bytes.first() else {
-            return Ok(0);
-        };
-        if self.at_start && is_reply(*first) {
-            self.any_refused = self.any_refused || *first == b'r';
-            put_first(&mut self.writer, numbers)?;
-        }
-        self.at_start = false;
-        put_line(&mut self.writer, &mut self.at_start, bytes)
+        put_numbered(
+            &mut self.writer,
+            &mut self.at_start,
+            &mut self.any_refused,
+            numbers,
+            bytes,
+        )
     }
 }
 

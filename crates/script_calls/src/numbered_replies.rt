@@ -41,52 +41,71 @@ impl<'a, W: Write> Replies<'a, W> {
 
     /// Writes bytes of replies, up to the end of the first line at most. It returns the number of
     /// bytes written. If the bytes begin a reply, it writes the reply's number before them.
-    #[tactic(auto, using(crate::proofs::Fronts::both))]
     pub fn put(&mut self, bytes: &[u8]) -> io::Result<usize>
         ensures bound { WritesAtMost result bytes.now }
         ensures bytes { IfOk result (λ n. Appends (W.contents self.old.writer) (W.contents self.new.writer)
             (front self.old.at_start self.old.numbers.now bytes.now ++ take n bytes.now)) }
-        ensures numbers { OnOk result (self.new.numbers.now
-            ≡ numbers_left self.old.at_start self.old.numbers.now bytes.now) }
+        ensures numbers { self.new.numbers.now
+            ≡ numbers_left self.old.at_start self.old.numbers.now bytes.now }
         ensures refused { self.new.any_refused
             ≡ (self.old.any_refused || says_refused self.old.at_start bytes.now) }
         ensures start { IfOk result (λ n. 0 < n → self.new.at_start ≡ ends_line (take n bytes.now)) }
     {
-        let Some(first) = bytes.first() else {
-            return Ok(0);
-        };
-        if self.at_start && is_reply(*first) {
-            self.any_refused = self.any_refused || *first == b'r';
-            self.put_number()?;
+        let numbers = self.numbers;
+        if self.at_start && begins_reply(bytes) {
+            self.numbers = after_first(numbers);
         }
-        self.at_start = false;
-        put_line(&mut self.writer, &mut self.at_start, bytes)
+        put_numbered(
+            &mut self.writer,
+            &mut self.at_start,
+            &mut self.any_refused,
+            numbers,
+            bytes,
+        )
     }
+}
 
-    /// Writes the number of the next reply, if there is one, and a space.
-    fn put_number(&mut self) -> io::Result<()>
-        ensures text { OnOk result (Appends (W.contents self.old.writer) (W.contents self.new.writer)
-            (reply_number_text self.old.numbers.now)) }
-        ensures numbers { OnOk result (self.new.numbers.now ≡ drop 1 self.old.numbers.now) }
-        ensures start { self.new.at_start ≡ self.old.at_start }
-        ensures refused { self.new.any_refused ≡ self.old.any_refused }
-    {
-        put_first(&mut self.writer, self.numbers)?;
-        if let Some((_, left)) = self.numbers.split_first() {
-            self.numbers = left;
-        }
-        Ok(())
+/// Returns the numbers after the first one.
+fn after_first(numbers: &[usize]) -> &[usize]
+    ensures { result.now ≡ drop 1 numbers.now }
+{
+    match numbers.split_first() {
+        Some((_, left)) => left,
+        None => numbers,
     }
+}
+
+/// Writes bytes of replies, up to the end of the first line at most. It returns the number of bytes
+/// written. If the bytes begin a reply, it writes the first of the numbers before them.
+#[tactic(auto, using(crate::proofs::Fronts::both))]
+pub(crate) fn put_numbered<W: Write>(
+    writer: &mut W,
+    at_start: &mut bool,
+    any_refused: &mut bool,
+    numbers: &[usize],
+    bytes: &[u8],
+) -> io::Result<usize>
+    ensures bound { WritesAtMost result bytes.now }
+    ensures bytes { IfOk result (λ n. Appends (W.contents writer.old) (W.contents writer.new)
+        (front at_start.old numbers.now bytes.now ++ take n bytes.now)) }
+    ensures refused { any_refused.new ≡ (any_refused.old || says_refused at_start.old bytes.now) }
+    ensures start { IfOk result (λ n. 0 < n → at_start.new ≡ ends_line (take n bytes.now)) }
+{
+    let Some(first) = bytes.first() else {
+        return Ok(0);
+    };
+    if *at_start && is_reply(*first) {
+        *any_refused = *any_refused || *first == b'r';
+        put_first(writer, numbers)?;
+    }
+    *at_start = false;
+    put_line(writer, at_start, bytes)
 }
 
 /// Writes bytes, up to the end of the first line at most. It returns the number of bytes written.
 /// If there are any, `at_start` gets whether they end a line.
 #[tactic(auto, using(crate::proofs::Fronts::part_of))]
-pub(crate) fn put_line<W: Write>(
-    writer: &mut W,
-    at_start: &mut bool,
-    bytes: &[u8],
-) -> io::Result<usize>
+fn put_line<W: Write>(writer: &mut W, at_start: &mut bool, bytes: &[u8]) -> io::Result<usize>
     ensures bound { WritesAtMost result bytes.now }
     ensures bytes { IfOk result (λ n. Appends (W.contents writer.old) (W.contents writer.new)
         (take n bytes.now)) }
@@ -102,7 +121,7 @@ pub(crate) fn put_line<W: Write>(
 
 /// Writes the first of these numbers, if there is one, and a space.
 #[tactic(auto, using(crate::proofs::Fronts::both))]
-pub(crate) fn put_first<W: Write>(writer: &mut W, numbers: &[usize]) -> io::Result<()>
+fn put_first<W: Write>(writer: &mut W, numbers: &[usize]) -> io::Result<()>
     ensures { OnOk result (Appends (W.contents writer.old) (W.contents writer.new)
         (reply_number_text numbers.now)) }
 {
@@ -115,10 +134,20 @@ pub(crate) fn put_first<W: Write>(writer: &mut W, numbers: &[usize]) -> io::Resu
 }
 
 /// Returns whether a line with this first byte is a reply. Other lines report a fault.
-pub(crate) fn is_reply(first: u8) -> bool
+fn is_reply(first: u8) -> bool
     ensures { result ≡ words.is_reply first }
 {
     first == b'o' || first == b'r'
+}
+
+/// Returns whether a line with these first bytes is a reply.
+fn begins_reply(bytes: &[u8]) -> bool
+    ensures { result ≡ words.begins_reply true bytes.now }
+{
+    match bytes.first() {
+        Some(first) => is_reply(*first),
+        None => false,
+    }
 }
 
 /// Returns the bytes up to the first line feed, which is included.

@@ -12,12 +12,10 @@ ghost use Rattle.script_calls.specs.Lines as words;
 ghost use Rattle.palm_store.specs.Replies.{made_reply};
 ghost use Rattle.palm_text.specs.Pieces.{piece_text};
 
-use heap_model::{
-    Bytes, Db, DbInfo, FileFault, Name, RecordInfo, Refusal, Reply, ResourceInfo, Which,
-};
+use heap_model::{Bytes, Db, DbInfo, Name, RecordInfo, Refusal, Reply, ResourceInfo};
 use itoa::Buffer;
 use palm_store::Locked;
-use palm_text::{Counted, Piece, WriteFault, put_pieces};
+use palm_text::{Counted, Piece, WriteFault, faulty_pieces, put_pieces};
 use script_lines::Line;
 use std::io::Write;
 
@@ -205,7 +203,7 @@ fn put_told_bytes<W: Write>(
 pub fn put_refusal<W: Write>(out: &mut Counted<W>, refusal: Refusal) -> Result<(), WriteFault>
     ensures { Writes W.contents out.old out.new (refusal_line refusal) (is_ok result) }
 {
-    let (fault, of) = details(refusal);
+    let ((space, fault), (gap, part)) = details(refusal);
     put_pieces(
         out,
         &[
@@ -213,39 +211,30 @@ pub fn put_refusal<W: Write>(out: &mut Counted<W>, refusal: Refusal) -> Result<(
             Piece::Number(u32::from(refusal.number())),
             Piece::Text(b" "),
             Piece::Text(refusal.name().as_bytes()),
+            Piece::Text(space),
             Piece::Text(fault),
-            of,
+            Piece::Text(gap),
+            part,
             Piece::Text(b"\n"),
         ],
     )
 }
 
-/// Returns the text after the name of a refusal: the fault of a bad file, and the faulty part of
-/// it.
-fn details(refusal: Refusal) -> (&'static [u8], Piece<'static>)
-    ensures { result.0.now ++ piece_text result.1 ≡ details_text refusal }
+/// The pieces of a text: two texts, and then a text and a piece.
+type Details = (
+    (&'static [u8], &'static [u8]),
+    (&'static [u8], Piece<'static>),
+);
+
+/// Returns the text after the name of a refusal: the fault of a bad file, and the part of the file
+/// that has it.
+fn details(refusal: Refusal) -> Details
+    ensures { result.0.0.now ++ (result.0.1.now ++ (result.1.0.now ++ piece_text result.1.1))
+        ≡ details_text refusal }
 {
     match refusal {
-        Refusal::BadFile(FileFault::Truncated) => (b" Truncated", NOTHING),
-        Refusal::BadFile(FileFault::ChainedList) => (b" ChainedList", NOTHING),
-        Refusal::BadFile(FileFault::EmptyName) => (b" EmptyName", NOTHING),
-        Refusal::BadFile(FileFault::BadInfo(which)) => {
-            (b" BadInfo ", Piece::Text(which_word(which)))
-        }
-        Refusal::BadFile(FileFault::BadOffset(index)) => (b" BadOffset ", Piece::Number(index)),
-        _ => (b"", NOTHING),
-    }
-}
-
-const NOTHING: Piece<'static> = Piece::Text(b"");
-
-/// Returns the name of an info block in scripts.
-fn which_word(which: Which) -> &'static [u8]
-    ensures { result.now ≡ words.which_word which }
-{
-    match which {
-        Which::App => b"app",
-        Which::Sort => b"sort",
+        Refusal::BadFile(fault) => ((b" ", fault.name().as_bytes()), faulty_pieces(fault.part())),
+        _ => ((b"", b""), (b"", Piece::Text(b""))),
     }
 }
 

@@ -4,6 +4,7 @@ pub mod Numbering
 pub mod Spellings
 pub mod Kinds
 pub mod Views
+pub mod FaultNames
 pub mod Reading
 pub mod Laws
 pub use Rattle.script_commands.specs.Commands

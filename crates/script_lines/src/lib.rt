@@ -12,6 +12,7 @@
 //! | `Spellings` | how a word of each kind is spelled |
 //! | `Kinds` | what the words of a line stand for |
 //! | `Numbering` | the number of a label in its table, that of chunks or that of databases |
+//! | `FaultNames` | the name of the fault of a line |
 //! | `Laws` | what palm_text prints of a text is read back |
 //!
 //! The crate `script_commands` defines the lines and the commands.

@@ -1,6 +1,6 @@
 -- The faults of a store, in the order in which they are tested. All databases are tested for a
 -- fault, in their order, before the next fault.
-use Rattle.std.specs.Prelude.{◌≡◌, ◌≢◌, ◌<◌, ◌≤◌, ◌+◌, ◌*◌, ◌⊎◌, ℕ, List, [], ◌∷◌, length, Option, Some}
+use Rattle.std.specs.Prelude.{◌≡◌, ◌≢◌, ◌<◌, ◌≤◌, ◌+◌, ◌*◌, ◌⊎◌, ℕ, List, [], ◌∷◌, length, Option, Some, codes}
 use Rattle.heap_model.specs.Chunk.{managers_owner, data_owner}
 use Rattle.heap_model.specs.Heap.{directory_of}
 use Rattle.heap_model.specs.Lists.{times, Least, LeastPair}
@@ -9,11 +9,13 @@ use Rattle.heap_model.specs.Bytes.{u32_at}
 use Rattle.heap_model.specs.DatabaseFields.{app_info_at, sort_info_at}
 use Rattle.heap_model.specs.Store.{owner_under, directory_bytes, listed, named, most_databases, IsHeaderSlot, IsInfoBlock, HasData, unique_id, listed_size}
 use Rattle.db_format.specs.Headers.{AreWholeBytes}
-use Rattle.heap_check.specs.Faults.{◌locates◌, FirstBrought}
+use Rattle.heap_check.specs.Faults.{◌locates◌, FirstBrought, heap_fault_name, heap_fault_numbers}
 use Rattle.heap_check.specs.Faults as heaps
 use Rattle.heap_check.specs.declared.fault.HeapFault.{HeapFault}
+use Rattle.heap_check.specs.declared.fault.Numbers.{Numbers}
+use Rattle.heap_check.specs.declared.fault.Numbers.TheVariants.{Zero, One, Two}
 use Rattle.store_check.specs.declared.fault.StoreFault.{StoreFault}
-use Rattle.store_check.specs.declared.fault.StoreFault.TheVariants.{Heap, BadDirectorySlot, BadHeader, BadEntry, SharedChunk, StrayChunk, BadId, BadName, SameName}
+use Rattle.store_check.specs.declared.fault.StoreFault.TheVariants.{Heap, BadDirectorySlot, BadHeader, BadEntry, SharedChunk, StrayChunk, BadId, BadName, SameName, OutOfMemory}
 use Rattle.store_check.specs.Listing.{listed_at, listed_count, header_at}
 
 -- ---- each fault by itself
@@ -151,3 +153,30 @@ NoneBrought (row ∷ rows) = ((fault : StoreFault) → row fault → ⊥) × Non
 -- the image has the fault, and none of those that are tested earlier
 abbrev pub IsFirstStoreFault : List ℕ → StoreFault → Type 0
 IsFirstStoreFault image fault = FirstBrought (all_faults image) fault
+
+-- ---- names and numbers
+
+-- the name of the fault of an image, and its numbers
+abbrev pub store_fault_name : StoreFault → List ℕ
+store_fault_name (Heap fault) = heap_fault_name fault
+store_fault_name (BadDirectorySlot index) = codes "BadDirectorySlot"
+store_fault_name (BadHeader database) = codes "BadHeader"
+store_fault_name (BadEntry database index) = codes "BadEntry"
+store_fault_name (SharedChunk slot) = codes "SharedChunk"
+store_fault_name (StrayChunk slot) = codes "StrayChunk"
+store_fault_name (BadId database index) = codes "BadId"
+store_fault_name (BadName database) = codes "BadName"
+store_fault_name (SameName database) = codes "SameName"
+store_fault_name OutOfMemory = codes "OutOfMemory"
+
+abbrev pub store_fault_numbers : StoreFault → Numbers
+store_fault_numbers (Heap fault) = heap_fault_numbers fault
+store_fault_numbers (BadDirectorySlot index) = One index
+store_fault_numbers (BadHeader database) = One database
+store_fault_numbers (BadEntry database index) = Two database index
+store_fault_numbers (SharedChunk slot) = One slot
+store_fault_numbers (StrayChunk slot) = One slot
+store_fault_numbers (BadId database index) = Two database index
+store_fault_numbers (BadName database) = One database
+store_fault_numbers (SameName database) = One database
+store_fault_numbers OutOfMemory = Zero

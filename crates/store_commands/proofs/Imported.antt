@@ -19,6 +19,7 @@ use Rattle.store_commands.specs.declared.imports.NewImage.{NewImage}
 use Rattle.store_commands.specs.declared.imports.NotImported.{NotImported}
 use Rattle.store_commands.specs.declared.imports.NotImported.TheVariants as why
 use Rattle.store_commands.specs.Imports.{size_for, Imports, ImportsAll, IsChosen, IsNew, IsNoImage, IsNotImported, IsStopped, IsWhy, StayWithinLimits, EndsImportBy, EndsRefusedBy}
+use Rattle.palm_text.specs.Output.{output}
 
 -- one file more
 imports_one : (old mid new : Memory) (files : List (List ℕ)) (file : List ℕ) (db : Db) → ImportsAll old files mid → Imports mid file (Database db) new → ImportsAll old (files ++ file ∷ []) new
@@ -92,7 +93,7 @@ stopped choice files image blank why.OutOfMemory good chosen new none = tt
 -- ---- how the command ends
 
 module _ {W V : Type 0} (choice : ImageChoice) (files : List (List ℕ)) (image_contents : W → Option (List ℕ)) (image_old image_new : Writing W) (contents : V → Option (List ℕ)) (old new : Writing V) (word : Option ℕ) where
-  pub refused_ends : (status : Status) → image_new ≡ image_old → EndsRefusedBy choice files contents old new word status → EndsImportBy choice files image_contents image_old image_new contents old new word status
+  pub refused_ends : (status : Status) → image_new ≡ image_old → EndsRefusedBy choice files (output contents old new) word status → EndsImportBy choice files (output image_contents image_old image_new) (output contents old new) word status
   refused_ends Done same ends = absurd ends
   refused_ends Refused same ends = (ends, same)
   refused_ends BadWords same ends = (ends, same)

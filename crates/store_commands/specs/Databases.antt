@@ -1,5 +1,5 @@
 -- What `databases` prints. Where a definition ends in a `Bool`, it says whether all was written and flushed.
-use Rattle.std.specs.Prelude.{◌≡◌, ◌≢◌, ◌⊎◌, ◌++◌, ℕ, Bool, true, false, List, length, map, Option, codes, decimal}
+use Rattle.std.specs.Prelude.{◌≡◌, ◌≢◌, ◌⊎◌, ◌++◌, ℕ, Bool, true, false, List, length, map, codes, decimal}
 use Rattle.std.specs.List.{flat_map}
 use Rattle.hex.specs.Hex.{encode_lower}
 use Rattle.heap_model.specs.Bytes.{u16_bytes, u32_bytes}
@@ -10,8 +10,7 @@ use Rattle.heap_model.specs.Store.{StoredDatabase, Store, Accepted, content, sto
 use Rattle.heap_model.specs.declared.database.DbInfo.{DbInfo}
 use Rattle.palm_text.specs.Pieces.{script_spelled}
 use Rattle.unicode_text.specs.Texts.{text_between}
-use Rattle.palm_text.specs.Counted.{Writing}
-use Rattle.palm_text.specs.Output.{Puts}
+use Rattle.palm_text.specs.Output.{IsUnused, Output, PutsTo}
 use Rattle.image_commands.specs.FaultLines.{PutsBadImage}
 use Rattle.program_io.specs.declared.status.Status.{Status}
 use Rattle.program_io.specs.declared.status.Status.TheVariants.{Done, Refused, BadWords, ReadFault, WriteFault, NoMemory}
@@ -66,12 +65,12 @@ abbrev pub databases_text : Store → List ℕ
 databases_text store = rows_text (listed_rows store)
 
 -- what `databases` wrote of an image, by the status with which it ends
-pub record EndsDatabases {V : Type 0} (image : List ℕ) (contents : V → Option (List ℕ)) (old new : Writing V) (status : Status) : Type 0 where
-  pub done : status ≡ Done → Puts contents old new (databases_text (store_of image)) true
+pub record EndsDatabases {V : Type 0} (image : List ℕ) (out : Output V) (status : Status) : Type 0 where
+  pub done : status ≡ Done → PutsTo out (databases_text (store_of image)) true
   pub accepted : status ≡ Done → Accepted image
   pub refused : status ≡ Refused → Accepted image → ⊥
-  pub fault : status ≡ Refused → PutsBadImage image contents old new true
-  pub no_memory : status ≡ NoMemory → new ≡ old
-  pub write_fault : status ≡ WriteFault → (Accepted image × Puts contents old new (databases_text (store_of image)) false) ⊎ ((Accepted image → ⊥) × PutsBadImage image contents old new false)
+  pub fault : status ≡ Refused → PutsBadImage image out true
+  pub no_memory : status ≡ NoMemory → IsUnused out
+  pub write_fault : status ≡ WriteFault → (Accepted image × PutsTo out (databases_text (store_of image)) false) ⊎ ((Accepted image → ⊥) × PutsBadImage image out false)
   pub good_words : status ≢ BadWords
   pub reads_nothing : status ≢ ReadFault

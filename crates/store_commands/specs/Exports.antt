@@ -10,8 +10,7 @@ use Rattle.heap_model.specs.Files.{file_of}
 use Rattle.heap_model.specs.Store.{StoredDatabase, Store, Accepted, content, names_of, store_of}
 use Rattle.heap_model.specs.StoreWords.{with_number}
 use Rattle.heap_model.specs.declared.refusal.Refusal.TheVariants.{NoSuchDatabase}
-use Rattle.palm_text.specs.Counted.{Writing}
-use Rattle.palm_text.specs.Output.{Puts}
+use Rattle.palm_text.specs.Output.{IsUnused, Output, PutsTo}
 use Rattle.image_commands.specs.FaultLines.{PutsBadImage}
 use Rattle.program_io.specs.declared.status.Status.{Status}
 use Rattle.program_io.specs.declared.status.Status.TheVariants.{Done, Refused, BadWords, ReadFault, WriteFault, NoMemory}
@@ -80,27 +79,27 @@ IsNotNamed store words (Missing index) = (index < length words) × IsMissing sto
 IsNotNamed store words OutOfMemory = Unit {0}
 
 -- A word names no database, and the line for that refusal was printed.
-pub record PutsMissing {V : Type 0} (image : List ℕ) (words : List (List ℕ)) (contents : V → Option (List ℕ)) (old new : Writing V) (word : Option ℕ) (ok : Bool) : Type 0 where
+pub record PutsMissing {V : Type 0} (image : List ℕ) (words : List (List ℕ)) (out : Output V) (word : Option ℕ) (ok : Bool) : Type 0 where
   pub accepted : Accepted image
   pub index : ℕ
   pub inside : index < length words
   pub which : word ≡ Some index
   pub missing : IsMissing (store_of image) (slice_index_or words index [])
-  pub told : Puts contents old new (refusal_line NoSuchDatabase) ok
+  pub told : PutsTo out (refusal_line NoSuchDatabase) ok
 
-abbrev pub PutsNotExported : {V : Type 0} → List ℕ → List (List ℕ) → (V → Option (List ℕ)) → Writing V → Writing V → Option ℕ → Bool → Type 0
-PutsNotExported image words contents old new word ok =
-    ((Accepted image → ⊥) × (word ≡ None) × PutsBadImage image contents old new ok)
-    ⊎ PutsMissing image words contents old new word ok
+abbrev pub PutsNotExported : {V : Type 0} → List ℕ → List (List ℕ) → Output V → Option ℕ → Bool → Type 0
+PutsNotExported image words out word ok =
+    ((Accepted image → ⊥) × (word ≡ None) × PutsBadImage image out ok)
+    ⊎ PutsMissing image words out word ok
 
 -- why no files were made, by the status, and what was written then
-abbrev pub NotExportedBy : {V : Type 0} → List ℕ → List (List ℕ) → (V → Option (List ℕ)) → Writing V → Writing V → Option ℕ → Status → Type 0
-NotExportedBy image words contents old new word Refused = PutsNotExported image words contents old new word true
-NotExportedBy image words contents old new word WriteFault = PutsNotExported image words contents old new word false
-NotExportedBy image words contents old new word NoMemory = (word ≡ None) × (new ≡ old)
-NotExportedBy image words contents old new word Done = ⊥
-NotExportedBy image words contents old new word BadWords = ⊥
-NotExportedBy image words contents old new word ReadFault = ⊥
+abbrev pub NotExportedBy : {V : Type 0} → List ℕ → List (List ℕ) → Output V → Option ℕ → Status → Type 0
+NotExportedBy image words out word Refused = PutsNotExported image words out word true
+NotExportedBy image words out word WriteFault = PutsNotExported image words out word false
+NotExportedBy image words out word NoMemory = (word ≡ None) × IsUnused out
+NotExportedBy image words out word Done = ⊥
+NotExportedBy image words out word BadWords = ⊥
+NotExportedBy image words out word ReadFault = ⊥
 
-abbrev pub NotExported : {V : Type 0} → List ℕ → List (List ℕ) → (V → Option (List ℕ)) → Writing V → Writing V → Ended → Type 0
-NotExported image words contents old new ended = NotExportedBy image words contents old new ended.word ended.status
+abbrev pub NotExported : {V : Type 0} → List ℕ → List (List ℕ) → Output V → Ended → Type 0
+NotExported image words out ended = NotExportedBy image words out ended.word ended.status

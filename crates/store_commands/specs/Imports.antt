@@ -15,8 +15,7 @@ use Rattle.heap_model.specs.declared.refusal.Refusal.{Refusal}
 use Rattle.heap_model.specs.declared.refusal.Refusal.TheVariants.{BadFile, OutOfMemory}
 use Rattle.chunk_format.specs.Blank.{IsBlank, IsRegionSize, LeavesRoom}
 use Rattle.canonical_file.specs.Needs.{least_slots, least_size_for}
-use Rattle.palm_text.specs.Counted.{Writing}
-use Rattle.palm_text.specs.Output.{Puts}
+use Rattle.palm_text.specs.Output.{IsUnused, Output, PutsTo}
 use Rattle.image_commands.specs.FaultLines.{PutsNoImage}
 use Rattle.program_io.specs.declared.status.Status.{Status}
 use Rattle.program_io.specs.declared.status.Status.TheVariants.{Done, Refused, BadWords, ReadFault, WriteFault, NoMemory}
@@ -137,68 +136,68 @@ abbrev pub import_text : NewImage → ℕ → List ℕ
 import_text image count = image_line image ++ concat (replicate count (codes "ok\n"))
 
 -- by the status, what was written of an image into which `count` files were imported, and then of the lines
-abbrev pub PutsFilled : {W V : Type 0} → NewImage → ℕ → List ℕ → (W → Option (List ℕ)) → Writing W → Writing W → (V → Option (List ℕ)) → Writing V → Writing V → Status → Type 0
-PutsFilled image count bytes image_contents image_old image_new contents old new Done = Puts image_contents image_old image_new bytes true × Puts contents old new (import_text image count) true
-PutsFilled image count bytes image_contents image_old image_new contents old new WriteFault =
-    (Puts image_contents image_old image_new bytes false × (new ≡ old))
-    ⊎ (Puts image_contents image_old image_new bytes true × Puts contents old new (import_text image count) false)
-PutsFilled image count bytes image_contents image_old image_new contents old new Refused = ⊥
-PutsFilled image count bytes image_contents image_old image_new contents old new BadWords = ⊥
-PutsFilled image count bytes image_contents image_old image_new contents old new ReadFault = ⊥
-PutsFilled image count bytes image_contents image_old image_new contents old new NoMemory = ⊥
+abbrev pub PutsFilled : {W V : Type 0} → NewImage → ℕ → List ℕ → Output W → Output V → Status → Type 0
+PutsFilled image count bytes image_out out Done = PutsTo image_out bytes true × PutsTo out (import_text image count) true
+PutsFilled image count bytes image_out out WriteFault =
+    (PutsTo image_out bytes false × IsUnused out)
+    ⊎ (PutsTo image_out bytes true × PutsTo out (import_text image count) false)
+PutsFilled image count bytes image_out out Refused = ⊥
+PutsFilled image count bytes image_out out BadWords = ⊥
+PutsFilled image count bytes image_out out ReadFault = ⊥
+PutsFilled image count bytes image_out out NoMemory = ⊥
 
 -- the whole image, and then the lines
-pub record PutsImport {W V : Type 0} (choice : ImageChoice) (files : List (List ℕ)) (image_contents : W → Option (List ℕ)) (image_old image_new : Writing W) (contents : V → Option (List ℕ)) (old new : Writing V) (ok : Bool) : Type 0 where
+pub record PutsImport {W V : Type 0} (choice : ImageChoice) (files : List (List ℕ)) (image_out : Output W) (out : Output V) (ok : Bool) : Type 0 where
   pub image : NewImage
   pub filled : Memory
   pub is_filled : IsFilled choice files image filled
-  pub written : Puts image_contents image_old image_new filled.bytes true
-  pub told : Puts contents old new (import_text image (length files)) ok
+  pub written : PutsTo image_out filled.bytes true
+  pub told : PutsTo out (import_text image (length files)) ok
 
 -- the image, of which not all was written
-abbrev pub PutsPartOfImage : {W : Type 0} → ImageChoice → List (List ℕ) → (W → Option (List ℕ)) → Writing W → Writing W → Type 0
-PutsPartOfImage choice files image_contents image_old image_new = (image : NewImage) × (filled : Memory) × IsFilled choice files image filled × Puts image_contents image_old image_new filled.bytes false
+abbrev pub PutsPartOfImage : {W : Type 0} → ImageChoice → List (List ℕ) → Output W → Type 0
+PutsPartOfImage choice files image_out = (image : NewImage) × (filled : Memory) × IsFilled choice files image filled × PutsTo image_out filled.bytes false
 
 -- the line for a refused file, or for files that need too much
-abbrev pub PutsRefused : {V : Type 0} → ImageChoice → List (List ℕ) → (V → Option (List ℕ)) → Writing V → Writing V → Option ℕ → Bool → Type 0
-PutsRefused choice files contents old new word ok =
-    ((index : ℕ) × (refusal : Refusal) × (word ≡ Some index) × IsImportRefused choice files index refusal × Puts contents old new (refusal_line refusal) ok)
-    ⊎ (NeedTooMuch choice files × (word ≡ None) × Puts contents old new (codes "bad TooLarge\n") ok)
+abbrev pub PutsRefused : {V : Type 0} → ImageChoice → List (List ℕ) → Output V → Option ℕ → Bool → Type 0
+PutsRefused choice files out word ok =
+    ((index : ℕ) × (refusal : Refusal) × (word ≡ Some index) × IsImportRefused choice files index refusal × PutsTo out (refusal_line refusal) ok)
+    ⊎ (NeedTooMuch choice files × (word ≡ None) × PutsTo out (codes "bad TooLarge\n") ok)
 
 -- the line for the size and the slots, if no image may have those that were chosen
-abbrev pub PutsBadChoice : {V : Type 0} → ImageChoice → List (List ℕ) → (V → Option (List ℕ)) → Writing V → Writing V → Option ℕ → Bool → Type 0
-PutsBadChoice choice files contents old new word ok =
-    StayWithinLimits choice files × (word ≡ None) × PutsNoImage (size_for choice files) (slots_for choice files) contents old new ok
+abbrev pub PutsBadChoice : {V : Type 0} → ImageChoice → List (List ℕ) → Output V → Option ℕ → Bool → Type 0
+PutsBadChoice choice files out word ok =
+    StayWithinLimits choice files × (word ≡ None) × PutsNoImage (size_for choice files) (slots_for choice files) out ok
 
 -- A write or a flush failed in `import`, and nothing was written after it: it was one of the image's, and nothing was
 -- printed; or one of the lines, after the whole image; or one of the line that says why there is no image.
-abbrev pub ImportBreaksOff : {W V : Type 0} → ImageChoice → List (List ℕ) → (W → Option (List ℕ)) → Writing W → Writing W → (V → Option (List ℕ)) → Writing V → Writing V → Option ℕ → Type 0
-ImportBreaksOff choice files image_contents image_old image_new contents old new word =
-    ((word ≡ None) × PutsPartOfImage choice files image_contents image_old image_new × (new ≡ old))
-    ⊎ ((word ≡ None) × PutsImport choice files image_contents image_old image_new contents old new false)
-    ⊎ (PutsRefused choice files contents old new word false × (image_new ≡ image_old))
-    ⊎ (PutsBadChoice choice files contents old new word false × (image_new ≡ image_old))
+abbrev pub ImportBreaksOff : {W V : Type 0} → ImageChoice → List (List ℕ) → Output W → Output V → Option ℕ → Type 0
+ImportBreaksOff choice files image_out out word =
+    ((word ≡ None) × PutsPartOfImage choice files image_out × IsUnused out)
+    ⊎ ((word ≡ None) × PutsImport choice files image_out out false)
+    ⊎ (PutsRefused choice files out word false × IsUnused image_out)
+    ⊎ (PutsBadChoice choice files out word false × IsUnused image_out)
 
 -- what `import` printed that made no image, and the index of the file that is refused
-abbrev pub EndsRefusedBy : {V : Type 0} → ImageChoice → List (List ℕ) → (V → Option (List ℕ)) → Writing V → Writing V → Option ℕ → Status → Type 0
-EndsRefusedBy choice files contents old new word Done = ⊥
-EndsRefusedBy choice files contents old new word Refused = PutsRefused choice files contents old new word true
-EndsRefusedBy choice files contents old new word BadWords = PutsBadChoice choice files contents old new word true
-EndsRefusedBy choice files contents old new word NoMemory = (word ≡ None) × (new ≡ old)
-EndsRefusedBy choice files contents old new word WriteFault = PutsRefused choice files contents old new word false ⊎ PutsBadChoice choice files contents old new word false
-EndsRefusedBy choice files contents old new word ReadFault = ⊥
+abbrev pub EndsRefusedBy : {V : Type 0} → ImageChoice → List (List ℕ) → Output V → Option ℕ → Status → Type 0
+EndsRefusedBy choice files out word Done = ⊥
+EndsRefusedBy choice files out word Refused = PutsRefused choice files out word true
+EndsRefusedBy choice files out word BadWords = PutsBadChoice choice files out word true
+EndsRefusedBy choice files out word NoMemory = (word ≡ None) × IsUnused out
+EndsRefusedBy choice files out word WriteFault = PutsRefused choice files out word false ⊎ PutsBadChoice choice files out word false
+EndsRefusedBy choice files out word ReadFault = ⊥
 
-abbrev pub EndsRefused : {V : Type 0} → ImageChoice → List (List ℕ) → (V → Option (List ℕ)) → Writing V → Writing V → Ended → Type 0
-EndsRefused choice files contents old new ended = EndsRefusedBy choice files contents old new ended.word ended.status
+abbrev pub EndsRefused : {V : Type 0} → ImageChoice → List (List ℕ) → Output V → Ended → Type 0
+EndsRefused choice files out ended = EndsRefusedBy choice files out ended.word ended.status
 
 -- what `import` wrote, and the index of the file that is refused, by the status with which it ends
-abbrev pub EndsImportBy : {W V : Type 0} → ImageChoice → List (List ℕ) → (W → Option (List ℕ)) → Writing W → Writing W → (V → Option (List ℕ)) → Writing V → Writing V → Option ℕ → Status → Type 0
-EndsImportBy choice files image_contents image_old image_new contents old new word Done = (word ≡ None) × PutsImport choice files image_contents image_old image_new contents old new true
-EndsImportBy choice files image_contents image_old image_new contents old new word Refused = PutsRefused choice files contents old new word true × (image_new ≡ image_old)
-EndsImportBy choice files image_contents image_old image_new contents old new word BadWords = PutsBadChoice choice files contents old new word true × (image_new ≡ image_old)
-EndsImportBy choice files image_contents image_old image_new contents old new word NoMemory = (word ≡ None) × (image_new ≡ image_old) × (new ≡ old)
-EndsImportBy choice files image_contents image_old image_new contents old new word WriteFault = ImportBreaksOff choice files image_contents image_old image_new contents old new word
-EndsImportBy choice files image_contents image_old image_new contents old new word ReadFault = ⊥
+abbrev pub EndsImportBy : {W V : Type 0} → ImageChoice → List (List ℕ) → Output W → Output V → Option ℕ → Status → Type 0
+EndsImportBy choice files image_out out word Done = (word ≡ None) × PutsImport choice files image_out out true
+EndsImportBy choice files image_out out word Refused = PutsRefused choice files out word true × IsUnused image_out
+EndsImportBy choice files image_out out word BadWords = PutsBadChoice choice files out word true × IsUnused image_out
+EndsImportBy choice files image_out out word NoMemory = (word ≡ None) × IsUnused image_out × IsUnused out
+EndsImportBy choice files image_out out word WriteFault = ImportBreaksOff choice files image_out out word
+EndsImportBy choice files image_out out word ReadFault = ⊥
 
-abbrev pub EndsImport : {W V : Type 0} → ImageChoice → List (List ℕ) → (W → Option (List ℕ)) → Writing W → Writing W → (V → Option (List ℕ)) → Writing V → Writing V → Ended → Type 0
-EndsImport choice files image_contents image_old image_new contents old new ended = EndsImportBy choice files image_contents image_old image_new contents old new ended.word ended.status
+abbrev pub EndsImport : {W V : Type 0} → ImageChoice → List (List ℕ) → Output W → Output V → Ended → Type 0
+EndsImport choice files image_out out ended = EndsImportBy choice files image_out out ended.word ended.status

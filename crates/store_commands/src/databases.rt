@@ -5,7 +5,7 @@ ghost use Rattle.std.specs.List.{flat_map};
 ghost use Rattle.heap_model.specs.Store.{database_under, store_of};
 ghost use Rattle.palm_store.specs.Databases.{HasNumber};
 ghost use Rattle.palm_text.specs.Counted.{Writes};
-ghost use Rattle.palm_text.specs.Output.{Puts};
+ghost use Rattle.palm_text.specs.Output.{Puts, output};
 ghost use Rattle.store_commands.specs.Databases.{EndsDatabases, database_count_line, first_words, kind_word, last_words, listed_row_end, listed_row_line, listed_row, listed_rows, rows_text};
 ghost use Rattle.heap_model.specs.Database as databases;
 
@@ -28,7 +28,7 @@ pub fn cmd_databases<A: Allowance, V: Write>(
     image: &[u8],
     out: &mut Counted<V>,
 ) -> Status
-    ensures ends { EndsDatabases image.now V.contents out.old out.new result }
+    ensures ends { EndsDatabases image.now (output V.contents out.old out.new) result }
     ensures short { result ≡ Status.NoMemory → A.is_short memory.now }
 {
     match Region::copied_from(memory, image) {
@@ -44,7 +44,7 @@ pub fn databases_region_from<A: Allowance, V: Write>(
     out: &mut Counted<V>,
 ) -> Status
     requires whole { region.lents ≡ [] }
-    ensures ends { EndsDatabases region.bytes V.contents out.old out.new result }
+    ensures ends { EndsDatabases region.bytes (output V.contents out.old out.new) result }
     ensures short { result ≡ Status.NoMemory → A.is_short memory.now }
 {
     let store = match opened(memory, region, out) {

@@ -5,7 +5,7 @@ ghost use Rattle.std.specs.List.{AllZip};
 ghost use Rattle.unicode_text.specs.Windows1252 as characters;
 ghost use Rattle.heap_model.specs.Store.{Accepted, database_under, names_of, store_of};
 ghost use Rattle.palm_store.specs.Databases.{HasNumber};
-ghost use Rattle.palm_text.specs.Output.{Puts};
+ghost use Rattle.palm_text.specs.Output.{Puts, output};
 ghost use Rattle.script_calls.specs.Lines.{refusal_line};
 ghost use Rattle.store_commands.specs.Exports as words;
 ghost use Rattle.store_commands.specs.Exports.{AreExported, IsFileNamed, IsMissing, IsNamedBy, NotExported, IsNotNamed, file_for};
@@ -56,7 +56,8 @@ pub fn export_files<A: Allowance, V: Write>(
     ensures files { IfOk result (λ files.
         AreExported (store_of region.bytes) words.now files.items) }
     ensures silent { OnOk result (out.new ≡ out.old) }
-    ensures not { IfErr result (NotExported region.bytes words.now V.contents out.old out.new) }
+    ensures not { IfErr result (NotExported region.bytes words.now
+        (output V.contents out.old out.new)) }
     ensures short { IfErr result (λ ended.
         ended.status ≡ Status.NoMemory → A.is_short memory.now) }
 {

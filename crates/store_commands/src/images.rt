@@ -6,7 +6,7 @@ ghost use Rattle.heap_model.specs.Store.{Accepted, content, database_under, stor
 ghost use Rattle.heap_model.specs.Leaving.{database_here};
 ghost use Rattle.heap_model.specs.DatabaseSteps as rows;
 ghost use Rattle.palm_store.specs.Databases.{HasNumber};
-ghost use Rattle.palm_text.specs.Output.{Puts};
+ghost use Rattle.palm_text.specs.Output.{Puts, output};
 ghost use Rattle.image_commands.specs.FaultLines.{PutsBadImage};
 ghost use Rattle.script_calls.specs.Lines.{refusal_line};
 
@@ -42,9 +42,9 @@ pub fn opened<A: Allowance, V: Write>(
     ensures refused { (result ≡ Err Status.Refused) ⊎ (result ≡ Err Status.WriteFault)
         → Accepted region.bytes → ⊥ }
     ensures said { result ≡ Err Status.Refused
-        → PutsBadImage region.bytes V.contents out.old out.new true }
+        → PutsBadImage region.bytes (output V.contents out.old out.new) true }
     ensures write { result ≡ Err Status.WriteFault
-        → PutsBadImage region.bytes V.contents out.old out.new false }
+        → PutsBadImage region.bytes (output V.contents out.old out.new) false }
     ensures no_memory { result ≡ Err Status.NoMemory → out.new ≡ out.old }
     ensures short { result ≡ Err Status.NoMemory → A.is_short memory.now }
 {

@@ -8,7 +8,7 @@ ghost use Rattle.heap_model.specs.Store.{Accepted};
 ghost use Rattle.chunk_format.specs.Blank.{IsRegionSize};
 ghost use Rattle.canonical_file.specs.Needs.{enough, full_size};
 ghost use Rattle.palm_text.specs.Counted.{Writes};
-ghost use Rattle.palm_text.specs.Output.{Puts};
+ghost use Rattle.palm_text.specs.Output.{Puts, output};
 ghost use Rattle.script_calls.specs.Lines.{refusal_line};
 ghost use Rattle.store_commands.specs.Imports.{EndsImport, EndsRefused, ImportsAll, IsChosen, IsFilled, IsNew, IsNoImage, IsNotImported, IsStopped, IsWhy, PutsFilled, StayWithinLimits, image_line, import_text};
 
@@ -18,6 +18,7 @@ use allowance::{Allowance, push};
 use canonical_file::{ENOUGH, image_size, image_slots, needs_of_files};
 use chunk_format::{BlankFault, blank_from, is_image_size};
 use heap_model::{Bytes, Refusal};
+use image_commands::say_no_image;
 use palm_store::Store;
 use palm_text::{Counted, Piece, WriteFault, put_all, put_pieces};
 use pdb_files::import_opened;
@@ -69,8 +70,8 @@ pub fn cmd_import<A: Allowance, W: Write, V: Write>(
     image_out: &mut Counted<W>,
     out: &mut Counted<V>,
 ) -> Ended
-    ensures ends { EndsImport choice files.now W.contents image_out.old image_out.new
-        V.contents out.old out.new result }
+    ensures ends { EndsImport choice files.now (output W.contents image_out.old image_out.new)
+        (output V.contents out.old out.new) result }
     ensures short { result.status ≡ Status.NoMemory → A.is_short memory.now }
 {
     match filled_store(memory, choice, files) {
@@ -263,14 +264,14 @@ fn not_imported(index: usize, refusal: Refusal) -> NotImported
 /// Prints why there is no image.
 fn say_why<V: Write>(why: NotImported, out: &mut Counted<V>) -> Ended
     ensures ends { (choice : ImageChoice) (files : List (List ℕ)) → IsWhy choice files why
-        → EndsRefused choice files V.contents out.old out.new result }
+        → EndsRefused choice files (output V.contents out.old out.new) result }
     ensures short { result.status ≡ Status.NoMemory → why ≡ NotImported.OutOfMemory }
 {
     let (status, word) = match why {
         NotImported::RefusedFile(index, refusal) => (say_refused(refusal, out), Some(index)),
         NotImported::TooLarge => (say(b"bad TooLarge\n", Status::Refused, out), None),
-        NotImported::BadSize => (say(b"bad BadSize\n", Status::BadWords, out), None),
-        NotImported::BadSlotCount => (say(b"bad BadSlotCount\n", Status::BadWords, out), None),
+        NotImported::BadSize => (say_no_image(BlankFault::BadSize, out), None),
+        NotImported::BadSlotCount => (say_no_image(BlankFault::BadSlotCount, out), None),
         NotImported::OutOfMemory => (Status::NoMemory, None),
     };
     Ended { status, word }
@@ -299,8 +300,9 @@ fn put_filled<W: Write, V: Write>(
     out: &mut Counted<V>,
 ) -> Ended
     requires { store.now.lents ≡ [] }
-    ensures ends { PutsFilled image count store.now.bytes W.contents image_out.old image_out.new
-        V.contents out.old out.new result.status }
+    ensures ends { PutsFilled image count store.now.bytes
+        (output W.contents image_out.old image_out.new)
+        (output V.contents out.old out.new) result.status }
     ensures word { result.word ≡ None }
 {
     let status = match put_store(image_out, store) {

@@ -2,7 +2,10 @@
 
 ghost use Rattle.std.specs.Prelude.{[], ◌≡◌, ◌⊎◌, Err, IfOk, IfErr, OnOk, true, false};
 ghost use Rattle.heap_model.specs.Store.{Accepted};
+ghost use Rattle.heap_migration.specs.FaultNames.{migrate_fault_name};
 ghost use Rattle.heap_migration.specs.Stores.{IsMigrated};
+ghost use Rattle.palm_text.specs.Output.{Puts, output};
+ghost use Rattle.program_io.specs.BadLines.{bad_line};
 ghost use Rattle.store_commands.specs.Migrating.{EndsMigrate, PutsNotMigrated};
 ghost use Rattle.allowance.specs.Refusals.{GrowthRefused};
 
@@ -10,7 +13,7 @@ use crate::images::{opened, put_store};
 use allowance::Allowance;
 use palm_store::{MigrateFault, Store};
 use palm_text::Counted;
-use program_io::{Status, say};
+use program_io::{Status, say, say_bad};
 use raw_region::Region;
 use std::alloc::Global;
 use std::io::Write;
@@ -25,8 +28,8 @@ pub fn cmd_migrate<W: Write, V: Write>(
     image_out: &mut Counted<W>,
     out: &mut Counted<V>,
 ) -> Status
-    ensures ends { EndsMigrate image.now W.contents image_out.old image_out.new
-        V.contents out.old out.new result }
+    ensures ends { EndsMigrate image.now (output W.contents image_out.old image_out.new)
+        (output V.contents out.old out.new) result }
     ensures short { result ≡ Status.NoMemory → GrowthRefused }
 {
     cmd_migrate_from(&alloc, image, image_out, out)
@@ -39,8 +42,8 @@ pub fn cmd_migrate_from<A: Allowance, W: Write, V: Write>(
     image_out: &mut Counted<W>,
     out: &mut Counted<V>,
 ) -> Status
-    ensures ends { EndsMigrate image.now W.contents image_out.old image_out.new
-        V.contents out.old out.new result }
+    ensures ends { EndsMigrate image.now (output W.contents image_out.old image_out.new)
+        (output V.contents out.old out.new) result }
     ensures short { result ≡ Status.NoMemory → A.is_short memory.now }
 {
     match Region::copied_from(memory, image) {
@@ -57,8 +60,8 @@ pub fn migrate_region_from<A: Allowance, W: Write, V: Write>(
     out: &mut Counted<V>,
 ) -> Status
     requires whole { region.lents ≡ [] }
-    ensures ends { EndsMigrate region.bytes W.contents image_out.old image_out.new
-        V.contents out.old out.new result }
+    ensures ends { EndsMigrate region.bytes (output W.contents image_out.old image_out.new)
+        (output V.contents out.old out.new) result }
     ensures short { result ≡ Status.NoMemory → A.is_short memory.now }
 {
     let store = match migrated(memory, region, out) {
@@ -86,9 +89,9 @@ fn migrated<A: Allowance, V: Write>(
     ensures faults { IfErr result (λ status. (status ≡ Status.Refused)
         ⊎ (status ≡ Status.WriteFault) ⊎ (status ≡ Status.NoMemory)) }
     ensures said { result ≡ Err Status.Refused
-        → PutsNotMigrated region.bytes V.contents out.old out.new true }
+        → PutsNotMigrated region.bytes (output V.contents out.old out.new) true }
     ensures write { result ≡ Err Status.WriteFault
-        → PutsNotMigrated region.bytes V.contents out.old out.new false }
+        → PutsNotMigrated region.bytes (output V.contents out.old out.new) false }
     ensures no_memory { result ≡ Err Status.NoMemory → out.new ≡ out.old }
     ensures short { result ≡ Err Status.NoMemory → A.is_short memory.now }
 {
@@ -96,7 +99,18 @@ fn migrated<A: Allowance, V: Write>(
     match store.migrate_from(memory) {
         Ok(store) => Ok(store),
         Err((MigrateFault::OutOfMemory, _)) => Err(Status::NoMemory),
-        Err((MigrateFault::TooLarge, _)) => Err(say(b"bad TooLarge\n", Status::Refused, out)),
+        Err((MigrateFault::TooLarge, _)) => Err(say_not_migrated(MigrateFault::TooLarge, out)),
         Err((MigrateFault::Lent, _)) => unreachable!(),
     }
+}
+
+/// Prints `bad` and the name of the reason why an image isn't migrated.
+fn say_not_migrated<V: Write>(reason: MigrateFault, out: &mut Counted<V>) -> Status
+    ensures statuses { (result ≡ Status.Refused) ⊎ (result ≡ Status.WriteFault) }
+    ensures said { result ≡ Status.Refused
+        → Puts V.contents out.old out.new (bad_line (migrate_fault_name reason)) true }
+    ensures write { result ≡ Status.WriteFault
+        → Puts V.contents out.old out.new (bad_line (migrate_fault_name reason)) false }
+{
+    say_bad(reason.name(), Status::Refused, out)
 }

@@ -1,5 +1,6 @@
 //! Words, and what `explain` prints of them.
 
+use canonical_file::{Changes, put_changes};
 use explanations::explain_word;
 use palm_text::Counted;
 use program_io::Status;
@@ -79,6 +80,36 @@ static MEANINGS: [(&str, &str); 12] = [
 fn words_are_explained(rt: HostRuntime) -> Result<(), Fail> {
     for (word, lines) in &MEANINGS {
         check(rt.alloc(), word, Status::Done, lines)?;
+    }
+    Ok(())
+}
+
+/// Checks that a word is explained as a change.
+fn check_change(alloc: Global, word: &str) -> Result<(), Fail> {
+    let mut out = Counted::new(Vec::new(alloc));
+    equal(word, explain_word(word.as_bytes(), &mut out), Status::Done)?;
+    let front = format!(in alloc; "{word}, a change in a rewritten file: ")?;
+    let text = out.into_inner();
+    holds(word, text.starts_with(front.as_bytes()))
+}
+
+/// The words of the line for all changes.
+#[test]
+fn words_of_changes_are_explained(rt: HostRuntime) -> Result<(), Fail> {
+    let all = Changes {
+        busy: true,
+        filler: true,
+        ids: true,
+        name: true,
+        order: true,
+    };
+    let mut out = Counted::new(Vec::new(rt.alloc()));
+    holds("put_changes", put_changes(&mut out, all).is_ok())?;
+    let line = out.into_inner();
+    for word in str::from_utf8(&line)?.split_ascii_whitespace() {
+        if word != "changes" {
+            check_change(rt.alloc(), word)?;
+        }
     }
     Ok(())
 }

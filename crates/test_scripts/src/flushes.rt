@@ -1,4 +1,5 @@
-//! A flush that fails is tried once, by each writer that wraps another.
+//! Writers that wrap another flush it as often as they are flushed: a flush that fails is tried once,
+//! and a write flushes nothing.
 
 use palm_text::Counted;
 use program_io::Noted;
@@ -52,4 +53,22 @@ fn a_failed_flush_is_tried_once(_rt: HostRuntime) -> Result<(), Fail> {
     let mut replies = LiveReplies::new(FailsOnce::new(), true, &line);
     holds("LiveReplies", replies.flush().is_err())?;
     equal("LiveReplies", replies.writer.flushes, 1)
+}
+
+#[test]
+fn a_write_flushes_nothing(_rt: HostRuntime) -> Result<(), Fail> {
+    let mut counted = Counted::new(FailsOnce::new());
+    equal("Counted", counted.write(b"ok\n").ok(), Some(3))?;
+    equal("Counted", counted.into_inner().flushes, 0)?;
+    let mut noted = Noted::new(FailsOnce::new());
+    equal("Noted", noted.write(b"ok\n").ok(), Some(3))?;
+    let (inner, _) = noted.into_parts();
+    equal("Noted", inner.flushes, 0)?;
+    let mut replies = Replies::new(FailsOnce::new(), &[1]);
+    equal("Replies", replies.write(b"ok\n").ok(), Some(3))?;
+    equal("Replies", replies.writer.flushes, 0)?;
+    let line = Cell::new(1usize);
+    let mut replies = LiveReplies::new(FailsOnce::new(), true, &line);
+    equal("LiveReplies", replies.write(b"ok\n").ok(), Some(3))?;
+    equal("LiveReplies", replies.writer.flushes, 0)
 }

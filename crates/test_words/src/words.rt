@@ -443,3 +443,31 @@ fn help_is_narrow_and_has_examples(rt: HostRuntime) -> Result<(), Fail> {
     }
     Ok(())
 }
+
+/// The commands that the help of the program lists.
+fn listed<'a>(alloc: Global, help: &'a str) -> Result<Vec<&'a str>, AllocError> {
+    let mut names = Vec::new(alloc);
+    for line in help.lines() {
+        if is_command_line(line) {
+            names.push(line.split_ascii_whitespace().next().unwrap_or(""))?;
+        }
+    }
+    Ok(names)
+}
+
+/// Whether a line of the program's help is that of a command: two spaces, and a lower-case letter.
+fn is_command_line(line: &str) -> bool {
+    match line.as_bytes() {
+        [b' ', b' ', first, ..] => first.is_ascii_lowercase(),
+        _ => false,
+    }
+}
+
+/// The help of the program lists `COMMANDS` in this order, and then `help`.
+#[test]
+fn help_lists_the_commands(rt: HostRuntime) -> Result<(), Fail> {
+    let help = asked(rt.alloc(), "palmheap --help")?;
+    let mut names = listed(rt.alloc(), help.as_str())?;
+    equal("help", names.pop(), Some("help"))?;
+    equal("commands", names.as_slice(), COMMANDS.as_slice())
+}

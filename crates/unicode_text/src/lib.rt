@@ -2,9 +2,9 @@
 //! `specs/Windows1252.antt`, which lists the characters.
 //!
 //! A document is written piece by piece by `put_json`, without memory of its own. It is one object
-//! on one line, in ASCII. A string has a character for each byte: that of the byte in Windows-1252
-//! or, if there is none, that of its own code. Beside each string from a file stands the same in
-//! hex, so a reader can get the exact bytes.
+//! on one line, in ASCII. A string has a character for each byte: the character of the byte in
+//! Windows-1252 or, if there is none, the character whose code is the byte. After each string from
+//! a file comes a string with its bytes in hex, so a reader can get the exact bytes.
 //!
 //! | module | does |
 //! |---|---|

@@ -3,6 +3,7 @@
 ghost use Rattle.std.specs.Prelude.{[], ◌≡◌};
 
 use crate::memory::heaps::Kept;
+use crate::memory::lending::{out_among, read_each, read_with_out};
 use crate::memory::numbers::Numbers;
 use crate::timing::{Sum, Sums};
 use heap_model::{Name, Refusal};
@@ -15,7 +16,7 @@ use std::marker::Model;
 pub(crate) const LOAD_OWNER: u8 = 1;
 
 /// The number of bytes that one call reads or writes.
-const WIDTH: u32 = 16;
+pub(crate) const WIDTH: u32 = 16;
 
 /// A call, or two of them, whose time doesn't depend on the size of the heap.
 #[derive(Clone, Copy)]
@@ -27,6 +28,7 @@ pub(crate) enum Call {
     Read,
     Write,
     TakeOutAndPutBack,
+    ReadWithOut,
 }
 
 /// A heap, the handles of its chunks, and the sum of all replies so far. Between two calls here
@@ -140,6 +142,7 @@ impl Load {
             Call::Size | Call::Owner | Call::Locks => self.handles.len() as u128,
             Call::Read | Call::Write => self.wide.len() as u128,
             Call::TakeOutAndPutBack => 2 * self.wide.len() as u128,
+            Call::ReadWithOut => (self.wide.len() - out_among(self.wide.len())) as u128,
         }
     }
 
@@ -154,6 +157,11 @@ impl Load {
                 Call::Read => self.read(),
                 Call::Write => self.write((pass % 256) as u8),
                 Call::TakeOutAndPutBack => self.take_out_and_put_back(),
+                // Bodies are taken out once for all passes.
+                Call::ReadWithOut => {
+                    self.read_with_out(passes);
+                    return;
+                }
             }
         }
     }
@@ -185,12 +193,13 @@ impl Load {
 
     /// Reads 16 bytes of each chunk, and adds up the first and the last.
     fn read(&mut self) {
-        for name in &self.wide {
-            match self.heap.read(*name, 0, WIDTH) {
-                Ok(bytes) => self.replies.add_ends(bytes),
-                Err(refusal) => self.replies.add_refusal(refusal),
-            }
-        }
+        read_each(&self.heap, &self.wide, &mut self.replies);
+    }
+
+    /// Takes bodies out once, and reads `passes` times 16 bytes of each of the other chunks.
+    fn read_with_out(&mut self, passes: u32) {
+        let (out, others) = self.wide.split_at(out_among(self.wide.len()));
+        read_with_out(&mut self.heap, out, others, passes, &mut self.replies);
     }
 
     /// Writes a byte over the first 16 bytes of each chunk.

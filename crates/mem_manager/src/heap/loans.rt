@@ -1,12 +1,13 @@
 //! Calls that take bytes of a chunk out of the heap, and put them back.
 #![tactic(auto, using(crate::proofs::Places::name_named, laws_heap::proofs::LentBodies::table_within))]
 
-ghost use Rattle.std.specs.Prelude.{◌≡◌, ◌≢◌, ◌↔◌, [], IfSome, OnSome, IfNone, IfOk, OnOk, OnErr, IfErr, IsTrue};
+ghost use Rattle.std.specs.Prelude.{◌≡◌, ◌≢◌, ◌↔◌, [], length, IfSome, OnSome, IfNone, IfOk, OnOk, OnErr, IfErr, IsTrue};
 ghost use Rattle.heap_model.specs.Chunk.{managers_owner};
 ghost use Rattle.heap_model.specs.Lending.{IsLent};
 ghost use Rattle.heap_model.specs.Refusals.{FirstBrings};
 ghost use Rattle.heap_model.specs.Store.{owner_under};
 ghost use Rattle.mem_manager.specs.Loans.{out_checks, also_out_checks, TakesOut, PutsBack, IsOutUnder, IsFirstLoan, IsNextLoan};
+ghost use Rattle.raw_region.specs.Holes.{AllLieIn};
 ghost use Rattle.raw_region.specs.Marks.{NoneBeginsAbove};
 
 use crate::heap::Heap;
@@ -90,6 +91,14 @@ impl Heap {
             Some(found) => Some((found.name, found.place)),
             None => None,
         }
+    }
+
+    /// Returns where the heap's bytes begin in the machine's memory. Those of a loan begin at this
+    /// pointer plus the place of their chunk. The heap still owns all that aren't lent.
+    pub fn start(&self) -> *mut u8
+        ensures { AllLieIn result (length self.now.bytes) self.now.lents }
+    {
+        self.space.start()
     }
 
     /// Returns whether nothing is lent.

@@ -1,12 +1,13 @@
 //! Calls that take the bytes of chunks out of a store, and put them back.
 
-ghost use Rattle.std.specs.Prelude.{[], ◌≡◌, ◌≢◌, ◌↔◌, IsTrue, IfSome, OnSome, IfNone, IfOk, OnOk, OnErr, IfErr};
+ghost use Rattle.std.specs.Prelude.{[], length, ◌≡◌, ◌≢◌, ◌↔◌, IsTrue, IfSome, OnSome, IfNone, IfOk, OnOk, OnErr, IfErr};
 ghost use Rattle.heap_model.specs.Chunk.{managers_owner};
 ghost use Rattle.heap_model.specs.Lending.{IsLent};
 ghost use Rattle.heap_model.specs.Refusals.{FirstBrings};
 ghost use Rattle.heap_model.specs.Store.{owner_under};
 ghost use Rattle.allowance.specs.Refusals.{GrowthRefused};
 ghost use Rattle.mem_manager.specs.Loans.{also_out_checks, out_checks, IsOutUnder, IsFirstLoan, IsNextLoan, AreLoansAbove};
+ghost use Rattle.raw_region.specs.Holes.{AllLieIn};
 ghost use Rattle.raw_region.specs.Marks.{NoneBeginsAbove};
 ghost use Rattle.palm_store.specs.Loans.{TakesOutOfStore, PutsBackInStore};
 
@@ -99,6 +100,14 @@ impl Store {
             place = loan.1;
         }
         Ok(names)
+    }
+
+    /// Returns where the store's bytes begin in the machine's memory. Those of a loan begin at this
+    /// pointer plus the place of their chunk. The store still owns all that aren't out.
+    pub fn start(&self) -> *mut u8
+        ensures { AllLieIn result (length self.now.bytes) self.now.lents }
+    {
+        self.heap.start()
     }
 
     /// Returns whether no bytes are out.

@@ -1,7 +1,7 @@
 use Rattle.std.proofs.Common.{sym, subst}
 use Rattle.std.specs.Prelude.{is_ok}
 use Rattle.palm_text.specs.Counted.{Writes}
-use Rattle.image_commands.specs.declared.fault_names.Numbers.{Numbers}
+use Rattle.heap_check.specs.declared.fault.Numbers.{Numbers}
 use Rattle.image_commands.specs.FaultDocuments.{named_fault_json}
 use Rattle.image_commands.proofs.fault_documents.put_named.Goals as goal
 

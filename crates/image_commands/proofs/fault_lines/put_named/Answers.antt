@@ -1,7 +1,7 @@
 use Rattle.std.proofs.Common.{sym, subst}
 use Rattle.std.specs.Prelude.{is_ok}
 use Rattle.palm_text.specs.Counted.{Writes}
-use Rattle.image_commands.specs.declared.fault_names.Numbers.{Numbers}
+use Rattle.heap_check.specs.declared.fault.Numbers.{Numbers}
 use Rattle.image_commands.specs.FaultLines.{named_fault_line}
 use Rattle.image_commands.proofs.fault_lines.put_named.Goals as goal
 

@@ -3,6 +3,7 @@ use Rattle.palm_text.specs.Counted.{Writing}
 use Rattle.image_commands.specs.FaultLines.{PutsBadImage}
 use Rattle.map_commands.proofs.Mapped.{not_accepted, puts_first}
 use Rattle.map_commands.proofs.map_command.map_region_from.Goals as goal
+use Rattle.palm_text.specs.Output.{output}
 
 pub returns-in-Err-BadImage-clause-ends : goal.returns-in-Err-BadImage-clause-ends
 returns-in-Err-BadImage-clause-ends g c =
@@ -13,9 +14,9 @@ returns-in-Err-BadImage-clause-ends g c =
       done = search rules;
       accepted = search rules;
       refused = λ is. not_accepted c.args.region.now.bytes _ _ c.in-Err-BadImage.field-0-is c.in-Err-BadImage.ensures.why;
-      fault = λ is. subst (λ (old : Writing g.row.V.Denot). PutsBadImage image contents old c.say_bad_image.new.out true) same (puts_first contents c.put_flushed.new.out c.say_bad_image.new.out image _ _ true c.in-Err-BadImage.field-0-is c.in-Err-BadImage.ensures.why (c.say_bad_image.ensures.refused is));
+      fault = λ is. subst (λ (old : Writing g.row.V.Denot). PutsBadImage image (output contents old c.say_bad_image.new.out) true) same (puts_first contents c.put_flushed.new.out c.say_bad_image.new.out image _ _ true c.in-Err-BadImage.field-0-is c.in-Err-BadImage.ensures.why (c.say_bad_image.ensures.refused is));
       no_memory = λ is. search rules;
-      write_fault = λ is. inr (not_accepted c.args.region.now.bytes _ _ c.in-Err-BadImage.field-0-is c.in-Err-BadImage.ensures.why, subst (λ (old : Writing g.row.V.Denot). PutsBadImage image contents old c.say_bad_image.new.out false) same (puts_first contents c.put_flushed.new.out c.say_bad_image.new.out image _ _ false c.in-Err-BadImage.field-0-is c.in-Err-BadImage.ensures.why (c.say_bad_image.ensures.write is)));
+      write_fault = λ is. inr (not_accepted c.args.region.now.bytes _ _ c.in-Err-BadImage.field-0-is c.in-Err-BadImage.ensures.why, subst (λ (old : Writing g.row.V.Denot). PutsBadImage image (output contents old c.say_bad_image.new.out) false) same (puts_first contents c.put_flushed.new.out c.say_bad_image.new.out image _ _ false c.in-Err-BadImage.field-0-is c.in-Err-BadImage.ensures.why (c.say_bad_image.ensures.write is)));
       good_words = search rules;
       reads_nothing = search rules;
     }

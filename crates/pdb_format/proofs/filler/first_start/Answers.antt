@@ -12,7 +12,7 @@ loop-rank-preserved c =
     let os : List ℕ = offsets_in c.args.file.now in
     let rank = c.loop-rank.rank in
     let inside : rank < length os = search rules in
-    let left = drop_more os rank 0 inside ∙ ap (λ (o : ℕ). o ∷ drop (rank + 1) os) (sym c.offset.ensures.is) in
+    let left = drop_more os rank 0 inside ∙ ap (λ (o : ℕ). o ∷ drop (rank + 1) os) (sym c.offset_of.ensures) in
     sym (c.lesser-first.ensures (drop (rank + 1) os))
     ∙ ap (λ (xs : List ℕ). fold min c.loop-rank.first (filter (nat_lt 0) xs)) (sym left)
     ∙ c.loop-rank.invariant
@@ -32,5 +32,5 @@ returns-clause-after c =
     let past : length os ≤ c.loop-rank.rank = search rules in
     let is : c.loop-rank.first ≡ words.first_start c.args.file.now =
     sym (ap (λ (xs : List ℕ). fold min c.loop-rank.first (filter (nat_lt 0) xs)) (drop_all c.loop-rank.rank os past)) ∙ c.loop-rank.invariant in
-    let least = first_after c.args.file.now c.bytes-first.ensures.good in
+    let least = first_after c.args.file.now c.requires in
     omega arith

@@ -5,7 +5,7 @@ use Rattle.heap_model.specs.Memory.{Memory}
 use Rattle.heap_model.specs.Store.{Accepted, store_of}
 use Rattle.heap_model.specs.declared.refusal.Refusal.TheVariants.{NoSuchDatabase}
 use Rattle.palm_text.specs.Counted.{Writing}
-use Rattle.palm_text.specs.Output.{Puts}
+use Rattle.palm_text.specs.Output.{Puts, output}
 use Rattle.program_io.specs.declared.status.Status.{Status}
 use Rattle.program_io.specs.declared.status.Status.TheVariants.{Refused, WriteFault}
 use Rattle.script_calls.specs.Lines.{refusal_line}
@@ -15,10 +15,10 @@ use Rattle.store_commands.proofs.exports.export_files.Goals as goal
 
 missing : {V : Type 0} (image : List ℕ) (words : List (List ℕ)) (contents : V → Option (List ℕ)) (old new : Writing V) (word : ℕ) (ended : Ended) → Accepted image → ended.word ≡ Some word → (ended.status ≡ Refused) ⊎ (ended.status ≡ WriteFault)
     → (ended.status ≡ Refused → Puts contents old new (refusal_line NoSuchDatabase) true) → (ended.status ≡ WriteFault → Puts contents old new (refusal_line NoSuchDatabase) false) → word < length words → IsMissing (store_of image) (slice_index_or words word [])
-    → NotExported image words contents old new ended
+    → NotExported image words (output contents old new) ended
 missing image words contents old new word ended accepted which statuses said fault inside none = elim statuses [
-  | inl is ↦ subst (λ (s : Status). NotExportedBy image words contents old new ended.word s) (sym is) (inr (record { accepted = accepted; index = word; inside = inside; which = which; missing = none; told = said is }))
-  | inr is ↦ subst (λ (s : Status). NotExportedBy image words contents old new ended.word s) (sym is) (inr (record { accepted = accepted; index = word; inside = inside; which = which; missing = none; told = fault is }))
+  | inl is ↦ subst (λ (s : Status). NotExportedBy image words (output contents old new) ended.word s) (sym is) (inr (record { accepted = accepted; index = word; inside = inside; which = which; missing = none; told = said is }))
+  | inr is ↦ subst (λ (s : Status). NotExportedBy image words (output contents old new) ended.word s) (sym is) (inr (record { accepted = accepted; index = word; inside = inside; which = which; missing = none; told = fault is }))
 ]
 
 pub returns-clause-not : goal.returns-clause-not

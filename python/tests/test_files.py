@@ -1,0 +1,229 @@
+"""Functions on files, images and scripts; files as values of Python; the command line."""
+
+import pickle
+import subprocess
+import sys
+
+import palmheap
+import pytest
+from palmheap import _errors
+
+hypothesis = pytest.importorskip("hypothesis")
+from hypothesis import given, settings
+from hypothesis import strategies as st
+
+U16, U32 = st.integers(0, 0xFFFF), st.integers(0, 0xFFFF_FFFF)
+FOUR = st.binary(min_size=4, max_size=4)
+NAMES = st.lists(st.integers(1, 255), min_size=1, max_size=31).map(bytes)
+BLOCKS = st.none() | st.binary(max_size=9)
+# (few IDs, so that some are double)
+IDS = st.integers(0, 4) | st.integers(0, 0xFF_FFFF)
+HEADERS = {
+    "version": U16,
+    **dict.fromkeys(("creation_date", "modification_date", "backup_date", "modification_number", "seed"), U32),
+    "app_info": BLOCKS,
+    "sort_info": BLOCKS,
+}
+
+
+def entry(data, id, attributes):
+    return palmheap.Record(data, id, attributes | (0x80 if data is None else 0))
+
+
+RECORDS = st.lists(st.builds(entry, BLOCKS, IDS, st.integers(0, 255)), max_size=6)
+RESOURCES = st.lists(st.builds(palmheap.Resource, FOUR, U16, st.binary(max_size=9)), max_size=6)
+
+
+def database(has_resources, entries, name, kind, creator, attributes, header):
+    kept = {"resources" if has_resources else "records": entries}
+    return palmheap.Database(name, kind, creator, attributes & 0xFFFE | has_resources, **header, **kept)
+
+
+def databases(records=RECORDS):
+    rest = (NAMES, FOUR, FOUR, U16, st.fixed_dictionaries(HEADERS))
+    return st.builds(database, st.just(False), records, *rest) | st.builds(database, st.just(True), RESOURCES, *rest)
+
+
+def damaged(file, rng):
+    """A file with one to three changes."""
+    file = bytearray(file)
+    for _ in range(rng.randint(1, 3)):
+        way = rng.random()
+        if way < 0.8 and file:
+            file[rng.randrange(min(len(file), 130))] = rng.choice((0, 1, 32, 255, rng.randrange(256)))
+        elif way < 0.9:
+            del file[rng.randrange(len(file) + 1) :]
+        else:
+            file += rng.randbytes(rng.randint(1, 9))
+    return bytes(file)
+
+
+@given(databases())
+def test_a_database_is_written_in_canonical_form(it):
+    file = it.to_bytes()
+    assert palmheap.canonical(file) == file
+    back = palmheap.Database.from_bytes(file)
+    # What changes: IDs of 0, or of earlier records, and with them the seed; busy bits.
+    seen = {0}
+    for old, new in zip(it.records, back.records):
+        assert (new.data, new.attributes) == (old.data, old.attributes & ~0x20)
+        assert old.id in seen or new.id == old.id
+        seen.add(old.id)
+    ids = [record.id for record in back.records]
+    assert len(set(ids)) == len(ids) and 0 not in ids
+    it.records = back.records
+    assert back.seed == it.seed or len(seen) <= len(ids)
+    it.seed = back.seed
+    assert back == it
+
+
+@given(databases(), st.randoms(use_true_random=False))
+def test_read_and_write_is_canonical(it, rng):
+    """For a file of any bytes: what is read and written is its canonical form, or both have the same fault."""
+    for file in (it.to_bytes(), it._built(), damaged(it._built(), rng)):
+        try:
+            wanted = palmheap.canonical(file)
+        except palmheap.FileFault as fault:
+            with pytest.raises(palmheap.FileFault) as other:
+                palmheap.Database.from_bytes(file)
+            assert other.value.args == fault.args
+            with pytest.raises(palmheap.FileFault) as other:
+                palmheap.check_file(file)
+            assert other.value.args == fault.args
+        else:
+            assert palmheap.Database.from_bytes(file).to_bytes() == wanted
+            assert palmheap.check_file(file) is None
+            assert palmheap.listing(file).startswith("ok")
+
+
+@settings(max_examples=50)
+@given(databases())
+def test_import_and_export_is_canonical(it):
+    file = it._built()
+    with palmheap.Store.new(65_536, 200) as store:
+        assert store.export_file(store.import_file(file)) == palmheap.canonical(file)
+
+
+@given(databases())
+def test_blocks(it):
+    app, sort, data = palmheap.blocks(bytearray(it._built()))
+    assert (app, sort) == (it.app_info, it.sort_info)
+    assert data == [entry.data for entry in (it.resources if it.has_resources else it.records)]
+
+
+def test_values_that_no_file_has():
+    def made(**fields):
+        return palmheap.Database(**{"name": b"x", "kind": b"DATA", "creator": b"memo", **fields})
+
+    record, resource = palmheap.Record, palmheap.Resource
+    for wrong in (
+        made(name=b""),
+        made(name=b"x" * 32),
+        made(name=b"a\0b"),
+        made(kind=b"DAT"),
+        made(creator=b"memos"),
+        made(records=[record(None)]),
+        made(resources=[resource(b"code", 1)]),
+        made(attributes=1, records=[record(b"")]),
+        made(attributes=1, resources=[resource(b"cod", 1)]),
+        made(records=[record(b"")] * 65_536),
+    ):
+        with pytest.raises(ValueError):
+            wrong.to_bytes()
+    for wrong in (
+        made(attributes=1 << 16),
+        made(version=-1),
+        made(seed=1 << 32),
+        made(creation_date=-1),
+        made(records=[record(b"", 1 << 24)]),
+        made(records=[record(b"", -1)]),
+        made(records=[record(b"", 1, 256)]),
+        made(attributes=1, resources=[resource(b"code", 1 << 16)]),
+    ):
+        with pytest.raises(OverflowError):
+            wrong.to_bytes()
+
+
+def test_read_and_write(tmp_path):
+    path = tmp_path / "memo.pdb"
+    memos = palmheap.Database(b"MemoDB", b"DATA", b"memo", records=[palmheap.Record(b"Buy milk\0", 1, 1)])
+    palmheap.write(memos, path)
+    assert palmheap.read(path) == memos
+    memos.records[0].data = b"Buy bread\0"
+    palmheap.write(memos, str(path))
+    assert palmheap.read(path).records[0].data == b"Buy bread\0"
+    memos.name = b""
+    with pytest.raises(ValueError):
+        palmheap.write(memos, path)
+    assert [it.name for it in tmp_path.iterdir()] == ["memo.pdb"]
+
+
+def test_too_large():
+    large = palmheap.Database(b"x", b"DATA", b"memo", records=[palmheap.Record(bytes(1 << 24), 1)])
+    with pytest.raises(palmheap.FileFault) as it:
+        large.to_bytes()
+    assert it.value.kind == palmheap.Kind.TOO_LARGE
+
+
+def test_images():
+    image = palmheap.new_image(2048, 8)
+    counts = palmheap.check_image(image)
+    assert counts[:4] == (2048, 8, 0, 0) and counts.databases == 0 and 0 < counts.free < 2048
+    for size, slots, kind in ((63, 1, "BAD_SIZE"), (1 << 31, 1, "BAD_SIZE"), (0, 1, "BAD_SIZE"), (64, 99, "BAD_SLOT_COUNT")):
+        with pytest.raises(palmheap.ImageFault) as it:
+            palmheap.new_image(size, slots)
+        assert it.value.kind.name == kind
+    with pytest.raises(palmheap.ImageFault):
+        palmheap.check_image(b"")
+    with palmheap.Store.open(image) as store:
+        assert store.image() == image
+
+
+def test_run():
+    file = palmheap.Database(b"MemoDB", b"DATA", b"memo", records=[palmheap.Record(b"Buy milk\0", 1, 1)]).to_bytes()
+    image = palmheap.new_image(2048, 8)
+    done = palmheap.run(image, "import memos 1\nreccount memos\nexport memos\nfree other\n", [file])
+    assert done.replies == f"ok\nok 1\nok {len(file)}\nrefused 1 InvalidHandle\n" and done.files == [file]
+    with palmheap.Store.open(done.image) as store:
+        assert store.export_file(store.find_database("MemoDB")) == file
+    assert palmheap.run(image, b"") == (image, "", [])
+    with pytest.raises(palmheap.ScriptFault) as it:
+        palmheap.run(image, "nothing\n")
+    assert (it.value.kind.name, it.value.at) == ("UNKNOWN_COMMAND", 1)
+
+
+def test_words_of_faults():
+    """Faults have the words that the program prints."""
+    for kind, at, entry, words in (
+        (21, 0, 0, "BadMagic"),
+        (22, 0, 0, "BadSize"),
+        (26, 40, 0, "BadChunk 40"),
+        (42, 1, 3, "BadEntry 1 3"),
+        (45, 0, 0, "BadId 0 0"),
+        (60, 0, 0, "Truncated"),
+        (64, 0, 0, "BadInfo sort"),
+        (65, 0, 0, "BadOffset 0"),
+        (71, 4, 0, "line 4 WrongCount"),
+        (72, 4, 2, "line 4 BadWord 2"),
+        (99, 1, 2, "kind 99 at 1, entry 2"),
+    ):
+        it = _errors.fault(kind, at, entry)
+        assert str(it) == words and pickle.loads(pickle.dumps(it)).args == it.args
+    assert isinstance(_errors.fault(1), MemoryError)
+
+
+def test_command_line(tmp_path):
+    path = tmp_path / "memo.pdb"
+    memos = palmheap.Database(b"MemoDB", b"DATA", b"memo")
+    palmheap.write(memos, path)
+
+    def said(*words, given=b""):
+        command = [sys.executable, "-m", "palmheap", *map(str, words)]
+        ran = subprocess.run(command, input=given, capture_output=True, check=False)
+        return ran.returncode, ran.stdout.decode()
+
+    text = palmheap.listing(path.read_bytes())
+    assert said("list", path) == (0, text) and said("list", "-", given=path.read_bytes()) == (0, text)
+    assert said("list", "-") == (1, "bad Truncated\n")
+    assert said("list", tmp_path / "none") == (3, "")
+    assert said("list") == said("unpack", path) == (2, "")
