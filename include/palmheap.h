@@ -8,8 +8,9 @@
  * - A pointer is valid: to read what it points to, and to write it if it is no pointer to const. It is not NULL, unless
  *   it has a length and that is 0. An output may have any value before the call.
  * - Memory that a function writes does not overlap other memory that it is given.
- * - While a call runs, no other thread writes memory that the call is given, or reads memory that the call writes, and
- *   none uses the store of the call.
+ * - While a call runs, no other thread writes memory that the call is given, or reads memory that the call writes. While
+ *   a call changes a store, no other thread uses the store. A call that takes a const palmheap_store leaves the store as
+ *   it was: any number of threads may make these calls on one store at once.
  * - 2 MiB of stack are left. No function is called from a signal handler.
  *
  * - A parameter x_len is the number of items of the array x. Sizes, counts of bytes and offsets are in bytes.
@@ -28,6 +29,14 @@
 #ifdef __cplusplus
 extern "C" {
 #endif
+
+/* The version of this header, as text and as a number: a million for each of the first number, a thousand for each of the
+ * second. docs/C-LIBRARY.md says what may change with each of them. */
+#define PALMHEAP_VERSION "0.1.0"
+#define PALMHEAP_VERSION_NUMBER 1000
+
+/* Returns the PALMHEAP_VERSION_NUMBER of the library that the program runs with. */
+uint32_t palmheap_version(void);
 
 /* What was found: PALMHEAP_OK, or the kind of a fault and the numbers that locate it (docs/FORMAT.md). A number that
  * the kind does not have is 0. The comment on a function lists the kinds that it can return. */
@@ -85,6 +94,12 @@ enum {
     PALMHEAP_WRONG_COUNT = 71,
     PALMHEAP_BAD_WORD = 72
 };
+
+/* Writes the name of a kind of fault, 1, 20 to 47 or 60 to 72, into a buffer, as BadChunk: ASCII without a zero at its
+ * end, as the program prints it. No name has more than 16 bytes. Sets count to its size in bytes, also if the buffer is
+ * too short for it. Returns 0 or PALMHEAP_CALL_NO_ROOM, or PALMHEAP_CALL_NO_FAULT if no fault has the kind: then it
+ * changes nothing. */
+uint32_t palmheap_kind_name(uint32_t kind, uint8_t *name, size_t name_len, size_t *count);
 
 /* ---- Files and images. These functions keep nothing between calls, and accept any bytes. ----
  *
@@ -170,10 +185,11 @@ palmheap_answer palmheap_run(uint8_t *image, size_t image_len, const uint8_t *sc
 
 /* ---- An open store. ----
  *
- * A store lives from palmheap_open to palmheap_close. The caller passes the address of a palmheap_store. No other call
- * may use the store at the same time. Once palmheap_close returned 0, only palmheap_open and palmheap_close may get the
- * palmheap_store. A copy of a palmheap_store is the same store, so close only one of them. The caller never changes the
- * field, but may set a new palmheap_store to {0}.
+ * A store lives from palmheap_open to palmheap_close. The caller passes the address of a palmheap_store. A call that
+ * takes a const palmheap_store only asks: the store is the same after it. Calls that only ask may run at the same time.
+ * While another call uses the store, no call may run. Once palmheap_close returned 0, only palmheap_open and
+ * palmheap_close may get the palmheap_store. A copy of a palmheap_store is the same store, so close only one of them. The
+ * caller never changes the field, but may set a new palmheap_store to {0}.
  *
  * A call returns 0, or the number of a refusal. A refused call changes no chunk and no database, and leaves the
  * caller's memory as it was. Comments list the refusals of a call in the order in which it looks for them. A call with
@@ -220,7 +236,8 @@ enum {
 enum {
     PALMHEAP_CALL_NO_ROOM = 100,    /* a buffer is too short; the call's count is the size that it needs */
     PALMHEAP_CALL_NO_REFUSAL = 101, /* no refusal has the number */
-    PALMHEAP_CALL_NO_POINTER = 102  /* no pointer to the chunk is out */
+    PALMHEAP_CALL_NO_POINTER = 102, /* no pointer to the chunk is out */
+    PALMHEAP_CALL_NO_FAULT = 103    /* no fault has the kind */
 };
 
 /* Writes the name of a refusal into a buffer, ASCII without a zero at its end, as InvalidHandle. No name has more than
@@ -240,7 +257,7 @@ uint32_t palmheap_close(palmheap_store *store);
 
 /* Writes the image of a store into a buffer. Sets count to its size in bytes, also if the buffer is too short for
  * it. Refusals: 27, 26. */
-uint32_t palmheap_write_image(palmheap_store *store, uint8_t *image, size_t image_len, size_t *count);
+uint32_t palmheap_write_image(const palmheap_store *store, uint8_t *image, size_t image_len, size_t *count);
 
 /* -- Chunks --
  *
@@ -265,13 +282,13 @@ uint32_t palmheap_MemHandleLock(palmheap_store *store, uint32_t name, uint32_t *
 uint32_t palmheap_MemHandleUnlock(palmheap_store *store, uint32_t name, uint8_t *count);
 
 /* Sets size to the size of a chunk in bytes. Refusals: 1. */
-uint32_t palmheap_MemHandleSize(palmheap_store *store, uint32_t name, uint32_t *size);
+uint32_t palmheap_MemHandleSize(const palmheap_store *store, uint32_t name, uint32_t *size);
 
 /* Sets owner to the owner of a chunk, or to 15 if a database owns it. Refusals: 1. */
-uint32_t palmheap_MemHandleOwner(palmheap_store *store, uint32_t name, uint8_t *owner);
+uint32_t palmheap_MemHandleOwner(const palmheap_store *store, uint32_t name, uint8_t *owner);
 
 /* Sets count to the number of locks of a chunk, or to 15 if it is fixed. Refusals: 1. */
-uint32_t palmheap_MemHandleLockCount(palmheap_store *store, uint32_t name, uint8_t *count);
+uint32_t palmheap_MemHandleLockCount(const palmheap_store *store, uint32_t name, uint8_t *count);
 
 /* Overwrites bytes of a locked or fixed chunk, from the offset at in the chunk. Refusals: 1, 4, 27, 9. */
 uint32_t palmheap_DmWrite(palmheap_store *store, uint32_t name, uint32_t at, const uint8_t *bytes, size_t bytes_len);
@@ -290,16 +307,16 @@ uint32_t palmheap_MemHandleResize(palmheap_store *store, uint32_t name, uint32_t
 uint32_t palmheap_MemHandleSetOwner(palmheap_store *store, uint32_t name, uint8_t owner);
 
 /* Sets name to the name of the chunk whose body is at the offset place in the image. Refusals: 1. */
-uint32_t palmheap_MemPtrRecoverHandle(palmheap_store *store, uint32_t place, uint32_t *name);
+uint32_t palmheap_MemPtrRecoverHandle(const palmheap_store *store, uint32_t place, uint32_t *name);
 
 /* Frees all chunks of an owner, 1 to 14, also locked and fixed ones. Sets count to their number. Refusals: 7, 27. */
 uint32_t palmheap_MemHeapFreeByOwnerID(palmheap_store *store, uint8_t owner, uint32_t *count);
 
 /* Sets count to the sum of the sizes of all free chunks, in bytes. */
-uint32_t palmheap_MemHeapFreeBytes(palmheap_store *store, uint32_t *count);
+uint32_t palmheap_MemHeapFreeBytes(const palmheap_store *store, uint32_t *count);
 
 /* Sets count to the greatest room of a stretch, in bytes, or to 0 if there is no stretch. */
-uint32_t palmheap_largest_stretch(palmheap_store *store, uint32_t *count);
+uint32_t palmheap_largest_stretch(const palmheap_store *store, uint32_t *count);
 
 /* Joins the free bytes of each stretch into one chunk. Sets count to the number of bytes moved. */
 uint32_t palmheap_MemHeapCompact(palmheap_store *store, uint32_t *count);
@@ -355,16 +372,16 @@ uint32_t palmheap_DmCreateDatabase(palmheap_store *store, const uint8_t *name, s
 uint32_t palmheap_DmDeleteDatabase(palmheap_store *store, uint32_t db);
 
 /* Sets db to the database with this name. Refusals: 10. */
-uint32_t palmheap_DmFindDatabase(palmheap_store *store, const uint8_t *name, size_t name_len, uint32_t *db);
+uint32_t palmheap_DmFindDatabase(const palmheap_store *store, const uint8_t *name, size_t name_len, uint32_t *db);
 
 /* Sets db to the database at an index, counted from 0. Refusals: 10. */
-uint32_t palmheap_DmGetDatabase(palmheap_store *store, uint32_t index, uint32_t *db);
+uint32_t palmheap_DmGetDatabase(const palmheap_store *store, uint32_t index, uint32_t *db);
 
 /* Sets count to the number of databases. */
-uint32_t palmheap_DmNumDatabases(palmheap_store *store, uint32_t *count);
+uint32_t palmheap_DmNumDatabases(const palmheap_store *store, uint32_t *count);
 
 /* Reads the header of a database, and the number of its entries. Refusals: 10. */
-uint32_t palmheap_DmDatabaseInfo(palmheap_store *store, uint32_t db, palmheap_database_info *info);
+uint32_t palmheap_DmDatabaseInfo(const palmheap_store *store, uint32_t db, palmheap_database_info *info);
 
 /* Sets the name, attributes, version, dates, type and creator of a database. Ignores the other fields of info, and
  * the attribute for resources. To change some of them, read info by palmheap_DmDatabaseInfo first. Refusals: 10, 22,
@@ -380,7 +397,7 @@ uint32_t palmheap_set_info_block(palmheap_store *store, uint32_t db, bool sort, 
 uint32_t palmheap_take_info_block(palmheap_store *store, uint32_t db, bool sort, uint8_t owner, uint32_t *name);
 
 /* Sets name to the name of an info block of a database. Refusals: 10, 24. */
-uint32_t palmheap_info_block(palmheap_store *store, uint32_t db, bool sort, uint32_t *name);
+uint32_t palmheap_info_block(const palmheap_store *store, uint32_t db, bool sort, uint32_t *name);
 
 /* -- Records --
  *
@@ -409,19 +426,19 @@ uint32_t palmheap_DmMoveRecord(palmheap_store *store, uint32_t db, uint32_t from
 uint32_t palmheap_DmGetRecord(palmheap_store *store, uint32_t db, uint32_t index, uint32_t *name);
 
 /* Sets name to the chunk of a record's data. Refusals: 10, 11, 14, 15. */
-uint32_t palmheap_DmQueryRecord(palmheap_store *store, uint32_t db, uint32_t index, uint32_t *name);
+uint32_t palmheap_DmQueryRecord(const palmheap_store *store, uint32_t db, uint32_t index, uint32_t *name);
 
 /* Marks a record as no longer busy, and as dirty if dirty is true. Refusals: 10, 11, 14. */
 uint32_t palmheap_DmReleaseRecord(palmheap_store *store, uint32_t db, uint32_t index, bool dirty);
 
 /* Reads the entry of a record. Refusals: 10, 11, 14. */
-uint32_t palmheap_DmRecordInfo(palmheap_store *store, uint32_t db, uint32_t index, palmheap_record_info *info);
+uint32_t palmheap_DmRecordInfo(const palmheap_store *store, uint32_t db, uint32_t index, palmheap_record_info *info);
 
 /* Resizes the data of a record to size bytes. Refusals: 10, 11, 13, 14, 15, 27, 3, 8. */
 uint32_t palmheap_DmResizeRecord(palmheap_store *store, uint32_t db, uint32_t index, uint32_t size);
 
 /* Sets count to the number of records. Refusals: 10, 11. */
-uint32_t palmheap_DmNumRecords(palmheap_store *store, uint32_t db, uint32_t *count);
+uint32_t palmheap_DmNumRecords(const palmheap_store *store, uint32_t db, uint32_t *count);
 
 /* Makes a movable chunk the data of a new record at the index at, or at the end if there are fewer. Sets index to the
  * index of the record. Refusals: 10, 11, 13, 1, 2, 6, 17, 8. */
@@ -442,19 +459,19 @@ uint32_t palmheap_DmSetRecordInfo(palmheap_store *store, uint32_t db, uint32_t i
     id);
 
 /* Sets index to the index of the record with this unique ID, deleted or not. Refusals: 10, 11, 20. */
-uint32_t palmheap_DmFindRecordByID(palmheap_store *store, uint32_t db, uint32_t id, uint32_t *index);
+uint32_t palmheap_DmFindRecordByID(const palmheap_store *store, uint32_t db, uint32_t id, uint32_t *index);
 
 /* Sets count to the number of records of a category, 0 to 15. In this call and the next two 255 stands for all records
  * that are not deleted. Refusals: 10, 11, 18. */
-uint32_t palmheap_DmNumRecordsInCategory(palmheap_store *store, uint32_t db, uint8_t category, uint32_t *count);
+uint32_t palmheap_DmNumRecordsInCategory(const palmheap_store *store, uint32_t db, uint8_t category, uint32_t *count);
 
 /* Sets index to the index of the first record of a category at the index from or after it. Refusals: 10, 11, 18, 14. */
-uint32_t palmheap_DmQueryNextInCategory(palmheap_store *store, uint32_t db, uint32_t from, uint8_t category, uint32_t
-    *index);
+uint32_t palmheap_DmQueryNextInCategory(const palmheap_store *store, uint32_t db, uint32_t from, uint8_t category,
+    uint32_t *index);
 
 /* Sets count to the number of records of a category before an index. Refusals: 10, 11, 18, 14. */
-uint32_t palmheap_DmPositionInCategory(palmheap_store *store, uint32_t db, uint32_t index, uint8_t category, uint32_t
-    *count);
+uint32_t palmheap_DmPositionInCategory(const palmheap_store *store, uint32_t db, uint32_t index, uint8_t category,
+    uint32_t *count);
 
 /* Gives all records of the category from the category to. Marks them as dirty if dirty is true. Refusals: 10, 11,
  * 13, 18. */
@@ -486,34 +503,35 @@ uint32_t palmheap_DmRemoveResource(palmheap_store *store, uint32_t db, uint32_t 
 uint32_t palmheap_DmResizeResource(palmheap_store *store, uint32_t db, uint32_t index, uint32_t size);
 
 /* Reads the entry of a resource: its type, its ID, and the chunk of its data. Refusals: 10, 12, 14. */
-uint32_t palmheap_DmResourceInfo(palmheap_store *store, uint32_t db, uint32_t index, palmheap_resource_info *info);
+uint32_t palmheap_DmResourceInfo(const palmheap_store *store, uint32_t db, uint32_t index,
+    palmheap_resource_info *info);
 
 /* Sets the type and the ID of a resource. Refusals: 10, 12, 13, 14. */
 uint32_t palmheap_DmSetResourceInfo(palmheap_store *store, uint32_t db, uint32_t index, uint32_t kind, uint16_t id);
 
 /* Sets index to the index of the first resource with this type and ID. Refusals: 10, 12, 23. */
-uint32_t palmheap_DmFindResource(palmheap_store *store, uint32_t db, uint32_t kind, uint16_t id, uint32_t *index);
+uint32_t palmheap_DmFindResource(const palmheap_store *store, uint32_t db, uint32_t kind, uint16_t id, uint32_t *index);
 
 /* Sets index to the index of the resource of a type that has nth others of the type before it. Refusals: 10, 12, 23. */
-uint32_t palmheap_DmFindResourceType(palmheap_store *store, uint32_t db, uint32_t kind, uint32_t nth, uint32_t
-    *index);
+uint32_t palmheap_DmFindResourceType(const palmheap_store *store, uint32_t db, uint32_t kind, uint32_t nth,
+    uint32_t *index);
 
 /* Sets count to the number of resources. Refusals: 10, 12. */
-uint32_t palmheap_DmNumResources(palmheap_store *store, uint32_t db, uint32_t *count);
+uint32_t palmheap_DmNumResources(const palmheap_store *store, uint32_t db, uint32_t *count);
 
 /* -- Bytes and files. Those with a len work like snprintf, as the functions on files do. -- */
 
 /* Copies count bytes of a chunk, locked or not, from the offset at in the chunk, into a buffer. Sets len to their
  * number, also if the buffer is too short for them. Refusals: 1, 27, 9. */
-uint32_t palmheap_read(palmheap_store *store, uint32_t name, uint32_t at, uint32_t count, uint8_t *bytes, size_t
-    bytes_len, size_t *len);
+uint32_t palmheap_read(const palmheap_store *store, uint32_t name, uint32_t at, uint32_t count, uint8_t *bytes,
+    size_t bytes_len, size_t *len);
 
 /* Makes the database of a file, after all others. Sets db to the database. Refusals: 25, 21, 17, 26, 8. */
 uint32_t palmheap_import(palmheap_store *store, const uint8_t *file, size_t file_len, uint32_t *db);
 
 /* Writes the file of a database into a buffer. Sets len to its size in bytes, also if the buffer is too short for
  * it. Refusals: 10, 27, 26. */
-uint32_t palmheap_export(palmheap_store *store, uint32_t db, uint8_t *file, size_t file_len, size_t *len);
+uint32_t palmheap_export(const palmheap_store *store, uint32_t db, uint8_t *file, size_t file_len, size_t *len);
 
 /* -- Loans --
  *
@@ -544,12 +562,12 @@ uint32_t palmheap_take_out_also(palmheap_store *store, uint32_t name, palmheap_l
 void palmheap_put_back(palmheap_store *store, palmheap_loan *loan);
 
 /* Reports whether a chunk is lent. If so, sets name to it. If several are, it is one of them. */
-bool palmheap_lent(palmheap_store *store, uint32_t *name);
+bool palmheap_lent(const palmheap_store *store, uint32_t *name);
 
 /* Finds the lent chunk with the least place above after: sets name to the chunk, and place to its place. Reports whether
  * there is one: if not, it sets neither. With 0 for after it finds the first one, and with the last place found the next
  * one: so the caller goes over all lent chunks in order of their places. */
-bool palmheap_loan_above(palmheap_store *store, uint32_t after, uint32_t *name, uint32_t *place);
+bool palmheap_loan_above(const palmheap_store *store, uint32_t after, uint32_t *name, uint32_t *place);
 
 /* -- Pointers --
  *
@@ -571,7 +589,7 @@ uint32_t palmheap_unlock_handle(palmheap_store *store, uint32_t name);
 
 /* Sets start to the address at which the image of a store starts, until the store is closed. A pointer that is out is
  * start plus the place of its chunk. The bytes there belong to the store: do not read or write through start. */
-void palmheap_start(palmheap_store *store, uint8_t **start);
+void palmheap_start(const palmheap_store *store, uint8_t **start);
 
 /* Unlocks a pointer once, as palmheap_unlock_handle unlocks its chunk: bytes is the pointer that palmheap_lock_pointer
  * gave. bytes may be any pointer: this returns PALMHEAP_CALL_NO_POINTER, and changes nothing, if it is not one that is

@@ -50,6 +50,7 @@ run 'rt' tests/dropped_loans.sh
 run 'rt' tests/program.sh
 run 'rt cmp' tests/hostile.sh
 run 'rt awk diff python3' tests/maps.sh
+run 'gcc python3' tests/abi.py
 run 'rt gcc python3' tests/library.sh 1000
 run 'rt gcc python3' tests/python.sh
 run 'rt gcc python3 dpkg-deb' tests/debian.sh

@@ -63,7 +63,7 @@ class Refused(Exception):
 class Library:
     """The shared library. Each method takes bytes, and returns bytes or Python's numbers, or raises `Fault`."""
 
-    def __init__(self, path="libpalmheap.so.0"):
+    def __init__(self, path="libpalmheap.so.1"):
         self.so = c.CDLL(path)
         size, u8, bytes_in = c.c_size_t, c.POINTER(c.c_uint8), c.c_char_p
         one, sizes = [bytes_in, size], [c.POINTER(size), size]
@@ -97,8 +97,8 @@ class Library:
             function = getattr(self.so, f"palmheap_{name}")
             kinds = [kind for it in given for kind in ([bytes_in, size] if it is bytes else [it])]
             function.argtypes, function.restype = [place, *kinds, *map(c.POINTER, made)], U32
-        name_of = self.so.palmheap_refusal_name
-        name_of.argtypes, name_of.restype = [U32, u8, size, c.POINTER(size)], U32
+        for name_of in (self.so.palmheap_refusal_name, self.so.palmheap_kind_name):
+            name_of.argtypes, name_of.restype = [U32, u8, size, c.POINTER(size)], U32
         for name, given in BYTE_CALLS.items():
             function = getattr(self.so, f"palmheap_{name}")
             function.argtypes, function.restype = [place, *given, u8, size, c.POINTER(size)], U32
@@ -165,12 +165,20 @@ class Library:
     def open(self, image):
         return Store(self, image)
 
-    def refusal_name(self, number):
-        """Returns the name of a refusal, or None if no refusal has the number."""
+    @staticmethod
+    def _name(function, number):
         name, count = (U8 * 32)(), SIZE(0)
-        if self.so.palmheap_refusal_name(word(U32, number), name, len(name), c.byref(count)):
+        if function(word(U32, number), name, len(name), c.byref(count)):
             return None
         return bytes(name[: count.value]).decode("ascii")
+
+    def refusal_name(self, number):
+        """Returns the name of a refusal, or None if no refusal has the number."""
+        return self._name(self.so.palmheap_refusal_name, number)
+
+    def kind_name(self, kind):
+        """Returns the name of a kind of fault, or None if no fault has the kind."""
+        return self._name(self.so.palmheap_kind_name, kind)
 
 
 class Store:

@@ -15,7 +15,10 @@ import tempfile
 
 import c_calls as palmheap
 
-KINDS = {60: "Truncated", 61: "ChainedList", 62: "EmptyName", 63: "BadInfo app", 64: "BadInfo sort", 65: "BadOffset"}
+# What the program prints after the name of a kind of fault.
+PARTS_OF_FILES = {63: " app", 64: " sort"}
+# Numbers next to those of the faults.
+NO_KINDS = (0, 2, 19, 32, 39, 48, 59, 66, 69, 73, 1 << 31)
 # Draws are made in parts, each from its own seed, side by side on all processors.
 PARTS = range(56, 64)
 
@@ -84,8 +87,8 @@ def listed(library, file):
     try:
         library.pdb_check(file)
     except palmheap.Fault as fault:
-        number = f" {fault.at}" if fault.kind == 65 else ""
-        return f"bad {KINDS[fault.kind]}{number}\n", 1
+        part = f" {fault.at}" if fault.kind == 65 else PARTS_OF_FILES.get(fault.kind, "")
+        return f"bad {library.kind_name(fault.kind)}{part}\n", 1
     return library.pdb_list(file), 0
 
 
@@ -890,7 +893,7 @@ def check_refused(library, rng, program, room, image, lines, files):
     names = [f"{room}/{it}" for it in range(len(files))]
     given, status = run(program, "run", f"{room}/image", f"{room}/script", f"{room}/none", *names)
     answer, written = run_within(library, image, script, files, (9, 9, 9))
-    kind = {70: "UnknownCommand", 71: "WrongCount", 72: f"BadWord {answer[2]}"}.get(answer[0])
+    kind = f"{library.kind_name(answer[0])}{f' {answer[2]}' if answer[0] == 72 else ''}"
     if status == 0 and answer[0] == palmheap.NO_ROOM:
         return
     if given.decode("ascii") != f"line {answer[1]} {kind}\n" or written != unused(image, (9, 9, 9)):
@@ -900,6 +903,9 @@ def check_refused(library, rng, program, room, image, lines, files):
     try:
         library.check(bytes(broken))
     except palmheap.Fault as fault:
+        given, status = run(program, "check", "-", file=bytes(broken))
+        if status == 0 or not given.decode("ascii").startswith(f"bad {library.kind_name(fault.kind)}"):
+            sys.exit(f"an image with the fault {fault} is told as {given}")
         answer, written = run_within(library, broken, script, files, (9, 9, 9))
         if answer != (fault.kind, fault.at, fault.entry) or written != unused(bytes(broken), (9, 9, 9)):
             sys.exit(f"an image with the fault {fault} gives {answer}")
@@ -968,6 +974,8 @@ def compare_calls(program, count):
     check_closed(library)
     if [library.refusal_name(it) for it in (0, 28, 1 << 31)] != [None] * 3:
         sys.exit("a number of no refusal has a name")
+    if any(library.kind_name(it) for it in NO_KINDS) or library.kind_name(1) != "OutOfMemory":
+        sys.exit("a kind of fault has another name")
     parts = each_part(compare_drawn, program, count)
     calls, refused = sum(it[0] for it in parts), [number for it in parts for number in it[1]]
     met = ", ".join(f"{refused.count(it)} {library.refusal_name(it)}" for it in sorted(set(refused)))

@@ -8,7 +8,8 @@
 # compares as many calls on a store, and palmheap_run on scripts of the same calls, with the command `run`: by text,
 # files and image, with buffers that are long enough or too short, and on scripts and images with faults.
 # Lends chunks at random, 10 steps for each of FILES. Links by pkg-config, shared and static, sees that wrong headers are
-# refused, and lets each allocation fail in turn.
+# refused, and lets each allocation fail in turn. Makes calls that only ask in threads, also under helgrind. Compares the
+# names that the library exports, and its version, with the header.
 # Needs rt, gcc and python3. Without g++, pkg-config, valgrind or cargo, it leaves out what they run, and says so.
 # PALMHEAP names a built program to compare with (./palmheap). The status is 1 if something differs. The gate doesn't
 # run this.
@@ -49,13 +50,20 @@ done <<'END'
 /palmheap_DmSet(/s/uint32_t at, uint32_t count/uint32_t count, uint32_t at/
 /palmheap_pdb_check(/s/const uint8_t/uint8_t/
 s/^bool palmheap_lent/uint32_t palmheap_lent/
-s/^void palmheap_start(.*/void palmheap_start(palmheap_store *store, uint8_t *start);/
+s/^void palmheap_start(.*/void palmheap_start(const palmheap_store *store, uint8_t *start);/
+/palmheap_MemHandleSize(/s/const palmheap_store/palmheap_store/
+/palmheap_MemHandleUnlock(/s/palmheap_store/const palmheap_store/
+s/^#define PALMHEAP_VERSION .*/#define PALMHEAP_VERSION "0.2.0"/
+s/^#define PALMHEAP_VERSION_NUMBER .*/#define PALMHEAP_VERSION_NUMBER 2000/
 s/palmheap_unlock_pointer/palmheap_start/
 s/^void palmheap_put_back/uint8_t *palmheap_more(void);\n&/
 s/uint16_t attributes;/uint8_t attributes;/
 /PALMHEAP_REFUSED_CHUNK_LOCKED =/s/3/4/
 s/Refusals: 7, 27\./Refusals: 7./
 END
+
+# Programs that were compiled before can use the library.
+python3 "$top/tests/abi.py" >"$room/log" || { cat "$room/log"; fail 'the header does not suit older programs'; }
 
 # A file with one record and one with none.
 python3 "$top/tests/library.py" files "$room" || fail 'no files were made'
@@ -92,8 +100,15 @@ grep '^record' "$room/plain.locks.txt" >"$room/records" || fail 'the address boo
 [ "$(wc -l <"$room/records")" = 5 ] && LC_ALL=C sort -c -k 3 "$room/records" || fail 'the address book is not sorted'
 grep -q '^record 0: Buy milk$' "$room/plain.store.txt" || fail 'the store has no such record'
 "$program" check "$room/plain.image" | grep -q 'databases 1' || fail 'the image of the store has not one database'
+# The version of the header is that of the library, of the program and of pkg-config.
+version=$(sed -n 's/^#define PALMHEAP_VERSION "\(.*\)"$/\1/p' "$top/include/palmheap.h")
+# shellcheck disable=SC2086
+printf '#include <palmheap.h>\nint main(void) { return palmheap_version() != PALMHEAP_VERSION_NUMBER; }\n' |
+    gcc $flags -x c - -x none "$static" -o "$room/version" && "$room/version" || fail 'the library has another version'
+[ "$("$program" --version)" = "palmheap $version" ] || fail 'the program has another version'
 # Linked by pkg-config: shared, and static, which needs no file of the library to run.
 if command -v pkg-config >/dev/null; then
+    [ "$(pkg-config --modversion palmheap)" = "$version" ] || fail 'pkg-config has another version'
     for kind in shared static; do
         # shellcheck disable=SC2046
         gcc -Wall -Wextra -Werror $([ $kind = shared ] || echo -static) "$top/examples/c/store.c" \
@@ -120,8 +135,23 @@ gcc $flags "$top/tests/library_stack.c" "$static" -o "$room/plain.stack" || fail
 (ulimit -s 2048 && "$room/plain.demo" "$room/memos.pdb" "$room/out" && "$room/plain.store" "$room/out" &&
     "$room/plain.stack" "$room/one.image" && "$room/plain.stack" "$room/chain.image") >/dev/null ||
     fail 'the stack is too small'
-# Only the functions of the header are visible.
-nm -D --defined-only "$room/lib/lib/libpalmheap.so" | awk '{ print $3 }' | grep -v '^palmheap_' && fail 'a name escapes'
+# Only the functions of the header are visible, each with its version.
+awk '/^PALMHEAP_/ { node = $1; print "A " node } /^ *palmheap_/ { sub(";", ""); print "T " $1 "@@" node }' \
+    "$top/tools/palmheap.map" | LC_ALL=C sort >"$room/listed"
+nm -D --defined-only --with-symbol-versions "$room/lib/lib/libpalmheap.so" | sed 's/^[^ ]* //' | LC_ALL=C sort |
+    diff "$room/listed" - || fail 'other names are visible than those of the header'
+nm -g --defined-only "$static" | awk 'NF == 3 { print $3 }' | grep -v '^palmheap_' && fail 'a name escapes'
+[ "$(readlink "$room/lib/lib/libpalmheap.so")" = "$(objdump -p "$room/lib/lib/libpalmheap.so" |
+    awk '$1 == "SONAME" { print $2 }')" ] || fail 'the link has another name than the shared library'
+
+# Threads make each call that only asks.
+for name in $(grep -o 'palmheap_[A-Za-z_]*(const palmheap_store' "$top/include/palmheap.h" | sed 's/(.*//'); do
+    grep -q "$name(" "$top/tests/library_threads.c" || fail "no thread calls $name"
+done
+# shellcheck disable=SC2086
+gcc $flags -pthread "$top/tests/library_threads.c" "$static" -o "$room/plain.threads" ||
+    fail 'the test of threads was not built'
+"$room/plain.threads" "$files" || fail 'calls that only ask disturb each other'
 
 if command -v valgrind >/dev/null; then
     for words in "demo $room/memos.pdb $room/out" "store $room/out" loan locks memory 'loans 10000 2'; do
@@ -129,6 +159,10 @@ if command -v valgrind >/dev/null; then
         valgrind -q --error-exitcode=9 --leak-check=full --errors-for-leak-kinds=all "$room"/plain.$words >/dev/null ||
             fail 'valgrind found an error'
     done
+    valgrind -q --tool=helgrind --error-exitcode=9 "$room/plain.threads" 100 >"$room/log" 2>&1 ||
+        { cat "$room/log"; fail 'calls that only ask race'; }
+    valgrind -q --tool=helgrind --error-exitcode=9 "$room/plain.threads" 100 race >"$room/log" 2>&1
+    [ $? = 9 ] || fail 'helgrind finds no race'
 else
     echo 'not run: valgrind'
 fi

@@ -173,6 +173,11 @@ says 'a refused line, and its number' 5 '1 refused 25 BadFile Truncated
 2 refused 10 NoSuchDatabase' 'line 1: there is no FILE 1' run --numbers --strict blank.img files.txt c.img
 rm c.img ./-
 
+# one block, with nothing before or after it
+says 'a block that is not there' 1 '' 'refused 14 IndexOutOfRange
+empty.pdb: it has 0 entries, the first is 0' get empty.pdb 0
+says 'words that ask for no block' 2 '' "error: 'first' is no block: it is the index of an entry, 'app', 'sort', or the type and the id of a resource" get none.pdb first
+
 # folders of parts: what is there stays, a part is a file, and what can't be written whole leaves nothing
 says 'a file that is unpacked' 0 'ok 1' '' unpack empty.pdb parts
 says 'a folder that is there' 3 '' 'fault write

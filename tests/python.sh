@@ -31,7 +31,7 @@ cp -r "$top/python" "$room/source"
     done
     cmp "$room"/one/*.whl "$room"/two/*.whl || exit 1
     "$python" -m pip -q install --no-index --target "$room/plain" . || exit 1
-    cp "$PALMHEAP_LIBRARY" "palmheap/libpalmheap.so.0"
+    cp "$PALMHEAP_LIBRARY" "palmheap/libpalmheap.so.1"
     "$python" -m pip -q install --no-index --target "$room/whole" .
 ) || fail 'the package was not installed'
 memo='import palmheap, sys; palmheap.write(palmheap.Database(b"Memo", b"DATA", b"memo"), sys.argv[1])'

@@ -4,10 +4,12 @@
     tools/check_header.py [HEADER]
 
 Each exported function must be declared once, with the same result and the same parameters in order, by type and name.
+A store is const if the function's contract says that it is the same after the call: by the clause `same`.
 Each structure must have the same fields in order. Each kind of answer and each refusal must have the number that the
 Rattle code gives it. The comment on a function must list the same refusals as that in the Rattle code. Functions that
-the header itself defines (static inline) are left out, and none of them may be exported. HEADER is another file to
-compare. Prints each difference; the status is 1 if there is one.
+the header itself defines (static inline) are left out, and none of them may be exported. PALMHEAP_VERSION must be the
+version of the program, of the package for Python and of `palmheap_version`. HEADER is another file to compare. Prints
+each difference; the status is 1 if there is one.
 """
 
 import os
@@ -21,6 +23,14 @@ NUMBERS = {"u8": "uint8_t", "u16": "uint16_t", "u32": "uint32_t", "u64": "uint64
 STRUCTS = {"Kept": "palmheap_store", "Slot": "palmheap_store", "KeptLoan": "palmheap_loan"}
 # Structures that C sees only as fields of another one.
 PARTS = {"palmheap_lent_part"}
+# The clause of a contract that says that a call leaves its store as it was.
+SAME_STORE = "ensures same { store.new.store ≡ store.old.store }"
+# Where the version is written, but for the header and the library.
+VERSIONS = {
+    "crates/program_io/src/command_line.rt": r'^ *\.version\("(.*)"\)$',
+    "python/pyproject.toml": r'^version = "(.*)"$',
+    "python/palmheap/__init__.py": r'^__version__ = "(.*)"$',
+}
 # A function that the header defines.
 INLINE = re.compile(r"^static inline [^;{]*?\b(\w+)\([^;{]*\{.*?^\}", re.M | re.S)
 # Pointers in structures, by the name of the field.
@@ -58,8 +68,11 @@ def c_parameters(name, kind):
 
 def exported(text):
     """Yields each exported function: its name, its parameters in C, and the type in C of its result."""
-    pattern = r'#\[unsafe\(no_mangle\)\]\npub extern "C" fn (\w+)\((.*?)\)(?: -> (\w+))?\s*(?:ensures|requires|\{)'
-    for name, given, result in re.findall(pattern, text, re.S):
+    head = r'#\[unsafe\(no_mangle\)\]\npub extern "C" fn (\w+)\((.*?)\)(?: -> (\w+))?\s*'
+    pattern = head + r"(?:\{|((?:ensures|requires).*?)^\{)"
+    for name, given, result, contract in re.findall(pattern, text, re.M | re.S):
+        if SAME_STORE in contract:
+            given = given.replace("store: &mut Kept", "store: &Kept")
         pairs = [it.split(":", 1) for it in re.split(r",\s*(?=\w+:)", given.strip().rstrip(",")) if it]
         yield name, [c for it in pairs for c in c_parameters(*map(str.strip, it))], c_name(result) if result else "void"
 
@@ -144,6 +157,25 @@ def refusals_of(text):
         yield f"REFUSED_{shouted(name)}", int(number)
 
 
+def versions(text, header):
+    """Yields each place where another version is written than in the header."""
+    version = re.search(r'^#define PALMHEAP_VERSION "(\d+)\.(\d+)\.(\d+)"$', header, re.M)
+    if not version:
+        return ["the header has no PALMHEAP_VERSION of three numbers"]
+    plain, number = ".".join(version.groups()), sum(int(it) * 1000**at for at, it in enumerate(version.groups()[::-1]))
+    places = {"PALMHEAP_VERSION_NUMBER": (header, r"^#define PALMHEAP_VERSION_NUMBER (\d+)$", str(number))}
+    contract = r"fn palmheap_version\(\) -> u32\s+ensures \{ result ≡ (\d+) \}"
+    places["palmheap_version"] = text, contract, str(number)
+    for path, pattern in VERSIONS.items():
+        places[path] = text_of(f"{TOP}/{path}"), pattern, plain
+    found = {of: re.findall(pattern, it, re.M) for of, (it, pattern, _) in places.items()}
+    return [
+        f"the version of the header is {plain}, and {of} has {found[of]} in place of {wanted}"
+        for of, (*_, wanted) in places.items()
+        if found[of] != [wanted]
+    ]
+
+
 def main():
     text = "\n".join(text_of(f"{SOURCES}/{it}") for it in sorted(os.listdir(SOURCES)) if it.endswith(".rt"))
     text += text_of(f"{TOP}/crates/raw_region/src/lent_part.rt")
@@ -168,9 +200,11 @@ def main():
     named = [(name, int(number)) for name, number in numbers]
     compare("the kind", list(kinds_of(text)), [it for it in named if not it[0].startswith("REFUSED_")], wrong)
     compare("the refusal", list(refusals), [it for it in named if it[0].startswith("REFUSED_")], wrong)
+    wrong += versions(text, whole)
     wrong += [f"the header defines {it}, and the crate exports it" for it, *_ in exported(text) if it in inline]
     print("\n".join(wrong) if wrong else f"{len(list(exported(text)))} functions are declared as they are exported")
     return 1 if wrong else 0
 
 
-sys.exit(main())
+if __name__ == "__main__":
+    sys.exit(main())

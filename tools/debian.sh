@@ -42,7 +42,7 @@ export SOURCE_DATE_EPOCH=${SOURCE_DATE_EPOCH:-$(stat -c %Y "$top/CHANGELOG.md")}
 name=${DEBFULLNAME:-$(of_commit %an)}
 mail=${DEBEMAIL:-$(of_commit %ae)}
 maintainer="${name:-palmheap} <${mail:-palmheap@localhost}>"
-version=$(sed -n 's/^version = "\(.*\)"$/\1/p' "$top/python/pyproject.toml")+$(date -u -d "@$SOURCE_DATE_EPOCH" +%Y%m%d)-1
+version=$(sed -n 's/^#define PALMHEAP_VERSION "\(.*\)"$/\1/p' "$top/include/palmheap.h")+$(date -u -d "@$SOURCE_DATE_EPOCH" +%Y%m%d)-1
 here=$(dpkg --print-architecture)
 triplet=$(gcc -print-multiarch)
 

@@ -41,7 +41,7 @@ static void make_memo(palmheap_store *store, const char *text) {
 }
 
 /* Finds the database again, and prints its first record, but not the zero byte at its end. An empty record has none. */
-static void show_memo(palmheap_store *store) {
+static void show_memo(const palmheap_store *store) {
     uint32_t db, chunk, size;
     uint8_t text[64];
     size_t len;
@@ -54,7 +54,7 @@ static void show_memo(palmheap_store *store) {
 }
 
 /* Writes the image of a store to a file. The first call is for the size. */
-static int write_image(palmheap_store *store, const char *path) {
+static int write_image(const palmheap_store *store, const char *path) {
     size_t len = 0;
     uint32_t result = palmheap_write_image(store, NULL, 0, &len);
     if (result != PALMHEAP_CALL_NO_ROOM) done("write_image", result);

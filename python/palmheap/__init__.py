@@ -45,7 +45,7 @@ from ._files import Blocks, Counts, Run, blocks, canonical, check_file, check_im
 from ._library import LibraryNotFound
 from ._store import ALL, END, DatabaseInfo, Loan, Lock, NewEntry, RecordInfo, ResourceInfo, Store
 
-__version__ = "0"
+__version__ = "0.1.0"
 __all__ = [
     "ALL",
     "AlreadyExists",

@@ -14,8 +14,8 @@ from typing import Any, NamedTuple, Tuple, Union
 Buffer = Union[bytes, bytearray, memoryview]
 
 U8, U16, U32, SIZE, BOOL = c.c_uint8, c.c_uint16, c.c_uint32, c.c_size_t, c.c_bool
-# The library, newest first. The number changes if a program that was compiled for one can't use the next.
-NAMES = ("libpalmheap.so.1", "libpalmheap.so.0")
+# The library. The number changes if a program that was compiled for one can't use the next.
+NAMES = ("libpalmheap.so.1",)
 VARIABLE = "PALMHEAP_LIBRARY"
 
 

@@ -8,8 +8,8 @@ import palmheap
 from palmheap import _errors, _library, _store
 
 TOP = os.path.dirname(os.path.dirname(os.path.dirname(os.path.realpath(__file__))))
-# The functions that the package does without: `lent` needs no pointers.
-LEFT_OUT = {"lock_pointer", "unlock_pointer", "unlock_handle", "start"}
+# The functions that the package does without. `lent` needs no pointers, and `Kind` has the names of kinds.
+LEFT_OUT = {"lock_pointer", "unlock_pointer", "unlock_handle", "start", "version", "kind_name"}
 NUMBERS = {_library.U8: "uint8_t", _library.U16: "uint16_t", _library.U32: "uint32_t", _library.SIZE: "size_t"}
 
 
@@ -106,9 +106,11 @@ def test_exports():
 
 
 def test_version():
-    """The version is that of pkg-config."""
+    """The version is that of the header and of the library."""
     given = re.search(r'^version = "(.*)"$', text_of("python/pyproject.toml"), re.M)[1]
-    header_version = re.search(r'#define PALMHEAP_VERSION "(.*)"', text_of("include/palmheap.h"))
-    plain = re.search(r"^Version: (\S+)$", text_of("tools/library.sh"), re.M)
-    wanted = header_version or plain
-    assert given == palmheap.__version__ and (not wanted or given == wanted[1])
+    header_version = re.search(r'^#define PALMHEAP_VERSION "(.*)"$', text_of("include/palmheap.h"), re.M)[1]
+    assert given == palmheap.__version__ == header_version
+    number = 0
+    for it in given.split("."):
+        number = 1000 * number + int(it)
+    assert _library.library().palmheap_version() == number

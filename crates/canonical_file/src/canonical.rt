@@ -56,7 +56,7 @@ fn append_head(file: &PdbFile<'_>, given: &GivenIds, bytes: &mut Vec<u8>)
     ensures len { vec_len bytes.new ≡ first_place file.now }
     ensures capacity { vec_capacity bytes.old ≤ vec_capacity bytes.new }
 {
-    let _ = file.bytes();
+    file.know_file();
     append(bytes, &header_bytes(file, given.seed));
     append_entries(file, &given.ids, data_start(file), bytes);
     append(bytes, &FILLER);
@@ -74,7 +74,7 @@ pub fn canonical_bytes<A: Allowance>(memory: &A, file: &PdbFile<'_>) -> Result<V
     ensures canonical { IfOk result (λ bytes. IsCanonical file.now bytes.items) }
     ensures short { OnErr result (A.is_short memory.now) }
 {
-    let _ = file.bytes();
+    file.know_file();
     let given = give_ids(memory, file)?;
     let mut bytes = room_for(memory, file_size(file))?;
     append_head(file, &given, &mut bytes);
@@ -98,7 +98,7 @@ fn head_of<A: Allowance>(
         (head.items ++ flat_map block_bytes (blocks_in file.now))) }
     ensures short { OnErr result (A.is_short memory.now) }
 {
-    let _ = file.bytes();
+    file.know_file();
     let mut head = room_for(memory, file.first_place() as usize)?;
     append_head(file, given, &mut head);
     Ok(head)
@@ -150,7 +150,7 @@ pub fn put_canonical_by<A: Allowance, W: Write>(
         → WritesCanonical file.now W.contents out.old out.new false }
     ensures short { result ≡ Err CanonicalFault.OutOfMemory → A.is_short memory.now }
 {
-    let _ = file.bytes();
+    file.know_file();
     let Ok(head) = head_of(memory, file, given) else {
         return Err(CanonicalFault::OutOfMemory);
     };

@@ -44,7 +44,7 @@ pub fn changes_by(file: &PdbFile<'_>, given: &GivenIds) -> Changes
     ensures changes { AreChanges file.now result }
     ensures same { IsTrue (words.is_none result) → IsCanonical file.now file.now }
 {
-    let _ = file.bytes();
+    file.know_file();
     Changes {
         busy: has_busy(file),
         filler: !has_filler(file),

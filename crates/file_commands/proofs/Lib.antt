@@ -1,2 +1,4 @@
 pub mod Printed
 pub mod PartStatuses
+pub mod ResourceData
+pub mod Got

@@ -4,30 +4,35 @@ use Rattle.std.specs.Prelude.{◌≡◌, ◌≢◌, ◌⊎◌, ◌++◌, ℕ, Bo
 use Rattle.heap_model.specs.Files.{HasNoFault, IsFirstFault}
 use Rattle.heap_model.specs.declared.file_fault.FileFault.{FileFault}
 use Rattle.palm_text.specs.Counted.{Writing}
-use Rattle.palm_text.specs.Output.{Puts}
+use Rattle.palm_text.specs.Output.{IsUnused, Output, Puts, PutsTo}
 use Rattle.canonical_file.specs.Canonical.{IsCanonical}
 use Rattle.canonical_file.specs.declared.changes.Changes.{Changes}
 use Rattle.canonical_file.specs.Changes.{AreChanges, changes_line}
-use Rattle.file_listing.specs.Listing.{IsListing}
-use Rattle.file_listing.specs.FaultLines.{fault_lines}
+use Rattle.file_listing.specs.declared.rows.Row.{Row}
+use Rattle.file_listing.specs.Lines.{listing_line}
+use Rattle.file_listing.specs.Listing.{IsListingBy, fault_row}
 use Rattle.file_commands.specs.declared.faults.Rewritten.{Rewritten}
 use Rattle.program_io.specs.declared.status.Status.{Status}
 use Rattle.program_io.specs.declared.status.Status.TheVariants.{Done, Refused, BadWords, ReadFault, WriteFault, NoMemory}
 
--- the listing of a file without fault
-abbrev pub PutsListing : {V : Type 0} → List ℕ → (V → Option (List ℕ)) → Writing V → Writing V → Bool → Type 0
-PutsListing file contents old new ok = HasNoFault file × ((text : List ℕ) × IsListing file text × Puts contents old new text ok)
+-- the listing of a file without fault, with this text for each row
+abbrev pub PutsListing : {V : Type 0} → (Row → List ℕ) → List ℕ → (V → Option (List ℕ)) → Writing V → Writing V → Bool → Type 0
+PutsListing row_text file contents old new ok = HasNoFault file × ((text : List ℕ) × IsListingBy row_text file text × Puts contents old new text ok)
 
--- the lines for the first fault of a file
+-- the row of the first fault of a file
+abbrev pub PutsFaultRow : {V : Type 0} → (Row → List ℕ) → List ℕ → (V → Option (List ℕ)) → Writing V → Writing V → Bool → Type 0
+PutsFaultRow row_text file contents old new ok = (fault : FileFault) × IsFirstFault file fault × Puts contents old new (row_text (fault_row file fault)) ok
+
+-- its lines
 abbrev pub PutsFault : {V : Type 0} → List ℕ → (V → Option (List ℕ)) → Writing V → Writing V → Bool → Type 0
-PutsFault file contents old new ok = (fault : FileFault) × IsFirstFault file fault × Puts contents old new (fault_lines file fault) ok
+PutsFault file contents old new ok = PutsFaultRow listing_line file contents old new ok
 
--- what `list` wrote for a file
-pub record EndsList {V : Type 0} (file : List ℕ) (contents : V → Option (List ℕ)) (old new : Writing V) (status : Status) : Type 0 where
-  pub done : status ≡ Done → PutsListing file contents old new true
-  pub refused : status ≡ Refused → PutsFault file contents old new true
+-- what `list` wrote for a file: `listing_line` has its text for each row, and `listing_json` of json_documents that of `list --json`
+pub record EndsList {V : Type 0} (row_text : Row → List ℕ) (file : List ℕ) (contents : V → Option (List ℕ)) (old new : Writing V) (status : Status) : Type 0 where
+  pub done : status ≡ Done → PutsListing row_text file contents old new true
+  pub refused : status ≡ Refused → PutsFaultRow row_text file contents old new true
   pub no_memory : status ≡ NoMemory → HasNoFault file × (new ≡ old)
-  pub write_fault : status ≡ WriteFault → PutsListing file contents old new false ⊎ PutsFault file contents old new false
+  pub write_fault : status ≡ WriteFault → PutsListing row_text file contents old new false ⊎ PutsFaultRow row_text file contents old new false
   pub good_words : status ≢ BadWords
   pub reads_nothing : status ≢ ReadFault
 
@@ -40,42 +45,42 @@ unfoldable pub rewritten_lines : Rewritten → List ℕ
 rewritten_lines rewritten = count_line rewritten.count ++ changes_line rewritten.changes
 
 -- the canonical form of a file, and then its lines
-pub record PutsCanonical {W V : Type 0} (file : List ℕ) (file_contents : W → Option (List ℕ)) (file_old file_new : Writing W) (contents : V → Option (List ℕ)) (old new : Writing V) (ok : Bool) : Type 0 where
+pub record PutsCanonical {W V : Type 0} (file : List ℕ) (file_out : Output W) (out : Output V) (ok : Bool) : Type 0 where
   pub bytes : List ℕ
   pub canonical : IsCanonical file bytes
-  pub written : Puts file_contents file_old file_new bytes true
+  pub written : PutsTo file_out bytes true
   pub changes : Changes
   pub changes_are : AreChanges file changes
-  pub told : Puts contents old new (count_line (length bytes) ++ changes_line changes) ok
+  pub told : PutsTo out (count_line (length bytes) ++ changes_line changes) ok
 
 -- the whole canonical form, with its size and its changes
-pub record WroteWhole {W : Type 0} (file : List ℕ) (contents : W → Option (List ℕ)) (old new : Writing W) (rewritten : Rewritten) : Type 0 where
+pub record WroteWhole {W : Type 0} (file : List ℕ) (file_out : Output W) (rewritten : Rewritten) : Type 0 where
   pub bytes : List ℕ
   pub canonical : IsCanonical file bytes
   pub count : rewritten.count ≡ length bytes
   pub changes : AreChanges file rewritten.changes
-  pub written : Puts contents old new bytes true
+  pub written : PutsTo file_out bytes true
 
 -- the canonical form without the lines: a write of it failed, or the flush after it
-abbrev pub PutsPart : {W : Type 0} → List ℕ → (W → Option (List ℕ)) → Writing W → Writing W → Type 0
-PutsPart file contents old new = (bytes : List ℕ) × IsCanonical file bytes × Puts contents old new bytes false
+abbrev pub PutsPart : {W : Type 0} → List ℕ → Output W → Type 0
+PutsPart file file_out = (bytes : List ℕ) × IsCanonical file bytes × PutsTo file_out bytes false
 
 -- A write or a flush failed in `canonical`, and nothing was written after it. There are three
 -- cases:
 -- - It failed for the file, and nothing was printed.
 -- - It failed for the lines, after the whole file.
 -- - The file has a fault, and it failed for the lines of the fault.
-abbrev pub CanonicalBreaksOff : {W V : Type 0} → List ℕ → (W → Option (List ℕ)) → Writing W → Writing W → (V → Option (List ℕ)) → Writing V → Writing V → Type 0
-CanonicalBreaksOff file file_contents file_old file_new contents old new =
-    (PutsPart file file_contents file_old file_new × (new ≡ old))
-    ⊎ PutsCanonical file file_contents file_old file_new contents old new false
-    ⊎ (PutsFault file contents old new false × (file_new ≡ file_old))
+abbrev pub CanonicalBreaksOff : {W V : Type 0} → List ℕ → Output W → Output V → Type 0
+CanonicalBreaksOff file file_out out =
+    (PutsPart file file_out × IsUnused out)
+    ⊎ PutsCanonical file file_out out false
+    ⊎ (PutsFault file out.contents out.old out.new false × IsUnused file_out)
 
 -- what `canonical` wrote for a file
-pub record EndsCanonical {W V : Type 0} (file : List ℕ) (file_contents : W → Option (List ℕ)) (file_old file_new : Writing W) (contents : V → Option (List ℕ)) (old new : Writing V) (status : Status) : Type 0 where
-  pub done : status ≡ Done → PutsCanonical file file_contents file_old file_new contents old new true
-  pub refused : status ≡ Refused → PutsFault file contents old new true × (file_new ≡ file_old)
-  pub no_memory : status ≡ NoMemory → HasNoFault file × (file_new ≡ file_old) × (new ≡ old)
-  pub write_fault : status ≡ WriteFault → CanonicalBreaksOff file file_contents file_old file_new contents old new
+pub record EndsCanonical {W V : Type 0} (file : List ℕ) (file_out : Output W) (out : Output V) (status : Status) : Type 0 where
+  pub done : status ≡ Done → PutsCanonical file file_out out true
+  pub refused : status ≡ Refused → PutsFault file out.contents out.old out.new true × IsUnused file_out
+  pub no_memory : status ≡ NoMemory → HasNoFault file × IsUnused file_out × IsUnused out
+  pub write_fault : status ≡ WriteFault → CanonicalBreaksOff file file_out out
   pub good_words : status ≢ BadWords
   pub reads_nothing : status ≢ ReadFault

@@ -1,3 +1,5 @@
 pub mod Ends
 pub mod Parts
 pub mod LineFaults
+pub mod WantedBlocks
+pub mod Gets

@@ -4,12 +4,14 @@ ghost use Rattle.std.specs.Prelude.{◌≡◌, ◌≢◌, ◌≤◌, length, fal
 ghost use Rattle.canonical_file.specs.Canonical.{GetsIds, IsCanonical, IsCanonicalFault, WritesCanonical, WroteCanonical, most_bytes};
 ghost use Rattle.canonical_file.specs.Changes.{is_none};
 ghost use Rattle.canonical_file.specs.Given.{AreGivenIn};
+ghost use Rattle.palm_text.specs.Output.{output};
 ghost use Rattle.file_commands.specs.Ends.{EndsCanonical, PutsPart, WroteWhole};
 
 use crate::faults::{Rewritten, put_rewritten, say_fault};
 use allowance::Allowance;
 use canonical_file::{CanonicalFault, Changes, changes_by, put_canonical_by};
 use file_ids::{GivenIds, give_ids};
+use file_listing::TextRows;
 use palm_text::{Counted, put_all};
 use pdb_format::{OpenFault, PdbFile};
 use program_io::{Status, flushed};
@@ -27,8 +29,8 @@ pub fn cmd_canonical_from<A: Allowance, W: Write, V: Write>(
     out: &mut Counted<V>,
 ) -> Status
     requires { length file.now ≤ most_bytes }
-    ensures ends { EndsCanonical file.now W.contents file_out.old file_out.new
-        V.contents out.old out.new result }
+    ensures ends { EndsCanonical file.now (output W.contents file_out.old file_out.new)
+        (output V.contents out.old out.new) result }
     ensures short { result ≡ Status.NoMemory → A.is_short memory.now }
 {
     match put_flushed(memory, file, file_out) {
@@ -36,7 +38,7 @@ pub fn cmd_canonical_from<A: Allowance, W: Write, V: Write>(
             Ok(()) => Status::Done,
             Err(_) => Status::WriteFault,
         },
-        Err(CanonicalFault::BadFile(fault)) => say_fault(out, file, fault),
+        Err(CanonicalFault::BadFile(fault)) => say_fault::<TextRows, V>(out, file, fault),
         Err(CanonicalFault::OutOfMemory) => Status::NoMemory,
         Err(CanonicalFault::Write) => Status::WriteFault,
     }
@@ -50,12 +52,12 @@ fn put_flushed<A: Allowance, W: Write>(
     file_out: &mut Counted<W>,
 ) -> Result<Rewritten, CanonicalFault>
     requires { length file.now ≤ most_bytes }
-    ensures done { IfOk result (WroteWhole file.now W.contents file_out.old file_out.new) }
+    ensures done { IfOk result (WroteWhole file.now (output W.contents file_out.old file_out.new)) }
     ensures why { IfErr result (IsCanonicalFault file.now) }
     ensures untouched { IfErr result (λ fault.
         fault ≢ CanonicalFault.Write → file_out.new ≡ file_out.old) }
     ensures write { result ≡ Err CanonicalFault.Write
-        → PutsPart file.now W.contents file_out.old file_out.new }
+        → PutsPart file.now (output W.contents file_out.old file_out.new) }
     ensures short { result ≡ Err CanonicalFault.OutOfMemory → A.is_short memory.now }
 {
     match PdbFile::open(memory, file) {
@@ -72,15 +74,15 @@ fn put_opened<A: Allowance, W: Write>(
     file_out: &mut Counted<W>,
 ) -> Result<Rewritten, CanonicalFault>
     requires { length file.now ≤ most_bytes }
-    ensures done { IfOk result (WroteWhole file.now W.contents file_out.old file_out.new) }
+    ensures done { IfOk result (WroteWhole file.now (output W.contents file_out.old file_out.new)) }
     ensures why { IfErr result (IsCanonicalFault file.now) }
     ensures untouched { IfErr result (λ fault.
         fault ≢ CanonicalFault.Write → file_out.new ≡ file_out.old) }
     ensures write { result ≡ Err CanonicalFault.Write
-        → PutsPart file.now W.contents file_out.old file_out.new }
+        → PutsPart file.now (output W.contents file_out.old file_out.new) }
     ensures short { result ≡ Err CanonicalFault.OutOfMemory → A.is_short memory.now }
 {
-    let _ = file.bytes();
+    file.know_file();
     match ids_of(memory, file) {
         Ok(given) => put_by_ids(memory, file, &given, file_out),
         Err(_) => Err(CanonicalFault::OutOfMemory),
@@ -98,15 +100,15 @@ fn put_by_ids<A: Allowance, W: Write>(
     requires short { length file.now ≤ most_bytes }
     requires ids { GetsIds file.now given.now }
     requires given { AreGivenIn file.now given.now.ids.items given.now.seed }
-    ensures done { IfOk result (WroteWhole file.now W.contents file_out.old file_out.new) }
+    ensures done { IfOk result (WroteWhole file.now (output W.contents file_out.old file_out.new)) }
     ensures why { IfErr result (IsCanonicalFault file.now) }
     ensures untouched { IfErr result (λ fault.
         fault ≢ CanonicalFault.Write → file_out.new ≡ file_out.old) }
     ensures write { result ≡ Err CanonicalFault.Write
-        → PutsPart file.now W.contents file_out.old file_out.new }
+        → PutsPart file.now (output W.contents file_out.old file_out.new) }
     ensures short { result ≡ Err CanonicalFault.OutOfMemory → A.is_short memory.now }
 {
-    let _ = file.bytes();
+    file.know_file();
     let changes = changes_by(file, given);
     let count = put_form(memory, file, given, changes, file_out)?;
     match flushed(file_out) {

@@ -5,43 +5,49 @@ ghost use Rattle.heap_model.specs.Files.{IsFirstFault};
 ghost use Rattle.palm_text.specs.Output.{Puts};
 ghost use Rattle.palm_text.specs.Counted.{Writes};
 ghost use Rattle.canonical_file.specs.Canonical.{most_bytes};
-ghost use Rattle.file_commands.specs.Ends.{PutsFault, count_line, rewritten_lines};
-ghost use Rattle.file_listing.specs.FaultLines.{fault_lines};
+ghost use Rattle.file_commands.specs.Ends.{PutsFaultRow, count_line, rewritten_lines};
+ghost use Rattle.file_listing.specs.Listing.{fault_row};
 
 use canonical_file::{Changes, put_changes};
-use file_listing::put_fault;
+use file_listing::{Notation, put_fault};
 use heap_model::FileFault;
 use itoa::Buffer;
 use palm_text::{Counted, Piece, WriteFault, put_pieces};
 use program_io::{Status, flushed};
 use std::io::Write;
 
-/// Writes the lines for the first fault of a file, and flushes `out`.
+/// Writes the row of the first fault of a file, and flushes `out`.
 #[tactic(auto, using(palm_text::proofs::Parts::then_flush))]
-fn put_fault_lines<V: Write>(
+fn put_fault_row<N: Notation, V: Write>(
     out: &mut Counted<V>,
     file: &[u8],
     fault: FileFault,
 ) -> Result<(), WriteFault>
     requires short { length file.now ≤ most_bytes }
     requires first { IsFirstFault file.now fault }
-    ensures { Puts V.contents out.old out.new (fault_lines file.now fault) (is_ok result) }
+    ensures { Puts V.contents out.old out.new (N.row_text (fault_row file.now fault))
+        (is_ok result) }
 {
-    put_fault(out, file, fault)?;
+    put_fault::<N, V>(out, file, fault)?;
     flushed(out)
 }
 
-/// Prints the lines for the first fault of a file.
+/// Prints the row of the first fault of a file.
 #[tactic(auto, using(crate::proofs::Printed::puts_fault))]
-pub(crate) fn say_fault<V: Write>(out: &mut Counted<V>, file: &[u8], fault: FileFault) -> Status
+pub(crate) fn say_fault<N: Notation, V: Write>(
+    out: &mut Counted<V>,
+    file: &[u8],
+    fault: FileFault,
+) -> Status
     requires short { length file.now ≤ most_bytes }
     requires first { IsFirstFault file.now fault }
     ensures statuses { (result ≡ Status.Refused) ⊎ (result ≡ Status.WriteFault) }
-    ensures refused { result ≡ Status.Refused → PutsFault file.now V.contents out.old out.new true }
+    ensures refused { result ≡ Status.Refused
+        → PutsFaultRow N.row_text file.now V.contents out.old out.new true }
     ensures write { result ≡ Status.WriteFault
-        → PutsFault file.now V.contents out.old out.new false }
+        → PutsFaultRow N.row_text file.now V.contents out.old out.new false }
 {
-    match put_fault_lines(out, file, fault) {
+    match put_fault_row::<N, V>(out, file, fault) {
         Ok(()) => Status::Refused,
         Err(_) => Status::WriteFault,
     }

@@ -1,4 +1,4 @@
-//! The commands `list` and `canonical`, over files.
+//! The commands `list`, `list --json` and `canonical`, over files.
 
 ghost use Rattle.std.specs.Prelude.{◌≢◌, ◌≤◌, length};
 
@@ -9,6 +9,8 @@ use command_files::{
     STANDARD_ERROR, STANDARD_OUTPUT, STANDARD_STREAM, buffered_fault, fail, output_for_database,
     read_file_or_input, report_buffered,
 };
+use file_listing::{Notation, TextRows};
+use json_documents::JsonRows;
 use palm_text::Counted;
 use program_io::{ErrorOutput, MOST_INPUT, Noted, Status, report_outcome};
 use std::alloc::Global;
@@ -23,6 +25,23 @@ const BUFFER_SIZE: usize = 65_536;
 pub fn list<R: Files + Input + Print + Eprint + AllocGlobal>(rt: &R, path: &str) -> Status
     ensures { result ≢ Status.BadWords }
 {
+    list_by::<TextRows, R>(rt, path)
+}
+
+/// Runs `list --json`. The path `-` means standard input.
+pub fn list_json<R: Files + Input + Print + Eprint + AllocGlobal>(rt: &R, path: &str) -> Status
+    ensures { result ≢ Status.BadWords }
+{
+    list_by::<JsonRows, R>(rt, path)
+}
+
+/// Lists a file in a notation.
+fn list_by<N: Notation, R: Files + Input + Print + Eprint + AllocGlobal>(
+    rt: &R,
+    path: &str,
+) -> Status
+    ensures { result ≢ Status.BadWords }
+{
     let file = match read_file_or_input(rt, path) {
         Ok(file) => file,
         Err(status) => return status,
@@ -31,7 +50,7 @@ pub fn list<R: Files + Input + Print + Eprint + AllocGlobal>(rt: &R, path: &str)
         return fail(rt, Status::NoMemory);
     };
     let mut out = Counted::new(out);
-    let status = cmd_list_from(&rt.alloc(), file.as_slice(), &mut out);
+    let status = cmd_list_from::<N, _, _>(&rt.alloc(), file.as_slice(), &mut out);
     let status = report_buffered(rt, status, out);
     comment_on_file(rt, path, status, file.as_slice());
     name_dropped(rt, path, status, file.as_slice(), WOULD_BE_DROPPED);

@@ -2,30 +2,30 @@
 
 ghost use Rattle.std.specs.Prelude.{◌≡◌, ◌≢◌, ◌≤◌, length, true, false, Err, IfErr, OnOk};
 ghost use Rattle.canonical_file.specs.Canonical.{most_bytes};
-ghost use Rattle.file_listing.specs.FaultLines.{IsListFault};
+ghost use Rattle.file_listing.specs.Listing.{IsListFault};
 ghost use Rattle.file_commands.specs.Ends.{EndsList, PutsListing};
 
 use crate::faults::say_fault;
 use allowance::Allowance;
-use file_listing::{ListFault, put_listing};
+use file_listing::{ListFault, Notation, put_listing};
 use palm_text::Counted;
 use program_io::{Status, flushed};
 use std::io::Write;
 
-/// Prints the listing of a file. If the file has a fault, prints `bad` with the first fault, and
-/// the offset of its field. Each allocation asks `memory` for a grant.
-pub fn cmd_list_from<A: Allowance, V: Write>(
+/// Prints the listing of a file in a notation. If the file has a fault, prints only the row of the
+/// first fault. Each allocation asks `memory` for a grant.
+pub fn cmd_list_from<N: Notation, A: Allowance, V: Write>(
     memory: &A,
     file: &[u8],
     out: &mut Counted<V>,
 ) -> Status
     requires { length file.now ≤ most_bytes }
-    ensures ends { EndsList file.now V.contents out.old out.new result }
+    ensures ends { EndsList N.row_text file.now V.contents out.old out.new result }
     ensures short { result ≡ Status.NoMemory → A.is_short memory.now }
 {
-    match put_flushed(memory, file, out) {
+    match put_flushed::<N, A, V>(memory, file, out) {
         Ok(()) => Status::Done,
-        Err(ListFault::BadFile(fault)) => say_fault(out, file, fault),
+        Err(ListFault::BadFile(fault)) => say_fault::<N, V>(out, file, fault),
         Err(ListFault::OutOfMemory) => Status::NoMemory,
         Err(ListFault::Write) => Status::WriteFault,
     }
@@ -33,20 +33,20 @@ pub fn cmd_list_from<A: Allowance, V: Write>(
 
 /// Writes the listing of a file, and flushes `out`.
 #[tactic(auto, using(crate::proofs::Printed::puts_listing, crate::proofs::Printed::listing_stops))]
-fn put_flushed<A: Allowance, V: Write>(
+fn put_flushed<N: Notation, A: Allowance, V: Write>(
     memory: &A,
     file: &[u8],
     out: &mut Counted<V>,
 ) -> Result<(), ListFault>
     requires { length file.now ≤ most_bytes }
-    ensures done { OnOk result (PutsListing file.now V.contents out.old out.new true) }
+    ensures done { OnOk result (PutsListing N.row_text file.now V.contents out.old out.new true) }
     ensures why { IfErr result (IsListFault file.now) }
     ensures untouched { IfErr result (λ fault. fault ≢ ListFault.Write → out.new ≡ out.old) }
     ensures write { result ≡ Err ListFault.Write
-        → PutsListing file.now V.contents out.old out.new false }
+        → PutsListing N.row_text file.now V.contents out.old out.new false }
     ensures short { result ≡ Err ListFault.OutOfMemory → A.is_short memory.now }
 {
-    put_listing(memory, file, out)?;
+    put_listing::<N, A, V>(memory, file, out)?;
     match flushed(out) {
         Ok(()) => Ok(()),
         Err(_) => Err(ListFault::Write),

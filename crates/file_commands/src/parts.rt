@@ -16,6 +16,7 @@ ghost use Rattle.file_commands.specs.Parts.{EndsPack, NotListed, NotUnpacked};
 use crate::faults::{put_only_count, say_fault};
 use crate::line_faults::say_line_fault;
 use allowance::Allowance;
+use file_listing::TextRows;
 use file_parts::{Listed, PackFault, UnpackFault, Unpacked, pack, read_listed, unpack};
 use heap_model::Bytes;
 use palm_text::{Counted, put};
@@ -47,7 +48,7 @@ pub fn unpack_file<'a, A: Allowance, V: Write>(
 {
     match unpack(memory, file) {
         Ok(unpacked) => Ok(unpacked),
-        Err(UnpackFault::BadFile(fault)) => Err(say_fault(out, file, fault)),
+        Err(UnpackFault::BadFile(fault)) => Err(say_fault::<TextRows, V>(out, file, fault)),
         Err(UnpackFault::OutOfMemory) => Err(Status::NoMemory),
     }
 }

@@ -1,4 +1,3 @@
-pub mod EntryLines
-pub mod Listings
+pub mod RowTexts
 pub mod Places
 pub mod Allowed

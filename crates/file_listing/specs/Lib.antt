@@ -1,5 +1,4 @@
+pub mod Damage
 pub mod Moments
 pub mod Listing
-pub mod Damage
-pub mod FaultLines
-pub mod Parts
+pub mod Lines

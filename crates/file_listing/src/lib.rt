@@ -23,23 +23,24 @@
 //!
 //! If the name isn't spelled in quotes, the line `text` before `app` has its characters.
 //!
-//! Start with `specs/Listing.antt`, which defines the lines.
+//! A listing is a list of rows. `put_listing` walks over the file once and writes each row in a
+//! notation: `TextRows` writes these lines, and `json_documents` writes parts of a document. Start
+//! with `specs/Listing.antt`, which defines the rows; `specs/Lines.antt` defines the lines.
 #![tactic(auto)]
 
-mod blocks;
 mod damage;
-mod entries;
-mod fault_lines;
-mod head;
+mod facts;
 mod laws;
+mod lines;
 mod listing;
 mod moments;
 mod needs;
-mod parts;
+mod rows;
+mod walk;
 
 pub use damage::{Damage, damage_of, fault_place};
-pub use fault_lines::put_fault;
 pub use laws::damages_are_exact;
-pub use listing::{ListFault, put_listing};
-pub use moments::utc_text;
-pub use needs::size_and_slots;
+pub use lines::TextRows;
+pub use listing::{ListFault, put_fault, put_listing};
+pub use moments::put_moment;
+pub use rows::{Epoch, Extent, Moment, Notation, Row};

@@ -240,6 +240,6 @@ pub fn put_database<W: Write>(
     ensures { (database : Database (Option (List ℕ))) → Reads unpacked.now.file database
         → Writes W.contents out.old out.new (database_text (with_names database)) (is_ok result) }
 {
-    let _ = unpacked.file.bytes();
+    unpacked.file.know_file();
     put_text(out, unpacked)
 }

@@ -82,8 +82,7 @@ fn taken_apart<'a, A: Allowance>(memory: &A, file: PdbFile<'a>) -> Result<Unpack
     ensures memory { IfErr result (λ fault. fault ≡ UnpackFault.OutOfMemory) }
     ensures short { IfErr result (λ _. A.is_short memory.now) }
 {
-    let _ = file.bytes();
-    let _ = file.blocks();
+    file.know_file();
     match give_ids(memory, &file) {
         Ok(given) => Ok(Unpacked { file, given }),
         Err(_) => Err(UnpackFault::OutOfMemory),

@@ -1,5 +1,5 @@
 -- What is wrong with the faulty line of a script, or of the text that `pack` reads.
-use Rattle.std.specs.Prelude.{ℕ, zero, suc, Bool, ◌||◌, List, [], ◌∷◌, length, map, codes, if◌then◌else◌, Option, None, Some, Result, Ok, Err}
+use Rattle.std.specs.Prelude.{ℕ, zero, suc, Bool, ◌||◌, ◌==◌, List, [], ◌∷◌, length, map, codes, if◌then◌else◌, Option, None, Some, Result, Ok, Err}
 use Rattle.std.specs.List.{slice_get}
 use Rattle.std.specs.Option.{option_and_then, option_map_or}
 use Rattle.std.specs.Str.{bytes_eq}
@@ -29,6 +29,12 @@ wanted_four = codes "a text of four bytes, as \"DATA\""
 
 abbrev wanted_part : List ℕ
 wanted_part = codes "the name of a part (letters, digits, _, - and .), or none"
+
+abbrev wanted_record_part : List ℕ
+wanted_record_part = codes "the name of a part (letters, digits, _, - and .); only a deleted record may have none"
+
+abbrev wanted_resource_part : List ℕ
+wanted_resource_part = codes "the name of a part (letters, digits, _, - and .), which each resource has"
 
 -- what a word of this kind has to be
 abbrev pub wanted_of_kind : Kind → List ℕ
@@ -75,14 +81,15 @@ wanted_after_first first =
     else if takes_four_bytes first then wanted_four ∷ []
     else if bytes_eq first (codes "seed") then codes "a hex number below 100000000" ∷ []
     else if takes_part first then wanted_part ∷ []
-    else if bytes_eq first (codes "record") then codes "a hex number below 100" ∷ codes "a number below 16777216" ∷ wanted_part ∷ []
-    else if bytes_eq first (codes "resource") then wanted_four ∷ wanted_short ∷ wanted_part ∷ []
+    else if bytes_eq first (codes "record") then codes "a hex number below 100" ∷ codes "a number below 16777216" ∷ wanted_record_part ∷ []
+    else if bytes_eq first (codes "resource") then wanted_four ∷ wanted_short ∷ wanted_resource_part ∷ []
     else []
 
 -- ---- what is wrong
 
--- The first word may not begin this line; there are so many words after the first one, and so many
--- have to be; a quoted word isn't closed, by its number; a word isn't what it has to be.
+-- The first word may not begin this line. The line has this number of words after the first one, and
+-- needs that number. The quoted word with this number isn't closed, or another byte follows it
+-- directly. This word isn't what it has to be.
 pub data Hint : Type 0 where
   unknown_first : List ℕ → Hint
   counted_words : ℕ → ℕ → Hint
@@ -120,9 +127,16 @@ abbrev pub first_word_of : List (List ℕ) → List ℕ
 first_word_of [] = []
 first_word_of (word ∷ words) = word
 
--- The same, by what the other words have to be after each first one. If a word is broken, it is that word.
+-- What is wrong with a line whose word with this number is broken. A line with another fault has no
+-- hint: entry 65,536 of a text for `pack` is refused before its words are read.
+abbrev pub hint_of_broken : ℕ → ScriptFault → Option Hint
+hint_of_broken number (BadWord faulty) = if faulty == number then Some (broken_word number) else None
+hint_of_broken number fault = None
+
+-- What is wrong with a line of these words, of which one may be broken. `others` has what the words
+-- after each first word have to be.
 abbrev pub hint_of_line : (first_wanted : List ℕ) → (others : List ℕ → List (List ℕ)) → (words : Result (List (List ℕ)) ℕ) → ScriptFault → Option Hint
-hint_of_line first_wanted others (Err number) fault = Some (broken_word number)
+hint_of_line first_wanted others (Err number) fault = hint_of_broken number fault
 hint_of_line first_wanted others (Ok words) fault = hint_of_words first_wanted (others (first_word_of words)) words fault
 
 -- the same for the faulty line of a text, if the text has it

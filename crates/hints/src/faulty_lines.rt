@@ -92,7 +92,7 @@ pub fn script_hint(script: &[u8], fault: LineFault) -> Option<LineHint<'_>>
     let line = line_at(script, fault.line)?;
     match count_words(line) {
         Ok(count) => hint_by(line, count, command_words(line), fault.fault),
-        Err(number) => Some(LineHint::Broken(number)),
+        Err(number) => broken_hint(number, fault.fault),
     }
 }
 
@@ -105,7 +105,18 @@ pub fn parts_hint(text: &[u8], fault: LineFault) -> Option<LineHint<'_>>
     let line = line_at(text, fault.line)?;
     match count_words(line) {
         Ok(count) => hint_by(line, count, part_words(line), fault.fault),
-        Err(number) => Some(LineHint::Broken(number)),
+        Err(number) => broken_hint(number, fault.fault),
+    }
+}
+
+/// Returns what is wrong with a line whose word with this number is broken. Returns `None` if the
+/// line has another fault.
+fn broken_hint(number: usize, fault: ScriptFault) -> Option<LineHint<'static>>
+    ensures { option_map hint_of result ≡ words.hint_of_broken number fault }
+{
+    match fault {
+        ScriptFault::BadWord(faulty) if faulty == number => Some(LineHint::Broken(number)),
+        _ => None,
     }
 }
 
@@ -232,6 +243,12 @@ const FOUR_BYTES: &str = "a text of four bytes, as \"DATA\"";
 
 const PART: &str = "the name of a part (letters, digits, _, - and .), or none";
 
+const RECORD_PART: &str =
+    "the name of a part (letters, digits, _, - and .); only a deleted record may have none";
+
+const RESOURCE_PART: &str =
+    "the name of a part (letters, digits, _, - and .), which each resource has";
+
 /// Returns what the words after the first one have to be, in the text that `pack` reads.
 fn words_after(first: &[u8]) -> &'static [&'static str]
     ensures { others_wanted_of (Wanted.Part result) ≡ words.wanted_after_first first.now }
@@ -251,9 +268,13 @@ fn words_after(first: &[u8]) -> &'static [&'static str]
     } else if takes_part(first) {
         &[PART]
     } else if first == b"record".as_slice() {
-        &["a hex number below 100", "a number below 16777216", PART]
+        &[
+            "a hex number below 100",
+            "a number below 16777216",
+            RECORD_PART,
+        ]
     } else if first == b"resource".as_slice() {
-        &[FOUR_BYTES, SHORT, PART]
+        &[FOUR_BYTES, SHORT, RESOURCE_PART]
     } else {
         &[]
     }

@@ -6,7 +6,7 @@ ghost use Rattle.clap.specs.Values.{kind_of};
 use crate::meanings::explain;
 use clap::error::ErrorKind;
 use command_files::{STANDARD_OUTPUT, fail};
-use file_commands::{canonical, list, list_json, pack, unpack};
+use file_commands::{canonical, get, list, list_json, pack, unpack};
 use image_commands::{check, check_json, new};
 use program_io::command_line::{self, BaseRequest, Form, Request};
 use program_io::{Status, report_outcome};
@@ -37,6 +37,7 @@ pub fn fulfil<R: Files + Input + Print + Eprint + AllocGlobal>(
         BaseRequest::Explain { word } => explain(rt, word),
         BaseRequest::List { file, form } => list_as(rt, file, form),
         BaseRequest::Canonical { file, out } => canonical(rt, file, out),
+        BaseRequest::Get { file, block, id } => get(rt, file, block, id),
         BaseRequest::Unpack { file, folder } => unpack(rt, file, folder),
         BaseRequest::Pack { folder, out } => pack(rt, folder, out),
     }

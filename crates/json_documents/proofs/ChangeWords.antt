@@ -3,7 +3,7 @@ use Rattle.std.proofs.Common.{◌≡◌, ◌++◌, ℕ, Bool, List, refl}
 use Rattle.std.specs.Prelude.{◌&&◌, ◌||◌, codes}
 use Rattle.canonical_file.specs.declared.changes.Changes.{Changes}
 use Rattle.canonical_file.specs.Changes.{word}
-use Rattle.json_documents.specs.FileDocument.{changes_json, comma_if}
+use Rattle.json_documents.specs.RowTexts.{changes_json, comma_if}
 
 abbrev pub changes_text : (busy comma1 filler comma2 ids comma3 name comma4 order : List ℕ) → List ℕ
 changes_text busy comma1 filler comma2 ids comma3 name comma4 order =

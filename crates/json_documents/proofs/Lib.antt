@@ -1,4 +1,1 @@
 pub mod ChangeWords
-pub mod Documents
-pub mod EntryTexts
-pub mod Heads

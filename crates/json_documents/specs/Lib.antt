@@ -1,4 +1,1 @@
-pub mod FileDocument
-pub mod Parts
-pub mod Faults
-pub mod Ends
+pub mod RowTexts

@@ -2,6 +2,7 @@ pub mod AnswerLaws
 pub mod BlockLaws
 pub mod CallLaws
 pub mod EndLaws
+pub mod KindLaws
 pub mod NameLaws
 pub mod OutLaws
 pub mod PinLaws

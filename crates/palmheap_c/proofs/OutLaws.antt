@@ -2,7 +2,7 @@
 use Rattle.std.proofs.Common.{true, false, Bool, ◌≡◌, ◌≢◌, ℕ, ◌+◌, ◌≤◌, List, [], ◌∷◌, length, refl, sym, ap, subst, ◌∙◌, arith, inl, inr}
 use Rattle.std.proofs.lemmas.Bool.{cases_eq, eq-eqb, eqb-true, ne_eqb}
 use Rattle.std.proofs.lemmas.Bool.Decides.{nat_tests}
-use Rattle.std.specs.Prelude.{◌⊎◌, ◌==◌, Option, Some, None, if◌then◌else◌}
+use Rattle.std.specs.Prelude.{◌⊎◌, ◌==◌, Option, Some, if◌then◌else◌}
 use Rattle.heap_model.specs.Chunk.{Chunk, free, movable, fixed, need}
 use Rattle.heap_model.specs.Lending.{IsLent}
 use Rattle.heap_model.specs.Memory.{Memory, Lent, SomeLent, without}

@@ -5,6 +5,7 @@ pub mod Calls
 pub mod Holding
 pub mod Infos
 pub mod Keeping
+pub mod Kinds
 pub mod Loans
 pub mod Opened
 pub mod Opening

@@ -73,6 +73,7 @@ pub extern "C" fn palmheap_DmFindDatabase(store: &mut Kept, name: &[u8], db: &mu
         (calls.Call.Database (DatabaseCall.Find (take name_size name.now)))
         (Reply.Database (as_db db.new)) result store.new.store }
     ensures left { result ≢ 0 → db.new ≡ db.old }
+    ensures same { store.new.store ≡ store.old.store }
 {
     match store.as_mut().find(&DbName::of(name)) {
         Ok(answer) => {
@@ -92,6 +93,7 @@ pub extern "C" fn palmheap_DmGetDatabase(store: &mut Kept, index: u32, db: &mut 
     ensures does { DoesInC store.old.store (calls.Call.Database (DatabaseCall.Nth index))
         (Reply.Database (as_db db.new)) result store.new.store }
     ensures left { result ≢ 0 → db.new ≡ db.old }
+    ensures same { store.new.store ≡ store.old.store }
 {
     match store.as_mut().nth(index) {
         Ok(answer) => {
@@ -108,6 +110,7 @@ pub extern "C" fn palmheap_DmNumDatabases(store: &mut Kept, count: &mut u32) -> 
     ensures does { DoesAlways store.old.store (calls.Call.Database DatabaseCall.Count)
         (Reply.Number count.new) store.new.store }
     ensures ok { result ≡ 0 }
+    ensures same { store.new.store ≡ store.old.store }
 {
     *count = store.as_mut().count();
     0
@@ -123,6 +126,7 @@ pub extern "C" fn palmheap_DmDatabaseInfo(store: &mut Kept, db: u32, info: &mut 
         (Reply.Info (database_from_c info.new)) result store.new.store }
     ensures field { result ≡ 0 → info.new.name ≡ name_field (take info.new.name_length info.new.name) }
     ensures left { result ≢ 0 → info.new ≡ info.old }
+    ensures same { store.new.store ≡ store.old.store }
 {
     match store.as_mut().database_info(Db(db)) {
         Ok(answer) => {
@@ -210,6 +214,7 @@ pub extern "C" fn palmheap_info_block(store: &mut Kept, db: u32, sort: bool, nam
         (calls.Call.Database (DatabaseCall.InfoBlock (as_db db) (which_of sort)))
         (Reply.Named (as_name name.new)) result store.new.store }
     ensures left { result ≢ 0 → name.new ≡ name.old }
+    ensures same { store.new.store ≡ store.old.store }
 {
     match store.as_mut().info_block(Db(db), which_of(sort)) {
         Ok(answer) => {

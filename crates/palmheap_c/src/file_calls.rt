@@ -33,8 +33,9 @@ pub extern "C" fn palmheap_read(
     bytes: &mut [u8],
     len: &mut usize,
 ) -> u32
-    ensures { DoesData store.old.store (calls.Call.Memory (MemoryCall.Read (as_name name) at count))
+    ensures does { DoesData store.old.store (calls.Call.Memory (MemoryCall.Read (as_name name) at count))
         bytes.old bytes.new len.old len.new result store.new.store }
+    ensures same { store.new.store ≡ store.old.store }
 {
     match store.as_mut().read(Name(name), at, count) {
         Ok(found) => put_coded(found, bytes, len),
@@ -78,6 +79,7 @@ pub extern "C" fn palmheap_export(
     ensures does { DoesData store.old.store (calls.Call.File (FileCall.Export (as_db db)))
         file.old file.new len.old len.new result store.new.store }
     ensures short { result ≡ number_of refusals.Refusal.OutOfMemory → GrowthRefused }
+    ensures same { store.new.store ≡ store.old.store }
 {
     match exported(&alloc, store.as_mut(), Db(db)) {
         Ok(found) => put_coded(found.as_slice(), file, len),

@@ -4,7 +4,7 @@
 ghost use Rattle.std.specs.Prelude.{◌≡◌, ◌≤◌, ◌⊎◌, length, IfOk, OnOk, IfErr};
 ghost use Rattle.heap_model.specs.Files.{HasNoFault};
 ghost use Rattle.canonical_file.specs.Canonical.{IsCanonical, most_bytes};
-ghost use Rattle.file_listing.specs.Listing.{IsListing};
+ghost use Rattle.file_listing.specs.Lines.{IsListing};
 ghost use Rattle.palmheap_c.specs.Answers.{IsFileAnswer, IsFileFault, IsFileRefusal, IsMemoryAnswer};
 ghost use Rattle.palmheap_c.specs.Blocks.{IsBlocksAnswer};
 ghost use Rattle.palmheap_c.specs.Buffers.{IsBytesAnswer};
@@ -13,7 +13,7 @@ use crate::answers::{Answer, NO_FAULT, NO_MEMORY, NO_ROOM, TOO_LARGE, of_file};
 use crate::blocks::{Block, put_blocks};
 use crate::buffers::{put_bytes, refused_write};
 use canonical_file::canonical_bytes;
-use file_listing::{ListFault, put_listing};
+use file_listing::{ListFault, TextRows, put_listing};
 use palm_text::Counted;
 use pdb_format::{OpenFault, PdbFile, check_file};
 use std::alloc::Global;
@@ -142,7 +142,7 @@ fn listing_of(alloc: Global, file: &[u8]) -> Result<Vec<u8>, Answer>
         return Err(TOO_LARGE);
     }
     let mut out = Counted::new(Vec::new(alloc));
-    match put_listing(&alloc, file, &mut out) {
+    match put_listing::<TextRows, _, _>(&alloc, file, &mut out) {
         Ok(()) => Ok(out.into_inner()),
         Err(ListFault::BadFile(fault)) => Err(of_file(fault)),
         Err(ListFault::OutOfMemory) => Err(NO_MEMORY),

@@ -17,7 +17,8 @@
 //! | `file_calls` | reads bytes of a chunk, imports and exports files |
 //! | `loans` | takes the bytes of a chunk out of an open store, and puts them back |
 //! | `pointers` | gives pointers to the bytes of chunks, and unlocks them |
-//! | `refusals` | names refusals |
+//! | `refusals`, `kinds` | name refusals and kinds of faults |
+//! | `version` | tells the version |
 #![tactic(auto)]
 
 mod answers;
@@ -32,6 +33,7 @@ mod images;
 mod infos;
 mod inputs;
 mod kept;
+mod kinds;
 mod loans;
 mod memory_calls;
 mod opening;
@@ -42,6 +44,7 @@ mod refusals;
 mod resource_calls;
 mod results;
 mod runs;
+mod version;
 
 pub use answers::Answer;
 pub use blocks::Block;
@@ -57,6 +60,7 @@ pub use files::{palmheap_canonical, palmheap_pdb_blocks, palmheap_pdb_check, pal
 pub use images::{palmheap_check, palmheap_new};
 pub use infos::{DatabaseInfo, RecordInfo, ResourceInfo};
 pub use kept::{Kept, Slot};
+pub use kinds::palmheap_kind_name;
 pub use loans::{
     palmheap_lent, palmheap_loan_above, palmheap_put_back, palmheap_take_out,
     palmheap_take_out_also,
@@ -91,3 +95,4 @@ pub use resource_calls::{
 };
 pub use results::Sizes;
 pub use runs::palmheap_run;
+pub use version::palmheap_version;

@@ -124,6 +124,7 @@ pub extern "C" fn palmheap_MemHandleSize(store: &mut Kept, name: u32, size: &mut
     ensures does { DoesInC store.old.store (calls.Call.Memory (MemoryCall.Size (as_name name)))
         (Reply.Number size.new) result store.new.store }
     ensures left { result ≢ 0 → size.new ≡ size.old }
+    ensures same { store.new.store ≡ store.old.store }
 {
     match store.as_mut().size(Name(name)) {
         Ok(answer) => {
@@ -143,6 +144,7 @@ pub extern "C" fn palmheap_MemHandleOwner(store: &mut Kept, name: u32, owner: &m
     ensures does { DoesInC store.old.store (calls.Call.Memory (MemoryCall.Owner (as_name name)))
         (Reply.Number owner.new) result store.new.store }
     ensures left { result ≢ 0 → owner.new ≡ owner.old }
+    ensures same { store.new.store ≡ store.old.store }
 {
     match store.as_mut().owner(Name(name)) {
         Ok(answer) => {
@@ -162,6 +164,7 @@ pub extern "C" fn palmheap_MemHandleLockCount(store: &mut Kept, name: u32, count
     ensures does { DoesInC store.old.store (calls.Call.Memory (MemoryCall.Locks (as_name name)))
         (Reply.Number count.new) result store.new.store }
     ensures left { result ≢ 0 → count.new ≡ count.old }
+    ensures same { store.new.store ≡ store.old.store }
 {
     match store.as_mut().locks(Name(name)) {
         Ok(answer) => {
@@ -260,6 +263,7 @@ pub extern "C" fn palmheap_MemPtrRecoverHandle(store: &mut Kept, place: u32, nam
     ensures does { DoesInC store.old.store (calls.Call.Memory (MemoryCall.Recover (as_place place)))
         (Reply.Named (as_name name.new)) result store.new.store }
     ensures left { result ≢ 0 → name.new ≡ name.old }
+    ensures same { store.new.store ≡ store.old.store }
 {
     match store.as_mut().recover(Place(place)) {
         Ok(answer) => {
@@ -295,6 +299,7 @@ pub extern "C" fn palmheap_MemHeapFreeBytes(store: &mut Kept, count: &mut u32) -
     ensures does { DoesAlways store.old.store (calls.Call.Memory MemoryCall.FreeBytes)
         (Reply.Number count.new) store.new.store }
     ensures ok { result ≡ 0 }
+    ensures same { store.new.store ≡ store.old.store }
 {
     *count = store.as_mut().free_bytes();
     0
@@ -306,6 +311,7 @@ pub extern "C" fn palmheap_largest_stretch(store: &mut Kept, count: &mut u32) ->
     ensures does { DoesAlways store.old.store (calls.Call.Memory MemoryCall.LargestStretch)
         (Reply.Number count.new) store.new.store }
     ensures ok { result ≡ 0 }
+    ensures same { store.new.store ≡ store.old.store }
 {
     *count = store.as_mut().largest_stretch();
     0

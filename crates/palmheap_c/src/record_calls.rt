@@ -142,6 +142,7 @@ pub extern "C" fn palmheap_DmQueryRecord(
     ensures does { DoesInC store.old.store (calls.Call.Record (RecordCall.Query (as_db db) index))
         (Reply.Named (as_name name.new)) result store.new.store }
     ensures left { result ≢ 0 → name.new ≡ name.old }
+    ensures same { store.new.store ≡ store.old.store }
 {
     match query(store.as_mut(), Db(db), index) {
         Ok(answer) => {
@@ -187,6 +188,7 @@ pub extern "C" fn palmheap_DmRecordInfo(
     ensures does { DoesInC store.old.store (calls.Call.Record (RecordCall.Info (as_db db) index))
         (Reply.Record (record_from_c info.new)) result store.new.store }
     ensures left { result ≢ 0 → info.new ≡ info.old }
+    ensures same { store.new.store ≡ store.old.store }
 {
     match record_info(store.as_mut(), Db(db), index) {
         Ok(answer) => {
@@ -222,6 +224,7 @@ pub extern "C" fn palmheap_DmNumRecords(store: &mut Kept, db: u32, count: &mut u
     ensures does { DoesInC store.old.store (calls.Call.Record (RecordCall.Count (as_db db)))
         (Reply.Number count.new) result store.new.store }
     ensures left { result ≢ 0 → count.new ≡ count.old }
+    ensures same { store.new.store ≡ store.old.store }
 {
     match num_records(store.as_mut(), Db(db)) {
         Ok(answer) => {
@@ -350,6 +353,7 @@ pub extern "C" fn palmheap_DmFindRecordByID(
     ensures does { DoesInC store.old.store (calls.Call.Record (RecordCall.FindById (as_db db) id))
         (Reply.Number index.new) result store.new.store }
     ensures left { result ≢ 0 → index.new ≡ index.old }
+    ensures same { store.new.store ≡ store.old.store }
 {
     match find_by_id(store.as_mut(), Db(db), id) {
         Ok(answer) => {
@@ -375,6 +379,7 @@ pub extern "C" fn palmheap_DmNumRecordsInCategory(
         (calls.Call.Record (RecordCall.CountInCategory (as_db db) category))
         (Reply.Number count.new) result store.new.store }
     ensures left { result ≢ 0 → count.new ≡ count.old }
+    ensures same { store.new.store ≡ store.old.store }
 {
     match num_in_category(store.as_mut(), Db(db), category) {
         Ok(answer) => {
@@ -401,6 +406,7 @@ pub extern "C" fn palmheap_DmQueryNextInCategory(
         (calls.Call.Record (RecordCall.NextInCategory (as_db db) from category))
         (Reply.Number index.new) result store.new.store }
     ensures left { result ≢ 0 → index.new ≡ index.old }
+    ensures same { store.new.store ≡ store.old.store }
 {
     match next_in_category(store.as_mut(), Db(db), from, category) {
         Ok(answer) => {
@@ -427,6 +433,7 @@ pub extern "C" fn palmheap_DmPositionInCategory(
         (calls.Call.Record (RecordCall.PositionInCategory (as_db db) index category))
         (Reply.Number count.new) result store.new.store }
     ensures left { result ≢ 0 → count.new ≡ count.old }
+    ensures same { store.new.store ≡ store.old.store }
 {
     match position_in_category(store.as_mut(), Db(db), index, category) {
         Ok(answer) => {

@@ -150,6 +150,7 @@ pub extern "C" fn palmheap_DmResourceInfo(
         (calls.Call.Resource (ResourceCall.Info (as_db db) index))
         (Reply.Resource (resource_from_c info.new)) result store.new.store }
     ensures left { result ≢ 0 → info.new ≡ info.old }
+    ensures same { store.new.store ≡ store.old.store }
 {
     match resource_info(store.as_mut(), Db(db), index) {
         Ok(answer) => {
@@ -198,6 +199,7 @@ pub extern "C" fn palmheap_DmFindResource(
         (calls.Call.Resource (ResourceCall.Find (as_db db) kind id))
         (Reply.Number index.new) result store.new.store }
     ensures left { result ≢ 0 → index.new ≡ index.old }
+    ensures same { store.new.store ≡ store.old.store }
 {
     match find_resource(store.as_mut(), Db(db), kind, id) {
         Ok(answer) => {
@@ -224,6 +226,7 @@ pub extern "C" fn palmheap_DmFindResourceType(
         (calls.Call.Resource (ResourceCall.FindType (as_db db) kind nth))
         (Reply.Number index.new) result store.new.store }
     ensures left { result ≢ 0 → index.new ≡ index.old }
+    ensures same { store.new.store ≡ store.old.store }
 {
     match find_type(store.as_mut(), Db(db), kind, nth) {
         Ok(answer) => {
@@ -243,6 +246,7 @@ pub extern "C" fn palmheap_DmNumResources(store: &mut Kept, db: u32, count: &mut
     ensures does { DoesInC store.old.store (calls.Call.Resource (ResourceCall.Count (as_db db)))
         (Reply.Number count.new) result store.new.store }
     ensures left { result ≢ 0 → count.new ≡ count.old }
+    ensures same { store.new.store ≡ store.old.store }
 {
     match num_resources(store.as_mut(), Db(db)) {
         Ok(answer) => {

@@ -77,7 +77,7 @@ pub fn import_opened<A: Allowance>(
         refusal ≢ Refusal.NotEnoughSpace → store.new ≡ store.old) }
     ensures no_memory { result ≡ Err Refusal.OutOfMemory → A.is_short memory.now }
 {
-    let _ = file.bytes();
+    file.know_file();
     check_new(store, file.name())?;
     let blocks = file.blocks();
     if !are_short(blocks) {

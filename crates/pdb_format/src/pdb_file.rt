@@ -104,6 +104,17 @@ impl<'a> PdbFile<'a> {
         self.bytes
     }
 
+    /// Proves what holds of each file that is opened: it has no fault, its numbers are bytes, and its
+    /// blocks are at their places.
+    pub fn know_file(&self)
+        ensures good { HasNoFault self.now }
+        ensures numbers { AreBytes self.now }
+        ensures places { HasPlaces self.now (places_in self.now) }
+    {
+        let _bytes = self.bytes();
+        let _blocks = self.blocks();
+    }
+
     /// Returns the name.
     pub fn name(&self) -> &'a [u8]
         ensures is { result.now ≡ name_in self.now }
@@ -213,7 +224,7 @@ impl<'a> PdbFile<'a> {
         ensures is { result ≡ fillers.first_place self.now }
         ensures most { result ≤ length self.now + 2 }
     {
-        let _ = self.bytes();
+        self.know_file();
         first_place_after(self.has_resources(), self.entry_count())
     }
 

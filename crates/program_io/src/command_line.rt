@@ -61,13 +61,41 @@ pub enum Request<'a> {
 /// The request of a command of the smaller program `palmheap_images`.
 #[derive(Drop)]
 pub enum BaseRequest<'a> {
-    New { size: u32, slots: u16, out: &'a str },
-    Check { image: &'a str, form: Form },
-    List { file: &'a str, form: Form },
-    Canonical { file: &'a str, out: &'a str },
-    Unpack { file: &'a str, folder: &'a str },
-    Pack { folder: &'a str, out: &'a str },
-    Explain { word: &'a str },
+    New {
+        size: u32,
+        slots: u16,
+        out: &'a str,
+    },
+    Check {
+        image: &'a str,
+        form: Form,
+    },
+    List {
+        file: &'a str,
+        form: Form,
+    },
+    Canonical {
+        file: &'a str,
+        out: &'a str,
+    },
+    Get {
+        file: &'a str,
+        /// The index of an entry, `app`, `sort`, or the type of a resource.
+        block: &'a str,
+        /// The id of the resource.
+        id: Option<&'a str>,
+    },
+    Unpack {
+        file: &'a str,
+        folder: &'a str,
+    },
+    Pack {
+        folder: &'a str,
+        out: &'a str,
+    },
+    Explain {
+        word: &'a str,
+    },
 }
 
 /// How the replies of a script are printed, and what a refused line means for the exit status.

@@ -4,8 +4,8 @@
 //! Start with `COMMANDS`, which has a row for each command.
 
 use crate::help_texts::{
-    CANONICAL_FORMS, CHECKS, LISTINGS, MAPS, MEANINGS, MIGRATION, NEW_IMAGES, PACKING, SCRIPTS,
-    STORES, UNPACKING,
+    BLOCKS, CANONICAL_FORMS, CHECKS, LISTINGS, MAPS, MEANINGS, MIGRATION, NEW_IMAGES, PACKING,
+    SCRIPTS, STORES, UNPACKING,
 };
 
 /// A command: its word, its help, and its arguments in order.
@@ -42,7 +42,7 @@ pub(crate) enum Count {
 }
 
 /// Every command.
-pub(crate) const COMMANDS: [CommandRow; 13] = [
+pub(crate) const COMMANDS: [CommandRow; 14] = [
     CommandRow {
         name: "new",
         about: "Writes an image with nothing in it, and prints 'ok'",
@@ -159,6 +159,25 @@ pub(crate) const COMMANDS: [CommandRow; 13] = [
         ],
     },
     CommandRow {
+        name: "get",
+        about: "Writes the bytes of one block of a PDB or PRC file to standard output",
+        after_help: Some(BLOCKS),
+        arguments: &[
+            DATABASE_FILE,
+            Argument {
+                name: "BLOCK",
+                count: Count::One,
+                help: "Index of a record or resource, from 0; 'app' or 'sort'; or the type\n\
+                    of a resource: four bytes, or 'x:' and eight hex digits",
+            },
+            Argument {
+                name: "ID",
+                count: Count::AtMostOne,
+                help: "The id of the resource, below 65536, after its type",
+            },
+        ],
+    },
+    CommandRow {
         name: "unpack",
         about: "Takes a PDB or PRC file apart into a text and a file per block",
         after_help: Some(UNPACKING),
@@ -261,8 +280,8 @@ pub(crate) const COMMANDS: [CommandRow; 13] = [
 const DATABASE_FILE: Argument = Argument {
     name: "FILE",
     count: Count::One,
-    help: "PDB or PRC file, of at most 16777216 bytes; '-' is standard input, and\n\
-        './-' a file of that name",
+    help: "PDB or PRC file, of at most 16777216 bytes; '-' is standard input,\n\
+        and './-' a file of that name",
 };
 
 const IMAGE: Argument = Argument {

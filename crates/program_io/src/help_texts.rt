@@ -18,8 +18,9 @@ Exit status:
      'bad' and the first fault, or 'bad TooLarge' if 'migrate', 'pack' or
      'import' would make it too large, or 'line', the number of the first
      faulty line and what is wrong in it; or 'refused', the number and the
-     name of a refusal, if 'import' refused a file or no database has a NAME
-     of 'export'
+     name of a refusal, if 'import' refused a file, no database has a NAME of
+     'export', or FILE of 'get' does not have the block. 'get' prints these
+     lines on standard error
   2  the words were refused, or there is no image of that SIZE with that many
      SLOTS, or 'explain' knows no such WORD
   3  a file could not be read or written, or is longer than 16777216 bytes;
@@ -197,10 +198,11 @@ For example, 'palmheap list MemoDB.pdb' prints:
 
 The first line has the length of the file. Attributes and the seed are in hex.
 Dates are seconds since 1904-01-01 00:00:00 UTC, with the date and time after
-them. 'app' and 'sort' have the offset and the length of an info block, or
-'none'. An entry has its index, its values, and the offset and length of its
-data: the values of a record are its attributes in hex and its ID, those of a
-resource its type and its id.
+them. A date below 2^31 has seconds since 1970, as programs for electronic
+books write it, and its line ends in 'since 1970'. 'app' and 'sort' have the
+offset and the length of an info block, or 'none'. An entry has its index, its
+values, and the offset and length of its data: the values of a record are its
+attributes in hex and its ID, those of a resource its type and its id.
 
 The line 'needs' has the least SIZE and SLOTS with which an image of 'palmheap
 new' takes the database.
@@ -226,8 +228,10 @@ With --json the same facts are one JSON document, on one line:
 
   {\"size\":97,\"name\":\"MemoDB\",\"name_hex\":\"4d656d6f4442\",\"attributes\":0,
    \"version\":0,\"created\":3878595035,\"created_utc\":\"2026-11-27 03:30:35\",
-   \"modified\":0,\"modified_utc\":null,\"backup\":0,\"backup_utc\":null,\"number\":0,
-   \"type\":\"DATA\",\"type_hex\":\"44415441\",\"creator\":\"memo\",
+   \"created_since\":1904,\"modified\":0,\"modified_utc\":null,
+   \"modified_since\":null,\"backup\":0,\"backup_utc\":null,
+   \"backup_since\":null,\"number\":0,\"type\":\"DATA\",
+   \"type_hex\":\"44415441\",\"creator\":\"memo\",
    \"creator_hex\":\"6d656d6f\",\"seed\":0,\"app\":null,\"sort\":null,\"kind\":\"records\",
    \"entries\":[{\"index\":0,\"attributes\":1,\"id\":1,\"offset\":88,\"length\":9}],
    \"needs\":{\"size\":168,\"slots\":3},\"changes\":[]}
@@ -235,9 +239,10 @@ With --json the same facts are one JSON document, on one line:
   {\"fault\":\"BadOffset\",\"numbers\":[1],\"at\":86}
 
 Attributes, the seed and dates are numbers. A date other than 0 is followed by
-its text in UTC. 'app', 'sort', and the offset and the length of data are null
-if there are none. A byte outside ASCII is the character of its Windows-1252
-code. The hex digits of all bytes follow.";
+its text in UTC, and by the year from which its seconds count, 1904 or 1970.
+'app', 'sort', and the offset and the length of data are null if there are
+none. A byte outside ASCII is the character of its Windows-1252 code. The hex
+digits of all bytes follow.";
 
 pub(crate) const CANONICAL_FORMS: &str = "\
 For example, 'palmheap canonical old.pdb new.pdb' writes new.pdb and prints
@@ -256,6 +261,23 @@ zeros.
 A file that cannot be read as a database is refused as by 'palmheap list', and
 nothing is written. If OUT is '-', the new file goes to standard output, and
 what is printed goes to standard error.";
+
+pub(crate) const BLOCKS: &str = "\
+For example, 'palmheap get MemoDB.pdb 0' writes the data of the first record
+to standard output. BLOCK is an index, as 'palmheap list' shows it; 'app' for
+the AppInfo block; or 'sort' for the SortInfo block. A resource may also be
+named by its type and id: 'palmheap get Tool.prc tSTR 1000' writes the data of
+the first one that has both. Nothing else is written to standard output, and
+no byte is changed.
+
+All lines go to standard error. A file that cannot be read as a database is
+refused as by 'palmheap list'. If the file does not have the block, the line
+'refused' has the number and the name of the refusal, and the exit status is
+1:
+
+  refused 14 IndexOutOfRange
+
+'palmheap explain IndexOutOfRange' prints what that means.";
 
 pub(crate) const UNPACKING: &str = "\
 For example, 'palmheap unpack MemoDB.pdb memos' makes the folder memos with

@@ -38,6 +38,7 @@ fn base_requested<'a>(name: &str, given: &ArgMatches<'a>) -> Option<BaseRequest<
         "check" => check_requested(given),
         "list" => list_requested(given),
         "canonical" => canonical_requested(given),
+        "get" => get_requested(given),
         "unpack" => unpack_requested(given),
         "pack" => pack_requested(given),
         "explain" => explain_requested(given),
@@ -106,6 +107,14 @@ fn canonical_requested<'a>(given: &ArgMatches<'a>) -> Option<BaseRequest<'a>> {
     Some(BaseRequest::Canonical {
         file: given.get_str("FILE")?,
         out: given.get_str("OUT")?,
+    })
+}
+
+fn get_requested<'a>(given: &ArgMatches<'a>) -> Option<BaseRequest<'a>> {
+    Some(BaseRequest::Get {
+        file: given.get_str("FILE")?,
+        block: given.get_str("BLOCK")?,
+        id: given.get_str("ID"),
     })
 }
 

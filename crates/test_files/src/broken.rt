@@ -2,8 +2,9 @@
 //! each byte.
 
 use crate::samples::{MIXED_FILE, changed, documented, listed, rewritten};
-use file_commands::{cmd_canonical_from, cmd_list_from};
-use json_documents::cmd_list_json;
+use file_commands::{WantedBlock, cmd_canonical_from, cmd_get_from, cmd_list_from};
+use file_listing::TextRows;
+use json_documents::JsonRows;
 use palm_text::Counted;
 use program_io::Status;
 use std::alloc::Global;
@@ -25,9 +26,9 @@ fn refused_memory_prints_nothing(rt: HostRuntime) -> Result<(), Fail> {
     for granted in 0..100 {
         let memory = RefusesOne::behind(rt.alloc(), granted);
         let mut out = Counted::new(Vec::new(rt.alloc()));
-        let status = cmd_list_from(&memory, &file, &mut out);
+        let status = cmd_list_from::<TextRows, _, _>(&memory, &file, &mut out);
         if !memory.has_refused() {
-            holds(granted, granted > 10)?;
+            holds(granted, granted > 3)?;
             return equal(granted, status, Status::Done);
         }
         equal(granted, status, Status::NoMemory)?;
@@ -45,9 +46,9 @@ fn refused_memory_prints_no_document(rt: HostRuntime) -> Result<(), Fail> {
     for granted in 0..100 {
         let memory = RefusesOne::behind(rt.alloc(), granted);
         let mut out = Counted::new(Vec::new(rt.alloc()));
-        let status = cmd_list_json(&memory, &file, &mut out);
+        let status = cmd_list_from::<JsonRows, _, _>(&memory, &file, &mut out);
         if !memory.has_refused() {
-            holds(granted, granted > 10)?;
+            holds(granted, granted > 3)?;
             return equal(granted, status, Status::Done);
         }
         equal(granted, status, Status::NoMemory)?;
@@ -77,6 +78,57 @@ fn refused_memory_writes_nothing(rt: HostRuntime) -> Result<(), Fail> {
     Err("too many growths")?
 }
 
+#[test]
+fn refused_memory_gets_nothing(rt: HostRuntime) -> Result<(), Fail> {
+    let file = bytes_of(rt.alloc(), MIXED_FILE)?;
+    if file.len() > MOST_BROKEN {
+        return Ok(());
+    }
+    for granted in 0..100 {
+        let memory = RefusesOne::behind(rt.alloc(), granted);
+        let mut block_out = Counted::new(Vec::new(rt.alloc()));
+        let mut out = Counted::new(Vec::new(rt.alloc()));
+        let wanted = WantedBlock::Entry(1);
+        let status = cmd_get_from(&memory, &file, wanted, &mut block_out, &mut out);
+        if !memory.has_refused() {
+            return equal(granted, status, Status::Done);
+        }
+        equal(granted, status, Status::NoMemory)?;
+        equal(granted, block_out.into_inner().len(), 0)?;
+        equal(granted, out.into_inner().len(), 0)?;
+    }
+    Err("too many growths")?
+}
+
+/// A block, and the line for one that the file doesn't have, are cut like a listing. Nothing goes
+/// to the other writer.
+#[test]
+fn a_full_writer_gets_a_prefix_of_a_block(rt: HostRuntime) -> Result<(), Fail> {
+    let file = bytes_of(rt.alloc(), TINY_FILE)?;
+    if file.len() > MOST_BROKEN {
+        return Ok(());
+    }
+    for room in 0..3 {
+        let mut block_out = Counted::new(Narrow::new(rt.alloc(), room, 2, WhenFull::TakesNothing));
+        let mut out = Counted::new(Vec::new(rt.alloc()));
+        let wanted = WantedBlock::Entry(0);
+        let status = cmd_get_from(&rt.alloc(), &file, wanted, &mut block_out, &mut out);
+        equal(room, status, Status::WriteFault)?;
+        holds(room, block_out.into_inner().is_cut_at(room))?;
+        equal(room, out.into_inner().len(), 0)?;
+    }
+    for room in 0..27 {
+        let mut block_out = Counted::new(Vec::new(rt.alloc()));
+        let mut out = Counted::new(Narrow::new(rt.alloc(), room, 5, WhenFull::TakesNothing));
+        let wanted = WantedBlock::Entry(2);
+        let status = cmd_get_from(&rt.alloc(), &file, wanted, &mut block_out, &mut out);
+        equal(room, status, Status::WriteFault)?;
+        holds(room, out.into_inner().is_cut_at(room))?;
+        equal(room, block_out.into_inner().len(), 0)?;
+    }
+    Ok(())
+}
+
 /// Each prefix of a listing is all that is printed if the writer has no more room.
 #[test]
 fn a_full_writer_gets_a_prefix(rt: HostRuntime) -> Result<(), Fail> {
@@ -88,7 +140,7 @@ fn a_full_writer_gets_a_prefix(rt: HostRuntime) -> Result<(), Fail> {
     for room in 0..text.len() {
         let narrow = Narrow::new(rt.alloc(), room, 3, WhenFull::Fails(ErrorKind::StorageFull));
         let mut out = Counted::new(narrow);
-        let status = cmd_list_from(&rt.alloc(), &file, &mut out);
+        let status = cmd_list_from::<TextRows, _, _>(&rt.alloc(), &file, &mut out);
         equal(room, status, Status::WriteFault)?;
         let narrow = out.into_inner();
         holds(room, narrow.is_cut_at(room))?;
@@ -149,7 +201,7 @@ fn a_full_writer_gets_a_prefix_of_a_fault(rt: HostRuntime) -> Result<(), Fail> {
     }
     for room in 0..22 {
         let mut out = Counted::new(Narrow::new(rt.alloc(), room, 5, WhenFull::TakesNothing));
-        let status = cmd_list_from(&rt.alloc(), &file, &mut out);
+        let status = cmd_list_from::<TextRows, _, _>(&rt.alloc(), &file, &mut out);
         equal(room, status, Status::WriteFault)?;
         holds(room, out.into_inner().is_cut_at(room))?;
     }
@@ -173,7 +225,7 @@ fn check_document_cuts(alloc: Global, file: &[u8]) -> Result<(), Fail> {
     }
     for room in 0..text.len() {
         let mut out = Counted::new(Narrow::new(alloc, room, 5, WhenFull::TakesNothing));
-        let status = cmd_list_json(&alloc, file, &mut out);
+        let status = cmd_list_from::<JsonRows, _, _>(&alloc, file, &mut out);
         equal(room, status, Status::WriteFault)?;
         let narrow = out.into_inner();
         holds(room, narrow.is_cut_at(room))?;
@@ -190,11 +242,17 @@ fn flushes_that_fail(rt: HostRuntime) -> Result<(), Fail> {
         return Ok(());
     }
     let mut out = Counted::new(Unflushed(Vec::new(rt.alloc())));
-    let status = cmd_list_from(&rt.alloc(), &file, &mut out);
+    let status = cmd_list_from::<TextRows, _, _>(&rt.alloc(), &file, &mut out);
     equal("list", status, Status::WriteFault)?;
     let mut out = Counted::new(Unflushed(Vec::new(rt.alloc())));
-    let status = cmd_list_json(&rt.alloc(), &file, &mut out);
+    let status = cmd_list_from::<JsonRows, _, _>(&rt.alloc(), &file, &mut out);
     equal("list --json", status, Status::WriteFault)?;
+    let mut block_out = Counted::new(Unflushed(Vec::new(rt.alloc())));
+    let mut out = Counted::new(Vec::new(rt.alloc()));
+    let wanted = WantedBlock::Entry(1);
+    let status = cmd_get_from(&rt.alloc(), &file, wanted, &mut block_out, &mut out);
+    equal("get", status, Status::WriteFault)?;
+    equal("get", out.into_inner().len(), 0)?;
     let mut file_out = Counted::new(Unflushed(Vec::new(rt.alloc())));
     let mut out = Counted::new(Vec::new(rt.alloc()));
     let status = cmd_canonical_from(&rt.alloc(), &file, &mut file_out, &mut out);

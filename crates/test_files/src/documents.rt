@@ -11,23 +11,29 @@ use unicode_text::{JsonPiece, put_json, put_text};
 
 const EMPTY_DOCUMENT: &str = "\
     {\"size\":78,\"name\":\"Empty\",\"name_hex\":\"456d707479\",\"attributes\":0,\"version\":0,\
-    \"created\":0,\"created_utc\":null,\"modified\":0,\"modified_utc\":null,\"backup\":0,\
-    \"backup_utc\":null,\"number\":0,\"type\":\"DATA\",\"type_hex\":\"44415441\",\
+    \"created\":0,\"created_utc\":null,\"created_since\":null,\
+    \"modified\":0,\"modified_utc\":null,\"modified_since\":null,\"backup\":0,\
+    \"backup_utc\":null,\"backup_since\":null,\"number\":0,\
+    \"type\":\"DATA\",\"type_hex\":\"44415441\",\
     \"creator\":\"Test\",\"creator_hex\":\"54657374\",\"seed\":0,\"app\":null,\"sort\":null,\
     \"kind\":\"records\",\"entries\":[],\"needs\":{\"size\":128,\"slots\":2},\
     \"changes\":[\"filler\"]}\n";
 
 const EMPTY_WRITTEN_DOCUMENT: &str = "\
     {\"size\":80,\"name\":\"Empty\",\"name_hex\":\"456d707479\",\"attributes\":0,\"version\":0,\
-    \"created\":0,\"created_utc\":null,\"modified\":0,\"modified_utc\":null,\"backup\":0,\
-    \"backup_utc\":null,\"number\":0,\"type\":\"DATA\",\"type_hex\":\"44415441\",\
+    \"created\":0,\"created_utc\":null,\"created_since\":null,\
+    \"modified\":0,\"modified_utc\":null,\"modified_since\":null,\"backup\":0,\
+    \"backup_utc\":null,\"backup_since\":null,\"number\":0,\
+    \"type\":\"DATA\",\"type_hex\":\"44415441\",\
     \"creator\":\"Test\",\"creator_hex\":\"54657374\",\"seed\":0,\"app\":null,\"sort\":null,\
     \"kind\":\"records\",\"entries\":[],\"needs\":{\"size\":128,\"slots\":2},\"changes\":[]}\n";
 
 const ORDER_DOCUMENT: &str = "\
     {\"size\":112,\"name\":\"Order\",\"name_hex\":\"4f72646572\",\"attributes\":0,\"version\":0,\
-    \"created\":0,\"created_utc\":null,\"modified\":0,\"modified_utc\":null,\"backup\":0,\
-    \"backup_utc\":null,\"number\":0,\"type\":\"DATA\",\"type_hex\":\"44415441\",\
+    \"created\":0,\"created_utc\":null,\"created_since\":null,\
+    \"modified\":0,\"modified_utc\":null,\"modified_since\":null,\"backup\":0,\
+    \"backup_utc\":null,\"backup_since\":null,\"number\":0,\
+    \"type\":\"DATA\",\"type_hex\":\"44415441\",\
     \"creator\":\"Test\",\"creator_hex\":\"54657374\",\"seed\":0,\"app\":null,\"sort\":null,\
     \"kind\":\"records\",\"entries\":[{\"index\":0,\"attributes\":0,\"id\":0,\"offset\":108,\
     \"length\":0},{\"index\":1,\"attributes\":3,\"id\":5,\"offset\":104,\"length\":4},\
@@ -36,8 +42,10 @@ const ORDER_DOCUMENT: &str = "\
 
 const TINY_DOCUMENT: &str = "\
     {\"size\":106,\"name\":\"Tiny\",\"name_hex\":\"54696e79\",\"attributes\":1,\"version\":1,\
-    \"created\":0,\"created_utc\":null,\"modified\":0,\"modified_utc\":null,\"backup\":0,\
-    \"backup_utc\":null,\"number\":0,\"type\":\"appl\",\"type_hex\":\"6170706c\",\
+    \"created\":0,\"created_utc\":null,\"created_since\":null,\
+    \"modified\":0,\"modified_utc\":null,\"modified_since\":null,\"backup\":0,\
+    \"backup_utc\":null,\"backup_since\":null,\"number\":0,\
+    \"type\":\"appl\",\"type_hex\":\"6170706c\",\
     \"creator\":\"Test\",\"creator_hex\":\"54657374\",\"seed\":0,\"app\":null,\"sort\":null,\
     \"kind\":\"resources\",\"entries\":[{\"index\":0,\"type\":\"tSTR\",\
     \"type_hex\":\"74535452\",\"id\":1000,\"offset\":100,\"length\":3},{\"index\":1,\
@@ -46,8 +54,11 @@ const TINY_DOCUMENT: &str = "\
 
 const MEMO_DOCUMENT: &str = "\
     {\"size\":97,\"name\":\"MemoDB\",\"name_hex\":\"4d656d6f4442\",\"attributes\":0,\
-    \"version\":0,\"created\":3878595035,\"created_utc\":\"2026-11-27 03:30:35\",\"modified\":0,\
-    \"modified_utc\":null,\"backup\":0,\"backup_utc\":null,\"number\":0,\"type\":\"DATA\",\
+    \"version\":0,\
+    \"created\":3878595035,\"created_utc\":\"2026-11-27 03:30:35\",\"created_since\":1904,\
+    \"modified\":0,\
+    \"modified_utc\":null,\"modified_since\":null,\
+    \"backup\":0,\"backup_utc\":null,\"backup_since\":null,\"number\":0,\"type\":\"DATA\",\
     \"type_hex\":\"44415441\",\"creator\":\"memo\",\"creator_hex\":\"6d656d6f\",\"seed\":0,\
     \"app\":null,\"sort\":null,\"kind\":\"records\",\"entries\":[{\"index\":0,\"attributes\":1,\
     \"id\":1,\"offset\":88,\"length\":9}],\"needs\":{\"size\":168,\"slots\":3},\"changes\":[]}\n";
@@ -55,9 +66,10 @@ const MEMO_DOCUMENT: &str = "\
 const MIXED_DOCUMENT: &str = "\
     {\"size\":101,\"name\":\"\\u0022Q\\u0022\\u000a\",\"name_hex\":\"2251220a\",\
     \"attributes\":32834,\"version\":258,\"created\":4294967295,\
-    \"created_utc\":\"2040-02-06 06:28:15\",\"modified\":86400,\
-    \"modified_utc\":\"1904-01-02 00:00:00\",\"backup\":2082844800,\
-    \"backup_utc\":\"1970-01-01 00:00:00\",\"number\":7,\"type\":\"a\\u0000\\u001fb\",\
+    \"created_utc\":\"2040-02-06 06:28:15\",\"created_since\":1904,\"modified\":86400,\
+    \"modified_utc\":\"1970-01-02 00:00:00\",\"modified_since\":1970,\"backup\":2082844800,\
+    \"backup_utc\":\"2036-01-02 00:00:00\",\"backup_since\":1970,\"number\":7,\
+    \"type\":\"a\\u0000\\u001fb\",\
     \"type_hex\":\"61001f62\",\"creator\":\"~~~~\",\"creator_hex\":\"7e7e7e7e\",\
     \"seed\":16909060,\"app\":{\"offset\":101,\"length\":0},\"sort\":{\"offset\":99,\
     \"length\":2},\"kind\":\"records\",\"entries\":[{\"index\":0,\"attributes\":143,\

@@ -93,8 +93,8 @@ name x:2251220a
 attributes 8042
 version 258
 created 4294967295 2040-02-06 06:28:15
-modified 86400 1904-01-02 00:00:00
-backup 2082844800 1970-01-01 00:00:00
+modified 86400 1970-01-02 00:00:00 since 1970
+backup 2082844800 2036-01-02 00:00:00 since 1970
 number 7
 type x:61001f62
 creator \"~~~~\"
@@ -158,28 +158,43 @@ fn files_have_their_listings(rt: HostRuntime) -> Result<(), Fail> {
 }
 
 /// Numbers of seconds, and the lines for them: around the ends of months and years, leap years and
-/// not.
-static MOMENTS: [([u8; 4], &str); 12] = [
-    ([0x00, 0x00, 0x00, 0x01], "created 1 1904-01-01 00:00:01"),
+/// not, and the last second since 1970 and the first since 1904.
+static MOMENTS: [([u8; 4], &str); 15] = [
+    (
+        [0x00, 0x00, 0x00, 0x01],
+        "created 1 1970-01-01 00:00:01 since 1970",
+    ),
     (
         [0x00, 0x28, 0xDE, 0x7F],
-        "created 2678399 1904-01-31 23:59:59",
+        "created 2678399 1970-01-31 23:59:59 since 1970",
     ),
     (
-        [0x00, 0x4E, 0x79, 0x70],
-        "created 5142896 1904-02-29 12:34:56",
+        [0x00, 0x4D, 0xC8, 0x7F],
+        "created 5097599 1970-02-28 23:59:59 since 1970",
     ),
     (
-        [0x00, 0x4F, 0x1A, 0x00],
-        "created 5184000 1904-03-01 00:00:00",
+        [0x00, 0x4D, 0xC8, 0x80],
+        "created 5097600 1970-03-01 00:00:00 since 1970",
     ),
     (
-        [0x01, 0xE2, 0x84, 0xFF],
-        "created 31622399 1904-12-31 23:59:59",
+        [0x04, 0x11, 0x80, 0xFF],
+        "created 68255999 1972-02-29 23:59:59 since 1970",
     ),
     (
-        [0x01, 0xE2, 0x85, 0x00],
-        "created 31622400 1905-01-01 00:00:00",
+        [0x38, 0xBB, 0x0C, 0x00],
+        "created 951782400 2000-02-29 00:00:00 since 1970",
+    ),
+    (
+        [0x6B, 0x0B, 0xF1, 0xB1],
+        "created 1795944881 2026-11-29 09:34:41 since 1970",
+    ),
+    (
+        [0x7F, 0xFF, 0xFF, 0xFF],
+        "created 2147483647 2038-01-19 03:14:07 since 1970",
+    ),
+    (
+        [0x80, 0x00, 0x00, 0x00],
+        "created 2147483648 1972-01-19 03:14:08",
     ),
     (
         [0xB4, 0x92, 0xF3, 0xFF],

@@ -1,8 +1,8 @@
 //! Files, and what is printed of them.
 
 use file_commands::{cmd_canonical_from, cmd_list_from};
-use file_listing::damage_of;
-use json_documents::cmd_list_json;
+use file_listing::{TextRows, damage_of};
+use json_documents::JsonRows;
 use palm_text::Counted;
 use pdb_format::check_file;
 use program_io::Status;
@@ -33,7 +33,7 @@ pub(crate) fn listed(alloc: Global, file: &[u8]) -> Result<(Status, Vec<u8>), Fa
         return Err("a file that is too long")?;
     }
     let mut out = Counted::new(Vec::new(alloc));
-    let status = cmd_list_from(&alloc, file, &mut out);
+    let status = cmd_list_from::<TextRows, _, _>(&alloc, file, &mut out);
     Ok((status, out.into_inner()))
 }
 
@@ -54,7 +54,7 @@ pub(crate) fn documented(alloc: Global, file: &[u8]) -> Result<(Status, Vec<u8>)
         return Err("a file that is too long")?;
     }
     let mut out = Counted::new(Vec::new(alloc));
-    let status = cmd_list_json(&alloc, file, &mut out);
+    let status = cmd_list_from::<JsonRows, _, _>(&alloc, file, &mut out);
     Ok((status, out.into_inner()))
 }
 

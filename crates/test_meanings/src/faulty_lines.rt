@@ -76,7 +76,7 @@ fn faulty_lines_of_scripts_have_hints(rt: HostRuntime) -> Result<(), Fail> {
 /// A text, its faulty line, the fault, and the hint.
 type PartsRow = (&'static str, usize, ScriptFault, Option<LineHint<'static>>);
 
-static TEXTS: [PartsRow; 9] = [
+static TEXTS: [PartsRow; 13] = [
     (
         "# no\nname \"\"\n",
         2,
@@ -133,6 +133,34 @@ static TEXTS: [PartsRow; 9] = [
         1,
         ScriptFault::BadWord(2),
         Some(LineHint::Broken(2)),
+    ),
+    ("record 00 1 \"r0\n", 1, ScriptFault::BadWord(1), None),
+    (
+        "app .a\n",
+        1,
+        ScriptFault::BadWord(2),
+        Some(LineHint::Wrong {
+            word: b".a",
+            wanted: "the name of a part (letters, digits, _, - and .), or none",
+        }),
+    ),
+    (
+        "record 00 1 none\n",
+        1,
+        ScriptFault::BadWord(4),
+        Some(LineHint::Wrong {
+            word: b"none",
+            wanted: "the name of a part (letters, digits, _, - and .); only a deleted record may have none",
+        }),
+    ),
+    (
+        "resource \"TBMP\" 1 none\n",
+        1,
+        ScriptFault::BadWord(4),
+        Some(LineHint::Wrong {
+            word: b"none",
+            wanted: "the name of a part (letters, digits, _, - and .), which each resource has",
+        }),
     ),
     ("name \"A\"\n", 2, ScriptFault::WrongCount, None),
     ("name \"A\"\n", 1, ScriptFault::OutOfMemory, None),

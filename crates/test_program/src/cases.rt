@@ -10,7 +10,7 @@ pub(crate) enum Output {
 }
 
 /// The words of each run behind the program's own name, and what becomes of what it prints.
-pub(crate) static CASES: [(&str, Output); 158] = [
+pub(crate) static CASES: [(&str, Output); 173] = [
     // images that are made, or that there are not
     ("new 64 1 out.img", Taken),
     ("new 128 3 out.img", Taken),
@@ -74,6 +74,24 @@ pub(crate) static CASES: [(&str, Output); 158] = [
     ("canonical - -", Taken),
     ("canonical - -", Refused),
     ("canonical damaged.pdb -", Taken),
+    // one block of a file: data, none, and of standard input; resources by type and id
+    ("get order.pdb 1", Taken),
+    ("get order.pdb 0", Taken),
+    ("get - 2", Taken),
+    ("get tiny.prc tSTR 1001", Taken),
+    // blocks that a file doesn't have
+    ("get order.pdb 3", Taken),
+    ("get order.pdb app", Taken),
+    ("get order.pdb DATA 1", Taken),
+    ("get tiny.prc tSTR 1002", Taken),
+    ("get deleted.pdb 0", Taken),
+    // a damaged file, no file, words that ask for no block, and standard output that takes nothing
+    ("get damaged.pdb 0", Taken),
+    ("get none.pdb 0", Taken),
+    ("get order.pdb first", Taken),
+    ("get order.pdb first 1", Taken),
+    ("get order.pdb 1", Refused),
+    ("get blank.img 0", Taken),
     // files that are taken apart, or not: a damaged one, and folders that are there or can't be
     // made
     ("unpack order.pdb out", Taken),

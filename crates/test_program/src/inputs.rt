@@ -28,7 +28,7 @@ impl Content {
 const ROOM: &str = "50484931 00000200 000C 0000 00000000 00*48 800001C0 00*444";
 
 /// The files, each behind its name.
-pub(crate) static INPUTS: [(&str, Content); 23] = [
+pub(crate) static INPUTS: [(&str, Content); 24] = [
     ("blank.img", Listing(BLANK, "")),
     ("room.img", Listing(ROOM, "")),
     ("records.img", Listing(ONE_DATABASE, "")),
@@ -44,6 +44,8 @@ pub(crate) static INPUTS: [(&str, Content); 23] = [
     ("tiny.prc", Listing(TINY_FILE, "")),
     // the data of the second record begins before the entries end
     ("damaged.pdb", Listing(ORDER_FILE, "86: 00000065")),
+    // the first record is deleted, and has no data
+    ("deleted.pdb", Listing(ORDER_FILE, "78: 0000000080")),
     // names with a byte outside ASCII
     ("cafe.pdb", Listing(EMPTY_WRITTEN, "0: 436166E900")),
     ("cafe.img", Listing(ONE_DATABASE, "72: 436166E9")),

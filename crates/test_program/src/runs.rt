@@ -49,9 +49,9 @@ fn show_answer<R: Files + Print + AllocGlobal>(
     show_complaint(rt, complained.into_bytes().as_slice())
 }
 
-/// Shows what a run prints, in hex if it has a zero.
+/// Shows what a run prints, in hex if it has a zero or doesn't end a line.
 fn show_printed<R: Print + AllocGlobal>(rt: &R, printed: &[u8]) -> Result<(), Fail> {
-    if printed.contains(&0) {
+    if printed.contains(&0) || !(printed.is_empty() || printed.ends_with(b"\n")) {
         return show_bytes(rt, "standard output", printed);
     }
     rt.write_all(printed)?;

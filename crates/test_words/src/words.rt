@@ -64,6 +64,16 @@ fn base_shown(alloc: Global, request: &BaseRequest) -> Result<String, AllocError
         BaseRequest::Check { image, form } => format!(in alloc; "check {image} {form:?}\n"),
         BaseRequest::List { file, form } => format!(in alloc; "list {file} {form:?}\n"),
         BaseRequest::Canonical { file, out } => format!(in alloc; "canonical {file} {out}\n"),
+        BaseRequest::Get {
+            file,
+            block,
+            id: None,
+        } => format!(in alloc; "get {file} {block}\n"),
+        BaseRequest::Get {
+            file,
+            block,
+            id: Some(id),
+        } => format!(in alloc; "get {file} {block} {id}\n"),
         BaseRequest::Unpack { file, folder } => format!(in alloc; "unpack {file} {folder}\n"),
         BaseRequest::Pack { folder, out } => format!(in alloc; "pack {folder} {out}\n"),
         BaseRequest::Explain { word } => format!(in alloc; "explain {word}\n"),
@@ -72,7 +82,7 @@ fn base_shown(alloc: Global, request: &BaseRequest) -> Result<String, AllocError
 
 /// Words, and how what comes of them begins, and what stands in it: commands, words that are
 /// refused, and help.
-static CASES: [(&str, &str, &str); 77] = [
+static CASES: [(&str, &str, &str); 82] = [
     ("palmheap new 128 4 a.img", "new 128 4 a.img\n", ""),
     (
         "palmheap new 4294967295 65535 --  -a",
@@ -98,6 +108,23 @@ static CASES: [(&str, &str, &str); 77] = [
         "palmheap canonical memo.pdb new.pdb",
         "canonical memo.pdb new.pdb\n",
         "",
+    ),
+    ("palmheap get memo.pdb 0", "get memo.pdb 0\n", ""),
+    ("palmheap get - app", "get - app\n", ""),
+    (
+        "palmheap get tool.prc tSTR 1000",
+        "get tool.prc tSTR 1000\n",
+        "",
+    ),
+    (
+        "palmheap get memo.pdb",
+        "2 error: the following required arguments were not provided:\n  <BLOCK>\n",
+        "",
+    ),
+    (
+        "palmheap get --help",
+        "0 ",
+        "Usage: palmheap get <FILE> <BLOCK> [ID]",
     ),
     (
         "palmheap unpack memo.pdb memos",
@@ -409,7 +436,7 @@ fn lines_in_one_word_are_read(rt: HostRuntime) -> Result<(), Fail> {
 }
 
 /// The commands that have help.
-static COMMANDS: [&str; 13] = [
+static COMMANDS: [&str; 14] = [
     "new",
     "check",
     "run",
@@ -417,6 +444,7 @@ static COMMANDS: [&str; 13] = [
     "map",
     "list",
     "canonical",
+    "get",
     "unpack",
     "pack",
     "databases",

@@ -120,7 +120,7 @@ fn plan_entry(file: &PdbFile<'_>, index: u16, ids: &[u32], size: Option<u32>) ->
     requires size { size ≡ size_of_block (slice_index_or (blocks_in file.now) (2 + index) None) }
     ensures { IsPlannedOf file.now ids.now index result }
 {
-    let _ = file.bytes();
+    file.know_file();
     match file.entry(index) {
         DbEntry::Record(record) => WholeEntry::Record {
             attributes: idle_attributes(record.attributes).0,

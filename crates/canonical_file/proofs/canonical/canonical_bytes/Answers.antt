@@ -17,7 +17,7 @@ append_head-requires-clause-room g c =
     let ids = c.in_ok-given.given.ids.items in
     let seed = c.in_ok-given.given.seed in
     let size = c.file_size.ensures ids seed in
-    let long = file_long c.args.file.now ids seed c.bytes.ensures.good in
+    let long = file_long c.args.file.now ids seed c.know_file.ensures.good in
     let room = c.in_ok-bytes.ensures.room in
     omega arith
 
@@ -26,7 +26,7 @@ append_blocks-requires g c =
     let ids = c.in_ok-given.given.ids.items in
     let seed = c.in_ok-given.given.seed in
     let size = c.file_size.ensures ids seed in
-    let long = file_long c.args.file.now ids seed c.bytes.ensures.good in
+    let long = file_long c.args.file.now ids seed c.know_file.ensures.good in
     let room = c.in_ok-bytes.ensures.room in
     let head = c.append_head.ensures.len in
     let kept = c.append_head.ensures.capacity in
@@ -35,6 +35,6 @@ append_blocks-requires g c =
 pub returns-clause-canonical : goal.returns-clause-canonical
 returns-clause-canonical g c = record {
   database = database_read c.args.file.now c.in_ok-given.given.ids.items c.in_ok-given.given.seed;
-  reads = reads c.args.file.now c.in_ok-given.given.ids.items c.in_ok-given.given.seed c.bytes.ensures.good c.in_ok-given.ensures.given;
+  reads = reads c.args.file.now c.in_ok-given.given.ids.items c.in_ok-given.given.seed c.know_file.ensures.good c.in_ok-given.ensures.given;
   written = c.append_blocks.ensures ∙ c.append_head.ensures.items;
 }

@@ -17,13 +17,13 @@ returns-clause-changes c =
     let ids = c.args.given.now.ids.items in
     let seed = c.args.given.now.seed in
     let kept = subst (λ (xs : List ℕ). IsTrue c.keeps_ids.result ↔ (xs ≡ unique_ids (database_in file))) c.deref.ensures.value c.keeps_ids.ensures in
-    are_changes file ids seed _ c.bytes.ensures.numbers c.requires.short c.bytes.ensures.good c.requires.given (record {
+    are_changes file ids seed _ c.know_file.ensures.numbers c.requires.short c.know_file.ensures.good c.requires.given (record {
       busy = c.has_busy.ensures;
       filler = says_not c.has_filler.result (HasPlainFiller file) c.has_filler.ensures;
-      ids = says_ids file ids seed c.keeps_ids.result c.bytes.ensures.good c.requires.given kept;
-      name = says_name file c.has_name.result c.bytes.ensures.good c.has_name.ensures;
+      ids = says_ids file ids seed c.keeps_ids.result c.know_file.ensures.good c.requires.given kept;
+      name = says_name file c.has_name.result c.know_file.ensures.good c.has_name.ensures;
       order = says_not c.is_in_order.result (IsInOrder file) c.is_in_order.ensures;
     })
 
 pub returns-clause-same : goal.returns-clause-same
-returns-clause-same c = same_form c.args.file.now c.args.given.now.ids.items c.args.given.now.seed _ c.bytes.ensures.good c.requires.given (returns-clause-changes c)
+returns-clause-same c = same_form c.args.file.now c.args.given.now.ids.items c.args.given.now.seed _ c.know_file.ensures.good c.requires.given (returns-clause-changes c)

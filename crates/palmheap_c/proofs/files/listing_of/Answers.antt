@@ -1,5 +1,5 @@
 use Rattle.std.proofs.Common.{refl, inr, subst}
-use Rattle.file_listing.specs.FaultLines.{IsListFault}
+use Rattle.file_listing.specs.Listing.{IsListFault}
 use Rattle.palmheap_c.proofs.files.listing_of.Goals as goal
 
 pub returns-in-Err-OutOfMemory-clause-err : goal.returns-in-Err-OutOfMemory-clause-err

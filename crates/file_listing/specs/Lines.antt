@@ -1,0 +1,89 @@
+-- The lines of text of a row.
+use Rattle.std.specs.Prelude.{◌++◌, ℕ, Bool, true, false, List, [], ◌∷◌, Option, Some, None, codes, decimal}
+use Rattle.hex.specs.Hex.{encode_lower}
+use Rattle.heap_model.specs.Bytes.{u16_bytes, u32_bytes}
+use Rattle.palm_text.specs.FaultTexts.{fault_text}
+use Rattle.palm_text.specs.Pieces.{script_spelled}
+use Rattle.unicode_text.specs.Texts.{text_between}
+use Rattle.canonical_file.specs.Changes.{changes_line}
+use Rattle.heap_model.specs.declared.file_fault.FileFault.{FileFault}
+use Rattle.file_listing.specs.declared.rows.Extent.{Extent}
+use Rattle.file_listing.specs.declared.rows.Epoch.{Epoch}
+use Rattle.file_listing.specs.declared.rows.Epoch.TheVariants.{Year1904, Year1970}
+use Rattle.file_listing.specs.declared.rows.Moment.{Moment}
+use Rattle.file_listing.specs.declared.rows.Row.{Row}
+use Rattle.file_listing.specs.declared.rows.Row.TheVariants.{Fault, Size, Name, Attributes, Version, Created, Modified, Backup, Number, Kind, Creator, Seed, Characters, App, Sort, Count, Record, Resource, Needs, Changed}
+use Rattle.file_listing.specs.Listing.{IsListingBy}
+use Rattle.file_listing.specs.Moments.{moment_text}
+
+-- a word and a value
+abbrev pub line : (word value : List ℕ) → List ℕ
+line word value = word ++ (value ++ codes "\n")
+
+-- a fault, and the offset of its field
+abbrev pub listed_fault : FileFault → ℕ → List ℕ
+listed_fault fault at = codes "bad " ++ (fault_text fault ++ (codes "\nat " ++ (decimal at ++ codes "\n")))
+
+-- the seconds of a moment, and its date and time in UTC and the epoch if it is 1970, or `never` if there is no such moment
+abbrev pub seconds_text : (word : List ℕ) → ℕ → List ℕ
+seconds_text word seconds = word ++ (decimal seconds ++ codes " ")
+
+abbrev pub epoch_end : Epoch → List ℕ
+epoch_end Year1904 = codes "\n"
+epoch_end Year1970 = codes " since 1970\n"
+
+unfoldable pub moment_line : (word : List ℕ) → Moment → List ℕ
+moment_line word moment = seconds_text word moment.seconds ++ moment_text moment (codes "never\n") [] (epoch_end moment.epoch)
+
+-- the extent of a block, at the end of a line: its offset and its size in bytes, or `none`
+abbrev pub extent_text : (before : List ℕ) → Option Extent → List ℕ
+extent_text before None = before ++ codes " none\n"
+extent_text before (Some block) = before ++ (codes " " ++ (decimal block.offset ++ (codes " " ++ (decimal block.size ++ codes "\n"))))
+
+-- the kind of the entries
+abbrev pub count_word : Bool → List ℕ
+count_word true = codes "resources "
+count_word false = codes "records "
+
+-- an entry: its index, its attributes or its type, its ID, and the extent of its data
+abbrev pub entry_start : ℕ → (value : List ℕ) → List ℕ
+entry_start index value = decimal index ++ (codes " " ++ (value ++ codes " "))
+
+unfoldable pub listed_entry : ℕ → (value : List ℕ) → ℕ → Option Extent → List ℕ
+listed_entry index value id block = entry_start index value ++ extent_text (decimal id) block
+
+unfoldable pub size_text : ℕ → List ℕ
+size_text size = codes "needs " ++ (decimal size ++ codes " bytes and ")
+
+abbrev pub slots_text : ℕ → List ℕ
+slots_text slots = decimal slots ++ codes " slots in a heap\n"
+
+unfoldable pub needs_line : (size slots : ℕ) → List ℕ
+needs_line size slots = size_text size ++ slots_text slots
+
+-- the line of a row. The row of the characters of a name has none if scripts spell the name in quotes.
+abbrev pub listing_line : Row → List ℕ
+listing_line (Fault fault at) = listed_fault fault at
+listing_line (Size size) = line (codes "ok ") (decimal size)
+listing_line (Name name) = line (codes "name ") (script_spelled name)
+listing_line (Attributes bits) = line (codes "attributes ") (encode_lower (u16_bytes bits))
+listing_line (Version version) = line (codes "version ") (decimal version)
+listing_line (Created moment) = moment_line (codes "created ") moment
+listing_line (Modified moment) = moment_line (codes "modified ") moment
+listing_line (Backup moment) = moment_line (codes "backup ") moment
+listing_line (Number number) = line (codes "number ") (decimal number)
+listing_line (Kind kind) = line (codes "type ") (script_spelled (u32_bytes kind))
+listing_line (Creator creator) = line (codes "creator ") (script_spelled (u32_bytes creator))
+listing_line (Seed seed) = line (codes "seed ") (encode_lower (u32_bytes seed))
+listing_line (Characters name) = text_between (codes "text \"") name (codes "\"\n")
+listing_line (App block) = extent_text (codes "app") block
+listing_line (Sort block) = extent_text (codes "sort") block
+listing_line (Count resources count) = line (count_word resources) (decimal count)
+listing_line (Record index attributes id block) = listed_entry index (encode_lower (attributes ∷ [])) id block
+listing_line (Resource index kind id block) = listed_entry index (script_spelled (u32_bytes kind)) id block
+listing_line (Needs size slots) = needs_line size slots
+listing_line (Changed changes) = changes_line changes
+
+-- this is the listing of the file, in lines
+abbrev pub IsListing : (file text : List ℕ) → Type 0
+IsListing file text = IsListingBy listing_line file text

@@ -1,0 +1,36 @@
+//! The facts of a listing that are found before its first row is written.
+
+ghost use Rattle.std.specs.Prelude.{◌≤◌, length, IfOk, OnErr};
+ghost use Rattle.canonical_file.specs.Canonical.{most_bytes};
+ghost use Rattle.file_listing.specs.Listing.{AreFacts};
+
+use crate::moments::moment_of;
+use crate::rows::Moment;
+use allowance::Allowance;
+use canonical_file::{Changes, find_changes};
+use pdb_format::PdbFile;
+use std::alloc::AllocError;
+
+/// The moments of a file's header, and the changes when the file is rewritten.
+#[derive(Clone, Copy)]
+pub(crate) struct Facts {
+    pub(crate) created: Moment,
+    pub(crate) modified: Moment,
+    pub(crate) backup: Moment,
+    pub(crate) changes: Changes,
+}
+
+/// Returns the facts of a file.
+pub(crate) fn facts_of<A: Allowance>(memory: &A, file: &PdbFile<'_>) -> Result<Facts, AllocError>
+    requires { length file.now ≤ most_bytes }
+    ensures facts { IfOk result (AreFacts file.now) }
+    ensures short { OnErr result (A.is_short memory.now) }
+{
+    let header = file.header();
+    Ok(Facts {
+        created: moment_of(header.creation_date),
+        modified: moment_of(header.modification_date),
+        backup: moment_of(header.backup_date),
+        changes: find_changes(memory, file)?,
+    })
+}

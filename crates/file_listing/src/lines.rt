@@ -1,0 +1,230 @@
+//! Rows as lines of text.
+
+ghost use Rattle.std.specs.Prelude.{◌≡◌, ◌++◌, codes, is_ok};
+ghost use Rattle.palm_text.specs.Counted.{Writes};
+ghost use Rattle.palm_text.specs.Pieces.{piece_text};
+ghost use Rattle.file_listing.specs.Lines as words;
+ghost use Rattle.file_listing.specs.Lines.{entry_start, epoch_end, extent_text, line, listed_entry, listed_fault, listing_line, moment_line, needs_line, seconds_text, size_text, slots_text};
+
+use crate::moments::put_moment;
+use crate::rows::{Epoch, Extent, Moment, Notation, Row};
+use canonical_file::put_changes;
+use heap_model::FileFault;
+use itoa::Buffer;
+use palm_text::{Counted, Piece, WriteFault, faulty_pieces, put_pieces};
+use std::io::Write;
+use unicode_text::put_text;
+
+/// The notation in lines of text.
+pub struct TextRows;
+
+/// Writes a word and a value.
+fn put_line<'a, W: Write>(
+    out: &mut Counted<W>,
+    word: &'a [u8],
+    value: Piece<'a>,
+) -> Result<(), WriteFault>
+    ensures { Writes W.contents out.old out.new (line word.now (piece_text value.entry))
+        (is_ok result) }
+{
+    put_pieces(out, &[Piece::Text(word), value, Piece::Text(b"\n")])
+}
+
+/// Writes `bad` with a fault, and `at` with the offset of its field.
+fn put_bad<W: Write>(out: &mut Counted<W>, fault: FileFault, at: u32) -> Result<(), WriteFault>
+    ensures { Writes W.contents out.old out.new (listed_fault fault at) (is_ok result) }
+{
+    let (space, part) = faulty_pieces(fault.part());
+    put_pieces(
+        out,
+        &[
+            Piece::Text(b"bad "),
+            Piece::Text(fault.name().as_bytes()),
+            Piece::Text(space),
+            part,
+            Piece::Text(b"\nat "),
+            Piece::Number(at),
+            Piece::Text(b"\n"),
+        ],
+    )
+}
+
+/// Writes a word and a number of seconds.
+fn put_seconds<W: Write>(out: &mut Counted<W>, word: &[u8], seconds: u32) -> Result<(), WriteFault>
+    ensures { Writes W.contents out.old out.new (seconds_text word.now seconds) (is_ok result) }
+{
+    put_pieces(
+        out,
+        &[Piece::Text(word), Piece::Number(seconds), Piece::Text(b" ")],
+    )
+}
+
+/// Returns the end of a line with a date.
+fn end_of(epoch: Epoch) -> &'static [u8]
+    ensures { result.now ≡ epoch_end epoch }
+{
+    match epoch {
+        Epoch::Year1904 => b"\n",
+        Epoch::Year1970 => b" since 1970\n",
+    }
+}
+
+/// Writes the seconds of a moment, its date and time, and its epoch if that is 1970. If there is no
+/// such moment, it writes `never`.
+#[tactic(auto, using(palm_text::proofs::Parts::then, palm_text::proofs::Parts::stops), unfolding(crate::specs::Lines::moment_line))]
+fn put_dated<W: Write>(out: &mut Counted<W>, word: &[u8], moment: &Moment) -> Result<(), WriteFault>
+    ensures { Writes W.contents out.old out.new (moment_line word.now moment.now) (is_ok result) }
+{
+    put_seconds(out, word, moment.seconds)?;
+    put_moment(out, moment, b"never\n", b"", end_of(moment.epoch))
+}
+
+/// Writes the extent of a block at the end of a line.
+fn put_extent<W: Write>(
+    out: &mut Counted<W>,
+    before: Piece,
+    block: Option<Extent>,
+) -> Result<(), WriteFault>
+    ensures { Writes W.contents out.old out.new (extent_text (piece_text before.entry) block)
+        (is_ok result) }
+{
+    match block {
+        None => put_pieces(out, &[before, Piece::Text(b" none\n")]),
+        Some(block) => put_pieces(
+            out,
+            &[
+                before,
+                Piece::Text(b" "),
+                Piece::Number(block.offset),
+                Piece::Text(b" "),
+                Piece::Number(block.size),
+                Piece::Text(b"\n"),
+            ],
+        ),
+    }
+}
+
+/// Returns the word for the kind of the entries.
+fn count_word(resources: bool) -> &'static [u8]
+    ensures { result.now ≡ words.count_word resources }
+{
+    if resources {
+        b"resources "
+    } else {
+        b"records "
+    }
+}
+
+/// Writes the index of an entry, and its attributes or its type.
+fn put_start<W: Write>(out: &mut Counted<W>, index: u16, value: Piece) -> Result<(), WriteFault>
+    ensures { Writes W.contents out.old out.new (entry_start index (piece_text value.entry))
+        (is_ok result) }
+{
+    put_pieces(
+        out,
+        &[
+            Piece::Number(u32::from(index)),
+            Piece::Text(b" "),
+            value,
+            Piece::Text(b" "),
+        ],
+    )
+}
+
+/// Writes the line of an entry.
+#[tactic(auto, using(palm_text::proofs::Parts::then, palm_text::proofs::Parts::stops), unfolding(crate::specs::Lines::listed_entry))]
+fn put_entry<W: Write>(
+    out: &mut Counted<W>,
+    index: u16,
+    value: Piece,
+    id: u32,
+    block: Option<Extent>,
+) -> Result<(), WriteFault>
+    ensures { Writes W.contents out.old out.new (listed_entry index (piece_text value.entry) id block)
+        (is_ok result) }
+{
+    put_start(out, index, value)?;
+    put_extent(out, Piece::Number(id), block)
+}
+
+/// Writes a size in bytes.
+#[tactic(auto, unfolding(crate::specs::Lines::size_text))]
+fn put_size<W: Write>(out: &mut Counted<W>, size: u64) -> Result<(), WriteFault>
+    ensures { Writes W.contents out.old out.new (size_text size) (is_ok result) }
+{
+    let mut digits = Buffer::new();
+    put_pieces(
+        out,
+        &[
+            Piece::Text(b"needs "),
+            Piece::Text(digits.format(size).as_bytes()),
+            Piece::Text(b" bytes and "),
+        ],
+    )
+}
+
+/// Writes a number of slots.
+fn put_slots<W: Write>(out: &mut Counted<W>, slots: u64) -> Result<(), WriteFault>
+    ensures { Writes W.contents out.old out.new (slots_text slots) (is_ok result) }
+{
+    let mut digits = Buffer::new();
+    put_pieces(
+        out,
+        &[
+            Piece::Text(digits.format(slots).as_bytes()),
+            Piece::Text(b" slots in a heap\n"),
+        ],
+    )
+}
+
+/// Writes the least size and number of slots of a new image with the database.
+#[tactic(auto, using(palm_text::proofs::Parts::then, palm_text::proofs::Parts::stops), unfolding(crate::specs::Lines::needs_line))]
+fn put_needs<W: Write>(out: &mut Counted<W>, size: u64, slots: u64) -> Result<(), WriteFault>
+    ensures { Writes W.contents out.old out.new (needs_line size slots) (is_ok result) }
+{
+    put_size(out, size)?;
+    put_slots(out, slots)
+}
+
+impl Notation for TextRows {
+    ghost row_text = { listing_line };
+
+    fn put_row<W: Write>(out: &mut Counted<W>, row: &Row) -> Result<(), WriteFault> {
+        match row {
+            Row::Fault { fault, at } => put_bad(out, *fault, *at),
+            Row::Size(size) => put_line(out, b"ok ", Piece::Number(*size)),
+            Row::Name(name) => put_line(out, b"name ", Piece::Spelled(name.name())),
+            Row::Attributes(bits) => put_line(out, b"attributes ", Piece::Hex16(*bits)),
+            Row::Version(number) => put_line(out, b"version ", Piece::Number(u32::from(*number))),
+            Row::Created(moment) => put_dated(out, b"created ", moment),
+            Row::Modified(moment) => put_dated(out, b"modified ", moment),
+            Row::Backup(moment) => put_dated(out, b"backup ", moment),
+            Row::Number(number) => put_line(out, b"number ", Piece::Number(*number)),
+            Row::Kind(kind) => put_line(out, b"type ", Piece::FourBytes(*kind)),
+            Row::Creator(creator) => put_line(out, b"creator ", Piece::FourBytes(*creator)),
+            Row::Seed(seed) => put_line(out, b"seed ", Piece::Hex32(*seed)),
+            Row::Characters(name) => put_text(out, b"text \"", name.name(), b"\"\n"),
+            Row::App(block) => put_extent(out, Piece::Text(b"app"), *block),
+            Row::Sort(block) => put_extent(out, Piece::Text(b"sort"), *block),
+            Row::Count { resources, count } => put_line(
+                out,
+                count_word(*resources),
+                Piece::Number(u32::from(*count)),
+            ),
+            Row::Record {
+                index,
+                attributes,
+                id,
+                block,
+            } => put_entry(out, *index, Piece::Hex8(*attributes), *id, *block),
+            Row::Resource {
+                index,
+                kind,
+                id,
+                block,
+            } => put_entry(out, *index, Piece::FourBytes(*kind), u32::from(*id), *block),
+            Row::Needs { size, slots } => put_needs(out, *size, *slots),
+            Row::Changed(changes) => put_changes(out, *changes),
+        }
+    }
+}

@@ -1,0 +1,188 @@
+//! Writes the rows of a file without fault, one after another.
+
+ghost use Rattle.std.specs.Prelude.{◌≡◌, ◌≤◌, ◌<◌, ◌++◌, is_ok, length};
+ghost use Rattle.std.specs.List.{flat_map};
+ghost use Rattle.heap_model.specs.Database.{entry_count_in};
+ghost use Rattle.db_format.specs.EitherEntry.{entry_of};
+ghost use Rattle.palm_text.specs.Counted.{Writes};
+ghost use Rattle.pdb_format.specs.Blocks.{IsBlockWithin, bytes_at};
+ghost use Rattle.canonical_file.specs.Canonical.{most_bytes};
+ghost use Rattle.file_listing.specs.Listing as words;
+ghost use Rattle.file_listing.specs.Listing.{extent_at, info_extent, first_rows, entry_rows, last_rows, rows_of};
+
+use crate::facts::Facts;
+use crate::needs::size_and_slots;
+use crate::rows::{Extent, Notation, Row};
+use db_format::{DbEntry, INFO_BLOCKS};
+use palm_text::{Counted, WriteFault};
+use pdb_format::{Block, PdbFile};
+use std::io::Write;
+
+/// Writes rows, one after another.
+fn put_rows<N: Notation, W: Write>(out: &mut Counted<W>, rows: &[Row]) -> Result<(), WriteFault>
+    ensures { Writes W.contents out.old out.new (flat_map N.row_text rows.now) (is_ok result) }
+{
+    for row in rows {
+        match N::put_row(out, row) {
+            Ok(()) => {}
+            Err(fault) => return Err(fault),
+        }
+    }
+    Ok(())
+}
+
+/// Returns the extent of a block that begins at an offset.
+fn extent_of(file: &PdbFile<'_>, at: u32, block: Option<Block>) -> Option<Extent>
+    requires short { length file.now ≤ most_bytes }
+    requires within { IsBlockWithin (length file.now) block }
+    ensures { result ≡ extent_at at (bytes_at file.now block) }
+{
+    match block {
+        None => None,
+        Some(block) => Some(Extent {
+            offset: at,
+            size: (block.end - block.start) as u32,
+        }),
+    }
+}
+
+/// Returns the extent of an info block. AppInfo has the rank 0, and SortInfo the rank 1.
+fn info_of(file: &PdbFile<'_>, rank: usize) -> Option<Extent>
+    requires short { length file.now ≤ most_bytes }
+    requires inside { rank < 2 }
+    ensures { result ≡ info_extent file.now rank }
+{
+    extent_of(file, file.offset(rank) as u32, file.block(rank))
+}
+
+/// Writes the rows before those of the entries.
+fn put_head<N: Notation, W: Write>(
+    out: &mut Counted<W>,
+    file: &PdbFile<'_>,
+    facts: &Facts,
+) -> Result<(), WriteFault>
+    requires { length file.now ≤ most_bytes }
+    ensures { Writes W.contents out.old out.new
+        (flat_map N.row_text (first_rows file.now facts.now)) (is_ok result) }
+{
+    let header = file.header();
+    put_rows::<N, W>(
+        out,
+        &[
+            Row::Size(file.bytes().len() as u32),
+            Row::Name(header.name),
+            Row::Attributes(header.attributes),
+            Row::Version(header.version),
+            Row::Created(facts.created),
+            Row::Modified(facts.modified),
+            Row::Backup(facts.backup),
+            Row::Number(header.modification_number),
+            Row::Kind(header.kind),
+            Row::Creator(header.creator),
+            Row::Seed(header.seed),
+            Row::Characters(header.name),
+            Row::App(info_of(file, 0)),
+            Row::Sort(info_of(file, 1)),
+            Row::Count {
+                resources: file.has_resources(),
+                count: file.entry_count(),
+            },
+        ],
+    )
+}
+
+/// Returns the row of an entry, whose data is a block.
+fn entry_row(file: &PdbFile<'_>, index: u16, entry: DbEntry, block: Option<Block>) -> Row
+    requires short { length file.now ≤ most_bytes }
+    requires within { IsBlockWithin (length file.now) block }
+    ensures { result ≡ words.entry_row index (entry_of entry) (bytes_at file.now block) }
+{
+    match entry {
+        DbEntry::Record(record) => Row::Record {
+            index,
+            attributes: record.attributes.0,
+            id: record.id,
+            block: extent_of(file, record.slot, block),
+        },
+        DbEntry::Resource(resource) => Row::Resource {
+            index,
+            kind: resource.kind,
+            id: resource.id,
+            block: extent_of(file, resource.slot, block),
+        },
+    }
+}
+
+/// Returns the row of the entry at an index.
+fn entry_row_at(file: &PdbFile<'_>, index: u16) -> Row
+    requires short { length file.now ≤ most_bytes }
+    requires inside { index < entry_count_in file.now }
+    ensures { result ≡ words.entry_row_at file.now index }
+{
+    let block = file.block(INFO_BLOCKS + index as usize);
+    entry_row(file, index, file.entry(index), block)
+}
+
+/// Writes the rows of the entries.
+fn put_entries<N: Notation, W: Write>(
+    out: &mut Counted<W>,
+    file: &PdbFile<'_>,
+) -> Result<(), WriteFault>
+    requires { length file.now ≤ most_bytes }
+    ensures { Writes W.contents out.old out.new (flat_map N.row_text (entry_rows file.now))
+        (is_ok result) }
+{
+    for index in 0..file.entry_count() {
+        match N::put_row(out, &entry_row_at(file, index)) {
+            Ok(()) => {}
+            Err(fault) => return Err(fault),
+        }
+    }
+    Ok(())
+}
+
+/// Writes the rows after those of the entries.
+fn put_last<N: Notation, W: Write>(
+    out: &mut Counted<W>,
+    file: &PdbFile<'_>,
+    facts: &Facts,
+) -> Result<(), WriteFault>
+    ensures { Writes W.contents out.old out.new (flat_map N.row_text (last_rows file.now facts.now))
+        (is_ok result) }
+{
+    let (size, slots) = size_and_slots(file);
+    put_rows::<N, W>(
+        out,
+        &[Row::Needs { size, slots }, Row::Changed(facts.changes)],
+    )
+}
+
+/// Writes the rows from those of the entries on.
+#[tactic(auto, using(crate::proofs::RowTexts::then_rows, crate::proofs::RowTexts::stops_rows))]
+fn put_rest<N: Notation, W: Write>(
+    out: &mut Counted<W>,
+    file: &PdbFile<'_>,
+    facts: &Facts,
+) -> Result<(), WriteFault>
+    requires { length file.now ≤ most_bytes }
+    ensures { Writes W.contents out.old out.new
+        (flat_map N.row_text (entry_rows file.now ++ last_rows file.now facts.now)) (is_ok result) }
+{
+    put_entries::<N, W>(out, file)?;
+    put_last::<N, W>(out, file, facts)
+}
+
+/// Writes the rows of a file without fault.
+#[tactic(auto, using(crate::proofs::RowTexts::then_rows, crate::proofs::RowTexts::stops_rows), unfolding(crate::specs::Listing::rows_of))]
+pub(crate) fn put_rows_of<N: Notation, W: Write>(
+    out: &mut Counted<W>,
+    file: &PdbFile<'_>,
+    facts: &Facts,
+) -> Result<(), WriteFault>
+    requires { length file.now ≤ most_bytes }
+    ensures { Writes W.contents out.old out.new (flat_map N.row_text (rows_of file.now facts.now))
+        (is_ok result) }
+{
+    put_head::<N, W>(out, file, facts)?;
+    put_rest::<N, W>(out, file, facts)
+}

@@ -1,0 +1,124 @@
+//! Rows as parts of a document.
+
+ghost use Rattle.std.specs.Prelude.{◌≡◌, ◌++◌, is_ok};
+ghost use Rattle.palm_text.specs.Counted.{Writes};
+ghost use Rattle.unicode_text.specs.Pieces.{json_text};
+ghost use Rattle.json_documents.specs.RowTexts.{fault_json, faulty_fields, kind_json, listing_json};
+
+use crate::changes::put_changes;
+use crate::entries::{put_record, put_resource};
+use crate::needs::put_needs;
+use crate::values::{put_bytes, put_dated, put_extent, put_four_bytes, put_number};
+use file_listing::{Notation, Row};
+use heap_model::{FaultyPart, FileFault, Which};
+use palm_text::{Counted, WriteFault, put_all};
+use std::io::Write;
+use unicode_text::{JsonPiece, put_json};
+
+/// The notation in parts of a document.
+pub struct JsonRows;
+
+const NO_JSON: JsonPiece<'static> = JsonPiece::Text(b"");
+
+/// Returns the fields after the name of a fault: the word of an info block, and the index of an
+/// entry.
+fn part_fields(part: FaultyPart) -> (&'static [u8], JsonPiece<'static>)
+    ensures { result.0.now ++ json_text result.1 ≡ faulty_fields part }
+{
+    match part {
+        FaultyPart::Whole => (b"\",\"numbers\":[", NO_JSON),
+        FaultyPart::Block(Which::App) => (b"\",\"block\":\"app\",\"numbers\":[", NO_JSON),
+        FaultyPart::Block(Which::Sort) => (b"\",\"block\":\"sort\",\"numbers\":[", NO_JSON),
+        FaultyPart::Entry(index) => (b"\",\"numbers\":[", JsonPiece::Number(index)),
+    }
+}
+
+/// Writes the document for a fault.
+fn put_fault<W: Write>(out: &mut Counted<W>, fault: FileFault, at: u32) -> Result<(), WriteFault>
+    ensures { Writes W.contents out.old out.new (fault_json fault at) (is_ok result) }
+{
+    let (fields, index) = part_fields(fault.part());
+    put_json(
+        out,
+        &[
+            JsonPiece::Text(b"{\"fault\":\""),
+            JsonPiece::Text(fault.name().as_bytes()),
+            JsonPiece::Text(fields),
+            index,
+            JsonPiece::Text(b"],\"at\":"),
+            JsonPiece::Number(at),
+            JsonPiece::Text(b"}\n"),
+        ],
+    )
+}
+
+/// Writes the kind of the entries.
+fn put_kind<W: Write>(out: &mut Counted<W>, resources: bool) -> Result<(), WriteFault>
+    ensures { Writes W.contents out.old out.new (kind_json resources) (is_ok result) }
+{
+    if resources {
+        put_all(out, b"\"kind\":\"resources\",\"entries\":[")
+    } else {
+        put_all(out, b"\"kind\":\"records\",\"entries\":[")
+    }
+}
+
+impl Notation for JsonRows {
+    ghost row_text = { listing_json };
+
+    #[tactic(auto, using(palm_text::proofs::Parts::nothing))]
+    fn put_row<W: Write>(out: &mut Counted<W>, row: &Row) -> Result<(), WriteFault> {
+        match row {
+            Row::Fault { fault, at } => put_fault(out, *fault, *at),
+            Row::Size(size) => put_number(out, b"{\"size\":", *size),
+            Row::Name(name) => put_bytes(out, b"\"name\":", name.name(), b",\"name_hex\":"),
+            Row::Attributes(bits) => put_number(out, b"\"attributes\":", u32::from(*bits)),
+            Row::Version(number) => put_number(out, b"\"version\":", u32::from(*number)),
+            Row::Created(moment) => put_dated(
+                out,
+                b"\"created\":",
+                moment,
+                b",\"created_utc\":",
+                b",\"created_since\":",
+            ),
+            Row::Modified(moment) => put_dated(
+                out,
+                b"\"modified\":",
+                moment,
+                b",\"modified_utc\":",
+                b",\"modified_since\":",
+            ),
+            Row::Backup(moment) => put_dated(
+                out,
+                b"\"backup\":",
+                moment,
+                b",\"backup_utc\":",
+                b",\"backup_since\":",
+            ),
+            Row::Number(number) => put_number(out, b"\"number\":", *number),
+            Row::Kind(kind) => put_four_bytes(out, b"\"type\":", *kind, b",\"type_hex\":"),
+            Row::Creator(creator) => {
+                put_four_bytes(out, b"\"creator\":", *creator, b",\"creator_hex\":")
+            }
+            Row::Seed(seed) => put_number(out, b"\"seed\":", *seed),
+            Row::Characters(_) => Ok(()),
+            Row::App(block) => put_extent(out, b"\"app\":", *block),
+            Row::Sort(block) => put_extent(out, b"\"sort\":", *block),
+            Row::Count { resources, .. } => put_kind(out, *resources),
+            Row::Record {
+                index,
+                attributes,
+                id,
+                block,
+            } => put_record(out, *index, *attributes, *id, *block),
+            Row::Resource {
+                index,
+                kind,
+                id,
+                block,
+            } => put_resource(out, *index, *kind, u32::from(*id), *block),
+            Row::Needs { size, slots } => put_needs(out, *size, *slots),
+            Row::Changed(changes) => put_changes(out, *changes),
+        }
+    }
+}
