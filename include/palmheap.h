@@ -131,6 +131,21 @@ typedef struct palmheap_block {
  * Answers: PALMHEAP_OK, 60 to 65. */
 palmheap_answer palmheap_pdb_check(const uint8_t *file, size_t file_len);
 
+/* Where a file has its first fault: the offset of the field, the number that it has, and the numbers that are allowed
+ * there, those from least to most. If or_zero, 0 is allowed too, but in the entry of a record only if the record is
+ * deleted. Of a truncated file the offset and the number are its size. */
+typedef struct palmheap_damage {
+    size_t at;
+    size_t found;
+    size_t least;
+    size_t most;
+    bool or_zero;
+} palmheap_damage;
+
+/* Checks a file as palmheap_pdb_check does. If it has a fault, sets damage. palmheap_import refuses these files with 25.
+ * Answers: PALMHEAP_OK, PALMHEAP_TOO_LARGE, 60 to 65. */
+palmheap_answer palmheap_pdb_damage(const uint8_t *file, size_t file_len, palmheap_damage *damage);
+
 /* Finds where the blocks of a file stand: the AppInfo block, the SortInfo block, and the data of the entries in order.
  * So there are two blocks more than entries. Sets count to their number, also with PALMHEAP_NO_ROOM.
  * Answers: PALMHEAP_OK, PALMHEAP_NO_MEMORY, PALMHEAP_NO_ROOM, 60 to 65. */
@@ -152,6 +167,12 @@ palmheap_answer palmheap_pdb_list(const uint8_t *file, size_t file_len, uint8_t 
  * image_len must be a multiple of 8, 64 to 16,777,208, and have room for the slots (docs/FORMAT.md).
  * Answers: PALMHEAP_OK, PALMHEAP_NO_MEMORY, PALMHEAP_BAD_SIZE, PALMHEAP_BAD_SLOT_COUNT. */
 palmheap_answer palmheap_new(uint8_t *image, size_t image_len, uint16_t slots);
+
+/* Makes an image without chunks, as palmheap_new does, but with a chain of master pointer tables: to it
+ * palmheap_more_slots adds slots. slots is the number of slots of its one table. With an even number of slots the word
+ * after them takes 8 bytes: so image_len is at least 72, and 8 bytes less are left for chunks.
+ * Answers: PALMHEAP_OK, PALMHEAP_NO_MEMORY, PALMHEAP_BAD_SIZE, PALMHEAP_BAD_SLOT_COUNT. */
+palmheap_answer palmheap_new_chained(uint8_t *image, size_t image_len, uint16_t slots);
 
 /* Checks whether some bytes are an accepted image. If so, sets counts to what it has.
  * Answers: PALMHEAP_OK, PALMHEAP_NO_MEMORY, 20 to 47. */
@@ -237,13 +258,21 @@ enum {
     PALMHEAP_CALL_NO_ROOM = 100,    /* a buffer is too short; the call's count is the size that it needs */
     PALMHEAP_CALL_NO_REFUSAL = 101, /* no refusal has the number */
     PALMHEAP_CALL_NO_POINTER = 102, /* no pointer to the chunk is out */
-    PALMHEAP_CALL_NO_FAULT = 103    /* no fault has the kind */
+    PALMHEAP_CALL_NO_FAULT = 103,   /* no fault has the kind */
+    PALMHEAP_CALL_NO_WORD = 105     /* no fault, refusal or change has the name or the number */
 };
 
 /* Writes the name of a refusal into a buffer, ASCII without a zero at its end, as InvalidHandle. No name has more than
  * 19 bytes. Sets count to its size in bytes, also if the buffer is too short for it. Returns
  * PALMHEAP_CALL_NO_REFUSAL, and changes nothing, if no refusal has the number. */
 uint32_t palmheap_refusal_name(uint32_t refusal, uint8_t *name, size_t name_len, size_t *count);
+
+/* Writes the text that `palmheap explain` prints for a word: a line for each fault, refusal and change in a file with this
+ * name, or for the refusal with this number, in decimal. The case of letters doesn't matter. The text is ASCII without a
+ * zero at its end. Sets count to its size in bytes, also if the buffer is too short for it. palmheap_kind_name and
+ * palmheap_refusal_name give names. Returns PALMHEAP_CALL_NO_WORD, and changes nothing, if there is no line.
+ * Refusals: 26. */
+uint32_t palmheap_explain(const uint8_t *word, size_t word_len, uint8_t *text, size_t text_len, size_t *count);
 
 /* Opens an image: checks it, and copies it into a store that lives until palmheap_close. Sets store to it. If it fails,
  * it sets store->at to NULL. A store that was in store before is not closed. The caller's image stays as it is:
@@ -533,6 +562,25 @@ uint32_t palmheap_import(palmheap_store *store, const uint8_t *file, size_t file
  * it. Refusals: 10, 27, 26. */
 uint32_t palmheap_export(const palmheap_store *store, uint32_t db, uint8_t *file, size_t file_len, size_t *len);
 
+/* -- Files as structures. This function needs no store. -- */
+
+/* The entry of a record or a resource in a file, with the place of its data: from start up to end, in bytes from the
+ * file's start, if has_data. A record has no type, so its kind is 0. A resource has no attributes, so they are 0. */
+typedef struct palmheap_file_entry {
+    size_t start;
+    size_t end;
+    uint32_t kind;
+    uint32_t id;
+    uint8_t attributes;
+    bool has_data;
+} palmheap_file_entry;
+
+/* Reads the header of a file, PDB or PRC, the places of its AppInfo and SortInfo blocks, and its entries with the places
+ * of their data. It copies no data. Sets count to the number of the entries: with PALMHEAP_NO_ROOM it sets only that.
+ * Answers: PALMHEAP_OK, PALMHEAP_NO_MEMORY, PALMHEAP_NO_ROOM, 60 to 65. */
+palmheap_answer palmheap_pdb_read(const uint8_t *file, size_t file_len, palmheap_database_info *header,
+    palmheap_block *app, palmheap_block *sort, palmheap_file_entry *entries, size_t entries_len, size_t *count);
+
 /* -- Loans --
  *
  * A loan lets the caller read and write the bytes of a chunk in place, also between other calls on the store. Any number
@@ -569,14 +617,18 @@ bool palmheap_lent(const palmheap_store *store, uint32_t *name);
  * one: so the caller goes over all lent chunks in order of their places. */
 bool palmheap_loan_above(const palmheap_store *store, uint32_t after, uint32_t *name, uint32_t *place);
 
+/* Sets the first of names to all lent chunks, in order of their places, and count to their number, also if there is no
+ * room for them. Refusals: 26. PALMHEAP_CALL_NO_ROOM, and names is unchanged, if names_len is less than count. */
+uint32_t palmheap_loans(const palmheap_store *store, uint32_t *names, size_t names_len, size_t *count);
+
 /* -- Pointers --
  *
  * A pointer to the bytes of a movable chunk, as applications have it. The library keeps the loan, and counts how often
  * the pointer is out. So a caller needs no palmheap_loan, and functions that know nothing of each other can lock the
  * same chunk. While a pointer is out, the chunk is lent, as above, and its lock count is one higher: one for all of
  * them. The pointer stays valid until it was unlocked as often as it was locked, whatever other calls do.
- * palmheap_lent and palmheap_loan_above find these chunks too. palmheap_put_back can't be called for them: no
- * palmheap_loan has them. */
+ * palmheap_lent, palmheap_loan_above and palmheap_loans find these chunks too. palmheap_put_back can't be called for
+ * them: no palmheap_loan has them. */
 
 /* Gives the pointer to the bytes of a chunk: sets bytes to them, and count to their number. If it is not out, this
  * locks the chunk, and lends it. If it is, this gives the same pointer. Refusals: 1, 6, 5, 27, 26. 5 if the chunk has

@@ -62,5 +62,6 @@ run 'rt gcc' bench/table_calls.sh 1 1
 run 'rt gcc' bench/record_calls.sh 1 1
 run 'rt gcc' bench/files.sh 1 1
 run 'rt gcc awk od' bench/record_script.sh 1000 1
+run 'rt python3' bench/many_files.sh 500 1000
 [ "$failed" = 0 ] || exit 1
 [ "$missing" = 0 ] || exit 2

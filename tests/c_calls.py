@@ -87,6 +87,7 @@ class Library:
             ("put_back", [c.POINTER(Loan)], None),
             ("lent", [c.POINTER(U32)], BOOL),
             ("loan_above", [U32, c.POINTER(U32), c.POINTER(U32)], BOOL),
+            ("loans", [c.POINTER(U32), SIZE, c.POINTER(SIZE)], U32),
             ("lock_pointer", [U32, c.POINTER(c.c_void_p), c.POINTER(SIZE)], U32),
             ("unlock_handle", [U32], U32),
             ("start", [c.POINTER(c.c_void_p)], None),
@@ -283,10 +284,13 @@ class Store:
         """Returns the names of all lent chunks, in order of their places."""
         if not self.is_open:
             raise ValueError("the store is closed")
-        names, name, place = [], U32(), U32()
-        while self.so.palmheap_loan_above(c.byref(self.place), place.value, c.byref(name), c.byref(place)):
-            names.append(name.value)
-        return names
+        count = SIZE()
+        self.so.palmheap_loans(c.byref(self.place), None, 0, c.byref(count))
+        names = (U32 * count.value)()
+        refusal = self.so.palmheap_loans(c.byref(self.place), names, count.value, c.byref(count))
+        if refusal:
+            raise Refused(refusal)
+        return list(names)
 
 
 def main():

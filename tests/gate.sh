@@ -29,6 +29,9 @@ run tests/dropped_loans.sh
 if [ -x "$program" ]; then
     run tests/program.sh "$program"
     run tests/maps.sh "$program"
+else
+    echo "FAILED tests/program.sh and tests/maps.sh: there is no $program"
+    failed=1
 fi
 tail -n 1 "$log"
 exit "$failed"

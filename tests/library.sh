@@ -7,9 +7,10 @@
 # sanitizers, and compares the library with the commands `list` and `canonical` on FILES damaged files (100000). It
 # compares as many calls on a store, and palmheap_run on scripts of the same calls, with the command `run`: by text,
 # files and image, with buffers that are long enough or too short, and on scripts and images with faults.
-# Lends chunks at random, 10 steps for each of FILES. Links by pkg-config, shared and static, sees that wrong headers are
-# refused, and lets each allocation fail in turn. Makes calls that only ask in threads, also under helgrind. Compares the
-# names that the library exports, and its version, with the header.
+# Passes NULL with the length 0. Lends chunks at random, 10 steps for each of FILES. Damages each field of a file.
+# Links by pkg-config, shared and static, sees that wrong headers are refused, and lets
+# each allocation fail in turn. Makes calls that only ask in threads, also under helgrind. Compares the names that the
+# library exports, and its version, with the header.
 # Needs rt, gcc and python3. Without g++, pkg-config, valgrind or cargo, it leaves out what they run, and says so.
 # PALMHEAP names a built program to compare with (./palmheap). The status is 1 if something differs. The gate doesn't
 # run this.
@@ -82,6 +83,10 @@ for case in 'plain' 'sanitized -fsanitize=address,undefined -fno-sanitize-recove
     "$room/$name.loan" >"$room/$name.loan.txt" || fail "the $name loan failed"
     "$room/$name.locks" >"$room/$name.locks.txt" || fail "the $name locks failed"
     # shellcheck disable=SC2086
+    gcc $flags ${case#"$name"} "$top/tests/library_edges.c" "$static" -o "$room/$name.edges" ||
+        fail "the $name test of NULL and of equal blocks was not built"
+    "$room/$name.edges" >"$room/$name.edges.txt" || { cat "$room/$name.edges.txt"; fail "the $name test of NULL failed"; }
+    # shellcheck disable=SC2086
     gcc $flags ${case#"$name"} "$top/tests/library_loans.c" "$static" -o "$room/$name.loans" ||
         fail "the $name test of loans was not built"
     "$room/$name.loans" $((10 * files)) 1 >"$room/$name.loans.txt" ||
@@ -127,6 +132,10 @@ wraps=-Wl,--wrap=malloc,--wrap=realloc,--wrap=free
 gcc $flags $wraps "$top/tests/library_memory.c" "$static" -o "$room/plain.memory" ||
     fail 'the test of memory was not built'
 "$room/plain.memory" >"$room/memory.txt" || { cat "$room/memory.txt"; fail 'a failed allocation does harm'; }
+# Files have faults at the places that the library says.
+# shellcheck disable=SC2086
+gcc $flags "$top/tests/library_files.c" "$static" -o "$room/plain.files" || fail 'the test of files was not built'
+"$room/plain.files" >"$room/files.txt" || { cat "$room/files.txt"; fail 'the test of files failed'; }
 # docs/C-LIBRARY.md says what stack is enough.
 # shellcheck disable=SC2086
 gcc $flags "$top/tests/library_stack.c" "$static" -o "$room/plain.stack" || fail 'the test of the stack was not built'
@@ -154,7 +163,7 @@ gcc $flags -pthread "$top/tests/library_threads.c" "$static" -o "$room/plain.thr
 "$room/plain.threads" "$files" || fail 'calls that only ask disturb each other'
 
 if command -v valgrind >/dev/null; then
-    for words in "demo $room/memos.pdb $room/out" "store $room/out" loan locks memory 'loans 10000 2'; do
+    for words in "demo $room/memos.pdb $room/out" "store $room/out" loan locks memory files edges 'loans 10000 2'; do
         # shellcheck disable=SC2086
         valgrind -q --error-exitcode=9 --leak-check=full --errors-for-leak-kinds=all "$room"/plain.$words >/dev/null ||
             fail 'valgrind found an error'

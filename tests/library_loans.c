@@ -246,16 +246,26 @@ static void give_back(struct chunk *it) {
 
 /* Finds each lent chunk once, in order of place. */
 static void check_lent(void) {
-    uint32_t after = 0, found = 0, name, place;
+    uint32_t after = 0, found = 0, name, place, names[MOST] = {0};
+    size_t all = 0;
+    want("loans", palmheap_loans(&store, names, MOST, &all), 0);
     while (palmheap_loan_above(&store, after, &name, &place)) {
         uint32_t i = 0;
         while (i < count && (chunks[i].name != name || chunks[i].bytes == NULL)) i++;
         if (i == count || place <= after) fail("a lent chunk", name, place);
+        if (found == all || names[found] != name) fail("all lent chunks", name, found);
         if (chunks[i].bytes != start_of_image() + place) fail("the address of a lent chunk", name, place);
         after = place;
         found++;
     }
     if (found != out || palmheap_lent(&store, &name) != (out != 0)) fail("lent chunks", found, out);
+    if (found != all) fail("the number of all lent chunks", found, (uint32_t)all);
+    /* one place less than there are lent chunks, and the number alone */
+    const uint32_t short_of = found ? PALMHEAP_CALL_NO_ROOM : 0, first = names[0];
+    names[0] = first + 1;
+    want("loans without room", palmheap_loans(&store, names, found ? found - 1 : 0, &all), short_of);
+    want("the number of loans", palmheap_loans(&store, NULL, 0, &all), short_of);
+    if (found != all || names[0] != first + 1) fail("loans without room", found, (uint32_t)all);
 }
 
 /* Unlocks an address that no pointer has: NULL, one before, behind or within the image, or in the body of a chunk. */

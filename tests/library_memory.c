@@ -64,14 +64,27 @@ static uint32_t chunk;
 /* ---- the functions that allocate */
 
 static uint32_t blocks_of(void) { return palmheap_pdb_blocks(file, sizeof file, memory.places, 8, &memory.count).kind; }
+static uint32_t pdb_read(void) {
+    palmheap_database_info header;
+    palmheap_block app, sort;
+    palmheap_file_entry entry;
+    return palmheap_pdb_read(file, sizeof file, &header, &app, &sort, &entry, 1, &memory.count).kind;
+}
+
 static uint32_t canonical(void) { return palmheap_canonical(file, sizeof file, memory.out, OUT, &memory.count).kind; }
 static uint32_t list(void) { return palmheap_pdb_list(file, sizeof file, memory.out, OUT, &memory.count).kind; }
 static uint32_t new(void) { return palmheap_new(memory.image, SIZE, 40).kind; }
+static uint32_t new_chained(void) { return palmheap_new_chained(memory.image, SIZE, 40).kind; }
 static uint32_t check(void) { return palmheap_check(memory.image, SIZE, &memory.counts).kind; }
 static uint32_t open_store(void) { return palmheap_open(memory.image, SIZE, &memory.opened).kind; }
 static uint32_t write_image(void) { return palmheap_write_image(&store, memory.out, OUT, &memory.count); }
 static uint32_t import(void) { return palmheap_import(&store, file, sizeof file, &memory.db); }
 static uint32_t export(void) { return palmheap_export(&store, memory.db, memory.out, OUT, &memory.count); }
+
+static uint32_t explain(void) {
+    return palmheap_explain((const uint8_t *)"BadSize", 7, memory.out, OUT, &memory.count);
+}
+
 
 static uint32_t lock_pointer(void) { return palmheap_lock_pointer(&store, chunk, &memory.bytes, &memory.count); }
 
@@ -112,8 +125,10 @@ int main(void) {
     memset(&memory, 165, sizeof memory);
     memory.opened = (palmheap_store){0};
     try("pdb_blocks", blocks_of, PALMHEAP_NO_MEMORY, 0);
+    try("pdb_read", pdb_read, PALMHEAP_NO_MEMORY, 0);
     try("canonical", canonical, PALMHEAP_NO_MEMORY, 0);
     try("pdb_list", list, PALMHEAP_NO_MEMORY, 0);
+    try("new_chained", new_chained, PALMHEAP_NO_MEMORY, 0);
     try("new", new, PALMHEAP_NO_MEMORY, 0);
     try("check", check, PALMHEAP_NO_MEMORY, 0);
     int closed = blocks;
@@ -125,6 +140,7 @@ int main(void) {
     try("import", import, PALMHEAP_REFUSED_OUT_OF_MEMORY, 0);
     try("export", export, PALMHEAP_REFUSED_OUT_OF_MEMORY, 0);
     try("write_image", write_image, PALMHEAP_REFUSED_OUT_OF_MEMORY, 0);
+    try("explain", explain, PALMHEAP_REFUSED_OUT_OF_MEMORY, 0);
     try("run", run, PALMHEAP_NO_MEMORY, 0);
     uint8_t locks;
     if (palmheap_MemHandleNew(&store, 8, 1, &chunk) != 0) return 1;

@@ -13,7 +13,7 @@
 #include <stdlib.h>
 #include <string.h>
 
-enum { SIZE = 4096, SLOTS = 40, THREADS = 4, KIND = 0x636f6465, CALLS = 28 };
+enum { SIZE = 4096, SLOTS = 40, THREADS = 4, KIND = 0x636f6465, CALLS = 29 };
 
 /* What all calls return and write. */
 struct answers {
@@ -22,7 +22,7 @@ struct answers {
     palmheap_record_info record;
     palmheap_resource_info resource;
     uint8_t owner, locks, bytes[64], file[1024], image[SIZE], *start;
-    size_t read, exported, written;
+    size_t read, exported, written, lent;
 };
 
 static palmheap_store store;
@@ -74,6 +74,7 @@ static void ask(const palmheap_store *it, struct answers *out) {
     *result++ = palmheap_write_image(it, out->image, sizeof out->image, &out->written);
     *result++ = palmheap_lent(it, number++);
     *result++ = palmheap_loan_above(it, 0, number, number + 1);
+    *result++ = palmheap_loans(it, number + 2, 1, &out->lent);
     palmheap_start(it, &out->start);
     clear_end(&out->database, offsetof(palmheap_database_info, entry_count) + 2, sizeof out->database);
     clear_end(&out->record, offsetof(palmheap_record_info, has_data) + 1, sizeof out->record);

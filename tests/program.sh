@@ -57,6 +57,15 @@ done
 is 'a refused image' "$("$program" explain BadMagic)" "$("$program" explain 'bad BadMagic')"
 is 'a numbered refusal' "$("$program" explain 1)" "$("$program" explain '3 refused 1 InvalidHandle')"
 
+# each name that the completion of explain gives is explained, and each line of zsh's has the same names
+names=$(sed -n "s/^ *local names='\(.*\)'\$/\1/p" "$top/share/palmheap.bash")
+is 'the names are found' 61 "$(echo $names | wc -w)"
+is 'the names in zsh' "    compadd -- $names --help" "$(grep 'compadd -- Already' "$top/share/_palmheap")"
+for name in $names; do
+    "$program" explain "$name" >/dev/null 2>&1
+    is "explain $name, status" 0 "$?"
+done
+
 # a word in other bytes than UTF-8
 says 'a path in Windows-1252' 2 '' "error: a word of the command line isn't UTF-8" check "$(printf 'caf\351.img')"
 
@@ -178,6 +187,56 @@ says 'a block that is not there' 1 '' 'refused 14 IndexOutOfRange
 empty.pdb: it has 0 entries, the first is 0' get empty.pdb 0
 says 'words that ask for no block' 2 '' "error: 'first' is no block: it is the index of an entry, 'app', 'sort', or the type and the id of a resource" get none.pdb first
 
+# several files: each has its report, whatever becomes of the others
+mkdir many
+cp empty.pdb many/a.pdb
+cp empty.pdb many/b.pdb
+printf short >many/short.pdb
+head -c 16777217 /dev/zero >many/long.pdb
+mkdir many/folder
+says 'several files' 3 '==> many/a.pdb <==
+changes filler
+==> many/short.pdb <==
+bad Truncated
+at 5
+==> many/b.pdb <==
+changes filler' 'fault read
+many/none.pdb: No such file or directory (os error 2)
+many/short.pdb: 5 bytes, and at least 78 are needed
+fault read
+many/folder: Is a directory (os error 21)
+fault read
+many/long.pdb: longer than 16777216 bytes' \
+    canonical --check many/a.pdb many/none.pdb many/short.pdb many/folder many/long.pdb many/b.pdb
+says 'one file of two is refused' 1 '{"path":"many/short.pdb","fault":"Truncated","numbers":[],"at":5}' \
+    'many/short.pdb: 5 bytes, and at least 78 are needed' list --json --path many/short.pdb
+
+# calls for single files add up to one call for all of them
+for words in list 'list --json' 'canonical --check'; do
+    for file in many/a.pdb many/short.pdb many/b.pdb; do
+        "$program" $words --path "$file" 2>complained
+    done >printed
+    is "$words of several files" "$(cat printed)" "$("$program" $words many/a.pdb many/short.pdb many/b.pdb 2>complained)"
+done
+"$program" list many/a.pdb many/b.pdb >/dev/full 2>complained
+is 'several files to a full device, status' 3 "$?"
+is 'several files to a full device' 'fault write
+standard output: No space left on device (os error 28)' "$(cat complained)"
+is 'several files, and a pipe that is closed' '==> many/a.pdb <==' "$("$program" list many/a.pdb many/b.pdb many/none.pdb 2>complained | head -n 1)"
+rm -r many printed complained
+
+# the bytes of a file are freed before the next one is read: 64 files of 2 MB in 24 MB of memory
+{
+    printf Large
+    head -c 55 /dev/zero
+    printf 'DATATest\000\000\000\000\000\000\000\000\000\001\000\000\000\130\000\000\000\001'
+    head -c 2000000 /dev/zero
+} >large.pdb
+paths=
+for file in 1 2 3 4 5 6 7 8; do paths="$paths large.pdb large.pdb large.pdb large.pdb large.pdb large.pdb large.pdb large.pdb"; done
+is '64 files in 24 MB' 64 "$( (ulimit -v 24576 && exec "$program" canonical --check $paths) 2>&1 | grep -c '^canonical$')"
+rm large.pdb
+
 # folders of parts: what is there stays, a part is a file, and what can't be written whole leaves nothing
 says 'a file that is unpacked' 0 'ok 1' '' unpack empty.pdb parts
 says 'a folder that is there' 3 '' 'fault write
@@ -258,6 +317,14 @@ rm files/Other.pdb
 says 'a folder that is there' 0 'ok 1' '' export c.img files Other
 is 'the file of a name' '' "$(cmp other.pdb files/Other.pdb 2>&1)"
 rm files/Other.pdb
+# two names that differ only in case: here is what a file system shows that takes one of them alone
+sed '1s/^Empty/EMPTY/' wanted.pdb >upper.pdb
+"$program" import cases.img empty.pdb upper.pdb >/dev/null
+echo here >files/EMPTY.pdb
+says 'a name that differs only in case' 3 '' 'fault write
+files/EMPTY.pdb: there is a file of this name, or Empty.pdb if case makes no difference here' export cases.img files
+is 'no other file is there after it' EMPTY.pdb "$(ls files)"
+rm files/EMPTY.pdb cases.img upper.pdb
 says 'a name that no database has' 1 'refused 10 NoSuchDatabase' 'Full: refused' export c.img files Full
 (trap '' XFSZ; ulimit -f 0 && exec "$program" export c.img full) >printed 2>complained
 is 'an exported file over a limit leaves nothing' '' "$(ls full files 2>/dev/null | grep -v :)"

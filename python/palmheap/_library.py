@@ -27,8 +27,16 @@ class Counts(c.Structure):
     _fields_ = [("size", U32), ("slots", U32), ("movable", U32), ("fixed", U32), ("free", U32), ("databases", U32)]
 
 
+class Damage(c.Structure):
+    _fields_ = [("at", SIZE), ("found", SIZE), ("least", SIZE), ("most", SIZE), ("or_zero", BOOL)]
+
+
 class Block(c.Structure):
     _fields_ = [("start", SIZE), ("end", SIZE), ("is_there", BOOL)]
+
+
+class FileEntry(c.Structure):
+    _fields_ = [("start", SIZE), ("end", SIZE), ("kind", U32), ("id", U32), ("attributes", U8), ("has_data", BOOL)]
 
 
 class Bytes(c.Structure):
@@ -76,7 +84,9 @@ class ResourceInfo(c.Structure):
 STRUCTURES = {
     "palmheap_answer": Answer,
     "palmheap_counts": Counts,
+    "palmheap_damage": Damage,
     "palmheap_block": Block,
+    "palmheap_file_entry": FileEntry,
     "palmheap_bytes": Bytes,
     "palmheap_sizes": Sizes,
     "palmheap_store": Place,

@@ -1,7 +1,8 @@
 //! Reading an image into a region, without another copy of it.
 
-ghost use Rattle.std.specs.Prelude.{[], ◌≡◌, ◌≢◌, ◌+◌, ◌≤◌, ◌<◌, Err, IfOk, OnOk, OnErr, IfSome, None, length, take};
+ghost use Rattle.std.specs.Prelude.{[], ◌≡◌, ◌≢◌, ◌+◌, ◌≤◌, ◌<◌, Err, IfOk, IfErr, OnOk, OnErr, IfSome, None, length, take};
 ghost use Rattle.std.specs.Io.KnownBytes.{IsAtEnd, Keeps, prepend_known};
+ghost use Rattle.command_files.specs.Sized.{IsOfSizedReading};
 
 use allowance::{Allowance, zeros};
 use program_io::{InputFault, MOST_INPUT, MOST_READ, read_once};
@@ -74,6 +75,7 @@ pub fn read_region_from<A: Allowance, R: Read>(
     ensures size { result ≡ Err SizedFault.OtherSize
         → IfSome (R.remaining reader.old) (λ all. length all ≢ size) }
     ensures no_memory { result ≡ Err (SizedFault.Input InputFault.Memory) → A.is_short memory.now }
+    ensures of_reading { IfErr result IsOfSizedReading }
 {
     let Ok(mut turn) = buffer(memory) else {
         return Err(SizedFault::Input(InputFault::Memory));
@@ -120,6 +122,7 @@ fn fill<R: Read>(
         → IfSome (prepend_known (take at.old region.old.bytes) (R.remaining reader.old))
         (λ all. length region.old.bytes < length all) }
     ensures no_memory { result ≢ Err (SizedFault.Input InputFault.Memory) }
+    ensures of_reading { IfErr result IsOfSizedReading }
 {
     let n = match read_once(reader, turn) {
         Ok(n) => n,

@@ -2,3 +2,4 @@ pub mod Printed
 pub mod PartStatuses
 pub mod ResourceData
 pub mod Got
+pub mod Reported

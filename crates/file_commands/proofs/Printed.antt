@@ -7,10 +7,12 @@ use Rattle.palm_text.specs.Output.{Puts, output}
 use Rattle.palm_text.proofs.Parts.{then_flush}
 use Rattle.canonical_file.specs.Canonical.{IsCanonical, WritesCanonical, WroteCanonical}
 use Rattle.canonical_file.specs.Changes.{AreChanges, changes_line}
+use Rattle.canonical_file.specs.declared.changes.Changes.{Changes}
 use Rattle.file_listing.specs.declared.rows.Row.{Row}
+use Rattle.file_listing.specs.Lines.{heading}
 use Rattle.file_listing.specs.Listing.{WritesListing, fault_row}
 use Rattle.file_commands.specs.declared.faults.Rewritten.{Rewritten}
-use Rattle.file_commands.specs.Ends.{PutsListing, PutsFaultRow, PutsCanonical, PutsPart, WroteWhole, count_line, rewritten_lines}
+use Rattle.file_commands.specs.Ends.{IsChangesText, PutsText, PutsListing, PutsFaultRow, PutsCanonical, PutsPart, WroteWhole, count_line, rewritten_lines}
 
 module _ {V : Type 0} (contents : V → Option (List ℕ)) where
   pub puts_fault : (row_text : Row → List ℕ) (old new : Writing V) (file : List ℕ) (fault : FileFault) (ok : Bool) → IsFirstFault file fault → Puts contents old new (row_text (fault_row file fault)) ok → PutsFaultRow row_text file contents old new ok
@@ -23,6 +25,10 @@ module _ {V : Type 0} (contents : V → Option (List ℕ)) where
   -- a write of it failed
   pub listing_stops : (row_text : Row → List ℕ) (old new : Writing V) (file : List ℕ) → HasNoFault file → WritesListing row_text file contents old new false → PutsListing row_text file contents old new false
   listing_stops row_text old new file good listing = (good, (listing.0, listing.1, inl listing.2))
+
+  -- the line of the changes of a file
+  pub puts_changes : (path : Option (List ℕ)) (old new : Writing V) (file : List ℕ) (changes : Changes) (ok : Bool) → HasNoFault file → AreChanges file changes → Puts contents old new (heading path ++ changes_line changes) ok → PutsText (IsChangesText path file) file contents old new ok
+  puts_changes path old new file changes ok good are puts = (good, (heading path ++ changes_line changes, (changes, are, refl), puts))
 
   -- a file that is its own canonical form
   pub wrote_same : (old new : Writing V) (file : List ℕ) → IsCanonical file file → Writes contents old new file true → WroteCanonical file contents old new (length file)

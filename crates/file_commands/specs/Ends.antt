@@ -1,6 +1,6 @@
 -- What the commands write, by their status. A definition that ends in a `Bool` has it true if all
 -- was written and flushed, and false if a write or a flush failed.
-use Rattle.std.specs.Prelude.{◌≡◌, ◌≢◌, ◌⊎◌, ◌++◌, ℕ, Bool, true, false, List, length, Option, codes, decimal}
+use Rattle.std.specs.Prelude.{◌≡◌, ◌≢◌, ◌⊎◌, ◌++◌, ℕ, Bool, true, false, List, length, Option, None, codes, decimal}
 use Rattle.heap_model.specs.Files.{HasNoFault, IsFirstFault}
 use Rattle.heap_model.specs.declared.file_fault.FileFault.{FileFault}
 use Rattle.palm_text.specs.Counted.{Writing}
@@ -9,15 +9,19 @@ use Rattle.canonical_file.specs.Canonical.{IsCanonical}
 use Rattle.canonical_file.specs.declared.changes.Changes.{Changes}
 use Rattle.canonical_file.specs.Changes.{AreChanges, changes_line}
 use Rattle.file_listing.specs.declared.rows.Row.{Row}
-use Rattle.file_listing.specs.Lines.{listing_line}
+use Rattle.file_listing.specs.Lines.{heading, listing_line}
 use Rattle.file_listing.specs.Listing.{IsListingBy, fault_row}
 use Rattle.file_commands.specs.declared.faults.Rewritten.{Rewritten}
 use Rattle.program_io.specs.declared.status.Status.{Status}
 use Rattle.program_io.specs.declared.status.Status.TheVariants.{Done, Refused, BadWords, ReadFault, WriteFault, NoMemory}
 
+-- a text of this kind, for a file without fault
+abbrev pub PutsText : {V : Type 0} → (List ℕ → Type 0) → List ℕ → (V → Option (List ℕ)) → Writing V → Writing V → Bool → Type 0
+PutsText IsText file contents old new ok = HasNoFault file × ((text : List ℕ) × IsText text × Puts contents old new text ok)
+
 -- the listing of a file without fault, with this text for each row
 abbrev pub PutsListing : {V : Type 0} → (Row → List ℕ) → List ℕ → (V → Option (List ℕ)) → Writing V → Writing V → Bool → Type 0
-PutsListing row_text file contents old new ok = HasNoFault file × ((text : List ℕ) × IsListingBy row_text file text × Puts contents old new text ok)
+PutsListing row_text file contents old new ok = PutsText (IsListingBy row_text file) file contents old new ok
 
 -- the row of the first fault of a file
 abbrev pub PutsFaultRow : {V : Type 0} → (Row → List ℕ) → List ℕ → (V → Option (List ℕ)) → Writing V → Writing V → Bool → Type 0
@@ -25,16 +29,28 @@ PutsFaultRow row_text file contents old new ok = (fault : FileFault) × IsFirstF
 
 -- its lines
 abbrev pub PutsFault : {V : Type 0} → List ℕ → (V → Option (List ℕ)) → Writing V → Writing V → Bool → Type 0
-PutsFault file contents old new ok = PutsFaultRow listing_line file contents old new ok
+PutsFault file contents old new ok = PutsFaultRow (listing_line None) file contents old new ok
 
--- what `list` wrote for a file: `listing_line` has its text for each row, and `listing_json` of json_documents that of `list --json`
-pub record EndsList {V : Type 0} (row_text : Row → List ℕ) (file : List ℕ) (contents : V → Option (List ℕ)) (old new : Writing V) (status : Status) : Type 0 where
-  pub done : status ≡ Done → PutsListing row_text file contents old new true
+-- what a command wrote for a file: a text of this kind for a file without fault, and the row of the first fault for another
+pub record EndsText {V : Type 0} (IsText : List ℕ → Type 0) (row_text : Row → List ℕ) (file : List ℕ) (contents : V → Option (List ℕ)) (old new : Writing V) (status : Status) : Type 0 where
+  pub done : status ≡ Done → PutsText IsText file contents old new true
   pub refused : status ≡ Refused → PutsFaultRow row_text file contents old new true
   pub no_memory : status ≡ NoMemory → HasNoFault file × (new ≡ old)
-  pub write_fault : status ≡ WriteFault → PutsListing row_text file contents old new false ⊎ PutsFaultRow row_text file contents old new false
+  pub write_fault : status ≡ WriteFault → PutsText IsText file contents old new false ⊎ PutsFaultRow row_text file contents old new false
   pub good_words : status ≢ BadWords
   pub reads_nothing : status ≢ ReadFault
+
+-- what `list` wrote for a file: `listing_line` has its text for each row, and `listing_json` of json_documents that of `list --json`
+abbrev pub EndsList : {V : Type 0} → (Row → List ℕ) → List ℕ → (V → Option (List ℕ)) → Writing V → Writing V → Status → Type 0
+EndsList row_text file contents old new status = EndsText (IsListingBy row_text file) row_text file contents old new status
+
+-- the line of the changes of a file, after the line with its path if there is one
+abbrev pub IsChangesText : (path : Option (List ℕ)) → (file text : List ℕ) → Type 0
+IsChangesText path file text = (changes : Changes) × AreChanges file changes × (text ≡ heading path ++ changes_line changes)
+
+-- what `canonical --check` wrote for a file
+abbrev pub EndsChanges : {V : Type 0} → (path : Option (List ℕ)) → List ℕ → (V → Option (List ℕ)) → Writing V → Writing V → Status → Type 0
+EndsChanges path file contents old new status = EndsText (IsChangesText path file) (listing_line path) file contents old new status
 
 -- the line with the number of bytes that were written
 unfoldable pub count_line : ℕ → List ℕ

@@ -1,4 +1,5 @@
 pub mod Ends
+pub mod Reports
 pub mod Parts
 pub mod LineFaults
 pub mod WantedBlocks

@@ -38,7 +38,12 @@ pub fn cmd_canonical_from<A: Allowance, W: Write, V: Write>(
             Ok(()) => Status::Done,
             Err(_) => Status::WriteFault,
         },
-        Err(CanonicalFault::BadFile(fault)) => say_fault::<TextRows, V>(out, file, fault),
+        Err(CanonicalFault::BadFile(fault)) => say_fault(
+            &TextRows { path: None },
+            out,
+            file,
+            fault,
+        ),
         Err(CanonicalFault::OutOfMemory) => Status::NoMemory,
         Err(CanonicalFault::Write) => Status::WriteFault,
     }

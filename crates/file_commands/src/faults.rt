@@ -19,22 +19,24 @@ use std::io::Write;
 /// Writes the row of the first fault of a file, and flushes `out`.
 #[tactic(auto, using(palm_text::proofs::Parts::then_flush))]
 fn put_fault_row<N: Notation, V: Write>(
+    notation: &N,
     out: &mut Counted<V>,
     file: &[u8],
     fault: FileFault,
 ) -> Result<(), WriteFault>
     requires short { length file.now ≤ most_bytes }
     requires first { IsFirstFault file.now fault }
-    ensures { Puts V.contents out.old out.new (N.row_text (fault_row file.now fault))
+    ensures { Puts V.contents out.old out.new (N.row_text notation.now (fault_row file.now fault))
         (is_ok result) }
 {
-    put_fault::<N, V>(out, file, fault)?;
+    put_fault(notation, out, file, fault)?;
     flushed(out)
 }
 
 /// Prints the row of the first fault of a file.
 #[tactic(auto, using(crate::proofs::Printed::puts_fault))]
 pub(crate) fn say_fault<N: Notation, V: Write>(
+    notation: &N,
     out: &mut Counted<V>,
     file: &[u8],
     fault: FileFault,
@@ -43,11 +45,11 @@ pub(crate) fn say_fault<N: Notation, V: Write>(
     requires first { IsFirstFault file.now fault }
     ensures statuses { (result ≡ Status.Refused) ⊎ (result ≡ Status.WriteFault) }
     ensures refused { result ≡ Status.Refused
-        → PutsFaultRow N.row_text file.now V.contents out.old out.new true }
+        → PutsFaultRow (N.row_text notation.now) file.now V.contents out.old out.new true }
     ensures write { result ≡ Status.WriteFault
-        → PutsFaultRow N.row_text file.now V.contents out.old out.new false }
+        → PutsFaultRow (N.row_text notation.now) file.now V.contents out.old out.new false }
 {
-    match put_fault_row::<N, V>(out, file, fault) {
+    match put_fault_row(notation, out, file, fault) {
         Ok(()) => Status::Refused,
         Err(_) => Status::WriteFault,
     }

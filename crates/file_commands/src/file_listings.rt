@@ -1,18 +1,17 @@
 //! The commands `list`, `list --json` and `canonical`, over files.
 
-ghost use Rattle.std.specs.Prelude.{◌≢◌, ◌≤◌, length};
+ghost use Rattle.std.specs.Prelude.{◌≢◌, ◌≤◌, ⊤, length};
 
 use crate::canonical_command::cmd_canonical_from;
 use crate::comments::{DROPPED, WOULD_BE_DROPPED, comment_on_file, name_dropped};
-use crate::list_command::cmd_list_from;
+use crate::inputs::Inputs;
+use crate::reports::{Asked, cmd_reports_from};
 use command_files::{
     STANDARD_ERROR, STANDARD_OUTPUT, STANDARD_STREAM, buffered_fault, fail, output_for_database,
-    read_file_or_input, report_buffered,
+    read_file_or_input,
 };
-use file_listing::{Notation, TextRows};
-use json_documents::JsonRows;
 use palm_text::Counted;
-use program_io::{ErrorOutput, MOST_INPUT, Noted, Status, report_outcome};
+use program_io::{ErrorOutput, MOST_INPUT, Noted, Status, report_fault, report_outcome};
 use std::alloc::Global;
 use std::io;
 use std::io::{BufWriter, Input, Write};
@@ -21,39 +20,46 @@ use std::rt::Files;
 /// The size of the buffer for a canonical form in bytes.
 const BUFFER_SIZE: usize = 65_536;
 
-/// Runs `list`. The path `-` means standard input.
-pub fn list<R: Files + Input + Print + Eprint + AllocGlobal>(rt: &R, path: &str) -> Status
-    ensures { result ≢ Status.BadWords }
-{
-    list_by::<TextRows, R>(rt, path)
+/// The files of the system. The path `-` means standard input.
+#[derive(Drop)]
+struct SystemFiles<'a, R> {
+    rt: &'a R,
 }
 
-/// Runs `list --json`. The path `-` means standard input.
-pub fn list_json<R: Files + Input + Print + Eprint + AllocGlobal>(rt: &R, path: &str) -> Status
-    ensures { result ≢ Status.BadWords }
-{
-    list_by::<JsonRows, R>(rt, path)
+impl<R: Files + Input + Eprint + AllocGlobal> Inputs for SystemFiles<'_, R> {
+    ghost gives = { λ _ _ _. ⊤ };
+
+    fn read(&self, path: &str) -> Result<Vec<u8>, Status> {
+        read_file_or_input(self.rt, path)
+    }
+
+    /// Reports on standard error if there was not enough memory, what the file looks like, what is
+    /// wrong with it, and what a rewrite drops.
+    fn note(&self, path: &str, status: Status, file: &[u8]) {
+        if status == Status::NoMemory {
+            report_fault(self.rt, status);
+        }
+        comment_on_file(self.rt, path, status, file);
+        name_dropped(self.rt, path, status, file, WOULD_BE_DROPPED);
+    }
 }
 
-/// Lists a file in a notation.
-fn list_by<N: Notation, R: Files + Input + Print + Eprint + AllocGlobal>(
+/// Runs `list`, `list --json` or `canonical --check` on some files.
+pub fn report_files<R: Files + Input + Print + Eprint + AllocGlobal>(
     rt: &R,
-    path: &str,
+    asked: Asked<'_>,
 ) -> Status
     ensures { result ≢ Status.BadWords }
 {
-    let file = match read_file_or_input(rt, path) {
-        Ok(file) => file,
-        Err(status) => return status,
-    };
     let Ok(out) = BufWriter::new(rt.alloc(), Noted::new(io::writer(rt))) else {
         return fail(rt, Status::NoMemory);
     };
     let mut out = Counted::new(out);
-    let status = cmd_list_from::<N, _, _>(&rt.alloc(), file.as_slice(), &mut out);
-    let status = report_buffered(rt, status, out);
-    comment_on_file(rt, path, status, file.as_slice());
-    name_dropped(rt, path, status, file.as_slice(), WOULD_BE_DROPPED);
+    let status = cmd_reports_from(&rt.alloc(), &SystemFiles { rt }, asked, &mut out);
+    let fault = buffered_fault(out.into_inner());
+    if status == Status::WriteFault {
+        report_outcome(rt, status, &[(STANDARD_OUTPUT, fault)]);
+    }
     status
 }
 

@@ -2,16 +2,23 @@
 //!
 //! Each is a function over bytes and counted writers, `cmd_list_from` for `list`. Its contract
 //! defines what is written, by the status that the command returns. `list` writes rows in a
-//! notation of `file_listing` or `json_documents`. The commands need no heap and no image. `say_line_fault` prints the line for a refused script, or for a refused text of a
-//! folder.
+//! notation of `file_listing` or `json_documents`. The commands need no heap and no image.
+//! `say_line_fault` prints the line for a refused script, or for a refused text of a folder.
 //!
-//! `list`, `list_json`, `canonical`, `get`, `unpack` and `pack` are the commands over files and
-//! folders. They call the system, and their clauses state only the statuses with which a command
-//! ends. The stored runs of `test_program` show which files are read and written.
+//! `list`, `list --json` and `canonical --check` take several files. `cmd_report_from` is the step
+//! for one of them, and `cmd_reports_from` does it for each file that a source gives
+//! (`specs/Reports.antt`).
+//!
+//! `report_files`, `canonical`, `get`, `unpack` and `pack` are the commands over files and folders.
+//! They call the system, and their clauses state only the statuses with which a command ends. The
+//! stored runs of `test_program` show which files are read and written.
 //!
 //! | module | does |
 //! |---|---|
-//! | `list_command`, `canonical_command` | the commands `list` and `canonical`, over bytes |
+//! | `list_command`, `changes_command` | the commands `list` and `canonical --check`, over bytes |
+//! | `reports` | these commands for one file, and for several files of a source |
+//! | `inputs` | a source of files |
+//! | `canonical_command` | the command `canonical`, over bytes |
 //! | `get_command` | the command `get`, over bytes |
 //! | `block_words`, `wanted` | the words that ask for a block; the block that is asked for |
 //! | `parts` | the commands `unpack` and `pack`, over bytes |
@@ -24,25 +31,31 @@
 
 mod block_words;
 mod canonical_command;
+mod changes_command;
 mod comments;
 mod faults;
 mod file_blocks;
 mod file_listings;
 mod folders;
 mod get_command;
+mod inputs;
 mod line_faults;
 mod list_command;
 mod parts;
+mod reports;
 mod wanted;
 
 pub use block_words::{WantedBlock, wanted_block};
 pub use canonical_command::cmd_canonical_from;
+pub use changes_command::cmd_changes_from;
 pub use comments::{comment_on_damage, name_each_dropped};
 pub use file_blocks::get;
-pub use file_listings::{canonical, list, list_json};
+pub use file_listings::{canonical, report_files};
 pub use folders::{pack, path_in, unpack};
 pub use get_command::cmd_get_from;
+pub use inputs::Inputs;
 pub use line_faults::say_line_fault;
 pub use list_command::cmd_list_from;
 pub use parts::{cmd_pack_from, list_parts, say_count, unpack_file};
+pub use reports::{Asked, Report, cmd_report_from, cmd_reports_from};
 pub use wanted::find_block;

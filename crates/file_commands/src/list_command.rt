@@ -16,16 +16,17 @@ use std::io::Write;
 /// first fault. Each allocation asks `memory` for a grant.
 pub fn cmd_list_from<N: Notation, A: Allowance, V: Write>(
     memory: &A,
+    notation: &N,
     file: &[u8],
     out: &mut Counted<V>,
 ) -> Status
     requires { length file.now ≤ most_bytes }
-    ensures ends { EndsList N.row_text file.now V.contents out.old out.new result }
+    ensures ends { EndsList (N.row_text notation.now) file.now V.contents out.old out.new result }
     ensures short { result ≡ Status.NoMemory → A.is_short memory.now }
 {
-    match put_flushed::<N, A, V>(memory, file, out) {
+    match put_flushed(memory, notation, file, out) {
         Ok(()) => Status::Done,
-        Err(ListFault::BadFile(fault)) => say_fault::<N, V>(out, file, fault),
+        Err(ListFault::BadFile(fault)) => say_fault(notation, out, file, fault),
         Err(ListFault::OutOfMemory) => Status::NoMemory,
         Err(ListFault::Write) => Status::WriteFault,
     }
@@ -35,18 +36,20 @@ pub fn cmd_list_from<N: Notation, A: Allowance, V: Write>(
 #[tactic(auto, using(crate::proofs::Printed::puts_listing, crate::proofs::Printed::listing_stops))]
 fn put_flushed<N: Notation, A: Allowance, V: Write>(
     memory: &A,
+    notation: &N,
     file: &[u8],
     out: &mut Counted<V>,
 ) -> Result<(), ListFault>
     requires { length file.now ≤ most_bytes }
-    ensures done { OnOk result (PutsListing N.row_text file.now V.contents out.old out.new true) }
+    ensures done { OnOk result
+        (PutsListing (N.row_text notation.now) file.now V.contents out.old out.new true) }
     ensures why { IfErr result (IsListFault file.now) }
     ensures untouched { IfErr result (λ fault. fault ≢ ListFault.Write → out.new ≡ out.old) }
     ensures write { result ≡ Err ListFault.Write
-        → PutsListing N.row_text file.now V.contents out.old out.new false }
+        → PutsListing (N.row_text notation.now) file.now V.contents out.old out.new false }
     ensures short { result ≡ Err ListFault.OutOfMemory → A.is_short memory.now }
 {
-    put_listing::<N, A, V>(memory, file, out)?;
+    put_listing(memory, notation, file, out)?;
     match flushed(out) {
         Ok(()) => Ok(()),
         Err(_) => Err(ListFault::Write),

@@ -48,7 +48,12 @@ pub fn unpack_file<'a, A: Allowance, V: Write>(
 {
     match unpack(memory, file) {
         Ok(unpacked) => Ok(unpacked),
-        Err(UnpackFault::BadFile(fault)) => Err(say_fault::<TextRows, V>(out, file, fault)),
+        Err(UnpackFault::BadFile(fault)) => Err(say_fault(
+            &TextRows { path: None },
+            out,
+            file,
+            fault,
+        )),
         Err(UnpackFault::OutOfMemory) => Err(Status::NoMemory),
     }
 }

@@ -61,29 +61,34 @@ slots_text slots = decimal slots ++ codes " slots in a heap\n"
 unfoldable pub needs_line : (size slots : ℕ) → List ℕ
 needs_line size slots = size_text size ++ slots_text slots
 
--- the line of a row. The row of the characters of a name has none if scripts spell the name in quotes.
-abbrev pub listing_line : Row → List ℕ
-listing_line (Fault fault at) = listed_fault fault at
-listing_line (Size size) = line (codes "ok ") (decimal size)
-listing_line (Name name) = line (codes "name ") (script_spelled name)
-listing_line (Attributes bits) = line (codes "attributes ") (encode_lower (u16_bytes bits))
-listing_line (Version version) = line (codes "version ") (decimal version)
-listing_line (Created moment) = moment_line (codes "created ") moment
-listing_line (Modified moment) = moment_line (codes "modified ") moment
-listing_line (Backup moment) = moment_line (codes "backup ") moment
-listing_line (Number number) = line (codes "number ") (decimal number)
-listing_line (Kind kind) = line (codes "type ") (script_spelled (u32_bytes kind))
-listing_line (Creator creator) = line (codes "creator ") (script_spelled (u32_bytes creator))
-listing_line (Seed seed) = line (codes "seed ") (encode_lower (u32_bytes seed))
-listing_line (Characters name) = text_between (codes "text \"") name (codes "\"\n")
-listing_line (App block) = extent_text (codes "app") block
-listing_line (Sort block) = extent_text (codes "sort") block
-listing_line (Count resources count) = line (count_word resources) (decimal count)
-listing_line (Record index attributes id block) = listed_entry index (encode_lower (attributes ∷ [])) id block
-listing_line (Resource index kind id block) = listed_entry index (script_spelled (u32_bytes kind)) id block
-listing_line (Needs size slots) = needs_line size slots
-listing_line (Changed changes) = changes_line changes
+-- the line with the path of a file, if there is one
+abbrev pub heading : (path : Option (List ℕ)) → List ℕ
+heading None = []
+heading (Some path) = codes "==> " ++ (path ++ codes " <==\n")
+
+-- The line of a row, with the heading before the first row of a file. The row of the characters of a name has none if scripts spell the name in quotes.
+abbrev pub listing_line : (path : Option (List ℕ)) → Row → List ℕ
+listing_line path (Fault fault at) = heading path ++ listed_fault fault at
+listing_line path (Size size) = heading path ++ line (codes "ok ") (decimal size)
+listing_line path (Name name) = line (codes "name ") (script_spelled name)
+listing_line path (Attributes bits) = line (codes "attributes ") (encode_lower (u16_bytes bits))
+listing_line path (Version version) = line (codes "version ") (decimal version)
+listing_line path (Created moment) = moment_line (codes "created ") moment
+listing_line path (Modified moment) = moment_line (codes "modified ") moment
+listing_line path (Backup moment) = moment_line (codes "backup ") moment
+listing_line path (Number number) = line (codes "number ") (decimal number)
+listing_line path (Kind kind) = line (codes "type ") (script_spelled (u32_bytes kind))
+listing_line path (Creator creator) = line (codes "creator ") (script_spelled (u32_bytes creator))
+listing_line path (Seed seed) = line (codes "seed ") (encode_lower (u32_bytes seed))
+listing_line path (Characters name) = text_between (codes "text \"") name (codes "\"\n")
+listing_line path (App block) = extent_text (codes "app") block
+listing_line path (Sort block) = extent_text (codes "sort") block
+listing_line path (Count resources count) = line (count_word resources) (decimal count)
+listing_line path (Record index attributes id block) = listed_entry index (encode_lower (attributes ∷ [])) id block
+listing_line path (Resource index kind id block) = listed_entry index (script_spelled (u32_bytes kind)) id block
+listing_line path (Needs size slots) = needs_line size slots
+listing_line path (Changed changes) = changes_line changes
 
 -- this is the listing of the file, in lines
 abbrev pub IsListing : (file text : List ℕ) → Type 0
-IsListing file text = IsListingBy listing_line file text
+IsListing file text = IsListingBy (listing_line None) file text

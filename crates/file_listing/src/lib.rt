@@ -21,7 +21,8 @@
 //! canonical
 //! ```
 //!
-//! If the name isn't spelled in quotes, the line `text` before `app` has its characters.
+//! If the name isn't spelled in quotes, the line `text` before `app` has its characters. If the
+//! notation has the path of the file, the line `==> PATH <==` comes first.
 //!
 //! A listing is a list of rows. `put_listing` walks over the file once and writes each row in a
 //! notation: `TextRows` writes these lines, and `json_documents` writes parts of a document. Start
@@ -40,7 +41,7 @@ mod walk;
 
 pub use damage::{Damage, damage_of, fault_place};
 pub use laws::damages_are_exact;
-pub use lines::TextRows;
+pub use lines::{TextRows, put_heading};
 pub use listing::{ListFault, put_fault, put_listing};
 pub use moments::put_moment;
 pub use rows::{Epoch, Extent, Moment, Notation, Row};

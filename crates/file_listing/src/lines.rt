@@ -1,10 +1,10 @@
 //! Rows as lines of text.
 
-ghost use Rattle.std.specs.Prelude.{◌≡◌, ◌++◌, codes, is_ok};
+ghost use Rattle.std.specs.Prelude.{◌≡◌, ◌++◌, codes, decimal, is_ok, option_map};
 ghost use Rattle.palm_text.specs.Counted.{Writes};
 ghost use Rattle.palm_text.specs.Pieces.{piece_text};
 ghost use Rattle.file_listing.specs.Lines as words;
-ghost use Rattle.file_listing.specs.Lines.{entry_start, epoch_end, extent_text, line, listed_entry, listed_fault, listing_line, moment_line, needs_line, seconds_text, size_text, slots_text};
+ghost use Rattle.file_listing.specs.Lines.{entry_start, epoch_end, extent_text, heading, line, listed_entry, listed_fault, listing_line, moment_line, needs_line, seconds_text, size_text, slots_text};
 
 use crate::moments::put_moment;
 use crate::rows::{Epoch, Extent, Moment, Notation, Row};
@@ -16,7 +16,34 @@ use std::io::Write;
 use unicode_text::put_text;
 
 /// The notation in lines of text.
-pub struct TextRows;
+#[derive(Clone, Copy)]
+pub struct TextRows<'a> {
+    /// The path of the file, if the lines begin with one that has it.
+    pub path: Option<&'a str>,
+}
+
+/// Writes the line with the path of a file, if there is one.
+///
+/// # Errors
+///
+/// - `WriteFault`: if a write failed, or took 0 bytes.
+#[tactic(auto, using(palm_text::proofs::Parts::nothing))]
+pub fn put_heading<W: Write>(out: &mut Counted<W>, path: Option<&str>) -> Result<(), WriteFault>
+    ensures { Writes W.contents out.old out.new (heading (option_map (λ path. path.now) path.entry))
+        (is_ok result) }
+{
+    match path {
+        None => Ok(()),
+        Some(path) => put_pieces(
+            out,
+            &[
+                Piece::Text(b"==> "),
+                Piece::Text(path.as_bytes()),
+                Piece::Text(b" <==\n"),
+            ],
+        ),
+    }
+}
 
 /// Writes a word and a value.
 fn put_line<'a, W: Write>(
@@ -47,6 +74,36 @@ fn put_bad<W: Write>(out: &mut Counted<W>, fault: FileFault, at: u32) -> Result<
             Piece::Text(b"\n"),
         ],
     )
+}
+
+/// Writes the heading, and the lines of a fault.
+#[tactic(auto, using(palm_text::proofs::Parts::then, palm_text::proofs::Parts::stops))]
+fn put_headed_fault<W: Write>(
+    out: &mut Counted<W>,
+    path: Option<&str>,
+    fault: FileFault,
+    at: u32,
+) -> Result<(), WriteFault>
+    ensures { Writes W.contents out.old out.new
+        (heading (option_map (λ path. path.now) path.entry) ++ listed_fault fault at) (is_ok result) }
+{
+    put_heading(out, path)?;
+    put_bad(out, fault, at)
+}
+
+/// Writes the heading, and the line with the size of a file.
+#[tactic(auto, using(palm_text::proofs::Parts::then, palm_text::proofs::Parts::stops))]
+fn put_headed_size<W: Write>(
+    out: &mut Counted<W>,
+    path: Option<&str>,
+    size: u32,
+) -> Result<(), WriteFault>
+    ensures { Writes W.contents out.old out.new
+        (heading (option_map (λ path. path.now) path.entry) ++ line (codes "ok ") (decimal size))
+        (is_ok result) }
+{
+    put_heading(out, path)?;
+    put_line(out, b"ok ", Piece::Number(size))
 }
 
 /// Writes a word and a number of seconds.
@@ -186,13 +243,13 @@ fn put_needs<W: Write>(out: &mut Counted<W>, size: u64, slots: u64) -> Result<()
     put_slots(out, slots)
 }
 
-impl Notation for TextRows {
-    ghost row_text = { listing_line };
+impl Notation for TextRows<'_> {
+    ghost row_text = { λ rows row. listing_line (option_map (λ path. path.now) rows.path) row };
 
-    fn put_row<W: Write>(out: &mut Counted<W>, row: &Row) -> Result<(), WriteFault> {
+    fn put_row<W: Write>(&self, out: &mut Counted<W>, row: &Row) -> Result<(), WriteFault> {
         match row {
-            Row::Fault { fault, at } => put_bad(out, *fault, *at),
-            Row::Size(size) => put_line(out, b"ok ", Piece::Number(*size)),
+            Row::Fault { fault, at } => put_headed_fault(out, self.path, *fault, *at),
+            Row::Size(size) => put_headed_size(out, self.path, *size),
             Row::Name(name) => put_line(out, b"name ", Piece::Spelled(name.name())),
             Row::Attributes(bits) => put_line(out, b"attributes ", Piece::Hex16(*bits)),
             Row::Version(number) => put_line(out, b"version ", Piece::Number(u32::from(*number))),

@@ -43,20 +43,22 @@ pub enum ListFault {
 /// - `Write`: if a write failed, or took 0 bytes.
 pub fn put_listing<N: Notation, A: Allowance, W: Write>(
     memory: &A,
+    notation: &N,
     file: &[u8],
     out: &mut Counted<W>,
 ) -> Result<(), ListFault>
     requires { length file.now ≤ most_bytes }
-    ensures done { OnOk result (WritesListing N.row_text file.now W.contents out.old out.new true) }
+    ensures done { OnOk result
+        (WritesListing (N.row_text notation.now) file.now W.contents out.old out.new true) }
     ensures good { OnOk result (HasNoFault file.now) }
     ensures why { IfErr result (IsListFault file.now) }
     ensures untouched { IfErr result (λ fault. fault ≢ ListFault.Write → out.new ≡ out.old) }
     ensures write { result ≡ Err ListFault.Write
-        → WritesListing N.row_text file.now W.contents out.old out.new false }
+        → WritesListing (N.row_text notation.now) file.now W.contents out.old out.new false }
     ensures short { result ≡ Err ListFault.OutOfMemory → A.is_short memory.now }
 {
     match PdbFile::open(memory, file) {
-        Ok(file) => put_opened::<N, A, W>(memory, &file, out),
+        Ok(file) => put_opened(memory, notation, &file, out),
         Err(OpenFault::BadFile(fault)) => Err(ListFault::BadFile(fault)),
         Err(OpenFault::OutOfMemory) => Err(ListFault::OutOfMemory),
     }
@@ -66,22 +68,24 @@ pub fn put_listing<N: Notation, A: Allowance, W: Write>(
 #[tactic(auto, using(crate::proofs::RowTexts::listed))]
 fn put_opened<N: Notation, A: Allowance, W: Write>(
     memory: &A,
+    notation: &N,
     file: &PdbFile<'_>,
     out: &mut Counted<W>,
 ) -> Result<(), ListFault>
     requires { length file.now ≤ most_bytes }
-    ensures done { OnOk result (WritesListing N.row_text file.now W.contents out.old out.new true) }
+    ensures done { OnOk result
+        (WritesListing (N.row_text notation.now) file.now W.contents out.old out.new true) }
     ensures why { IfErr result (IsListFault file.now) }
     ensures untouched { IfErr result (λ fault. fault ≢ ListFault.Write → out.new ≡ out.old) }
     ensures write { result ≡ Err ListFault.Write
-        → WritesListing N.row_text file.now W.contents out.old out.new false }
+        → WritesListing (N.row_text notation.now) file.now W.contents out.old out.new false }
     ensures short { result ≡ Err ListFault.OutOfMemory → A.is_short memory.now }
 {
     file.know_file();
     let Ok(facts) = facts_of(memory, file) else {
         return Err(ListFault::OutOfMemory);
     };
-    match put_rows_of::<N, W>(out, file, &facts) {
+    match put_rows_of(notation, out, file, &facts) {
         Ok(()) => Ok(()),
         Err(_) => Err(ListFault::Write),
     }
@@ -93,15 +97,16 @@ fn put_opened<N: Notation, A: Allowance, W: Write>(
 ///
 /// - `WriteFault`: if a write failed, or took 0 bytes.
 pub fn put_fault<N: Notation, W: Write>(
+    notation: &N,
     out: &mut Counted<W>,
     file: &[u8],
     fault: FileFault,
 ) -> Result<(), WriteFault>
     requires short { length file.now ≤ most_bytes }
     requires first { IsFirstFault file.now fault }
-    ensures { Writes W.contents out.old out.new (N.row_text (fault_row file.now fault))
+    ensures { Writes W.contents out.old out.new (N.row_text notation.now (fault_row file.now fault))
         (is_ok result) }
 {
     let at = fault_place(file, fault) as u32;
-    N::put_row(out, &Row::Fault { fault, at })
+    notation.put_row(out, &Row::Fault { fault, at })
 }

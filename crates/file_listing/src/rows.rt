@@ -87,16 +87,17 @@ pub enum Row {
     Changed(Changes),
 }
 
-/// A notation in which rows are written.
+/// A notation in which rows are written. If it has the path of a file, it writes the path before
+/// the first row.
 pub trait Notation {
     /// The text of a row.
-    ghost row_text: { Row → List ℕ };
+    ghost row_text: { Self → Row → List ℕ };
 
     /// Writes a row.
     ///
     /// # Errors
     ///
     /// - `WriteFault`: if a write failed, or took 0 bytes.
-    fn put_row<W: Write>(out: &mut Counted<W>, row: &Row) -> Result<(), WriteFault>
-        ensures { Writes W.contents out.old out.new (row_text row.now) (is_ok result) };
+    fn put_row<W: Write>(&self, out: &mut Counted<W>, row: &Row) -> Result<(), WriteFault>
+        ensures { Writes W.contents out.old out.new (row_text self.now row.now) (is_ok result) };
 }

@@ -19,11 +19,16 @@ use pdb_format::{Block, PdbFile};
 use std::io::Write;
 
 /// Writes rows, one after another.
-fn put_rows<N: Notation, W: Write>(out: &mut Counted<W>, rows: &[Row]) -> Result<(), WriteFault>
-    ensures { Writes W.contents out.old out.new (flat_map N.row_text rows.now) (is_ok result) }
+fn put_rows<N: Notation, W: Write>(
+    notation: &N,
+    out: &mut Counted<W>,
+    rows: &[Row],
+) -> Result<(), WriteFault>
+    ensures { Writes W.contents out.old out.new (flat_map (N.row_text notation.now) rows.now)
+        (is_ok result) }
 {
     for row in rows {
-        match N::put_row(out, row) {
+        match notation.put_row(out, row) {
             Ok(()) => {}
             Err(fault) => return Err(fault),
         }
@@ -57,16 +62,18 @@ fn info_of(file: &PdbFile<'_>, rank: usize) -> Option<Extent>
 
 /// Writes the rows before those of the entries.
 fn put_head<N: Notation, W: Write>(
+    notation: &N,
     out: &mut Counted<W>,
     file: &PdbFile<'_>,
     facts: &Facts,
 ) -> Result<(), WriteFault>
     requires { length file.now ≤ most_bytes }
     ensures { Writes W.contents out.old out.new
-        (flat_map N.row_text (first_rows file.now facts.now)) (is_ok result) }
+        (flat_map (N.row_text notation.now) (first_rows file.now facts.now)) (is_ok result) }
 {
     let header = file.header();
-    put_rows::<N, W>(
+    put_rows(
+        notation,
         out,
         &[
             Row::Size(file.bytes().len() as u32),
@@ -125,15 +132,16 @@ fn entry_row_at(file: &PdbFile<'_>, index: u16) -> Row
 
 /// Writes the rows of the entries.
 fn put_entries<N: Notation, W: Write>(
+    notation: &N,
     out: &mut Counted<W>,
     file: &PdbFile<'_>,
 ) -> Result<(), WriteFault>
     requires { length file.now ≤ most_bytes }
-    ensures { Writes W.contents out.old out.new (flat_map N.row_text (entry_rows file.now))
-        (is_ok result) }
+    ensures { Writes W.contents out.old out.new
+        (flat_map (N.row_text notation.now) (entry_rows file.now)) (is_ok result) }
 {
     for index in 0..file.entry_count() {
-        match N::put_row(out, &entry_row_at(file, index)) {
+        match notation.put_row(out, &entry_row_at(file, index)) {
             Ok(()) => {}
             Err(fault) => return Err(fault),
         }
@@ -143,15 +151,17 @@ fn put_entries<N: Notation, W: Write>(
 
 /// Writes the rows after those of the entries.
 fn put_last<N: Notation, W: Write>(
+    notation: &N,
     out: &mut Counted<W>,
     file: &PdbFile<'_>,
     facts: &Facts,
 ) -> Result<(), WriteFault>
-    ensures { Writes W.contents out.old out.new (flat_map N.row_text (last_rows file.now facts.now))
-        (is_ok result) }
+    ensures { Writes W.contents out.old out.new
+        (flat_map (N.row_text notation.now) (last_rows file.now facts.now)) (is_ok result) }
 {
     let (size, slots) = size_and_slots(file);
-    put_rows::<N, W>(
+    put_rows(
+        notation,
         out,
         &[Row::Needs { size, slots }, Row::Changed(facts.changes)],
     )
@@ -160,29 +170,32 @@ fn put_last<N: Notation, W: Write>(
 /// Writes the rows from those of the entries on.
 #[tactic(auto, using(crate::proofs::RowTexts::then_rows, crate::proofs::RowTexts::stops_rows))]
 fn put_rest<N: Notation, W: Write>(
+    notation: &N,
     out: &mut Counted<W>,
     file: &PdbFile<'_>,
     facts: &Facts,
 ) -> Result<(), WriteFault>
     requires { length file.now ≤ most_bytes }
     ensures { Writes W.contents out.old out.new
-        (flat_map N.row_text (entry_rows file.now ++ last_rows file.now facts.now)) (is_ok result) }
+        (flat_map (N.row_text notation.now) (entry_rows file.now ++ last_rows file.now facts.now))
+        (is_ok result) }
 {
-    put_entries::<N, W>(out, file)?;
-    put_last::<N, W>(out, file, facts)
+    put_entries(notation, out, file)?;
+    put_last(notation, out, file, facts)
 }
 
 /// Writes the rows of a file without fault.
 #[tactic(auto, using(crate::proofs::RowTexts::then_rows, crate::proofs::RowTexts::stops_rows), unfolding(crate::specs::Listing::rows_of))]
 pub(crate) fn put_rows_of<N: Notation, W: Write>(
+    notation: &N,
     out: &mut Counted<W>,
     file: &PdbFile<'_>,
     facts: &Facts,
 ) -> Result<(), WriteFault>
     requires { length file.now ≤ most_bytes }
-    ensures { Writes W.contents out.old out.new (flat_map N.row_text (rows_of file.now facts.now))
-        (is_ok result) }
+    ensures { Writes W.contents out.old out.new
+        (flat_map (N.row_text notation.now) (rows_of file.now facts.now)) (is_ok result) }
 {
-    put_head::<N, W>(out, file, facts)?;
-    put_rest::<N, W>(out, file, facts)
+    put_head(notation, out, file, facts)?;
+    put_rest(notation, out, file, facts)
 }

@@ -1,9 +1,10 @@
 //! The number of the database that names a slot, for all slots.
 #![tactic(auto, using(laws_heap::proofs::Lending::all_within, laws_heap::proofs::Lending::all_misses))]
 
-ghost use Rattle.std.specs.Prelude.{◌≡◌, ◌<◌, ◌≤◌, [], ◌∷◌, length, IfOk, OnErr};
+ghost use Rattle.std.specs.Prelude.{◌≡◌, ◌<◌, ◌≤◌, ◌*◌, [], ◌∷◌, length, IfOk, OnErr};
 ghost use Rattle.heap_model.specs.Database.{data_in, database_in};
 ghost use Rattle.heap_model.specs.Heap.{HeapAccepted};
+ghost use Rattle.heap_model.specs.Slots.{slot_size};
 ghost use Rattle.heap_model.specs.Store.{Accepted};
 ghost use Rattle.db_format.specs.Headers.{AreWholeBytes};
 ghost use Rattle.store_check.specs.Naming.{AreEnoughMarks};
@@ -61,7 +62,8 @@ fn note_databases(region: &Region, table: &mut [u16])
 fn word_count(region: &Region) -> usize
     requires whole { region.now.lents ≡ [] }
     requires accepted { HeapAccepted region.now.bytes }
-    ensures { AreEnoughMarks region.now.bytes result }
+    ensures room { AreEnoughMarks region.now.bytes result }
+    ensures most { slot_size * result ≤ length region.now.bytes }
 {
     if is_chained(region) {
         marks_needed(region)

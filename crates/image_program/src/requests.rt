@@ -1,14 +1,14 @@
 //! The requests of the words of the command line.
 
-ghost use Rattle.std.specs.Prelude.{◌≡◌, ◌≢◌, ◌⊎◌};
+ghost use Rattle.std.specs.Prelude.{◌≡◌, ◌≢◌, ◌⊎◌, ◌↔◌};
 ghost use Rattle.clap.specs.Values.{kind_of};
 
 use crate::meanings::explain;
 use clap::error::ErrorKind;
 use command_files::{STANDARD_OUTPUT, fail};
-use file_commands::{canonical, get, list, list_json, pack, unpack};
+use file_commands::{Asked, Report, canonical, get, pack, report_files, unpack};
 use image_commands::{check, check_json, new};
-use program_io::command_line::{self, BaseRequest, Form, Request};
+use program_io::command_line::{self, BaseRequest, Form, NamedFiles, Request};
 use program_io::{Status, report_outcome};
 use std::io::Input;
 use std::rt::Files;
@@ -35,8 +35,9 @@ pub fn fulfil<R: Files + Input + Print + Eprint + AllocGlobal>(
         BaseRequest::New { size, slots, out } => new(rt, size, slots, out),
         BaseRequest::Check { image, form } => check_as(rt, image, form),
         BaseRequest::Explain { word } => explain(rt, word),
-        BaseRequest::List { file, form } => list_as(rt, file, form),
+        BaseRequest::List { form, files } => print_reports(rt, listing_as(form), &files),
         BaseRequest::Canonical { file, out } => canonical(rt, file, out),
+        BaseRequest::Changes { files } => print_reports(rt, Report::Changes, &files),
         BaseRequest::Get { file, block, id } => get(rt, file, block, id),
         BaseRequest::Unpack { file, folder } => unpack(rt, file, folder),
         BaseRequest::Pack { folder, out } => pack(rt, folder, out),
@@ -57,18 +58,33 @@ fn check_as<R: Files + Input + Print + Eprint + AllocGlobal>(
     }
 }
 
-/// Runs `list`, and prints in this form.
-fn list_as<R: Files + Input + Print + Eprint + AllocGlobal>(
+/// Returns what `list` prints in this form.
+fn listing_as(form: Form) -> Report
+    ensures text { (result ≡ Report.Listing) ↔ (form ≡ Form.Text) }
+    ensures json { (result ≡ Report.Document) ↔ (form ≡ Form.Json) }
+{
+    match form {
+        Form::Text => Report::Listing,
+        Form::Json => Report::Document,
+    }
+}
+
+/// Prints the reports of some files.
+fn print_reports<R: Files + Input + Print + Eprint + AllocGlobal>(
     rt: &R,
-    file: &str,
-    form: Form,
+    report: Report,
+    files: &NamedFiles<'_>,
 ) -> Status
     ensures { result ≢ Status.BadWords }
 {
-    match form {
-        Form::Text => list(rt, file),
-        Form::Json => list_json(rt, file),
-    }
+    report_files(
+        rt,
+        Asked {
+            report,
+            paths: files.paths.as_slice(),
+            named: files.named,
+        },
+    )
 }
 
 /// Reports on standard error that the command is one of the whole program.

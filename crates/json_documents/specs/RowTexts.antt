@@ -15,7 +15,7 @@ use Rattle.file_listing.specs.declared.rows.Moment.{Moment}
 use Rattle.file_listing.specs.declared.rows.Row.{Row}
 use Rattle.file_listing.specs.declared.rows.Row.TheVariants.{Fault, Size, Name, Attributes, Version, Created, Modified, Backup, Number, Kind, Creator, Seed, Characters, App, Sort, Count, Record, Resource, Needs, Changed}
 use Rattle.file_listing.specs.Moments.{moment_text}
-use Rattle.unicode_text.specs.Strings.{string, hex_string}
+use Rattle.unicode_text.specs.Strings.{string, hex_string, utf8_string}
 
 -- a key and a value
 abbrev pub member : (key value : List ℕ) → List ℕ
@@ -116,29 +116,34 @@ faulty_fields (Block AppBlock) = codes "\",\"block\":\"app\",\"numbers\":["
 faulty_fields (Block SortBlock) = codes "\",\"block\":\"sort\",\"numbers\":["
 faulty_fields (Entry index) = codes "\",\"numbers\":[" ++ decimal index
 
--- the document for a damaged file
+-- the document for a damaged file, after its start
 abbrev pub fault_json : FileFault → ℕ → List ℕ
-fault_json fault at = codes "{\"fault\":\"" ++ (file_fault_name fault ++ (faulty_fields (faulty_part fault) ++ (codes "],\"at\":" ++ (decimal at ++ codes "}\n"))))
+fault_json fault at = codes "\"fault\":\"" ++ (file_fault_name fault ++ (faulty_fields (faulty_part fault) ++ (codes "],\"at\":" ++ (decimal at ++ codes "}\n"))))
 
--- The text of a row. The name is a string of its characters, so the row of the characters has no text.
-abbrev pub listing_json : Row → List ℕ
-listing_json (Fault fault at) = fault_json fault at
-listing_json (Size size) = member (codes "{\"size\":") (decimal size)
-listing_json (Name name) = member_with_hex (codes "\"name\":") name (codes ",\"name_hex\":")
-listing_json (Attributes bits) = member (codes "\"attributes\":") (decimal bits)
-listing_json (Version version) = member (codes "\"version\":") (decimal version)
-listing_json (Created moment) = moment_json (codes "\"created\":") moment (codes ",\"created_utc\":") (codes ",\"created_since\":")
-listing_json (Modified moment) = moment_json (codes "\"modified\":") moment (codes ",\"modified_utc\":") (codes ",\"modified_since\":")
-listing_json (Backup moment) = moment_json (codes "\"backup\":") moment (codes ",\"backup_utc\":") (codes ",\"backup_since\":")
-listing_json (Number number) = member (codes "\"number\":") (decimal number)
-listing_json (Kind kind) = member_with_hex (codes "\"type\":") (u32_bytes kind) (codes ",\"type_hex\":")
-listing_json (Creator creator) = member_with_hex (codes "\"creator\":") (u32_bytes creator) (codes ",\"creator_hex\":")
-listing_json (Seed seed) = member (codes "\"seed\":") (decimal seed)
-listing_json (Characters name) = []
-listing_json (App block) = extent_json (codes "\"app\":") block
-listing_json (Sort block) = extent_json (codes "\"sort\":") block
-listing_json (Count resources count) = kind_json resources
-listing_json (Record index attributes id block) = record_json index attributes id block
-listing_json (Resource index kind id block) = resource_json index kind id block
-listing_json (Needs size slots) = needs_json size slots
-listing_json (Changed changes) = changes_json changes
+-- the start of a document, with the path of the file if there is one
+abbrev pub document_start : (path : Option (List ℕ)) → List ℕ
+document_start None = codes "{"
+document_start (Some path) = codes "{\"path\":" ++ (utf8_string path ++ codes ",")
+
+-- The text of a row, with the start of the document before the first row of a file. The name has its characters as its string, so their row has no text.
+abbrev pub listing_json : (path : Option (List ℕ)) → Row → List ℕ
+listing_json path (Fault fault at) = document_start path ++ fault_json fault at
+listing_json path (Size size) = document_start path ++ member (codes "\"size\":") (decimal size)
+listing_json path (Name name) = member_with_hex (codes "\"name\":") name (codes ",\"name_hex\":")
+listing_json path (Attributes bits) = member (codes "\"attributes\":") (decimal bits)
+listing_json path (Version version) = member (codes "\"version\":") (decimal version)
+listing_json path (Created moment) = moment_json (codes "\"created\":") moment (codes ",\"created_utc\":") (codes ",\"created_since\":")
+listing_json path (Modified moment) = moment_json (codes "\"modified\":") moment (codes ",\"modified_utc\":") (codes ",\"modified_since\":")
+listing_json path (Backup moment) = moment_json (codes "\"backup\":") moment (codes ",\"backup_utc\":") (codes ",\"backup_since\":")
+listing_json path (Number number) = member (codes "\"number\":") (decimal number)
+listing_json path (Kind kind) = member_with_hex (codes "\"type\":") (u32_bytes kind) (codes ",\"type_hex\":")
+listing_json path (Creator creator) = member_with_hex (codes "\"creator\":") (u32_bytes creator) (codes ",\"creator_hex\":")
+listing_json path (Seed seed) = member (codes "\"seed\":") (decimal seed)
+listing_json path (Characters name) = []
+listing_json path (App block) = extent_json (codes "\"app\":") block
+listing_json path (Sort block) = extent_json (codes "\"sort\":") block
+listing_json path (Count resources count) = kind_json resources
+listing_json path (Record index attributes id block) = record_json index attributes id block
+listing_json path (Resource index kind id block) = resource_json index kind id block
+listing_json path (Needs size slots) = needs_json size slots
+listing_json path (Changed changes) = changes_json changes

@@ -1,14 +1,14 @@
 //! Rows as parts of a document.
 
-ghost use Rattle.std.specs.Prelude.{◌≡◌, ◌++◌, is_ok};
+ghost use Rattle.std.specs.Prelude.{◌≡◌, ◌++◌, codes, decimal, is_ok, option_map};
 ghost use Rattle.palm_text.specs.Counted.{Writes};
 ghost use Rattle.unicode_text.specs.Pieces.{json_text};
-ghost use Rattle.json_documents.specs.RowTexts.{fault_json, faulty_fields, kind_json, listing_json};
+ghost use Rattle.json_documents.specs.RowTexts.{document_start, fault_json, faulty_fields, kind_json, listing_json, member};
 
 use crate::changes::put_changes;
 use crate::entries::{put_record, put_resource};
 use crate::needs::put_needs;
-use crate::values::{put_bytes, put_dated, put_extent, put_four_bytes, put_number};
+use crate::values::{DateKeys, put_bytes, put_dated, put_extent, put_four_bytes, put_number};
 use file_listing::{Notation, Row};
 use heap_model::{FaultyPart, FileFault, Which};
 use palm_text::{Counted, WriteFault, put_all};
@@ -16,9 +16,31 @@ use std::io::Write;
 use unicode_text::{JsonPiece, put_json};
 
 /// The notation in parts of a document.
-pub struct JsonRows;
+#[derive(Clone, Copy)]
+pub struct JsonRows<'a> {
+    /// The path of the file, if the document begins with it.
+    pub path: Option<&'a str>,
+}
 
 const NO_JSON: JsonPiece<'static> = JsonPiece::Text(b"");
+
+const CREATED: DateKeys = DateKeys {
+    seconds: b"\"created\":",
+    utc: b",\"created_utc\":",
+    since: b",\"created_since\":",
+};
+
+const MODIFIED: DateKeys = DateKeys {
+    seconds: b"\"modified\":",
+    utc: b",\"modified_utc\":",
+    since: b",\"modified_since\":",
+};
+
+const BACKUP: DateKeys = DateKeys {
+    seconds: b"\"backup\":",
+    utc: b",\"backup_utc\":",
+    since: b",\"backup_since\":",
+};
 
 /// Returns the fields after the name of a fault: the word of an info block, and the index of an
 /// entry.
@@ -33,7 +55,56 @@ fn part_fields(part: FaultyPart) -> (&'static [u8], JsonPiece<'static>)
     }
 }
 
+/// Writes the start of a document, with the path of the file if there is one.
+fn put_document_start<W: Write>(out: &mut Counted<W>, path: Option<&str>) -> Result<(), WriteFault>
+    ensures { Writes W.contents out.old out.new
+        (document_start (option_map (λ path. path.now) path.entry)) (is_ok result) }
+{
+    match path {
+        None => put_all(out, b"{"),
+        Some(path) => put_json(
+            out,
+            &[
+                JsonPiece::Text(b"{\"path\":"),
+                JsonPiece::Utf8(path),
+                JsonPiece::Text(b","),
+            ],
+        ),
+    }
+}
+
+/// Writes the start of a document, and the size of the file.
+#[tactic(auto, using(palm_text::proofs::Parts::then, palm_text::proofs::Parts::stops))]
+fn put_started_size<W: Write>(
+    out: &mut Counted<W>,
+    path: Option<&str>,
+    size: u32,
+) -> Result<(), WriteFault>
+    ensures { Writes W.contents out.old out.new
+        (document_start (option_map (λ path. path.now) path.entry)
+        ++ member (codes "\"size\":") (decimal size)) (is_ok result) }
+{
+    put_document_start(out, path)?;
+    put_number(out, b"\"size\":", size)
+}
+
 /// Writes the document for a fault.
+#[tactic(auto, using(palm_text::proofs::Parts::then, palm_text::proofs::Parts::stops))]
+fn put_started_fault<W: Write>(
+    out: &mut Counted<W>,
+    path: Option<&str>,
+    fault: FileFault,
+    at: u32,
+) -> Result<(), WriteFault>
+    ensures { Writes W.contents out.old out.new
+        (document_start (option_map (λ path. path.now) path.entry) ++ fault_json fault at)
+        (is_ok result) }
+{
+    put_document_start(out, path)?;
+    put_fault(out, fault, at)
+}
+
+/// Writes the document for a fault, after its start.
 fn put_fault<W: Write>(out: &mut Counted<W>, fault: FileFault, at: u32) -> Result<(), WriteFault>
     ensures { Writes W.contents out.old out.new (fault_json fault at) (is_ok result) }
 {
@@ -41,7 +112,7 @@ fn put_fault<W: Write>(out: &mut Counted<W>, fault: FileFault, at: u32) -> Resul
     put_json(
         out,
         &[
-            JsonPiece::Text(b"{\"fault\":\""),
+            JsonPiece::Text(b"\"fault\":\""),
             JsonPiece::Text(fault.name().as_bytes()),
             JsonPiece::Text(fields),
             index,
@@ -63,38 +134,20 @@ fn put_kind<W: Write>(out: &mut Counted<W>, resources: bool) -> Result<(), Write
     }
 }
 
-impl Notation for JsonRows {
-    ghost row_text = { listing_json };
+impl Notation for JsonRows<'_> {
+    ghost row_text = { λ rows row. listing_json (option_map (λ path. path.now) rows.path) row };
 
     #[tactic(auto, using(palm_text::proofs::Parts::nothing))]
-    fn put_row<W: Write>(out: &mut Counted<W>, row: &Row) -> Result<(), WriteFault> {
+    fn put_row<W: Write>(&self, out: &mut Counted<W>, row: &Row) -> Result<(), WriteFault> {
         match row {
-            Row::Fault { fault, at } => put_fault(out, *fault, *at),
-            Row::Size(size) => put_number(out, b"{\"size\":", *size),
+            Row::Fault { fault, at } => put_started_fault(out, self.path, *fault, *at),
+            Row::Size(size) => put_started_size(out, self.path, *size),
             Row::Name(name) => put_bytes(out, b"\"name\":", name.name(), b",\"name_hex\":"),
             Row::Attributes(bits) => put_number(out, b"\"attributes\":", u32::from(*bits)),
             Row::Version(number) => put_number(out, b"\"version\":", u32::from(*number)),
-            Row::Created(moment) => put_dated(
-                out,
-                b"\"created\":",
-                moment,
-                b",\"created_utc\":",
-                b",\"created_since\":",
-            ),
-            Row::Modified(moment) => put_dated(
-                out,
-                b"\"modified\":",
-                moment,
-                b",\"modified_utc\":",
-                b",\"modified_since\":",
-            ),
-            Row::Backup(moment) => put_dated(
-                out,
-                b"\"backup\":",
-                moment,
-                b",\"backup_utc\":",
-                b",\"backup_since\":",
-            ),
+            Row::Created(moment) => put_dated(out, CREATED, moment),
+            Row::Modified(moment) => put_dated(out, MODIFIED, moment),
+            Row::Backup(moment) => put_dated(out, BACKUP, moment),
             Row::Number(number) => put_number(out, b"\"number\":", *number),
             Row::Kind(kind) => put_four_bytes(out, b"\"type\":", *kind, b",\"type_hex\":"),
             Row::Creator(creator) => {

@@ -12,7 +12,8 @@
 //! "needs":{"size":168,"slots":3},"changes":[]}
 //! ```
 //!
-//! The document has no line breaks inside. The rows are those of `file_listing`. Start with
+//! The document has no line breaks inside. If the notation has the path of the file, the member
+//! `path` comes first. The rows are those of `file_listing`. Start with
 //! `specs/RowTexts.antt`, which defines the text of each row.
 //!
 //! | module | does |

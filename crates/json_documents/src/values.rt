@@ -135,21 +135,28 @@ fn put_date<W: Write>(
     put_since(out, since_key, moment)
 }
 
+/// The keys of a date: those of its seconds, of its UTC text, and of the year from which the seconds
+/// count.
+#[derive(Clone, Copy)]
+pub(crate) struct DateKeys {
+    pub(crate) seconds: &'static [u8],
+    pub(crate) utc: &'static [u8],
+    pub(crate) since: &'static [u8],
+}
+
 /// Writes the seconds of a moment, its UTC text, and the year from which the seconds count, each
 /// after its key.
 #[tactic(auto, using(palm_text::proofs::Parts::then, palm_text::proofs::Parts::stops), unfolding(crate::specs::RowTexts::moment_json))]
-pub(crate) fn put_dated<'a, W: Write>(
+pub(crate) fn put_dated<W: Write>(
     out: &mut Counted<W>,
-    key: &'a [u8],
+    keys: DateKeys,
     moment: &Moment,
-    utc_key: &'a [u8],
-    since_key: &'a [u8],
 ) -> Result<(), WriteFault>
     ensures { Writes W.contents out.old out.new
-        (moment_json key.now moment.now utc_key.now since_key.now) (is_ok result) }
+        (moment_json keys.seconds.now moment.now keys.utc.now keys.since.now) (is_ok result) }
 {
-    put_seconds(out, key, moment.seconds, utc_key)?;
-    put_date(out, moment, since_key)
+    put_seconds(out, keys.seconds, moment.seconds, keys.utc)?;
+    put_date(out, moment, keys.since)
 }
 
 /// Writes the extent of an info block after its key.

@@ -1,8 +1,11 @@
 pub mod AnswerLaws
 pub mod BlockLaws
 pub mod CallLaws
+pub mod ChainLaws
 pub mod EndLaws
+pub mod EntryLaws
 pub mod KindLaws
+pub mod LoanNameLaws
 pub mod NameLaws
 pub mod OutLaws
 pub mod PinLaws

@@ -12,7 +12,8 @@ use Rattle.heap_model.specs.Store.{store_of}
 use Rattle.heap_model.specs.StoreSteps.{DoesInStore}
 use Rattle.heap_model.specs.declared.call.Call.TheVariants as calls
 use Rattle.heap_model.specs.declared.call.MemoryCall.TheVariants.{Recover}
-use Rattle.heap_model.specs.declared.call.Reply.TheVariants.{Named}
+use Rattle.heap_model.specs.declared.call.Reply.TheVariants.{Named, Refused}
+use Rattle.heap_model.specs.declared.refusal.Refusal.{Refusal}
 use Rattle.raw_region.specs.Holes.{AllLieIn}
 use Rattle.raw_region.specs.Parts.{PartOut}
 use Rattle.palmheap_c.specs.Calls.{as_name, as_place}
@@ -55,6 +56,13 @@ same_place e = cc
 -- The chunk that is found at the place of a chunk is this chunk.
 pub finds_own : (old new : Memory) (place name found : ℕ) → place_of old.bytes name ≡ Some place → Finds old place found new → found ≡ name
 finds_own old new place name found is does = one_under (area_start old.bytes) (chunks_of old.bytes) found name place (found_at old new place found does) is
+
+-- At the place of a chunk that callers may use the call is not refused.
+pub finds_it : (old new : Memory) (place name : ℕ) (refusal : Refusal) → Of ((store_of old.bytes).map name) (λ live. place_of old.bytes name ≡ Some place) → DoesInStore old (calls.Memory (Recover (as_place place))) (Refused refusal) new → ⊥
+finds_it old new place name refusal is does = elim does.step.0 [
+  | inl nowhere ↦ nowhere.0 name is
+  | inr none ↦ absurd none.1
+]
 
 -- If a pointer to the chunk that is found is out, it is where the image starts, plus the place.
 pub finds_no_other : (store : Opened) (new : Memory) (start : Ptr) (place found : ℕ) (it : Pinned) → AreAtPlaces start store → Finds store.memory place found new → pinned store.pointers found ≡ Some it → it.at ≡ start +ₚ place

@@ -2,10 +2,15 @@ pub mod Answers
 pub mod Blocks
 pub mod Buffers
 pub mod Calls
+pub mod ChainedImages
+pub mod Damages
+pub mod FileEntries
+pub mod Explaining
 pub mod Holding
 pub mod Infos
 pub mod Keeping
 pub mod Kinds
+pub mod LoanNames
 pub mod Loans
 pub mod Opened
 pub mod Opening

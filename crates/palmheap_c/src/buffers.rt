@@ -12,7 +12,7 @@ use palm_text::Counted;
 use std::alloc::Global;
 
 /// The result of a call whose buffer is too short.
-const CALL_NO_ROOM: u32 = 100;
+pub(crate) const CALL_NO_ROOM: u32 = 100;
 
 /// Copies bytes to the start of a buffer, if it has room for them. Sets `count` to their number in
 /// both cases.

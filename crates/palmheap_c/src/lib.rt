@@ -8,7 +8,10 @@
 //! | module | does |
 //! |---|---|
 //! | `files` | checks, lists and rewrites PDB and PRC files |
+//! | `file_entries` | reads their headers and entries |
+//! | `damages` | finds where a file has its first fault |
 //! | `images` | makes and checks images |
+//! | `chained_images` | makes images with a chain of tables |
 //! | `runs` | runs a script on an image |
 //! | `opening` | opens a store that lives between calls, closes it, and writes its image |
 //! | `memory_calls` | calls on the chunks of an open store |
@@ -18,6 +21,7 @@
 //! | `loans` | takes the bytes of a chunk out of an open store, and puts them back |
 //! | `pointers` | gives pointers to the bytes of chunks, and unlocks them |
 //! | `refusals`, `kinds` | name refusals and kinds of faults |
+//! | `explaining` | explains them |
 //! | `version` | tells the version |
 #![tactic(auto)]
 
@@ -25,15 +29,20 @@ mod answers;
 mod blocks;
 mod buffers;
 mod calls;
+mod chained_images;
 mod counts;
+mod damages;
 mod database_calls;
+mod explaining;
 mod file_calls;
+mod file_entries;
 mod files;
 mod images;
 mod infos;
 mod inputs;
 mod kept;
 mod kinds;
+mod loan_names;
 mod loans;
 mod memory_calls;
 mod opening;
@@ -48,51 +57,103 @@ mod version;
 
 pub use answers::Answer;
 pub use blocks::Block;
+pub use chained_images::palmheap_new_chained;
 pub use counts::Counts;
-pub use database_calls::{
-    palmheap_DmCreateDatabase, palmheap_DmDatabaseInfo, palmheap_DmDeleteDatabase,
-    palmheap_DmFindDatabase, palmheap_DmGetDatabase, palmheap_DmNumDatabases,
-    palmheap_DmSetDatabaseInfo, palmheap_info_block, palmheap_set_info_block,
-    palmheap_take_info_block,
-};
-pub use file_calls::{palmheap_export, palmheap_import, palmheap_read};
-pub use files::{palmheap_canonical, palmheap_pdb_blocks, palmheap_pdb_check, palmheap_pdb_list};
-pub use images::{palmheap_check, palmheap_new};
-pub use infos::{DatabaseInfo, RecordInfo, ResourceInfo};
-pub use kept::{Kept, Slot};
+pub use damages::Damage;
+pub use damages::palmheap_pdb_damage;
+pub use database_calls::palmheap_DmCreateDatabase;
+pub use database_calls::palmheap_DmDatabaseInfo;
+pub use database_calls::palmheap_DmDeleteDatabase;
+pub use database_calls::palmheap_DmFindDatabase;
+pub use database_calls::palmheap_DmGetDatabase;
+pub use database_calls::palmheap_DmNumDatabases;
+pub use database_calls::palmheap_DmSetDatabaseInfo;
+pub use database_calls::palmheap_info_block;
+pub use database_calls::palmheap_set_info_block;
+pub use database_calls::palmheap_take_info_block;
+pub use explaining::palmheap_explain;
+pub use file_calls::palmheap_export;
+pub use file_calls::palmheap_import;
+pub use file_calls::palmheap_read;
+pub use file_entries::FileEntry;
+pub use file_entries::palmheap_pdb_read;
+pub use files::palmheap_canonical;
+pub use files::palmheap_pdb_blocks;
+pub use files::palmheap_pdb_check;
+pub use files::palmheap_pdb_list;
+pub use images::palmheap_check;
+pub use images::palmheap_new;
+pub use infos::DatabaseInfo;
+pub use infos::RecordInfo;
+pub use infos::ResourceInfo;
+pub use kept::Kept;
+pub use kept::Slot;
 pub use kinds::palmheap_kind_name;
-pub use loans::{
-    palmheap_lent, palmheap_loan_above, palmheap_put_back, palmheap_take_out,
-    palmheap_take_out_also,
-};
-pub use memory_calls::{
-    palmheap_DmSet, palmheap_DmStrCopy, palmheap_DmWrite, palmheap_MemChunkFree,
-    palmheap_MemHandleLock, palmheap_MemHandleLockCount, palmheap_MemHandleNew,
-    palmheap_MemHandleOwner, palmheap_MemHandleResize, palmheap_MemHandleSetOwner,
-    palmheap_MemHandleSize, palmheap_MemHandleUnlock, palmheap_MemHeapCompact,
-    palmheap_MemHeapFreeByOwnerID, palmheap_MemHeapFreeBytes, palmheap_MemPtrNew,
-    palmheap_MemPtrRecoverHandle, palmheap_largest_stretch, palmheap_more_slots,
-};
-pub use opening::{palmheap_close, palmheap_open, palmheap_write_image};
-pub use pointers::{
-    NotUnlocked, Pinned, palmheap_lock_pointer, palmheap_start, palmheap_unlock_handle,
-};
-pub use record_calls::{
-    palmheap_DmArchiveRecord, palmheap_DmAttachRecord, palmheap_DmDeleteCategory,
-    palmheap_DmDeleteRecord, palmheap_DmDetachRecord, palmheap_DmFindRecordByID,
-    palmheap_DmGetRecord, palmheap_DmMoveCategory, palmheap_DmMoveRecord, palmheap_DmNewRecord,
-    palmheap_DmNumRecords, palmheap_DmNumRecordsInCategory, palmheap_DmPositionInCategory,
-    palmheap_DmQueryNextInCategory, palmheap_DmQueryRecord, palmheap_DmRecordInfo,
-    palmheap_DmReleaseRecord, palmheap_DmRemoveRecord, palmheap_DmResizeRecord,
-    palmheap_DmSetRecordInfo, palmheap_attach_replacing,
-};
+pub use loan_names::palmheap_loans;
+pub use loans::palmheap_lent;
+pub use loans::palmheap_loan_above;
+pub use loans::palmheap_put_back;
+pub use loans::palmheap_take_out;
+pub use loans::palmheap_take_out_also;
+pub use memory_calls::palmheap_DmSet;
+pub use memory_calls::palmheap_DmStrCopy;
+pub use memory_calls::palmheap_DmWrite;
+pub use memory_calls::palmheap_MemChunkFree;
+pub use memory_calls::palmheap_MemHandleLock;
+pub use memory_calls::palmheap_MemHandleLockCount;
+pub use memory_calls::palmheap_MemHandleNew;
+pub use memory_calls::palmheap_MemHandleOwner;
+pub use memory_calls::palmheap_MemHandleResize;
+pub use memory_calls::palmheap_MemHandleSetOwner;
+pub use memory_calls::palmheap_MemHandleSize;
+pub use memory_calls::palmheap_MemHandleUnlock;
+pub use memory_calls::palmheap_MemHeapCompact;
+pub use memory_calls::palmheap_MemHeapFreeByOwnerID;
+pub use memory_calls::palmheap_MemHeapFreeBytes;
+pub use memory_calls::palmheap_MemPtrNew;
+pub use memory_calls::palmheap_MemPtrRecoverHandle;
+pub use memory_calls::palmheap_largest_stretch;
+pub use memory_calls::palmheap_more_slots;
+pub use opening::palmheap_close;
+pub use opening::palmheap_open;
+pub use opening::palmheap_write_image;
+pub use pointers::NotUnlocked;
+pub use pointers::Pinned;
+pub use pointers::palmheap_lock_pointer;
+pub use pointers::palmheap_start;
+pub use pointers::palmheap_unlock_handle;
+pub use record_calls::palmheap_DmArchiveRecord;
+pub use record_calls::palmheap_DmAttachRecord;
+pub use record_calls::palmheap_DmDeleteCategory;
+pub use record_calls::palmheap_DmDeleteRecord;
+pub use record_calls::palmheap_DmDetachRecord;
+pub use record_calls::palmheap_DmFindRecordByID;
+pub use record_calls::palmheap_DmGetRecord;
+pub use record_calls::palmheap_DmMoveCategory;
+pub use record_calls::palmheap_DmMoveRecord;
+pub use record_calls::palmheap_DmNewRecord;
+pub use record_calls::palmheap_DmNumRecords;
+pub use record_calls::palmheap_DmNumRecordsInCategory;
+pub use record_calls::palmheap_DmPositionInCategory;
+pub use record_calls::palmheap_DmQueryNextInCategory;
+pub use record_calls::palmheap_DmQueryRecord;
+pub use record_calls::palmheap_DmRecordInfo;
+pub use record_calls::palmheap_DmReleaseRecord;
+pub use record_calls::palmheap_DmRemoveRecord;
+pub use record_calls::palmheap_DmResizeRecord;
+pub use record_calls::palmheap_DmSetRecordInfo;
+pub use record_calls::palmheap_attach_replacing;
 pub use refusals::palmheap_refusal_name;
-pub use resource_calls::{
-    palmheap_DmAttachResource, palmheap_DmDetachResource, palmheap_DmFindResource,
-    palmheap_DmFindResourceType, palmheap_DmNewResource, palmheap_DmNumResources,
-    palmheap_DmRemoveResource, palmheap_DmResizeResource, palmheap_DmResourceInfo,
-    palmheap_DmSetResourceInfo,
-};
+pub use resource_calls::palmheap_DmAttachResource;
+pub use resource_calls::palmheap_DmDetachResource;
+pub use resource_calls::palmheap_DmFindResource;
+pub use resource_calls::palmheap_DmFindResourceType;
+pub use resource_calls::palmheap_DmNewResource;
+pub use resource_calls::palmheap_DmNumResources;
+pub use resource_calls::palmheap_DmRemoveResource;
+pub use resource_calls::palmheap_DmResizeResource;
+pub use resource_calls::palmheap_DmResourceInfo;
+pub use resource_calls::palmheap_DmSetResourceInfo;
 pub use results::Sizes;
 pub use runs::palmheap_run;
 pub use version::palmheap_version;

@@ -1,5 +1,5 @@
 -- The statuses of runs that failed.
-use Rattle.std.specs.Prelude.{◌≡◌, ℕ, List, Option, codes}
+use Rattle.std.specs.Prelude.{◌≡◌, ℕ, nat_lt, if◌then◌else◌, List, Option, codes}
 use Rattle.std.specs.IoError.{error_kind}
 use Rattle.std.specs.declared.io.Error.{Error}
 use Rattle.std.specs.declared.io.ErrorKind.TheVariants.{OutOfMemory}
@@ -17,6 +17,19 @@ fault_word BadWords = None
 fault_word ReadFault = Some (codes "read")
 fault_word WriteFault = Some (codes "write")
 fault_word NoMemory = Some (codes "memory")
+
+-- how bad a status is
+abbrev pub severity : Status → ℕ
+severity Done = 0
+severity Refused = 1
+severity BadWords = 2
+severity ReadFault = 3
+severity NoMemory = 4
+severity WriteFault = 5
+
+-- the worse of two statuses
+abbrev pub worse : (first second : Status) → Status
+worse first second = if nat_lt (severity first) (severity second) then second else first
 
 -- the fault of a file that couldn't be opened: out of memory, or the error itself
 abbrev pub FaultOf : Error → InputFault → Type 0

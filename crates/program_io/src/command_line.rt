@@ -71,12 +71,16 @@ pub enum BaseRequest<'a> {
         form: Form,
     },
     List {
-        file: &'a str,
         form: Form,
+        files: NamedFiles<'a>,
     },
     Canonical {
         file: &'a str,
         out: &'a str,
+    },
+    /// `canonical --check`.
+    Changes {
+        files: NamedFiles<'a>,
     },
     Get {
         file: &'a str,
@@ -96,6 +100,14 @@ pub enum BaseRequest<'a> {
     Explain {
         word: &'a str,
     },
+}
+
+/// The files of a command that prints something for each of them.
+#[derive(Drop)]
+pub struct NamedFiles<'a> {
+    pub paths: Vec<&'a str>,
+    /// Whether the path of each file is printed. It is if there are several files.
+    pub named: bool,
 }
 
 /// How the replies of a script are printed, and what a refused line means for the exit status.
@@ -140,6 +152,15 @@ fn parse_by<'a>(
             rows,
             &matches,
             ErrorKind::ValueValidation,
+            text.as_str(),
+        )?);
+    }
+    if let Some(text) = extra_word(alloc, &matches)? {
+        return Err(usage_error(
+            alloc,
+            rows,
+            &matches,
+            ErrorKind::UnknownArgument,
             text.as_str(),
         )?);
     }
@@ -239,6 +260,19 @@ fn is_number(word: &str, most: u32) -> bool {
     }
 }
 
+/// Returns that a word is one too many, if `canonical` has one after OUT without `--check`.
+fn extra_word(alloc: Global, matches: &ArgMatches<'_>) -> Result<Option<String>, AllocError> {
+    let Some(("canonical", given)) = matches.subcommand() else {
+        return Ok(None);
+    };
+    match given.get_strs("OUT").unwrap_or(&[]) {
+        [_, word, ..] if !given.get_flag("CHECK") => {
+            Ok(Some(format!(in alloc; "unexpected argument '{word}' found")?))
+        }
+        _ => Ok(None),
+    }
+}
+
 /// Returns why the words `-` of a request can't be, if they can't. Standard input can be read once,
 /// and standard output has what is printed.
 fn stream_fault(request: &Request<'_>) -> Option<&'static str> {
@@ -258,6 +292,9 @@ fn stream_fault(request: &Request<'_>) -> Option<&'static str> {
             input_fault(taken, files.as_slice())
         }
         Request::Import { files, .. } => input_fault(0, files.as_slice()),
+        Request::Base(BaseRequest::List { files, .. } | BaseRequest::Changes { files }) => {
+            input_fault(0, files.paths.as_slice())
+        }
         _ => None,
     }
 }
@@ -310,23 +347,33 @@ fn command<'a>(alloc: Global, row: &CommandRow) -> Result<Command<'a>, AllocErro
     if let Some(text) = row.after_help {
         command = command.after_help(text);
     }
+    if let Some(text) = row.usage {
+        command = command.override_usage(text);
+    }
     for argument in row.arguments {
-        command = command.arg(described_argument(alloc, argument))?;
+        command = command.arg(described_argument(alloc, argument)?)?;
     }
     Ok(command)
 }
 
-fn described_argument<'a>(alloc: Global, argument: &Argument) -> Arg<'a> {
+fn described_argument<'a>(alloc: Global, argument: &Argument) -> Result<Arg<'a>, AllocError> {
     let described = Arg::new(alloc, argument.name).help(argument.help);
     match argument.count {
-        Count::One => described.required(true),
-        Count::AtMostOne => described,
-        Count::Any => described.num_args(1..).action(ArgAction::Append),
-        Count::Several => described
-            .required(true)
-            .num_args(1..)
-            .action(ArgAction::Append),
-        Count::Option(name) => described.long(name),
-        Count::Flag(name) => described.long(name).action(ArgAction::SetTrue),
+        Count::One => Ok(described.required(true)),
+        Count::AtMostOne => Ok(described),
+        Count::Any => Ok(several(described)),
+        Count::Several => Ok(several(described).required(true)),
+        Count::SeveralUnless(flag) => several(described).required_unless_present(flag),
+        Count::Option(name) => Ok(described.long(name)),
+        Count::Flag(name) => Ok(described.long(name).action(ArgAction::SetTrue)),
+        Count::FlagWith { name, flag } => described
+            .long(name)
+            .action(ArgAction::SetTrue)
+            .requires_arg(flag),
     }
+}
+
+/// Lets an argument have any number of words.
+fn several<'a>(argument: Arg<'a>) -> Arg<'a> {
+    argument.num_args(1..).action(ArgAction::Append)
 }

@@ -4,8 +4,8 @@
 //! Start with `COMMANDS`, which has a row for each command.
 
 use crate::help_texts::{
-    BLOCKS, CANONICAL_FORMS, CHECKS, LISTINGS, MAPS, MEANINGS, MIGRATION, NEW_IMAGES, PACKING,
-    SCRIPTS, STORES, UNPACKING,
+    BLOCKS, CANONICAL_FORMS, CANONICAL_USAGE, CHECKS, LISTINGS, MAPS, MEANINGS, MIGRATION,
+    NEW_IMAGES, PACKING, SCRIPTS, STORES, UNPACKING,
 };
 
 /// A command: its word, its help, and its arguments in order.
@@ -14,6 +14,8 @@ pub(crate) struct CommandRow {
     pub(crate) name: &'static str,
     pub(crate) about: &'static str,
     pub(crate) after_help: Option<&'static str>,
+    /// The usage, if the arguments don't say it.
+    pub(crate) usage: Option<&'static str>,
     pub(crate) arguments: &'static [Argument],
 }
 
@@ -35,10 +37,17 @@ pub(crate) enum Count {
     Any,
     /// One word or several.
     Several,
+    /// One word or several, or none if the flag of this name is there.
+    SeveralUnless(&'static str),
     /// A word after the option of this name, or none.
     Option(&'static str),
     /// None: an option of this name is there or not.
     Flag(&'static str),
+    /// The same, for an option that needs the flag of another argument.
+    FlagWith {
+        name: &'static str,
+        flag: &'static str,
+    },
 }
 
 /// Every command.
@@ -47,6 +56,7 @@ pub(crate) const COMMANDS: [CommandRow; 14] = [
         name: "new",
         about: "Writes an image with nothing in it, and prints 'ok'",
         after_help: Some(NEW_IMAGES),
+        usage: None,
         arguments: &[
             Argument {
                 name: "SIZE",
@@ -71,12 +81,14 @@ pub(crate) const COMMANDS: [CommandRow; 14] = [
         name: "check",
         about: "Checks an image, and prints what is in it or the first fault",
         after_help: Some(CHECKS),
+        usage: None,
         arguments: &[IMAGE, JSON],
     },
     CommandRow {
         name: "run",
         about: "Runs a script on an image, and prints what each line answers",
         after_help: Some(SCRIPTS),
+        usage: None,
         arguments: &[
             IMAGE,
             Argument {
@@ -113,6 +125,7 @@ pub(crate) const COMMANDS: [CommandRow; 14] = [
         name: "migrate",
         about: "Gives an image a chain of tables, and prints 'ok'",
         after_help: Some(MIGRATION),
+        usage: None,
         arguments: &[
             IMAGE,
             Argument {
@@ -127,6 +140,7 @@ pub(crate) const COMMANDS: [CommandRow; 14] = [
         name: "map",
         about: "Draws an image, as text or as SVG: where chunks and free space are",
         after_help: Some(MAPS),
+        usage: None,
         arguments: &[
             IMAGE,
             Argument {
@@ -140,21 +154,54 @@ pub(crate) const COMMANDS: [CommandRow; 14] = [
     },
     CommandRow {
         name: "list",
-        about: "Lists a PDB or PRC file: its header, its entries and their places",
+        about: "Lists PDB and PRC files: the header, the entries and their places",
         after_help: Some(LISTINGS),
-        arguments: &[DATABASE_FILE, JSON],
+        usage: None,
+        arguments: &[
+            Argument {
+                name: "FILE",
+                count: Count::Several,
+                help: "PDB or PRC files, of at most 16777216 bytes each; '-' is\n\
+                    standard input, and './-' a file of that name",
+            },
+            Argument {
+                name: "JSON",
+                count: Count::Flag("json"),
+                help: "Prints the same facts as JSON, on one line for each file",
+            },
+            Argument {
+                name: "PATH",
+                count: Count::Flag("path"),
+                help: "Prints the path of the file also if there is only one",
+            },
+        ],
     },
     CommandRow {
         name: "canonical",
-        about: "Rewrites a PDB or PRC file as an import and an export would",
+        about: "Rewrites a PDB or PRC file, or checks what that would change",
         after_help: Some(CANONICAL_FORMS),
+        usage: Some(CANONICAL_USAGE),
         arguments: &[
             DATABASE_FILE,
             Argument {
                 name: "OUT",
-                count: Count::One,
+                count: Count::SeveralUnless("CHECK"),
                 help: "File for the rewritten database. One that is there is replaced,\n\
-                    once the new one is whole; '-' is standard output",
+                    once the new one is whole; '-' is standard output. With --check\n\
+                    these are more files to check",
+            },
+            Argument {
+                name: "CHECK",
+                count: Count::Flag("check"),
+                help: "Writes nothing, and prints for each file what would change",
+            },
+            Argument {
+                name: "PATH",
+                count: Count::FlagWith {
+                    name: "path",
+                    flag: "CHECK",
+                },
+                help: "Prints the path of the file also if there is only one",
             },
         ],
     },
@@ -162,6 +209,7 @@ pub(crate) const COMMANDS: [CommandRow; 14] = [
         name: "get",
         about: "Writes the bytes of one block of a PDB or PRC file to standard output",
         after_help: Some(BLOCKS),
+        usage: None,
         arguments: &[
             DATABASE_FILE,
             Argument {
@@ -181,6 +229,7 @@ pub(crate) const COMMANDS: [CommandRow; 14] = [
         name: "unpack",
         about: "Takes a PDB or PRC file apart into a text and a file per block",
         after_help: Some(UNPACKING),
+        usage: None,
         arguments: &[
             DATABASE_FILE,
             Argument {
@@ -194,6 +243,7 @@ pub(crate) const COMMANDS: [CommandRow; 14] = [
         name: "pack",
         about: "Puts a PDB or PRC file together from a folder of 'unpack'",
         after_help: Some(PACKING),
+        usage: None,
         arguments: &[
             Argument {
                 name: "DIR",
@@ -212,12 +262,14 @@ pub(crate) const COMMANDS: [CommandRow; 14] = [
         name: "databases",
         about: "Prints a line for each database of an image",
         after_help: Some(STORES),
+        usage: None,
         arguments: &[IMAGE, JSON],
     },
     CommandRow {
         name: "export",
         about: "Writes the databases of an image into a folder, as files",
         after_help: Some(STORES),
+        usage: None,
         arguments: &[
             IMAGE,
             Argument {
@@ -237,6 +289,7 @@ pub(crate) const COMMANDS: [CommandRow; 14] = [
         name: "import",
         about: "Makes an image with the databases of PDB and PRC files in it",
         after_help: Some(STORES),
+        usage: None,
         arguments: &[
             Argument {
                 name: "OUT",
@@ -268,6 +321,7 @@ pub(crate) const COMMANDS: [CommandRow; 14] = [
         name: "explain",
         about: "Prints what a fault or a refusal means",
         after_help: Some(MEANINGS),
+        usage: None,
         arguments: &[Argument {
             name: "WORD",
             count: Count::Several,

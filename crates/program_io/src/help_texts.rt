@@ -25,12 +25,15 @@ Exit status:
      SLOTS, or 'explain' knows no such WORD
   3  a file could not be read or written, or is longer than 16777216 bytes;
      or standard output could not be written; or DIR of 'unpack' or a file of
-     'export' is there; or OUT is a PDB or PRC file that an image would
-     replace, or an image that a PDB or PRC file would replace
+     'export' is there; or OUT looks like a PDB or PRC file that an image
+     would replace, like an image that a PDB or PRC file would replace, or
+     like one of these, and a picture would replace it
   4  there was not enough memory
   5  'run --strict' ran all lines, and one of them was refused
 On 3 and 4 the first line on standard error is 'fault read', 'fault write' or
-'fault memory'; after the first two a second line names the file and says why.";
+'fault memory'; after the first two a second line names the file and says why.
+There is no line if a reader, as 'head', has closed standard output.
+Of several files of 'list' or 'canonical --check' the greatest status counts.";
 
 pub(crate) const NEW_IMAGES: &str = "\
 For example, 'palmheap new 65536 512 device.img' writes an image of 64 KB with
@@ -205,7 +208,7 @@ values, and the offset and length of its data: the values of a record are its
 attributes in hex and its ID, those of a resource its type and its id.
 
 The line 'needs' has the least SIZE and SLOTS with which an image of 'palmheap
-new' takes the database.
+new' takes the database. If these are above 16777208 or 65535, no image does.
 
 The last line is 'canonical' if 'palmheap canonical' would write the file as
 it is, byte for byte. Else it is 'changes' and words that say what would
@@ -242,7 +245,31 @@ Attributes, the seed and dates are numbers. A date other than 0 is followed by
 its text in UTC, and by the year from which its seconds count, 1904 or 1970.
 'app', 'sort', and the offset and the length of data are null if there are
 none. A byte outside ASCII is the character of its Windows-1252 code. The hex
-digits of all bytes follow.";
+digits of all bytes follow.
+
+With several FILEs, a line with the path comes before each listing, and each
+JSON document begins with the path. 'palmheap list a.pdb b.pdb' prints:
+
+  ==> a.pdb <==
+  ok 97
+  ..
+  ==> b.pdb <==
+  bad BadOffset 1
+  at 86
+
+'palmheap list --json a.pdb b.pdb' prints:
+
+  {\"path\":\"a.pdb\",\"size\":97, ..}
+  {\"path\":\"b.pdb\",\"fault\":\"BadOffset\",\"numbers\":[1],\"at\":86}
+
+With --path the same is printed for one FILE, as 'xargs' may give. If a file
+is refused or can't be read, the others are listed all the same. The exit
+status is the greatest of those of all files. If standard output can't be
+written, no other file is read, and it is 3.";
+
+pub(crate) const CANONICAL_USAGE: &str = "\
+palmheap canonical <FILE> <OUT>
+       palmheap canonical --check [--path] <FILE>...";
 
 pub(crate) const CANONICAL_FORMS: &str = "\
 For example, 'palmheap canonical old.pdb new.pdb' writes new.pdb and prints
@@ -260,7 +287,17 @@ zeros.
 
 A file that cannot be read as a database is refused as by 'palmheap list', and
 nothing is written. If OUT is '-', the new file goes to standard output, and
-what is printed goes to standard error.";
+what is printed goes to standard error.
+
+With --check no file is written. For each FILE it prints the last line of
+'palmheap list', 'canonical' or 'changes' and words, and the exit status is 0
+for both. With several FILEs or --path, a line with the path comes before it.
+'palmheap canonical --check a.pdb b.pdb' prints:
+
+  ==> a.pdb <==
+  canonical
+  ==> b.pdb <==
+  changes busy ids order";
 
 pub(crate) const BLOCKS: &str = "\
 For example, 'palmheap get MemoDB.pdb 0' writes the data of the first record

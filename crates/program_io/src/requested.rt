@@ -2,12 +2,12 @@
 //!
 //! Start with `requested`.
 
-use crate::command_line::{BaseRequest, Form, Request, Shown};
+use crate::command_line::{BaseRequest, Form, NamedFiles, Request, Shown};
 use clap::ArgMatches;
 use std::alloc::{AllocError, Global};
 
 /// Returns the request of the matches of `palmheap`. Each argument of a command is required, except
-/// FILE of `run`, NAME and the options, so nothing is missing.
+/// FILE of `run`, NAME, OUT with `--check` and the options, so nothing is missing.
 pub(crate) fn requested<'a>(
     alloc: Global,
     matches: &ArgMatches<'a>,
@@ -16,6 +16,8 @@ pub(crate) fn requested<'a>(
         Some(("run", given)) => run_requested(alloc, given),
         Some(("export", given)) => export_requested(alloc, given),
         Some(("import", given)) => import_requested(alloc, given),
+        Some(("list", given)) => list_requested(alloc, given),
+        Some(("canonical", given)) => canonical_requested(alloc, given),
         Some((name, given)) => Ok(image_requested(name, given)),
         None => Ok(None),
     }
@@ -36,8 +38,6 @@ fn base_requested<'a>(name: &str, given: &ArgMatches<'a>) -> Option<BaseRequest<
     match name {
         "new" => new_requested(given),
         "check" => check_requested(given),
-        "list" => list_requested(given),
-        "canonical" => canonical_requested(given),
         "get" => get_requested(given),
         "unpack" => unpack_requested(given),
         "pack" => pack_requested(given),
@@ -96,18 +96,46 @@ fn map_requested<'a>(given: &ArgMatches<'a>) -> Option<Request<'a>> {
     })
 }
 
-fn list_requested<'a>(given: &ArgMatches<'a>) -> Option<BaseRequest<'a>> {
-    Some(BaseRequest::List {
-        file: given.get_str("FILE")?,
+fn list_requested<'a>(
+    alloc: Global,
+    given: &ArgMatches<'a>,
+) -> Result<Option<Request<'a>>, AllocError> {
+    let paths = Vec::from_slice(alloc, given.get_strs("FILE").unwrap_or(&[]))?;
+    Ok(Some(Request::Base(BaseRequest::List {
         form: form_of(given),
-    })
+        files: named_files(given, paths),
+    })))
 }
 
-fn canonical_requested<'a>(given: &ArgMatches<'a>) -> Option<BaseRequest<'a>> {
-    Some(BaseRequest::Canonical {
-        file: given.get_str("FILE")?,
-        out: given.get_str("OUT")?,
-    })
+/// Returns the files whose paths are printed if that is asked for, or if there are several.
+fn named_files<'a>(given: &ArgMatches<'a>, paths: Vec<&'a str>) -> NamedFiles<'a> {
+    let named = given.get_flag("PATH") || paths.len() > 1;
+    NamedFiles { paths, named }
+}
+
+/// Returns the request of `canonical`. With `--check` the words for OUT are more files.
+fn canonical_requested<'a>(
+    alloc: Global,
+    given: &ArgMatches<'a>,
+) -> Result<Option<Request<'a>>, AllocError> {
+    let Some(file) = given.get_str("FILE") else {
+        return Ok(None);
+    };
+    let others = given.get_strs("OUT").unwrap_or(&[]);
+    if !given.get_flag("CHECK") {
+        return Ok(rewrite_of(file, others));
+    }
+    let mut paths = Vec::from_slice(alloc, &[file])?;
+    paths.extend_from_slice(others)?;
+    Ok(Some(Request::Base(BaseRequest::Changes {
+        files: named_files(given, paths),
+    })))
+}
+
+/// Returns the request to rewrite a file. `parse` refuses more words than one for OUT.
+fn rewrite_of<'a>(file: &'a str, outs: &[&'a str]) -> Option<Request<'a>> {
+    let out = *outs.first()?;
+    Some(Request::Base(BaseRequest::Canonical { file, out }))
 }
 
 fn get_requested<'a>(given: &ArgMatches<'a>) -> Option<BaseRequest<'a>> {

@@ -1,6 +1,7 @@
 //! The status of a run of the program.
 
 ghost use Rattle.std.specs.Prelude.{◌≡◌, ◌↔◌, ◌⊎◌, option_map};
+ghost use Rattle.program_io.specs.Status as words;
 ghost use Rattle.program_io.specs.Status.{fault_word};
 
 use crate::input::InputFault;
@@ -37,6 +38,31 @@ impl Status {
             Status::BadWords => 2,
             Status::ReadFault | Status::WriteFault => 3,
             Status::NoMemory => 4,
+        }
+    }
+
+    /// Returns the worse of two statuses. A failed write is the worst, as nothing is written after
+    /// it.
+    pub fn worse(self, other: Status) -> Status
+        ensures { result ≡ words.worse self other }
+    {
+        if self.severity() < other.severity() {
+            other
+        } else {
+            self
+        }
+    }
+
+    fn severity(self) -> u8
+        ensures { result ≡ words.severity self }
+    {
+        match self {
+            Status::Done => 0,
+            Status::Refused => 1,
+            Status::BadWords => 2,
+            Status::ReadFault => 3,
+            Status::NoMemory => 4,
+            Status::WriteFault => 5,
         }
     }
 

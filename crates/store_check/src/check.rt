@@ -1,7 +1,7 @@
 //! The check of a whole image.
 #![tactic(auto, using(laws_heap::proofs::Lending::all_within, laws_heap::proofs::Lending::all_misses))]
 
-ghost use Rattle.std.specs.Prelude.{◌≡◌, ◌≤◌, ◌*◌, ◌⊎◌, [], ◌∷◌, List, length, Err, IfOk, IfErr, OnOk, None};
+ghost use Rattle.std.specs.Prelude.{◌≡◌, ◌≤◌, ◌*◌, ◌^◌, ◌⊎◌, [], ◌∷◌, List, length, Err, IfOk, IfErr, OnOk, None};
 ghost use Rattle.heap_model.specs.Bytes.{AreBytes};
 ghost use Rattle.heap_model.specs.Heap.{HeapAccepted, directory_of};
 ghost use Rattle.heap_model.specs.Store.{directory_bytes, listed, most_databases, Accepted};
@@ -256,6 +256,7 @@ fn set_size(region: &Region, headers: &[Body]) -> usize
     requires headers { HaveHeaders region.now.bytes }
     ensures ids { HasRoomForAll region.now.bytes result }
     ensures names { name_numbers ≤ 8 * result }
+    ensures most { result ≤ 2 ^ 21 }
 {
     let greatest = greatest_id(region, headers);
     greatest.max(NAME_NUMBERS) as usize / 8 + 1

@@ -2,7 +2,9 @@
 //! each byte.
 
 use crate::samples::{MIXED_FILE, changed, documented, listed, rewritten};
-use file_commands::{WantedBlock, cmd_canonical_from, cmd_get_from, cmd_list_from};
+use file_commands::{
+    WantedBlock, cmd_canonical_from, cmd_changes_from, cmd_get_from, cmd_list_from,
+};
 use file_listing::TextRows;
 use json_documents::JsonRows;
 use palm_text::Counted;
@@ -26,7 +28,7 @@ fn refused_memory_prints_nothing(rt: HostRuntime) -> Result<(), Fail> {
     for granted in 0..100 {
         let memory = RefusesOne::behind(rt.alloc(), granted);
         let mut out = Counted::new(Vec::new(rt.alloc()));
-        let status = cmd_list_from::<TextRows, _, _>(&memory, &file, &mut out);
+        let status = cmd_list_from(&memory, &TextRows { path: None }, &file, &mut out);
         if !memory.has_refused() {
             holds(granted, granted > 3)?;
             return equal(granted, status, Status::Done);
@@ -46,7 +48,28 @@ fn refused_memory_prints_no_document(rt: HostRuntime) -> Result<(), Fail> {
     for granted in 0..100 {
         let memory = RefusesOne::behind(rt.alloc(), granted);
         let mut out = Counted::new(Vec::new(rt.alloc()));
-        let status = cmd_list_from::<JsonRows, _, _>(&memory, &file, &mut out);
+        let status = cmd_list_from(&memory, &JsonRows { path: None }, &file, &mut out);
+        if !memory.has_refused() {
+            holds(granted, granted > 3)?;
+            return equal(granted, status, Status::Done);
+        }
+        equal(granted, status, Status::NoMemory)?;
+        equal(granted, out.into_inner().len(), 0)?;
+    }
+    Err("too many growths")?
+}
+
+/// A file for which there is not enough memory leaves no heading.
+#[test]
+fn refused_memory_prints_no_changes(rt: HostRuntime) -> Result<(), Fail> {
+    let file = bytes_of(rt.alloc(), MIXED_FILE)?;
+    if file.len() > MOST_BROKEN {
+        return Ok(());
+    }
+    for granted in 0..100 {
+        let memory = RefusesOne::behind(rt.alloc(), granted);
+        let mut out = Counted::new(Vec::new(rt.alloc()));
+        let status = cmd_changes_from(&memory, Some("a.pdb"), &file, &mut out);
         if !memory.has_refused() {
             holds(granted, granted > 3)?;
             return equal(granted, status, Status::Done);
@@ -140,7 +163,7 @@ fn a_full_writer_gets_a_prefix(rt: HostRuntime) -> Result<(), Fail> {
     for room in 0..text.len() {
         let narrow = Narrow::new(rt.alloc(), room, 3, WhenFull::Fails(ErrorKind::StorageFull));
         let mut out = Counted::new(narrow);
-        let status = cmd_list_from::<TextRows, _, _>(&rt.alloc(), &file, &mut out);
+        let status = cmd_list_from(&rt.alloc(), &TextRows { path: None }, &file, &mut out);
         equal(room, status, Status::WriteFault)?;
         let narrow = out.into_inner();
         holds(room, narrow.is_cut_at(room))?;
@@ -201,7 +224,7 @@ fn a_full_writer_gets_a_prefix_of_a_fault(rt: HostRuntime) -> Result<(), Fail> {
     }
     for room in 0..22 {
         let mut out = Counted::new(Narrow::new(rt.alloc(), room, 5, WhenFull::TakesNothing));
-        let status = cmd_list_from::<TextRows, _, _>(&rt.alloc(), &file, &mut out);
+        let status = cmd_list_from(&rt.alloc(), &TextRows { path: None }, &file, &mut out);
         equal(room, status, Status::WriteFault)?;
         holds(room, out.into_inner().is_cut_at(room))?;
     }
@@ -225,7 +248,7 @@ fn check_document_cuts(alloc: Global, file: &[u8]) -> Result<(), Fail> {
     }
     for room in 0..text.len() {
         let mut out = Counted::new(Narrow::new(alloc, room, 5, WhenFull::TakesNothing));
-        let status = cmd_list_from::<JsonRows, _, _>(&alloc, file, &mut out);
+        let status = cmd_list_from(&alloc, &JsonRows { path: None }, file, &mut out);
         equal(room, status, Status::WriteFault)?;
         let narrow = out.into_inner();
         holds(room, narrow.is_cut_at(room))?;
@@ -242,10 +265,10 @@ fn flushes_that_fail(rt: HostRuntime) -> Result<(), Fail> {
         return Ok(());
     }
     let mut out = Counted::new(Unflushed(Vec::new(rt.alloc())));
-    let status = cmd_list_from::<TextRows, _, _>(&rt.alloc(), &file, &mut out);
+    let status = cmd_list_from(&rt.alloc(), &TextRows { path: None }, &file, &mut out);
     equal("list", status, Status::WriteFault)?;
     let mut out = Counted::new(Unflushed(Vec::new(rt.alloc())));
-    let status = cmd_list_from::<JsonRows, _, _>(&rt.alloc(), &file, &mut out);
+    let status = cmd_list_from(&rt.alloc(), &JsonRows { path: None }, &file, &mut out);
     equal("list --json", status, Status::WriteFault)?;
     let mut block_out = Counted::new(Unflushed(Vec::new(rt.alloc())));
     let mut out = Counted::new(Vec::new(rt.alloc()));

@@ -19,3 +19,5 @@ mod listings;
 mod parts;
 #[cfg(test)]
 mod samples;
+#[cfg(test)]
+mod several;

@@ -2,7 +2,7 @@
 
 ghost use Rattle.std.specs.Prelude.{[], ◌≡◌, IfOk, None};
 
-use heap_model::{Call, MemoryCall, Name, Reply};
+use heap_model::{Bytes, Call, FileCall, MemoryCall, Name, Reply};
 use image_commands::cmd_check;
 use palm_script::{do_call, run_calls};
 use palm_store::{Store, StoreSummary};
@@ -187,6 +187,54 @@ fn ten_million_bytes_are_imported(rt: HostRuntime) -> Result<(), Fail> {
     let mut out = Counted::new(Vec::new(rt.alloc()));
     equal("bytes", export(&store, db, &mut out).ok(), Some(10_000_088))?;
     holds("file", out.into_inner().as_slice() == file.as_slice())
+}
+
+/// A file of 100 KB. A `Vec` that grows while it is written needs more room at 64 KB.
+fn hundred_kilobytes(alloc: Global) -> Result<Vec<u8>, Fail> {
+    file_of_one(alloc, 100_000)
+}
+
+/// Whether a reply has these bytes.
+fn has_bytes(reply: &Reply, bytes: &[u8]) -> bool {
+    match reply {
+        Reply::Data(data) => data.as_slice() == bytes,
+        _ => false,
+    }
+}
+
+/// It is exported by a call, without "out of memory".
+#[test]
+fn a_hundred_kilobytes_are_exported_by_a_call(rt: HostRuntime) -> Result<(), Fail> {
+    let file = hundred_kilobytes(rt.alloc())?;
+    let mut store = store_of(rt.alloc(), &blank_image(rt.alloc(), 200_000, 16)?)?;
+    let db = import(rt.alloc(), &mut store, &file)?;
+    let reply = do_call(rt.alloc(), &mut store, &Call::File(FileCall::Export(db)));
+    holds("file", has_bytes(&reply, &file))
+}
+
+/// The same in a script.
+#[test]
+fn a_hundred_kilobytes_are_exported_by_a_script(rt: HostRuntime) -> Result<(), Fail> {
+    let image = blank_image(rt.alloc(), 200_000, 16)?;
+    let inputs = [Bytes::of(hundred_kilobytes(rt.alloc())?)];
+    let mut image_out = Counted::new(Vec::new(rt.alloc()));
+    let mut out = Counted::new(Vec::new(rt.alloc()));
+    let mut files = Vec::new(rt.alloc());
+    let status = cmd_run(
+        rt.alloc(),
+        &image,
+        b"import d 1\nexport d\n",
+        &inputs,
+        &mut image_out,
+        &mut files,
+        &mut out,
+    );
+    equal("status", status, Status::Done)?;
+    holds(
+        "replies",
+        out.into_inner().as_slice() == b"ok\nok 100088\n".as_slice(),
+    )?;
+    holds("file", files.as_slice() == inputs.as_slice())
 }
 
 /// A script as long as an input file may be: lines of 4,096 bytes that are passed over, and one

@@ -10,7 +10,7 @@ pub(crate) enum Output {
 }
 
 /// The words of each run behind the program's own name, and what becomes of what it prints.
-pub(crate) static CASES: [(&str, Output); 173] = [
+pub(crate) static CASES: [(&str, Output); 200] = [
     // images that are made, or that there are not
     ("new 64 1 out.img", Taken),
     ("new 128 3 out.img", Taken),
@@ -74,6 +74,33 @@ pub(crate) static CASES: [(&str, Output); 173] = [
     ("canonical - -", Taken),
     ("canonical - -", Refused),
     ("canonical damaged.pdb -", Taken),
+    // several files: whole ones, a damaged one, one that isn't there, a folder, and standard input
+    ("list order.pdb tiny.prc", Taken),
+    ("list order.pdb damaged.pdb tiny.prc", Taken),
+    ("list damaged.pdb none.pdb files - cafe.pdb", Taken),
+    ("list none.pdb tiny.prc missing.pdb", Taken),
+    ("list blank.img cafe.pdb", Taken),
+    ("list order.pdb tiny.prc", Refused),
+    ("list none.pdb tiny.prc", Refused),
+    ("list - order.pdb -", Taken),
+    // one file with its path
+    ("list --path tiny.prc", Taken),
+    ("list --path damaged.pdb", Taken),
+    ("list --path -", Taken),
+    // what would change in one file and in several, and words that are too many
+    ("canonical --check order.pdb", Taken),
+    ("canonical --check tiny.prc", Taken),
+    ("canonical --check damaged.pdb", Taken),
+    ("canonical --check none.pdb", Taken),
+    ("canonical --check -", Taken),
+    ("canonical --check --path order.pdb", Taken),
+    (
+        "canonical --check order.pdb tiny.prc damaged.pdb none.pdb blank.img",
+        Taken,
+    ),
+    ("canonical --check order.pdb tiny.prc", Refused),
+    ("canonical order.pdb tiny.prc out.pdb", Taken),
+    ("canonical --path order.pdb out.pdb", Taken),
     // one block of a file: data, none, and of standard input; resources by type and id
     ("get order.pdb 1", Taken),
     ("get order.pdb 0", Taken),
@@ -146,6 +173,16 @@ pub(crate) static CASES: [(&str, Output); 173] = [
     ("list --json none.pdb", Taken),
     ("list --json -", Taken),
     ("list --json order.pdb", Refused),
+    (
+        "list --json order.pdb damaged.pdb none.pdb - cafe.pdb",
+        Taken,
+    ),
+    ("list --json --path tiny.prc", Taken),
+    ("list --json --path damaged.pdb", Taken),
+    ("list --json tiny.prc damaged.pdb", Refused),
+    // a path outside ASCII with a backslash and a quote
+    ("list --path Caf\u{e9}\\\".pdb", Taken),
+    ("list --json --path Caf\u{e9}\\\".pdb", Taken),
     // images: accepted, with a fault of the heap, and with two of the databases
     ("check --json records.img", Taken),
     ("check --json long.img", Taken),

@@ -28,7 +28,7 @@ impl Content {
 const ROOM: &str = "50484931 00000200 000C 0000 00000000 00*48 800001C0 00*444";
 
 /// The files, each behind its name.
-pub(crate) static INPUTS: [(&str, Content); 24] = [
+pub(crate) static INPUTS: [(&str, Content); 25] = [
     ("blank.img", Listing(BLANK, "")),
     ("room.img", Listing(ROOM, "")),
     ("records.img", Listing(ONE_DATABASE, "")),
@@ -49,6 +49,8 @@ pub(crate) static INPUTS: [(&str, Content); 24] = [
     // names with a byte outside ASCII
     ("cafe.pdb", Listing(EMPTY_WRITTEN, "0: 436166E900")),
     ("cafe.img", Listing(ONE_DATABASE, "72: 436166E9")),
+    // a path that JSON escapes in part
+    ("Caf\u{e9}\\\".pdb", Listing(EMPTY_WRITTEN, "")),
     (
         "files.txt",
         Text("import d 2\nimport e 1\nexport d\nexport e\nexport e\ndbcount\n"),

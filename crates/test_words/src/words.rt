@@ -1,6 +1,6 @@
 //! The words of the command line.
 
-use program_io::command_line::{BaseRequest, Request, parse};
+use program_io::command_line::{BaseRequest, NamedFiles, Request, parse};
 use std::alloc::{AllocError, Global};
 use std::test::Fail;
 use test_support::{equal, holds};
@@ -62,7 +62,12 @@ fn base_shown(alloc: Global, request: &BaseRequest) -> Result<String, AllocError
     match request {
         BaseRequest::New { size, slots, out } => format!(in alloc; "new {size} {slots} {out}\n"),
         BaseRequest::Check { image, form } => format!(in alloc; "check {image} {form:?}\n"),
-        BaseRequest::List { file, form } => format!(in alloc; "list {file} {form:?}\n"),
+        BaseRequest::List { form, files } => {
+            format!(in alloc; "list {form:?}{}\n", named_shown(alloc, files)?)
+        }
+        BaseRequest::Changes { files } => {
+            format!(in alloc; "changes{}\n", named_shown(alloc, files)?)
+        }
         BaseRequest::Canonical { file, out } => format!(in alloc; "canonical {file} {out}\n"),
         BaseRequest::Get {
             file,
@@ -80,9 +85,15 @@ fn base_shown(alloc: Global, request: &BaseRequest) -> Result<String, AllocError
     }
 }
 
+/// The paths of files, and whether they are printed.
+fn named_shown(alloc: Global, files: &NamedFiles) -> Result<String, AllocError> {
+    let named = if files.named { " named" } else { "" };
+    format!(in alloc; "{named} {:?}", files.paths)
+}
+
 /// Words, and how what comes of them begins, and what stands in it: commands, words that are
 /// refused, and help.
-static CASES: [(&str, &str, &str); 82] = [
+static CASES: [(&str, &str, &str); 80] = [
     ("palmheap new 128 4 a.img", "new 128 4 a.img\n", ""),
     (
         "palmheap new 4294967295 65535 --  -a",
@@ -103,7 +114,7 @@ static CASES: [(&str, &str, &str); 82] = [
     ("palmheap migrate a.img b.img", "migrate a.img b.img\n", ""),
     ("palmheap map a.img", "map a.img\n", ""),
     ("palmheap map a.img a.svg", "map a.img a.svg\n", ""),
-    ("palmheap list memo.pdb", "list memo.pdb Text\n", ""),
+    ("palmheap list memo.pdb", "list Text [\"memo.pdb\"]\n", ""),
     (
         "palmheap canonical memo.pdb new.pdb",
         "canonical memo.pdb new.pdb\n",
@@ -134,7 +145,11 @@ static CASES: [(&str, &str, &str); 82] = [
     ("palmheap pack memos memo.pdb", "pack memos memo.pdb\n", ""),
     ("palmheap databases a.img", "databases a.img Text\n", ""),
     ("palmheap check --json a.img", "check a.img Json\n", ""),
-    ("palmheap list memo.pdb --json", "list memo.pdb Json\n", ""),
+    (
+        "palmheap list memo.pdb --json",
+        "list Json [\"memo.pdb\"]\n",
+        "",
+    ),
     (
         "palmheap databases --json a.img",
         "databases a.img Json\n",
@@ -380,16 +395,6 @@ static CASES: [(&str, &str, &str); 82] = [
         "0 ",
         "Usage: palmheap map <IMAGE> [OUT]",
     ),
-    (
-        "palmheap list --help",
-        "0 ",
-        "Usage: palmheap list [OPTIONS] <FILE>",
-    ),
-    (
-        "palmheap canonical --help",
-        "0 ",
-        "Usage: palmheap canonical <FILE> <OUT>",
-    ),
 ];
 
 fn check_words(alloc: Global, line: &str, front: &str, part: &str) -> Result<(), Fail> {
@@ -401,6 +406,85 @@ fn check_words(alloc: Global, line: &str, front: &str, part: &str) -> Result<(),
 #[test]
 fn words_are_read(rt: HostRuntime) -> Result<(), Fail> {
     for (line, front, part) in &CASES {
+        check_words(rt.alloc(), line, front, part)?;
+    }
+    Ok(())
+}
+
+/// The same for `list` and `canonical`, of several files too.
+static SEVERAL: [(&str, &str, &str); 15] = [
+    (
+        "palmheap list memo.pdb tool.prc memo.pdb",
+        "list Text named [\"memo.pdb\", \"tool.prc\", \"memo.pdb\"]\n",
+        "",
+    ),
+    (
+        "palmheap list --path memo.pdb",
+        "list Text named [\"memo.pdb\"]\n",
+        "",
+    ),
+    (
+        "palmheap list --json --path memo.pdb",
+        "list Json named [\"memo.pdb\"]\n",
+        "",
+    ),
+    (
+        "palmheap list - memo.pdb -",
+        "2 error: only one of IMAGE, SCRIPT and FILE can be '-', standard input\n",
+        "\nUsage: palmheap list [OPTIONS] <FILE>...\n",
+    ),
+    ("palmheap list", "2 error: ", "<FILE>..."),
+    (
+        "palmheap canonical --check memo.pdb",
+        "changes [\"memo.pdb\"]\n",
+        "",
+    ),
+    (
+        "palmheap canonical --check --path memo.pdb",
+        "changes named [\"memo.pdb\"]\n",
+        "",
+    ),
+    (
+        "palmheap canonical memo.pdb tool.prc memo.pdb --check",
+        "changes named [\"memo.pdb\", \"tool.prc\", \"memo.pdb\"]\n",
+        "",
+    ),
+    (
+        "palmheap canonical --check memo.pdb - tool.prc -",
+        "2 error: only one of IMAGE, SCRIPT and FILE can be '-', standard input\n",
+        "",
+    ),
+    (
+        "palmheap canonical --path memo.pdb new.pdb",
+        "2 error: the following required arguments were not provided:\n  --check\n",
+        "",
+    ),
+    ("palmheap canonical --check", "2 error: ", "<FILE>"),
+    (
+        "palmheap canonical memo.pdb",
+        "2 error: the following required arguments were not provided:\n  <OUT>",
+        "\nUsage: palmheap canonical <FILE> <OUT>\n       palmheap canonical --check [--path] <FILE>...\n",
+    ),
+    (
+        "palmheap canonical memo.pdb new.pdb tool.prc",
+        "2 error: unexpected argument 'tool.prc' found\n",
+        "\nUsage: palmheap canonical <FILE> <OUT>\n",
+    ),
+    (
+        "palmheap list --help",
+        "0 ",
+        "Usage: palmheap list [OPTIONS] <FILE>...",
+    ),
+    (
+        "palmheap canonical --help",
+        "0 ",
+        "Usage: palmheap canonical <FILE> <OUT>",
+    ),
+];
+
+#[test]
+fn several_files_are_read(rt: HostRuntime) -> Result<(), Fail> {
+    for (line, front, part) in &SEVERAL {
         check_words(rt.alloc(), line, front, part)?;
     }
     Ok(())

@@ -1,5 +1,5 @@
 -- Strings of a document.
-use Rattle.std.specs.Prelude.{ℕ, Bool, ◌==◌, ◌&&◌, ◌++◌, nat_le, not, if◌then◌else◌, List, [], ◌∷◌, codes}
+use Rattle.std.specs.Prelude.{ℕ, Bool, ◌==◌, ◌&&◌, ◌||◌, ◌++◌, nat_le, not, if◌then◌else◌, List, [], ◌∷◌, codes}
 use Rattle.std.specs.List.{flat_map}
 use Rattle.std.specs.Option.{unwrap_or}
 use Rattle.hex.specs.Hex.{encode_lower}
@@ -31,6 +31,20 @@ closed_string bytes = string_characters bytes ++ codes "\""
 abbrev pub string : List ℕ → List ℕ
 string bytes = codes "\"" ++ closed_string bytes
 
--- the string of their hex digits
+-- a text in UTF-8: bytes from 80 (hex) on stand in its string as they are, too
+abbrev pub utf8_character : ℕ → List ℕ
+utf8_character b = if is_plain_in_string b || nat_le 128 b then b ∷ [] else escape_of b
+
+abbrev pub utf8_characters : List ℕ → List ℕ
+utf8_characters text = flat_map utf8_character text
+
+-- the string of a text in UTF-8
+abbrev pub closed_utf8_string : List ℕ → List ℕ
+closed_utf8_string text = utf8_characters text ++ codes "\""
+
+abbrev pub utf8_string : List ℕ → List ℕ
+utf8_string text = codes "\"" ++ closed_utf8_string text
+
+-- the string of the hex digits of some bytes
 abbrev pub hex_string : List ℕ → List ℕ
 hex_string bytes = codes "\"" ++ (encode_lower bytes ++ codes "\"")

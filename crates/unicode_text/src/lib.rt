@@ -2,9 +2,10 @@
 //! `specs/Windows1252.antt`, which lists the characters.
 //!
 //! A document is written piece by piece by `put_json`, without memory of its own. It is one object
-//! on one line, in ASCII. A string has a character for each byte: the character of the byte in
-//! Windows-1252 or, if there is none, the character whose code is the byte. After each string from
-//! a file comes a string with its bytes in hex, so a reader can get the exact bytes.
+//! on one line, in ASCII but for the paths of files. A string has a character for each byte: the
+//! character of the byte in Windows-1252 or, if there is none, the character whose code is the
+//! byte. After each string from a file comes a string with its bytes in hex, so a reader can get
+//! the exact bytes. The path of a file is a text already, and its string is in UTF-8.
 //!
 //! | module | does |
 //! |---|---|

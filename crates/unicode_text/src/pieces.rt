@@ -6,7 +6,7 @@ ghost use Rattle.palm_text.specs.Counted.{Writes};
 ghost use Rattle.unicode_text.specs.Pieces.{json_of, json_text};
 ghost use Rattle.unicode_text.specs.Strings.{hex_string, string};
 
-use crate::strings::{put_hex_string, put_string};
+use crate::strings::{put_hex_string, put_string, put_utf8_string};
 use byteorder::{BigEndian, ByteOrder};
 use itoa::Buffer;
 use palm_text::{Counted, WriteFault, put_all};
@@ -21,6 +21,8 @@ pub enum JsonPiece<'a> {
     Number(u32),
     /// The string of these bytes.
     String(&'a [u8]),
+    /// The string of this text. Characters outside ASCII stay in UTF-8.
+    Utf8(&'a str),
     /// The string of the hex digits of these bytes.
     Hex(&'a [u8]),
     /// The string of the four bytes of a number. Types and creators are written this way.
@@ -52,6 +54,7 @@ fn put_piece<W: Write>(out: &mut Counted<W>, piece: &JsonPiece) -> Result<(), Wr
             put_all(out, buffer.format(*number).as_bytes())
         }
         JsonPiece::String(bytes) => put_string(out, bytes),
+        JsonPiece::Utf8(text) => put_utf8_string(out, text),
         JsonPiece::Hex(bytes) => put_hex_string(out, bytes),
         JsonPiece::FourBytes(number) => put_four_bytes(out, *number),
         JsonPiece::FourHex(number) => put_four_hex(out, *number),

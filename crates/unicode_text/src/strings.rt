@@ -4,6 +4,7 @@ ghost use Rattle.std.specs.Prelude.{◌≡◌, ◌++◌, ◌∷◌, [], codes, i
 ghost use Rattle.palm_text.specs.Counted.{Writes};
 ghost use Rattle.unicode_text.specs.Strings as words;
 ghost use Rattle.unicode_text.specs.Strings.{string_character, string_characters, closed_string, escape_of, hex_string, string};
+ghost use Rattle.unicode_text.specs.Strings.{closed_utf8_string, utf8_character, utf8_characters, utf8_string};
 
 use crate::characters::character_of;
 use palm_text::{Counted, Piece, WriteFault, put_all, put_pieces};
@@ -75,6 +76,48 @@ fn code_of(byte: u8) -> u16
     match character_of(byte) {
         Some(character) => character as u16,
         None => u16::from(byte),
+    }
+}
+
+/// Writes the string of a text. Characters outside ASCII stay in UTF-8.
+#[tactic(auto, using(palm_text::proofs::Parts::then, palm_text::proofs::Parts::stops))]
+pub(crate) fn put_utf8_string<W: Write>(out: &mut Counted<W>, text: &str) -> Result<(), WriteFault>
+    ensures { Writes W.contents out.old out.new (utf8_string text.now) (is_ok result) }
+{
+    put_all(out, b"\"")?;
+    put_closed_utf8(out, text.as_bytes())
+}
+
+/// Writes the characters of a text in UTF-8, and the quote after them.
+#[tactic(auto, using(palm_text::proofs::Parts::then, palm_text::proofs::Parts::stops))]
+fn put_closed_utf8<W: Write>(out: &mut Counted<W>, text: &[u8]) -> Result<(), WriteFault>
+    ensures { Writes W.contents out.old out.new (closed_utf8_string text.now) (is_ok result) }
+{
+    put_utf8_characters(out, text)?;
+    put_all(out, b"\"")
+}
+
+/// Writes the characters of a text in UTF-8.
+fn put_utf8_characters<W: Write>(out: &mut Counted<W>, text: &[u8]) -> Result<(), WriteFault>
+    ensures { Writes W.contents out.old out.new (utf8_characters text.now) (is_ok result) }
+{
+    for byte in text {
+        match put_utf8_byte(out, *byte) {
+            Ok(()) => {}
+            Err(fault) => return Err(fault),
+        }
+    }
+    Ok(())
+}
+
+/// Writes a byte of a text in UTF-8.
+fn put_utf8_byte<W: Write>(out: &mut Counted<W>, byte: u8) -> Result<(), WriteFault>
+    ensures { Writes W.contents out.old out.new (utf8_character byte) (is_ok result) }
+{
+    if is_plain(byte) || byte >= 0x80 {
+        put_all(out, &[byte])
+    } else {
+        put_escaped(out, byte)
     }
 }
 

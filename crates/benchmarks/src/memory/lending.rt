@@ -32,7 +32,7 @@ pub(crate) fn read_with_out(
 {
     let Some((first, rest)) = out.split_first() else {
         for _ in 0..passes {
-            read_each(heap, others, replies);
+            *replies = read_each(heap, others, *replies);
         }
         return;
     };
@@ -45,12 +45,15 @@ pub(crate) fn read_with_out(
     }
 }
 
-/// Reads 16 bytes of each chunk, and adds up the first and the last.
-pub(crate) fn read_each(heap: &Heap, names: &[Name], replies: &mut Sum) {
+/// Reads 16 bytes of each chunk, and adds the first and the last to a sum. Returns the new sum, so
+/// that it need not be in memory meanwhile.
+pub(crate) fn read_each(heap: &Heap, names: &[Name], before: Sum) -> Sum {
+    let mut replies = before;
     for name in names {
         match heap.read(*name, 0, WIDTH) {
             Ok(bytes) => replies.add_ends(bytes),
             Err(refusal) => replies.add_refusal(refusal),
         }
     }
+    replies
 }

@@ -193,7 +193,7 @@ impl Load {
 
     /// Reads 16 bytes of each chunk, and adds up the first and the last.
     fn read(&mut self) {
-        read_each(&self.heap, &self.wide, &mut self.replies);
+        self.replies = read_each(&self.heap, &self.wide, self.replies);
     }
 
     /// Takes bodies out once, and reads `passes` times 16 bytes of each of the other chunks.

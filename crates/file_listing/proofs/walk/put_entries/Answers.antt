@@ -15,8 +15,8 @@ loop-index-preserved g c = λ new ok w.
     let long = rows_long file in
     let inside : i < length (entry_rows file) = omega arith in
     let row = c.entry_row_at.ensures ∙ sym (row_here file i (omega arith)) in
-    c.loop-index.invariant new ok (then_text g.N.Notation.row_text g.W.Write.contents c.loop-index.out c.put_row.new.out new (entry_rows file) i (entry_row_at file i) ok inside
-    (subst (λ (row : Row). Writes g.W.Write.contents c.loop-index.out c.put_row.new.out (g.N.Notation.row_text row) true) row c.in-Ok.ensures) w)
+    c.loop-index.invariant new ok (then_text (g.N.Notation.row_text c.args.notation.now) g.W.Write.contents c.loop-index.out c.put_row.new.out new (entry_rows file) i (entry_row_at file i) ok inside
+    (subst (λ (row : Row). Writes g.W.Write.contents c.loop-index.out c.put_row.new.out (g.N.Notation.row_text c.args.notation.now row) true) row c.in-Ok.ensures) w)
 
 pub returns-in-Err : goal.returns-in-Err
 returns-in-Err g c =
@@ -25,8 +25,8 @@ returns-in-Err g c =
     let long = rows_long file in
     let inside : i < length (entry_rows file) = omega arith in
     let row = c.entry_row_at.ensures ∙ sym (row_here file i (omega arith)) in
-    c.loop-index.invariant c.put_row.new.out false (stops_text g.N.Notation.row_text g.W.Write.contents c.loop-index.out c.put_row.new.out (entry_rows file) i (entry_row_at file i) inside
-    (subst (λ (row : Row). Writes g.W.Write.contents c.loop-index.out c.put_row.new.out (g.N.Notation.row_text row) false) row c.in-Err.ensures))
+    c.loop-index.invariant c.put_row.new.out false (stops_text (g.N.Notation.row_text c.args.notation.now) g.W.Write.contents c.loop-index.out c.put_row.new.out (entry_rows file) i (entry_row_at file i) inside
+    (subst (λ (row : Row). Writes g.W.Write.contents c.loop-index.out c.put_row.new.out (g.N.Notation.row_text c.args.notation.now row) false) row c.in-Err.ensures))
 
 pub returns : goal.returns
 returns g c =

@@ -11,4 +11,4 @@ pub returns : goal.returns
 returns g c =
     let rows : Needs c.size_and_slots-size.result.0 c.size_and_slots-size.result.1 ∷ Changed c.args.facts.now.changes ∷ [] ≡ last_rows c.args.file.now c.args.facts.now
     = rw (c.size_and_slots-size.ensures.size, c.size_and_slots-size.ensures.slots) refl in
-    subst (λ (rows : List Row). Writes g.W.Write.contents c.args.out.now c.put_rows.new.out (flat_map g.N.Notation.row_text rows) (is_ok c.put_rows.result)) rows c.put_rows.ensures
+    subst (λ (rows : List Row). Writes g.W.Write.contents c.args.out.now c.put_rows.new.out (flat_map (g.N.Notation.row_text c.args.notation.now) rows) (is_ok c.put_rows.result)) rows c.put_rows.ensures

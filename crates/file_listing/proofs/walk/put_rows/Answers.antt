@@ -8,13 +8,13 @@ use Rattle.file_listing.proofs.walk.put_rows.Goals as goal
 
 pub loop-row-preserved : goal.loop-row-preserved
 loop-row-preserved g c = λ new ok w.
-    c.loop-row.invariant new ok (then_text g.N.Notation.row_text g.W.Write.contents c.loop-row.out c.put_row.new.out new c.args.rows.now c.loop-row.row-index c.row-item.result ok c.loop-row-test.true
-    (subst (λ (row : Row). Writes g.W.Write.contents c.loop-row.out c.put_row.new.out (g.N.Notation.row_text row) true) c.row-item.is c.in-Ok.ensures) w)
+    c.loop-row.invariant new ok (then_text (g.N.Notation.row_text c.args.notation.now) g.W.Write.contents c.loop-row.out c.put_row.new.out new c.args.rows.now c.loop-row.row-index c.row-item.result ok c.loop-row-test.true
+    (subst (λ (row : Row). Writes g.W.Write.contents c.loop-row.out c.put_row.new.out (g.N.Notation.row_text c.args.notation.now row) true) c.row-item.is c.in-Ok.ensures) w)
 
 pub returns-in-Err : goal.returns-in-Err
 returns-in-Err g c =
-    c.loop-row.invariant c.put_row.new.out false (stops_text g.N.Notation.row_text g.W.Write.contents c.loop-row.out c.put_row.new.out c.args.rows.now c.loop-row.row-index c.row-item.result c.loop-row-test.true
-    (subst (λ (row : Row). Writes g.W.Write.contents c.loop-row.out c.put_row.new.out (g.N.Notation.row_text row) false) c.row-item.is c.in-Err.ensures))
+    c.loop-row.invariant c.put_row.new.out false (stops_text (g.N.Notation.row_text c.args.notation.now) g.W.Write.contents c.loop-row.out c.put_row.new.out c.args.rows.now c.loop-row.row-index c.row-item.result c.loop-row-test.true
+    (subst (λ (row : Row). Writes g.W.Write.contents c.loop-row.out c.put_row.new.out (g.N.Notation.row_text c.args.notation.now row) false) c.row-item.is c.in-Err.ensures))
 
 pub returns : goal.returns
 returns g c =

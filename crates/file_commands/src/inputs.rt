@@ -1,0 +1,29 @@
+//! A source of files.
+
+ghost use Rattle.std.specs.Prelude.{◌≡◌, ◌≤◌, ◌⊎◌, ℕ, List, Result, IfOk, IfErr, vec_len};
+ghost use Rattle.std.specs.Result.{result_map_both};
+ghost use Rattle.program_io.specs.declared.status.Status.{Status};
+ghost use Rattle.program_io.specs.declared.status.Status.TheVariants as statuses;
+
+use program_io::{MOST_INPUT, Status};
+
+/// A source of files.
+pub trait Inputs {
+    /// What a read of the file at a path may give: its bytes, or the status of a failure.
+    ghost gives: { Self → List ℕ → Result (List ℕ) Status → Type 0 };
+
+    /// Reads a whole file.
+    ///
+    /// # Errors
+    /// - `ReadFault`: the file can't be read, or is longer than `MOST_INPUT`.
+    /// - `NoMemory`: an allocation failed.
+    fn read(&self, path: &str) -> Result<Vec<u8>, Status>
+        ensures limit { IfOk result (λ bytes. vec_len bytes ≤ MOST_INPUT) }
+        ensures faults { IfErr result (λ status.
+            (status ≡ statuses.ReadFault) ⊎ (status ≡ statuses.NoMemory)) }
+        ensures gives { gives self.now path.now
+            (result_map_both (λ bytes. bytes.items) (λ status. status) result) };
+
+    /// Takes note of the status with which the report of a file ended, and of the file.
+    fn note(&self, path: &str, status: Status, file: &[u8]);
+}

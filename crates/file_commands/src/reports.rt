@@ -1,0 +1,113 @@
+//! What `list`, `list --json` and `canonical --check` print, for a file and for several files.
+
+ghost use Rattle.std.specs.Prelude.{◌≡◌, ◌≢◌, ◌≤◌, length, map, option_map};
+ghost use Rattle.canonical_file.specs.Canonical.{most_bytes};
+ghost use Rattle.palm_text.specs.Output.{output};
+ghost use Rattle.file_commands.specs.Reports as words;
+ghost use Rattle.file_commands.specs.Reports.{EndsNext, EndsReport, EndsReports, MayReport};
+
+use crate::changes_command::cmd_changes_from;
+use crate::inputs::Inputs;
+use crate::list_command::cmd_list_from;
+use allowance::Allowance;
+use file_listing::TextRows;
+use json_documents::JsonRows;
+use palm_text::Counted;
+use program_io::Status;
+use std::io::Write;
+
+/// What a command prints for each file.
+#[derive(Clone, Copy, Debug, PartialEq, Eq)]
+pub enum Report {
+    /// The listing, as `list` prints it.
+    Listing,
+    /// The document, as `list --json` prints it.
+    Document,
+    /// The line of the changes, as `canonical --check` prints it.
+    Changes,
+}
+
+/// The files of which a command prints reports, in order.
+#[derive(Clone, Copy)]
+pub struct Asked<'a> {
+    pub report: Report,
+    pub paths: &'a [&'a str],
+    /// Whether the report of a file has the path.
+    pub named: bool,
+}
+
+/// Prints the report of a file, with the path if there is one. If the file has a fault, the report
+/// has only the first fault. Each allocation asks `memory` for a grant.
+pub fn cmd_report_from<A: Allowance, V: Write>(
+    memory: &A,
+    report: Report,
+    path: Option<&str>,
+    file: &[u8],
+    out: &mut Counted<V>,
+) -> Status
+    requires { length file.now ≤ most_bytes }
+    ensures ends { EndsReport report (option_map (λ path. path.now) path.entry) file.now
+        (output V.contents out.old out.new) result }
+    ensures short { result ≡ Status.NoMemory → A.is_short memory.now }
+{
+    match report {
+        Report::Listing => cmd_list_from(memory, &TextRows { path }, file, out),
+        Report::Document => cmd_list_from(memory, &JsonRows { path }, file, out),
+        Report::Changes => cmd_changes_from(memory, path, file, out),
+    }
+}
+
+/// Prints the reports of some files, one after another, and returns the worst status. It reads a
+/// file after the report of the one before, and has the bytes of one file at a time. After a write
+/// fails, it reads and writes nothing more. Any other failure is that of one file, and the others
+/// go on.
+pub fn cmd_reports_from<A: Allowance, I: Inputs, V: Write>(
+    memory: &A,
+    inputs: &I,
+    asked: Asked<'_>,
+    out: &mut Counted<V>,
+) -> Status
+    ensures ends { EndsReports
+        (MayReport (I.gives inputs.now) (A.is_short memory.now) asked.entry.report asked.entry.named)
+        (map (λ path. path.now) asked.entry.paths.now) (output V.contents out.old out.new) result }
+    ensures good_words { result ≢ Status.BadWords }
+{
+    let mut worst = Status::Done;
+    for path in asked.paths {
+        match report_next(memory, inputs, asked, path, out) {
+            Status::WriteFault => return Status::WriteFault,
+            status => worst = worst.worse(status),
+        }
+    }
+    worst
+}
+
+/// Reads a file, and prints its report.
+fn report_next<A: Allowance, I: Inputs, V: Write>(
+    memory: &A,
+    inputs: &I,
+    asked: Asked<'_>,
+    path: &str,
+    out: &mut Counted<V>,
+) -> Status
+    ensures ends { EndsNext
+        (MayReport (I.gives inputs.now) (A.is_short memory.now) asked.entry.report
+        asked.entry.named path.now) (output V.contents out.old out.new) result }
+    ensures good_words { result ≢ Status.BadWords }
+{
+    let file = match inputs.read(path) {
+        Ok(file) => file,
+        Err(status) => return status,
+    };
+    let shown = path_if(asked.named, path);
+    let status = cmd_report_from(memory, asked.report, shown, file.as_slice(), out);
+    inputs.note(path, status, file.as_slice());
+    status
+}
+
+/// Returns the path that a report has, if it has one.
+fn path_if(named: bool, path: &str) -> Option<&str>
+    ensures { option_map (λ path. path.now) result ≡ words.path_if named path.now }
+{
+    if named { Some(path) } else { None }
+}

@@ -1,0 +1,135 @@
+/* Part of tests/library.sh: where files have faults, files as structures, and explanations.
+ *
+ *   gcc library_files.c libpalmheap.a -o files && ./files
+ *
+ * Damages a file of three records, the last one deleted and without data, at each field that can be wrong, and compares
+ * what palmheap_pdb_damage says of it. Reads the file, with room for its entries or too little. Asks for
+ * explanations. The status is 1 if something is wrong.
+ */
+#include <palmheap.h>
+#include <stdio.h>
+#include <stdlib.h>
+#include <string.h>
+
+enum { ENTRIES_END = 78 + 3 * 8, AT_APP = ENTRIES_END + 2, SIZE = AT_APP + 3 + 5 + 4 };
+
+static uint8_t file[SIZE];
+
+static void need(bool is_right, const char *what) {
+    if (is_right) return;
+    puts(what);
+    exit(1);
+}
+
+static void put_u32(size_t at, uint32_t number) {
+    for (int i = 0; i < 4; i++) file[at + i] = (uint8_t)(number >> (24 - 8 * i));
+}
+
+/* A file with an AppInfo block of 3 bytes and records of 5 and 4 bytes. */
+static void make(void) {
+    memset(file, 0, SIZE);
+    memcpy(file, "Three", 5);
+    put_u32(36, 7);
+    put_u32(52, AT_APP);
+    memcpy(file + 60, "DATAtest", 8);
+    file[77] = 3;
+    put_u32(78, AT_APP + 3);
+    put_u32(82, 0x40000000 | 11);
+    put_u32(86, AT_APP + 8);
+    put_u32(90, 12);
+    put_u32(98, 0x80000000 | 13);
+    memcpy(file + AT_APP, "appfirsttwo", 12);
+}
+
+/* The first fault of the file, or of the start of it, is this one. */
+static void is_damaged(size_t size, uint32_t kind, uint32_t entry, palmheap_damage wanted) {
+    palmheap_damage damage = {9, 9, 9, 9, false};
+    palmheap_answer answer = palmheap_pdb_damage(file, size, &damage);
+    need(answer.kind == kind && answer.at == entry && answer.entry == 0, "another fault");
+    need(damage.at == wanted.at && damage.found == wanted.found, "another place or number");
+    need(damage.least == wanted.least && damage.most == wanted.most, "other numbers are allowed");
+    need(damage.or_zero == wanted.or_zero, "another use of 0");
+    answer = palmheap_pdb_check(file, size);
+    need(answer.kind == kind && answer.at == entry, "the faults differ");
+    make();
+}
+
+static palmheap_database_info header;
+static palmheap_block app, sort;
+static palmheap_file_entry entries[5];
+
+static palmheap_answer read_entries(size_t size, size_t room, size_t *count) {
+    memset(&header, 9, sizeof header);
+    memset(&app, 0, sizeof app);
+    memset(&sort, 1, sizeof sort);
+    memset(entries, 7, sizeof entries);
+    *count = 99;
+    return palmheap_pdb_read(file, size, &header, &app, &sort, entries, room, count);
+}
+
+static bool is_entry(const palmheap_file_entry *entry, uint32_t id, uint8_t attributes, size_t start, size_t end) {
+    bool has_data = start != 0;
+    return entry->id == id && entry->attributes == attributes && entry->kind == 0 && entry->has_data == has_data &&
+        (!has_data || (entry->start == start && entry->end == end));
+}
+
+static void read_file(void) {
+    size_t count;
+    make();
+    need(read_entries(SIZE, 2, &count).kind == PALMHEAP_NO_ROOM && count == 3, "another count");
+    need(header.name[0] == 9 && entries[0].kind == 0x07070707 && app.start == 0, "something is written without room");
+    need(read_entries(40, 5, &count).kind == PALMHEAP_TRUNCATED && count == 99, "another fault or count");
+    need(header.name[0] == 9 && entries[0].kind == 0x07070707, "a fault changes something");
+    uint32_t kind = palmheap_pdb_read(file, SIZE, &header, &app, &sort, NULL, 0, &count).kind;
+    need(kind == PALMHEAP_NO_ROOM && count == 3, "room in nothing");
+    need(read_entries(SIZE, 4, &count).kind == PALMHEAP_OK && count == 3, "not read");
+    need(header.name_length == 5 && memcmp(header.name, "Three\0\0", 7) == 0 && header.name[31] == 0, "another name");
+    need(header.creation_date == 7 && header.kind == 0x44415441 && header.creator == 0x74657374, "another header");
+    need(header.attributes == 0 && header.entry_count == 3 && header.seed == 0, "another header");
+    need(app.is_there && app.start == AT_APP && app.end == AT_APP + 3 && !sort.is_there, "other info blocks");
+    need(is_entry(entries, 11, 0x40, AT_APP + 3, AT_APP + 8), "another first record");
+    need(is_entry(entries + 1, 12, 0, AT_APP + 8, SIZE), "another second record");
+    need(is_entry(entries + 2, 13, 0x80, 0, 0), "another deleted record");
+    need(entries[3].kind == 0x07070707, "an entry too many is written");
+}
+
+/* The explanation of a word begins with these bytes, and ends with a line's end. */
+static void is_explained(const char *word, const char *front) {
+    static uint8_t text[1024];
+    size_t count = 0, len;
+    uint32_t result = palmheap_explain((const uint8_t *)word, strlen(word), NULL, 0, &len);
+    need(result == PALMHEAP_CALL_NO_ROOM && len > strlen(front) && len <= sizeof text, "another size of a text");
+    need(palmheap_explain((const uint8_t *)word, strlen(word), text, len, &count) == 0 && count == len, "not explained");
+    need(memcmp(text, front, strlen(front)) == 0 && text[len - 1] == '\n', "another explanation");
+    need(palmheap_explain((const uint8_t *)word, strlen(word), text, len - 1, &count) == PALMHEAP_CALL_NO_ROOM, "room");
+}
+
+static void explain(void) {
+    size_t count = 99;
+    is_explained("25", "25 BadFile, a refusal: ");
+    is_explained("Lent", "27 Lent, a refusal: ");
+    is_explained("badchunk", "BadChunk o, a fault of an image: ");
+    uint32_t result = palmheap_explain((const uint8_t *)"28", 2, NULL, 0, &count);
+    need(result == PALMHEAP_CALL_NO_WORD && count == 99, "a refusal too many");
+}
+
+int main(void) {
+    explain();
+    read_file();
+    make();
+    is_damaged(SIZE, PALMHEAP_OK, 0, (palmheap_damage){9, 9, 9, 9, false});
+    is_damaged(50, PALMHEAP_TRUNCATED, 0, (palmheap_damage){50, 50, 78, SIZE_MAX, false});
+    const size_t less = ENTRIES_END - 1;
+    is_damaged(less, PALMHEAP_TRUNCATED, 0, (palmheap_damage){less, less, ENTRIES_END, SIZE_MAX, false});
+    put_u32(72, 5);
+    is_damaged(SIZE, PALMHEAP_CHAINED_LIST, 0, (palmheap_damage){72, 5, 0, 0, true});
+    file[0] = 0;
+    is_damaged(SIZE, PALMHEAP_EMPTY_NAME, 0, (palmheap_damage){0, 0, 1, 255, false});
+    put_u32(52, SIZE + 1);
+    is_damaged(SIZE, PALMHEAP_BAD_APP_INFO, 0, (palmheap_damage){52, SIZE + 1, ENTRIES_END, SIZE, true});
+    put_u32(56, 77);
+    is_damaged(SIZE, PALMHEAP_BAD_SORT_INFO, 0, (palmheap_damage){56, 77, ENTRIES_END, SIZE, true});
+    put_u32(86, 0);
+    is_damaged(SIZE, PALMHEAP_BAD_OFFSET, 1, (palmheap_damage){86, 0, ENTRIES_END, SIZE, true});
+    return 0;
+}
