@@ -79,8 +79,8 @@ only '(^|[^a-z_])failed[ ]*(::<[^(]*>)?\(' \
     ./palmheap_c/src/buffers.rt:refused_write ./palmheap_c/src/explaining.rt:refused_text \
     ./pdb_files/src/exporting.rt:refused_write ./raw_region/src/region.rt:of_zeros
 only '(^|[^a-z_])refused_(write|block|entry|text)[ ]*(::<[^(]*>)?\(' \
-    ./palmheap_c/src/explaining.rt:palmheap_explain ./palmheap_c/src/files.rt:listing_of ./palmheap_c/src/opening.rt:boxed_store \
-    ./palmheap_c/src/opening.rt:palmheap_write_image ./palmheap_c/src/pointers.rt:keep_loan \
+    ./palmheap_c/src/explaining.rt:palmheap_explain ./palmheap_c/src/files.rt:listing_of \
+    ./palmheap_c/src/opening.rt:boxed_store ./palmheap_c/src/opening.rt:palmheap_write_image ./palmheap_c/src/pointers.rt:keep_loan \
     ./palmheap_c/src/runs.rt:run_on ./pdb_files/src/exporting.rt:file_bytes
 # the vectors of the program itself grow without a grant; the other two functions pass one on
 only '\.push\(' \
