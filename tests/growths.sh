@@ -110,6 +110,7 @@ listed=$(
     sort <<'END'
 ./canonical_file/src/canonical.rt:canonical_bytes room_for(memory, file_size(file))?
 ./canonical_file/src/canonical.rt:head_of room_for(memory, file.first_place() as usize)?
+./canonical_file/src/mended.rt:mended_file room_for(memory, file.len())?
 ./chunk_format/src/image.rt:blank_from zeroed_from(memory, size)
 ./command_files/src/region_input.rt:buffer zeros(memory, MOST_READ)
 ./command_files/src/region_input.rt:read_region_from buffer(memory)
@@ -118,6 +119,8 @@ listed=$(
 ./file_ids/src/give.rt:give_ids zeros_for(memory, file.entry_count())?
 ./file_ids/src/give.rt:set_for zeros(memory, size)
 ./file_ids/src/give.rt:zeros_for filled(memory, 0, count as usize)
+./file_parts/src/exact_listed.rt:ranks_of zeros(memory, listed.rank_count()) {
+./file_parts/src/exact_packing.rt:place_blocks filled(memory, 0u32, exact.listed.rank_count())
 ./heap_check/src/chained.rt:check_chained no_marks()
 ./heap_map/src/cells.rt:cells_of Cells::new(memory, size, ((area + (size - 1)) / size) as usize)?
 ./heap_map/src/cells.rt:marks_of room_for(memory, firsts.len())?

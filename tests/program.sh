@@ -182,10 +182,25 @@ says 'a refused line, and its number' 5 '1 refused 25 BadFile Truncated
 2 refused 10 NoSuchDatabase' 'line 1: there is no FILE 1' run --numbers --strict blank.img files.txt c.img
 rm c.img ./-
 
+# a damaged file is salvaged, if it has a header
+says 'a salvaged file' 0 'ok 80' '' salvage empty.pdb whole.pdb
+is 'it is whole' '' "$(cmp wanted.pdb whole.pdb 2>&1)"
+head -c 77 empty.pdb >cut.pdb
+says 'a file without a header' 1 'bad Truncated
+at 77' 'cut.pdb: 77 bytes, and at least 78 are needed' salvage cut.pdb none.pdb
+rm cut.pdb whole.pdb
+
 # one block, with nothing before or after it
 says 'a block that is not there' 1 '' 'refused 14 IndexOutOfRange
 empty.pdb: it has 0 entries, the first is 0' get empty.pdb 0
 says 'words that ask for no block' 2 '' "error: 'first' is no block: it is the index of an entry, 'app', 'sort', or the type and the id of a resource" get none.pdb first
+
+# an exact folder, whose file comes back byte for byte
+{ cat empty.pdb; printf 'odd'; } >odd.pdb
+says 'a file that is unpacked as it stands' 0 'ok 2' '' unpack --exact odd.pdb exact
+says 'a file that is packed as it was' 0 'ok 81' '' pack exact odd.packed
+cmp odd.pdb odd.packed >&2 || failed=1
+rm -r exact odd.pdb odd.packed
 
 # several files: each has its report, whatever becomes of the others
 mkdir many

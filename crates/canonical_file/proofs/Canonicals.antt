@@ -1,6 +1,6 @@
 -- No word is said of a file exactly if it is its canonical form.
 use Rattle.std.proofs.Common.{◌≡◌, ℕ, ◌≤◌, Bool, true, false, Option, List, length, refl, sym, ap, subst, ◌∙◌}
-use Rattle.std.specs.Prelude.{◌↔◌, ◌||◌, not, IsTrue, IsFalse}
+use Rattle.std.specs.Prelude.{◌↔◌, ◌||◌, not, IsTrue, IsFalse, Result, Ok, Err, IfOk}
 use Rattle.heap_model.specs.Bytes.{AreBytes}
 use Rattle.heap_model.specs.Database.{Database, HasName}
 use Rattle.heap_model.specs.Store.{unique_ids}
@@ -9,7 +9,10 @@ use Rattle.pdb_format.specs.ReadFiles.{database_read}
 use Rattle.pdb_format.proofs.FileNames.{file_named}
 use Rattle.pdb_format.proofs.ReadFiles.{reads}
 use Rattle.pdb_format.proofs.ReadOnce.{read_once}
-use Rattle.canonical_file.specs.Canonical.{IsCanonical}
+use Rattle.palm_text.specs.Counted.{Writing}
+use Rattle.file_ids.specs.declared.give.GivenIds.{GivenIds}
+use Rattle.canonical_file.specs.Canonical.{GetsIds, IsCanonical, WritesCanonical, WritesOne, WroteCanonical, WroteOne}
+use Rattle.canonical_file.specs.declared.canonical.CanonicalFault.{CanonicalFault}
 use Rattle.canonical_file.specs.declared.changes.Changes.{Changes}
 use Rattle.canonical_file.specs.Changes.{NoneIsBusy, HasPlainFiller, KeepsIds, HasPlainName, IsInOrder, Says, is_none, AreChanges}
 use Rattle.canonical_file.specs.Given.{AreGivenIn}
@@ -110,6 +113,24 @@ same_form file ids seed changes good given are none =
     let d : Database (Option (List ℕ)) = database_read file ids seed in
     let form : IsCanonical file (file_of d) = record { database = d; reads = reads file ids seed good given.have; written = refl } in
     subst (IsCanonical file) ((are.canonical (file_of d) form).0 none) form
+
+-- ---- the file that is written with the IDs of a canonical form
+
+canonical_by : (file bytes : List ℕ) (given : GivenIds) → HasNoFault file → GetsIds file given → bytes ≡ file_of (database_read file given.ids.items given.seed) → IsCanonical file bytes
+canonical_by file bytes given good gets written = record {
+  database = database_read file given.ids.items given.seed;
+  reads = reads file given.ids.items given.seed good gets.have;
+  written = written;
+}
+
+pub wrote_canonical : {W : Type 0} (file : List ℕ) (given : GivenIds) (contents : W → Option (List ℕ)) (old new : Writing W) (result : Result ℕ CanonicalFault) → HasNoFault file → GetsIds file given
+    → IfOk result (WroteOne (λ bytes. bytes ≡ file_of (database_read file given.ids.items given.seed)) contents old new) → IfOk result (WroteCanonical file contents old new)
+wrote_canonical file given contents old new (Err fault) good gets wrote = wrote
+wrote_canonical file given contents old new (Ok count) good gets wrote = (wrote.0, canonical_by file wrote.0 given good gets wrote.1, wrote.2, wrote.3)
+
+pub cut_canonical : {W : Type 0} (file : List ℕ) (given : GivenIds) (contents : W → Option (List ℕ)) (old new : Writing W) → HasNoFault file → GetsIds file given
+    → WritesOne (λ bytes. bytes ≡ file_of (database_read file given.ids.items given.seed)) contents old new false → WritesCanonical file contents old new false
+cut_canonical file given contents old new good gets wrote = (wrote.0, canonical_by file wrote.0 given good gets wrote.1, wrote.2)
 
 -- ---- the name
 

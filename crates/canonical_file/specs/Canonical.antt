@@ -24,13 +24,21 @@ pub record IsCanonical (file bytes : List ℕ) : Type 0 where
 abbrev pub most_bytes : ℕ
 most_bytes = 2 ^ 24
 
--- the canonical form of a file goes to a writer: all of it if `ok`, or else a prefix of it
+-- bytes with a property go to a writer: all of them if `ok`, or else a prefix of them
+abbrev pub WritesOne : {W : Type 0} → (List ℕ → Type 0) → (W → Option (List ℕ)) → Writing W → Writing W → Bool → Type 0
+WritesOne Is contents old new ok = (bytes : List ℕ) × Is bytes × Writes contents old new bytes ok
+
+-- all of some bytes with a property went to a writer, and they are `count` bytes
+abbrev pub WroteOne : {W : Type 0} → (List ℕ → Type 0) → (W → Option (List ℕ)) → Writing W → Writing W → ℕ → Type 0
+WroteOne Is contents old new count = (bytes : List ℕ) × Is bytes × (count ≡ length bytes) × Writes contents old new bytes true
+
+-- the canonical form of a file goes to a writer
 abbrev pub WritesCanonical : {W : Type 0} → List ℕ → (W → Option (List ℕ)) → Writing W → Writing W → Bool → Type 0
-WritesCanonical file contents old new ok = (bytes : List ℕ) × IsCanonical file bytes × Writes contents old new bytes ok
+WritesCanonical file contents old new ok = WritesOne (IsCanonical file) contents old new ok
 
 -- all of the canonical form went to a writer, and it has `count` bytes
 abbrev pub WroteCanonical : {W : Type 0} → List ℕ → (W → Option (List ℕ)) → Writing W → Writing W → ℕ → Type 0
-WroteCanonical file contents old new count = (bytes : List ℕ) × IsCanonical file bytes × (count ≡ length bytes) × Writes contents old new bytes true
+WroteCanonical file contents old new count = WroteOne (IsCanonical file) contents old new count
 
 -- the reason why a file has no canonical form
 abbrev pub IsCanonicalFault : List ℕ → CanonicalFault → Type 0

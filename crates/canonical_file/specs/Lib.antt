@@ -4,4 +4,9 @@ pub mod Dropped
 pub mod Given
 pub mod Needs
 pub mod BlockNeeds
+pub mod Written
+pub mod Salvage
+pub mod SalvageLaws
+pub mod Salvaged
+pub mod Mended
 pub use Rattle.heap_model.specs.Files

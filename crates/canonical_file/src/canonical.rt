@@ -6,11 +6,13 @@ ghost use Rattle.heap_model.specs.Files.{block_bytes, blocks_in, file_of};
 ghost use Rattle.palm_text.specs.Counted.{Writes};
 ghost use Rattle.pdb_format.specs.Filler.{first_place};
 ghost use Rattle.pdb_format.specs.ReadFiles.{database_read};
-ghost use Rattle.canonical_file.specs.Canonical.{GetsIds, IsCanonical, IsCanonicalFault, WritesCanonical, WroteCanonical, most_bytes};
+ghost use Rattle.canonical_file.specs.Canonical.{GetsIds, IsCanonical, IsCanonicalFault, WritesCanonical, WritesOne, WroteCanonical, WroteOne, most_bytes};
+ghost use Rattle.canonical_file.specs.Written.{CanHaveIds, IsWrittenBy, ids_of, seed_of};
 
 use crate::blocks::{append, append_blocks, put_blocks, total_length};
 use crate::entries::append_entries;
 use crate::header::{data_start, header_bytes};
+use crate::record_ids::{RecordIds, seed_for};
 use allowance::{Allowance, room_for};
 use file_ids::{GivenIds, give_ids};
 use heap_model::FileFault;
@@ -43,22 +45,21 @@ fn file_size(file: &PdbFile<'_>) -> usize
     file.first_place() as usize + total_length(file.blocks())
 }
 
-/// Writes what comes before the blocks of a canonical form into an empty vector that has room for
-/// it.
-fn append_head(file: &PdbFile<'_>, given: &GivenIds, bytes: &mut Vec<u8>)
+/// Writes the part of a new file before its blocks into an empty vector that has room for it.
+fn append_head(file: &PdbFile<'_>, ids: RecordIds<'_>, bytes: &mut Vec<u8>)
     requires size { length file.now ≤ most_bytes }
-    requires ids { GetsIds file.now given.now }
+    requires ids { CanHaveIds file.now ids }
     requires empty { bytes.old.items ≡ [] }
     requires none { vec_len bytes.old ≡ 0 }
     requires room { first_place file.now ≤ vec_capacity bytes.old }
     ensures items { bytes.new.items ++ flat_map block_bytes (blocks_in file.now)
-        ≡ file_of (database_read file.now given.now.ids.items given.now.seed) }
+        ≡ file_of (database_read file.now (ids_of file.now ids.entry) (seed_of file.now ids.entry)) }
     ensures len { vec_len bytes.new ≡ first_place file.now }
     ensures capacity { vec_capacity bytes.old ≤ vec_capacity bytes.new }
 {
     file.know_file();
-    append(bytes, &header_bytes(file, given.seed));
-    append_entries(file, &given.ids, data_start(file), bytes);
+    append(bytes, &header_bytes(file, seed_for(file, ids)));
+    append_entries(file, ids, data_start(file), bytes);
     append(bytes, &FILLER);
 }
 
@@ -77,12 +78,12 @@ pub fn canonical_bytes<A: Allowance>(memory: &A, file: &PdbFile<'_>) -> Result<V
     file.know_file();
     let given = give_ids(memory, file)?;
     let mut bytes = room_for(memory, file_size(file))?;
-    append_head(file, &given, &mut bytes);
+    append_head(file, RecordIds::Given(&given), &mut bytes);
     append_blocks(file, &mut bytes);
     Ok(bytes)
 }
 
-/// Returns the part of the canonical form of a file before the blocks. Its records have these IDs.
+/// Returns the part of a new file before its blocks. Its records have these IDs.
 ///
 /// # Errors
 ///
@@ -90,21 +91,21 @@ pub fn canonical_bytes<A: Allowance>(memory: &A, file: &PdbFile<'_>) -> Result<V
 fn head_of<A: Allowance>(
     memory: &A,
     file: &PdbFile<'_>,
-    given: &GivenIds,
+    ids: RecordIds<'_>,
 ) -> Result<Vec<u8>, AllocError>
     requires size { length file.now ≤ most_bytes }
-    requires ids { GetsIds file.now given.now }
-    ensures canonical { IfOk result (λ head. IsCanonical file.now
+    requires ids { CanHaveIds file.now ids }
+    ensures is { IfOk result (λ head. IsWrittenBy file.now ids.entry
         (head.items ++ flat_map block_bytes (blocks_in file.now))) }
     ensures short { OnErr result (A.is_short memory.now) }
 {
     file.know_file();
     let mut head = room_for(memory, file.first_place() as usize)?;
-    append_head(file, given, &mut head);
+    append_head(file, ids, &mut head);
     Ok(head)
 }
 
-/// Returns the size of a canonical form in bytes, by the part before the blocks.
+/// Returns the size of a new file in bytes, by the part before its blocks.
 fn form_size(file: &PdbFile<'_>, head: &[u8]) -> usize
     requires { length file.now ≤ most_bytes }
     ensures { result ≡ length (head.now ++ flat_map block_bytes (blocks_in file.now)) }
@@ -112,7 +113,7 @@ fn form_size(file: &PdbFile<'_>, head: &[u8]) -> usize
     head.len() + total_length(file.blocks())
 }
 
-/// Writes a canonical form: the part before the blocks, and the blocks.
+/// Writes a new file: the part before its blocks, and the blocks.
 #[tactic(auto, using(palm_text::proofs::Parts::then, palm_text::proofs::Parts::stops))]
 fn put_form<W: Write>(
     file: &PdbFile<'_>,
@@ -126,10 +127,42 @@ fn put_form<W: Write>(
     put_blocks(file, out)
 }
 
-/// Writes the canonical form of a file, whose records get these IDs, and returns its size in bytes.
+/// Writes a new file for a file whose records get these IDs, and returns its size in bytes.
 ///
 /// Blocks that follow each other in the original file are one write. It doesn't flush `out`. After
 /// a write fails, it writes nothing more.
+///
+/// # Errors
+///
+/// - `OutOfMemory`: if an allocation failed.
+/// - `Write`: if a write failed, or took 0 bytes.
+pub(crate) fn put_written<A: Allowance, W: Write>(
+    memory: &A,
+    file: &PdbFile<'_>,
+    ids: RecordIds<'_>,
+    out: &mut Counted<W>,
+) -> Result<usize, CanonicalFault>
+    requires size { length file.now ≤ most_bytes }
+    requires ids { CanHaveIds file.now ids }
+    ensures done { IfOk result
+        (WroteOne (IsWrittenBy file.now ids.entry) W.contents out.old out.new) }
+    ensures why { IfErr result (IsCanonicalFault file.now) }
+    ensures untouched { IfErr result (λ fault. fault ≢ CanonicalFault.Write → out.new ≡ out.old) }
+    ensures write { result ≡ Err CanonicalFault.Write
+        → WritesOne (IsWrittenBy file.now ids.entry) W.contents out.old out.new false }
+    ensures short { result ≡ Err CanonicalFault.OutOfMemory → A.is_short memory.now }
+{
+    file.know_file();
+    let Ok(head) = head_of(memory, file, ids) else {
+        return Err(CanonicalFault::OutOfMemory);
+    };
+    match put_form(file, &head, out) {
+        Ok(()) => Ok(form_size(file, &head)),
+        Err(_) => Err(CanonicalFault::Write),
+    }
+}
+
+/// The same as `put_written` for the canonical form of a file, whose records get these IDs.
 ///
 /// # Errors
 ///
@@ -151,11 +184,5 @@ pub fn put_canonical_by<A: Allowance, W: Write>(
     ensures short { result ≡ Err CanonicalFault.OutOfMemory → A.is_short memory.now }
 {
     file.know_file();
-    let Ok(head) = head_of(memory, file, given) else {
-        return Err(CanonicalFault::OutOfMemory);
-    };
-    match put_form(file, &head, out) {
-        Ok(()) => Ok(form_size(file, &head)),
-        Err(_) => Err(CanonicalFault::Write),
-    }
+    put_written(memory, file, RecordIds::Given(given), out)
 }

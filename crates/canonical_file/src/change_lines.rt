@@ -11,7 +11,7 @@ use palm_text::{Counted, Piece, WriteFault, put_all, put_pieces};
 use std::io::Write;
 
 /// Returns the word if `holds`, and no text otherwise.
-fn word(holds: bool, text: &'static [u8]) -> Piece<'static>
+pub(crate) fn word(holds: bool, text: &'static [u8]) -> Piece<'static>
     ensures { piece_text result ≡ words.word holds text.now }
 {
     if holds {

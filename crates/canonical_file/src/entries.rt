@@ -6,36 +6,51 @@ ghost use Rattle.heap_model.specs.Files.{blocks_in};
 ghost use Rattle.db_format.specs.EitherEntry.{entry_of, HasFittingId};
 ghost use Rattle.pdb_format.specs.Blocks.{bytes_at};
 ghost use Rattle.pdb_format.specs.FileTexts.{entries_text};
-ghost use Rattle.pdb_format.specs.ReadFiles.{HasIdsFor, entries_read, entry_read_at};
+ghost use Rattle.pdb_format.specs.ReadFiles.{entries_read, entry_read_at};
 ghost use Rattle.canonical_file.specs.Canonical.{placed_entry, most_bytes};
+ghost use Rattle.canonical_file.specs.Written.{CanHaveIds, ids_of};
 
 use crate::blocks::{append, block_length, block_offset};
+use crate::record_ids::{RecordIds, entry_with_id};
 use db_format::{DbEntry, INFO_BLOCKS};
 use pdb_format::{Block, PdbFile};
 
 /// Returns the entry at an index, with its data at an offset. A record gets its ID from `ids`.
-fn entry_at(file: &PdbFile<'_>, ids: &[u32], index: u16, at: u32, block: Option<Block>) -> DbEntry
+fn entry_at(
+    file: &PdbFile<'_>,
+    ids: RecordIds<'_>,
+    index: u16,
+    at: u32,
+    block: Option<Block>,
+) -> DbEntry
     requires inside { index < entry_count_in file.now }
-    requires ids { HasIdsFor file.now ids.now }
+    requires ids { CanHaveIds file.now ids }
     requires block { bytes_at file.now block
         ≡ slice_index_or (blocks_in file.now) (2 + index) None }
-    ensures is { entry_of result ≡ placed_entry at (entry_read_at file.now ids.now index) }
+    ensures is { entry_of result
+        ≡ placed_entry at (entry_read_at file.now (ids_of file.now ids.entry) index) }
     ensures id { HasFittingId result }
 {
-    file.written_entry(index, ids, block_offset(at, block))
+    entry_with_id(file, ids, index, block_offset(at, block))
 }
 
 /// Appends the entries to a vector that has room for them. Their data begins at the offset `first`.
-pub(crate) fn append_entries(file: &PdbFile<'_>, ids: &[u32], first: u32, bytes: &mut Vec<u8>)
+pub(crate) fn append_entries(
+    file: &PdbFile<'_>,
+    ids: RecordIds<'_>,
+    first: u32,
+    bytes: &mut Vec<u8>,
+)
     requires size { length file.now ≤ most_bytes }
-    requires ids { HasIdsFor file.now ids.now }
+    requires ids { CanHaveIds file.now ids }
     requires short { first ≤ 2 ^ 26 }
-    requires room { vec_len bytes.old + length (entries_text first (entries_read file.now ids.now))
+    requires room { vec_len bytes.old
+        + length (entries_text first (entries_read file.now (ids_of file.now ids)))
         ≤ vec_capacity bytes.old }
     ensures items { bytes.new.items ≡ bytes.old.items
-        ++ entries_text first (entries_read file.now ids.now) }
+        ++ entries_text first (entries_read file.now (ids_of file.now ids.entry)) }
     ensures len { vec_len bytes.new ≡ vec_len bytes.old
-        + length (entries_text first (entries_read file.now ids.now)) }
+        + length (entries_text first (entries_read file.now (ids_of file.now ids.entry))) }
     ensures capacity { vec_capacity bytes.old ≤ vec_capacity bytes.new }
 {
     let blocks = file.blocks();

@@ -36,16 +36,29 @@
 //! 128     needs 128 bytes and 2 slots in a heap
 //! ```
 //!
+//! A damaged file is *salvaged*: its sound parts are written in canonical form, and there is a line
+//! about each of the others. An offset is sound if a block can begin there. `mended` makes a file
+//! without fault of the sound parts, with the same bytes at each sound offset:
+//!
+//! ```text
+//! damaged     header | entry 0 | entry 1, not sound | entry 2 | blocks
+//! mended      header | entry 0 | entry 2 | the bytes from here on | blocks
+//! ```
+//!
 //! | module | does |
 //! |---|---|
 //! | `canonical` | writes the canonical form (`specs/Canonical.antt`) |
 //! | `header`, `entries`, `blocks` | its header, its entries, its blocks |
+//! | `record_ids` | the IDs of its records |
 //! | `changes` | finds the changes (`specs/Changes.antt`) |
 //! | `entry_changes`, `offsets` | finds those of entries, those of the filler and of the order |
 //! | `dropped` | counts the bytes that aren't in the canonical form (`specs/Dropped.antt`) |
 //! | `change_lines` | writes the line of the changes |
 //! | `needs`, `block_needs` | the needs of a file, of a block (`specs/Needs.antt`) |
 //! | `image_needs` | the needs of several files, and the smallest image for them |
+//! | `salvage`, `salvage_lines` | writes the salvaged file, and the lines (`specs/Salvage.antt`) |
+//! | `sound`, `mended` | finds the sound parts, makes a file without fault of them |
+//! | `laws` | states the laws about salvaged files |
 #![tactic(auto)]
 
 mod block_needs;
@@ -58,12 +71,24 @@ mod entries;
 mod entry_changes;
 mod header;
 mod image_needs;
+mod laws;
+mod mended;
 mod needs;
 mod offsets;
+mod record_ids;
+mod salvage;
+mod salvage_lines;
+mod sound;
 
 pub use canonical::{CanonicalFault, canonical_bytes, put_canonical_by};
 pub use change_lines::put_changes;
 pub use changes::{Changes, changes_by, find_changes};
 pub use dropped::{dropped_filler, dropped_name};
 pub use image_needs::{ENOUGH, image_size, image_slots, needs_of_files};
+pub use laws::{
+    good_files_are_canonical, good_files_have_no_line, salvaged_entries_are_the_files,
+    salvaged_files_are_read, salvaged_files_have_no_fault,
+};
 pub use needs::{Needs, needs_of};
+pub use salvage::{SalvagedIds, put_salvaged};
+pub use salvage_lines::put_salvage_lines;

@@ -3,3 +3,4 @@ pub mod PartStatuses
 pub mod ResourceData
 pub mod Got
 pub mod Reported
+pub mod Salvaging

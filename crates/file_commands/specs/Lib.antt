@@ -4,3 +4,4 @@ pub mod Parts
 pub mod LineFaults
 pub mod WantedBlocks
 pub mod Gets
+pub mod Salvages

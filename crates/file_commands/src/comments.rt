@@ -1,10 +1,12 @@
 //! What a file looks like, which numbers are allowed at its fault, and what is wrong with a line of
 //! the text that `pack` reads.
 
+ghost use Rattle.file_parts.specs.Either.{HasFolderParts};
+
 use canonical_file::{dropped_filler, dropped_name};
 use command_files::{input_name, report_line_hint, suggest_check};
 use file_listing::damage_of;
-use file_parts::read_listed;
+use file_parts::{ListedFolder, PackFault, read_folder};
 use heap_model::Bytes;
 use hints::{
     MAC_HEADER_SIZE, looks_like_image, looks_like_mac, looks_like_page, parts_hint, without_returns,
@@ -56,6 +58,20 @@ pub(crate) fn comment_on_file<R: Eprint + AllocGlobal>(
     suggest_check(rt, path, status, file);
     if status == Status::Refused {
         comment_on_damage(rt, path, file);
+    }
+}
+
+/// Reports the same as `comment_on_file`. If a file with a fault was salvaged, it reports what a
+/// transfer may have made of the file, since that can be undone.
+pub(crate) fn comment_on_salvage<R: Eprint + AllocGlobal>(
+    rt: &R,
+    path: &str,
+    status: Status,
+    file: &[u8],
+) {
+    comment_on_file(rt, path, status, file);
+    if status == Status::Done && !looks_like_image(file) && check_file(file).is_err() {
+        name_transfer(rt, path, file);
     }
 }
 
@@ -111,10 +127,32 @@ pub(crate) fn comment_on_text<R: Eprint + AllocGlobal>(
     if status != Status::Refused {
         return;
     }
-    let Err(fault) = read_listed(&rt.alloc(), text) else {
+    let Err(fault) = read_folder(&rt.alloc(), text) else {
         return;
     };
     if let Some(hint) = parts_hint(text, fault) {
         report_line_hint(rt, path, fault.line, hint);
+    }
+}
+
+/// Reports on standard error why a line `order` of the text at a path can't be kept, if `pack` was
+/// refused for that. It puts the parts together again to find the line.
+pub(crate) fn comment_on_order<R: Eprint + AllocGlobal>(
+    rt: &R,
+    path: &str,
+    status: Status,
+    listed: &ListedFolder<'_>,
+    parts: &[Bytes],
+)
+    requires { HasFolderParts listed.now parts.now }
+{
+    if status != Status::Refused {
+        return;
+    }
+    if let Err(PackFault::BadLine(fault)) = listed.pack(&rt.alloc(), parts) {
+        let _ = eprintln!(rt;
+            "{path}:{}: this block has no bytes, so no block that is earlier in the list can come next",
+            fault.line
+        );
     }
 }

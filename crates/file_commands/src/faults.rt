@@ -64,7 +64,7 @@ pub(crate) struct Rewritten {
 
 /// Writes the line with a count.
 #[tactic(auto, unfolding(crate::specs::Ends::count_line))]
-fn put_count<V: Write>(out: &mut Counted<V>, count: usize) -> Result<(), WriteFault>
+pub(crate) fn put_count<V: Write>(out: &mut Counted<V>, count: usize) -> Result<(), WriteFault>
     ensures { Writes V.contents out.old out.new (count_line count) (is_ok result) }
 {
     let mut digits = Buffer::new();

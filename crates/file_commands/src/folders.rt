@@ -1,18 +1,15 @@
 //! The commands `unpack` and `pack`, over files and folders.
 
 ghost use Rattle.std.specs.Prelude.{◌≡◌, ◌≢◌, ◌≤◌, ◌<◌, ◌⊎◌, ◌++◌, IfOk, IfErr, codes, length, string_bytes};
-ghost use Rattle.file_parts.specs.Unpacking.{IsUnpacked, name_text};
-ghost use Rattle.file_parts.specs.Listed.{IsListed, database_listed};
-ghost use Rattle.file_parts.specs.Packing.{HasPartsOf};
-ghost use Rattle.heap_model.specs.Database.{data_in};
-ghost use Rattle.heap_model.specs.Files.{blocks_in};
+ghost use Rattle.file_parts.specs.Unpacking.{name_text};
+ghost use Rattle.file_parts.specs.Either.{HasFolderParts, IsListedFolder, IsTakenApart, folder_count, taken_count};
 
-use crate::comments::{DROPPED, comment_on_file, comment_on_text, name_dropped};
+use crate::comments::{DROPPED, comment_on_file, comment_on_order, comment_on_text, name_dropped};
 use crate::parts::{cmd_pack_from, list_parts, say_count, unpack_file};
 use command_files::{
     STANDARD_OUTPUT, buffered_fault, fail, output_for_database, read_file, read_file_or_input,
 };
-use file_parts::{Listed, Part, PartName, Unpacked, put_database};
+use file_parts::{FolderForm, ListedFolder, Part, PartName, TakenApart};
 use heap_model::Bytes;
 use palm_text::Counted;
 use program_io::{
@@ -35,6 +32,7 @@ pub fn unpack<R: Files + Input + Print + Eprint + AllocGlobal>(
     rt: &R,
     path: &str,
     folder: &str,
+    form: FolderForm,
 ) -> Status
     ensures { result ≢ Status.BadWords }
 {
@@ -42,19 +40,26 @@ pub fn unpack<R: Files + Input + Print + Eprint + AllocGlobal>(
         Ok(file) => file,
         Err(status) => return status,
     };
-    let status = unpack_to(rt, file.as_slice(), folder);
+    let status = unpack_to(rt, file.as_slice(), folder, form);
     comment_on_file(rt, path, status, file.as_slice());
-    name_dropped(rt, path, status, file.as_slice(), DROPPED);
+    if form == FolderForm::Canonical {
+        name_dropped(rt, path, status, file.as_slice(), DROPPED);
+    }
     status
 }
 
 /// Makes a folder with the parts of a file and the text, and prints `ok` and the number of files.
-fn unpack_to<R: Files + Print + Eprint + AllocGlobal>(rt: &R, file: &[u8], folder: &str) -> Status
+fn unpack_to<R: Files + Print + Eprint + AllocGlobal>(
+    rt: &R,
+    file: &[u8],
+    folder: &str,
+    form: FolderForm,
+) -> Status
     requires { length file.now ≤ MOST_INPUT }
     ensures { result ≢ Status.BadWords }
 {
     let mut out = Counted::new(Noted::new(io::writer(rt)));
-    let unpacked = match unpack_file(&rt.alloc(), file, &mut out) {
+    let unpacked = match unpack_file(&rt.alloc(), form, file, &mut out) {
         Ok(unpacked) => unpacked,
         Err(status) => return reported(rt, status, out),
     };
@@ -87,7 +92,13 @@ pub fn pack<R: Files + Print + Eprint + AllocGlobal>(rt: &R, folder: &str, out_p
         }
     };
     match read_parts(rt, folder, &listed) {
-        Ok(parts) => pack_to(rt, &listed, &parts, out_path, out),
+        Ok(parts) => {
+            let status = pack_to(rt, &listed, &parts, out_path, out);
+            if let Ok(path) = path_in(rt.alloc(), folder, TEXT_NAME) {
+                comment_on_order(rt, path.as_str(), status, &listed, &parts);
+            }
+            status
+        }
         Err(Status::Refused) => {
             let status = say(b"bad TooLarge\n", Status::Refused, &mut out);
             reported(rt, status, out)
@@ -109,12 +120,12 @@ fn reported<R: Eprint, W: Write + Drop>(rt: &R, status: Status, out: Counted<Not
 /// Writes the file of the parts, and prints `ok` and its length. A heap image isn't replaced.
 fn pack_to<R: Files + Eprint + AllocGlobal, W: Write + Drop>(
     rt: &R,
-    listed: &Listed<'_>,
+    listed: &ListedFolder<'_>,
     parts: &[Bytes],
     path: &str,
     mut out: Counted<Noted<W>>,
 ) -> Status
-    requires { HasPartsOf listed.now parts.now }
+    requires { HasFolderParts listed.now parts.now }
     ensures { result ≢ Status.BadWords }
 {
     let file_out = match output_for_database(rt, path) {
@@ -145,6 +156,7 @@ fn part_path(alloc: Global, folder: &str, name: PartName) -> Result<String, Allo
     match name {
         PartName::App => format!(in alloc; "{folder}/app"),
         PartName::Sort => format!(in alloc; "{folder}/sort"),
+        PartName::Filler => format!(in alloc; "{folder}/filler"),
         PartName::Entry(index) => format!(in alloc;
             "{folder}/{}{}{}{}{}",
             index / 10_000,
@@ -162,9 +174,9 @@ fn part_path(alloc: Global, folder: &str, name: PartName) -> Result<String, Allo
 fn make_folder<R: Files + Eprint + AllocGlobal>(
     rt: &R,
     folder: &str,
-    unpacked: &Unpacked<'_>,
+    unpacked: &TakenApart<'_>,
 ) -> Result<usize, Status>
-    requires { IsUnpacked unpacked.now }
+    requires { IsTakenApart unpacked.now }
     ensures { IfErr result (λ status. (status ≡ Status.WriteFault) ⊎ (status ≡ Status.NoMemory)) }
 {
     if let Err(reason) = fs::create_dir(rt, folder) {
@@ -196,18 +208,18 @@ struct Made {
 fn write_parts<R: Files + Eprint + AllocGlobal>(
     rt: &R,
     folder: &str,
-    unpacked: &Unpacked<'_>,
+    unpacked: &TakenApart<'_>,
     made: &mut Made,
 ) -> Status
     requires none { made.old.ranks ≡ 0 }
     requires no_files { made.old.files ≡ 0 }
     ensures statuses { (result ≡ Status.Done) ⊎ (result ≡ Status.WriteFault)
         ⊎ (result ≡ Status.NoMemory) }
-    ensures inside { made.new.ranks ≤ length (blocks_in unpacked.now.file) }
+    ensures inside { made.new.ranks ≤ taken_count unpacked.now }
     ensures few { made.new.files ≤ made.new.ranks }
-    ensures most { made.new.ranks ≤ 65537 }
+    ensures most { made.new.ranks ≤ 65538 }
 {
-    for rank in 0..unpacked.rank_count() {
+    for rank in 0..unpacked.part_count() {
         if let Some(part) = unpacked.part(rank) {
             let status = write_part(rt, folder, part);
             if status != Status::Done {
@@ -251,9 +263,9 @@ fn write_new<R: Files>(rt: &R, path: &str, bytes: &[u8]) -> io::Result<()> {
 fn write_text<R: Files + Eprint + AllocGlobal>(
     rt: &R,
     folder: &str,
-    unpacked: &Unpacked<'_>,
+    unpacked: &TakenApart<'_>,
 ) -> Status
-    requires { IsUnpacked unpacked.now }
+    requires { IsTakenApart unpacked.now }
     ensures { (result ≡ Status.Done) ⊎ (result ≡ Status.WriteFault) ⊎ (result ≡ Status.NoMemory) }
 {
     let Ok(path) = path_in(rt.alloc(), folder, TEXT_NAME) else {
@@ -281,9 +293,9 @@ fn write_text<R: Files + Eprint + AllocGlobal>(
 fn write_lines_to<R: Files + AllocGlobal>(
     rt: &R,
     path: &str,
-    unpacked: &Unpacked<'_>,
+    unpacked: &TakenApart<'_>,
 ) -> (Status, Option<io::Error>)
-    requires { IsUnpacked unpacked.now }
+    requires { IsTakenApart unpacked.now }
     ensures { (result.0 ≡ Status.Done) ⊎ (result.0 ≡ Status.WriteFault)
         ⊎ (result.0 ≡ Status.NoMemory) }
 {
@@ -297,9 +309,9 @@ fn write_lines_to<R: Files + AllocGlobal>(
 fn write_lines<R: AllocGlobal, W: Write + Drop>(
     rt: &R,
     created: W,
-    unpacked: &Unpacked<'_>,
+    unpacked: &TakenApart<'_>,
 ) -> (Status, Option<io::Error>)
-    requires { IsUnpacked unpacked.now }
+    requires { IsTakenApart unpacked.now }
     ensures { (result.0 ≡ Status.Done) ⊎ (result.0 ≡ Status.WriteFault)
         ⊎ (result.0 ≡ Status.NoMemory) }
 {
@@ -307,7 +319,7 @@ fn write_lines<R: AllocGlobal, W: Write + Drop>(
         return (Status::NoMemory, None);
     };
     let mut text = Counted::new(text);
-    let status = match put_database(&mut text, unpacked) {
+    let status = match unpacked.put_text(&mut text) {
         Ok(()) => match text.flush() {
             Ok(()) => Status::Done,
             Err(_) => Status::WriteFault,
@@ -318,8 +330,13 @@ fn write_lines<R: AllocGlobal, W: Write + Drop>(
 }
 
 /// Removes the parts of the first ranks from a folder.
-fn remove_parts<R: Files + AllocGlobal>(rt: &R, folder: &str, unpacked: &Unpacked<'_>, ranks: usize)
-    requires { ranks ≤ length (blocks_in unpacked.now.file) }
+fn remove_parts<R: Files + AllocGlobal>(
+    rt: &R,
+    folder: &str,
+    unpacked: &TakenApart<'_>,
+    ranks: usize,
+)
+    requires { ranks ≤ taken_count unpacked.now }
 {
     for rank in 0..ranks {
         if let Some(part) = unpacked.part(rank) {
@@ -358,21 +375,22 @@ fn read_in<R: Files + Eprint + AllocGlobal>(
     }
 }
 
-/// Reads the parts of a listed database, by their ranks. The error `Refused` means that they have
+/// Reads the parts of a listed folder, by their numbers. The error `Refused` means that they have
 /// more bytes than a file may have.
+#[tactic(auto, using(crate::proofs::PartStatuses::has_parts))]
 fn read_parts<R: Files + Eprint + AllocGlobal>(
     rt: &R,
     folder: &str,
-    listed: &Listed<'_>,
+    listed: &ListedFolder<'_>,
 ) -> Result<Vec<Bytes>, Status>
-    requires { IsListed listed.now }
-    ensures parts { IfOk result (λ parts. HasPartsOf listed.now parts.items) }
+    requires { IsListedFolder listed.now }
+    ensures parts { IfOk result (λ parts. HasFolderParts listed.now parts.items) }
     ensures faults { IfErr result (λ status. (status ≡ Status.ReadFault)
         ⊎ (status ≡ Status.NoMemory) ⊎ (status ≡ Status.Refused)) }
 {
     let mut parts = Vec::new(rt.alloc());
     let mut left = MOST_INPUT;
-    for rank in 0..listed.rank_count() {
+    for rank in 0..listed.part_count() {
         let bytes = read_rank(rt, folder, listed, rank)?;
         if bytes.len() > left {
             return Err(Status::Refused);
@@ -389,10 +407,11 @@ fn read_parts<R: Files + Eprint + AllocGlobal>(
 fn read_rank<R: Files + Eprint + AllocGlobal>(
     rt: &R,
     folder: &str,
-    listed: &Listed<'_>,
+    listed: &ListedFolder<'_>,
     rank: usize,
 ) -> Result<Vec<u8>, Status>
-    requires { rank < length (data_in (database_listed listed.now)) }
+    requires good { IsListedFolder listed.now }
+    requires inside { rank < folder_count listed.now }
     ensures { IfErr result (λ status. (status ≡ Status.ReadFault) ⊎ (status ≡ Status.NoMemory)) }
 {
     let Some(part) = listed.part(rank) else {

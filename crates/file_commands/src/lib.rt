@@ -1,4 +1,4 @@
-//! The commands `list`, `canonical`, `get`, `unpack` and `pack` on PDB and PRC files.
+//! The commands `list`, `canonical`, `salvage`, `get`, `unpack` and `pack` on PDB and PRC files.
 //!
 //! Each is a function over bytes and counted writers, `cmd_list_from` for `list`. Its contract
 //! defines what is written, by the status that the command returns. `list` writes rows in a
@@ -9,21 +9,23 @@
 //! for one of them, and `cmd_reports_from` does it for each file that a source gives
 //! (`specs/Reports.antt`).
 //!
-//! `report_files`, `canonical`, `get`, `unpack` and `pack` are the commands over files and folders.
-//! They call the system, and their clauses state only the statuses with which a command ends. The
-//! stored runs of `test_program` show which files are read and written.
+//! `report_files`, `canonical`, `salvage`, `salvage_exact_ids`, `get`, `unpack` and `pack` are the
+//! commands over files and folders. They call the system, and their clauses state only the statuses
+//! with which a command ends. The stored runs of `test_program` show which files are read and
+//! written.
 //!
 //! | module | does |
 //! |---|---|
 //! | `list_command`, `changes_command` | the commands `list` and `canonical --check`, over bytes |
 //! | `reports` | these commands for one file, and for several files of a source |
 //! | `inputs` | a source of files |
-//! | `canonical_command` | the command `canonical`, over bytes |
+//! | `canonical_command`, `salvage_command` | the commands `canonical` and `salvage`, over bytes |
 //! | `get_command` | the command `get`, over bytes |
 //! | `block_words`, `wanted` | the words that ask for a block; the block that is asked for |
 //! | `parts` | the commands `unpack` and `pack`, over bytes |
 //! | `faults`, `line_faults` | writes lines for a faulty or rewritten file, for a faulty line |
-//! | `file_listings` | the commands `list`, `list --json` and `canonical`, over files |
+//! | `file_listings` | the commands `list`, `list --json` and `canonical --check`, over files |
+//! | `file_rewrites` | the commands `canonical` and `salvage`, over files |
 //! | `file_blocks` | the command `get`, over files |
 //! | `folders` | the commands `unpack` and `pack`, over files and folders |
 //! | `comments` | reports what a file looks like, what is allowed at its fault, what a rewrite drops |
@@ -36,6 +38,7 @@ mod comments;
 mod faults;
 mod file_blocks;
 mod file_listings;
+mod file_rewrites;
 mod folders;
 mod get_command;
 mod inputs;
@@ -43,6 +46,7 @@ mod line_faults;
 mod list_command;
 mod parts;
 mod reports;
+mod salvage_command;
 mod wanted;
 
 pub use block_words::{WantedBlock, wanted_block};
@@ -50,7 +54,8 @@ pub use canonical_command::cmd_canonical_from;
 pub use changes_command::cmd_changes_from;
 pub use comments::{comment_on_damage, name_each_dropped};
 pub use file_blocks::get;
-pub use file_listings::{canonical, report_files};
+pub use file_listings::report_files;
+pub use file_rewrites::{canonical, salvage, salvage_exact_ids};
 pub use folders::{pack, path_in, unpack};
 pub use get_command::cmd_get_from;
 pub use inputs::Inputs;
@@ -58,4 +63,5 @@ pub use line_faults::say_line_fault;
 pub use list_command::cmd_list_from;
 pub use parts::{cmd_pack_from, list_parts, say_count, unpack_file};
 pub use reports::{Asked, Report, cmd_report_from, cmd_reports_from};
+pub use salvage_command::cmd_salvage_from;
 pub use wanted::find_block;

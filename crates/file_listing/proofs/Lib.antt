@@ -1,3 +1,4 @@
 pub mod RowTexts
 pub mod Places
 pub mod Allowed
+pub mod CategoryNames

@@ -1,4 +1,5 @@
 pub mod Damage
 pub mod Moments
+pub mod Categories
 pub mod Listing
 pub mod Lines

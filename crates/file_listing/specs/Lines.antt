@@ -1,9 +1,10 @@
 -- The lines of text of a row.
-use Rattle.std.specs.Prelude.{◌++◌, ℕ, Bool, true, false, List, [], ◌∷◌, Option, Some, None, codes, decimal}
+use Rattle.std.specs.Prelude.{◌++◌, if◌then◌else◌, ℕ, Bool, true, false, List, [], ◌∷◌, Option, Some, None, codes, decimal}
+use Rattle.std.specs.List.{list_all}
 use Rattle.hex.specs.Hex.{encode_lower}
 use Rattle.heap_model.specs.Bytes.{u16_bytes, u32_bytes}
 use Rattle.palm_text.specs.FaultTexts.{fault_text}
-use Rattle.palm_text.specs.Pieces.{script_spelled}
+use Rattle.palm_text.specs.Pieces.{is_printable, script_spelled}
 use Rattle.unicode_text.specs.Texts.{text_between}
 use Rattle.canonical_file.specs.Changes.{changes_line}
 use Rattle.heap_model.specs.declared.file_fault.FileFault.{FileFault}
@@ -11,8 +12,9 @@ use Rattle.file_listing.specs.declared.rows.Extent.{Extent}
 use Rattle.file_listing.specs.declared.rows.Epoch.{Epoch}
 use Rattle.file_listing.specs.declared.rows.Epoch.TheVariants.{Year1904, Year1970}
 use Rattle.file_listing.specs.declared.rows.Moment.{Moment}
+use Rattle.file_listing.specs.declared.rows.RecordRow.{RecordRow}
 use Rattle.file_listing.specs.declared.rows.Row.{Row}
-use Rattle.file_listing.specs.declared.rows.Row.TheVariants.{Fault, Size, Name, Attributes, Version, Created, Modified, Backup, Number, Kind, Creator, Seed, Characters, App, Sort, Count, Record, Resource, Needs, Changed}
+use Rattle.file_listing.specs.declared.rows.Row.TheVariants.{Fault, Size, Name, Attributes, Version, Created, Modified, Backup, Number, Kind, Creator, Seed, Characters, App, Sort, Category, Count, Record, Resource, Needs, Changed}
 use Rattle.file_listing.specs.Listing.{IsListingBy}
 use Rattle.file_listing.specs.Moments.{moment_text}
 
@@ -35,10 +37,32 @@ epoch_end Year1970 = codes " since 1970\n"
 unfoldable pub moment_line : (word : List ℕ) → Moment → List ℕ
 moment_line word moment = seconds_text word moment.seconds ++ moment_text moment (codes "never\n") [] (epoch_end moment.epoch)
 
--- the extent of a block, at the end of a line: its offset and its size in bytes, or `none`
-abbrev pub extent_text : (before : List ℕ) → Option Extent → List ℕ
-extent_text before None = before ++ codes " none\n"
-extent_text before (Some block) = before ++ (codes " " ++ (decimal block.offset ++ (codes " " ++ (decimal block.size ++ codes "\n"))))
+-- the extent of a block in a line: its offset and its size in bytes, or `none`
+abbrev pub extent_text : (before : List ℕ) → Option Extent → (after : List ℕ) → List ℕ
+extent_text before None after = before ++ (codes " none" ++ after)
+extent_text before (Some block) after = before ++ (codes " " ++ (decimal block.offset ++ (codes " " ++ (decimal block.size ++ after))))
+
+-- the characters of the name of a category in quotes, at the end of a line
+abbrev pub quoted : List ℕ → List ℕ
+quoted name = if list_all is_printable name then codes " \"" ++ (name ++ codes "\"") else []
+
+unfoldable pub category_text : List ℕ → List ℕ
+category_text name = quoted name ++ text_between (codes " \"") name (codes "\"")
+
+abbrev pub category_end : Option (List ℕ) → List ℕ
+category_end None = codes "\n"
+category_end (Some name) = category_text name ++ codes "\n"
+
+-- a category with a name
+unfoldable pub category_start : ℕ → List ℕ
+category_start number = codes "category " ++ decimal number
+
+unfoldable pub category_line : ℕ → List ℕ → List ℕ
+category_line number name = category_start number ++ category_end (Some name)
+
+abbrev pub line_if_named : ℕ → Option (List ℕ) → List ℕ
+line_if_named number None = []
+line_if_named number (Some name) = category_line number name
 
 -- the kind of the entries
 abbrev pub count_word : Bool → List ℕ
@@ -49,8 +73,15 @@ count_word false = codes "records "
 abbrev pub entry_start : ℕ → (value : List ℕ) → List ℕ
 entry_start index value = decimal index ++ (codes " " ++ (value ++ codes " "))
 
-unfoldable pub listed_entry : ℕ → (value : List ℕ) → ℕ → Option Extent → List ℕ
-listed_entry index value id block = entry_start index value ++ extent_text (decimal id) block
+unfoldable pub listed_resource : (index kind id : ℕ) → Option Extent → List ℕ
+listed_resource index kind id block = entry_start index (script_spelled (u32_bytes kind)) ++ extent_text (decimal id) block (codes "\n")
+
+unfoldable pub record_values : RecordRow → List ℕ
+record_values row = entry_start row.index (encode_lower (row.attributes ∷ [])) ++ extent_text (decimal row.id) row.block []
+
+-- and for a record the name of its category
+unfoldable pub listed_record : RecordRow → List ℕ
+listed_record row = record_values row ++ category_end row.category
 
 unfoldable pub size_text : ℕ → List ℕ
 size_text size = codes "needs " ++ (decimal size ++ codes " bytes and ")
@@ -66,7 +97,7 @@ abbrev pub heading : (path : Option (List ℕ)) → List ℕ
 heading None = []
 heading (Some path) = codes "==> " ++ (path ++ codes " <==\n")
 
--- The line of a row, with the heading before the first row of a file. The row of the characters of a name has none if scripts spell the name in quotes.
+-- The line of a row, with the heading before the first row of a file. The row of the characters of a name has none if scripts spell the name in quotes, and that of a category none if it has no name.
 abbrev pub listing_line : (path : Option (List ℕ)) → Row → List ℕ
 listing_line path (Fault fault at) = heading path ++ listed_fault fault at
 listing_line path (Size size) = heading path ++ line (codes "ok ") (decimal size)
@@ -81,11 +112,12 @@ listing_line path (Kind kind) = line (codes "type ") (script_spelled (u32_bytes 
 listing_line path (Creator creator) = line (codes "creator ") (script_spelled (u32_bytes creator))
 listing_line path (Seed seed) = line (codes "seed ") (encode_lower (u32_bytes seed))
 listing_line path (Characters name) = text_between (codes "text \"") name (codes "\"\n")
-listing_line path (App block) = extent_text (codes "app") block
-listing_line path (Sort block) = extent_text (codes "sort") block
+listing_line path (App block) = extent_text (codes "app") block (codes "\n")
+listing_line path (Sort block) = extent_text (codes "sort") block (codes "\n")
+listing_line path (Category number name) = line_if_named number name
 listing_line path (Count resources count) = line (count_word resources) (decimal count)
-listing_line path (Record index attributes id block) = listed_entry index (encode_lower (attributes ∷ [])) id block
-listing_line path (Resource index kind id block) = listed_entry index (script_spelled (u32_bytes kind)) id block
+listing_line path (Record row) = listed_record row
+listing_line path (Resource index kind id block) = listed_resource index kind id block
 listing_line path (Needs size slots) = needs_line size slots
 listing_line path (Changed changes) = changes_line changes
 

@@ -21,7 +21,9 @@
 //! canonical
 //! ```
 //!
-//! If the name isn't spelled in quotes, the line `text` before `app` has its characters. If the
+//! If AppInfo has the names of categories, there is a line `category 1 "Business"` for each of them
+//! before `records`, and the line of a record ends with the name of its category. If the name of the
+//! database isn't spelled in quotes, the line `text` before `app` has its characters. If the
 //! notation has the path of the file, the line `==> PATH <==` comes first.
 //!
 //! A listing is a list of rows. `put_listing` walks over the file once and writes each row in a
@@ -29,6 +31,7 @@
 //! with `specs/Listing.antt`, which defines the rows; `specs/Lines.antt` defines the lines.
 #![tactic(auto)]
 
+mod categories;
 mod damage;
 mod facts;
 mod laws;
@@ -44,4 +47,4 @@ pub use laws::damages_are_exact;
 pub use lines::{TextRows, put_heading};
 pub use listing::{ListFault, put_fault, put_listing};
 pub use moments::put_moment;
-pub use rows::{Epoch, Extent, Moment, Notation, Row};
+pub use rows::{Epoch, Extent, Moment, Notation, RecordRow, Row};

@@ -4,14 +4,15 @@ ghost use Rattle.std.specs.Prelude.{◌≡◌, ◌++◌, codes, decimal, is_ok, 
 ghost use Rattle.palm_text.specs.Counted.{Writes};
 ghost use Rattle.palm_text.specs.Pieces.{piece_text};
 ghost use Rattle.file_listing.specs.Lines as words;
-ghost use Rattle.file_listing.specs.Lines.{entry_start, epoch_end, extent_text, heading, line, listed_entry, listed_fault, listing_line, moment_line, needs_line, seconds_text, size_text, slots_text};
+ghost use Rattle.file_listing.specs.Lines.{entry_start, epoch_end, category_end, category_line, category_start, category_text, extent_text, heading, line, line_if_named, listed_fault, listed_record, listed_resource, listing_line, moment_line, needs_line, quoted, record_values, seconds_text, size_text, slots_text};
 
 use crate::moments::put_moment;
-use crate::rows::{Epoch, Extent, Moment, Notation, Row};
+use crate::rows::{Epoch, Extent, Moment, Notation, RecordRow, Row};
 use canonical_file::put_changes;
+use db_format::NameField;
 use heap_model::FileFault;
 use itoa::Buffer;
-use palm_text::{Counted, Piece, WriteFault, faulty_pieces, put_pieces};
+use palm_text::{Counted, Piece, WriteFault, are_printable, faulty_pieces, put_all, put_pieces};
 use std::io::Write;
 use unicode_text::put_text;
 
@@ -136,17 +137,18 @@ fn put_dated<W: Write>(out: &mut Counted<W>, word: &[u8], moment: &Moment) -> Re
     put_moment(out, moment, b"never\n", b"", end_of(moment.epoch))
 }
 
-/// Writes the extent of a block at the end of a line.
-fn put_extent<W: Write>(
+/// Writes the extent of a block.
+fn put_extent<'a, W: Write>(
     out: &mut Counted<W>,
-    before: Piece,
+    before: Piece<'a>,
     block: Option<Extent>,
+    after: &'a [u8],
 ) -> Result<(), WriteFault>
-    ensures { Writes W.contents out.old out.new (extent_text (piece_text before.entry) block)
-        (is_ok result) }
+    ensures { Writes W.contents out.old out.new
+        (extent_text (piece_text before.entry) block after.now) (is_ok result) }
 {
     match block {
-        None => put_pieces(out, &[before, Piece::Text(b" none\n")]),
+        None => put_pieces(out, &[before, Piece::Text(b" none"), Piece::Text(after)]),
         Some(block) => put_pieces(
             out,
             &[
@@ -155,7 +157,7 @@ fn put_extent<W: Write>(
                 Piece::Number(block.offset),
                 Piece::Text(b" "),
                 Piece::Number(block.size),
-                Piece::Text(b"\n"),
+                Piece::Text(after),
             ],
         ),
     }
@@ -188,20 +190,125 @@ fn put_start<W: Write>(out: &mut Counted<W>, index: u16, value: Piece) -> Result
     )
 }
 
-/// Writes the line of an entry.
-#[tactic(auto, using(palm_text::proofs::Parts::then, palm_text::proofs::Parts::stops), unfolding(crate::specs::Lines::listed_entry))]
-fn put_entry<W: Write>(
+/// Writes the line of a resource.
+#[tactic(auto, using(palm_text::proofs::Parts::then, palm_text::proofs::Parts::stops), unfolding(crate::specs::Lines::listed_resource))]
+fn put_resource<W: Write>(
     out: &mut Counted<W>,
     index: u16,
-    value: Piece,
+    kind: u32,
     id: u32,
     block: Option<Extent>,
 ) -> Result<(), WriteFault>
-    ensures { Writes W.contents out.old out.new (listed_entry index (piece_text value.entry) id block)
+    ensures { Writes W.contents out.old out.new (listed_resource index kind id block)
         (is_ok result) }
 {
-    put_start(out, index, value)?;
-    put_extent(out, Piece::Number(id), block)
+    put_start(out, index, Piece::FourBytes(kind))?;
+    put_extent(out, Piece::Number(id), block, b"\n")
+}
+
+/// Writes the values of a record, without the end of the line.
+#[tactic(auto, using(palm_text::proofs::Parts::then, palm_text::proofs::Parts::stops), unfolding(crate::specs::Lines::record_values))]
+fn put_values<W: Write>(out: &mut Counted<W>, row: &RecordRow) -> Result<(), WriteFault>
+    ensures { Writes W.contents out.old out.new (record_values row.now) (is_ok result) }
+{
+    put_start(out, row.index, Piece::Hex8(row.attributes))?;
+    put_extent(out, Piece::Number(row.id), row.block, b"")
+}
+
+/// Writes the line of a record.
+#[tactic(auto, using(palm_text::proofs::Parts::then, palm_text::proofs::Parts::stops), unfolding(crate::specs::Lines::listed_record))]
+fn put_record<W: Write>(out: &mut Counted<W>, row: &RecordRow) -> Result<(), WriteFault>
+    ensures { Writes W.contents out.old out.new (listed_record row.now) (is_ok result) }
+{
+    put_values(out, row)?;
+    put_category_end(out, &row.category)
+}
+
+/// Writes a name in quotes, if scripts can spell it so.
+#[tactic(auto, using(palm_text::proofs::Parts::nothing))]
+fn put_quoted<W: Write>(out: &mut Counted<W>, name: &[u8]) -> Result<(), WriteFault>
+    ensures { Writes W.contents out.old out.new (quoted name.now) (is_ok result) }
+{
+    if are_printable(name) {
+        put_pieces(
+            out,
+            &[Piece::Text(b" \""), Piece::Text(name), Piece::Text(b"\"")],
+        )
+    } else {
+        Ok(())
+    }
+}
+
+/// Writes the characters of the name of a category in quotes.
+#[tactic(auto, using(palm_text::proofs::Parts::then, palm_text::proofs::Parts::stops), unfolding(crate::specs::Lines::category_text))]
+fn put_category_text<W: Write>(out: &mut Counted<W>, name: &[u8]) -> Result<(), WriteFault>
+    ensures { Writes W.contents out.old out.new (category_text name.now) (is_ok result) }
+{
+    put_quoted(out, name)?;
+    put_text(out, b" \"", name, b"\"")
+}
+
+/// Writes the name of a category and the end of the line.
+#[tactic(auto, using(palm_text::proofs::Parts::then, palm_text::proofs::Parts::stops))]
+fn put_named_end<W: Write>(out: &mut Counted<W>, name: &[u8]) -> Result<(), WriteFault>
+    ensures { Writes W.contents out.old out.new (category_text name.now ++ codes "\n")
+        (is_ok result) }
+{
+    put_category_text(out, name)?;
+    put_all(out, b"\n")
+}
+
+/// Writes the name of a category, if it has one, and the end of the line.
+fn put_category_end<W: Write>(
+    out: &mut Counted<W>,
+    name: &Option<NameField>,
+) -> Result<(), WriteFault>
+    ensures { Writes W.contents out.old out.new (category_end name.now) (is_ok result) }
+{
+    match name {
+        Some(name) => put_named_end(out, name.name()),
+        None => put_all(out, b"\n"),
+    }
+}
+
+/// Writes `category` and its number.
+#[tactic(auto, unfolding(crate::specs::Lines::category_start))]
+fn put_category_start<W: Write>(out: &mut Counted<W>, number: u8) -> Result<(), WriteFault>
+    ensures { Writes W.contents out.old out.new (category_start number) (is_ok result) }
+{
+    put_pieces(
+        out,
+        &[Piece::Text(b"category "), Piece::Number(u32::from(number))],
+    )
+}
+
+/// Writes the line of a category with a name.
+#[tactic(auto, using(palm_text::proofs::Parts::then, palm_text::proofs::Parts::stops), unfolding(crate::specs::Lines::category_line))]
+fn put_category_line<W: Write>(
+    out: &mut Counted<W>,
+    number: u8,
+    name: &[u8],
+) -> Result<(), WriteFault>
+    ensures { Writes W.contents out.old out.new (category_line number name.now) (is_ok result) }
+{
+    put_category_start(out, number)?;
+    put_named_end(out, name)
+}
+
+/// Writes the line of a category, if it has a name.
+#[tactic(auto, using(palm_text::proofs::Parts::nothing))]
+fn put_category<W: Write>(
+    out: &mut Counted<W>,
+    number: u8,
+    name: &Option<NameField>,
+) -> Result<(), WriteFault>
+    ensures { Writes W.contents out.old out.new (line_if_named number name.now)
+        (is_ok result) }
+{
+    match name {
+        Some(name) => put_category_line(out, number, name.name()),
+        None => Ok(()),
+    }
 }
 
 /// Writes a size in bytes.
@@ -261,25 +368,21 @@ impl Notation for TextRows<'_> {
             Row::Creator(creator) => put_line(out, b"creator ", Piece::FourBytes(*creator)),
             Row::Seed(seed) => put_line(out, b"seed ", Piece::Hex32(*seed)),
             Row::Characters(name) => put_text(out, b"text \"", name.name(), b"\"\n"),
-            Row::App(block) => put_extent(out, Piece::Text(b"app"), *block),
-            Row::Sort(block) => put_extent(out, Piece::Text(b"sort"), *block),
+            Row::App(block) => put_extent(out, Piece::Text(b"app"), *block, b"\n"),
+            Row::Sort(block) => put_extent(out, Piece::Text(b"sort"), *block, b"\n"),
+            Row::Category { number, name } => put_category(out, *number, name),
             Row::Count { resources, count } => put_line(
                 out,
                 count_word(*resources),
                 Piece::Number(u32::from(*count)),
             ),
-            Row::Record {
-                index,
-                attributes,
-                id,
-                block,
-            } => put_entry(out, *index, Piece::Hex8(*attributes), *id, *block),
+            Row::Record(row) => put_record(out, row),
             Row::Resource {
                 index,
                 kind,
                 id,
                 block,
-            } => put_entry(out, *index, Piece::FourBytes(*kind), u32::from(*id), *block),
+            } => put_resource(out, *index, *kind, u32::from(*id), *block),
             Row::Needs { size, slots } => put_needs(out, *size, *slots),
             Row::Changed(changes) => put_changes(out, *changes),
         }

@@ -35,8 +35,19 @@ pub struct Extent {
     pub size: u32,
 }
 
+/// A record: its index, attributes, ID, and data, and the name of its category if AppInfo has one.
+#[derive(Clone, Copy)]
+pub struct RecordRow {
+    pub index: u16,
+    pub attributes: u8,
+    pub category: Option<NameField>,
+    pub id: u32,
+    pub block: Option<Extent>,
+}
+
 /// A row of the listing of a file. A file with a fault has only the row of its first fault. Others
-/// have the rows from `Size` on, in this order, with one for each entry.
+/// have the rows from `Size` on, in this order, with one for each entry. A name of a category has at
+/// most 15 bytes.
 #[derive(Clone, Copy)]
 pub enum Row {
     /// The first fault, and the offset of the field that has it.
@@ -61,17 +72,17 @@ pub enum Row {
     Characters(NameField),
     App(Option<Extent>),
     Sort(Option<Extent>),
+    /// A category, and its name unless that is empty. There are 16 of these rows, or none.
+    Category {
+        number: u8,
+        name: Option<NameField>,
+    },
     /// The kind of the entries, and their number.
     Count {
         resources: bool,
         count: u16,
     },
-    Record {
-        index: u16,
-        attributes: u8,
-        id: u32,
-        block: Option<Extent>,
-    },
+    Record(RecordRow),
     Resource {
         index: u16,
         kind: u32,

@@ -1,6 +1,6 @@
 //! Writes the rows of a file without fault, one after another.
 
-ghost use Rattle.std.specs.Prelude.{◌≡◌, ◌≤◌, ◌<◌, ◌++◌, is_ok, length};
+ghost use Rattle.std.specs.Prelude.{◌≡◌, ◌≤◌, ◌<◌, ◌++◌, Some, is_ok, length};
 ghost use Rattle.std.specs.List.{flat_map};
 ghost use Rattle.heap_model.specs.Database.{entry_count_in};
 ghost use Rattle.db_format.specs.EitherEntry.{entry_of};
@@ -8,11 +8,13 @@ ghost use Rattle.palm_text.specs.Counted.{Writes};
 ghost use Rattle.pdb_format.specs.Blocks.{IsBlockWithin, bytes_at};
 ghost use Rattle.canonical_file.specs.Canonical.{most_bytes};
 ghost use Rattle.file_listing.specs.Listing as words;
-ghost use Rattle.file_listing.specs.Listing.{extent_at, info_extent, first_rows, entry_rows, last_rows, rows_of};
+ghost use Rattle.file_listing.specs.Categories.{layout_size};
+ghost use Rattle.file_listing.specs.Listing.{extent_at, info_extent, first_rows, category_rows, count_rows, entry_rows, last_rows, body_rows, rows_of};
 
+use crate::categories::{CATEGORIES, Categories, name_of};
 use crate::facts::Facts;
 use crate::needs::size_and_slots;
-use crate::rows::{Extent, Notation, Row};
+use crate::rows::{Extent, Notation, RecordRow, Row};
 use db_format::{DbEntry, INFO_BLOCKS};
 use palm_text::{Counted, WriteFault};
 use pdb_format::{Block, PdbFile};
@@ -60,12 +62,12 @@ fn info_of(file: &PdbFile<'_>, rank: usize) -> Option<Extent>
     extent_of(file, file.offset(rank) as u32, file.block(rank))
 }
 
-/// Writes the rows before those of the entries.
+/// Writes the rows before those of the categories.
 fn put_head<N: Notation, W: Write>(
     notation: &N,
     out: &mut Counted<W>,
     file: &PdbFile<'_>,
-    facts: &Facts,
+    facts: &Facts<'_>,
 ) -> Result<(), WriteFault>
     requires { length file.now ≤ most_bytes }
     ensures { Writes W.contents out.old out.new
@@ -90,27 +92,86 @@ fn put_head<N: Notation, W: Write>(
             Row::Characters(header.name),
             Row::App(info_of(file, 0)),
             Row::Sort(info_of(file, 1)),
-            Row::Count {
-                resources: file.has_resources(),
-                count: file.entry_count(),
-            },
         ],
     )
 }
 
+/// Writes the rows of the categories with names in an AppInfo block.
+fn put_names<N: Notation, W: Write>(
+    notation: &N,
+    out: &mut Counted<W>,
+    app: &[u8],
+) -> Result<(), WriteFault>
+    requires { layout_size ≤ length app.now }
+    ensures { Writes W.contents out.old out.new
+        (flat_map (N.row_text notation.now) (category_rows (Some app.now))) (is_ok result) }
+{
+    for number in 0..CATEGORIES {
+        let name = name_of(app, number);
+        match notation.put_row(out, &Row::Category { number, name }) {
+            Ok(()) => {}
+            Err(fault) => return Err(fault),
+        }
+    }
+    Ok(())
+}
+
+/// Writes the rows of the categories, if AppInfo has their names.
+#[tactic(auto, using(palm_text::proofs::Parts::nothing))]
+fn put_categories<N: Notation, W: Write>(
+    notation: &N,
+    out: &mut Counted<W>,
+    categories: &Categories<'_>,
+) -> Result<(), WriteFault>
+    ensures { Writes W.contents out.old out.new
+        (flat_map (N.row_text notation.now) (category_rows categories.now)) (is_ok result) }
+{
+    match categories.app() {
+        Some(app) => put_names(notation, out, app),
+        None => Ok(()),
+    }
+}
+
+/// Writes the row of the kind and the number of the entries.
+#[tactic(auto, unfolding(crate::specs::Listing::count_rows))]
+fn put_count<N: Notation, W: Write>(
+    notation: &N,
+    out: &mut Counted<W>,
+    file: &PdbFile<'_>,
+) -> Result<(), WriteFault>
+    ensures { Writes W.contents out.old out.new
+        (flat_map (N.row_text notation.now) (count_rows file.now)) (is_ok result) }
+{
+    put_rows(
+        notation,
+        out,
+        &[Row::Count {
+            resources: file.has_resources(),
+            count: file.entry_count(),
+        }],
+    )
+}
+
 /// Returns the row of an entry, whose data is a block.
-fn entry_row(file: &PdbFile<'_>, index: u16, entry: DbEntry, block: Option<Block>) -> Row
+fn entry_row(
+    file: &PdbFile<'_>,
+    categories: &Categories<'_>,
+    index: u16,
+    entry: DbEntry,
+    block: Option<Block>,
+) -> Row
     requires short { length file.now ≤ most_bytes }
     requires within { IsBlockWithin (length file.now) block }
-    ensures { result ≡ words.entry_row index (entry_of entry) (bytes_at file.now block) }
+    ensures { result ≡ words.entry_row categories.now index (entry_of entry) (bytes_at file.now block) }
 {
     match entry {
-        DbEntry::Record(record) => Row::Record {
+        DbEntry::Record(record) => Row::Record(RecordRow {
             index,
             attributes: record.attributes.0,
+            category: categories.of_record(record.attributes),
             id: record.id,
             block: extent_of(file, record.slot, block),
-        },
+        }),
         DbEntry::Resource(resource) => Row::Resource {
             index,
             kind: resource.kind,
@@ -121,13 +182,13 @@ fn entry_row(file: &PdbFile<'_>, index: u16, entry: DbEntry, block: Option<Block
 }
 
 /// Returns the row of the entry at an index.
-fn entry_row_at(file: &PdbFile<'_>, index: u16) -> Row
+fn entry_row_at(file: &PdbFile<'_>, categories: &Categories<'_>, index: u16) -> Row
     requires short { length file.now ≤ most_bytes }
     requires inside { index < entry_count_in file.now }
-    ensures { result ≡ words.entry_row_at file.now index }
+    ensures { result ≡ words.entry_row_at file.now categories.now index }
 {
     let block = file.block(INFO_BLOCKS + index as usize);
-    entry_row(file, index, file.entry(index), block)
+    entry_row(file, categories, index, file.entry(index), block)
 }
 
 /// Writes the rows of the entries.
@@ -135,13 +196,14 @@ fn put_entries<N: Notation, W: Write>(
     notation: &N,
     out: &mut Counted<W>,
     file: &PdbFile<'_>,
+    categories: &Categories<'_>,
 ) -> Result<(), WriteFault>
     requires { length file.now ≤ most_bytes }
     ensures { Writes W.contents out.old out.new
-        (flat_map (N.row_text notation.now) (entry_rows file.now)) (is_ok result) }
+        (flat_map (N.row_text notation.now) (entry_rows file.now categories.now)) (is_ok result) }
 {
     for index in 0..file.entry_count() {
-        match notation.put_row(out, &entry_row_at(file, index)) {
+        match notation.put_row(out, &entry_row_at(file, categories, index)) {
             Ok(()) => {}
             Err(fault) => return Err(fault),
         }
@@ -154,7 +216,7 @@ fn put_last<N: Notation, W: Write>(
     notation: &N,
     out: &mut Counted<W>,
     file: &PdbFile<'_>,
-    facts: &Facts,
+    facts: &Facts<'_>,
 ) -> Result<(), WriteFault>
     ensures { Writes W.contents out.old out.new
         (flat_map (N.row_text notation.now) (last_rows file.now facts.now)) (is_ok result) }
@@ -173,15 +235,46 @@ fn put_rest<N: Notation, W: Write>(
     notation: &N,
     out: &mut Counted<W>,
     file: &PdbFile<'_>,
-    facts: &Facts,
+    facts: &Facts<'_>,
+) -> Result<(), WriteFault>
+    requires { length file.now ≤ most_bytes }
+    ensures { Writes W.contents out.old out.new (flat_map (N.row_text notation.now)
+        (entry_rows file.now facts.now.categories ++ last_rows file.now facts.now)) (is_ok result) }
+{
+    put_entries(notation, out, file, &facts.categories)?;
+    put_last(notation, out, file, facts)
+}
+
+/// Writes the rows from that of the kind and the number of the entries on.
+#[tactic(auto, using(crate::proofs::RowTexts::then_rows, crate::proofs::RowTexts::stops_rows))]
+fn put_body<N: Notation, W: Write>(
+    notation: &N,
+    out: &mut Counted<W>,
+    file: &PdbFile<'_>,
+    facts: &Facts<'_>,
 ) -> Result<(), WriteFault>
     requires { length file.now ≤ most_bytes }
     ensures { Writes W.contents out.old out.new
-        (flat_map (N.row_text notation.now) (entry_rows file.now ++ last_rows file.now facts.now))
-        (is_ok result) }
+        (flat_map (N.row_text notation.now) (body_rows file.now facts.now)) (is_ok result) }
 {
-    put_entries(notation, out, file)?;
-    put_last(notation, out, file, facts)
+    put_count(notation, out, file)?;
+    put_rest(notation, out, file, facts)
+}
+
+/// Writes the rows from those of the categories on.
+#[tactic(auto, using(crate::proofs::RowTexts::then_rows, crate::proofs::RowTexts::stops_rows))]
+fn put_after_head<N: Notation, W: Write>(
+    notation: &N,
+    out: &mut Counted<W>,
+    file: &PdbFile<'_>,
+    facts: &Facts<'_>,
+) -> Result<(), WriteFault>
+    requires { length file.now ≤ most_bytes }
+    ensures { Writes W.contents out.old out.new (flat_map (N.row_text notation.now)
+        (category_rows facts.now.categories ++ body_rows file.now facts.now)) (is_ok result) }
+{
+    put_categories(notation, out, &facts.categories)?;
+    put_body(notation, out, file, facts)
 }
 
 /// Writes the rows of a file without fault.
@@ -190,12 +283,12 @@ pub(crate) fn put_rows_of<N: Notation, W: Write>(
     notation: &N,
     out: &mut Counted<W>,
     file: &PdbFile<'_>,
-    facts: &Facts,
+    facts: &Facts<'_>,
 ) -> Result<(), WriteFault>
     requires { length file.now ≤ most_bytes }
     ensures { Writes W.contents out.old out.new
         (flat_map (N.row_text notation.now) (rows_of file.now facts.now)) (is_ok result) }
 {
     put_head(notation, out, file, facts)?;
-    put_rest(notation, out, file, facts)
+    put_after_head(notation, out, file, facts)
 }

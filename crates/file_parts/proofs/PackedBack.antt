@@ -29,11 +29,11 @@ use Rattle.file_parts.specs.Unpacking.{IsUnpacked, database_of}
 use Rattle.file_parts.specs.Laws.{PacksBack}
 use Rattle.file_parts.proofs.PartsBack.{parts_back, text_back, name_bytes}
 
-u16_small : (file : List ℕ) (at : ℕ) → AreBytes file → u16_at file at < 2 ^ 16
+pub u16_small : (file : List ℕ) (at : ℕ) → AreBytes file → u16_at file at < 2 ^ 16
 unfolding u16_at
 u16_small file at bytes = big_from-lt at 2 file bytes
 
-u32_small : (file : List ℕ) (at : ℕ) → AreBytes file → u32_at file at < 2 ^ 32
+pub u32_small : (file : List ℕ) (at : ℕ) → AreBytes file → u32_at file at < 2 ^ 32
 unfolding u32_at
 u32_small file at bytes = big_from-lt at 4 file bytes
 

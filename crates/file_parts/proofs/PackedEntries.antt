@@ -22,7 +22,7 @@ length-filled parts rank [] = refl
 length-filled parts rank (e ∷ es) = let ih = length-filled parts (rank + 1) es in omega arith
 
 -- the entry of an index
-filled_at : (parts : List (List ℕ)) (rank k : ℕ) (es : List (Entry (Option (List ℕ)))) (d e : Entry (Option (List ℕ))) → k < length es → get_or (filled_entries parts rank es) k e ≡ entry_with (filled (part_at parts (rank + k))) (get_or es k d)
+pub filled_at : (parts : List (List ℕ)) (rank k : ℕ) (es : List (Entry (Option (List ℕ)))) (d e : Entry (Option (List ℕ))) → k < length es → get_or (filled_entries parts rank es) k e ≡ entry_with (filled (part_at parts (rank + k))) (get_or es k d)
 filled_at parts rank k [] d e inside = absurd (omega arith)
 filled_at parts rank zero (x ∷ es) d e inside =
     let same : rank ≡ rank + 0 = omega arith in
@@ -142,7 +142,7 @@ block_filled parts rank (suc k) (e ∷ es) inside =
 
 -- ---- all of it
 
-listed_writable : (r : Bool) (items : List ListedEntry) → All (IsGoodEntry r) items → All (IsWritableEntry r) (entries_listed items)
+pub listed_writable : (r : Bool) (items : List ListedEntry) → All (IsGoodEntry r) items → All (IsWritableEntry r) (entries_listed items)
 listed_writable r [] all = All-nil (IsWritableEntry r)
 listed_writable r (e ∷ items) all =
     All-cons (IsWritableEntry r) (entry_listed e) (entries_listed items) (All-head (IsGoodEntry r) e items all) (listed_writable r items (All-tail (IsGoodEntry r) e items all))

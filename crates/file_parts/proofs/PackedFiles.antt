@@ -7,7 +7,7 @@ use Rattle.pdb_format.specs.Writable.{file_size}
 use Rattle.pdb_format.proofs.WrittenOffsets.{all_bytes, size_more}
 use Rattle.file_parts.specs.declared.listed.Listed.{Listed}
 use Rattle.file_parts.specs.declared.packing.PackFault.{PackFault}
-use Rattle.file_parts.specs.declared.packing.PackFault.TheVariants.{TooLarge, OutOfMemory}
+use Rattle.file_parts.specs.declared.packing.PackFault.TheVariants.{TooLarge, BadLine, OutOfMemory}
 use Rattle.file_parts.specs.Listed.{entry_listed, entries_listed, database_listed}
 use Rattle.file_parts.specs.Packing.{IsRefusedFor, filled, part_at, database_of_parts}
 use Rattle.file_parts.proofs.PackedEntries.{block_filled, length-packed}
@@ -15,6 +15,7 @@ use Rattle.file_parts.proofs.PackedEntries.{block_filled, length-packed}
 -- a larger file is refused as well
 pub refused_more : (n m : ℕ) (fault : PackFault) → n ≤ m → IsRefusedFor n fault → IsRefusedFor m fault
 refused_more n m TooLarge less is = omega arith
+refused_more n m (BadLine line) less is = is
 refused_more n m OutOfMemory less is = tt
 
 -- the blocks are all within the file
@@ -25,7 +26,7 @@ sizes d =
     omega arith
 
 -- the block of a rank
-block_packed : (listed : Listed) (parts : List (List ℕ)) (rank : ℕ) → rank < length (data_in (database_listed listed))
+pub block_packed : (listed : Listed) (parts : List (List ℕ)) (rank : ℕ) → rank < length (data_in (database_listed listed))
     → get_or (data_in (database_of_parts listed parts)) rank None ≡ filled (part_at parts rank) (get_or (data_in (database_listed listed)) rank None)
 block_packed listed parts zero inside = refl
 block_packed listed parts (suc zero) inside = refl

@@ -1,11 +1,11 @@
 -- The text and the parts of a database give it back.
-use Rattle.std.proofs.Common.{◌≡◌, ℕ, zero, suc, ◌+◌, ◌/◌, ◌%◌, ◌<◌, ◌≤◌, Bool, true, false, Option, Some, None, List, [], ◌∷◌, ◌++◌, length, map, take, refl, sym, ap, ◌∙◌, arith, append_assoc, length-append}
+use Rattle.std.proofs.Common.{◌≡◌, ℕ, zero, suc, ◌+◌, ◌/◌, ◌%◌, ◌^◌, ◌<◌, ◌≤◌, Bool, true, false, Option, Some, None, List, [], ◌∷◌, ◌++◌, length, map, take, refl, sym, ap, ◌∙◌, arith, append_assoc, append-nil, length-append}
 use Rattle.std.specs.Prelude.{All, Ok, ◌==◌}
 use Rattle.std.proofs.Math.Seq.{get_or-append_seam}
 use Rattle.std.proofs.lemmas.Fmt.{decimal_digit}
 use Rattle.std.proofs.lemmas.List.Elements.{All-head, All-tail, All-nil, All-cons}
 use Rattle.heap_model.specs.Bytes.{AreBytes}
-use Rattle.heap_model.specs.Database.{Database, Entry, a_record, a_resource, entry_data, entry_with, data_in, has_resources, name_in}
+use Rattle.heap_model.specs.Database.{Database, Entry, a_record, a_resource, entry_data, entry_with, data_in, has_resources, name_in, IsDatabaseName, HeaderFits}
 use Rattle.heap_model.specs.Files.{block_bytes}
 use Rattle.pdb_format.specs.Writable.{IsWritableEntry, HasFile}
 use Rattle.file_parts.specs.Texts.{app_name, sort_name, entry_name, name_if_data, named_entries, with_names, database_text}
@@ -29,29 +29,34 @@ filled_entry name (a_resource kind id block) = ap (λ (b : Option (List ℕ)). a
 all_blocks : List (Entry (Option (List ℕ))) → List (List ℕ)
 all_blocks es = map block_bytes (map entry_data es)
 
-entries_filled : (front : List (List ℕ)) (index rank : ℕ) (es : List (Entry (Option (List ℕ)))) → length front ≡ rank → filled_entries (front ++ all_blocks es) rank (named_entries index es) ≡ es
+entries_filled : (front more : List (List ℕ)) (index rank : ℕ) (es : List (Entry (Option (List ℕ)))) → length front ≡ rank → filled_entries (front ++ (all_blocks es ++ more)) rank (named_entries index es) ≡ es
 unfolding all_blocks
-entries_filled front index rank [] long = refl
-entries_filled front index rank (e ∷ es) long =
+entries_filled front more index rank [] long = refl
+entries_filled front more index rank (e ∷ es) long =
     let block : List ℕ = block_bytes (entry_data e) in
-    let more = length-append front (block ∷ []) in
-    let here : part_at (front ++ block ∷ all_blocks es) rank ≡ block = ap (λ (r : ℕ). part_at (front ++ block ∷ all_blocks es) r) (sym long) ∙ get_or-append_seam front block (all_blocks es) [] in
-    let joined : front ++ block ∷ all_blocks es ≡ (front ++ block ∷ []) ++ all_blocks es = sym (append_assoc front (block ∷ []) (all_blocks es)) in
-    ap (λ (bytes : List ℕ). entry_with (filled bytes) (entry_with (name_if_data (entry_name index)) e) ∷ filled_entries (front ++ block ∷ all_blocks es) (rank + 1) (named_entries (index + 1) es)) here
-    ∙ ap (λ (one : Entry (Option (List ℕ))). one ∷ filled_entries (front ++ block ∷ all_blocks es) (rank + 1) (named_entries (index + 1) es)) (filled_entry (entry_name index) e)
+    let rest : List (List ℕ) = all_blocks es ++ more in
+    let longer = length-append front (block ∷ []) in
+    let here : part_at (front ++ block ∷ rest) rank ≡ block = ap (λ (r : ℕ). part_at (front ++ block ∷ rest) r) (sym long) ∙ get_or-append_seam front block rest [] in
+    let joined : front ++ block ∷ rest ≡ (front ++ block ∷ []) ++ rest = sym (append_assoc front (block ∷ []) rest) in
+    ap (λ (bytes : List ℕ). entry_with (filled bytes) (entry_with (name_if_data (entry_name index)) e) ∷ filled_entries (front ++ block ∷ rest) (rank + 1) (named_entries (index + 1) es)) here
+    ∙ ap (λ (one : Entry (Option (List ℕ))). one ∷ filled_entries (front ++ block ∷ rest) (rank + 1) (named_entries (index + 1) es)) (filled_entry (entry_name index) e)
     ∙ ap (λ (parts : List (List ℕ)). e ∷ filled_entries parts (rank + 1) (named_entries (index + 1) es)) joined
-    ∙ ap (λ (xs : List (Entry (Option (List ℕ)))). e ∷ xs) (entries_filled (front ++ block ∷ []) (index + 1) (rank + 1) es (omega arith))
+    ∙ ap (λ (xs : List (Entry (Option (List ℕ)))). e ∷ xs) (entries_filled (front ++ block ∷ []) more (index + 1) (rank + 1) es (omega arith))
 
 whole : Database (Option (List ℕ)) → Option (List ℕ) → Option (List ℕ) → List (Entry (Option (List ℕ))) → Database (Option (List ℕ))
 whole d app sort entries = record { header = d.header; app_info = app; sort_info = sort; entries = entries }
 
-pub parts_back : (d : Database (Option (List ℕ))) → with_parts (map block_bytes (data_in d)) (with_names d) ≡ d
+-- with its parts, and others after them
+pub parts_and_more : (d : Database (Option (List ℕ))) (more : List (List ℕ)) → with_parts (map block_bytes (data_in d) ++ more) (with_names d) ≡ d
 unfolding all_blocks whole
-parts_back d =
-    let entries = entries_filled (block_bytes d.app_info ∷ block_bytes d.sort_info ∷ []) 0 2 d.entries refl in
+parts_and_more d more =
+    let entries = entries_filled (block_bytes d.app_info ∷ block_bytes d.sort_info ∷ []) more 0 2 d.entries refl in
     ap (λ (es : List (Entry (Option (List ℕ)))). whole d (filled (block_bytes d.app_info) (name_if_data app_name d.app_info)) (filled (block_bytes d.sort_info) (name_if_data sort_name d.sort_info)) es) entries
     ∙ ap (λ (app : Option (List ℕ)). whole d app (filled (block_bytes d.sort_info) (name_if_data sort_name d.sort_info)) d.entries) (filled_named app_name d.app_info)
     ∙ ap (λ (sort : Option (List ℕ)). whole d d.app_info sort d.entries) (filled_named sort_name d.sort_info)
+
+pub parts_back : (d : Database (Option (List ℕ))) → with_parts (map block_bytes (data_in d)) (with_names d) ≡ d
+parts_back d = ap (λ (parts : List (List ℕ)). with_parts parts (with_names d)) (sym (append-nil (map block_bytes (data_in d)))) ∙ parts_and_more d []
 
 -- ---- the names
 
@@ -111,7 +116,7 @@ length-named index (e ∷ es) = let ih = length-named (index + 1) es in omega ar
 
 -- ---- the text
 
-front_bytes : (n : ℕ) (xs : List ℕ) → AreBytes xs → AreBytes (take n xs)
+pub front_bytes : (n : ℕ) (xs : List ℕ) → AreBytes xs → AreBytes (take n xs)
 front_bytes zero xs are k = omega arith
 front_bytes (suc n) [] are k = omega arith
 front_bytes (suc n) (x ∷ xs) are zero = are 0
@@ -121,19 +126,21 @@ pub name_bytes : (file : List ℕ) → AreBytes file → AreBytes (name_in file)
 unfolding name_in
 name_bytes file are = front_bytes _ (take 31 file) (front_bytes 31 file are)
 
-has_text : (d : Database (Option (List ℕ))) → HasFile d → AreBytes d.header.name → HasText (with_names d)
-has_text d is bytes =
-    let few = is.entry_count in
+pub has_text_of : (d : Database (Option (List ℕ))) → IsDatabaseName d.header.name → HeaderFits d.header → All (IsWritableEntry (has_resources d.header.attributes)) d.entries → length d.entries < 2 ^ 16 → AreBytes d.header.name → HasText (with_names d)
+has_text_of d name header entries few bytes =
     let long = length-named 0 d.entries in
     record {
-      name = name_good d.header.name is.name;
+      name = name_good d.header.name name;
       bytes = bytes;
-      header = is.header;
+      header = header;
       app_info = named_part app_name d.app_info refl;
       sort_info = named_part sort_name d.sort_info refl;
-      entries = all_named (has_resources d.header.attributes) 0 d.entries (omega arith) is.entries;
+      entries = all_named (has_resources d.header.attributes) 0 d.entries (omega arith) entries;
       few = omega arith;
     }
+
+has_text : (d : Database (Option (List ℕ))) → HasFile d → AreBytes d.header.name → HasText (with_names d)
+has_text d is bytes = has_text_of d is.name is.header is.entries is.entry_count bytes
 
 pub text_back : (d : Database (Option (List ℕ))) → HasFile d → AreBytes d.header.name → read_database (database_text (with_names d)) ≡ Ok (with_names d)
 text_back d is bytes = texts_are_read (with_names d) (has_text d is bytes)

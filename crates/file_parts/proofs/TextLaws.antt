@@ -18,8 +18,8 @@ use Rattle.script_lines.proofs.ReadBack.{texts_are_read_back, four_bytes_are_rea
 use Rattle.file_parts.specs.Texts.{header_lines, part_text, info_line, info_lines, entry_line, entry_lines, body_lines, database_text}
 use Rattle.file_parts.specs.Left.{left}
 use Rattle.file_parts.specs.Words.{begins_name, is_name_byte, has_name_bytes, spelled_part, part_or, is_name, spelled_name, entry_word, words_after, read_entry}
-use Rattle.file_parts.specs.Reading.{field, number, read_title, read_counts, read_kinds, read_infos, read_entries, read_database}
-use Rattle.file_parts.specs.Laws.{IsPartName, IsNamedEntry, TextsAreRead}
+use Rattle.file_parts.specs.Reading.{field, number, read_title, read_counts, read_kinds, read_infos, read_entries, read_database, read_database_from}
+use Rattle.file_parts.specs.Laws.{HasText, IsPartName, IsNamedEntry, TextsAreRead}
 use Rattle.file_parts.proofs.WordTexts.{IsWord, is_shown, is_plain, plain_is_word, hex_plain, text_is_word, number_back, number_is_word, line_first}
 
 -- ---- hex numbers
@@ -123,7 +123,7 @@ some_hex : (a : ℕ) (bytes : List ℕ) → 0 < length (encode_lower (a ∷ byte
 unfolding encode_with
 some_hex a bytes = omega arith
 
-hex_is_word : (a : ℕ) (bytes : List ℕ) → AreBytes (a ∷ bytes) → IsWord (encode_lower (a ∷ bytes))
+pub hex_is_word : (a : ℕ) (bytes : List ℕ) → AreBytes (a ∷ bytes) → IsWord (encode_lower (a ∷ bytes))
 hex_is_word a bytes are = plain_is_word (encode_lower (a ∷ bytes)) (some_hex a bytes) (hex_plain (a ∷ bytes) are)
 
 hex_word_two : (n : ℕ) → IsWord (encode_lower (u16_bytes n))
@@ -169,16 +169,16 @@ has_bytes name h = by_bytes (has_name_bytes name) refl where
       not_some e = cc
 
 -- the word of a part, and how it is read
-part_word : Option (List ℕ) → List ℕ
+pub part_word : Option (List ℕ) → List ℕ
 part_word None = codes "none"
 part_word (Some name) = name
 
-part_is_word : (part : Option (List ℕ)) → IsPartName part → IsWord (part_word part)
+pub part_is_word : (part : Option (List ℕ)) → IsPartName part → IsWord (part_word part)
 unfolding part_word
 part_is_word None is = plain_is_word (codes "none") (omega arith) refl
 part_is_word (Some name) is = bytes_word name (has_bytes name is)
 
-part_back : (part : Option (List ℕ)) → IsPartName part → spelled_part (part_word part) ≡ Some part
+pub part_back : (part : Option (List ℕ)) → IsPartName part → spelled_part (part_word part) ≡ Some part
 unfolding part_word
 part_back None is = refl
 part_back (Some name) is = is
@@ -191,14 +191,14 @@ part_ends (Some name) rest = ap (λ (xs : List ℕ). 32 ∷ xs) (append_assoc na
 -- ---- lines of the header
 
 -- a line with a word and a value
-field_here : {A : Type 0} (word first value : List ℕ) (n : ℕ) (texts : List (List ℕ)) (spells : List ℕ → Option A) (x : A)
+pub field_here : {A : Type 0} (word first value : List ℕ) (n : ℕ) (texts : List (List ℕ)) (spells : List ℕ → Option A) (x : A)
     → is_passed_over (first ++ value) ≡ false → words_of (first ++ value) ≡ with_word word (words_of value) → bytes_eq word word ≡ true → IsWord value → spells value ≡ Some x
     → field word spells (left n ((first ++ value) ∷ texts)) ≡ Ok (x, left (n + 1) texts)
 field_here word first value n texts spells x passed words same is back =
     rw (passed, words, is.alone, same, back) refl
 
 -- the first line, which has a word and a value
-first_line : (first value rest : List ℕ) → list_all is_shown first ≡ true → IsWord value → lines (first ++ (value ++ 10 ∷ rest)) ≡ (first ++ value) ∷ lines rest
+pub first_line : (first value rest : List ℕ) → list_all is_shown first ≡ true → IsWord value → lines (first ++ (value ++ 10 ∷ rest)) ≡ (first ++ value) ∷ lines rest
 first_line first value rest shown is =
     ap lines (sym (append_assoc first value (10 ∷ rest)))
     ∙ line_first (first ++ value) rest (list_all-append is_shown first value ∙ rw (shown, is.shown) refl)
@@ -371,7 +371,7 @@ kinds_back h n texts fits =
 info_texts : Option (List ℕ) → Option (List ℕ) → List (List ℕ) → List (List ℕ)
 info_texts app sort texts = (codes "app " ++ part_word app) ∷ (codes "sort " ++ part_word sort) ∷ texts
 
-one_info : (word : List ℕ) (part : Option (List ℕ)) (rest : List ℕ) → list_all is_shown (word ++ 32 ∷ []) ≡ true → IsPartName part → lines (info_line word part ++ rest) ≡ ((word ++ 32 ∷ []) ++ part_word part) ∷ lines rest
+pub one_info : (word : List ℕ) (part : Option (List ℕ)) (rest : List ℕ) → list_all is_shown (word ++ 32 ∷ []) ≡ true → IsPartName part → lines (info_line word part ++ rest) ≡ ((word ++ 32 ∷ []) ++ part_word part) ∷ lines rest
 one_info word part rest shown is =
     ap lines (append_assoc word (part_text part) rest ∙ ap (λ (xs : List ℕ). word ++ xs) (part_ends part rest) ∙ sym (append_assoc word (32 ∷ []) (part_word part ++ 10 ∷ rest)))
     ∙ first_line (word ++ 32 ∷ []) (part_word part) rest shown (part_is_word part is)
@@ -466,9 +466,30 @@ entries_back r front (e ∷ es) n all few =
 
 -- ---- all of it
 
-pub texts_are_read : TextsAreRead
-unfolding database_text body_lines read_database
-texts_are_read d is =
+-- the first line of its text
+pub first_text : DatabaseHeader → List ℕ
+first_text h = codes "name " ++ script_spelled h.name
+
+pub rest_texts : Database (Option (List ℕ)) → List (List ℕ)
+rest_texts d = attributes_texts d.header (info_texts d.app_info d.sort_info (lines (entry_lines d.entries)))
+
+pub texts_begin : (d : Database (Option (List ℕ))) → HasText d → lines (database_text d) ≡ first_text d.header ∷ rest_texts d
+unfolding database_text body_lines first_text rest_texts
+texts_begin d is =
+    let h : DatabaseHeader = d.header in
+    ap (λ (xs : List ℕ). lines (xs ++ body_lines d)) (header_is h)
+    ∙ name_lines h (body_lines d) is.header is.bytes
+    ∙ ap (name_texts h) (infos_lines d (entry_lines d.entries) is.app_info is.sort_info)
+
+-- its words
+pub first_words : (d : Database (Option (List ℕ))) → HasText d → (is_passed_over (first_text d.header) ≡ false) × (words_of (first_text d.header) ≡ Ok (codes "name" ∷ script_spelled d.header.name ∷ []))
+unfolding first_text words_of
+first_words d is = (refl, rw (text_is_word d.header.name is.bytes).alone refl)
+
+-- its text is read as it, whatever number its first line has
+pub read_back_from : (d : Database (Option (List ℕ))) (n : ℕ) → HasText d → read_database_from (left n (lines (database_text d))) ≡ Ok d
+unfolding database_text body_lines
+read_back_from d n is =
     let h : DatabaseHeader = d.header in
     let es : List (Entry (Option (List ℕ))) = d.entries in
     let infos : List (List ℕ) → List (List ℕ) = info_texts d.app_info d.sort_info in
@@ -478,9 +499,13 @@ texts_are_read d is =
     ∙ ap (name_texts h) (infos_lines d (entry_lines es) is.app_info is.sort_info) in
     rw (
       all,
-      title_back h 0 (infos (lines (entry_lines es))) is.header is.bytes is.name,
-      counts_back h 3 (infos (lines (entry_lines es))) is.header,
-      kinds_back h 7 (infos (lines (entry_lines es))) is.header,
-      infos_back d.app_info d.sort_info 10 (lines (entry_lines es)) is.app_info is.sort_info,
-      entries_back (has_resources h.attributes) [] es 12 is.entries (omega (arith, is.few)),
+      title_back h n (infos (lines (entry_lines es))) is.header is.bytes is.name,
+      counts_back h (n + 1 + 1 + 1) (infos (lines (entry_lines es))) is.header,
+      kinds_back h (n + 1 + 1 + 1 + 1 + 1 + 1 + 1) (infos (lines (entry_lines es))) is.header,
+      infos_back d.app_info d.sort_info (n + 1 + 1 + 1 + 1 + 1 + 1 + 1 + 1 + 1 + 1) (lines (entry_lines es)) is.app_info is.sort_info,
+      entries_back (has_resources h.attributes) [] es (n + 1 + 1 + 1 + 1 + 1 + 1 + 1 + 1 + 1 + 1 + 1 + 1) is.entries (omega (arith, is.few)),
     ) refl
+
+pub texts_are_read : TextsAreRead
+unfolding read_database
+texts_are_read d is = read_back_from d 0 is

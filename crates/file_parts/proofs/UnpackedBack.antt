@@ -1,5 +1,5 @@
 -- A file that is put together is taken apart as its parts, with the IDs that are given.
-use Rattle.std.proofs.Common.{◌≡◌, ℕ, ◌+◌, ◌<◌, ◌≤◌, Bool, true, false, Option, List, [], ◌∷◌, length, map, refl, sym, ap, subst, ◌∙◌, arith, inl, inr}
+use Rattle.std.proofs.Common.{◌≡◌, ℕ, ◌+◌, ◌<◌, ◌≤◌, Bool, true, false, Option, List, [], ◌∷◌, length, map, refl, sym, ap, subst, ◌∙◌, arith}
 use Rattle.std.specs.Prelude.{All, bit_and}
 use Rattle.std.specs.List.{AllZip, filter_map}
 use Rattle.std.proofs.lemmas.Nat.{and_le_l}
@@ -7,35 +7,17 @@ use Rattle.std.proofs.lemmas.List.Elements.{All-head, All-tail, All-nil, All-con
 use Rattle.heap_model.specs.UniqueIds.{greatest_id, seed_in, with_seed}
 use Rattle.heap_model.specs.Database.{Database, DatabaseHeader, Entry, a_record, a_resource, entry_data, entry_offset, has_resources, is_deleted, IsDatabaseName, HeaderFits}
 use Rattle.heap_model.specs.Store.{unique_id, unique_ids}
-use Rattle.heap_model.specs.Files.{AreGiven, kept_ids, idle, idle_entry, Reads, first_block, file_of}
-use Rattle.laws_store.proofs.Fresh.{fresh_fits}
+use Rattle.heap_model.specs.Files.{kept_ids, idle, idle_entry, Reads, first_block, file_of}
 use Rattle.pdb_format.specs.Writable.{IsWritableEntry, file_size, HasFile, IsKeptAs, IsReadBack}
 use Rattle.pdb_format.proofs.WrittenFiles.{file_reads, idle_twice, read_back, still_deleted}
 use Rattle.pdb_format.proofs.WrittenOffsets.{all_bytes}
 use Rattle.file_ids.proofs.GivenLaws.{given_distinct}
-use Rattle.file_ids.proofs.KeptLaws.{kept_is_new}
 use Rattle.canonical_file.specs.Canonical.{IsCanonical}
+use Rattle.canonical_file.proofs.GivenFit.{given_fit}
 use Rattle.file_parts.specs.Laws.{UnpacksBack}
 use Rattle.file_parts.proofs.PackedBack.{none_zero}
 
 -- ---- the IDs that are given
-
--- they are IDs, and the last seed is one or was there before
-given_fit : (taken earlier : List ℕ) (seed : ℕ) (ids given : List ℕ) (last : ℕ) → seed ≤ greatest_id → All (λ id. id ≤ greatest_id) ids → AreGiven taken earlier seed ids given last
-    → All (λ id. (0 < id) × (id ≤ greatest_id)) given × (last ≤ greatest_id)
-given_fit taken earlier seed [] [] last least most are = (All-nil (λ id. (0 < id) × (id ≤ greatest_id)), omega arith)
-given_fit taken earlier seed [] (one ∷ given) last least most are = absurd are
-given_fit taken earlier seed (id ∷ ids) [] last least most are = absurd are
-given_fit taken earlier seed (id ∷ ids) (one ∷ given) last least most (inl kept) =
-    let here = All-head (λ q. q ≤ greatest_id) id ids most in
-    let is = kept.1 in
-    let some = (kept_is_new earlier id kept.0).0 in
-    let rest = given_fit taken (id ∷ earlier) seed ids given last least (All-tail (λ q. q ≤ greatest_id) id ids most) kept.2 in
-    (All-cons (λ q. (0 < q) × (q ≤ greatest_id)) one given (omega arith, omega arith) rest.0, rest.1)
-given_fit taken earlier seed (id ∷ ids) (one ∷ given) last least most (inr fresh) =
-    let fits = fresh_fits taken seed one least fresh.1 in
-    let rest = given_fit (one ∷ taken) (id ∷ earlier) one ids given last fits.1 (All-tail (λ q. q ≤ greatest_id) id ids most) fresh.2 in
-    (All-cons (λ q. (0 < q) × (q ≤ greatest_id)) one given (fits.0, fits.1) rest.0, rest.1)
 
 ids_most : (r : Bool) (es : List (Entry (Option (List ℕ)))) → All (IsWritableEntry r) es → All (λ id. id ≤ greatest_id) (filter_map unique_id es)
 ids_most r [] all = All-nil (λ id. id ≤ greatest_id)

@@ -6,3 +6,10 @@ pub mod Reading
 pub mod Listed
 pub mod Packing
 pub mod Laws
+pub mod Exact
+pub mod ExactTexts
+pub mod ExactReading
+pub mod ExactListed
+pub mod ExactUnpacking
+pub mod ExactLaws
+pub mod Either

@@ -8,7 +8,7 @@ use Rattle.file_parts.specs.declared.entries.ListedEntry.{ListedEntry}
 use Rattle.file_parts.specs.declared.listed.Listed.{Listed}
 use Rattle.file_parts.specs.declared.packing.Places.{Places}
 use Rattle.file_parts.specs.declared.packing.PackFault.{PackFault}
-use Rattle.file_parts.specs.declared.packing.PackFault.TheVariants.{TooLarge, OutOfMemory}
+use Rattle.file_parts.specs.declared.packing.PackFault.TheVariants.{TooLarge, BadLine, OutOfMemory}
 
 -- the bytes of a part, if there is one
 abbrev pub filled : List ℕ → Option (List ℕ) → Option (List ℕ)
@@ -57,4 +57,5 @@ pub record AreBlockPlaces (database : Database (Option (List ℕ))) (places : Pl
 -- a file of this size is refused as too large only if it has more than `most_bytes` bytes
 abbrev pub IsRefusedFor : ℕ → PackFault → Type 0
 IsRefusedFor size TooLarge = most_bytes < size
+IsRefusedFor size (BadLine fault) = ⊥
 IsRefusedFor size OutOfMemory = ⊤

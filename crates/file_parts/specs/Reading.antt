@@ -153,8 +153,12 @@ abbrev pub unless_fault : {A : Type 0} → Read A → (A → Left → Result (Da
 unless_fault (Err fault) go_on = Err fault
 unless_fault (Ok both) go_on = go_on both.0 both.1
 
+-- the database of the lines that are left, or the first faulty line
+abbrev pub read_database_from : Left → Result (Database (Option (List ℕ))) LineFault
+read_database_from rest =
+    unless_fault (read_head rest) (λ head rest.
+    database_with (header_with head.title head.counts head.kinds) head.infos (read_entries (has_resources head.title.attributes) [] rest.number rest.texts))
+
 -- the database of a text, or its first faulty line
 unfoldable pub read_database : List ℕ → Result (Database (Option (List ℕ))) LineFault
-read_database text =
-    unless_fault (read_head (left 0 (lines text))) (λ head rest.
-    database_with (header_with head.title head.counts head.kinds) head.infos (read_entries (has_resources head.title.attributes) [] rest.number rest.texts))
+read_database text = read_database_from (left 0 (lines text))

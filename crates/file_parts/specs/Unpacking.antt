@@ -1,5 +1,5 @@
 -- The parts of a file that is taken apart.
-use Rattle.std.specs.Prelude.{◌≡◌, ◌≤◌, ℕ, List, length, zero, suc, slice_index_or, Option, Some, None}
+use Rattle.std.specs.Prelude.{◌≡◌, ◌≤◌, ℕ, List, length, zero, suc, slice_index_or, Option, Some, None, codes}
 use Rattle.heap_model.specs.Database.{Database, entry_with}
 use Rattle.heap_model.specs.Files.{HasNoFault, IsFirstFault, blocks_in}
 use Rattle.pdb_format.specs.ReadFiles.{database_read, entry_read_at}
@@ -8,7 +8,7 @@ use Rattle.file_parts.specs.Texts.{app_name, sort_name, entry_name, entry_line, 
 use Rattle.file_parts.specs.declared.unpacked.Unpacked.{Unpacked}
 use Rattle.file_parts.specs.declared.unpacked.Part.{Part}
 use Rattle.file_parts.specs.declared.unpacked.PartName.{PartName}
-use Rattle.file_parts.specs.declared.unpacked.PartName.TheVariants.{App, Sort, Entry}
+use Rattle.file_parts.specs.declared.unpacked.PartName.TheVariants.{App, Sort, Entry, Filler}
 use Rattle.file_parts.specs.declared.unpacked.UnpackFault.{UnpackFault}
 use Rattle.file_parts.specs.declared.unpacked.UnpackFault.TheVariants.{BadFile, OutOfMemory}
 
@@ -26,6 +26,7 @@ abbrev pub name_text : PartName → List ℕ
 name_text App = app_name
 name_text Sort = sort_name
 name_text (Entry index) = entry_name index
+name_text Filler = codes "filler"
 
 -- the name of the part of a rank: 0 for the AppInfo block, 1 for the SortInfo block, and 2 more
 -- than its index for the data of an entry

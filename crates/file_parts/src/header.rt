@@ -134,7 +134,10 @@ fn read_four(lines: &mut Lines<'_>, word: &[u8]) -> Result<u32, LineFault>
 }
 
 /// Reads a line with the part of an info block.
-fn read_part<'a>(lines: &mut Lines<'a>, word: &[u8]) -> Result<Option<PartFile<'a>>, LineFault>
+pub(crate) fn read_part<'a>(
+    lines: &mut Lines<'a>,
+    word: &[u8],
+) -> Result<Option<PartFile<'a>>, LineFault>
     ensures { Gives (field word.now spelled_part lines.old) result lines.new }
 {
     let word = read_word(lines, word)?;

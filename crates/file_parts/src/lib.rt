@@ -22,7 +22,13 @@
 //! name and bytes.
 #![tactic(auto)]
 
+mod either;
 mod entries;
+mod exact_lines;
+mod exact_listed;
+mod exact_packing;
+mod exact_text;
+mod exact_unpacked;
 mod header;
 mod laws;
 mod lines;
@@ -33,7 +39,13 @@ mod text;
 mod unpacked;
 mod words;
 
-pub use laws::texts_are_read;
+pub use either::{FolderForm, ListedFolder, TakenApart, read_folder, take_apart};
+pub use exact_listed::ListedExact;
+pub use exact_unpacked::UnpackedExact;
+pub use laws::{
+    exact_files_are_spelled, exact_folders_pack_back, exact_texts_are_read,
+    packed_folders_are_exact, texts_are_read,
+};
 pub use listed::{Listed, read_listed};
 pub use packing::{PackFault, pack};
 pub use part_file::PartFile;

@@ -57,6 +57,28 @@ impl<'a> Lines<'a> {
         None
     }
 
+    /// Returns the next line that isn't skipped, and the lines after it. It reads nothing.
+    pub(crate) fn peeked(&self) -> Option<(&'a [u8], Lines<'a>)>
+        ensures { MatchOption result (next_of self.now.number self.now.texts ≡ None)
+            (λ both. next_of self.now.number self.now.texts ≡ Some (both.0.now, both.1)) }
+    {
+        let mut after = Lines {
+            rest: self.rest,
+            number: self.number,
+        };
+        match after.next() {
+            Some(line) => Some((line, after)),
+            None => None,
+        }
+    }
+
+    /// Returns the number of lines that were read.
+    pub(crate) fn line(&self) -> usize
+        ensures { result ≡ self.now.number }
+    {
+        self.number
+    }
+
     /// Returns the fault for the last line that was read.
     pub(crate) fn fault(&self, fault: ScriptFault) -> LineFault
         ensures { result ≡ fault_in self.now.number fault }

@@ -4,7 +4,7 @@ ghost use Rattle.std.specs.Prelude.{◌≡◌, ◌≢◌, ◌<◌, ◌+◌, Ok, 
 ghost use Rattle.db_format.specs.Headers as headers;
 ghost use Rattle.heap_model.specs.Database.{HeaderFits, IsDatabaseName, data_in, entry_data};
 ghost use Rattle.file_parts.specs.Listed.{IsListed, database_listed, entries_listed};
-ghost use Rattle.file_parts.specs.Reading.{header_with, read_database};
+ghost use Rattle.file_parts.specs.Reading.{header_with, read_database, read_database_from};
 
 use crate::entries::{ListedEntry, read_entries};
 use crate::header::{Counts, Infos, Kinds, Title, read_head};
@@ -54,7 +54,7 @@ fn header_of(title: Title, counts: Counts, kinds: Kinds) -> DbHeader
 /// - `OutOfMemory`, with the line 0: if an allocation failed.
 /// - any other fault, with the line counted from 1: if that line is the first faulty one (see
 ///   `read_database`).
-#[tactic(auto, using(crate::proofs::ReadTexts::head_faulty))]
+#[tactic(auto, using(crate::proofs::ReadTexts::read_from))]
 pub fn read_listed<'a, A: Allowance>(memory: &A, text: &'a [u8]) -> Result<Listed<'a>, LineFault>
     ensures ok { IfOk result (λ listed. read_database text.now ≡ Ok (database_listed listed)) }
     ensures good { IfOk result IsListed }
@@ -64,12 +64,28 @@ pub fn read_listed<'a, A: Allowance>(memory: &A, text: &'a [u8]) -> Result<Liste
         → A.is_short memory.now) }
 {
     let mut lines = Lines::of(text);
-    let head = match read_head(&mut lines) {
+    read_database(memory, &mut lines)
+}
+
+/// Reads the lines of a text that are left: those of the header, and those of the entries.
+#[tactic(auto, using(crate::proofs::ReadTexts::head_faulty))]
+pub(crate) fn read_database<'a, A: Allowance>(
+    memory: &A,
+    lines: &mut Lines<'a>,
+) -> Result<Listed<'a>, LineFault>
+    ensures ok { IfOk result (λ listed. read_database_from lines.old ≡ Ok (database_listed listed)) }
+    ensures good { IfOk result IsListed }
+    ensures err { IfErr result (λ fault. fault.fault ≢ ScriptFault.OutOfMemory
+        → read_database_from lines.old ≡ Err fault) }
+    ensures no_memory { IfErr result (λ fault. fault.fault ≡ ScriptFault.OutOfMemory
+        → A.is_short memory.now) }
+{
+    let head = match read_head(lines) {
         Ok(head) => head,
         Err(fault) => return Err(fault),
     };
     let resources = DbAttrs(head.title.attributes).has_resources();
-    match read_entries(memory, resources, &mut lines) {
+    match read_entries(memory, resources, lines) {
         Ok(entries) => Ok(Listed {
             header: header_of(head.title, head.counts, head.kinds),
             infos: head.infos,

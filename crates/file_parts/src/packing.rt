@@ -20,6 +20,7 @@ use canonical_file::canonical_bytes;
 use db_format::{DATABASE_HEADER_SIZE, DbAttrs, DbEntry, INFO_BLOCKS};
 use heap_model::Bytes;
 use pdb_format::{FILLER, PdbFile, first_place_after, idle_entry_at};
+use script_lines::LineFault;
 use thiserror::Error;
 
 /// The greatest size of a file in bytes.
@@ -31,6 +32,9 @@ pub enum PackFault {
     /// The file would have more than 16,777,216 bytes.
     #[error("TooLarge")]
     TooLarge,
+    /// A line of the text of an exact folder is at fault.
+    #[error("line {} {}", .0.line, .0.fault)]
+    BadLine(LineFault),
     /// An allocation failed.
     #[error("OutOfMemory")]
     OutOfMemory,
@@ -55,7 +59,11 @@ fn bytes_of<'a>(part: &Option<PartFile<'_>>, bytes: &'a Bytes) -> &'a [u8]
 }
 
 /// Returns the bytes of the part of a rank, and none if there is no part.
-fn part_bytes<'a>(part: &Option<PartFile<'_>>, parts: &'a [Bytes], rank: usize) -> &'a [u8]
+pub(crate) fn part_bytes<'a>(
+    part: &Option<PartFile<'_>>,
+    parts: &'a [Bytes],
+    rank: usize,
+) -> &'a [u8]
     requires { rank < length parts.now }
     ensures { result.now ≡ block_bytes (filled (part_at parts.now rank) part.now) }
 {
@@ -73,7 +81,7 @@ fn offset_of(at: u32, part: &Option<PartFile<'_>>) -> u32
 }
 
 /// Returns the end of a block that begins at an offset.
-fn end_of(at: u32, block: &[u8]) -> Result<u32, PackFault>
+pub(crate) fn end_of(at: u32, block: &[u8]) -> Result<u32, PackFault>
     requires { at ≤ most_bytes }
     ensures is { IfOk result (λ end. end ≡ at + length block.now) }
     ensures most { IfOk result (λ end. end ≤ most_bytes) }
@@ -156,7 +164,11 @@ fn placed(listed: &ListedEntry<'_>, at: u32) -> DbEntry
 }
 
 /// Appends bytes.
-fn append<A: Allowance>(memory: &A, bytes: &mut Vec<u8>, more: &[u8]) -> Result<(), PackFault>
+pub(crate) fn append<A: Allowance>(
+    memory: &A,
+    bytes: &mut Vec<u8>,
+    more: &[u8],
+) -> Result<(), PackFault>
     ensures items { OnOk result (bytes.new.items ≡ bytes.old.items ++ more.now) }
     ensures memory { IfErr result (λ fault. fault ≡ PackFault.OutOfMemory) }
     ensures short { IfErr result (λ _. A.is_short memory.now) }

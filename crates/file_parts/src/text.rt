@@ -19,7 +19,10 @@ use pdb_format::{Block, PdbFile};
 use std::io::Write;
 
 /// Writes the lines of the values of a header.
-fn put_header<'a, W: Write>(out: &mut Counted<W>, header: &'a DbHeader) -> Result<(), WriteFault>
+pub(crate) fn put_header<'a, W: Write>(
+    out: &mut Counted<W>,
+    header: &'a DbHeader,
+) -> Result<(), WriteFault>
     ensures { Writes W.contents out.old out.new (header_lines (header_values header.now)) (is_ok result) }
 {
     put_pieces(
@@ -74,7 +77,7 @@ fn put_info<W: Write>(
 }
 
 /// Writes the kind of an entry, and its values.
-fn put_values<W: Write>(out: &mut Counted<W>, entry: DbEntry) -> Result<(), WriteFault>
+pub(crate) fn put_values<W: Write>(out: &mut Counted<W>, entry: DbEntry) -> Result<(), WriteFault>
     ensures { (part : Option (List ℕ)) → Writes W.contents out.old out.new
         (entry_values (entry_with (λ _. part) (entry_of entry))) (is_ok result) }
 {
@@ -101,7 +104,7 @@ fn put_values<W: Write>(out: &mut Counted<W>, entry: DbEntry) -> Result<(), Writ
 }
 
 /// Writes the end of the line of an entry: the name of its part.
-fn put_part<W: Write>(
+pub(crate) fn put_part<W: Write>(
     out: &mut Counted<W>,
     index: u16,
     block: Option<Block>,
@@ -181,7 +184,10 @@ fn put_sort<W: Write>(out: &mut Counted<W>, file: &PdbFile<'_>) -> Result<(), Wr
 }
 
 /// Writes the lines of the info blocks.
-fn put_infos<W: Write>(out: &mut Counted<W>, file: &PdbFile<'_>) -> Result<(), WriteFault>
+pub(crate) fn put_infos<W: Write>(
+    out: &mut Counted<W>,
+    file: &PdbFile<'_>,
+) -> Result<(), WriteFault>
     ensures { Writes W.contents out.old out.new (info_line (codes "app")
         (name_if_data app_name (slice_index_or (blocks_in file.now) 0 None))
         ++ info_line (codes "sort") (name_if_data sort_name (slice_index_or (blocks_in file.now) 1 None)))

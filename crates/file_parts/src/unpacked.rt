@@ -41,6 +41,8 @@ pub enum PartName {
     Sort,
     /// The part of the data of an entry: its index in five digits.
     Entry(usize),
+    /// The part of the bytes before the first block, in an exact folder: `filler`.
+    Filler,
 }
 
 /// A part: its name, and its bytes in the file.
@@ -110,7 +112,7 @@ impl<'a> Unpacked<'a> {
 }
 
 /// Returns the part of a rank.
-fn part_of<'a>(file: &PdbFile<'a>, rank: usize) -> Option<Part<'a>>
+pub(crate) fn part_of<'a>(file: &PdbFile<'a>, rank: usize) -> Option<Part<'a>>
     requires { rank < length (blocks_in file.now) }
     ensures { MatchOption result (slice_index_or (blocks_in file.now) rank None ≡ None)
         (IsPartOfRank file.now rank) }

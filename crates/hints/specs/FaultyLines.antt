@@ -33,6 +33,12 @@ wanted_part = codes "the name of a part (letters, digits, _, - and .), or none"
 abbrev wanted_record_part : List ℕ
 wanted_record_part = codes "the name of a part (letters, digits, _, - and .); only a deleted record may have none"
 
+abbrev wanted_after_name : List ℕ
+wanted_after_name = codes "all bytes after the name, up to the 32nd, in hex; the first of two or more is 00"
+
+abbrev wanted_block : List ℕ
+wanted_block = codes "a block with a part that no earlier line names: app, sort or the index of an entry"
+
 abbrev wanted_resource_part : List ℕ
 wanted_resource_part = codes "the name of a part (letters, digits, _, - and .), which each resource has"
 
@@ -70,7 +76,7 @@ abbrev pub takes_four_bytes : List ℕ → Bool
 takes_four_bytes first = bytes_eq first (codes "type") || bytes_eq first (codes "creator")
 
 abbrev pub takes_part : List ℕ → Bool
-takes_part first = bytes_eq first (codes "app") || bytes_eq first (codes "sort")
+takes_part first = bytes_eq first (codes "app") || bytes_eq first (codes "sort") || bytes_eq first (codes "filler")
 
 abbrev pub wanted_after_first : List ℕ → List (List ℕ)
 wanted_after_first first =
@@ -81,6 +87,8 @@ wanted_after_first first =
     else if takes_four_bytes first then wanted_four ∷ []
     else if bytes_eq first (codes "seed") then codes "a hex number below 100000000" ∷ []
     else if takes_part first then wanted_part ∷ []
+    else if bytes_eq first (codes "namefield") then wanted_after_name ∷ []
+    else if bytes_eq first (codes "order") then wanted_block ∷ []
     else if bytes_eq first (codes "record") then codes "a hex number below 100" ∷ codes "a number below 16777216" ∷ wanted_record_part ∷ []
     else if bytes_eq first (codes "resource") then wanted_four ∷ wanted_short ∷ wanted_resource_part ∷ []
     else []

@@ -246,6 +246,12 @@ const PART: &str = "the name of a part (letters, digits, _, - and .), or none";
 const RECORD_PART: &str =
     "the name of a part (letters, digits, _, - and .); only a deleted record may have none";
 
+const AFTER_NAME: &str =
+    "all bytes after the name, up to the 32nd, in hex; the first of two or more is 00";
+
+const BLOCK: &str =
+    "a block with a part that no earlier line names: app, sort or the index of an entry";
+
 const RESOURCE_PART: &str =
     "the name of a part (letters, digits, _, - and .), which each resource has";
 
@@ -267,6 +273,10 @@ fn words_after(first: &[u8]) -> &'static [&'static str]
         &["a hex number below 100000000"]
     } else if takes_part(first) {
         &[PART]
+    } else if first == b"namefield".as_slice() {
+        &[AFTER_NAME]
+    } else if first == b"order".as_slice() {
+        &[BLOCK]
     } else if first == b"record".as_slice() {
         &[
             "a hex number below 100",
@@ -301,5 +311,5 @@ fn takes_four_bytes(first: &[u8]) -> bool
 fn takes_part(first: &[u8]) -> bool
     ensures { result ≡ words.takes_part first.now }
 {
-    first == b"app".as_slice() || first == b"sort".as_slice()
+    first == b"app".as_slice() || first == b"sort".as_slice() || first == b"filler".as_slice()
 }

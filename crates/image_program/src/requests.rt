@@ -6,7 +6,10 @@ ghost use Rattle.clap.specs.Values.{kind_of};
 use crate::meanings::explain;
 use clap::error::ErrorKind;
 use command_files::{STANDARD_OUTPUT, fail};
-use file_commands::{Asked, Report, canonical, get, pack, report_files, unpack};
+use file_commands::{
+    Asked, Report, canonical, get, pack, report_files, salvage, salvage_exact_ids, unpack,
+};
+use file_parts::FolderForm;
 use image_commands::{check, check_json, new};
 use program_io::command_line::{self, BaseRequest, Form, NamedFiles, Request};
 use program_io::{Status, report_outcome};
@@ -38,9 +41,27 @@ pub fn fulfil<R: Files + Input + Print + Eprint + AllocGlobal>(
         BaseRequest::List { form, files } => print_reports(rt, listing_as(form), &files),
         BaseRequest::Canonical { file, out } => canonical(rt, file, out),
         BaseRequest::Changes { files } => print_reports(rt, Report::Changes, &files),
+        BaseRequest::Salvage {
+            file,
+            out,
+            exact_ids,
+        } => salvage_as(rt, file, out, exact_ids),
         BaseRequest::Get { file, block, id } => get(rt, file, block, id),
-        BaseRequest::Unpack { file, folder } => unpack(rt, file, folder),
+        BaseRequest::Unpack {
+            file,
+            folder,
+            exact,
+        } => unpack(rt, file, folder, form_of(exact)),
         BaseRequest::Pack { folder, out } => pack(rt, folder, out),
+    }
+}
+
+/// Returns the form of a folder.
+fn form_of(exact: bool) -> FolderForm {
+    if exact {
+        FolderForm::Exact
+    } else {
+        FolderForm::Canonical
     }
 }
 
@@ -85,6 +106,22 @@ fn print_reports<R: Files + Input + Print + Eprint + AllocGlobal>(
             named: files.named,
         },
     )
+}
+
+/// Runs `salvage`, with the IDs of the damaged file if `exact_ids`.
+fn salvage_as<R: Files + Input + Print + Eprint + AllocGlobal>(
+    rt: &R,
+    file: &str,
+    out: &str,
+    exact_ids: bool,
+) -> Status
+    ensures { result ≢ Status.BadWords }
+{
+    if exact_ids {
+        salvage_exact_ids(rt, file, out)
+    } else {
+        salvage(rt, file, out)
+    }
 }
 
 /// Reports on standard error that the command is one of the whole program.

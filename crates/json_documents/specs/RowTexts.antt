@@ -12,8 +12,9 @@ use Rattle.file_listing.specs.declared.rows.Extent.{Extent}
 use Rattle.file_listing.specs.declared.rows.Epoch.{Epoch}
 use Rattle.file_listing.specs.declared.rows.Epoch.TheVariants.{Year1904, Year1970}
 use Rattle.file_listing.specs.declared.rows.Moment.{Moment}
+use Rattle.file_listing.specs.declared.rows.RecordRow.{RecordRow}
 use Rattle.file_listing.specs.declared.rows.Row.{Row}
-use Rattle.file_listing.specs.declared.rows.Row.TheVariants.{Fault, Size, Name, Attributes, Version, Created, Modified, Backup, Number, Kind, Creator, Seed, Characters, App, Sort, Count, Record, Resource, Needs, Changed}
+use Rattle.file_listing.specs.declared.rows.Row.TheVariants.{Fault, Size, Name, Attributes, Version, Created, Modified, Backup, Number, Kind, Creator, Seed, Characters, App, Sort, Category, Count, Record, Resource, Needs, Changed}
 use Rattle.file_listing.specs.Moments.{moment_text}
 use Rattle.unicode_text.specs.Strings.{string, hex_string, utf8_string}
 
@@ -59,6 +60,23 @@ kind_json false = codes "\"kind\":\"records\",\"entries\":["
 abbrev pub comma : ℕ → List ℕ
 comma index = if index == 0 then [] else codes ","
 
+-- a category: its name or `null`, in the array of all categories
+abbrev pub array_start : ℕ → List ℕ
+array_start number = if number == 0 then codes "\"categories\":[" else codes ","
+
+abbrev pub last_category : ℕ
+last_category = 15
+
+abbrev pub array_end : ℕ → List ℕ
+array_end number = if number == last_category then codes "]," else []
+
+abbrev pub name_json : Option (List ℕ) → List ℕ
+name_json None = codes "null"
+name_json (Some name) = string name
+
+unfoldable pub category_json : ℕ → Option (List ℕ) → List ℕ
+category_json number name = array_start number ++ (name_json name ++ array_end number)
+
 abbrev pub record_start : (index attributes : ℕ) → List ℕ
 record_start index attributes = comma index ++ (codes "{\"index\":" ++ (decimal index ++ (codes ",\"attributes\":" ++ (decimal attributes ++ codes ","))))
 
@@ -74,8 +92,13 @@ abbrev pub data_json : ℕ → Option Extent → List ℕ
 data_json id None = codes "\"id\":" ++ (decimal id ++ codes ",\"offset\":null,\"length\":null}")
 data_json id (Some block) = codes "\"id\":" ++ (decimal id ++ (codes ",\"offset\":" ++ (decimal block.offset ++ (codes ",\"length\":" ++ (decimal block.size ++ codes "}")))))
 
-unfoldable pub record_json : (index attributes id : ℕ) → Option Extent → List ℕ
-record_json index attributes id block = record_start index attributes ++ data_json id block
+-- the name of the category of a record, if it has one
+abbrev pub category_member : Option (List ℕ) → List ℕ
+category_member None = []
+category_member (Some name) = codes "\"category\":" ++ (string name ++ codes ",")
+
+unfoldable pub record_json : RecordRow → List ℕ
+record_json row = record_start row.index row.attributes ++ (category_member row.category ++ data_json row.id row.block)
 
 unfoldable pub resource_json : (index kind id : ℕ) → Option Extent → List ℕ
 resource_json index kind id block = resource_start index kind ++ data_json id block
@@ -142,8 +165,9 @@ listing_json path (Seed seed) = member (codes "\"seed\":") (decimal seed)
 listing_json path (Characters name) = []
 listing_json path (App block) = extent_json (codes "\"app\":") block
 listing_json path (Sort block) = extent_json (codes "\"sort\":") block
+listing_json path (Category number name) = category_json number name
 listing_json path (Count resources count) = kind_json resources
-listing_json path (Record index attributes id block) = record_json index attributes id block
+listing_json path (Record row) = record_json row
 listing_json path (Resource index kind id block) = resource_json index kind id block
 listing_json path (Needs size slots) = needs_json size slots
 listing_json path (Changed changes) = changes_json changes

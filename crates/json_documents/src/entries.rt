@@ -1,12 +1,13 @@
 //! The rows of entries.
 
-ghost use Rattle.std.specs.Prelude.{◌≡◌, is_ok};
+ghost use Rattle.std.specs.Prelude.{◌≡◌, ◌++◌, Some, is_ok};
 ghost use Rattle.palm_text.specs.Counted.{Writes};
 ghost use Rattle.unicode_text.specs.Pieces.{json_text};
 ghost use Rattle.json_documents.specs.RowTexts as words;
-ghost use Rattle.json_documents.specs.RowTexts.{data_json, record_json, record_start, resource_json, resource_start};
+ghost use Rattle.json_documents.specs.RowTexts.{category_member, data_json, record_json, record_start, resource_json, resource_start};
 
-use file_listing::Extent;
+use db_format::NameField;
+use file_listing::{Extent, RecordRow};
 use palm_text::{Counted, WriteFault};
 use std::io::Write;
 use unicode_text::{JsonPiece, put_json};
@@ -98,20 +99,51 @@ fn put_data<W: Write>(
     }
 }
 
+/// Writes the name of the category of a record.
+fn put_category_name<W: Write>(out: &mut Counted<W>, name: &[u8]) -> Result<(), WriteFault>
+    ensures { Writes W.contents out.old out.new (category_member (Some name.now)) (is_ok result) }
+{
+    put_json(
+        out,
+        &[
+            JsonPiece::Text(b"\"category\":"),
+            JsonPiece::String(name),
+            JsonPiece::Text(b","),
+        ],
+    )
+}
+
+/// Writes the name of the category of a record, if it has one.
+#[tactic(auto, using(palm_text::proofs::Parts::nothing))]
+fn put_category_member<W: Write>(
+    out: &mut Counted<W>,
+    name: &Option<NameField>,
+) -> Result<(), WriteFault>
+    ensures { Writes W.contents out.old out.new (category_member name.now) (is_ok result) }
+{
+    match name {
+        Some(name) => put_category_name(out, name.name()),
+        None => Ok(()),
+    }
+}
+
+/// Writes the rest of a record after its attributes.
+#[tactic(auto, using(palm_text::proofs::Parts::then, palm_text::proofs::Parts::stops))]
+fn put_record_end<W: Write>(out: &mut Counted<W>, row: &RecordRow) -> Result<(), WriteFault>
+    ensures { Writes W.contents out.old out.new
+        (category_member row.now.category ++ data_json row.now.id row.now.block) (is_ok result) }
+{
+    put_category_member(out, &row.category)?;
+    put_data(out, row.id, row.block)
+}
+
 /// Writes a record.
 #[tactic(auto, using(palm_text::proofs::Parts::then, palm_text::proofs::Parts::stops), unfolding(crate::specs::RowTexts::record_json))]
-pub(crate) fn put_record<W: Write>(
-    out: &mut Counted<W>,
-    index: u16,
-    attributes: u8,
-    id: u32,
-    block: Option<Extent>,
-) -> Result<(), WriteFault>
-    ensures { Writes W.contents out.old out.new (record_json index attributes id block)
-        (is_ok result) }
+pub(crate) fn put_record<W: Write>(out: &mut Counted<W>, row: &RecordRow) -> Result<(), WriteFault>
+    ensures { Writes W.contents out.old out.new (record_json row.now) (is_ok result) }
 {
-    put_record_start(out, index, attributes)?;
-    put_data(out, id, block)
+    put_record_start(out, row.index, row.attributes)?;
+    put_record_end(out, row)
 }
 
 /// Writes a resource.

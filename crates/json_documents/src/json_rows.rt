@@ -5,6 +5,7 @@ ghost use Rattle.palm_text.specs.Counted.{Writes};
 ghost use Rattle.unicode_text.specs.Pieces.{json_text};
 ghost use Rattle.json_documents.specs.RowTexts.{document_start, fault_json, faulty_fields, kind_json, listing_json, member};
 
+use crate::categories::put_category;
 use crate::changes::put_changes;
 use crate::entries::{put_record, put_resource};
 use crate::needs::put_needs;
@@ -157,13 +158,9 @@ impl Notation for JsonRows<'_> {
             Row::Characters(_) => Ok(()),
             Row::App(block) => put_extent(out, b"\"app\":", *block),
             Row::Sort(block) => put_extent(out, b"\"sort\":", *block),
+            Row::Category { number, name } => put_category(out, *number, name),
             Row::Count { resources, .. } => put_kind(out, *resources),
-            Row::Record {
-                index,
-                attributes,
-                id,
-                block,
-            } => put_record(out, *index, *attributes, *id, *block),
+            Row::Record(row) => put_record(out, row),
             Row::Resource {
                 index,
                 kind,

@@ -12,19 +12,22 @@
 //! "needs":{"size":168,"slots":3},"changes":[]}
 //! ```
 //!
-//! The document has no line breaks inside. If the notation has the path of the file, the member
+//! If AppInfo has the names of categories, the members `categories` and, of a record, `category` have
+//! them. The document has no line breaks inside. If the notation has the path of the file, the member
 //! `path` comes first. The rows are those of `file_listing`. Start with
 //! `specs/RowTexts.antt`, which defines the text of each row.
 //!
 //! | module | does |
 //! |---|---|
 //! | `values` | keys and values |
+//! | `categories` | the names of categories |
 //! | `entries` | the rows of entries |
 //! | `needs` | the part of a heap that the database takes |
 //! | `changes` | the words of the changes |
 //! | `json_rows` | the notation |
 #![tactic(auto)]
 
+mod categories;
 mod changes;
 mod entries;
 mod json_rows;

@@ -11,19 +11,20 @@ use Rattle.std.proofs.KnownBytes.{Appends-kept, Appends-nil, Appends-trans}
 use Rattle.std.proofs.Transfers.{starts_with_length}
 use Rattle.heap_model.specs.Memory.{Memory}
 use Rattle.palm_text.specs.Counted.{Flushes, Writing}
+use Rattle.palm_text.specs.Output.{output}
 use Rattle.script_lines.specs.Cuts.{IsUnended}
 use Rattle.script_lines.specs.Numbering.{Numberings, none_numbered}
 use Rattle.script_lines.specs.Reading.{line_read, read_line, read_lines, read_script}
 use Rattle.script_lines.specs.Views.{numberings}
 use Rattle.script_lines.specs.declared.fault.LineFault.{LineFault}
 use Rattle.script_lines.specs.declared.line.Line.{Line}
-use Rattle.script_calls.specs.Lines.{Bindings, DoesLine, LineStep, bound_after, exported, reply_line, unbound}
+use Rattle.script_calls.specs.Lines.{Bindings, DoesLine, LineStep, Setting, bound_after, exported, labelled, reply_line, unbound}
 use Rattle.palm_script.proofs.LineLaws.{one_more}
 use Rattle.live_scripts.specs.declared.fault.LiveFault.{LiveFault}
 use Rattle.live_scripts.specs.declared.fault.LiveFault.TheVariants as faults
 use Rattle.live_scripts.specs.declared.session.Session.{Session}
 use Rattle.live_scripts.specs.Live.{CutBetweenLines, Prints, ReadStops, RunStops, RunsText}
-use Rattle.live_scripts.specs.Sessions.{EndsOn, HasRun, IsReadFault, LineStops, ReadsLine, RunsLine, RunsOn, StopsAt, StopsOn, bound_in}
+use Rattle.live_scripts.specs.Sessions.{EndsOn, HasRun, IsReadFault, LineStops, ReadsLine, RunsLine, RunsOn, StopsAt, StopsOn, bound_in, live_state}
 use Rattle.program_io.specs.Status.{IsOfReading}
 use Rattle.program_io.specs.declared.input.InputFault.{InputFault}
 use Rattle.program_io.specs.declared.input.InputFault.TheVariants.{Memory as InputMemory}
@@ -69,10 +70,10 @@ front_stays at text more within starts = ap (take at) (sym starts) ∙ take-take
 cut_at : (at : ℕ) (text rest : List ℕ) → take at text ++ (drop at text ++ rest) ≡ text ++ rest
 cut_at at text rest = sym (append_assoc (take at text) (drop at text) rest) ∙ ap (λ l. l ++ rest) (take-append-drop at text)
 
-module _ {W : Type 0} (short : Type 0) (contents : W → Option (List ℕ)) (inputs : List (List ℕ)) where
+module _ {W : Type 0} (given : Setting) (contents : W → Option (List ℕ)) where
   -- ---- the start and the end
 
-  pub starts : (first : Memory) (out : Writing W) (session : Session) → session.count ≡ 0 → numberings session.labels ≡ none_numbered → bound_in session ≡ unbound → session.files.items ≡ [] → HasRun short contents inputs [] first out session first out
+  pub starts : (first : Memory) (out : Writing W) (session : Session) → session.count ≡ 0 → numberings session.labels ≡ none_numbered → bound_in session ≡ unbound → session.files.items ≡ [] → HasRun given [] first (live_state session first) (output contents out out)
   starts first out session count labels bound files = record {
     whole = λ rest. refl;
     counted = count;
@@ -83,7 +84,7 @@ module _ {W : Type 0} (short : Type 0) (contents : W → Option (List ℕ)) (inp
     printed = (Appends-nil _, refl);
   }
 
-  pub whole : (front : List ℕ) (first : Memory) (out_first : Writing W) (session : Session) (new : Memory) (out : Writing W) → HasRun short contents inputs front first out_first session new out → RunsText short contents inputs front first out_first new out session.files.items
+  pub whole : (front : List ℕ) (first : Memory) (out_first : Writing W) (session : Session) (new : Memory) (out : Writing W) → HasRun given front first (live_state session new) (output contents out_first out) → RunsText given front first new (output contents out_first out) session.files.items
   whole front first out_first session new out has = record {
     ran_lines = has.ran_lines;
     read = rw append-nil at (has.goes_on []);
@@ -96,12 +97,12 @@ module _ {W : Type 0} (short : Type 0) (contents : W → Option (List ℕ)) (inp
   -- ---- one line
 
   -- what a line does on a session that was given room for it
-  pub runs_line : (line : Line) (bound between after : Bindings) (session_new : Session) (files : List (List ℕ)) (old new : Memory) (out out_after : Writing W) (file : Option (List ℕ)) → between ≡ bound → bound_in session_new ≡ after → DoesLine short contents inputs line old between out new after out_after (Ok file)
-      → session_new.files.items ≡ files ++ option_to_list file → RunsLine short contents inputs line bound files old out session_new new out_after
+  pub runs_line : (line : Line) (bound between after : Bindings) (session_new : Session) (files : List (List ℕ)) (old new : Memory) (out out_after : Writing W) (file : Option (List ℕ)) → between ≡ bound → bound_in session_new ≡ after → DoesLine given line (labelled old between) (labelled new after) (output contents out out_after) (Ok file)
+      → session_new.files.items ≡ files ++ option_to_list file → RunsLine given line (labelled old bound) files (live_state session_new new) (output contents out out_after)
   runs_line line bound between after session_new files old new out out_after file same is does are = record {
     replies = record {
       reply = does.reply;
-      step = subst (λ b. LineStep short inputs old b line does.reply new) same does.step;
+      step = subst (λ b. LineStep given (labelled old b) line does.reply new) same does.step;
       written = does.written;
     };
     binds = is ∙ does.binds ∙ ap (λ b. bound_after b line does.reply) same;
@@ -116,7 +117,7 @@ module _ {W : Type 0} (short : Type 0) (contents : W → Option (List ℕ)) (inp
   -- the text of a line that line feeds end, read and run
   pub line_runs_on : (next text : List ℕ) (session session_new : Session) (old new : Memory) (out out_after : Writing W)
       → ((rest : List ℕ) → lines (next ++ rest) ≡ text ∷ lines rest) → session_new.count ≡ session.count + 1
-      → ReadsLine short contents inputs text session old out session_new new out_after → RunsOn short contents inputs next session old out session_new new out_after
+      → ReadsLine given text (live_state session old) (live_state session_new new) (output contents out out_after) → RunsOn given next (live_state session old) (live_state session_new new) (output contents out out_after)
   line_runs_on next text session session_new old new out out_after ended count (inl (read, bound, files, same, same_out)) front first out_first has = record {
     whole = λ rest. cut_further front next text rest has.whole (alone next text ended) (ended rest);
     counted = rw (count, has.counted) (sym (one_counted front next text (has.whole next) (alone next text ended)));
@@ -132,14 +133,14 @@ module _ {W : Type 0} (short : Type 0) (contents : W → Option (List ℕ)) (inp
     ran_lines = has.ran_lines ++ line ∷ [];
     goes_on = λ rest. reads_next front next text rest session.count (numberings session.labels) (numberings session_new.labels) has.ran_lines (Some line) has.goes_on (ended rest) read ∙ rw count refl;
     replies = has.replies ++ reply_line line runs.replies.reply;
-    ran = rw (runs.exports, runs.binds) (one_more {short = short} inputs first unbound has.ran_lines has.replies session.files.items old (bound_in session) line runs.replies.reply new has.ran runs.replies.step);
+    ran = rw (runs.exports, runs.binds) (one_more {given = given} (labelled first unbound) has.ran_lines has.replies session.files.items (labelled old (bound_in session)) line runs.replies.reply new has.ran runs.replies.step);
     printed = prints_more out_first out out_after has.replies (reply_line line runs.replies.reply) has.printed (runs.replies.written.0, runs.replies.written.1);
   }
 
   -- the last line, which no line feed ends
   pub line_ends_on : (text : List ℕ) (session session_new : Session) (old new : Memory) (out out_after : Writing W) → lines text ≡ text ∷ []
-      → ReadsLine short contents inputs text session old out session_new new out_after
-      → (front : List ℕ) (first : Memory) (out_first : Writing W) → HasRun short contents inputs front first out_first session old out → RunsText short contents inputs (front ++ text) first out_first new out_after session_new.files.items
+      → ReadsLine given text (live_state session old) (live_state session_new new) (output contents out out_after)
+      → (front : List ℕ) (first : Memory) (out_first : Writing W) → HasRun given front first (live_state session old) (output contents out_first out) → RunsText given (front ++ text) first new (output contents out_first out_after) session_new.files.items
   line_ends_on text session session_new old new out out_after cut (inl (read, bound, files, same, same_out)) front first out_first has = record {
     ran_lines = has.ran_lines;
     read = has.goes_on text ∙ rw (cut, read) (rw append-nil refl);
@@ -153,21 +154,21 @@ module _ {W : Type 0} (short : Type 0) (contents : W → Option (List ℕ)) (inp
     read = one_script front text text session.count (numberings session.labels) (numberings session_new.labels) has.ran_lines line has.goes_on cut read;
     replies = has.replies ++ reply_line line runs.replies.reply;
     bound = bound_in session_new;
-    ran = rw (runs.exports, runs.binds) (one_more {short = short} inputs first unbound has.ran_lines has.replies session.files.items old (bound_in session) line runs.replies.reply new has.ran runs.replies.step);
+    ran = rw (runs.exports, runs.binds) (one_more {given = given} (labelled first unbound) has.ran_lines has.replies session.files.items (labelled old (bound_in session)) line runs.replies.reply new has.ran runs.replies.step);
     printed = prints_more out_first out out_after has.replies (reply_line line runs.replies.reply) has.printed (runs.replies.written.0, runs.replies.written.1);
   }
 
-  pub runs_then : (one other : List ℕ) (a b c : Session) (old mid new : Memory) (out out_mid out_after : Writing W) → RunsOn short contents inputs one a old out b mid out_mid → RunsOn short contents inputs other b mid out_mid c new out_after → RunsOn short contents inputs (one ++ other) a old out c new out_after
+  pub runs_then : (one other : List ℕ) (a b c : Session) (old mid new : Memory) (out out_mid out_after : Writing W) → RunsOn given one (live_state a old) (live_state b mid) (output contents out out_mid) → RunsOn given other (live_state b mid) (live_state c new) (output contents out_mid out_after) → RunsOn given (one ++ other) (live_state a old) (live_state c new) (output contents out out_after)
   runs_then one other a b c old mid new out out_mid out_after runs more front first out_first has = rw (← append_assoc) (more (front ++ one) first out_first (runs front first out_first has))
 
-  pub runs_nothing : (session : Session) (old : Memory) (out : Writing W) → RunsOn short contents inputs [] session old out session old out
+  pub runs_nothing : (session : Session) (old : Memory) (out : Writing W) → RunsOn given [] (live_state session old) (live_state session old) (output contents out out)
   runs_nothing session old out front first out_first has = rw append-nil has
 
   -- ---- a line at which the run ends
 
   pub line_stops_on : (fault : LiveFault) (next text rest : List ℕ) (session session_new : Session) (old new : Memory) (out out_after : Writing W) → lines next ≡ text ∷ [] → lines (next ++ rest) ≡ text ∷ lines rest
-      → LineStops short contents inputs fault text session old out session_new new out_after
-      → (front : List ℕ) (first : Memory) (out_first : Writing W) → HasRun short contents inputs front first out_first session old out → RunStops short contents inputs (front ++ (next ++ rest)) first out_first fault new out_after
+      → LineStops given fault text (live_state session old) (live_state session_new new) (output contents out out_after)
+      → (front : List ℕ) (first : Memory) (out_first : Writing W) → HasRun given front first (live_state session old) (output contents out_first out) → RunStops given (front ++ (next ++ rest)) first new (output contents out_first out_after) fault
   unfolding whole
   line_stops_on (faults.Line fault) next text rest session session_new old new out out_after one cut (read, number, same, same_out) front first out_first has = record {
     front = front;
@@ -205,7 +206,7 @@ module _ {W : Type 0} (short : Type 0) (contents : W → Option (List ℕ)) (inp
       read = one_script front next text session.count (numberings session.labels) (numberings session_new.labels) has.ran_lines line has.goes_on one read;
       replies = has.replies ++ reply_line line replies.reply;
       bound = bound_after (bound_in session) line replies.reply;
-      ran = one_more {short = short} inputs first unbound has.ran_lines has.replies session.files.items old (bound_in session) line replies.reply new has.ran replies.step;
+      ran = one_more {given = given} (labelled first unbound) has.ran_lines has.replies session.files.items (labelled old (bound_in session)) line replies.reply new has.ran replies.step;
       printed = prints_more out_first out out_after has.replies (reply_line line replies.reply) has.printed (replies.written.0, replies.written.1);
     };
     by = (wanted, refl, refl);
@@ -234,14 +235,14 @@ module _ {W : Type 0} (short : Type 0) (contents : W → Option (List ℕ)) (inp
 
   -- ---- the last line
 
-  pub last_stops_on : (fault : LiveFault) (text : List ℕ) (session session_new : Session) (old new : Memory) (out out_after : Writing W) → lines text ≡ text ∷ [] → LineStops short contents inputs fault text session old out session_new new out_after
-      → StopsAt short contents inputs fault text session old out new out_after
+  pub last_stops_on : (fault : LiveFault) (text : List ℕ) (session session_new : Session) (old new : Memory) (out out_after : Writing W) → lines text ≡ text ∷ [] → LineStops given fault text (live_state session old) (live_state session_new new) (output contents out out_after)
+      → StopsAt given fault text (live_state session old) new (output contents out out_after)
   last_stops_on fault text session session_new old new out out_after one stops front first out_first has =
       rw append-nil at (line_stops_on fault text text [] session session_new old new out out_after one (rw append-nil one) stops front first out_first has)
 
   -- ---- a flush
 
-  pub then_flushed : (front : List ℕ) (first : Memory) (out_first : Writing W) (session : Session) (new : Memory) (out out_after : Writing W) → HasRun short contents inputs front first out_first session new out → Flushes contents out out_after true → HasRun short contents inputs front first out_first session new out_after
+  pub then_flushed : (front : List ℕ) (first : Memory) (out_first : Writing W) (session : Session) (new : Memory) (out out_after : Writing W) → HasRun given front first (live_state session new) (output contents out_first out) → Flushes contents out out_after true → HasRun given front first (live_state session new) (output contents out_first out_after)
   then_flushed front first out_first session new out out_after has flush = record {
     whole = has.whole;
     counted = has.counted;
@@ -252,7 +253,7 @@ module _ {W : Type 0} (short : Type 0) (contents : W → Option (List ℕ)) (inp
     printed = (Appends-kept _ _ _ has.replies has.printed.0 flush.bytes, flush.faults ∙ has.printed.1);
   }
 
-  pub text_flushed : (text : List ℕ) (first : Memory) (out_first : Writing W) (new : Memory) (out out_after : Writing W) (files : List (List ℕ)) → RunsText short contents inputs text first out_first new out files → Flushes contents out out_after true → RunsText short contents inputs text first out_first new out_after files
+  pub text_flushed : (text : List ℕ) (first : Memory) (out_first : Writing W) (new : Memory) (out out_after : Writing W) (files : List (List ℕ)) → RunsText given text first new (output contents out_first out) files → Flushes contents out out_after true → RunsText given text first new (output contents out_first out_after) files
   text_flushed text first out_first new out out_after files runs flush = record {
     ran_lines = runs.ran_lines;
     read = runs.read;
@@ -263,7 +264,7 @@ module _ {W : Type 0} (short : Type 0) (contents : W → Option (List ℕ)) (inp
   }
 
   -- a flush after the lines of a text that failed
-  pub flush_stops : (front : List ℕ) (first : Memory) (out_first : Writing W) (session : Session) (new : Memory) (out out_after : Writing W) → HasRun short contents inputs front first out_first session new out → Flushes contents out out_after false → (more : List ℕ) → RunStops short contents inputs (front ++ more) first out_first faults.Write new out_after
+  pub flush_stops : (front : List ℕ) (first : Memory) (out_first : Writing W) (session : Session) (new : Memory) (out out_after : Writing W) → HasRun given front first (live_state session new) (output contents out_first out) → Flushes contents out out_after false → (more : List ℕ) → RunStops given (front ++ more) first new (output contents out_first out_after) faults.Write
   flush_stops front first out_first session new out out_after has flush more = record {
     front = front;
     rest = more;
@@ -277,7 +278,7 @@ module _ {W : Type 0} (short : Type 0) (contents : W → Option (List ℕ)) (inp
   }
 
   -- the last flush
-  pub last_flush_stops : (text : List ℕ) (first : Memory) (out_first : Writing W) (new : Memory) (out out_after : Writing W) (files : List (List ℕ)) → RunsText short contents inputs text first out_first new out files → Flushes contents out out_after false → RunStops short contents inputs text first out_first faults.Write new out_after
+  pub last_flush_stops : (text : List ℕ) (first : Memory) (out_first : Writing W) (new : Memory) (out out_after : Writing W) (files : List (List ℕ)) → RunsText given text first new (output contents out_first out) files → Flushes contents out out_after false → RunStops given text first new (output contents out_first out_after) faults.Write
   last_flush_stops text first out_first new out out_after files runs flush = record {
     front = text;
     rest = [];
@@ -292,7 +293,7 @@ module _ {W : Type 0} (short : Type 0) (contents : W → Option (List ℕ)) (inp
 
   -- ---- a script that can't be read further
 
-  pub read_fails : (fault : InputFault) (end : LiveFault) (front : List ℕ) (first : Memory) (out_first : Writing W) (session : Session) (new : Memory) (out : Writing W) → IsReadFault fault end → (fault ≡ InputMemory → short) → HasRun short contents inputs front first out_first session new out → (more : List ℕ) → RunStops short contents inputs (front ++ more) first out_first end new out
+  pub read_fails : (fault : InputFault) (end : LiveFault) (front : List ℕ) (first : Memory) (out_first : Writing W) (session : Session) (new : Memory) (out : Writing W) → IsReadFault fault end → (fault ≡ InputMemory → given.short) → HasRun given front first (live_state session new) (output contents out_first out) → (more : List ℕ) → RunStops given (front ++ more) first new (output contents out_first out) end
   read_fails fault (faults.Line other) front first out_first session new out is wanted has more = absurd is
   read_fails fault (faults.Input other) front first out_first session new out is wanted has more = record {
     front = front;
@@ -319,7 +320,7 @@ module _ {W : Type 0} (short : Type 0) (contents : W → Option (List ℕ)) (inp
   read_fails fault faults.Write front first out_first session new out is wanted has more = absurd is
 
   -- no memory for the first read
-  no_lines : (script : List ℕ) (old : Memory) (out : Writing W) → short → RunStops short contents inputs script old out faults.Memory old out
+  no_lines : (script : List ℕ) (old : Memory) (out : Writing W) → given.short → RunStops given script old old (output contents out out) faults.Memory
   no_lines script old out wanted = record {
     front = [];
     rest = script;
@@ -339,69 +340,69 @@ module _ {W : Type 0} (short : Type 0) (contents : W → Option (List ℕ)) (inp
     by = (wanted, refl, refl);
   }
 
-  pub nothing_read : (known : Option (List ℕ)) (old : Memory) (out : Writing W) → short → ReadStops short contents inputs known old out faults.Memory old out
+  pub nothing_read : (known : Option (List ℕ)) (old : Memory) (out : Writing W) → given.short → ReadStops given known old old (output contents out out) faults.Memory
   nothing_read None old out wanted = ([], tt, no_lines [] old out wanted)
   nothing_read (Some all) old out wanted = (all, refl, no_lines all old out wanted)
 
   -- ---- the bytes of a reader
 
-  pub stops_read : (known left : Option (List ℕ)) (text : List ℕ) (fault : LiveFault) (old : Memory) (out : Writing W) (new : Memory) (out_after : Writing W) → Keeps known (prepend_known text left) → ((more : List ℕ) → RunStops short contents inputs (text ++ more) old out fault new out_after)
-      → ReadStops short contents inputs known old out fault new out_after
+  pub stops_read : (known left : Option (List ℕ)) (text : List ℕ) (fault : LiveFault) (old : Memory) (out : Writing W) (new : Memory) (out_after : Writing W) → Keeps known (prepend_known text left) → ((more : List ℕ) → RunStops given (text ++ more) old new (output contents out out_after) fault)
+      → ReadStops given known old new (output contents out out_after) fault
   stops_read None left text fault old out new out_after kept stops = (text ++ [], tt, stops [])
   stops_read (Some all) None text fault old out new out_after kept stops = absurd kept
   stops_read (Some all) (Some rest) text fault old out new out_after kept stops = (text ++ rest, sym kept, stops rest)
 
-  pub stops_read_at_end : (known left : Option (List ℕ)) (text : List ℕ) (fault : LiveFault) (old : Memory) (out : Writing W) (new : Memory) (out_after : Writing W) → Keeps known (prepend_known text left) → IsAtEnd left → RunStops short contents inputs text old out fault new out_after
-      → ReadStops short contents inputs known old out fault new out_after
+  pub stops_read_at_end : (known left : Option (List ℕ)) (text : List ℕ) (fault : LiveFault) (old : Memory) (out : Writing W) (new : Memory) (out_after : Writing W) → Keeps known (prepend_known text left) → IsAtEnd left → RunStops given text old new (output contents out out_after) fault
+      → ReadStops given known old new (output contents out out_after) fault
   stops_read_at_end None left text fault old out new out_after kept end stops = (text, tt, stops)
   stops_read_at_end (Some all) None text fault old out new out_after kept end stops = absurd kept
   stops_read_at_end (Some all) (Some rest) text fault old out new out_after kept end stops = (text, sym kept ∙ ap (λ l. text ++ l) end ∙ append-nil text, stops)
 
   -- ---- places in a text that grows
 
-  pub reads_on : (at n : ℕ) (text more given : List ℕ) (first : Memory) (out_first : Writing W) (session session_new : Session) (old new : Memory) (out out_after : Writing W) → at ≤ length text → StartsWith more text → HasRun short contents inputs (take at text) first out_first session old out
-      → RunsOn short contents inputs (take n given) session old out session_new new out_after → given ≡ drop at more → HasRun short contents inputs (take (at + n) more) first out_first session_new new out_after
-  reads_on at n text more given first out_first session session_new old new out out_after within starts has runs same =
-      let parts : take at more ++ take n given ≡ take (at + n) more = ap (λ t. take at more ++ take n t) same ∙ sym (take-add at n more) in
-      subst (λ t. HasRun short contents inputs t first out_first session_new new out_after) parts (runs (take at more) first out_first (subst (λ t. HasRun short contents inputs t first out_first session old out) (front_stays at text more within starts) has))
+  pub reads_on : (at n : ℕ) (text more part : List ℕ) (first : Memory) (out_first : Writing W) (session session_new : Session) (old new : Memory) (out out_after : Writing W) → at ≤ length text → StartsWith more text → HasRun given (take at text) first (live_state session old) (output contents out_first out)
+      → RunsOn given (take n part) (live_state session old) (live_state session_new new) (output contents out out_after) → part ≡ drop at more → HasRun given (take (at + n) more) first (live_state session_new new) (output contents out_first out_after)
+  reads_on at n text more part first out_first session session_new old new out out_after within starts has runs same =
+      let parts : take at more ++ take n part ≡ take (at + n) more = ap (λ t. take at more ++ take n t) same ∙ sym (take-add at n more) in
+      subst (λ t. HasRun given t first (live_state session_new new) (output contents out_first out_after)) parts (runs (take at more) first out_first (subst (λ t. HasRun given t first (live_state session old) (output contents out_first out)) (front_stays at text more within starts) has))
 
-  pub stops_at : (at : ℕ) (text more given : List ℕ) (fault : LiveFault) (first : Memory) (out_first : Writing W) (session : Session) (old new : Memory) (out out_after : Writing W) → at ≤ length text → StartsWith more text → HasRun short contents inputs (take at text) first out_first session old out
-      → StopsOn short contents inputs fault given session old out new out_after → given ≡ drop at more → (rest : List ℕ) → RunStops short contents inputs (more ++ rest) first out_first fault new out_after
-  stops_at at text more given fault first out_first session old new out out_after within starts has stops same rest =
-      let parts : take at more ++ (given ++ rest) ≡ more ++ rest = ap (λ t. take at more ++ (t ++ rest)) same ∙ cut_at at more rest in
-      subst (λ t. RunStops short contents inputs t first out_first fault new out_after) parts (stops (take at more) first out_first (subst (λ t. HasRun short contents inputs t first out_first session old out) (front_stays at text more within starts) has) rest)
+  pub stops_at : (at : ℕ) (text more part : List ℕ) (fault : LiveFault) (first : Memory) (out_first : Writing W) (session : Session) (old new : Memory) (out out_after : Writing W) → at ≤ length text → StartsWith more text → HasRun given (take at text) first (live_state session old) (output contents out_first out)
+      → StopsOn given fault part (live_state session old) new (output contents out out_after) → part ≡ drop at more → (rest : List ℕ) → RunStops given (more ++ rest) first new (output contents out_first out_after) fault
+  stops_at at text more part fault first out_first session old new out out_after within starts has stops same rest =
+      let parts : take at more ++ (part ++ rest) ≡ more ++ rest = ap (λ t. take at more ++ (t ++ rest)) same ∙ cut_at at more rest in
+      subst (λ t. RunStops given t first new (output contents out_first out_after) fault) parts (stops (take at more) first out_first (subst (λ t. HasRun given t first (live_state session old) (output contents out_first out)) (front_stays at text more within starts) has) rest)
 
-  pub read_fails_at : (at : ℕ) (text : List ℕ) (fault : InputFault) (end : LiveFault) (first : Memory) (out_first : Writing W) (session : Session) (new : Memory) (out : Writing W) → IsReadFault fault end → (fault ≡ InputMemory → short) → HasRun short contents inputs (take at text) first out_first session new out → (rest : List ℕ) → RunStops short contents inputs (text ++ rest) first out_first end new out
+  pub read_fails_at : (at : ℕ) (text : List ℕ) (fault : InputFault) (end : LiveFault) (first : Memory) (out_first : Writing W) (session : Session) (new : Memory) (out : Writing W) → IsReadFault fault end → (fault ≡ InputMemory → given.short) → HasRun given (take at text) first (live_state session new) (output contents out_first out) → (rest : List ℕ) → RunStops given (text ++ rest) first new (output contents out_first out) end
   read_fails_at at text fault end first out_first session new out is wanted has rest =
-      subst (λ t. RunStops short contents inputs t first out_first end new out) (cut_at at text rest) (read_fails fault end (take at text) first out_first session new out is wanted has (drop at text ++ rest))
+      subst (λ t. RunStops given t first new (output contents out_first out) end) (cut_at at text rest) (read_fails fault end (take at text) first out_first session new out is wanted has (drop at text ++ rest))
 
-  pub flush_stops_at : (at : ℕ) (text : List ℕ) (first : Memory) (out_first : Writing W) (session : Session) (new : Memory) (out out_after : Writing W) → HasRun short contents inputs (take at text) first out_first session new out → Flushes contents out out_after false → (rest : List ℕ) → RunStops short contents inputs (text ++ rest) first out_first faults.Write new out_after
+  pub flush_stops_at : (at : ℕ) (text : List ℕ) (first : Memory) (out_first : Writing W) (session : Session) (new : Memory) (out out_after : Writing W) → HasRun given (take at text) first (live_state session new) (output contents out_first out) → Flushes contents out out_after false → (rest : List ℕ) → RunStops given (text ++ rest) first new (output contents out_first out_after) faults.Write
   flush_stops_at at text first out_first session new out out_after has flush rest =
-      subst (λ t. RunStops short contents inputs t first out_first faults.Write new out_after) (cut_at at text rest) (flush_stops (take at text) first out_first session new out out_after has flush (drop at text ++ rest))
+      subst (λ t. RunStops given t first new (output contents out_first out_after) faults.Write) (cut_at at text rest) (flush_stops (take at text) first out_first session new out out_after has flush (drop at text ++ rest))
 
-  pub ends_at : (at : ℕ) (text given : List ℕ) (first : Memory) (out_first : Writing W) (session session_new : Session) (old new : Memory) (out out_after : Writing W) → HasRun short contents inputs (take at text) first out_first session old out → EndsOn short contents inputs given session old out session_new new out_after → given ≡ drop at text → RunsText short contents inputs text first out_first new out_after session_new.files.items
-  ends_at at text given first out_first session session_new old new out out_after has ends same =
-      subst (λ t. RunsText short contents inputs t first out_first new out_after session_new.files.items) (ap (λ t. take at text ++ t) same ∙ take-append-drop at text) (ends (take at text) first out_first has)
+  pub ends_at : (at : ℕ) (text part : List ℕ) (first : Memory) (out_first : Writing W) (session session_new : Session) (old new : Memory) (out out_after : Writing W) → HasRun given (take at text) first (live_state session old) (output contents out_first out) → EndsOn given part (live_state session old) (live_state session_new new) (output contents out out_after) → part ≡ drop at text → RunsText given text first new (output contents out_first out_after) session_new.files.items
+  ends_at at text part first out_first session session_new old new out out_after has ends same =
+      subst (λ t. RunsText given t first new (output contents out_first out_after) session_new.files.items) (ap (λ t. take at text ++ t) same ∙ take-append-drop at text) (ends (take at text) first out_first has)
 
-  pub last_stops_at : (at : ℕ) (text given : List ℕ) (fault : LiveFault) (first : Memory) (out_first : Writing W) (session : Session) (old new : Memory) (out out_after : Writing W) → HasRun short contents inputs (take at text) first out_first session old out → StopsAt short contents inputs fault given session old out new out_after → given ≡ drop at text → RunStops short contents inputs text first out_first fault new out_after
-  last_stops_at at text given fault first out_first session old new out out_after has stops same =
-      subst (λ t. RunStops short contents inputs t first out_first fault new out_after) (ap (λ t. take at text ++ t) same ∙ take-append-drop at text) (stops (take at text) first out_first has)
+  pub last_stops_at : (at : ℕ) (text part : List ℕ) (fault : LiveFault) (first : Memory) (out_first : Writing W) (session : Session) (old new : Memory) (out out_after : Writing W) → HasRun given (take at text) first (live_state session old) (output contents out_first out) → StopsAt given fault part (live_state session old) new (output contents out out_after) → part ≡ drop at text → RunStops given text first new (output contents out_first out_after) fault
+  last_stops_at at text part fault first out_first session old new out out_after has stops same =
+      subst (λ t. RunStops given t first new (output contents out_first out_after) fault) (ap (λ t. take at text ++ t) same ∙ take-append-drop at text) (stops (take at text) first out_first has)
 
   -- lines of a text after others of it
-  pub runs_further : (front next text : List ℕ) (a b c : Session) (old mid new : Memory) (out out_mid out_after : Writing W) → RunsOn short contents inputs front a old out b mid out_mid → ((more : List ℕ) → lines (next ++ more) ≡ text ∷ lines more) → c.count ≡ b.count + 1
-      → ReadsLine short contents inputs text b mid out_mid c new out_after → RunsOn short contents inputs (front ++ next) a old out c new out_after
+  pub runs_further : (front next text : List ℕ) (a b c : Session) (old mid new : Memory) (out out_mid out_after : Writing W) → RunsOn given front (live_state a old) (live_state b mid) (output contents out out_mid) → ((more : List ℕ) → lines (next ++ more) ≡ text ∷ lines more) → c.count ≡ b.count + 1
+      → ReadsLine given text (live_state b mid) (live_state c new) (output contents out_mid out_after) → RunsOn given (front ++ next) (live_state a old) (live_state c new) (output contents out out_after)
   runs_further front next text a b c old mid new out out_mid out_after runs ended count reads = runs_then front next a b c old mid new out out_mid out_after runs (line_runs_on next text b c mid new out_mid out_after ended count reads)
 
   -- the lines of a text before its last line, which no line feed ends
-  pub runs_taken : (n : ℕ) (text front rest : List ℕ) (a b : Session) (old new : Memory) (out out_after : Writing W) → RunsOn short contents inputs front a old out b new out_after → text ≡ front ++ rest → n + length rest ≡ length text → RunsOn short contents inputs (take n text) a old out b new out_after
+  pub runs_taken : (n : ℕ) (text front rest : List ℕ) (a b : Session) (old new : Memory) (out out_after : Writing W) → RunsOn given front (live_state a old) (live_state b new) (output contents out out_after) → text ≡ front ++ rest → n + length rest ≡ length text → RunsOn given (take n text) (live_state a old) (live_state b new) (output contents out out_after)
   runs_taken n text front rest a b old new out out_after runs parts long =
       let same : take n (front ++ rest) ≡ front = take_at front rest n (omega (arith, long, ap length parts, length-append front rest)) in
-      subst (λ t. RunsOn short contents inputs t a old out b new out_after) (sym (ap (take n) parts ∙ same)) runs
+      subst (λ t. RunsOn given t (live_state a old) (live_state b new) (output contents out out_after)) (sym (ap (take n) parts ∙ same)) runs
 
-  pub stops_further : (fault : LiveFault) (all front next rest text : List ℕ) (a b c : Session) (old mid new : Memory) (out out_mid out_after : Writing W) → all ≡ front ++ (next ++ rest) → RunsOn short contents inputs front a old out b mid out_mid → ((more : List ℕ) → lines (next ++ more) ≡ text ∷ lines more)
-      → LineStops short contents inputs fault text b mid out_mid c new out_after → StopsOn short contents inputs fault all a old out new out_after
+  pub stops_further : (fault : LiveFault) (all front next rest text : List ℕ) (a b c : Session) (old mid new : Memory) (out out_mid out_after : Writing W) → all ≡ front ++ (next ++ rest) → RunsOn given front (live_state a old) (live_state b mid) (output contents out out_mid) → ((more : List ℕ) → lines (next ++ more) ≡ text ∷ lines more)
+      → LineStops given fault text (live_state b mid) (live_state c new) (output contents out_mid out_after) → StopsOn given fault all (live_state a old) new (output contents out out_after)
   stops_further fault all front next rest text a b c old mid new out out_mid out_after parts runs ended stops before first out_first has more =
-      subst (λ t. RunStops short contents inputs t first out_first fault new out_after)
+      subst (λ t. RunStops given t first new (output contents out_first out_after) fault)
       (append_assoc before front (next ++ (rest ++ more)) ∙ ap (λ l. before ++ l) (ap (λ l. front ++ l) (sym (append_assoc next rest more)) ∙ sym (append_assoc front (next ++ rest) more) ∙ ap (λ l. l ++ more) (sym parts)))
       (line_stops_on fault next text (rest ++ more) b c mid new out_mid out_after (alone next text ended) (ended (rest ++ more)) stops (before ++ front) first out_first (runs before first out_first has))
 

@@ -3,6 +3,8 @@
 ghost use Rattle.std.specs.Prelude.{◌≡◌, ◌<◌, [], Err, IfOk, IfErr, IfSome, OnOk, Some, length, true, false};
 ghost use Rattle.std.specs.Io.KnownBytes.{IsAtEnd};
 ghost use Rattle.palm_text.specs.Counted.{Flushes};
+ghost use Rattle.palm_text.specs.Output.{output};
+ghost use Rattle.script_calls.specs.Lines.{setting};
 ghost use Rattle.program_io.specs.Status.{IsOfReading};
 ghost use Rattle.palm_script.specs.Loans.{LoanStays};
 ghost use Rattle.live_scripts.specs.Live.{ReadStops, RunsText};
@@ -48,14 +50,16 @@ pub fn run_read<A: Allowance, R: Read, W: Write>(
     out: &mut Counted<W>,
 ) -> Result<Vec<Bytes>, LiveFault>
     requires none { text.old.items ≡ [] }
-    ensures ok { IfOk result (λ files. RunsText (A.is_short memory.now) W.contents
-        inputs.entry.files.now text.new.items store.old out.old store.new out.new files.items) }
+    ensures ok { IfOk result (λ files. RunsText
+        (setting (A.is_short memory.now) inputs.entry.files.now) text.new.items
+        store.old store.new (output W.contents out.old out.new) files.items) }
     ensures flushed { OnOk result (out.new.flushed ≡ Some true) }
     ensures text { OnOk result (IfSome (R.remaining reader.old) (λ all. text.new.items ≡ all)) }
     ensures end { OnOk result (IsAtEnd (R.remaining reader.new)) }
     ensures stays { LoanStays store.old store.new }
-    ensures fault { IfErr result (λ fault. ReadStops (A.is_short memory.now) W.contents
-        inputs.entry.files.now (R.remaining reader.old) store.old out.old fault store.new out.new) }
+    ensures fault { IfErr result (ReadStops
+        (setting (A.is_short memory.now) inputs.entry.files.now) (R.remaining reader.old)
+        store.old store.new (output W.contents out.old out.new)) }
     ensures too_long { result ≡ Err (LiveFault.Input InputFault.TooLong)
         → IfSome (R.remaining reader.old) (λ all. MOST_INPUT < length all) }
 {

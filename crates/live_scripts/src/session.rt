@@ -7,11 +7,12 @@ ghost use Rattle.program_io.specs.declared.input.InputFault.TheVariants.{TooLong
 ghost use Rattle.script_lines.specs.LineCounts.{byte_count, chunk_label_end, database_label_end};
 ghost use Rattle.script_lines.specs.Numbering.{none_numbered};
 ghost use Rattle.script_lines.specs.Views.{numberings};
-ghost use Rattle.script_calls.specs.Lines.{unbound};
+ghost use Rattle.script_calls.specs.Lines.{labelled, setting, unbound};
 ghost use Rattle.script_lines.specs.Cuts.{IsUnended};
 ghost use Rattle.palm_script.specs.Loans.{LoanStays};
 ghost use Rattle.live_scripts.specs.Sessions.{EndsOn, FailsLine, LineStops, ReadsLine, Replies};
-ghost use Rattle.live_scripts.specs.Sessions.{RunsLine, RunsOn, StopsAt, StopsOn, bound_in};
+ghost use Rattle.live_scripts.specs.Sessions.{RunsLine, RunsOn, StopsAt, StopsOn, bound_in, live_state};
+ghost use Rattle.palm_text.specs.Output.{output};
 
 use crate::fault::LiveFault;
 use crate::live::LiveInputs;
@@ -80,12 +81,15 @@ impl Session {
         out: &mut Counted<W>,
     ) -> Result<(), LiveFault>
         requires few { self.old.count < 2 ^ 63 }
-        ensures ok { OnOk result (ReadsLine (A.is_short memory.now) W.contents inputs.entry.files.now
-            text.now self.old store.old out.old self.new store.new out.new) }
+        ensures ok { OnOk result (ReadsLine (setting (A.is_short memory.now) inputs.entry.files.now)
+            text.now (live_state self.old store.old) (live_state self.new store.new)
+            (output W.contents out.old out.new)) }
         ensures count { OnOk result (self.new.count ≡ self.old.count + 1) }
         ensures stays { LoanStays store.old store.new }
-        ensures fault { IfErr result (λ fault. LineStops (A.is_short memory.now) W.contents
-            inputs.entry.files.now fault text.now self.old store.old out.old self.new store.new out.new) }
+        ensures fault { IfErr result (λ fault. LineStops
+            (setting (A.is_short memory.now) inputs.entry.files.now) fault text.now
+            (live_state self.old store.old) (live_state self.new store.new)
+            (output W.contents out.old out.new)) }
         ensures reads_all { result ≢ Err (LiveFault.Input TooLong) }
     {
         self.count += 1;
@@ -122,18 +126,20 @@ impl Session {
         inputs: &[Bytes],
         out: &mut Counted<W>,
     ) -> Result<(), RunFault>
-        ensures ok { OnOk result (RunsLine (A.is_short memory.now) W.contents inputs.now line.now
-            (bound_in self.old) self.old.files.items store.old out.old self.new store.new out.new) }
+        ensures ok { OnOk result (RunsLine (setting (A.is_short memory.now) inputs.now) line.now
+            (labelled store.old (bound_in self.old)) self.old.files.items
+            (live_state self.new store.new) (output W.contents out.old out.new)) }
         ensures count { self.new.count ≡ self.old.count }
         ensures labels { self.new.labels ≡ self.old.labels }
         ensures stays { LoanStays store.old store.new }
-        ensures write { result ≡ Err RunFault.Write → FailsLine (A.is_short memory.now) W.contents
-            inputs.now line.now (bound_in self.old) store.old out.old store.new out.new }
+        ensures write { result ≡ Err RunFault.Write
+            → FailsLine (setting (A.is_short memory.now) inputs.now) line.now
+            (labelled store.old (bound_in self.old)) store.new (output W.contents out.old out.new) }
         ensures short { result ≡ Err RunFault.OutOfMemory → A.is_short memory.now }
         ensures memory { result ≡ Err RunFault.OutOfMemory
             → ((store.new ≡ store.old) × (out.new ≡ out.old))
-            ⊎ Replies (A.is_short memory.now) W.contents inputs.now line.now (bound_in self.old)
-            store.old out.old store.new out.new }
+            ⊎ Replies (setting (A.is_short memory.now) inputs.now) line.now
+            (labelled store.old (bound_in self.old)) store.new (output W.contents out.old out.new) }
     {
         let Ok(()) = self.make_room(memory, line) else {
             return Err(RunFault::OutOfMemory);
@@ -180,13 +186,16 @@ impl Session {
     ) -> Result<usize, LiveFault>
         requires few { self.old.count + length text.now < 2 ^ 63 }
         ensures within { IfOk result (λ n. n ≤ length text.now) }
-        ensures ok { IfOk result (λ n. RunsOn (A.is_short memory.now) W.contents inputs.entry.files.now
-            (take n text.now) self.old store.old out.old self.new store.new out.new) }
+        ensures ok { IfOk result (λ n. RunsOn
+            (setting (A.is_short memory.now) inputs.entry.files.now) (take n text.now)
+            (live_state self.old store.old) (live_state self.new store.new)
+            (output W.contents out.old out.new)) }
         ensures last { IfOk result (λ n. IsUnended (drop n text.now)) }
         ensures count { IfOk result (λ n. self.new.count ≤ self.old.count + n) }
         ensures stays { LoanStays store.old store.new }
-        ensures fault { IfErr result (λ fault. StopsOn (A.is_short memory.now) W.contents
-            inputs.entry.files.now fault text.now self.old store.old out.old store.new out.new) }
+        ensures fault { IfErr result (λ fault. StopsOn
+            (setting (A.is_short memory.now) inputs.entry.files.now) fault text.now
+            (live_state self.old store.old) store.new (output W.contents out.old out.new)) }
         ensures reads_all { result ≢ Err (LiveFault.Input TooLong) }
     {
         let mut rest = text;
@@ -208,11 +217,13 @@ impl Session {
     ) -> Result<(), LiveFault>
         requires few { self.old.count < 2 ^ 63 }
         requires last { IsUnended text.now }
-        ensures ok { OnOk result (EndsOn (A.is_short memory.now) W.contents inputs.entry.files.now
-            text.now self.old store.old out.old self.new store.new out.new) }
+        ensures ok { OnOk result (EndsOn (setting (A.is_short memory.now) inputs.entry.files.now)
+            text.now (live_state self.old store.old) (live_state self.new store.new)
+            (output W.contents out.old out.new)) }
         ensures stays { LoanStays store.old store.new }
-        ensures fault { IfErr result (λ fault. StopsAt (A.is_short memory.now) W.contents
-            inputs.entry.files.now fault text.now self.old store.old out.old store.new out.new) }
+        ensures fault { IfErr result (λ fault. StopsAt
+            (setting (A.is_short memory.now) inputs.entry.files.now) fault text.now
+            (live_state self.old store.old) store.new (output W.contents out.old out.new)) }
         ensures reads_all { result ≢ Err (LiveFault.Input TooLong) }
     {
         if text.is_empty() {

@@ -74,8 +74,8 @@ pub(crate) fn find(space: &Space, known: &KnownNames, name: Name) -> Result<Foun
     Err(Refusal::InvalidHandle)
 }
 
-/// Finds the chunk of a name, as `find` does. Remembers the name of a fixed chunk, which isn't a
-/// slot's.
+/// Finds the chunk of a name, as `find` does. Remembers a name that isn't a slot's: its chunk is
+/// fixed.
 #[inline(always)]
 pub(crate) fn find_again(
     space: &Space,
@@ -89,11 +89,15 @@ pub(crate) fn find_again(
     ensures refusal { IfErr result (λ refusal. refusal ≡ Refusal.InvalidHandle) }
     ensures remembered { KnowsHeld space.now.bytes known.new }
 {
-    let found = find(space, known, name)?;
-    if found.lock == FIXED_LOCK {
-        known.remember(name);
+    space.holds();
+    if let Some(found) = space.in_slot(name) {
+        return callers(found);
     }
-    Ok(found)
+    if is_fixed(space, known, name) {
+        known.remember(name);
+        return callers(space.chunk(name));
+    }
+    Err(Refusal::InvalidHandle)
 }
 
 /// Finds a chunk whose bytes can be written, as `find_again` does. Refuses a chunk that has no lock

@@ -13,6 +13,7 @@ use Rattle.heap_model.specs.declared.call.Call.TheVariants.{Memory as OnMemory}
 use Rattle.heap_model.specs.declared.call.MemoryCall.TheVariants as calls
 use Rattle.heap_model.specs.declared.refusal.Refusal.TheVariants.{OutOfMemory}
 use Rattle.palm_text.specs.Counted.{Writing, Writes}
+use Rattle.palm_text.specs.Output.{Output, output}
 use Rattle.heap_model.specs.declared.call.Reply.{Reply}
 use Rattle.heap_model.specs.declared.call.Reply.TheVariants.{Data, Refused}
 use Rattle.palm_text.specs.declared.output.WriteFault.{WriteFault}
@@ -20,7 +21,7 @@ use Rattle.script_lines.specs.LineCounts.{is_export}
 use Rattle.script_lines.specs.declared.line.Line.{Line}
 use Rattle.script_lines.specs.declared.line.Line.TheVariants.{Bind, Print, Silent, BindChunk, BindDatabase, Import, Export}
 use Rattle.script_calls.specs.Movement.{Moves}
-use Rattle.script_calls.specs.Lines.{Bindings, BreaksOff, BreaksOffShort, DoesLine, LineStep, Lines, RunsThrough, RunsThroughShort, bound_after, bound_to, bound_to_database, call_of, chunk_in, database_of_reply, exported, reply_line, unbound}
+use Rattle.script_calls.specs.Lines.{Bindings, BreaksOff, BreaksOffShort, DoesLine, Labelled, LineStep, Lines, RunsThrough, RunsThroughShort, Setting, bound_after, bound_to, bound_to_database, call_of, chunk_in, database_of_reply, exported, labelled, reply_line, setting, unbound}
 
 -- ---- the lines up to one of them
 
@@ -70,38 +71,38 @@ none_exported : (files : List (List ℕ)) (answer : Result (Option (List ℕ)) W
 none_exported files (Ok file) e none = e ∙ sym (ap option_to_list none)
 none_exported files (Err fault) e none = tt
 
-pub reads_line : {W short : Type 0} (contents : W → Option (List ℕ)) (inputs : List (List ℕ)) (line : Line) (old : Memory) (bound : Bindings) (out mid after : Writing W) (name : Name) (at count : ℕ) (reply : Reply) (answer : Result (Option (List ℕ)) WriteFault) (printed : Bool) (new : Memory)
-    → call_of inputs bound line ≡ OnMemory (calls.Read name at count) → new ≡ old → DoesInStore new (OnMemory (calls.Read name at count)) reply new → reply ≢ Refused OutOfMemory → chunk_in reply ≡ None → database_of_reply reply ≡ None → Writes contents out mid (reply_line line reply) printed
-    → after ≡ mid → printed ≡ is_ok answer → IfOk answer (λ file. file ≡ None) → DoesLine short contents inputs line old bound out new bound after answer
-reads_line {W} contents inputs line old bound out mid after name at count reply answer printed new e same does wanted chunk database wrote to_after is none = record {
+pub reads_line : {W : Type 0} {given : Setting} (contents : W → Option (List ℕ)) (line : Line) (old : Memory) (bound : Bindings) (out mid after : Writing W) (name : Name) (at count : ℕ) (reply : Reply) (answer : Result (Option (List ℕ)) WriteFault) (printed : Bool) (new : Memory)
+    → call_of given.inputs bound line ≡ OnMemory (calls.Read name at count) → new ≡ old → DoesInStore new (OnMemory (calls.Read name at count)) reply new → reply ≢ Refused OutOfMemory → chunk_in reply ≡ None → database_of_reply reply ≡ None → Writes contents out mid (reply_line line reply) printed
+    → after ≡ mid → printed ≡ is_ok answer → IfOk answer (λ file. file ≡ None) → DoesLine given line (labelled old bound) (labelled new bound) (output contents out after) answer
+reads_line {W} {given} contents line old bound out mid after name at count reply answer printed new e same does wanted chunk database wrote to_after is none = record {
   reply = reply;
   step = record {
-    does = subst (λ (m : Memory). DoesInStore m (call_of inputs bound line) reply new) same (subst (λ (call : Call). DoesInStore new call reply new) (sym e) does);
+    does = subst (λ (m : Memory). DoesInStore m (call_of given.inputs bound line) reply new) same (subst (λ (call : Call). DoesInStore new call reply new) (sym e) does);
     moves = subst (λ (call : Call). Moves old call new) (sym e) tt;
     takes_no_memory = λ may. wanted;
     no_memory = λ refused. absurd (wanted refused);
   };
-  binds = reads_unbound inputs bound line name at count reply e chunk database;
+  binds = reads_unbound given.inputs bound line name at count reply e chunk database;
   written = subst (λ (w : Writing W). Writes contents out w (reply_line line reply) (is_ok answer)) (sym to_after) (subst (λ (b : Bool). Writes contents out mid (reply_line line reply) b) is wrote);
-  file = none_exported (exported line reply) answer (reads_alone inputs bound line name at count reply e) none;
+  file = none_exported (exported line reply) answer (reads_alone given.inputs bound line name at count reply e) none;
 }
 
 -- ---- one line more
 
-pub one_more : {short : Type 0} (inputs : List (List ℕ)) (old : Memory) (bound : Bindings) (lines : List Line) (text : List ℕ) (files : List (List ℕ)) (mid : Memory) (bound_mid : Bindings) (line : Line) (reply : Reply) (new : Memory)
-    → Lines short inputs old bound lines text files mid bound_mid → LineStep short inputs mid bound_mid line reply new
-    → Lines short inputs old bound (lines ++ (line ∷ [])) (text ++ reply_line line reply) (files ++ exported line reply) new (bound_after bound_mid line reply)
-one_more {short} inputs old bound [] text files mid bound_mid line reply new (no_text, no_files, same, unchanged) step = (
+pub one_more : {given : Setting} (old : Labelled) (lines : List Line) (text : List ℕ) (files : List (List ℕ)) (mid : Labelled) (line : Line) (reply : Reply) (new : Memory)
+    → Lines given old lines text files mid → LineStep given mid line reply new
+    → Lines given old (lines ++ (line ∷ [])) (text ++ reply_line line reply) (files ++ exported line reply) (labelled new (bound_after mid.bound line reply))
+one_more {given} old [] text files mid line reply new (no_text, no_files, same, unchanged) step = (
   reply,
   new,
   [],
   [],
-  subst (λ (m : Memory). LineStep short inputs m bound line reply new) same (subst (λ (n : Bindings). LineStep short inputs mid n line reply new) unchanged step),
+  subst (λ (m : Memory). LineStep given (labelled m old.bound) line reply new) same (subst (λ (n : Bindings). LineStep given (labelled mid.region n) line reply new) unchanged step),
   ap (λ t. t ++ reply_line line reply) no_text ∙ sym (append-nil (reply_line line reply)),
   ap (λ f. f ++ exported line reply) no_files ∙ sym (append-nil (exported line reply)),
   (refl, refl, refl, ap (λ (n : Bindings). bound_after n line reply) unchanged),
 )
-one_more {short} inputs old bound (first ∷ lines) text files mid bound_mid line reply new (answer, next, rest, more, before, is, are, tail) step = (
+one_more {given} old (first ∷ lines) text files mid line reply new (answer, next, rest, more, before, is, are, tail) step = (
   answer,
   next,
   rest ++ reply_line line reply,
@@ -109,29 +110,30 @@ one_more {short} inputs old bound (first ∷ lines) text files mid bound_mid lin
   before,
   ap (λ t. t ++ reply_line line reply) is ∙ append_assoc (reply_line first answer) rest (reply_line line reply),
   ap (λ f. f ++ exported line reply) are ∙ append_assoc (exported first answer) more (exported line reply),
-  one_more inputs next (bound_after bound first answer) lines rest more mid bound_mid line reply new tail step,
+  one_more (labelled next (bound_after old.bound first answer)) lines rest more mid line reply new tail step,
 )
 
-pub one_further : {short : Type 0} (inputs : List (List ℕ)) (old : Memory) (bound : Bindings) (lines : List Line) (i : ℕ) (line : Line) (text : List ℕ) (files : List (List ℕ)) (mid : Memory) (bound_mid : Bindings) (reply : Reply) (more : List (List ℕ)) (new : Memory) (bound_new : Bindings)
-    → i < length lines → line ≡ get_or lines i line → Lines short inputs old bound (take i lines) text files mid bound_mid → LineStep short inputs mid bound_mid line reply new → bound_new ≡ bound_after bound_mid line reply → exported line reply ≡ more
-    → Lines short inputs old bound (take (i + 1) lines) (text ++ reply_line line reply) (files ++ more) new bound_new
-one_further inputs old bound lines i line text files mid bound_mid reply more new bound_new within here ran step binds are =
+pub one_further : {given : Setting} (old : Labelled) (lines : List Line) (i : ℕ) (line : Line) (text : List ℕ) (files : List (List ℕ)) (mid : Labelled) (reply : Reply) (more : List (List ℕ)) (new : Labelled)
+    → i < length lines → line ≡ get_or lines i line → Lines given old (take i lines) text files mid → LineStep given mid line reply new.region → new.bound ≡ bound_after mid.bound line reply → exported line reply ≡ more
+    → Lines given old (take (i + 1) lines) (text ++ reply_line line reply) (files ++ more) new
+one_further {given} old lines i line text files mid reply more new within here ran step binds are =
     let to_here : take (i + 1) lines ≡ take i lines ++ (line ∷ []) = take_one lines i line within ∙ ap (λ l. take i lines ++ (l ∷ [])) (sym here) in
-    rw (to_here, binds, ← are) (one_more inputs old bound (take i lines) text files mid bound_mid line reply new ran step)
+    subst (λ (b : Bindings). Lines given old (take (i + 1) lines) (text ++ reply_line line reply) (files ++ more) (labelled new.region b)) (sym binds)
+    (rw (to_here, ← are) (one_more old (take i lines) text files mid line reply new.region ran step))
 
 -- ---- a line whose reply line couldn't be written
 
-pub breaks : {W short : Type 0} (contents : W → Option (List ℕ)) (inputs : List (List ℕ)) (lines : List Line) (old : Memory) (first : Writing W) (i : ℕ) (line : Line) (text : List ℕ) (files : List (List ℕ)) (mid : Memory) (bound : Bindings) (before : Writing W) (new : Memory) (bound_new : Bindings) (after : Writing W) (fault : WriteFault)
-    → i < length lines → line ≡ get_or lines i line → Lines short inputs old unbound (take i lines) text files mid bound → Writes contents first before text true → DoesLine short contents inputs line mid bound before new bound_new after (Err fault)
-    → BreaksOffShort short contents inputs lines old first new after
-breaks contents inputs lines old first i line text files mid bound before new bound_new after fault within here ran all does =
+pub breaks : {W : Type 0} {given : Setting} (contents : W → Option (List ℕ)) (lines : List Line) (old : Memory) (first : Writing W) (i : ℕ) (line : Line) (text : List ℕ) (files : List (List ℕ)) (mid : Labelled) (before : Writing W) (new : Labelled) (after : Writing W) (fault : WriteFault)
+    → i < length lines → line ≡ get_or lines i line → Lines given (labelled old unbound) (take i lines) text files mid → Writes contents first before text true → DoesLine given line mid new (output contents before after) (Err fault)
+    → BreaksOffShort given lines old new.region (output contents first after)
+breaks contents lines old first i line text files mid before new after fault within here ran all does =
     let (n, short, appended) = does.written.0 in
     record {
       count = i;
       text = text;
       files = files;
-      mid = mid;
-      bound = bound;
+      mid = mid.region;
+      bound = mid.bound;
       before = ran;
       line = line;
       found = slice_get-get_or lines i line within ∙ ap Some (sym here);
@@ -146,45 +148,45 @@ breaks contents inputs lines old first i line text files mid bound before new bo
 
 -- ---- all lines
 
-pub all_lines : {W short : Type 0} (contents : W → Option (List ℕ)) (inputs : List (List ℕ)) (lines : List Line) (old : Memory) (first : Writing W) (i : ℕ) (text : List ℕ) (files : List (List ℕ)) (new : Memory) (bound : Bindings) (after : Writing W)
-    → length lines ≤ i → Lines short inputs old unbound (take i lines) text files new bound → Writes contents first after text true → RunsThroughShort short contents inputs lines old first new after files
-all_lines {W} {short} contents inputs lines old first i text files new bound after end ran all = record {
+pub all_lines : {W : Type 0} {given : Setting} (contents : W → Option (List ℕ)) (lines : List Line) (old : Memory) (first : Writing W) (i : ℕ) (text : List ℕ) (files : List (List ℕ)) (new : Labelled) (after : Writing W)
+    → length lines ≤ i → Lines given (labelled old unbound) (take i lines) text files new → Writes contents first after text true → RunsThroughShort given lines old new.region (output contents first after) files
+all_lines {W} {given} contents lines old first i text files new after end ran all = record {
   text = text;
-  after = bound;
-  ran = subst (λ (ls : List Line). Lines short inputs old unbound ls text files new bound) (take_all i lines end) ran;
+  after = new.bound;
+  ran = subst (λ (ls : List Line). Lines given (labelled old unbound) ls text files new) (take_all i lines end) ran;
   written = all;
 }
 
 -- ---- where nothing is known of memory
 
-step_alone : {short : Type 0} (inputs : List (List ℕ)) (old : Memory) (bound : Bindings) (line : Line) (reply : Reply) (new : Memory) → LineStep short inputs old bound line reply new → LineStep (Unit {0}) inputs old bound line reply new
-step_alone inputs old bound line reply new step = record { does = step.does; moves = step.moves; takes_no_memory = step.takes_no_memory; no_memory = λ _. tt }
+step_alone : {given : Setting} (old : Labelled) (line : Line) (reply : Reply) (new : Memory) → LineStep given old line reply new → LineStep (setting (Unit {0}) given.inputs) old line reply new
+step_alone old line reply new step = record { does = step.does; moves = step.moves; takes_no_memory = step.takes_no_memory; no_memory = λ _. tt }
 
-lines_alone : (short : Type 0) (inputs : List (List ℕ)) (old : Memory) (bound : Bindings) (lines : List Line) (text : List ℕ) (files : List (List ℕ)) (new : Memory) (after : Bindings) → Lines short inputs old bound lines text files new after → Lines (Unit {0}) inputs old bound lines text files new after
-lines_alone short inputs old bound [] text files new after ran = ran
-lines_alone short inputs old bound (line ∷ lines) text files new after (reply, mid, rest, more, step, is, are, tail) =
-    (reply, mid, rest, more, step_alone inputs old bound line reply mid step, is, are, lines_alone short inputs mid (bound_after bound line reply) lines rest more new after tail)
+lines_alone : (given : Setting) (old : Labelled) (lines : List Line) (text : List ℕ) (files : List (List ℕ)) (new : Labelled) → Lines given old lines text files new → Lines (setting (Unit {0}) given.inputs) old lines text files new
+lines_alone given old [] text files new ran = ran
+lines_alone given old (line ∷ lines) text files new (reply, mid, rest, more, step, is, are, tail) =
+    (reply, mid, rest, more, step_alone old line reply mid step, is, are, lines_alone given (labelled mid (bound_after old.bound line reply)) lines rest more new tail)
 
-pub runs_alone : {W short : Type 0} (contents : W → Option (List ℕ)) (inputs : List (List ℕ)) (lines : List Line) (old : Memory) (first : Writing W) (new : Memory) (after : Writing W) (files : List (List ℕ)) → RunsThroughShort short contents inputs lines old first new after files → RunsThrough contents inputs lines old first new after files
-runs_alone {W} {short} contents inputs lines old first new after files runs = record {
+pub runs_alone : {W : Type 0} (given : Setting) (lines : List Line) (old new : Memory) (out : Output W) (files : List (List ℕ)) → RunsThroughShort given lines old new out files → RunsThrough given.inputs lines old new out files
+runs_alone given lines old new out files runs = record {
   text = runs.text;
   after = runs.after;
-  ran = lines_alone short inputs old unbound lines runs.text files new runs.after runs.ran;
+  ran = lines_alone given (labelled old unbound) lines runs.text files (labelled new runs.after) runs.ran;
   written = runs.written;
 }
 
-pub breaks_alone : {W short : Type 0} (contents : W → Option (List ℕ)) (inputs : List (List ℕ)) (lines : List Line) (old : Memory) (first : Writing W) (new : Memory) (after : Writing W) → BreaksOffShort short contents inputs lines old first new after → BreaksOff contents inputs lines old first new after
-breaks_alone {W} {short} contents inputs lines old first new after off = record {
+pub breaks_alone : {W : Type 0} (given : Setting) (lines : List Line) (old new : Memory) (out : Output W) → BreaksOffShort given lines old new out → BreaksOff given.inputs lines old new out
+breaks_alone given lines old new out off = record {
   count = off.count;
   text = off.text;
   files = off.files;
   mid = off.mid;
   bound = off.bound;
-  before = lines_alone short inputs old unbound (take off.count lines) off.text off.files off.mid off.bound off.before;
+  before = lines_alone given (labelled old unbound) (take off.count lines) off.text off.files (labelled off.mid off.bound) off.before;
   line = off.line;
   found = off.found;
   reply = off.reply;
-  step = step_alone inputs off.mid off.bound off.line off.reply new off.step;
+  step = step_alone (labelled off.mid off.bound) off.line off.reply new off.step;
   written = off.written;
   within = off.within;
   front = off.front;

@@ -5,9 +5,10 @@ ghost use Rattle.std.specs.Option.{option_to_list};
 ghost use Rattle.script_lines.specs.LineCounts.{byte_count, chunk_label_end, database_label_end};
 ghost use Rattle.heap_model.specs.declared.call.Call.TheVariants as calls;
 ghost use Rattle.heap_model.specs.declared.call.MemoryCall.{MemoryCall};
-ghost use Rattle.script_calls.specs.Lines.{Answers, DoesLine, OnWant, call_of, tables};
+ghost use Rattle.script_calls.specs.Lines.{Answers, DoesLine, OnWant, call_of, labelled, setting, tables};
 ghost use Rattle.script_calls.specs.Lines as words;
 ghost use Rattle.script_calls.specs.Movement.{Moves};
+ghost use Rattle.palm_text.specs.Output.{output};
 
 use crate::calls::do_given;
 use crate::files::{export, import};
@@ -35,9 +36,10 @@ pub fn do_line<A: Allowance, W: Write>(
     requires chunks { chunk_label_end line.now ≤ length names.old }
     requires databases { database_label_end line.now ≤ length databases.old }
     requires bytes { byte_count line.now ≤ length buffer.old }
-    ensures { DoesLine (A.is_short memory.now) W.contents inputs.now line.now
-        store.old (tables names.old databases.old) out.old
-        store.new (tables names.new databases.new) out.new result }
+    ensures { DoesLine (setting (A.is_short memory.now) inputs.now) line.now
+        (labelled store.old (tables names.old databases.old))
+        (labelled store.new (tables names.new databases.new))
+        (output W.contents out.old out.new) result }
 {
     match outcome_of(memory, store, names, databases, buffer, inputs, line) {
         Outcome::Replied(reply) => {

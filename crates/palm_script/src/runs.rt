@@ -4,7 +4,8 @@ ghost use Rattle.std.specs.Prelude.{◌≡◌, ◌≤◌, ◌+◌, ◌++◌, Err
 ghost use Rattle.std.specs.Prelude.{vec_capacity, vec_len};
 ghost use Rattle.std.specs.Option.{option_to_list};
 ghost use Rattle.script_calls.specs.Lines.{BreaksOff, BreaksOffShort, RunsThrough, RunsThroughShort};
-ghost use Rattle.script_calls.specs.Lines.{number_of_nothing, name_of_nothing};
+ghost use Rattle.script_calls.specs.Lines.{number_of_nothing, name_of_nothing, setting};
+ghost use Rattle.palm_text.specs.Output.{output};
 ghost use Rattle.allowance.specs.Refusals.{GrowthRefused};
 ghost use Rattle.palm_script.specs.Loans.{LoanStays};
 
@@ -46,18 +47,20 @@ pub fn run<W: Write>(
     inputs: &[Bytes],
     out: &mut Counted<W>,
 ) -> Result<Vec<Bytes>, RunFault>
-    ensures ok { IfOk result (λ files. RunsThrough W.contents inputs.now script.now
-        store.old out.old store.new out.new files.items) }
-    ensures write { result ≡ Err RunFault.Write → BreaksOff W.contents inputs.now script.now
-        store.old out.old store.new out.new }
+    ensures ok { IfOk result (λ files. RunsThrough inputs.now script.now
+        store.old store.new (output W.contents out.old out.new) files.items) }
+    ensures write { result ≡ Err RunFault.Write → BreaksOff inputs.now script.now
+        store.old store.new (output W.contents out.old out.new) }
     ensures memory { result ≡ Err RunFault.OutOfMemory
         → (store.new ≡ store.old) × (out.new ≡ out.old) }
     ensures no_memory { result ≡ Err RunFault.OutOfMemory → GrowthRefused }
     ensures stays { LoanStays store.old store.new }
-    ensures ok_short { IfOk result (λ files. RunsThroughShort GrowthRefused W.contents
-        inputs.now script.now store.old out.old store.new out.new files.items) }
-    ensures write_short { result ≡ Err RunFault.Write → BreaksOffShort GrowthRefused
-        W.contents inputs.now script.now store.old out.old store.new out.new }
+    ensures ok_short { IfOk result (λ files. RunsThroughShort
+        (setting GrowthRefused inputs.now) script.now
+        store.old store.new (output W.contents out.old out.new) files.items) }
+    ensures write_short { result ≡ Err RunFault.Write → BreaksOffShort
+        (setting GrowthRefused inputs.now) script.now
+        store.old store.new (output W.contents out.old out.new) }
 {
     run_from(&alloc, store, script, inputs, out)
 }
@@ -71,18 +74,20 @@ pub fn run_from<A: Allowance, W: Write>(
     inputs: &[Bytes],
     out: &mut Counted<W>,
 ) -> Result<Vec<Bytes>, RunFault>
-    ensures ok { IfOk result (λ files. RunsThrough W.contents inputs.now script.now
-        store.old out.old store.new out.new files.items) }
-    ensures write { result ≡ Err RunFault.Write → BreaksOff W.contents inputs.now script.now
-        store.old out.old store.new out.new }
+    ensures ok { IfOk result (λ files. RunsThrough inputs.now script.now
+        store.old store.new (output W.contents out.old out.new) files.items) }
+    ensures write { result ≡ Err RunFault.Write → BreaksOff inputs.now script.now
+        store.old store.new (output W.contents out.old out.new) }
     ensures memory { result ≡ Err RunFault.OutOfMemory
         → (store.new ≡ store.old) × (out.new ≡ out.old) }
     ensures no_memory { result ≡ Err RunFault.OutOfMemory → A.is_short memory.now }
     ensures stays { LoanStays store.old store.new }
-    ensures ok_short { IfOk result (λ files. RunsThroughShort (A.is_short memory.now) W.contents
-        inputs.now script.now store.old out.old store.new out.new files.items) }
-    ensures write_short { result ≡ Err RunFault.Write → BreaksOffShort (A.is_short memory.now)
-        W.contents inputs.now script.now store.old out.old store.new out.new }
+    ensures ok_short { IfOk result (λ files. RunsThroughShort
+        (setting (A.is_short memory.now) inputs.now) script.now
+        store.old store.new (output W.contents out.old out.new) files.items) }
+    ensures write_short { result ≡ Err RunFault.Write → BreaksOffShort
+        (setting (A.is_short memory.now) inputs.now) script.now
+        store.old store.new (output W.contents out.old out.new) }
 {
     let Ok(mut names) = unbound_names(memory, script.chunk_label_count()) else {
         return Err(RunFault::OutOfMemory);

@@ -27,6 +27,7 @@ use Rattle.laws_heap.proofs.LentBodies.{some_to}
 use Rattle.mem_manager.specs.Loans.{OnLoan, IsOutUnder, also_out_checks}
 use Rattle.palm_store.specs.Loans as stores
 use Rattle.palm_store.specs.Replies.{DoesMemory, number_or_refused}
+use Rattle.palmheap_c.specs.Buffers.{Buffer}
 use Rattle.palmheap_c.specs.Calls.{DoesInC, DoesAlways, DoesData, as_name}
 use Rattle.palmheap_c.specs.Opened.{Opened}
 use Rattle.palmheap_c.specs.Pointers.{HasBytesOut, HoldsPointers, IsPinned, GivesPointer, LetsLoanGo, LocksAgain, LocksFirst, LocksPointer, RefusesFirst, RefusesPointer, Pointers, CountsPointers, Unlocks, UnlocksLast, UnlocksPointer, WantsEntry, loan_of, locked_times, pinned, pointer_checks}
@@ -194,8 +195,8 @@ calls_keep old new call reply result does holds = elim (cases_eq result 0) [
 pub always_keep : (old new : Opened) (call : Call) (reply : Reply) → DoesAlways old call reply new → HoldsPointers old → HoldsPointers new
 always_keep old new call reply does holds = step_keeps old new call reply does.done does.pointers holds
 
-pub data_keep : (old new : Opened) (call : Call) (before after : List ℕ) (was count result : ℕ) → DoesData old call before after was count result new → HoldsPointers old → HoldsPointers new
-data_keep old new call before after was count result does holds = elim does.0 [
+pub data_keep : (old new : Opened) (call : Call) (before after : Buffer) (result : ℕ) → DoesData old call before after result new → HoldsPointers old → HoldsPointers new
+data_keep old new call before after result does holds = elim does.0 [
   | inl done ↦ step_keeps old new call _ done.1 does.1 holds
   | inr refused ↦ step_keeps old new call _ refused.0.2 does.1 holds
 ]

@@ -18,12 +18,20 @@ pub record PutsBytes (bytes old new : List ℕ) (count : ℕ) (found : Answer) :
   pub counted : count ≡ length bytes
   pub answered : ((found ≡ no_fault) × FillsBuffer bytes old new) ⊎ ((found ≡ no_room) × IsShortBuffer bytes old new)
 
+-- a buffer, and the count that a call sets to the number of its bytes
+pub record Buffer : Type 0 where
+  pub bytes : List ℕ
+  pub count : ℕ
+
+abbrev pub buffer : List ℕ → ℕ → Buffer
+buffer bytes count = record { bytes = bytes; count = count }
+
 -- Bytes with `IsSuch` were written, or the buffer is too short for them. Otherwise the file is
 -- refused, and the buffer and the count are unchanged.
-abbrev pub IsBytesAnswer : (List ℕ → Type 0) → List ℕ → (old new : List ℕ) → (was count : ℕ) → Answer → Type 0
-IsBytesAnswer IsSuch file old new was count found =
-    ((bytes : List ℕ) × IsSuch bytes × PutsBytes bytes old new count found)
-    ⊎ (IsFileRefusal file found × (new ≡ old) × (count ≡ was))
+abbrev pub IsBytesAnswer : (List ℕ → Type 0) → (file : List ℕ) → (old new : Buffer) → Answer → Type 0
+IsBytesAnswer IsSuch file old new found =
+    ((bytes : List ℕ) × IsSuch bytes × PutsBytes bytes old.bytes new.bytes new.count found)
+    ⊎ (IsFileRefusal file found × (new.bytes ≡ old.bytes) × (new.count ≡ old.count))
 
 -- the result of a call whose buffer is too short
 abbrev pub call_no_room : ℕ

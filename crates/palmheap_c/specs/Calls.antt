@@ -11,7 +11,7 @@ use Rattle.heap_model.specs.declared.names.Place.{Place}
 use Rattle.heap_model.specs.declared.names.Which.{Which}
 use Rattle.heap_model.specs.declared.names.Which.TheVariants.{App, Sort}
 use Rattle.heap_model.specs.declared.refusal.Refusal.{Refusal}
-use Rattle.palmheap_c.specs.Buffers.{PutsCoded}
+use Rattle.palmheap_c.specs.Buffers.{Buffer, PutsCoded}
 use Rattle.palmheap_c.specs.Opened.{Opened}
 
 -- ---- numbers of C
@@ -49,8 +49,8 @@ pub record DoesAlways (old : Opened) (call : Call) (reply : Reply) (new : Opened
 -- A call that returns bytes did its step, and the buffer got the bytes or is too short for them.
 -- Otherwise the call was refused, and the buffer and the count are unchanged. The same pointers are
 -- out, and the bytes at them are the same.
-abbrev pub DoesData : Opened → Call → (before after : List ℕ) → (was count : ℕ) → ℕ → Opened → Type 0
-DoesData old call before after was count result new =
-    (((bytes : List ℕ) × DoesInStore old.memory call (Data bytes) new.memory × PutsCoded bytes before after count result)
-    ⊎ (IsRefused old.memory call result new.memory × (after ≡ before) × (count ≡ was)))
+abbrev pub DoesData : Opened → Call → (before after : Buffer) → (result : ℕ) → Opened → Type 0
+DoesData old call before after result new =
+    (((bytes : List ℕ) × DoesInStore old.memory call (Data bytes) new.memory × PutsCoded bytes before.bytes after.bytes after.count result)
+    ⊎ (IsRefused old.memory call result new.memory × (after.bytes ≡ before.bytes) × (after.count ≡ before.count)))
     × (new.pointers ≡ old.pointers)

@@ -9,10 +9,11 @@ use Rattle.script_lines.specs.declared.fault.LineFault.{LineFault}
 use Rattle.script_lines.specs.declared.fault.ScriptFault.{ScriptFault}
 use Rattle.script_lines.specs.declared.fault.ScriptFault.TheVariants.{UnknownCommand, WrongCount, BadWord, OutOfMemory}
 use Rattle.script_lines.specs.declared.line.Line.{Line}
-use Rattle.script_calls.specs.Lines.{Bindings, Lines, unbound}
+use Rattle.script_calls.specs.Lines.{Bindings, Lines, labelled, setting, unbound}
 use Rattle.palmheap_c.specs.Answers.{IsImageFault, IsMemoryAnswer, answer, no_fault, memory_answer, no_room}
 use Rattle.palmheap_c.specs.Buffers.{FillsBuffer}
 use Rattle.palmheap_c.specs.declared.answers.Answer.{Answer}
+use Rattle.palmheap_c.specs.declared.results.Results.{Results}
 use Rattle.palmheap_c.specs.declared.results.Sizes.{Sizes}
 
 -- ---- a run
@@ -29,7 +30,7 @@ pub record Ran (image script : List ℕ) (inputs : List (List ℕ)) (image_after
   pub whole : region.lents ≡ []
   pub before : Accepted image
   pub read : read_script script ≡ Ok lines
-  pub ran : Lines GrowthRefused inputs region unbound lines text files region_after bound
+  pub ran : Lines (setting GrowthRefused inputs) (labelled region unbound) lines text files (labelled region_after bound)
   pub after_is : region_after.bytes ≡ image_after
   pub accepted : Accepted image_after
   pub len : length image_after ≡ length image
@@ -43,13 +44,13 @@ abbrev pub ends_from : ℕ → List (List ℕ) → List ℕ
 ends_from start [] = []
 ends_from start (file ∷ files) = (start + length file) ∷ ends_from (start + length file) files
 
--- A script was run. These are the new image, the reply lines, the files one after the other, and
--- where each of them ends.
-pub record HasResults (image script : List ℕ) (inputs : List (List ℕ)) (image_after text all ends : List ℕ) : Type 0 where
+-- A script was run. This is the new image, and the results are the reply lines, the files one after
+-- the other, and where each of them ends.
+pub record HasResults (image script : List ℕ) (inputs : List (List ℕ)) (image_after : List ℕ) (results : Results) : Type 0 where
   pub files : List (List ℕ)
-  pub ran : Ran image script inputs image_after text files
-  pub all_is : all ≡ joined files
-  pub ends_are : ends ≡ ends_from 0 files
+  pub ran : Ran image script inputs image_after results.text.items files
+  pub all_is : results.files.items ≡ joined files
+  pub ends_are : results.ends.items ≡ ends_from 0 files
 
 -- ---- faults of a script
 
@@ -85,16 +86,17 @@ pub record HasSizes (text : List ℕ) (files : List (List ℕ)) (sizes : Sizes) 
   pub exported : sizes.exported ≡ length (joined files)
   pub files_are : sizes.files ≡ length files
 
--- the memory of the caller that a run writes to, but for the sizes
+-- the memory of the caller that a run writes to
 pub record Written : Type 0 where
   pub image : List ℕ
   pub printed : List ℕ
   pub exported : List ℕ
   pub ends : List ℕ
+  pub sizes : Sizes
 
--- the memory that these four parts make
-abbrev pub written : (image printed exported ends : List ℕ) → Written
-written image printed exported ends = record { image = image; printed = printed; exported = exported; ends = ends }
+-- the memory that these five parts make
+abbrev pub written : (image printed exported ends : List ℕ) → Sizes → Written
+written image printed exported ends sizes = record { image = image; printed = printed; exported = exported; ends = ends; sizes = sizes }
 
 -- a buffer is too short for results of these sizes
 abbrev pub AreShortBuffers : Sizes → (printed exported ends : List ℕ) → Type 0
@@ -102,14 +104,14 @@ AreShortBuffers sizes printed exported ends = (length printed < sizes.printed) �
 
 -- The script was run on the image in place. The buffers begin with its reply lines, with its files
 -- one after the other, and with where each of them ends.
-pub record RunsInPlace (script : List ℕ) (inputs : List (List ℕ)) (old new : Written) (sizes : Sizes) : Type 0 where
+pub record RunsInPlace (script : List ℕ) (inputs : List (List ℕ)) (old new : Written) : Type 0 where
   pub text : List ℕ
   pub files : List (List ℕ)
   pub ran : Ran old.image script inputs new.image text files
   pub printed_is : FillsBuffer text old.printed new.printed
   pub exported_is : FillsBuffer (joined files) old.exported new.exported
   pub ends_are : FillsBuffer (ends_from 0 files) old.ends new.ends
-  pub sizes_are : HasSizes text files sizes
+  pub sizes_are : HasSizes text files new.sizes
 
 -- The script was run on a copy of the image, and its results have these sizes. A buffer is too
 -- short for them.
@@ -125,8 +127,8 @@ pub record RunsShort (script : List ℕ) (inputs : List (List ℕ)) (old : Writt
 -- - The script was run on the image in place.
 -- - A buffer is too short. Only the sizes were written.
 -- - The run was refused. All memory of the caller is unchanged, the sizes too.
-abbrev pub IsRunAnswer : List ℕ → List (List ℕ) → (old new : Written) → (was sizes : Sizes) → Answer → Type 0
-IsRunAnswer script inputs old new was sizes found =
-    ((found ≡ no_fault) × RunsInPlace script inputs old new sizes)
-    ⊎ (((found ≡ no_room) × RunsShort script inputs old sizes × (new ≡ old))
-    ⊎ (IsRunRefusal old.image script found × (new ≡ old) × (sizes ≡ was)))
+abbrev pub IsRunAnswer : (script : List ℕ) → (inputs : List (List ℕ)) → (old new : Written) → Answer → Type 0
+IsRunAnswer script inputs old new found =
+    ((found ≡ no_fault) × RunsInPlace script inputs old new)
+    ⊎ (((found ≡ no_room) × RunsShort script inputs old new.sizes × (new ≡ record old { sizes = new.sizes }))
+    ⊎ (IsRunRefusal old.image script found × (new ≡ old)))

@@ -10,6 +10,7 @@ ghost use Rattle.heap_model.specs.declared.call.FileCall.{FileCall};
 ghost use Rattle.heap_model.specs.declared.call.MemoryCall.{MemoryCall};
 ghost use Rattle.heap_model.specs.declared.call.Reply.{Reply};
 ghost use Rattle.heap_model.specs.declared.refusal.Refusal as refusals;
+ghost use Rattle.palmheap_c.specs.Buffers.{buffer};
 ghost use Rattle.palmheap_c.specs.Calls.{DoesInC, DoesData, as_name, as_db};
 
 use crate::buffers::put_coded;
@@ -34,7 +35,7 @@ pub extern "C" fn palmheap_read(
     len: &mut usize,
 ) -> u32
     ensures does { DoesData store.old.store (calls.Call.Memory (MemoryCall.Read (as_name name) at count))
-        bytes.old bytes.new len.old len.new result store.new.store }
+        (buffer bytes.old len.old) (buffer bytes.new len.new) result store.new.store }
     ensures same { store.new.store ≡ store.old.store }
 {
     match store.as_mut().read(Name(name), at, count) {
@@ -77,7 +78,7 @@ pub extern "C" fn palmheap_export(
     len: &mut usize,
 ) -> u32
     ensures does { DoesData store.old.store (calls.Call.File (FileCall.Export (as_db db)))
-        file.old file.new len.old len.new result store.new.store }
+        (buffer file.old len.old) (buffer file.new len.new) result store.new.store }
     ensures short { result ≡ number_of refusals.Refusal.OutOfMemory → GrowthRefused }
     ensures same { store.new.store ≡ store.old.store }
 {

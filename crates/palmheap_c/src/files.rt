@@ -7,7 +7,7 @@ ghost use Rattle.canonical_file.specs.Canonical.{IsCanonical, most_bytes};
 ghost use Rattle.file_listing.specs.Lines.{IsListing};
 ghost use Rattle.palmheap_c.specs.Answers.{IsFileAnswer, IsFileFault, IsFileRefusal, IsMemoryAnswer};
 ghost use Rattle.palmheap_c.specs.Blocks.{IsBlocksAnswer};
-ghost use Rattle.palmheap_c.specs.Buffers.{IsBytesAnswer};
+ghost use Rattle.palmheap_c.specs.Buffers.{IsBytesAnswer, buffer};
 
 use crate::answers::{Answer, NO_FAULT, NO_MEMORY, NO_ROOM, TOO_LARGE, of_file};
 use crate::blocks::{Block, put_blocks};
@@ -82,7 +82,8 @@ pub extern "C" fn palmheap_canonical(
     canonical: &mut [u8],
     count: &mut usize,
 ) -> Answer
-    ensures { IsBytesAnswer (IsCanonical file.now) file.now canonical.old canonical.new count.old count.new result }
+    ensures { IsBytesAnswer (IsCanonical file.now) file.now
+        (buffer canonical.old count.old) (buffer canonical.new count.new) result }
 {
     match canonical_of(alloc, file) {
         Ok(bytes) => put_bytes(&bytes, canonical, count),
@@ -125,7 +126,8 @@ pub extern "C" fn palmheap_pdb_list(
     text: &mut [u8],
     count: &mut usize,
 ) -> Answer
-    ensures { IsBytesAnswer (IsListing file.now) file.now text.old text.new count.old count.new result }
+    ensures { IsBytesAnswer (IsListing file.now) file.now
+        (buffer text.old count.old) (buffer text.new count.new) result }
 {
     match listing_of(alloc, file) {
         Ok(bytes) => put_bytes(&bytes, text, count),

@@ -34,8 +34,8 @@ pub extern "C" fn palmheap_run(
     sizes: &mut Sizes,
 ) -> Answer
     ensures { IsRunAnswer script.now (map (λ file. file.now) files.now)
-        (written image.old printed.old exported.old exported_ends.old)
-        (written image.new printed.new exported.new exported_ends.new) sizes.old sizes.new result }
+        (written image.old printed.old exported.old exported_ends.old sizes.old)
+        (written image.new printed.new exported.new exported_ends.new sizes.new) result }
 {
     let (after, results) = match results_of(alloc, image, script, files) {
         Ok(done) => done,
@@ -59,7 +59,7 @@ fn results_of(
 ) -> Result<(Region, Results), Answer>
     ensures ran { IfOk result (λ done.
         HasResults image.now script.now (map (λ file. file.now) files.now)
-        done.0.bytes done.1.text.items done.1.files.items done.1.ends.items) }
+        done.0.bytes done.1) }
     ensures whole { IfOk result (λ done. done.0.lents ≡ []) }
     ensures refused { IfErr result (IsRunRefusal image.now script.now) }
 {

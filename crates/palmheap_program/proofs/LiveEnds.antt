@@ -14,14 +14,16 @@ use Rattle.program_io.specs.declared.status.Status.{Status}
 use Rattle.program_io.specs.declared.status.Status.TheVariants.{Refused, WriteFault, NoMemory}
 use Rattle.palmheap_program.specs.declared.live_command.LiveEnd.{LiveEnd}
 use Rattle.palmheap_program.specs.declared.live_command.LiveEnd.TheVariants as ends
-use Rattle.palmheap_program.specs.LiveRuns.{EndsAtLine, EndsEarlyLive, EndsLive, EndsLiveBy, LiveBreaksOff, PutsLiveRefusal, LiveRunWantsMemory}
-use Rattle.palm_text.specs.Output.{output}
+use Rattle.palmheap_program.specs.LiveRuns.{EndsAtLine, EndsEarlyLive, EndsLive, EndsLiveBy, LiveBreaksOff, LiveText, PutsLiveRefusal, LiveRunWantsMemory}
+use Rattle.palm_text.specs.Output.{Output, output}
+use Rattle.palmheap_program.specs.Runs.{run_outputs}
+use Rattle.script_calls.specs.Lines.{Setting}
 
-module _ {W V : Type 0} (short : Type 0) (region : Memory) (known : Option (List ℕ)) (script : List ℕ) (inputs : List (List ℕ)) (contents : V → Option (List ℕ)) (old new : Writing V) (image_contents : W → Option (List ℕ)) (image_old image_new : Writing W) where
+module _ {W V : Type 0} (given : Setting) (region : Memory) (script : LiveText) (contents : V → Option (List ℕ)) (old new : Writing V) (image_contents : W → Option (List ℕ)) (image_old image_new : Writing W) where
   abbrev By : Status → Type 0
-  By status = EndsLiveBy short region known script inputs (output contents old new) (output image_contents image_old image_new) status
+  By status = EndsLiveBy given region script (run_outputs (output contents old new) (output image_contents image_old image_new)) status
 
-  by_refused : (status : Status) → status ≡ Refused → PutsLiveRefusal short region known inputs (output contents old new) true → image_new ≡ image_old → By status
+  by_refused : (status : Status) → status ≡ Refused → PutsLiveRefusal given region script.known (output contents old new) true → image_new ≡ image_old → By status
   by_refused status is puts same = record {
     refused = λ _. puts;
     write_fault = λ e. absurd cc;
@@ -32,7 +34,7 @@ module _ {W V : Type 0} (short : Type 0) (region : Memory) (known : Option (List
     reads_all = λ e. cc;
   }
 
-  pub by_write : (status : Status) → status ≡ WriteFault → LiveBreaksOff short region known script inputs (output contents old new) (output image_contents image_old image_new) → By status
+  pub by_write : (status : Status) → status ≡ WriteFault → LiveBreaksOff given region script (run_outputs (output contents old new) (output image_contents image_old image_new)) → By status
   by_write status is off = record {
     refused = λ e. absurd cc;
     write_fault = λ _. off;
@@ -43,7 +45,7 @@ module _ {W V : Type 0} (short : Type 0) (region : Memory) (known : Option (List
     reads_all = λ e. cc;
   }
 
-  pub by_memory : (status : Status) → status ≡ NoMemory → short → LiveRunWantsMemory short region known inputs (output contents old new) → image_new ≡ image_old → By status
+  pub by_memory : (status : Status) → status ≡ NoMemory → given.short → LiveRunWantsMemory given region script.known (output contents old new) → image_new ≡ image_old → By status
   by_memory status is wanted wants same = record {
     refused = λ e. absurd cc;
     write_fault = λ e. absurd cc;
@@ -56,14 +58,14 @@ module _ {W V : Type 0} (short : Type 0) (region : Memory) (known : Option (List
 
   -- an image that is not accepted
   pub by_bad : {S : Type 0} (result : Result S Status) (status : Status) → result ≡ Err status → (status ≡ Refused) ⊎ ((status ≡ WriteFault) ⊎ (status ≡ NoMemory)) → ((result ≡ Err Refused) ⊎ (result ≡ Err WriteFault) → Accepted region.bytes → ⊥)
-      → (result ≡ Err Refused → PutsBadImage region.bytes (output contents old new) true) → (result ≡ Err WriteFault → PutsBadImage region.bytes (output contents old new) false) → (result ≡ Err NoMemory → new ≡ old) → (result ≡ Err NoMemory → short) → image_new ≡ image_old → By status
+      → (result ≡ Err Refused → PutsBadImage region.bytes (output contents old new) true) → (result ≡ Err WriteFault → PutsBadImage region.bytes (output contents old new) false) → (result ≡ Err NoMemory → new ≡ old) → (result ≡ Err NoMemory → given.short) → image_new ≡ image_old → By status
   by_bad result status was (inl is) refused said fault none wanted same = let e : result ≡ Err Refused = cc in by_refused status is (inl (refused (inl e), said e)) same
   by_bad result status was (inr (inl is)) refused said fault none wanted same = let e : result ≡ Err WriteFault = cc in by_write status is (inl (inl (refused (inr e), fault e), same))
   by_bad result status was (inr (inr is)) refused said fault none wanted same = let e : result ≡ Err NoMemory = cc in by_memory status is (wanted e) (inl (none e)) same
 
   -- a run that a fault ended
-  pub stopped : (region_after : Memory) (mid : Writing V) (fault : LiveFault) (end : LiveEnd) → Accepted region.bytes → ReadStops short contents inputs known region old fault region_after mid → (fault ≡ faults.Memory → short) → EndsEarlyLive short (output contents mid new) fault end → image_new ≡ image_old
-      → EndsLive short region known script inputs (output contents old new) (output image_contents image_old image_new) end
+  pub stopped : (region_after : Memory) (mid : Writing V) (fault : LiveFault) (end : LiveEnd) → Accepted region.bytes → ReadStops given script.known region region_after (output contents old mid) fault → (fault ≡ faults.Memory → given.short) → EndsEarlyLive given.short (output contents mid new) fault end → image_new ≡ image_old
+      → EndsLive given region script (run_outputs (output contents old new) (output image_contents image_old image_new)) end
   stopped region_after mid (faults.Line fault) (ends.Ended status) accepted stops wanted (inl (is, puts)) same = by_refused status is (inr (fault, mid, (accepted, (region_after, stops)), puts)) same
   stopped region_after mid (faults.Line fault) (ends.Ended status) accepted stops wanted (inr (inl (is, puts))) same = by_write status is (inl (inr (fault, mid, (accepted, (region_after, stops)), puts), same))
   stopped region_after mid (faults.Line fault) (ends.Ended status) accepted stops wanted (inr (inr (is, shorted, ok, flush))) same = by_memory status is shorted (inr (inr (mid, ok, fault, (accepted, (region_after, stops)), flush))) same
@@ -72,7 +74,7 @@ module _ {W V : Type 0} (short : Type 0) (region : Memory) (known : Option (List
   stopped region_after mid (faults.Input fault) (ends.Unread other) accepted stops wanted (is, unchanged) same = rw (is, unchanged) ((accepted, (region_after, stops)), same)
   stopped region_after mid faults.Memory (ends.Ended status) accepted stops wanted (is, ok, flush) same = by_memory status is (wanted refl) (inr (inl (mid, ok, (accepted, (region_after, stops)), flush))) same
   stopped region_after mid faults.Memory (ends.Unread other) accepted stops wanted none same = absurd none
-  stopped region_after mid faults.Write (ends.Ended status) accepted stops wanted (is, unchanged) same = by_write status is (inr (inl ((accepted, (region_after, subst (λ (w : Writing V). ReadStops short contents inputs known region old faults.Write region_after w) (sym unchanged) stops)), same)))
+  stopped region_after mid faults.Write (ends.Ended status) accepted stops wanted (is, unchanged) same = by_write status is (inr (inl ((accepted, (region_after, subst (λ (w : Writing V). ReadStops given script.known region region_after (output contents old w) faults.Write) (sym unchanged) stops)), same)))
   stopped region_after mid faults.Write (ends.Unread other) accepted stops wanted none same = absurd none
 
 -- the end of a run at a faulty line
@@ -97,8 +99,8 @@ unread_input short contents old new faults.Write (ends.Ended status) reason earl
 unread_input short contents old new faults.Write (ends.Unread other) reason early is = absurd early
 
 -- memory was short if a run ended for it
-pub stops_short : {W short : Type 0} (contents : W → Option (List ℕ)) (inputs : List (List ℕ)) (known : Option (List ℕ)) (old : Memory) (out : Writing W) (fault : LiveFault) (new : Memory) (out_after : Writing W) → ReadStops short contents inputs known old out fault new out_after → fault ≡ faults.Memory → short
-stops_short contents inputs known old out faults.Memory new out_after (script, is, stops) e = stops.by.0
-stops_short contents inputs known old out (faults.Line fault) new out_after stops e = absurd cc
-stops_short contents inputs known old out (faults.Input fault) new out_after stops e = absurd cc
-stops_short contents inputs known old out faults.Write new out_after stops e = absurd cc
+pub stops_short : {W : Type 0} {given : Setting} (known : Option (List ℕ)) (old new : Memory) (out : Output W) (fault : LiveFault) → ReadStops given known old new out fault → fault ≡ faults.Memory → given.short
+stops_short known old new out faults.Memory (script, is, stops) e = stops.by.0
+stops_short known old new out (faults.Line fault) stops e = absurd cc
+stops_short known old new out (faults.Input fault) stops e = absurd cc
+stops_short known old new out faults.Write stops e = absurd cc

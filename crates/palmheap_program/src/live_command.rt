@@ -2,7 +2,9 @@
 
 ghost use Rattle.std.specs.Prelude.{◌≡◌, ◌≢◌, ◌<◌, [], Err, IfOk, IfErr, IfSome, length, true};
 ghost use Rattle.heap_model.specs.Store.{Accepted};
-ghost use Rattle.palmheap_program.specs.LiveRuns.{EndsAtLine, EndsEarlyLive, EndsLive, RunsLive};
+ghost use Rattle.script_calls.specs.Lines.{setting};
+ghost use Rattle.palmheap_program.specs.LiveRuns.{EndsAtLine, EndsEarlyLive, EndsLive, RunsLive, live_text};
+ghost use Rattle.palmheap_program.specs.Runs.{run_outputs};
 ghost use Rattle.palm_text.specs.Output.{output};
 
 use allowance::Allowance;
@@ -44,14 +46,16 @@ pub fn run_live_region_from<A: Allowance, R: Read, W: Write, V: Write>(
 ) -> Result<Vec<Bytes>, LiveEnd>
     requires whole { region.lents ≡ [] }
     requires none { script.old.items ≡ [] }
-    ensures done { IfOk result (λ files. RunsLive (A.is_short memory.now)
-        region (R.remaining reader.old) script.new.items inputs.entry.files.now
-        (output V.contents out.old out.new)
-        (output W.contents image_out.old image_out.new) files.items true) }
-    ensures ends { IfErr result (λ end. EndsLive (A.is_short memory.now)
-        region (R.remaining reader.old) script.new.items inputs.entry.files.now
-        (output V.contents out.old out.new)
-        (output W.contents image_out.old image_out.new) end) }
+    ensures done { IfOk result (λ files. RunsLive
+        (setting (A.is_short memory.now) inputs.entry.files.now) region
+        (live_text (R.remaining reader.old) script.new.items)
+        (run_outputs (output V.contents out.old out.new)
+        (output W.contents image_out.old image_out.new)) files.items true) }
+    ensures ends { IfErr result (EndsLive
+        (setting (A.is_short memory.now) inputs.entry.files.now) region
+        (live_text (R.remaining reader.old) script.new.items)
+        (run_outputs (output V.contents out.old out.new)
+        (output W.contents image_out.old image_out.new))) }
     ensures too_long { result ≡ Err (LiveEnd.Unread InputFault.TooLong)
         → IfSome (R.remaining reader.old) (λ all. MOST_INPUT < length all) }
     ensures good_words { result ≢ Err (LiveEnd.Ended Status.BadWords) }
@@ -75,14 +79,16 @@ fn run_store<A: Allowance, R: Read, W: Write, V: Write>(
     requires whole { store.lents ≡ [] }
     requires accepted { Accepted store.bytes }
     requires none { script.old.items ≡ [] }
-    ensures done { IfOk result (λ files. RunsLive (A.is_short memory.now)
-        store (R.remaining reader.old) script.new.items inputs.entry.files.now
-        (output V.contents out.old out.new)
-        (output W.contents image_out.old image_out.new) files.items true) }
-    ensures ends { IfErr result (λ end. EndsLive (A.is_short memory.now)
-        store (R.remaining reader.old) script.new.items inputs.entry.files.now
-        (output V.contents out.old out.new)
-        (output W.contents image_out.old image_out.new) end) }
+    ensures done { IfOk result (λ files. RunsLive
+        (setting (A.is_short memory.now) inputs.entry.files.now) store
+        (live_text (R.remaining reader.old) script.new.items)
+        (run_outputs (output V.contents out.old out.new)
+        (output W.contents image_out.old image_out.new)) files.items true) }
+    ensures ends { IfErr result (EndsLive
+        (setting (A.is_short memory.now) inputs.entry.files.now) store
+        (live_text (R.remaining reader.old) script.new.items)
+        (run_outputs (output V.contents out.old out.new)
+        (output W.contents image_out.old image_out.new))) }
     ensures too_long { result ≡ Err (LiveEnd.Unread InputFault.TooLong)
         → IfSome (R.remaining reader.old) (λ all. MOST_INPUT < length all) }
     ensures good_words { result ≢ Err (LiveEnd.Ended Status.BadWords) }

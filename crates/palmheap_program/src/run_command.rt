@@ -4,7 +4,8 @@ ghost use Rattle.std.specs.Prelude.{[], ◌≡◌, ◌≢◌, ◌⊎◌, Ok, Err
 ghost use Rattle.heap_model.specs.Store.{Accepted};
 ghost use Rattle.script_lines.specs.Reading.{read_script};
 ghost use Rattle.palmheap_program.specs.Runs.{EndsEarly, EndsRun, PrintingFails, PutsRefusal, PutsScriptFault, RunBreaksOffShort};
-ghost use Rattle.palmheap_program.specs.Runs.{RunsAndFlushes, RunsAndWrites, RunsScriptShort};
+ghost use Rattle.palmheap_program.specs.Runs.{RunsAndFlushes, RunsAndWrites, RunsScriptShort, run_outputs};
+ghost use Rattle.script_calls.specs.Lines.{setting};
 ghost use Rattle.allowance.specs.Refusals.{GrowthRefused};
 ghost use Rattle.palm_text.specs.Output.{output};
 
@@ -35,17 +36,19 @@ pub fn cmd_run<W: Write, V: Write>(
     files: &mut Vec<Bytes>,
     out: &mut Counted<V>,
 ) -> Status
-    ensures ends { EndsRun image.now script.now inputs.now (output V.contents out.old out.new)
-        (output W.contents image_out.old image_out.new) files.new.items result }
+    ensures ends { EndsRun image.now script.now inputs.now
+        (run_outputs (output V.contents out.old out.new)
+        (output W.contents image_out.old image_out.new)) files.new.items result }
     ensures files_kept { result ≢ Status.Done → files.new ≡ files.old }
     ensures short { result ≡ Status.NoMemory → GrowthRefused }
-    ensures done_short { result ≡ Status.Done → RunsScriptShort GrowthRefused
-        image.now script.now inputs.now
-        (output V.contents out.old out.new)
-        (output W.contents image_out.old image_out.new) files.new.items true }
-    ensures write_short { result ≡ Status.WriteFault → RunBreaksOffShort GrowthRefused
-        image.now script.now inputs.now
-        (output V.contents out.old out.new) (output W.contents image_out.old image_out.new) }
+    ensures done_short { result ≡ Status.Done → RunsScriptShort
+        (setting GrowthRefused inputs.now) image.now script.now
+        (run_outputs (output V.contents out.old out.new)
+        (output W.contents image_out.old image_out.new)) files.new.items true }
+    ensures write_short { result ≡ Status.WriteFault → RunBreaksOffShort
+        (setting GrowthRefused inputs.now) image.now script.now
+        (run_outputs (output V.contents out.old out.new)
+        (output W.contents image_out.old image_out.new)) }
 {
     cmd_run_from(&alloc, image, script, inputs, image_out, files, out)
 }
@@ -60,17 +63,19 @@ pub fn cmd_run_from<A: Allowance, W: Write, V: Write>(
     files: &mut Vec<Bytes>,
     out: &mut Counted<V>,
 ) -> Status
-    ensures ends { EndsRun image.now script.now inputs.now (output V.contents out.old out.new)
-        (output W.contents image_out.old image_out.new) files.new.items result }
+    ensures ends { EndsRun image.now script.now inputs.now
+        (run_outputs (output V.contents out.old out.new)
+        (output W.contents image_out.old image_out.new)) files.new.items result }
     ensures files_kept { result ≢ Status.Done → files.new ≡ files.old }
     ensures short { result ≡ Status.NoMemory → A.is_short memory.now }
-    ensures done_short { result ≡ Status.Done → RunsScriptShort (A.is_short memory.now)
-        image.now script.now inputs.now
-        (output V.contents out.old out.new)
-        (output W.contents image_out.old image_out.new) files.new.items true }
-    ensures write_short { result ≡ Status.WriteFault → RunBreaksOffShort (A.is_short memory.now)
-        image.now script.now inputs.now
-        (output V.contents out.old out.new) (output W.contents image_out.old image_out.new) }
+    ensures done_short { result ≡ Status.Done → RunsScriptShort
+        (setting (A.is_short memory.now) inputs.now) image.now script.now
+        (run_outputs (output V.contents out.old out.new)
+        (output W.contents image_out.old image_out.new)) files.new.items true }
+    ensures write_short { result ≡ Status.WriteFault → RunBreaksOffShort
+        (setting (A.is_short memory.now) inputs.now) image.now script.now
+        (run_outputs (output V.contents out.old out.new)
+        (output W.contents image_out.old image_out.new)) }
 {
     match Region::copied_from(memory, image) {
         Ok(region) => run_region_from(memory, region, script, inputs, image_out, files, out),
@@ -89,17 +94,19 @@ pub fn run_region_from<A: Allowance, W: Write, V: Write>(
     out: &mut Counted<V>,
 ) -> Status
     requires whole { region.lents ≡ [] }
-    ensures ends { EndsRun region.bytes script.now inputs.now (output V.contents out.old out.new)
-        (output W.contents image_out.old image_out.new) files.new.items result }
+    ensures ends { EndsRun region.bytes script.now inputs.now
+        (run_outputs (output V.contents out.old out.new)
+        (output W.contents image_out.old image_out.new)) files.new.items result }
     ensures files_kept { result ≢ Status.Done → files.new ≡ files.old }
     ensures short { result ≡ Status.NoMemory → A.is_short memory.now }
-    ensures done_short { result ≡ Status.Done → RunsScriptShort (A.is_short memory.now)
-        region.bytes script.now inputs.now
-        (output V.contents out.old out.new)
-        (output W.contents image_out.old image_out.new) files.new.items true }
-    ensures write_short { result ≡ Status.WriteFault → RunBreaksOffShort (A.is_short memory.now)
-        region.bytes script.now inputs.now
-        (output V.contents out.old out.new) (output W.contents image_out.old image_out.new) }
+    ensures done_short { result ≡ Status.Done → RunsScriptShort
+        (setting (A.is_short memory.now) inputs.now) region.bytes script.now
+        (run_outputs (output V.contents out.old out.new)
+        (output W.contents image_out.old image_out.new)) files.new.items true }
+    ensures write_short { result ≡ Status.WriteFault → RunBreaksOffShort
+        (setting (A.is_short memory.now) inputs.now) region.bytes script.now
+        (run_outputs (output V.contents out.old out.new)
+        (output W.contents image_out.old image_out.new)) }
 {
     match read(memory, region, script, out) {
         Ok((store, script)) => run_script(memory, store, &script, inputs, image_out, files, out),
@@ -175,22 +182,26 @@ fn run_script<A: Allowance, W: Write, V: Write>(
     requires whole { store.lents ≡ [] }
     ensures statuses { (result ≡ Status.Done) ⊎ (result ≡ Status.WriteFault)
         ⊎ (result ≡ Status.NoMemory) }
-    ensures done { result ≡ Status.Done → RunsAndWrites (Unit {0}) inputs.now script.now store
-        (output V.contents out.old out.new)
-        (output W.contents image_out.old image_out.new) files.new.items true }
+    ensures done { result ≡ Status.Done → RunsAndWrites
+        (setting (Unit {0}) inputs.now) script.now store
+        (run_outputs (output V.contents out.old out.new)
+        (output W.contents image_out.old image_out.new)) files.new.items true }
     ensures files_kept { result ≢ Status.Done → files.new ≡ files.old }
-    ensures write_fault { result ≡ Status.WriteFault → EndsEarly (Unit {0})
-        inputs.now script.now store (output V.contents out.old out.new) (output W.contents image_out.old image_out.new) }
+    ensures write_fault { result ≡ Status.WriteFault → EndsEarly
+        (setting (Unit {0}) inputs.now) script.now store
+        (run_outputs (output V.contents out.old out.new)
+        (output W.contents image_out.old image_out.new)) }
     ensures no_memory { result ≡ Status.NoMemory
         → (image_out.new ≡ image_out.old) × (out.new ≡ out.old) }
     ensures short { result ≡ Status.NoMemory → A.is_short memory.now }
-    ensures done_short { result ≡ Status.Done → RunsAndWrites (A.is_short memory.now)
-        inputs.now script.now store
-        (output V.contents out.old out.new)
-        (output W.contents image_out.old image_out.new) files.new.items true }
-    ensures write_short { result ≡ Status.WriteFault → EndsEarly (A.is_short memory.now)
-        inputs.now script.now store
-        (output V.contents out.old out.new) (output W.contents image_out.old image_out.new) }
+    ensures done_short { result ≡ Status.Done → RunsAndWrites
+        (setting (A.is_short memory.now) inputs.now) script.now store
+        (run_outputs (output V.contents out.old out.new)
+        (output W.contents image_out.old image_out.new)) files.new.items true }
+    ensures write_short { result ≡ Status.WriteFault → EndsEarly
+        (setting (A.is_short memory.now) inputs.now) script.now store
+        (run_outputs (output V.contents out.old out.new)
+        (output W.contents image_out.old image_out.new)) }
 {
     let exported = match print_replies(memory, &mut store, script, inputs, out) {
         Ok(exported) => exported,
@@ -215,18 +226,21 @@ fn print_replies<A: Allowance, V: Write>(
     out: &mut Counted<V>,
 ) -> Result<Vec<Bytes>, Status>
     ensures lent { store.new.lents ≡ store.old.lents }
-    ensures ok { IfOk result (λ files. RunsAndFlushes (Unit {0}) inputs.now script.now
-        store.old store.new (output V.contents out.old out.new) files.items true) }
+    ensures ok { IfOk result (λ files. RunsAndFlushes (setting (Unit {0}) inputs.now) script.now
+        store.old store.new (output V.contents out.old out.new) files.items) }
     ensures faults { IfErr result (λ status.
         (status ≡ Status.WriteFault) ⊎ (status ≡ Status.NoMemory)) }
-    ensures write { result ≡ Err Status.WriteFault → PrintingFails (Unit {0}) inputs.now script.now
+    ensures write { result ≡ Err Status.WriteFault → PrintingFails
+        (setting (Unit {0}) inputs.now) script.now
         store.old store.new (output V.contents out.old out.new) }
     ensures memory { result ≡ Err Status.NoMemory → out.new ≡ out.old }
     ensures short { result ≡ Err Status.NoMemory → A.is_short memory.now }
-    ensures ok_short { IfOk result (λ files. RunsAndFlushes (A.is_short memory.now)
-        inputs.now script.now store.old store.new (output V.contents out.old out.new) files.items true) }
-    ensures write_short { result ≡ Err Status.WriteFault → PrintingFails (A.is_short memory.now)
-        inputs.now script.now store.old store.new (output V.contents out.old out.new) }
+    ensures ok_short { IfOk result (λ files. RunsAndFlushes
+        (setting (A.is_short memory.now) inputs.now) script.now
+        store.old store.new (output V.contents out.old out.new) files.items) }
+    ensures write_short { result ≡ Err Status.WriteFault → PrintingFails
+        (setting (A.is_short memory.now) inputs.now) script.now
+        store.old store.new (output V.contents out.old out.new) }
 {
     match run_from(memory, store, script, inputs, out) {
         Ok(files) => match out.flush() {

@@ -82,6 +82,12 @@ pub enum BaseRequest<'a> {
     Changes {
         files: NamedFiles<'a>,
     },
+    Salvage {
+        file: &'a str,
+        out: &'a str,
+        /// Records keep the IDs of the damaged file.
+        exact_ids: bool,
+    },
     Get {
         file: &'a str,
         /// The index of an entry, `app`, `sort`, or the type of a resource.
@@ -92,6 +98,8 @@ pub enum BaseRequest<'a> {
     Unpack {
         file: &'a str,
         folder: &'a str,
+        /// The folder keeps all of the file.
+        exact: bool,
     },
     Pack {
         folder: &'a str,

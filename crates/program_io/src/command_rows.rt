@@ -5,7 +5,7 @@
 
 use crate::help_texts::{
     BLOCKS, CANONICAL_FORMS, CANONICAL_USAGE, CHECKS, LISTINGS, MAPS, MEANINGS, MIGRATION,
-    NEW_IMAGES, PACKING, SCRIPTS, STORES, UNPACKING,
+    NEW_IMAGES, PACKING, SALVAGES, SCRIPTS, STORES, UNPACKING,
 };
 
 /// A command: its word, its help, and its arguments in order.
@@ -51,7 +51,7 @@ pub(crate) enum Count {
 }
 
 /// Every command.
-pub(crate) const COMMANDS: [CommandRow; 14] = [
+pub(crate) const COMMANDS: [CommandRow; 15] = [
     CommandRow {
         name: "new",
         about: "Writes an image with nothing in it, and prints 'ok'",
@@ -206,6 +206,26 @@ pub(crate) const COMMANDS: [CommandRow; 14] = [
         ],
     },
     CommandRow {
+        name: "salvage",
+        about: "Writes the sound parts of a damaged PDB or PRC file",
+        after_help: Some(SALVAGES),
+        usage: None,
+        arguments: &[
+            DATABASE_FILE,
+            Argument {
+                name: "OUT",
+                count: Count::One,
+                help: "File for the salvaged database. One that is there is replaced,\n\
+                    once the new one is whole; '-' is standard output",
+            },
+            Argument {
+                name: "EXACT_IDS",
+                count: Count::Flag("exact-ids"),
+                help: "Keeps each record's ID, even 0 or that of another record",
+            },
+        ],
+    },
+    CommandRow {
         name: "get",
         about: "Writes the bytes of one block of a PDB or PRC file to standard output",
         after_help: Some(BLOCKS),
@@ -236,6 +256,11 @@ pub(crate) const COMMANDS: [CommandRow; 14] = [
                 name: "DIR",
                 count: Count::One,
                 help: "Folder to make. There must be none of that name",
+            },
+            Argument {
+                name: "EXACT",
+                count: Count::Flag("exact"),
+                help: "Keeps all of the file: 'pack' gives it back, byte for byte",
             },
         ],
     },

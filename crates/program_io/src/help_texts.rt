@@ -299,6 +299,32 @@ for both. With several FILEs or --path, a line with the path comes before it.
   ==> b.pdb <==
   changes busy ids order";
 
+pub(crate) const SALVAGES: &str = "\
+For example, 'palmheap salvage broken.pdb new.pdb' writes new.pdb, a file
+without a fault. It prints 'ok' with its length, and a line for each fault of
+broken.pdb:
+
+  ok 100
+  entry 1 offset 113 beyond the end: dropped
+
+An entry is kept if its offset is sound: not before the end of the entries, and
+not beyond the end of the file. It keeps its attributes, its ID, and the bytes
+up to the next sound offset. A deleted record without data is kept, too. The
+other lines are:
+
+  entries 5: the file ends in entry 4
+  chained list: ignored
+  name empty: Recovered
+  app offset 12 within the entries: dropped
+
+The new file is written as by 'palmheap canonical'. With --exact-ids each record
+keeps its ID, even 0 or that of another record. A file without a fault gives
+its canonical form and no line. Only a file under 78 bytes is refused.
+
+A wrong offset that is sound is not noticed. If the file ends in an entry, the
+number of entries can be wrong: correct that first. If OUT is '-', the new file
+goes to standard output, and what is printed goes to standard error.";
+
 pub(crate) const BLOCKS: &str = "\
 For example, 'palmheap get MemoDB.pdb 0' writes the data of the first record
 to standard output. BLOCK is an index, as 'palmheap list' shows it; 'app' for
@@ -339,7 +365,14 @@ It prints 'ok' with the number of files. The attributes of a database and of a
 record and the seed are in hex. Dates are seconds since 1904-01-01. 'app' and
 'sort' have the names of the files with the info blocks, or 'none'. A record
 has its attributes, its ID and the name of its file, a resource its type, its
-id and the name of its file. 'palmheap pack' puts the files together again.";
+id and the name of its file. 'palmheap pack' puts the files together again.
+
+With --exact the folder keeps all of the file, and 'palmheap pack' gives it
+back, byte for byte. The text then begins with more lines: 'exact';
+'namefield' with the bytes after the name, if one isn't zero; 'filler' with the
+name of the file that has the bytes before the first block, or 'none'; and
+'order' for each block, with 'app', 'sort' or the index of an entry, unless the
+blocks are in the order of the list.";
 
 pub(crate) const PACKING: &str = "\
 For example, 'palmheap pack memos new.pdb' writes the database whose text is
@@ -352,11 +385,12 @@ line, in the order of the entries:
   record 01 0 new           attributes in hex, ID, and the name of a file
   resource \"tSTR\" 1000 s    type, id, and the name of a file
 
-A record with the ID 0 gets a free one. Only a record with the attribute 80,
-which is deleted, may have 'none' for its file. The name of a file has letters,
-digits, '_', '-' and '.', and begins with a letter, a digit or '_'. A line that
-is empty or starts with '#' is passed over. For a faulty line 'pack' prints
-'line', its number and what is wrong in it, and the exit status is 1.";
+A record with the ID 0 gets a free one, but not in a folder that was unpacked
+with --exact. Only a record with the attribute 80, which is deleted, may have
+'none' for its file. The name of a file has letters, digits, '_', '-' and '.',
+and begins with a letter, a digit or '_'. A line that is empty or starts with
+'#' is passed over. For a faulty line 'pack' prints 'line', its number and what
+is wrong in it, and the exit status is 1.";
 
 pub(crate) const STORES: &str = "\
 For example, 'palmheap import memos.img MemoDB.pdb' makes an image that is

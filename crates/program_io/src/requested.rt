@@ -38,6 +38,7 @@ fn base_requested<'a>(name: &str, given: &ArgMatches<'a>) -> Option<BaseRequest<
     match name {
         "new" => new_requested(given),
         "check" => check_requested(given),
+        "salvage" => salvage_requested(given),
         "get" => get_requested(given),
         "unpack" => unpack_requested(given),
         "pack" => pack_requested(given),
@@ -138,6 +139,14 @@ fn rewrite_of<'a>(file: &'a str, outs: &[&'a str]) -> Option<Request<'a>> {
     Some(Request::Base(BaseRequest::Canonical { file, out }))
 }
 
+fn salvage_requested<'a>(given: &ArgMatches<'a>) -> Option<BaseRequest<'a>> {
+    Some(BaseRequest::Salvage {
+        file: given.get_str("FILE")?,
+        out: given.get_str("OUT")?,
+        exact_ids: given.get_flag("EXACT_IDS"),
+    })
+}
+
 fn get_requested<'a>(given: &ArgMatches<'a>) -> Option<BaseRequest<'a>> {
     Some(BaseRequest::Get {
         file: given.get_str("FILE")?,
@@ -150,6 +159,7 @@ fn unpack_requested<'a>(given: &ArgMatches<'a>) -> Option<BaseRequest<'a>> {
     Some(BaseRequest::Unpack {
         file: given.get_str("FILE")?,
         folder: given.get_str("DIR")?,
+        exact: given.get_flag("EXACT"),
     })
 }
 

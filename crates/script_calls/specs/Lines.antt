@@ -8,7 +8,8 @@ use Rattle.heap_model.specs.Memory.{Memory as Region}
 use Rattle.heap_model.specs.Bytes.{u16_bytes, u32_bytes}
 use Rattle.palm_text.specs.Pieces.{script_spelled}
 use Rattle.heap_model.specs.StoreSteps.{Call, DoesInStore, call_by}
-use Rattle.palm_text.specs.Counted.{Writing, Writes}
+use Rattle.palm_text.specs.Counted.{Writes}
+use Rattle.palm_text.specs.Output.{Output}
 use Rattle.heap_model.specs.Numbers.{number_of, name_of}
 use Rattle.heap_model.specs.declared.names.Name.{Name}
 use Rattle.heap_model.specs.declared.names.Db.{Db}
@@ -287,66 +288,83 @@ exported (Export label) reply = file_in reply
 
 -- ---- the run of lines
 
+-- What a run is given: the fact that an allocation failed (`short`), and the files that its lines
+-- import.
+pub record Setting : Type 1 where
+  pub short : Type 0
+  pub inputs : List (List ℕ)
+
+abbrev pub setting : Type 0 → List (List ℕ) → Setting
+setting short inputs = record { short = short; inputs = inputs }
+
+-- a region, and what the labels stand for
+pub record Labelled : Type 0 where
+  pub region : Region
+  pub bound : Bindings
+
+abbrev pub labelled : Region → Bindings → Labelled
+labelled region bound = record { region = region; bound = bound }
+
 -- The call of a line does its step, and moves only the chunks of `Moves`. Only a call on files can
 -- run out of memory, and then memory was short.
-pub record LineStep (short : Type 0) (inputs : List (List ℕ)) (old : Region) (bound : Bindings) (line : Line) (reply : Reply) (new : Region) : Type 0 where
-  pub does : DoesInStore old (call_of inputs bound line) reply new
-  pub moves : Moves old (call_of inputs bound line) new
-  pub takes_no_memory : may_want_memory (call_of inputs bound line) ≡ false → reply ≢ Refused OutOfMemory
-  pub no_memory : reply ≡ Refused OutOfMemory → short
+pub record LineStep (given : Setting) (old : Labelled) (line : Line) (reply : Reply) (new : Region) : Type 0 where
+  pub does : DoesInStore old.region (call_of given.inputs old.bound line) reply new
+  pub moves : Moves old.region (call_of given.inputs old.bound line) new
+  pub takes_no_memory : may_want_memory (call_of given.inputs old.bound line) ≡ false → reply ≢ Refused OutOfMemory
+  pub no_memory : reply ≡ Refused OutOfMemory → given.short
 
 -- The lines in their order, from a region and bindings. Each line is one call. Its reply line
 -- follows the text of the lines before it, and the file that it exports follows their files. The
 -- label that it binds is bound for the lines after it.
-abbrev pub Lines : Type 0 → List (List ℕ) → Region → Bindings → List Line → List ℕ → List (List ℕ) → Region → Bindings → Type 0
-Lines short inputs old bound [] text files new after = (text ≡ []) × (files ≡ []) × (new ≡ old) × (after ≡ bound)
-Lines short inputs old bound (line ∷ lines) text files new after =
+abbrev pub Lines : Setting → Labelled → List Line → (text : List ℕ) → (files : List (List ℕ)) → Labelled → Type 0
+Lines given old [] text files new = (text ≡ []) × (files ≡ []) × (new.region ≡ old.region) × (new.bound ≡ old.bound)
+Lines given old (line ∷ lines) text files new =
     (reply : Reply) × (mid : Region) × (rest : List ℕ) × (more : List (List ℕ))
-    × LineStep short inputs old bound line reply mid
+    × LineStep given old line reply mid
     × (text ≡ reply_line line reply ++ rest)
     × (files ≡ exported line reply ++ more)
-    × Lines short inputs mid (bound_after bound line reply) lines rest more new after
+    × Lines given (labelled mid (bound_after old.bound line reply)) lines rest more new
 
 -- One line: its call is done, its label is bound, and its reply line is written to a writer. If the
 -- write succeeded, the result is the file that the line exports, if it exports one.
-pub record DoesLine {W : Type 0} (short : Type 0) (contents : W → Option (List ℕ)) (inputs : List (List ℕ)) (line : Line) (old : Region) (bound : Bindings) (out : Writing W) (new : Region) (bound_new : Bindings) (out_after : Writing W) (answer : Result (Option (List ℕ)) WriteFault) : Type 0 where
+pub record DoesLine {W : Type 0} (given : Setting) (line : Line) (old new : Labelled) (out : Output W) (answer : Result (Option (List ℕ)) WriteFault) : Type 0 where
   pub reply : Reply
-  pub step : LineStep short inputs old bound line reply new
-  pub binds : bound_new ≡ bound_after bound line reply
-  pub written : Writes contents out out_after (reply_line line reply) (is_ok answer)
+  pub step : LineStep given old line reply new.region
+  pub binds : new.bound ≡ bound_after old.bound line reply
+  pub written : Writes out.contents out.old out.new (reply_line line reply) (is_ok answer)
   pub file : IfOk answer (λ file. exported line reply ≡ option_to_list file)
 
 -- All lines were run, and all of their text was written to a writer, which wasn't flushed. `files`
 -- are the files that they export. A line ran out of memory only if memory was short.
-pub record RunsThroughShort {W : Type 0} (short : Type 0) (contents : W → Option (List ℕ)) (inputs : List (List ℕ)) (lines : List Line) (old : Region) (out : Writing W) (new : Region) (out_after : Writing W) (files : List (List ℕ)) : Type 0 where
+pub record RunsThroughShort {W : Type 0} (given : Setting) (lines : List Line) (old new : Region) (out : Output W) (files : List (List ℕ)) : Type 0 where
   pub text : List ℕ
   pub after : Bindings
-  pub ran : Lines short inputs old unbound lines text files new after
-  pub written : Writes contents out out_after text true
+  pub ran : Lines given (labelled old unbound) lines text files (labelled new after)
+  pub written : Writes out.contents out.old out.new text true
 
 -- A write failed in the reply line of some line. The text of the lines before it was written, and a
 -- prefix of that reply line. The writer wasn't flushed. The line's call was done, and no call after
 -- it. A line ran out of memory only if memory was short.
-pub record BreaksOffShort {W : Type 0} (short : Type 0) (contents : W → Option (List ℕ)) (inputs : List (List ℕ)) (lines : List Line) (old : Region) (out : Writing W) (new : Region) (out_after : Writing W) : Type 0 where
+pub record BreaksOffShort {W : Type 0} (given : Setting) (lines : List Line) (old new : Region) (out : Output W) : Type 0 where
   pub count : ℕ
   pub text : List ℕ
   pub files : List (List ℕ)
   pub mid : Region
   pub bound : Bindings
-  pub before : Lines short inputs old unbound (take count lines) text files mid bound
+  pub before : Lines given (labelled old unbound) (take count lines) text files (labelled mid bound)
   pub line : Line
   pub found : slice_get lines count ≡ Some line
   pub reply : Reply
-  pub step : LineStep short inputs mid bound line reply new
+  pub step : LineStep given (labelled mid bound) line reply new
   pub written : ℕ
   pub within : written ≤ length (reply_line line reply)
-  pub front : Appends (contents out.writer) (contents out_after.writer) (text ++ take written (reply_line line reply))
-  pub fault : out.faults < out_after.faults
-  pub unflushed : out_after.flushes ≡ out.flushes
+  pub front : Appends (out.contents out.old.writer) (out.contents out.new.writer) (text ++ take written (reply_line line reply))
+  pub fault : out.old.faults < out.new.faults
+  pub unflushed : out.new.flushes ≡ out.old.flushes
 
 -- the same without the statement about memory
-abbrev pub RunsThrough : {W : Type 0} → (W → Option (List ℕ)) → List (List ℕ) → List Line → Region → Writing W → Region → Writing W → List (List ℕ) → Type 0
-RunsThrough contents inputs lines old out new out_after files = RunsThroughShort (Unit {0}) contents inputs lines old out new out_after files
+abbrev pub RunsThrough : {W : Type 0} → (inputs : List (List ℕ)) → List Line → (old new : Region) → Output W → (files : List (List ℕ)) → Type 0
+RunsThrough inputs lines old new out files = RunsThroughShort (setting (Unit {0}) inputs) lines old new out files
 
-abbrev pub BreaksOff : {W : Type 0} → (W → Option (List ℕ)) → List (List ℕ) → List Line → Region → Writing W → Region → Writing W → Type 0
-BreaksOff contents inputs lines old out new out_after = BreaksOffShort (Unit {0}) contents inputs lines old out new out_after
+abbrev pub BreaksOff : {W : Type 0} → (inputs : List (List ℕ)) → List Line → (old new : Region) → Output W → Type 0
+BreaksOff inputs lines old new out = BreaksOffShort (setting (Unit {0}) inputs) lines old new out

@@ -2,8 +2,10 @@
 //! each byte.
 
 use crate::samples::{MIXED_FILE, changed, documented, listed, rewritten};
+use canonical_file::SalvagedIds;
 use file_commands::{
     WantedBlock, cmd_canonical_from, cmd_changes_from, cmd_get_from, cmd_list_from,
+    cmd_salvage_from,
 };
 use file_listing::TextRows;
 use json_documents::JsonRows;
@@ -92,6 +94,35 @@ fn refused_memory_writes_nothing(rt: HostRuntime) -> Result<(), Fail> {
         let mut out = Counted::new(Vec::new(rt.alloc()));
         let status = cmd_canonical_from(&memory, &file, &mut file_out, &mut out);
         if !memory.has_refused() {
+            return equal(granted, status, Status::Done);
+        }
+        equal(granted, status, Status::NoMemory)?;
+        equal(granted, file_out.into_inner().len(), 0)?;
+        equal(granted, out.into_inner().len(), 0)?;
+    }
+    Err("too many growths")?
+}
+
+#[test]
+fn refused_memory_salvages_nothing(rt: HostRuntime) -> Result<(), Fail> {
+    for ids in [SalvagedIds::Distinct, SalvagedIds::Exact] {
+        check_salvage_grants(rt.alloc(), ids)?;
+    }
+    Ok(())
+}
+
+fn check_salvage_grants(alloc: Global, ids: SalvagedIds) -> Result<(), Fail> {
+    let file = changed(alloc, ORDER_FILE, 86, &[0, 0, 0, 0x65])?;
+    if file.len() > MOST_BROKEN {
+        return Ok(());
+    }
+    for granted in 0..100 {
+        let memory = RefusesOne::behind(alloc, granted);
+        let mut file_out = Counted::new(Vec::new(alloc));
+        let mut out = Counted::new(Vec::new(alloc));
+        let status = cmd_salvage_from(&memory, &file, ids, &mut file_out, &mut out);
+        if !memory.has_refused() {
+            holds(granted, granted > 3)?;
             return equal(granted, status, Status::Done);
         }
         equal(granted, status, Status::NoMemory)?;
@@ -199,6 +230,34 @@ fn check_form_cuts(alloc: Global, file: &[u8]) -> Result<(), Fail> {
     Ok(())
 }
 
+/// A salvaged file is cut in the same way, and so are its lines, after the whole file.
+#[test]
+fn a_full_writer_gets_a_prefix_of_a_salvage(rt: HostRuntime) -> Result<(), Fail> {
+    let file = changed(rt.alloc(), ORDER_FILE, 86, &[0, 0, 0, 0x65])?;
+    if file.len() > MOST_BROKEN {
+        return Ok(());
+    }
+    for room in (0..100).step_by(33) {
+        let mut file_out = Counted::new(Narrow::new(rt.alloc(), room, 5, WhenFull::TakesNothing));
+        let mut out = Counted::new(Vec::new(rt.alloc()));
+        let ids = SalvagedIds::Exact;
+        let status = cmd_salvage_from(&rt.alloc(), &file, ids, &mut file_out, &mut out);
+        equal(room, status, Status::WriteFault)?;
+        holds(room, file_out.into_inner().is_cut_at(room))?;
+        equal(room, out.into_inner().len(), 0)?;
+    }
+    for room in 0..54 {
+        let mut file_out = Counted::new(Vec::new(rt.alloc()));
+        let mut out = Counted::new(Narrow::new(rt.alloc(), room, 5, WhenFull::TakesNothing));
+        let ids = SalvagedIds::Exact;
+        let status = cmd_salvage_from(&rt.alloc(), &file, ids, &mut file_out, &mut out);
+        equal(room, status, Status::WriteFault)?;
+        holds(room, out.into_inner().is_cut_at(room))?;
+        equal(room, file_out.into_inner().len(), 100)?;
+    }
+    Ok(())
+}
+
 /// A file that stays the same is not copied: the allocations are its sorted offsets, the places of
 /// its blocks, a set of IDs, and the IDs.
 #[test]
@@ -280,5 +339,11 @@ fn flushes_that_fail(rt: HostRuntime) -> Result<(), Fail> {
     let mut out = Counted::new(Vec::new(rt.alloc()));
     let status = cmd_canonical_from(&rt.alloc(), &file, &mut file_out, &mut out);
     equal("canonical", status, Status::WriteFault)?;
-    equal("canonical", out.into_inner().len(), 0)
+    equal("canonical", out.into_inner().len(), 0)?;
+    let mut file_out = Counted::new(Unflushed(Vec::new(rt.alloc())));
+    let mut out = Counted::new(Vec::new(rt.alloc()));
+    let ids = SalvagedIds::Exact;
+    let status = cmd_salvage_from(&rt.alloc(), &file, ids, &mut file_out, &mut out);
+    equal("salvage", status, Status::WriteFault)?;
+    equal("salvage", out.into_inner().len(), 0)
 }

@@ -14,9 +14,13 @@ mod changes;
 #[cfg(test)]
 mod documents;
 #[cfg(test)]
+mod exact;
+#[cfg(test)]
 mod listings;
 #[cfg(test)]
 mod parts;
+#[cfg(test)]
+mod salvage;
 #[cfg(test)]
 mod samples;
 #[cfg(test)]

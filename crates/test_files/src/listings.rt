@@ -1,6 +1,6 @@
 //! The listings of files, and the lines for damaged ones.
 
-use crate::samples::{CAFE_FILE, MEMO_FILE, MIXED_FILE, changed, damaged, listed};
+use crate::samples::{CAFE_FILE, MEMO_FILE, MIXED_FILE, NAMED_FILE, changed, damaged, listed};
 use program_io::Status;
 use std::alloc::Global;
 use std::str;
@@ -129,8 +129,37 @@ needs 128 bytes and 2 slots in a heap
 canonical
 ";
 
+const NAMED_LINES: &str = "\
+ok 392
+name \"Named\"
+attributes 0000
+version 0
+created 0 never
+modified 0 never
+backup 0 never
+number 0
+type \"DATA\"
+creator \"Test\"
+seed 00000000
+app 112 276
+sort none
+category 0 \"Unfiled\"
+category 1 \"Business\"
+category 2 \"Grün\"
+category 4 \"A \"b\"\"
+category 5 \"0123456789abcde\"
+category 15 \"Last\"
+records 4
+0 41 1 388 1 \"Business\"
+1 81 2 389 1
+2 03 3 390 1
+3 0f 4 391 1 \"Last\"
+needs 536 bytes and 7 slots in a heap
+canonical
+";
+
 /// Files, and their listings: the first line and the last, and those between them.
-static LISTINGS: [(&str, &str, &str, &str); 7] = [
+static LISTINGS: [(&str, &str, &str, &str); 8] = [
     (EMPTY_FILE, "ok 78\n", EMPTY_LINES, "changes filler\n"),
     (EMPTY_WRITTEN, "ok 80\n", EMPTY_LINES, "canonical\n"),
     (ORDER_FILE, "", ORDER_LINES, ""),
@@ -138,6 +167,7 @@ static LISTINGS: [(&str, &str, &str, &str); 7] = [
     (MEMO_FILE, "", MEMO_LINES, ""),
     (MIXED_FILE, "", MIXED_LINES, ""),
     (CAFE_FILE, "", CAFE_LINES, ""),
+    (NAMED_FILE, "", NAMED_LINES, ""),
 ];
 
 /// Whether a file is listed as these lines, with this status.
@@ -153,6 +183,32 @@ fn files_have_their_listings(rt: HostRuntime) -> Result<(), Fail> {
         let file = bytes_of(rt.alloc(), file)?;
         let lines = format!(in rt.alloc(); "{first}{lines}{last}")?;
         check_text(rt.alloc(), &file, Status::Done, &lines)?;
+    }
+    Ok(())
+}
+
+/// Changes of the file with the names of categories: an offset and a byte. Then the line after
+/// `sort`: that of category 0 if AppInfo still has names.
+static NAMES: [(usize, u8, &str); 9] = [
+    (112, 0xFF, "category 0 \"Unfiled\""),
+    (387, 0xFF, "category 0 \"Unfiled\""),
+    (129, 0x20, "category 0 \"Unfiled\""),
+    (114, 0x00, "records 4"),
+    (115, 0x1F, "records 4"),
+    (115, 0x20, "category 0 \"U filed\""),
+    (115, 0x7F, "records 4"),
+    (115, 0x80, "category 0 \"U€filed\""),
+    (209, 0x66, "records 4"),
+];
+
+#[test]
+fn names_of_categories_are_recognized(rt: HostRuntime) -> Result<(), Fail> {
+    for (at, byte, wanted) in &NAMES {
+        let file = changed(rt.alloc(), NAMED_FILE, *at, &[*byte])?;
+        let (_, text) = listed(rt.alloc(), &file)?;
+        let text = str::from_utf8(&text)?;
+        let line = text.lines().nth(13);
+        equal(format_args!("{at} {byte}"), line, Some(*wanted))?;
     }
     Ok(())
 }

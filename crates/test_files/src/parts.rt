@@ -57,8 +57,8 @@ fn file_of(alloc: Global, text: &[u8], parts: &[Bytes]) -> Result<Result<Vec<u8>
     }
     match pack(&alloc, &listed, parts) {
         Ok(file) => Ok(Ok(file)),
-        Err(PackFault::TooLarge) => Ok(Err(format!(in alloc; "TooLarge")?)),
         Err(PackFault::OutOfMemory) => Err("out of memory")?,
+        Err(fault) => Ok(Err(format!(in alloc; "{fault}")?)),
     }
 }
 

@@ -24,8 +24,16 @@ pub(crate) const MIXED_FILE: &str = "2251220a 00*28 8042 0102 ffffffff 00015180 
 pub(crate) const CAFE_FILE: &str =
     "436166e9 00*28 0000 0000 00*24 44415441 54657374 00000000 00000000 0000 0000";
 
+/// A file of four records, and an AppInfo block with the names of categories. The second record is
+/// deleted, and the category of the third has no name.
+pub(crate) const NAMED_FILE: &str = "4e616d6564 00*27 0000 0000 00*16 00000070 00000000 44415441 \
+    54657374 00000000 00000000 0004 00000184 41 000001 00000185 81 000002 00000186 03 000003 \
+    00000187 0f 000004 0000 0000 556e66696c6564 00*9 427573696e657373 00*8 4772fc6e 00ff7f 00*9 \
+    00*16 4120226222 00*11 303132333435363738396162636465 00 00*144 4c617374 00*12 \
+    000102030405060708090a0b0c0d0e0f 0f00 41424344";
+
 /// The most bytes that a file may have.
-const MOST_SAMPLE: usize = 16_777_216;
+pub(crate) const MOST_SAMPLE: usize = 16_777_216;
 
 /// What `list` prints of a file, and its status.
 pub(crate) fn listed(alloc: Global, file: &[u8]) -> Result<(Status, Vec<u8>), Fail> {

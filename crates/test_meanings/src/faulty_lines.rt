@@ -76,7 +76,7 @@ fn faulty_lines_of_scripts_have_hints(rt: HostRuntime) -> Result<(), Fail> {
 /// A text, its faulty line, the fault, and the hint.
 type PartsRow = (&'static str, usize, ScriptFault, Option<LineHint<'static>>);
 
-static TEXTS: [PartsRow; 13] = [
+static TEXTS: [PartsRow; 17] = [
     (
         "# no\nname \"\"\n",
         2,
@@ -160,6 +160,42 @@ static TEXTS: [PartsRow; 13] = [
         Some(LineHint::Wrong {
             word: b"none",
             wanted: "the name of a part (letters, digits, _, - and .), which each resource has",
+        }),
+    ),
+    (
+        "exact 1\n",
+        1,
+        ScriptFault::WrongCount,
+        Some(LineHint::Count {
+            found: 1,
+            wanted: 0,
+        }),
+    ),
+    (
+        "exact\nnamefield 0\n",
+        2,
+        ScriptFault::BadWord(2),
+        Some(LineHint::Wrong {
+            word: b"0",
+            wanted: "all bytes after the name, up to the 32nd, in hex; the first of two or more is 00",
+        }),
+    ),
+    (
+        "exact\nfiller -\n",
+        2,
+        ScriptFault::BadWord(2),
+        Some(LineHint::Wrong {
+            word: b"-",
+            wanted: "the name of a part (letters, digits, _, - and .), or none",
+        }),
+    ),
+    (
+        "exact\nfiller none\norder sort\n",
+        3,
+        ScriptFault::BadWord(2),
+        Some(LineHint::Wrong {
+            word: b"sort",
+            wanted: "a block with a part that no earlier line names: app, sort or the index of an entry",
         }),
     ),
     ("name \"A\"\n", 2, ScriptFault::WrongCount, None),

@@ -10,7 +10,7 @@ pub(crate) enum Output {
 }
 
 /// The words of each run behind the program's own name, and what becomes of what it prints.
-pub(crate) static CASES: [(&str, Output); 200] = [
+pub(crate) static CASES: [(&str, Output); 218] = [
     // images that are made, or that there are not
     ("new 64 1 out.img", Taken),
     ("new 128 3 out.img", Taken),
@@ -101,6 +101,23 @@ pub(crate) static CASES: [(&str, Output); 200] = [
     ("canonical --check order.pdb tiny.prc", Refused),
     ("canonical order.pdb tiny.prc out.pdb", Taken),
     ("canonical --path order.pdb out.pdb", Taken),
+    // files that are salvaged: one without a fault, with a bad offset, cut within the entries, with
+    // no name and bad info blocks, and with the IDs of the file
+    ("salvage order.pdb out.pdb", Taken),
+    ("salvage damaged.pdb out.pdb", Taken),
+    ("salvage cut.pdb out.pdb", Taken),
+    ("salvage faults.pdb out.pdb", Taken),
+    ("salvage --exact-ids order.pdb out.pdb", Taken),
+    ("salvage - -", Taken),
+    ("salvage damaged.pdb -", Taken),
+    // a file without a header, one that looks like an image, no file, and outputs that take nothing
+    ("salvage calls.txt out.pdb", Taken),
+    ("salvage blank.img out.pdb", Taken),
+    ("salvage none.pdb out.pdb", Taken),
+    ("salvage damaged.pdb blank.img", Taken),
+    ("salvage damaged.pdb none/out.pdb", Taken),
+    ("salvage damaged.pdb out.pdb", Refused),
+    ("salvage - -", Refused),
     // one block of a file: data, none, and of standard input; resources by type and id
     ("get order.pdb 1", Taken),
     ("get order.pdb 0", Taken),
@@ -122,6 +139,7 @@ pub(crate) static CASES: [(&str, Output); 200] = [
     // files that are taken apart, or not: a damaged one, and folders that are there or can't be
     // made
     ("unpack order.pdb out", Taken),
+    ("unpack --exact order.pdb out", Taken),
     ("unpack tiny.prc out", Taken),
     ("unpack - out", Taken),
     ("unpack damaged.pdb out", Taken),
@@ -131,6 +149,9 @@ pub(crate) static CASES: [(&str, Output); 200] = [
     // files that are put together, or not: a name that climbs, a part that is no file, and no
     // folder
     ("pack parts out.pdb", Taken),
+    ("pack exact out.pdb", Taken),
+    ("pack twice out.pdb", Taken),
+    ("pack hollow out.pdb", Taken),
     ("pack climbs out.pdb", Taken),
     ("pack nested out.pdb", Taken),
     ("pack none out.pdb", Taken),

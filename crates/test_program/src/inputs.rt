@@ -28,7 +28,7 @@ impl Content {
 const ROOM: &str = "50484931 00000200 000C 0000 00000000 00*48 800001C0 00*444";
 
 /// The files, each behind its name.
-pub(crate) static INPUTS: [(&str, Content); 25] = [
+pub(crate) static INPUTS: [(&str, Content); 36] = [
     ("blank.img", Listing(BLANK, "")),
     ("room.img", Listing(ROOM, "")),
     ("records.img", Listing(ONE_DATABASE, "")),
@@ -44,6 +44,13 @@ pub(crate) static INPUTS: [(&str, Content); 25] = [
     ("tiny.prc", Listing(TINY_FILE, "")),
     // the data of the second record begins before the entries end
     ("damaged.pdb", Listing(ORDER_FILE, "86: 00000065")),
+    // the header has five entries, and there are three
+    ("cut.pdb", Listing(ORDER_FILE, "76: 0005")),
+    // no name, a further list, info blocks within the entries and beyond the end
+    (
+        "faults.pdb",
+        Listing(ORDER_FILE, "0: 00, 52: 0000000C00000071, 72: 00000001"),
+    ),
     // the first record is deleted, and has no data
     ("deleted.pdb", Listing(ORDER_FILE, "78: 0000000080")),
     // names with a byte outside ASCII
@@ -73,6 +80,39 @@ pub(crate) static INPUTS: [(&str, Content); 25] = [
     ),
     ("parts/info", Text("app info")),
     ("parts/a.txt", Text("data of a record")),
+    // an exact folder, one that names a block twice, and one with an empty block before another
+    (
+        "exact/database",
+        Text(
+            "exact\nnamefield 004100000000000000000000000000000000000000000000000000\n\
+            filler gap\norder 1\norder app\norder 0\nname \"Exact\"\nattributes 0008\n\
+            version 1\ncreated 1\nmodified 2\nbackup 3\nnumber 4\ntype \"DATA\"\n\
+            creator \"test\"\nseed 00000005\napp info\nsort none\nrecord 60 0 a\nrecord 20 0 b\n",
+        ),
+    ),
+    ("exact/gap", Text("odd")),
+    ("exact/info", Text("app info")),
+    ("exact/a", Text("first")),
+    ("exact/b", Text("second")),
+    (
+        "twice/database",
+        Text(
+            "exact\nnamefield 004100000000000000000000000000000000000000000000000000\n\
+            filler gap\norder 1\norder 1\norder 0\nname \"Exact\"\nattributes 0008\nversion 1\n\
+            created 1\nmodified 2\nbackup 3\nnumber 4\ntype \"DATA\"\ncreator \"test\"\n\
+            seed 00000005\napp info\nsort none\nrecord 60 0 a\nrecord 20 0 b\n",
+        ),
+    ),
+    (
+        "hollow/database",
+        Text(
+            "exact\nfiller none\norder 1\norder 0\nname \"Exact\"\nattributes 0008\nversion 1\n\
+            created 1\nmodified 2\nbackup 3\nnumber 4\ntype \"DATA\"\ncreator \"test\"\n\
+            seed 00000005\napp none\nsort none\nrecord 60 0 a\nrecord 20 0 b\n",
+        ),
+    ),
+    ("hollow/a", Text("first")),
+    ("hollow/b", Text("")),
     // a part that would be outside the folder
     (
         "climbs/database",
@@ -96,9 +136,12 @@ pub(crate) static INPUTS: [(&str, Content); 25] = [
 
 /// The folders that each run finds. The first is in the place of the second file that a script
 /// exports, and the last in the place of a part.
-pub(crate) static FOLDERS: [&str; 6] = [
+pub(crate) static FOLDERS: [&str; 9] = [
     "full.img.2",
     "parts",
+    "exact",
+    "twice",
+    "hollow",
     "climbs",
     "nested",
     "files",

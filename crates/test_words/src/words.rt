@@ -69,6 +69,14 @@ fn base_shown(alloc: Global, request: &BaseRequest) -> Result<String, AllocError
             format!(in alloc; "changes{}\n", named_shown(alloc, files)?)
         }
         BaseRequest::Canonical { file, out } => format!(in alloc; "canonical {file} {out}\n"),
+        BaseRequest::Salvage {
+            file,
+            out,
+            exact_ids,
+        } => {
+            let exact = if *exact_ids { " exact" } else { "" };
+            format!(in alloc; "salvage {file} {out}{exact}\n")
+        }
         BaseRequest::Get {
             file,
             block,
@@ -79,7 +87,14 @@ fn base_shown(alloc: Global, request: &BaseRequest) -> Result<String, AllocError
             block,
             id: Some(id),
         } => format!(in alloc; "get {file} {block} {id}\n"),
-        BaseRequest::Unpack { file, folder } => format!(in alloc; "unpack {file} {folder}\n"),
+        BaseRequest::Unpack {
+            file,
+            folder,
+            exact,
+        } => {
+            let exact = if *exact { " exact" } else { "" };
+            format!(in alloc; "unpack {file} {folder}{exact}\n")
+        }
         BaseRequest::Pack { folder, out } => format!(in alloc; "pack {folder} {out}\n"),
         BaseRequest::Explain { word } => format!(in alloc; "explain {word}\n"),
     }
@@ -93,7 +108,7 @@ fn named_shown(alloc: Global, files: &NamedFiles) -> Result<String, AllocError> 
 
 /// Words, and how what comes of them begins, and what stands in it: commands, words that are
 /// refused, and help.
-static CASES: [(&str, &str, &str); 80] = [
+static CASES: [(&str, &str, &str); 69] = [
     ("palmheap new 128 4 a.img", "new 128 4 a.img\n", ""),
     (
         "palmheap new 4294967295 65535 --  -a",
@@ -114,42 +129,8 @@ static CASES: [(&str, &str, &str); 80] = [
     ("palmheap migrate a.img b.img", "migrate a.img b.img\n", ""),
     ("palmheap map a.img", "map a.img\n", ""),
     ("palmheap map a.img a.svg", "map a.img a.svg\n", ""),
-    ("palmheap list memo.pdb", "list Text [\"memo.pdb\"]\n", ""),
-    (
-        "palmheap canonical memo.pdb new.pdb",
-        "canonical memo.pdb new.pdb\n",
-        "",
-    ),
-    ("palmheap get memo.pdb 0", "get memo.pdb 0\n", ""),
-    ("palmheap get - app", "get - app\n", ""),
-    (
-        "palmheap get tool.prc tSTR 1000",
-        "get tool.prc tSTR 1000\n",
-        "",
-    ),
-    (
-        "palmheap get memo.pdb",
-        "2 error: the following required arguments were not provided:\n  <BLOCK>\n",
-        "",
-    ),
-    (
-        "palmheap get --help",
-        "0 ",
-        "Usage: palmheap get <FILE> <BLOCK> [ID]",
-    ),
-    (
-        "palmheap unpack memo.pdb memos",
-        "unpack memo.pdb memos\n",
-        "",
-    ),
-    ("palmheap pack memos memo.pdb", "pack memos memo.pdb\n", ""),
     ("palmheap databases a.img", "databases a.img Text\n", ""),
     ("palmheap check --json a.img", "check a.img Json\n", ""),
-    (
-        "palmheap list memo.pdb --json",
-        "list Json [\"memo.pdb\"]\n",
-        "",
-    ),
     (
         "palmheap databases --json a.img",
         "databases a.img Json\n",
@@ -238,11 +219,6 @@ static CASES: [(&str, &str, &str); 80] = [
         "palmheap migrate a.img -",
         "2 error: the output can't be '-'",
         "\nUsage: palmheap migrate <IMAGE> <OUT>\n",
-    ),
-    (
-        "palmheap pack memos -",
-        "2 error: the output can't be '-'",
-        "",
     ),
     (
         "palmheap import - memo.pdb",
@@ -411,8 +387,72 @@ fn words_are_read(rt: HostRuntime) -> Result<(), Fail> {
     Ok(())
 }
 
-/// The same for `list` and `canonical`, of several files too.
-static SEVERAL: [(&str, &str, &str); 15] = [
+/// The same for the commands on files, of which some take several.
+static FILE_CASES: [(&str, &str, &str); 31] = [
+    ("palmheap list memo.pdb", "list Text [\"memo.pdb\"]\n", ""),
+    (
+        "palmheap canonical memo.pdb new.pdb",
+        "canonical memo.pdb new.pdb\n",
+        "",
+    ),
+    (
+        "palmheap salvage memo.pdb new.pdb",
+        "salvage memo.pdb new.pdb\n",
+        "",
+    ),
+    (
+        "palmheap salvage --exact-ids - -",
+        "salvage - - exact\n",
+        "",
+    ),
+    (
+        "palmheap salvage memo.pdb",
+        "2 error: the following required arguments were not provided:\n  <OUT>\n",
+        "",
+    ),
+    (
+        "palmheap salvage --help",
+        "0 ",
+        "Usage: palmheap salvage [OPTIONS] <FILE> <OUT>",
+    ),
+    ("palmheap get memo.pdb 0", "get memo.pdb 0\n", ""),
+    ("palmheap get - app", "get - app\n", ""),
+    (
+        "palmheap get tool.prc tSTR 1000",
+        "get tool.prc tSTR 1000\n",
+        "",
+    ),
+    (
+        "palmheap get memo.pdb",
+        "2 error: the following required arguments were not provided:\n  <BLOCK>\n",
+        "",
+    ),
+    (
+        "palmheap get --help",
+        "0 ",
+        "Usage: palmheap get <FILE> <BLOCK> [ID]",
+    ),
+    (
+        "palmheap unpack memo.pdb memos",
+        "unpack memo.pdb memos\n",
+        "",
+    ),
+    (
+        "palmheap unpack --exact memo.pdb memos",
+        "unpack memo.pdb memos exact\n",
+        "",
+    ),
+    ("palmheap pack memos memo.pdb", "pack memos memo.pdb\n", ""),
+    (
+        "palmheap list memo.pdb --json",
+        "list Json [\"memo.pdb\"]\n",
+        "",
+    ),
+    (
+        "palmheap pack memos -",
+        "2 error: the output can't be '-'",
+        "",
+    ),
     (
         "palmheap list memo.pdb tool.prc memo.pdb",
         "list Text named [\"memo.pdb\", \"tool.prc\", \"memo.pdb\"]\n",
@@ -483,8 +523,8 @@ static SEVERAL: [(&str, &str, &str); 15] = [
 ];
 
 #[test]
-fn several_files_are_read(rt: HostRuntime) -> Result<(), Fail> {
-    for (line, front, part) in &SEVERAL {
+fn words_on_files_are_read(rt: HostRuntime) -> Result<(), Fail> {
+    for (line, front, part) in &FILE_CASES {
         check_words(rt.alloc(), line, front, part)?;
     }
     Ok(())
@@ -520,7 +560,7 @@ fn lines_in_one_word_are_read(rt: HostRuntime) -> Result<(), Fail> {
 }
 
 /// The commands that have help.
-static COMMANDS: [&str; 14] = [
+static COMMANDS: [&str; 15] = [
     "new",
     "check",
     "run",
@@ -528,6 +568,7 @@ static COMMANDS: [&str; 14] = [
     "map",
     "list",
     "canonical",
+    "salvage",
     "get",
     "unpack",
     "pack",

@@ -8,6 +8,7 @@ use Rattle.pdb_format.specs.FileTexts.{entries_text}
 use Rattle.pdb_format.specs.ReadFiles.{entries_read}
 use Rattle.pdb_format.proofs.FileBlocks.{length-blocks, block_of}
 use Rattle.pdb_format.proofs.ReadFiles.{length-entries_read}
+use Rattle.canonical_file.specs.Written.{ids_of}
 use Rattle.canonical_file.proofs.Appended.{text_more, length_more, room_left}
 use Rattle.canonical_file.proofs.BlockTexts.{block_long}
 use Rattle.canonical_file.proofs.EntryTexts.{entry_here}
@@ -47,7 +48,7 @@ append-requires c =
     let long = length-blocks file blocks c.blocks-blocks.ensures.places.are in
     let is_block = block_of file blocks (2 + i) c.blocks-blocks.ensures.places.are (omega arith) in
     let is = c.as_slice.ensures ∙ c.to_bytes.ensures.is ∙ ap entry_bytes c.entry_at.ensures.is in
-    let parts = entry_here file c.args.ids.now i c.loop-index.at (length_within (get_or blocks (2 + i) None)) c.as_slice.result.now _ below is is_block (block_long file (get_or blocks (2 + i) None) (c.blocks-blocks.ensures.places.within (2 + i) None (omega arith))) in
+    let parts = entry_here file (ids_of file c.args.ids) i c.loop-index.at (length_within (get_or blocks (2 + i) None)) c.as_slice.result.now _ below is is_block (block_long file (get_or blocks (2 + i) None) (c.blocks-blocks.ensures.places.within (2 + i) None (omega arith))) in
     let old = c.loop-index.invariant.capacity in
     let room = c.requires.room in
     room_left (vec_len c.loop-index.bytes) _ (vec_capacity c.loop-index.bytes) c.as_slice.result.now _ _ parts c.loop-index.invariant.len (omega arith)
@@ -73,7 +74,7 @@ overflow_cast-at c =
 pub loop-index-preserved : goal.loop-index-preserved
 loop-index-preserved c =
     let file = c.args.file.now in
-    let ids = c.args.ids.now in
+    let ids = ids_of file c.args.ids in
     let blocks = c.blocks-blocks.result.now in
     let i = c.loop-index.index in
     let at = c.loop-index.at in
@@ -103,8 +104,8 @@ loop-index-preserved c =
 
 pub returns-clause-items : goal.returns-clause-items
 returns-clause-items c =
-    let es = entries_read c.args.file.now c.args.ids.now in
-    let count = length-entries_read c.args.file.now c.args.ids.now in
+    let es = entries_read c.args.file.now (ids_of c.args.file.now c.args.ids) in
+    let count = length-entries_read c.args.file.now (ids_of c.args.file.now c.args.ids) in
     let past : length es ≤ c.loop-index.index = omega arith in
     sym (append-nil c.loop-index.bytes.items)
     ∙ ap (λ (xs : List (Entry (Option (List ℕ)))). c.loop-index.bytes.items ++ entries_text c.loop-index.at xs) (sym (drop_all c.loop-index.index es past))
@@ -112,8 +113,8 @@ returns-clause-items c =
 
 pub returns-clause-len : goal.returns-clause-len
 returns-clause-len c =
-    let es = entries_read c.args.file.now c.args.ids.now in
-    let count = length-entries_read c.args.file.now c.args.ids.now in
+    let es = entries_read c.args.file.now (ids_of c.args.file.now c.args.ids) in
+    let count = length-entries_read c.args.file.now (ids_of c.args.file.now c.args.ids) in
     let past : length es ≤ c.loop-index.index = omega arith in
     let none = ap (λ (xs : List (Entry (Option (List ℕ)))). length (entries_text c.loop-index.at xs)) (drop_all c.loop-index.index es past) in
     omega (arith, none, c.loop-index.invariant.len)

@@ -7,7 +7,8 @@ use Rattle.file_listing.proofs.walk.entry_row_at.Goals as goal
 pub returns : goal.returns
 returns c =
     let file = c.args.file.now in
+    let names = c.args.categories.now in
     let i = c.args.index in
     c.entry_row.ensures
-    ∙ ap (λ (entry : Entry ℕ). entry_row i entry (bytes_at file c.block-block.result)) c.entry.ensures.is
-    ∙ ap (λ (block : Option (List ℕ)). entry_row i (entry_in file i) block) c.block-block.ensures.is
+    ∙ ap (λ (entry : Entry ℕ). entry_row names i entry (bytes_at file c.block-block.result)) c.entry.ensures.is
+    ∙ ap (λ (block : Option (List ℕ)). entry_row names i (entry_in file i) block) c.block-block.ensures.is

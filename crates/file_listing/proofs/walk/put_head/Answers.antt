@@ -10,5 +10,5 @@ use Rattle.file_listing.proofs.walk.put_head.Goals as goal
 pub returns : goal.returns
 unfolding first_rows
 returns g c =
-    let rows = head_same c.args.facts.now _ _ _ _ _ _ _ _ _ _ _ _ (ap length c.bytes.ensures.bytes) c.header-header.ensures.values c.info_of.ensures c.info_of-2.ensures c.has_resources.ensures c.entry_count.ensures in
+    let rows = head_same c.args.facts.now _ _ _ _ _ _ _ _ (ap length c.bytes.ensures.bytes) c.header-header.ensures.values c.info_of.ensures c.info_of-2.ensures in
     subst (λ (rows : List Row). Writes g.W.Write.contents c.args.out.now c.put_rows.new.out (flat_map (g.N.Notation.row_text c.args.notation.now) rows) (is_ok c.put_rows.result)) rows c.put_rows.ensures

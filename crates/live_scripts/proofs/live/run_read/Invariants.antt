@@ -2,13 +2,15 @@ use Rattle.std.proofs.Common.{[], ◌≡◌, ◌<◌, ◌≤◌, ◌-◌, cond, 
 use Rattle.std.specs.Io.KnownBytes.{IsAtEnd, Keeps, prepend_known}
 use Rattle.script_lines.specs.Cuts.{IsUnended}
 use Rattle.palm_script.specs.Loans.{LoanStays}
-use Rattle.live_scripts.specs.Sessions.{HasRun}
+use Rattle.palm_text.specs.Output.{output}
+use Rattle.script_calls.specs.Lines.{setting}
+use Rattle.live_scripts.specs.Sessions.{HasRun, live_state}
 use Rattle.live_scripts.proofs.live.run_read.Given as goal
 
 -- the lines before `at` were run
 abbrev pub invariant-loop-is_end : goal.invariant-loop-is_end
 invariant-loop-is_end g l = record {
-  has : HasRun (g.A.Allowance.is_short l.memory) g.W.Write.contents l.inputs.files.now (take l.at l.text.items) l.fn.store l.fn.out l.session l.store l.out;
+  has : HasRun (setting (g.A.Allowance.is_short l.memory) l.inputs.files.now) (take l.at l.text.items) l.fn.store (live_state l.session l.store) (output g.W.Write.contents l.fn.out l.out);
   within : l.at ≤ vec_len l.text;
   limit : vec_len l.text ≤ 16777216;
   count : l.session.count ≤ l.at;

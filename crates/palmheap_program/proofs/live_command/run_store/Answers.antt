@@ -1,5 +1,8 @@
 use Rattle.std.proofs.Common.{◌∙◌, ap, Err, refl, rules}
 use Rattle.program_io.specs.declared.input.InputFault.TheVariants.{TooLong}
+use Rattle.palm_text.specs.Output.{output}
+use Rattle.script_calls.specs.Lines.{setting}
+use Rattle.palmheap_program.specs.LiveRuns.{live_text}
 use Rattle.palmheap_program.proofs.LiveEnds.{stopped, stops_short, unread_input}
 use Rattle.palmheap_program.proofs.live_command.run_store.Goals as goal
 
@@ -8,11 +11,9 @@ pub returns-in-Err-clause-ends : goal.returns-in-Err-clause-ends
 returns-in-Err-clause-ends g c =
     let contents = g.V.Write.contents in
     let known = g.R.Read.remaining c.args.reader.now in
-    let inputs = c.args.inputs.files.now in
-    let short = g.A.Allowance.is_short c.args.memory.now in
-    stopped short c.args.store known c.run_read.new.text.items inputs contents c.args.out.now c.end_early.new.out g.W.Write.contents c.args.image_out.now c.args.image_out.now
+    stopped (setting (g.A.Allowance.is_short c.args.memory.now) c.args.inputs.files.now) c.args.store (live_text known c.run_read.new.text.items) contents c.args.out.now c.end_early.new.out g.W.Write.contents c.args.image_out.now c.args.image_out.now
     c.run_read.new.store c.run_read.new.out c.in-Err.fault c.end_early.result c.requires.accepted c.in-Err.ensures.fault
-    (stops_short contents inputs known c.args.store c.args.out.now c.in-Err.fault c.run_read.new.store c.run_read.new.out c.in-Err.ensures.fault) c.end_early.ensures.ends refl
+    (stops_short known c.args.store c.run_read.new.store (output contents c.args.out.now c.run_read.new.out) c.in-Err.fault c.in-Err.ensures.fault) c.end_early.ensures.ends refl
 
 pub returns-in-Err-clause-too_long : goal.returns-in-Err-clause-too_long
 returns-in-Err-clause-too_long g c = λ is. c.run_read.ensures.too_long (c.in-Err.is ∙ ap Err (unread_input (g.A.Allowance.is_short c.args.memory.now) g.V.Write.contents c.run_read.new.out c.end_early.new.out c.in-Err.fault c.end_early.result TooLong c.end_early.ensures.ends (cc)))

@@ -2,7 +2,7 @@ use Rattle.std.proofs.Common.{◌≡◌, ◌∙◌, ◌++◌, ap, length, sym}
 use Rattle.std.proofs.lemmas.List.{with_items_is}
 use Rattle.std.specs.Option.{option_to_list}
 use Rattle.std.specs.Vec.{with_items}
-use Rattle.script_calls.specs.Lines.{tables}
+use Rattle.script_calls.specs.Lines.{setting, tables}
 use Rattle.live_scripts.specs.Sessions.{bound_in}
 use Rattle.palm_script.proofs.LoanLaws.{call_stays}
 use Rattle.live_scripts.proofs.SessionLaws.{runs_line}
@@ -21,7 +21,7 @@ returns-in-Ok-add_file-clause-ok g c =
     let names_kept : length c.do_line.new.names ≡ names.len = c.do_line.auto.names ∙ ap length names_are ∙ sym names.ok.0 in
     let databases_kept : length c.do_line.new.databases ≡ databases.len = c.do_line.auto.databases ∙ ap length databases_are ∙ sym databases.ok.0 in
     let files_are : c.make_room.new.self.files.items ≡ c.args.self.now.files.items = rw c.make_room.ensures.files in
-    runs_line (g.A.Allowance.is_short c.args.memory.now) g.W.Write.contents c.args.inputs.now c.args.line.now (bound_in c.args.self.now) (tables names_given databases_given) (tables c.do_line.new.names c.do_line.new.databases)
+    runs_line (setting (g.A.Allowance.is_short c.args.memory.now) c.args.inputs.now) g.W.Write.contents c.args.line.now (bound_in c.args.self.now) (tables names_given databases_given) (tables c.do_line.new.names c.do_line.new.databases)
     _ c.args.self.now.files.items c.args.store.now c.do_line.new.store c.args.out.now c.do_line.new.out c.in-Ok-do_line.file
     same
     (ap (λ l. tables l (with_items databases c.do_line.new.databases).items) (with_items_is names c.do_line.new.names names_kept) ∙ ap (λ l. tables c.do_line.new.names l) (with_items_is databases c.do_line.new.databases databases_kept))

@@ -1,0 +1,10 @@
+use Rattle.canonical_file.proofs.Canonicals.{cut_canonical, wrote_canonical}
+use Rattle.canonical_file.proofs.canonical.put_canonical_by.Goals as goal
+
+pub returns-clause-done : goal.returns-clause-done
+returns-clause-done g c =
+    wrote_canonical c.args.file.now c.args.given.now g.W.Write.contents c.args.out.now c.put_written.new.out c.put_written.result c.know_file.ensures.good c.requires.ids c.put_written.ensures.done
+
+pub returns-clause-write : goal.returns-clause-write
+returns-clause-write g c = λ e.
+    cut_canonical c.args.file.now c.args.given.now g.W.Write.contents c.args.out.now c.put_written.new.out c.know_file.ensures.good c.requires.ids (c.put_written.ensures.write e)

@@ -1,0 +1,5 @@
+use Rattle.canonical_file.proofs.GoodSalvage.{good_canonical}
+use Rattle.canonical_file.proofs.laws.good_files_are_canonical.Goals as goal
+
+pub returns : goal.returns
+returns c = good_canonical

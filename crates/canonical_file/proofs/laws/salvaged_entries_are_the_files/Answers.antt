@@ -1,0 +1,5 @@
+use Rattle.canonical_file.proofs.KeptEntries.{kept_entries}
+use Rattle.canonical_file.proofs.laws.salvaged_entries_are_the_files.Goals as goal
+
+pub returns : goal.returns
+returns c = kept_entries

@@ -1,0 +1,5 @@
+use Rattle.canonical_file.proofs.WrittenSalvage.{salvaged_good}
+use Rattle.canonical_file.proofs.laws.salvaged_files_have_no_fault.Goals as goal
+
+pub returns : goal.returns
+returns c = salvaged_good

@@ -1,0 +1,171 @@
+//! The commands `canonical` and `salvage`, over files.
+
+ghost use Rattle.std.specs.Prelude.{◌≢◌, ◌≤◌, length};
+
+use crate::canonical_command::cmd_canonical_from;
+use crate::comments::{DROPPED, comment_on_file, comment_on_salvage, name_dropped};
+use crate::salvage_command::cmd_salvage_from;
+use canonical_file::SalvagedIds;
+use command_files::{
+    STANDARD_ERROR, STANDARD_OUTPUT, STANDARD_STREAM, buffered_fault, output_for_database,
+    read_file_or_input,
+};
+use palm_text::Counted;
+use program_io::{ErrorOutput, MOST_INPUT, Noted, Status, report_outcome};
+use std::alloc::Global;
+use std::io;
+use std::io::{BufWriter, Input, Write};
+use std::rt::Files;
+
+/// The size of the buffer for a new file in bytes.
+const BUFFER_SIZE: usize = 65_536;
+
+/// The new file that is written for a file.
+#[derive(Clone, Copy)]
+enum NewFile {
+    /// Its canonical form.
+    Canonical,
+    /// The file that is salvaged from it.
+    Salvaged(SalvagedIds),
+}
+
+/// Runs `canonical`. The path `-` means standard input. The output path `-` means standard output,
+/// and then the reply goes to standard error.
+pub fn canonical<R: Files + Input + Print + Eprint + AllocGlobal>(
+    rt: &R,
+    path: &str,
+    out_path: &str,
+) -> Status
+    ensures { result ≢ Status.BadWords }
+{
+    let file = match read_file_or_input(rt, path) {
+        Ok(file) => file,
+        Err(status) => return status,
+    };
+    let status = write_to(rt, file.as_slice(), NewFile::Canonical, out_path);
+    comment_on_file(rt, path, status, file.as_slice());
+    name_dropped(rt, path, status, file.as_slice(), DROPPED);
+    status
+}
+
+/// Runs `salvage`. The paths are as for `canonical`.
+pub fn salvage<R: Files + Input + Print + Eprint + AllocGlobal>(
+    rt: &R,
+    path: &str,
+    out_path: &str,
+) -> Status
+    ensures { result ≢ Status.BadWords }
+{
+    salvage_by(rt, path, SalvagedIds::Distinct, out_path)
+}
+
+/// Runs `salvage --exact-ids`.
+pub fn salvage_exact_ids<R: Files + Input + Print + Eprint + AllocGlobal>(
+    rt: &R,
+    path: &str,
+    out_path: &str,
+) -> Status
+    ensures { result ≢ Status.BadWords }
+{
+    salvage_by(rt, path, SalvagedIds::Exact, out_path)
+}
+
+/// Salvages a file, with these IDs.
+fn salvage_by<R: Files + Input + Print + Eprint + AllocGlobal>(
+    rt: &R,
+    path: &str,
+    ids: SalvagedIds,
+    out_path: &str,
+) -> Status
+    ensures { result ≢ Status.BadWords }
+{
+    let file = match read_file_or_input(rt, path) {
+        Ok(file) => file,
+        Err(status) => return status,
+    };
+    let status = write_to(rt, file.as_slice(), NewFile::Salvaged(ids), out_path);
+    comment_on_salvage(rt, path, status, file.as_slice());
+    status
+}
+
+/// Writes a new file for a file to a path. The path `-` means standard output.
+fn write_to<R: Files + Print + Eprint + AllocGlobal>(
+    rt: &R,
+    file: &[u8],
+    new: NewFile,
+    out_path: &str,
+) -> Status
+    requires { length file.now ≤ MOST_INPUT }
+    ensures { result ≢ Status.BadWords }
+{
+    if out_path == STANDARD_STREAM {
+        write_to_output(rt, file, new)
+    } else {
+        write_to_file(rt, file, new, out_path)
+    }
+}
+
+/// Writes a new file for a file to standard output.
+fn write_to_output<R: Print + Eprint + AllocGlobal>(rt: &R, file: &[u8], new: NewFile) -> Status
+    requires { length file.now ≤ MOST_INPUT }
+    ensures { result ≢ Status.BadWords }
+{
+    let mut out = Counted::new(Noted::new(ErrorOutput::new(rt)));
+    let (status, file_fault) = rewrite(rt.alloc(), file, new, io::writer(rt), &mut out);
+    let (_, fault) = out.into_inner().into_parts();
+    report_outcome(
+        rt,
+        status,
+        &[(STANDARD_OUTPUT, file_fault), (STANDARD_ERROR, fault)],
+    );
+    status
+}
+
+/// Writes a new file for a file to a path. A heap image isn't replaced.
+fn write_to_file<R: Files + Print + Eprint + AllocGlobal>(
+    rt: &R,
+    file: &[u8],
+    new: NewFile,
+    out_path: &str,
+) -> Status
+    requires { length file.now ≤ MOST_INPUT }
+    ensures { result ≢ Status.BadWords }
+{
+    let mut file_out = match output_for_database(rt, out_path) {
+        Ok(file_out) => file_out,
+        Err(status) => return status,
+    };
+    let mut out = Counted::new(Noted::new(io::writer(rt)));
+    let (status, file_fault) = rewrite(rt.alloc(), file, new, &mut file_out, &mut out);
+    file_out.close();
+    let (_, fault) = out.into_inner().into_parts();
+    report_outcome(
+        rt,
+        status,
+        &[(out_path, file_fault), (STANDARD_OUTPUT, fault)],
+    );
+    status
+}
+
+/// Writes a new file for a file to `file_out`, and its lines to `out`. A buffer collects the
+/// blocks, which may be small. Returns the status, and the first error of `file_out`.
+fn rewrite<W: Write + Drop, V: Write>(
+    alloc: Global,
+    file: &[u8],
+    new: NewFile,
+    file_out: W,
+    out: &mut Counted<V>,
+) -> (Status, Option<io::Error>)
+    requires { length file.now ≤ MOST_INPUT }
+    ensures { result.0 ≢ Status.BadWords }
+{
+    let Ok(file_out) = BufWriter::with_capacity(alloc, BUFFER_SIZE, Noted::new(file_out)) else {
+        return (Status::NoMemory, None);
+    };
+    let mut file_out = Counted::new(file_out);
+    let status = match new {
+        NewFile::Canonical => cmd_canonical_from(&alloc, file, &mut file_out, out),
+        NewFile::Salvaged(ids) => cmd_salvage_from(&alloc, file, ids, &mut file_out, out),
+    };
+    (status, buffered_fault(file_out.into_inner()))
+}

@@ -1,0 +1,28 @@
+-- What the text of an exact folder says after its first line, or its first faulty line.
+use Rattle.std.proofs.Common.{◌≡◌, ℕ, ◌+◌, ◌<◌, false, List, [], Option, Some, None, length, sym, ap, ◌∙◌, arith}
+use Rattle.std.specs.Prelude.{◌==◌, ◌||◌, Ok, Err, slice_index}
+use Rattle.std.proofs.lemmas.Bool.{and_left, ne_eqb}
+use Rattle.heap_model.specs.Database.{Database, data_in}
+use Rattle.script_lines.specs.declared.fault.LineFault.{LineFault}
+use Rattle.file_parts.specs.ExactReading.{ExactHead, after_name_fault, exact_with, is_after_name, or_fault, order_fault, said_by}
+
+-- more bytes than the field has don't come after a name
+pub too_long : (name after : List ℕ) → 32 < length after → false ≡ is_after_name name after
+too_long name after long = sym (and_left (length after + length name == 32) ((length after == 1) || (slice_index after 0 == 0)) (ne_eqb (length after + length name) 32 (λ e. omega arith)))
+
+module _ (head : ExactHead) (database : Database (Option (List ℕ))) where
+  -- the bytes after the name are faulty
+  pub bad_after : (fault : LineFault) → after_name_fault database.header.name head.after_name ≡ Some fault → exact_with head (Ok database) ≡ Err fault
+  bad_after fault faulty = ap (λ (one : Option LineFault). or_fault one (or_fault (order_fault (data_in database) [] head.order) (Ok (said_by head database)))) faulty
+
+  -- a line `order` is faulty, and those before it aren't
+  pub bad_order : (fault : LineFault) → after_name_fault database.header.name head.after_name ≡ None → order_fault (data_in database) [] head.order ≡ Some fault → exact_with head (Ok database) ≡ Err fault
+  bad_order fault good faulty =
+      ap (λ (one : Option LineFault). or_fault one (or_fault (order_fault (data_in database) [] head.order) (Ok (said_by head database)))) good
+      ∙ ap (λ (one : Option LineFault). or_fault one (Ok (said_by head database))) faulty
+
+  -- no line is faulty
+  pub all_good : after_name_fault database.header.name head.after_name ≡ None → order_fault (data_in database) [] head.order ≡ None → exact_with head (Ok database) ≡ Ok (said_by head database)
+  all_good good ordered =
+      ap (λ (one : Option LineFault). or_fault one (or_fault (order_fault (data_in database) [] head.order) (Ok (said_by head database)))) good
+      ∙ ap (λ (one : Option LineFault). or_fault one (Ok (said_by head database))) ordered

@@ -1,0 +1,125 @@
+-- The bytes after the name of a file.
+use Rattle.std.proofs.Common.{◌≡◌, ℕ, suc, ◌+◌, ◌-◌, ◌<◌, ◌≤◌, Bool, true, false, None, List, [], ◌∷◌, ◌++◌, length, get_or, take, refl, sym, ap, subst, ◌∙◌, arith, inl, inr, length-append}
+use Rattle.std.specs.Prelude.{◌==◌, not, replicate}
+use Rattle.std.specs.List.{list_all, prefix_len}
+use Rattle.std.proofs.lemmas.Bool.{and_parts, cases_eq, eq-eqb, ne_eqb}
+use Rattle.std.proofs.lemmas.List.{get_or-take, length-take, length-take-le}
+use Rattle.std.proofs.lemmas.List.Sums.{prefix_len_stops}
+use Rattle.std.proofs.Math.Seq.{get_or-append_seam}
+use Rattle.heap_model.specs.Bytes.{AreBytes}
+use Rattle.heap_model.specs.Database.{IsDatabaseName, name_in}
+use Rattle.file_parts.specs.ExactTexts.{after_name_of, unless_zeros}
+use Rattle.file_parts.specs.ExactReading.{after_name_fault, is_after_name}
+use Rattle.file_parts.proofs.PartsBack.{front_bytes}
+use Rattle.file_parts.proofs.ExactTextBack.{IsAfter, after_at}
+
+-- what is known of a name and the bytes after it in a file
+pub record AreNames (file name after : List ℕ) : Type 0 where
+  pub header : 78 ≤ length file
+  pub named : name ≡ name_in file
+  pub valid : IsDatabaseName name
+  pub field : name ++ after ≡ take 32 file
+
+true_false : true ≡ false → ⊥
+true_false e = cc
+
+was_zero : (x : ℕ) → not (x == 0) ≡ false → x ≡ 0
+was_zero x stops = elim (cases_eq x 0) [
+  | inl is ↦ is
+  | inr some ↦ absurd (true_false (rw (ne_eqb x 0 some) at stops))
+]
+
+after_long : (file name after : List ℕ) → AreNames file name after → length name + length after ≡ 32
+after_long file name after are =
+    let header = are.header in
+    let both = length-append name after in
+    let field = ap length are.field in
+    let long = length-take-le 32 file (omega arith) in
+    omega arith
+
+bytes_behind : (xs ys : List ℕ) → AreBytes (xs ++ ys) → AreBytes ys
+bytes_behind [] ys are = are
+bytes_behind (x ∷ xs) ys are = bytes_behind xs ys (λ k. are (suc k))
+
+at_seam : (xs ys : List ℕ) → 0 < length ys → get_or (xs ++ ys) (length xs) 0 ≡ get_or ys 0 0
+at_seam xs [] some = absurd (omega arith)
+at_seam xs (y ∷ ys) some = get_or-append_seam xs y ys 0
+
+name_stops : (file : List ℕ) → 78 ≤ length file → length (name_in file) < 31 → get_or file (length (name_in file)) 0 ≡ 0
+unfolding name_in
+name_stops file header short =
+    let p : ℕ → Bool = λ byte. not (byte == 0) in
+    let front : List ℕ = take 31 file in
+    let long = length-take-le 31 file (omega arith) in
+    let n : ℕ = prefix_len p front in
+    let taken = length-take n front in
+    let size : length (take n front) ≡ n = omega arith in
+    let stops = prefix_len_stops p front 0 (omega arith) in
+    let here = get_or-take 31 file n 0 (omega arith) in
+    let none = was_zero (get_or front n 0) stops in
+    ap (λ (k : ℕ). get_or file k 0) size ∙ sym here ∙ none
+
+begins_zero : (file name after : List ℕ) → AreNames file name after → length name < 31 → get_or after 0 0 ≡ 0
+begins_zero file name after are short =
+    let long = after_long file name after are in
+    let size = ap length are.named in
+    sym (at_seam name after (omega arith))
+    ∙ ap (λ (xs : List ℕ). get_or xs (length name) 0) are.field
+    ∙ get_or-take 32 file (length name) 0 (omega arith)
+    ∙ ap (λ (n : ℕ). get_or file n 0) size
+    ∙ name_stops file are.header (omega arith)
+
+-- they are right after the name
+pub after_right : (file name after : List ℕ) → AreNames file name after → is_after_name name after ≡ true
+after_right file name after are =
+    let valid = are.valid in
+    let low = valid.some in
+    let high = valid.room in
+    let long = after_long file name after are in
+    let all = eq-eqb (length after + length name) 32 (omega arith) in
+    by_length (length after == 1) refl all where
+      by_length : (v : Bool) → (length after == 1) ≡ v → (length after + length name == 32) ≡ true → is_after_name name after ≡ true
+      by_length true one all = rw (all, one) refl
+      by_length false more all =
+          let long = after_long file name after are in
+          let several : length after ≡ 1 → ⊥ = λ is. true_false (sym (eq-eqb (length after) 1 is) ∙ more) in
+          let valid = are.valid in
+          let high = valid.room in
+          let zero_there = eq-eqb (get_or after 0 0) 0 (begins_zero file name after are (omega arith)) in
+          rw (all, more, zero_there) refl
+
+pub after_fits : (file name after : List ℕ) (n : ℕ) → AreNames file name after → after_name_fault name (after_at n (unless_zeros after)) ≡ None
+after_fits file name after n are = by_zeros (list_all (λ byte. byte == 0) after) refl where
+  by_zeros : (v : Bool) → list_all (λ byte. byte == 0) after ≡ v → after_name_fault name (after_at n (unless_zeros after)) ≡ None
+  by_zeros true is = rw is refl
+  by_zeros false is = rw (is, after_right file name after are) refl
+
+pub after_good : (file name after : List ℕ) → AreBytes file → AreNames file name after → IsAfter (unless_zeros after)
+after_good file name after bytes are = by_zeros (list_all (λ byte. byte == 0) after) refl where
+  by_zeros : (v : Bool) → list_all (λ byte. byte == 0) after ≡ v → IsAfter (unless_zeros after)
+  by_zeros true is = rw is tt
+  by_zeros false is =
+      let long = after_long file name after are in
+      let valid = are.valid in
+      let low = valid.some in
+      let high = valid.room in
+      rw is (bytes_behind name after (subst AreBytes (sym are.field) (front_bytes 32 file bytes)), omega arith, omega arith)
+
+all_zeros : (xs : List ℕ) → list_all (λ byte. byte == 0) xs ≡ true → replicate (length xs) 0 ≡ xs
+all_zeros [] is = refl
+all_zeros (x ∷ xs) is =
+    let parts = and_parts (x == 0) (list_all (λ byte. byte == 0) xs) is in
+    let first = parts.0 in
+    let none : 0 ≡ x = grind arith in
+    let more = all_zeros xs parts.1 in
+    ap (λ (y : ℕ). y ∷ replicate (length xs) 0) none ∙ ap (λ (ys : List ℕ). x ∷ ys) more
+
+-- zeros need no line
+pub after_back : (file name after : List ℕ) → AreNames file name after → after_name_of name (unless_zeros after) ≡ after
+after_back file name after are = by_zeros (list_all (λ byte. byte == 0) after) refl where
+  by_zeros : (v : Bool) → list_all (λ byte. byte == 0) after ≡ v → after_name_of name (unless_zeros after) ≡ after
+  by_zeros true is =
+      let long = after_long file name after are in
+      let left : 32 - length name ≡ length after = omega arith in
+      rw is (ap (λ (n : ℕ). replicate n 0) left ∙ all_zeros after is)
+  by_zeros false is = rw is refl

@@ -1,0 +1,229 @@
+-- A file without fault is the bytes of what it is exactly.
+use Rattle.std.proofs.Common.{◌≡◌, ℕ, zero, suc, ◌+◌, ◌*◌, ◌-◌, ◌^◌, ◌<◌, ◌≤◌, Bool, true, false, Option, None, List, [], ◌∷◌, ◌++◌, length, get_or, take, drop, map, refl, sym, ap, ◌∙◌, arith, inl, inr, append_assoc, append-nil}
+use Rattle.std.specs.Prelude.{◌&&◌, ◌==◌, nat_lt, filter, slice_index}
+use Rattle.std.specs.List.{AllZip, concat, flat_map}
+use Rattle.std.proofs.lemmas.Bool.{and_parts, cases_eq, ltb-true}
+use Rattle.std.proofs.lemmas.List.{length-drop, length-take, drop-drop, take-append-drop}
+use Rattle.std.proofs.lemmas.List.FromFn.{length-map-range_with_len}
+use Rattle.std.proofs.lemmas.Grind.{flat_map-append}
+use Rattle.byteorder.specs.Endian.{big_from, big_bytes}
+use Rattle.byteorder.specs.Numbers.{big_from-lt}
+use Rattle.heap_model.specs.Bytes.{u16_at, u24_at, u32_at, u16_bytes, u24_bytes, u32_bytes, AreBytes}
+use Rattle.heap_model.specs.Lists.{numbered}
+use Rattle.heap_model.specs.DatabaseFields.{entry_size}
+use Rattle.heap_model.specs.Database.{Database, DatabaseHeader, Entry, a_record, a_resource, database_in, entry_at, entry_bytes, entry_count_in, entry_data, entry_in, entry_offset, fields_behind_name, has_resources, header_in, resources_in}
+use Rattle.heap_model.specs.Files.{HasNoFault, blocks_in, block_bytes, block_size, entries_end, offsets_in}
+use Rattle.heap_model.specs.declared.file_fault.FileFault.TheVariants.{Truncated}
+use Rattle.laws_store.proofs.Numbers.{numbered_more, read_bytes, slices_join, number_in_front, byte_in_front}
+use Rattle.laws_store.proofs.Spellings.{size-zero, size-suc}
+use Rattle.pdb_format.specs.Filler.{filler_in, first_start}
+use Rattle.pdb_format.proofs.GoodFiles.{not_truncated, offset_count}
+use Rattle.pdb_format.proofs.LeastOffsets.{first_after, least_most}
+use Rattle.pdb_format.proofs.SortedStarts.{AreSorted}
+use Rattle.pdb_format.proofs.Zips.{zip_long}
+use Rattle.file_parts.specs.Exact.{ExactFile, HasValuesOf, IsExactly, entries_placed, exact_block, exact_blocks, exact_bytes, exact_offset, exact_placed, exact_size, exact_start, is_misplaced, offset_among}
+use Rattle.file_parts.proofs.ExactBlocks.{blocks_rest, first_begins, join, none_misplaced, offset_back, ranks_sorted, starts_of, zero_of}
+
+-- ---- the header and the entries, as they were read
+
+length-entries_in : (bytes : List ℕ) → length (numbered (entry_in bytes) (entry_count_in bytes)) ≡ entry_count_in bytes
+length-entries_in bytes = length-map-range_with_len (entry_in bytes) 0 (entry_count_in bytes)
+
+fields_back : (bytes : List ℕ) → AreBytes bytes → 78 ≤ length bytes → u32_at bytes 72 ≡ 0 → concat (fields_behind_name (database_in bytes)) ≡ take 46 (drop 32 bytes)
+unfolding database_in header_in u16_at u32_at u16_bytes u32_bytes
+fields_back bytes b inside next =
+    let p13 : big_bytes 2 (length (numbered (entry_in bytes) (entry_count_in bytes))) ++ [] ≡ take 2 (drop 76 bytes) =
+    ap (λ (n : ℕ). big_bytes 2 n ++ []) (length-entries_in bytes) ∙ number_in_front 2 0 76 bytes [] b (omega arith) refl in
+    let p12 : big_bytes 4 0 ++ (big_bytes 2 (length (numbered (entry_in bytes) (entry_count_in bytes))) ++ []) ≡ take 6 (drop 72 bytes) =
+    ap (λ (n : ℕ). big_bytes 4 n ++ (big_bytes 2 (length (numbered (entry_in bytes) (entry_count_in bytes))) ++ [])) (sym next) ∙ number_in_front 4 2 72 bytes _ b (omega arith) p13 in
+    let p11 = number_in_front 4 6 68 bytes _ b (omega arith) p12 in
+    let p10 = number_in_front 4 10 64 bytes _ b (omega arith) p11 in
+    let p9 = number_in_front 4 14 60 bytes _ b (omega arith) p10 in
+    let p8 = number_in_front 4 18 56 bytes _ b (omega arith) p9 in
+    let p7 = number_in_front 4 22 52 bytes _ b (omega arith) p8 in
+    let p6 = number_in_front 4 26 48 bytes _ b (omega arith) p7 in
+    let p5 = number_in_front 4 30 44 bytes _ b (omega arith) p6 in
+    let p4 = number_in_front 4 34 40 bytes _ b (omega arith) p5 in
+    let p3 = number_in_front 4 38 36 bytes _ b (omega arith) p4 in
+    let p2 = number_in_front 2 42 34 bytes _ b (omega arith) p3 in
+    number_in_front 2 44 32 bytes _ b (omega arith) p2
+
+entry_back : (resources : Bool) (bytes : List ℕ) (at : ℕ) → AreBytes bytes → at + entry_size resources ≤ length bytes → entry_bytes (entry_at resources bytes at) ≡ take (entry_size resources) (drop at bytes)
+unfolding entry_bytes u16_bytes u24_bytes u32_bytes u16_at u24_at u32_at
+entry_back false bytes at b inside =
+    let e : at + 4 + 1 ≡ at + 5 = omega arith in
+    let p3 : big_bytes 3 (big_from (at + 5) 3 bytes) ≡ take 3 (drop (at + 4 + 1) bytes) = read_bytes 3 (at + 5) bytes b (omega arith) ∙ ap (λ (k : ℕ). take 3 (drop k bytes)) (sym e) in
+    let p2 = byte_in_front 3 (at + 4) bytes (big_bytes 3 (big_from (at + 5) 3 bytes)) (omega arith) p3 in
+    number_in_front 4 4 at bytes _ b (omega arith) p2
+entry_back true bytes at b inside =
+    let e : at + 4 + 2 ≡ at + 6 = omega arith in
+    let p3 : big_bytes 4 (big_from (at + 6) 4 bytes) ≡ take 4 (drop (at + 4 + 2) bytes) = read_bytes 4 (at + 6) bytes b (omega arith) ∙ ap (λ (k : ℕ). take 4 (drop k bytes)) (sym e) in
+    let p2 = number_in_front 2 4 (at + 4) bytes _ b (omega arith) p3 in
+    number_in_front 4 6 at bytes _ b (omega arith) p2
+
+entries_upto : (r : Bool) (bytes : List ℕ) (n : ℕ) → AreBytes bytes → entry_offset r n ≤ length bytes → flat_map entry_bytes (numbered (λ i. entry_at r bytes (entry_offset r i)) n) ≡ take (entry_size r * n) (drop 78 bytes)
+entries_upto r bytes zero b inside = ap (λ (k : ℕ). take k (drop 78 bytes)) (sym (size-zero r))
+entries_upto r bytes (suc n) b inside =
+    let each : ℕ → Entry ℕ = λ i. entry_at r bytes (entry_offset r i) in
+    let more : entry_size r * suc n ≡ entry_size r * n + entry_size r = (let s = size-suc r n in omega arith) in
+    let ih = entries_upto r bytes n b (omega arith) in
+    let one = entry_back r bytes (entry_offset r n) b (omega arith) in
+    ap (flat_map entry_bytes) (numbered_more each n)
+    ∙ flat_map-append entry_bytes (numbered each n) (each n ∷ [])
+    ∙ ap (λ (xs : List ℕ). xs ++ flat_map entry_bytes (each n ∷ [])) ih
+    ∙ ap (λ (xs : List ℕ). take (entry_size r * n) (drop 78 bytes) ++ xs) (append-nil (entry_bytes (each n)) ∙ one)
+    ∙ slices_join (entry_size r * n) (entry_size r) 78 bytes ∙ ap (λ (k : ℕ). take k (drop 78 bytes)) (sym more)
+
+entries_back : (bytes : List ℕ) → AreBytes bytes → entries_end bytes ≤ length bytes → flat_map entry_bytes (database_in bytes).entries ≡ take (entry_size (resources_in bytes) * entry_count_in bytes) (drop 78 bytes)
+unfolding database_in
+entries_back bytes b inside = entries_upto (resources_in bytes) bytes (entry_count_in bytes) b inside
+
+-- ---- the database with its offsets is that of the file
+
+placed_back : (place : ℕ → ℕ) (rank : ℕ) (xs : List (Entry ℕ)) (ys : List (Entry (Option (List ℕ)))) → AllZip HasValuesOf xs ys → ((k : ℕ) → k < length xs → place (rank + k) ≡ get_or (map entry_data xs) k 0) → entries_placed place rank ys ≡ xs
+placed_back place rank [] [] all each = refl
+placed_back place rank [] (y ∷ ys) all each = absurd all
+placed_back place rank (x ∷ xs) [] all each = absurd all
+placed_back place rank (a_record attributes id at ∷ xs) (a_record other_attributes other_id block ∷ ys) all each =
+    let here : rank + 0 ≡ rank = omega arith in
+    let first = sym (ap place here) ∙ each 0 (omega arith) in
+    let more = placed_back place (rank + 1) xs ys all.1 (λ k less. (let next : rank + 1 + k ≡ rank + suc k = omega arith in ap place next ∙ each (suc k) (omega arith))) in
+    ap (λ (n : ℕ). a_record other_attributes other_id n ∷ entries_placed place (rank + 1) ys) first
+    ∙ ap (λ (n : ℕ). a_record n other_id at ∷ entries_placed place (rank + 1) ys) all.0.0
+    ∙ ap (λ (n : ℕ). a_record attributes n at ∷ entries_placed place (rank + 1) ys) all.0.1
+    ∙ ap (λ (es : List (Entry ℕ)). a_record attributes id at ∷ es) more
+placed_back place rank (a_resource kind id at ∷ xs) (a_resource other_kind other_id block ∷ ys) all each =
+    let here : rank + 0 ≡ rank = omega arith in
+    let first = sym (ap place here) ∙ each 0 (omega arith) in
+    let more = placed_back place (rank + 1) xs ys all.1 (λ k less. (let next : rank + 1 + k ≡ rank + suc k = omega arith in ap place next ∙ each (suc k) (omega arith))) in
+    ap (λ (n : ℕ). a_resource other_kind other_id n ∷ entries_placed place (rank + 1) ys) first
+    ∙ ap (λ (n : ℕ). a_resource n other_id at ∷ entries_placed place (rank + 1) ys) all.0.0
+    ∙ ap (λ (n : ℕ). a_resource kind n at ∷ entries_placed place (rank + 1) ys) all.0.1
+    ∙ ap (λ (es : List (Entry ℕ)). a_resource kind id at ∷ es) more
+placed_back place rank (a_record attributes id at ∷ xs) (a_resource kind other_id block ∷ ys) all each = absurd all.0
+placed_back place rank (a_resource kind id at ∷ xs) (a_record attributes other_id block ∷ ys) all each = absurd all.0
+
+few_ranks : (file : List ℕ) → AreBytes file → length (offsets_in file) ≤ 2 ^ 32
+unfolding u16_at
+few_ranks file b =
+    let count = offset_count file in
+    let small = big_from-lt 76 2 file b in
+    omega arith
+
+-- what is known of a file that is exactly this one
+pub order_sorted : (file : List ℕ) (exact : ExactFile) → AreBytes file → IsExactly file exact → AreSorted (offsets_in file) (length file) (starts_of (offsets_in file) exact.order)
+order_sorted file exact b is = ranks_sorted file exact.order is.good (few_ranks file b) is.order
+
+entry_count : (file : List ℕ) (exact : ExactFile) → IsExactly file exact → length exact.database.entries ≡ entry_count_in file
+unfolding database_in
+entry_count file exact is = sym (zip_long HasValuesOf (database_in file).entries exact.database.entries is.entries) ∙ length-entries_in file
+
+resources_are : (file : List ℕ) (exact : ExactFile) → IsExactly file exact → has_resources exact.database.header.attributes ≡ resources_in file
+unfolding header_in
+resources_are file exact is = ap (λ (h : DatabaseHeader). has_resources h.attributes) is.header
+
+entries_end_is : (file : List ℕ) (exact : ExactFile) → IsExactly file exact → entry_offset (has_resources exact.database.header.attributes) (length exact.database.entries) ≡ entries_end file
+entries_end_is file exact is =
+    ap (λ (r : Bool). entry_offset r (length exact.database.entries)) (resources_are file exact is)
+    ∙ ap (entry_offset (resources_in file)) (entry_count file exact is)
+
+start_is : (file : List ℕ) (exact : ExactFile) → IsExactly file exact → exact_start exact ≡ first_start file
+start_is file exact is =
+    let end = entries_end_is file exact is in
+    let low = first_after file is.good in
+    let most = least_most (length file) (filter (nat_lt 0) (offsets_in file)) in
+    let filler = ap length is.filler in
+    let rest = length-drop (entries_end file) file in
+    let long = length-take (first_start file - entries_end file) (drop (entries_end file) file) in
+    omega arith
+
+blocks_same : (file : List ℕ) (exact : ExactFile) → IsExactly file exact → ◌≡◌ {A = ℕ → Option (List ℕ)} (exact_block exact) (λ rank. get_or (blocks_in file) rank None)
+blocks_same file exact is = ap (λ (blocks : List (Option (List ℕ))). λ (rank : ℕ). get_or blocks rank None) is.blocks
+
+offset_is : (file : List ℕ) (exact : ExactFile) (rank : ℕ) → AreBytes file → IsExactly file exact → rank < length (offsets_in file) → exact_offset exact rank ≡ get_or (offsets_in file) rank 0
+offset_is file exact rank b is inside =
+    let sorted = order_sorted file exact b is in
+    ap (λ (block : ℕ → Option (List ℕ)). offset_among block (exact_start exact) exact.order rank) (blocks_same file exact is)
+    ∙ ap (λ (at : ℕ). offset_among (λ r. get_or (blocks_in file) r None) at exact.order rank) (start_is file exact is ∙ sym (first_begins file exact.order sorted))
+    ∙ offset_back file exact.order rank sorted inside
+
+whole : DatabaseHeader → ℕ → ℕ → List (Entry ℕ) → Database ℕ
+whole header app sort entries = record { header = header; app_info = app; sort_info = sort; entries = entries }
+
+placed_is : (file : List ℕ) (exact : ExactFile) → AreBytes file → IsExactly file exact → exact_placed exact ≡ database_in file
+unfolding database_in whole
+placed_is file exact b is =
+    let count = offset_count file in
+    let long = length-entries_in file in
+    let entries = placed_back (exact_offset exact) 2 (database_in file).entries exact.database.entries is.entries (λ k less. (let next : 2 + k ≡ suc (suc k) = omega arith in offset_is file exact (2 + k) b is (omega arith) ∙ ap (λ (n : ℕ). get_or (offsets_in file) n 0) next)) in
+    ap (λ (h : DatabaseHeader). whole h (exact_offset exact 0) (exact_offset exact 1) (entries_placed (exact_offset exact) 2 exact.database.entries)) is.header
+    ∙ ap (λ (n : ℕ). whole (header_in file) n (exact_offset exact 1) (entries_placed (exact_offset exact) 2 exact.database.entries)) (offset_is file exact 0 b is (omega arith))
+    ∙ ap (λ (n : ℕ). whole (header_in file) (get_or (offsets_in file) 0 0) n (entries_placed (exact_offset exact) 2 exact.database.entries)) (offset_is file exact 1 b is (omega arith))
+    ∙ ap (λ (es : List (Entry ℕ)). whole (header_in file) (get_or (offsets_in file) 0 0) (get_or (offsets_in file) 1 0) es) entries
+
+-- ---- all of it
+
+blocks_are : (file : List ℕ) (exact : ExactFile) → AreBytes file → IsExactly file exact → exact_blocks exact ≡ drop (first_start file) file
+unfolding exact_blocks
+blocks_are file exact b is =
+    ap (λ (block : ℕ → Option (List ℕ)). flat_map (λ rank. block_bytes (block rank)) exact.order) (blocks_same file exact is)
+    ∙ blocks_rest file exact.order (order_sorted file exact b is)
+
+taken_joined : (file : List ℕ) (at n : ℕ) → take n (drop at file) ++ drop (at + n) file ≡ drop at file
+taken_joined file at n = ap (λ (xs : List ℕ). take n (drop at file) ++ xs) (sym (drop-drop n at file)) ∙ take-append-drop n (drop at file)
+
+no_list : (file : List ℕ) → HasNoFault file → u32_at file 72 ≡ 0
+no_list file good = elim (cases_eq (u32_at file 72) 0) [
+  | inl is ↦ is
+  | inr some ↦ absurd (good 1 Truncated (omega arith) some)
+]
+
+pub bytes_are : (file : List ℕ) (exact : ExactFile) → AreBytes file → IsExactly file exact → exact_bytes exact ≡ file
+unfolding exact_bytes
+bytes_are file exact b is =
+    let inside = not_truncated file is.good in
+    let header = inside.0 in
+    let end = inside.1 in
+    let after : List ℕ = exact.after_name in
+    let fields : List ℕ = concat (fields_behind_name (exact_placed exact)) in
+    let entries : List ℕ = flat_map entry_bytes (exact_placed exact).entries in
+    let tail : List ℕ = exact.filler ++ exact_blocks exact in
+    let size : ℕ = entry_size (resources_in file) * entry_count_in file in
+    let tail_is : tail ≡ drop (78 + size) file =
+    ap (λ (xs : List ℕ). xs ++ exact_blocks exact) is.filler
+    ∙ ap (λ (xs : List ℕ). filler_in file ++ xs) (blocks_are file exact b is)
+    ∙ join file (entries_end file) (first_start file) (first_after file is.good) in
+    let entries_are : entries ≡ take size (drop 78 file) = ap (λ (d : Database ℕ). flat_map entry_bytes d.entries) (placed_is file exact b is) ∙ entries_back file b end in
+    let fields_are : fields ≡ take 46 (drop 32 file) = ap (λ (d : Database ℕ). concat (fields_behind_name d)) (placed_is file exact b is) ∙ fields_back file b header (no_list file is.good) in
+    sym (append_assoc exact.database.header.name after (fields ++ (entries ++ tail)))
+    ∙ ap (λ (xs : List ℕ). xs ++ (fields ++ (entries ++ tail))) is.name_field
+    ∙ ap (λ (xs : List ℕ). take 32 file ++ (fields ++ (entries ++ xs))) tail_is
+    ∙ ap (λ (xs : List ℕ). take 32 file ++ (fields ++ (xs ++ drop (78 + size) file))) entries_are
+    ∙ ap (λ (xs : List ℕ). take 32 file ++ (fields ++ xs)) (taken_joined file 78 size)
+    ∙ ap (λ (xs : List ℕ). take 32 file ++ (xs ++ drop 78 file)) fields_are
+    ∙ ap (λ (xs : List ℕ). take 32 file ++ xs) (taken_joined file 32 46)
+    ∙ take-append-drop 32 file
+
+pub size_is : (file : List ℕ) (exact : ExactFile) → AreBytes file → IsExactly file exact → exact_size exact ≡ length file
+size_is file exact b is =
+    let start = start_is file exact is in
+    let blocks = ap length (blocks_are file exact b is) in
+    let rest = length-drop (first_start file) file in
+    let most = least_most (length file) (filter (nat_lt 0) (offsets_in file)) in
+    let low = first_after file is.good in
+    omega arith
+
+pub placed_well : (file : List ℕ) (exact : ExactFile) → AreBytes file → IsExactly file exact → (index : ℕ) → is_misplaced exact index ≡ false
+placed_well file exact b is index = by_test (is_misplaced exact index) refl where
+  by_test : (v : Bool) → is_misplaced exact index ≡ v → is_misplaced exact index ≡ false
+  by_test false e = e
+  by_test true e =
+      let ranks : List ℕ = exact.order in
+      let parts = and_parts (nat_lt (index + 1) (length ranks) && nat_lt (slice_index ranks (index + 1)) (slice_index ranks index)) (block_size (exact_block exact (slice_index ranks index)) == 0) e in
+      let first = and_parts (nat_lt (index + 1) (length ranks)) (nat_lt (slice_index ranks (index + 1)) (slice_index ranks index)) parts.0 in
+      let next = ltb-true (index + 1) (length ranks) first.0 in
+      let lower = ltb-true (slice_index ranks (index + 1)) (slice_index ranks index) first.1 in
+      let none = zero_of (block_size (exact_block exact (slice_index ranks index))) parts.1 in
+      let same = ap (λ (block : ℕ → Option (List ℕ)). block_size (block (slice_index ranks index))) (blocks_same file exact is) in
+      let rises = none_misplaced file ranks index (order_sorted file exact b is) next (sym same ∙ none) in
+      absurd (omega arith)

@@ -1,0 +1,14 @@
+use Rattle.std.proofs.Common.{◌≡◌, [], length, map, take, drop}
+use Rattle.heap_model.specs.Database.{data_in}
+use Rattle.file_parts.specs.Listed.{database_listed}
+use Rattle.file_parts.specs.ExactReading.{order_fault}
+use Rattle.file_parts.specs.ExactListed.{AreMarked}
+use Rattle.file_parts.proofs.exact_listed.add_named.Given as goal
+
+-- the ranks of the lines so far are added and marked, and the first faulty line is one of the others
+abbrev pub invariant-loop-line : goal.invariant-loop-line
+invariant-loop-line g l = record {
+  ranks : l.ranks.items ≡ map (λ line. line.rank) (take l.line-index l.order);
+  marks : AreMarked (length (data_in (database_listed l.listed))) l.ranks.items l.marks;
+  fault : order_fault (data_in (database_listed l.listed)) [] l.order ≡ order_fault (data_in (database_listed l.listed)) l.ranks.items (drop l.line-index l.order);
+}

@@ -1,0 +1,9 @@
+use Rattle.std.proofs.Common.{◌≡◌, ◌++◌}
+use Rattle.heap_model.specs.Database.{data_in}
+use Rattle.file_parts.specs.Listed.{database_listed}
+use Rattle.file_parts.specs.ExactListed.{free_ranks}
+use Rattle.file_parts.proofs.exact_listed.add_others.Given as goal
+
+-- the ranks without a mark so far are added
+abbrev pub invariant-loop-rank : goal.invariant-loop-rank
+invariant-loop-rank g l = l.ranks.items ≡ l.fn.ranks.items ++ free_ranks (data_in (database_listed l.listed)) l.marks l.rank

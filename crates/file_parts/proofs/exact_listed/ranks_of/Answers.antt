@@ -1,0 +1,16 @@
+use Rattle.std.proofs.Common.{◌≡◌, List, ℕ, Option, length, map, sym, subst, arith, rules}
+use Rattle.std.proofs.lemmas.Grind.{common_steps}
+use Rattle.heap_model.specs.Database.{data_in}
+use Rattle.file_parts.specs.Listed.{database_listed}
+use Rattle.file_parts.specs.ExactListed.{AreMarked}
+use Rattle.file_parts.proofs.ExactOrders.{ranks_all}
+use Rattle.file_parts.proofs.exact_listed.ranks_of.Goals as goal
+
+pub returns-in-Ok-add_others-clause-ranks : goal.returns-in-Ok-add_others-clause-ranks
+returns-in-Ok-add_others-clause-ranks g c =
+    let blocks : List (Option (List ℕ)) = data_in (database_listed c.args.listed.now) in
+    let mid : List ℕ = c.add_named.new.ranks.items in
+    let marks : List ℕ = c.as_slice.result.now in
+    let same : marks ≡ c.add_named.new.marks = first_of (search rules, first_of (cc, grind (arith, common_steps))) in
+    ranks_all blocks (map (λ line. line.rank) c.args.order.now) mid c.add_others.new.ranks.items marks c.in-Ok-add_named.ensures.ranks
+    (subst (AreMarked (length blocks) mid) (sym same) c.in-Ok-add_named.ensures.marks) c.in-Ok-add_others.ensures.ranks

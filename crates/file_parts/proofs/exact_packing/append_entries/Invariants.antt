@@ -1,0 +1,11 @@
+use Rattle.std.proofs.Common.{◌≡◌, ◌++◌, ℕ, List, take}
+use Rattle.std.specs.List.{flat_map}
+use Rattle.heap_model.specs.Database.{entry_bytes}
+use Rattle.file_parts.specs.Exact.{exact_placed}
+use Rattle.file_parts.specs.ExactListed.{AreOffsets, exact_packed}
+use Rattle.file_parts.proofs.exact_packing.append_entries.Given as goal
+
+-- the entries so far are appended
+abbrev pub invariant-loop-index : goal.invariant-loop-index
+invariant-loop-index g l =
+    (parts : List (List ℕ)) → AreOffsets (exact_packed l.exact parts) l.offsets → l.bytes.items ≡ l.fn.bytes.items ++ flat_map entry_bytes (take l.index (exact_placed (exact_packed l.exact parts)).entries)

@@ -1,0 +1,12 @@
+use Rattle.std.proofs.Common.{◌<◌, length, ◌∙◌, arith}
+use Rattle.heap_model.specs.Database.{data_in}
+use Rattle.file_parts.specs.Listed.{database_listed}
+use Rattle.file_parts.proofs.ExactPacked.{block_is}
+use Rattle.file_parts.proofs.exact_packing.block_of.Goals as goal
+
+pub returns : goal.returns
+returns c =
+    let exact = c.args.exact.now in
+    let count = c.requires.parts.count in
+    let inside : c.args.rank < length (data_in (database_listed exact.listed)) = omega (arith, c.requires.inside) in
+    c.part_bytes.ensures ∙ block_is exact c.args.parts.now c.args.rank c.part.result.now inside c.part.ensures

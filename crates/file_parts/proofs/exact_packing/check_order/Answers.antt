@@ -1,0 +1,9 @@
+use Rattle.std.proofs.Common.{ℕ, ◌≡◌, false, sym, ◌∙◌, below_more}
+use Rattle.file_parts.specs.Exact.{is_misplaced}
+use Rattle.file_parts.specs.ExactListed.{exact_packed}
+use Rattle.file_parts.proofs.exact_packing.check_order.Goals as goal
+
+pub loop-index-preserved : goal.loop-index-preserved
+loop-index-preserved c =
+    below_more (λ (k : ℕ). is_misplaced (exact_packed c.args.exact.now c.args.parts.now) k ≡ false) c.loop-index.index c.loop-index.invariant
+    (sym c.is_misplaced.ensures ∙ c.if-is_misplaced.false)

@@ -1,0 +1,16 @@
+use Rattle.std.proofs.Common.{◌+◌, length, ◌∙◌, arith}
+use Rattle.file_parts.specs.Exact.{ExactFile, exact_size}
+use Rattle.file_parts.specs.ExactListed.{exact_packed}
+use Rattle.file_parts.proofs.ExactPacked.{start_is}
+use Rattle.file_parts.proofs.PackedFiles.{refused_more}
+use Rattle.file_parts.proofs.exact_packing.first_offset.Goals as goal
+
+pub returns-in-Ok-clause-is : goal.returns-in-Ok-clause-is
+returns-in-Ok-clause-is c =
+    c.in-Ok.ensures.is ∙ start_is c.args.exact.now c.args.parts.now c.entries_end.result c.filler_of.result.now c.entries_end.ensures.is c.filler_of.ensures
+
+pub returns-in-Err-clause-large : goal.returns-in-Err-clause-large
+returns-in-Err-clause-large c =
+    let file : ExactFile = exact_packed c.args.exact.now c.args.parts.now in
+    let begin = start_is c.args.exact.now c.args.parts.now c.entries_end.result c.filler_of.result.now c.entries_end.ensures.is c.filler_of.ensures in
+    refused_more (c.entries_end.result + length c.filler_of.result.now) (exact_size file) c.in-Err.fault (omega arith) c.in-Err.ensures.large

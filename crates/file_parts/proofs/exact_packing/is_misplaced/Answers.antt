@@ -1,0 +1,17 @@
+use Rattle.std.proofs.Common.{◌<◌, ℕ, List, Option, length, get_or, refl, sym, subst, ◌∙◌, arith}
+use Rattle.heap_model.specs.Database.{data_in}
+use Rattle.file_parts.specs.Listed.{database_listed}
+use Rattle.file_parts.proofs.ExactInside.{rank_inside}
+use Rattle.file_parts.proofs.exact_packing.is_misplaced.Goals as goal
+
+pub block_of-requires-clause-inside : goal.block_of-requires-clause-inside
+block_of-requires-clause-inside c =
+    let exact = c.args.exact.now in
+    let good = c.requires.parts.good in
+    let count = c.requires.parts.count in
+    let blocks : List (Option (List ℕ)) = data_in (database_listed exact.listed) in
+    let ranks : List ℕ = c.as_slice-ranks.result.now in
+    let is = c.as_slice-ranks.ensures.value in
+    let within : c.args.index < length ranks = subst (λ (xs : List ℕ). c.args.index < length xs) (sym is) c.requires.inside in
+    let inside : get_or ranks c.args.index 0 < length blocks = rank_inside blocks exact.lines.order.items ranks c.args.index (get_or ranks c.args.index 0) good.order (is ∙ good.ranks) within refl in
+    omega arith

@@ -1,0 +1,16 @@
+use Rattle.std.proofs.Common.{◌≡◌, ◌≤◌, length, take}
+use Rattle.heap_model.specs.Database.{data_in}
+use Rattle.canonical_file.specs.Canonical.{most_bytes}
+use Rattle.file_parts.specs.Listed.{database_listed}
+use Rattle.file_parts.specs.Exact.{exact_block, exact_start}
+use Rattle.file_parts.specs.ExactListed.{exact_packed}
+use Rattle.file_parts.proofs.ExactPlaces.{ArePlaced}
+use Rattle.file_parts.proofs.exact_packing.place_ranks.Given as goal
+
+-- the ranks so far have their offsets, and the next block begins at `at`
+abbrev pub invariant-loop-index : goal.invariant-loop-index
+invariant-loop-index l = record {
+  placed : ArePlaced (exact_block (exact_packed l.exact l.parts)) (exact_start (exact_packed l.exact l.parts)) (length (data_in (database_listed l.exact.listed))) (take l.index l.exact.ranks.items) l.offsets l.at;
+  room : length l.offsets ≡ length (data_in (database_listed l.exact.listed));
+  most : l.at ≤ most_bytes;
+}

@@ -1,0 +1,14 @@
+use Rattle.std.proofs.Common.{◌<◌, ℕ, List, length, get_or, refl, sym, subst, ◌∙◌}
+use Rattle.heap_model.specs.Database.{data_in}
+use Rattle.file_parts.specs.Listed.{database_listed}
+use Rattle.file_parts.proofs.ExactInside.{rank_inside}
+use Rattle.file_parts.proofs.exact_packing.rank_at.Goals as goal
+
+pub returns-clause-there : goal.returns-clause-there
+returns-clause-there c =
+    let exact = c.args.exact.now in
+    let good = c.requires.good in
+    let ranks : List ℕ = c.as_slice-ranks.result.now in
+    let is = c.as_slice-ranks.ensures.value in
+    let within : c.args.index < length ranks = subst (λ (xs : List ℕ). c.args.index < length xs) (sym is) c.requires.inside in
+    rank_inside (data_in (database_listed exact.listed)) exact.lines.order.items ranks c.args.index (get_or ranks c.args.index 0) good.order (is ∙ good.ranks) within refl

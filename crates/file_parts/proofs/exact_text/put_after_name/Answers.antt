@@ -1,0 +1,22 @@
+use Rattle.std.proofs.Common.{◌≡◌, ◌++◌, List, ℕ, true, refl, sym, ap, subst, ◌∙◌}
+use Rattle.std.specs.Prelude.{codes, is_ok}
+use Rattle.std.proofs.lemmas.Bool.{false≢true}
+use Rattle.hex.specs.Hex.{encode_lower}
+use Rattle.palm_text.specs.Counted.{Writes}
+use Rattle.palm_text.proofs.Parts.{nothing}
+use Rattle.file_parts.specs.ExactUnpacking.{after_name_text}
+use Rattle.file_parts.proofs.ExactHeads.{no_line, some_line}
+use Rattle.file_parts.proofs.ExactRead.{name_front}
+use Rattle.file_parts.proofs.exact_text.put_after_name.Goals as goal
+
+pub returns-then-has_name : goal.returns-then-has_name
+returns-then-has_name g c =
+    subst (λ (text : List ℕ). Writes g.W.Write.contents c.args.out.now c.args.out.now text true) (sym (no_line c.args.file.now (c.if-has_name.ensures.0 refl))) (nothing g.W.Write.contents c.args.out.now)
+
+pub returns : goal.returns
+returns g c =
+    let file : List ℕ = c.args.file.now in
+    let line : codes "namefield " ++ (encode_lower c.after_name.result.now ++ codes "\n") ≡ after_name_text file =
+    ap (λ (xs : List ℕ). codes "namefield " ++ (encode_lower xs ++ codes "\n")) c.after_name.ensures.is
+    ∙ sym (some_line file c.after_name.ensures.long c.after_name.ensures.valid (name_front file) (λ has. false≢true (c.if-has_name.ensures.1 has))) in
+    subst (λ (text : List ℕ). Writes g.W.Write.contents c.args.out.now c.put_pieces.new.out text (is_ok c.put_pieces.result)) line c.put_pieces.ensures

@@ -1,0 +1,23 @@
+use Rattle.std.proofs.Common.{◌++◌, List, ℕ, false, subst}
+use Rattle.std.specs.Prelude.{is_ok}
+use Rattle.heap_model.specs.Database.{DatabaseHeader}
+use Rattle.db_format.specs.Headers.{header_values}
+use Rattle.palm_text.specs.Counted.{Writes}
+use Rattle.palm_text.proofs.Parts.{then, stops}
+use Rattle.file_parts.specs.Texts.{body_lines, database_text, header_lines, with_names}
+use Rattle.file_parts.specs.Exact.{exact_database}
+use Rattle.file_parts.proofs.exact_text.put_database_lines.Goals as goal
+
+pub returns-in-Ok : goal.returns-in-Ok
+unfolding database_text exact_database
+returns-in-Ok g c =
+    let body : List ℕ = body_lines (with_names (exact_database c.args.file.now)) in
+    subst (λ (h : DatabaseHeader). Writes g.W.Write.contents c.args.out.now c.put_body.new.out (header_lines h ++ body) (is_ok c.put_body.result)) c.header.ensures.values
+    (then g.W.Write.contents c.args.out.now c.put_header.new.out c.put_body.new.out (header_lines (header_values c.header.result)) body (is_ok c.put_body.result) c.in-Ok.ensures c.put_body.ensures)
+
+pub returns-in-Err : goal.returns-in-Err
+unfolding database_text exact_database
+returns-in-Err g c =
+    let body : List ℕ = body_lines (with_names (exact_database c.args.file.now)) in
+    subst (λ (h : DatabaseHeader). Writes g.W.Write.contents c.args.out.now c.put_header.new.out (header_lines h ++ body) false) c.header.ensures.values
+    (stops g.W.Write.contents c.args.out.now c.put_header.new.out (header_lines (header_values c.header.result)) body c.in-Err.ensures)

@@ -1,0 +1,35 @@
+use Rattle.std.proofs.Common.{◌+◌, ◌<◌, ◌≤◌, List, ℕ, true, false, sym, subst, arith}
+use Rattle.heap_model.specs.Database.{entry_count_in}
+use Rattle.palm_text.specs.Counted.{Writes}
+use Rattle.palm_text.proofs.Parts.{then, stops, nothing}
+use Rattle.file_parts.specs.ExactUnpacking.{exact_entry_line}
+use Rattle.file_parts.proofs.ExactEntries.{rest_lines, all_lines, line_here, none_left}
+use Rattle.file_parts.proofs.exact_text.put_entries.Goals as goal
+
+pub loop-index-preserved : goal.loop-index-preserved
+loop-index-preserved g c = λ new ok w.
+    let file = c.args.file.now in
+    let i = c.loop-index.index in
+    let inside : i < entry_count_in file = omega arith in
+    c.loop-index.invariant new ok
+    (subst (λ (text : List ℕ). Writes g.W.Write.contents c.loop-index.out new text ok) (sym (line_here file i inside))
+    (then g.W.Write.contents c.loop-index.out c.put_entry.new.out new (exact_entry_line file i) (rest_lines file (i + 1)) ok c.in-Ok.ensures w))
+
+pub returns-in-Err : goal.returns-in-Err
+returns-in-Err g c =
+    let file = c.args.file.now in
+    let i = c.loop-index.index in
+    let inside : i < entry_count_in file = omega arith in
+    subst (λ (text : List ℕ). Writes g.W.Write.contents c.args.out.now c.put_entry.new.out text false) (all_lines file)
+    (c.loop-index.invariant c.put_entry.new.out false
+    (subst (λ (text : List ℕ). Writes g.W.Write.contents c.loop-index.out c.put_entry.new.out text false) (sym (line_here file i inside))
+    (stops g.W.Write.contents c.loop-index.out c.put_entry.new.out (exact_entry_line file i) (rest_lines file (i + 1)) c.in-Err.ensures)))
+
+pub returns : goal.returns
+returns g c =
+    let file = c.args.file.now in
+    let i = c.loop-index.index in
+    let past : entry_count_in file ≤ i = omega arith in
+    subst (λ (text : List ℕ). Writes g.W.Write.contents c.args.out.now c.loop-index.out text true) (all_lines file)
+    (c.loop-index.invariant c.loop-index.out true
+    (subst (λ (text : List ℕ). Writes g.W.Write.contents c.loop-index.out c.loop-index.out text true) (sym (none_left file i past)) (nothing g.W.Write.contents c.loop-index.out)))

@@ -1,0 +1,8 @@
+use Rattle.std.proofs.Common.{Bool}
+use Rattle.palm_text.specs.Counted.{Writing, Writes}
+use Rattle.file_parts.proofs.ExactEntries.{rest_lines}
+use Rattle.file_parts.proofs.exact_text.put_entries.Given as goal
+
+-- whatever is written from here on completes the lines
+abbrev pub invariant-loop-index : goal.invariant-loop-index
+invariant-loop-index g l = (new : Writing g.row.W.Denot) (ok : Bool) → Writes g.W.Write.contents l.out new (rest_lines l.file l.index) ok → Writes g.W.Write.contents l.fn.out new (rest_lines l.file 0) ok

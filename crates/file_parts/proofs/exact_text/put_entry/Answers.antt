@@ -1,0 +1,36 @@
+use Rattle.std.proofs.Common.{List, ℕ, Option, false, sym, ap, ◌∙◌, subst}
+use Rattle.std.specs.Prelude.{is_ok}
+use Rattle.heap_model.specs.Database.{Entry, entry_data, entry_in, entry_with}
+use Rattle.palm_text.specs.Counted.{Writes}
+use Rattle.palm_text.proofs.Parts.{then, stops}
+use Rattle.db_format.specs.EitherEntry.{entry_of}
+use Rattle.pdb_format.specs.Blocks.{bytes_at}
+use Rattle.file_parts.specs.Texts.{entry_name, entry_values, name_if_data, part_text}
+use Rattle.file_parts.specs.Exact.{exact_entry}
+use Rattle.file_parts.proofs.EntryLines.{line_joined}
+use Rattle.file_parts.proofs.ExactHeads.{with_twice, data_with}
+use Rattle.file_parts.proofs.exact_text.put_entry.Goals as goal
+
+pub returns-in-Err : goal.returns-in-Err
+returns-in-Err g c =
+    let file = c.args.file.now in
+    let i = c.args.index in
+    let name : List ℕ = entry_name i in
+    let e : Entry (Option (List ℕ)) = exact_entry file i in
+    let block : Option (List ℕ) = bytes_at file c.block-block.result in
+    let is_block = c.block-block.ensures.is ∙ sym (data_with (entry_in file i) _) in
+    subst (λ (text : List ℕ). Writes g.W.Write.contents c.args.out.now c.put_values.new.out text false)
+    (line_joined name e (entry_of c.entry.result) block (λ part. ap (entry_with {Data = ℕ} (λ _. part)) c.entry.ensures.is ∙ with_twice (entry_in file i) _ part) is_block)
+    (stops g.W.Write.contents c.args.out.now c.put_values.new.out (entry_values (entry_with (λ _. name_if_data name (entry_data e)) (entry_of c.entry.result))) (part_text (name_if_data name block)) (c.in-Err.ensures (name_if_data name (entry_data e))))
+
+pub returns-in-Ok : goal.returns-in-Ok
+returns-in-Ok g c =
+    let file = c.args.file.now in
+    let i = c.args.index in
+    let name : List ℕ = entry_name i in
+    let e : Entry (Option (List ℕ)) = exact_entry file i in
+    let block : Option (List ℕ) = bytes_at file c.block-block.result in
+    let is_block = c.block-block.ensures.is ∙ sym (data_with (entry_in file i) _) in
+    subst (λ (text : List ℕ). Writes g.W.Write.contents c.args.out.now c.put_part.new.out text (is_ok c.put_part.result))
+    (line_joined name e (entry_of c.entry.result) block (λ part. ap (entry_with {Data = ℕ} (λ _. part)) c.entry.ensures.is ∙ with_twice (entry_in file i) _ part) is_block)
+    (then g.W.Write.contents c.args.out.now c.put_values.new.out c.put_part.new.out (entry_values (entry_with (λ _. name_if_data name (entry_data e)) (entry_of c.entry.result))) (part_text (name_if_data name block)) (is_ok c.put_part.result) (c.in-Ok.ensures (name_if_data name (entry_data e))) (c.put_part.ensures file))

@@ -1,0 +1,12 @@
+use Rattle.std.proofs.Common.{◌≡◌, List, ℕ, false, length, sym, ap, subst, ◌∙◌}
+use Rattle.std.specs.Prelude.{◌==◌, is_ok}
+use Rattle.palm_text.specs.Counted.{Writes}
+use Rattle.pdb_format.specs.Filler.{filler_in}
+use Rattle.file_parts.proofs.ExactHeads.{filler_some}
+use Rattle.file_parts.proofs.exact_text.put_filler.Goals as goal
+
+pub returns-else-is_empty : goal.returns-else-is_empty
+returns-else-is_empty g c =
+    let file : List ℕ = c.args.file.now in
+    let some : (length (filler_in file) == 0) ≡ false = ap (λ (xs : List ℕ). length xs == 0) (sym c.filler.ensures) ∙ sym c.is_empty.ensures ∙ c.if-is_empty.false in
+    subst (λ (text : List ℕ). Writes g.W.Write.contents c.args.out.now c.put_pieces-else-is_empty.new.out text (is_ok c.put_pieces-else-is_empty.result)) (sym (filler_some file some)) c.put_pieces-else-is_empty.ensures

@@ -1,0 +1,8 @@
+use Rattle.std.proofs.Common.{◌++◌, List, ℕ, subst}
+use Rattle.std.specs.Prelude.{codes, is_ok}
+use Rattle.palm_text.specs.Counted.{Writes}
+use Rattle.file_parts.proofs.exact_text.put_rank.Goals as goal
+
+pub returns : goal.returns
+returns g c =
+    subst (λ (word : List ℕ). Writes g.W.Write.contents c.args.out.now c.put_pieces.new.out (codes "order " ++ (word ++ codes "\n")) (is_ok c.put_pieces.result)) c.rank_piece.ensures c.put_pieces.ensures

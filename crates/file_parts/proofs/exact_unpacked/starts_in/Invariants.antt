@@ -1,0 +1,8 @@
+use Rattle.std.proofs.Common.{◌≡◌}
+use Rattle.heap_model.specs.Files.{offsets_in}
+use Rattle.file_parts.proofs.ExactStarts.{first_starts}
+use Rattle.file_parts.proofs.exact_unpacked.starts_in.Given as goal
+
+-- the starts of the first ranks are collected
+abbrev pub invariant-loop-rank : goal.invariant-loop-rank
+invariant-loop-rank g l = l.starts.items ≡ first_starts (offsets_in l.file) l.rank

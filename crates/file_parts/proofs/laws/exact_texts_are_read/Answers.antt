@@ -1,0 +1,5 @@
+use Rattle.file_parts.proofs.ExactFolders.{text_back}
+use Rattle.file_parts.proofs.laws.exact_texts_are_read.Goals as goal
+
+pub returns : goal.returns
+returns c = text_back

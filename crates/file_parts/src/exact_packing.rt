@@ -1,0 +1,331 @@
+//! Files of exact folders.
+
+ghost use Rattle.std.specs.Prelude.{◌≡◌, ◌≤◌, ◌<◌, ◌+◌, ◌++◌, ℕ, List, false, Err, IfOk, IfErr, OnOk, length, replicate, slice_index};
+ghost use Rattle.std.specs.List.{concat, flat_map};
+ghost use Rattle.heap_model.specs.Database as databases;
+ghost use Rattle.heap_model.specs.Database.{data_in, entry_bytes, entry_with, fields_behind_name, has_resources};
+ghost use Rattle.heap_model.specs.Files.{block_bytes};
+ghost use Rattle.db_format.specs.EitherEntry.{entry_of, HasFittingId};
+ghost use Rattle.canonical_file.specs.Canonical.{most_bytes};
+ghost use Rattle.file_parts.specs.Exact as files;
+ghost use Rattle.file_parts.specs.Exact.{exact_block, exact_blocks, exact_bytes, exact_placed, exact_size, exact_start};
+ghost use Rattle.file_parts.specs.Listed.{IsListed, database_listed};
+ghost use Rattle.file_parts.specs.Packing.{IsRefusedFor};
+ghost use Rattle.file_parts.specs.ExactTexts.{after_name_of};
+ghost use Rattle.file_parts.specs.ExactListed.{AreOffsets, HasExactParts, IsExactPackFault, IsExactlyPacked, IsListedExact, IsMisplacedLine, exact_listed, exact_packed};
+
+use crate::entries::ListedEntry;
+use crate::exact_listed::ListedExact;
+use crate::listed::Listed;
+use crate::packing::{PackFault, append, end_of, part_bytes};
+use allowance::{Allowance, filled};
+use db_format::{DATABASE_HEADER_SIZE, DbAttrs, DbEntry, INFO_BLOCKS, NAME_SIZE, entry_offset};
+use heap_model::Bytes;
+use script_lines::{LineFault, ScriptFault};
+
+/// Puts the parts of an exact folder together, by their ranks and with the filler last, and returns
+/// the file. A part is ignored if the text has no name for it.
+///
+/// # Errors
+///
+/// - `TooLarge`: if the file would have more than 16,777,216 bytes.
+/// - `BadLine`: if a line `order` puts a block without bytes directly before one of a lower rank.
+/// - `OutOfMemory`: if an allocation failed.
+pub(crate) fn pack_exact<A: Allowance>(
+    memory: &A,
+    exact: &ListedExact<'_>,
+    parts: &[Bytes],
+) -> Result<Vec<u8>, PackFault>
+    requires { HasExactParts exact.now parts.now }
+    ensures packed { IfOk result (λ bytes. IsExactlyPacked exact.now parts.now bytes.items) }
+    ensures fits { OnOk result (exact_size (exact_packed exact.now parts.now) ≤ most_bytes) }
+    ensures why { IfErr result (IsExactPackFault exact.now parts.now) }
+    ensures short { result ≡ Err PackFault.OutOfMemory → A.is_short memory.now }
+{
+    match check_order(exact, parts) {
+        Ok(()) => pack_placed(memory, exact, parts),
+        Err(fault) => Err(fault),
+    }
+}
+
+/// Returns the file, whether or not a block is misplaced.
+fn pack_placed<A: Allowance>(
+    memory: &A,
+    exact: &ListedExact<'_>,
+    parts: &[Bytes],
+) -> Result<Vec<u8>, PackFault>
+    requires { HasExactParts exact.now parts.now }
+    ensures file { IfOk result (λ bytes. bytes.items ≡ exact_bytes (exact_packed exact.now parts.now)) }
+    ensures fits { OnOk result (exact_size (exact_packed exact.now parts.now) ≤ most_bytes) }
+    ensures large { IfErr result (IsRefusedFor (exact_size (exact_packed exact.now parts.now))) }
+    ensures short { result ≡ Err PackFault.OutOfMemory → A.is_short memory.now }
+{
+    match place_blocks(memory, exact, parts) {
+        Ok(offsets) => file_bytes(memory, exact, parts, offsets.as_slice()),
+        Err(fault) => Err(fault),
+    }
+}
+
+/// Returns the file with blocks at these offsets.
+fn file_bytes<A: Allowance>(
+    memory: &A,
+    exact: &ListedExact<'_>,
+    parts: &[Bytes],
+    offsets: &[u32],
+) -> Result<Vec<u8>, PackFault>
+    requires parts { HasExactParts exact.now parts.now }
+    requires are { AreOffsets (exact_packed exact.now parts.now) offsets.now }
+    ensures file { IfOk result (λ bytes. bytes.items ≡ exact_bytes (exact_packed exact.now parts.now)) }
+    ensures memory { IfErr result (λ fault. fault ≡ PackFault.OutOfMemory) }
+    ensures short { IfErr result (λ _. A.is_short memory.now) }
+{
+    let mut bytes = Vec::new(memory.allocator());
+    append_name(memory, exact, &mut bytes)?;
+    append_fields(memory, exact, offsets, &mut bytes)?;
+    append_entries(memory, exact, offsets, &mut bytes)?;
+    append(memory, &mut bytes, filler_of(exact, parts))?;
+    append_blocks(memory, exact, parts, &mut bytes)?;
+    Ok(bytes)
+}
+
+/// Returns the bytes of the filler.
+fn filler_of<'a>(exact: &ListedExact<'_>, parts: &'a [Bytes]) -> &'a [u8]
+    requires { HasExactParts exact.now parts.now }
+    ensures { result.now ≡ (exact_packed exact.now parts.now).filler }
+{
+    part_bytes(&exact.lines.filler, parts, exact.listed.rank_count())
+}
+
+/// Returns the bytes of the block of a rank.
+fn block_of<'a>(exact: &ListedExact<'_>, parts: &'a [Bytes], rank: u32) -> &'a [u8]
+    requires parts { HasExactParts exact.now parts.now }
+    requires inside { rank + 1 < length parts.now }
+    ensures { result.now ≡ block_bytes (exact_block (exact_packed exact.now parts.now) rank) }
+{
+    part_bytes(exact.listed.part(rank as usize), parts, rank as usize)
+}
+
+/// Returns whether the block at an index of the order has no bytes, and the block after it has a
+/// lower rank.
+fn is_misplaced(exact: &ListedExact<'_>, parts: &[Bytes], index: usize) -> bool
+    requires parts { HasExactParts exact.now parts.now }
+    requires inside { index < length exact.now.ranks.items }
+    ensures { result ≡ files.is_misplaced (exact_packed exact.now parts.now) index }
+{
+    let ranks = exact.ranks.as_slice();
+    index + 1 < ranks.len()
+        && ranks[index + 1] < ranks[index]
+        && block_of(exact, parts, ranks[index]).is_empty()
+}
+
+/// Checks the blocks of the lines `order`.
+fn check_order(exact: &ListedExact<'_>, parts: &[Bytes]) -> Result<(), PackFault>
+    requires { HasExactParts exact.now parts.now }
+    ensures ok { OnOk result ((index : ℕ) → index < length exact.now.lines.order.items
+        → files.is_misplaced (exact_packed exact.now parts.now) index ≡ false) }
+    ensures err { IfErr result (IsMisplacedLine exact.now parts.now) }
+{
+    let lines = exact.lines.order.as_slice();
+    for index in 0..lines.len() {
+        if is_misplaced(exact, parts, index) {
+            return Err(PackFault::BadLine(LineFault {
+                line: lines[index].line,
+                fault: ScriptFault::BadWord(2),
+            }));
+        }
+    }
+    Ok(())
+}
+
+/// Returns the offset at which the entries end.
+fn entries_end(listed: &Listed<'_>) -> u32
+    requires { IsListed listed.now }
+    ensures is { result ≡ databases.entry_offset (has_resources listed.now.header.attributes)
+        (length (database_listed listed.now).entries) }
+    ensures most { result ≤ most_bytes }
+{
+    let resources = DbAttrs(listed.header.attributes).has_resources();
+    entry_offset(resources, listed.entries.as_slice().len() as u16) as u32
+}
+
+/// Returns the offset of the first block.
+fn first_offset(exact: &ListedExact<'_>, parts: &[Bytes]) -> Result<u32, PackFault>
+    requires { HasExactParts exact.now parts.now }
+    ensures is { IfOk result (λ at. at ≡ exact_start (exact_packed exact.now parts.now)) }
+    ensures most { IfOk result (λ at. at ≤ most_bytes) }
+    ensures large { IfErr result (IsRefusedFor (exact_size (exact_packed exact.now parts.now))) }
+    ensures takes_no_memory { IfErr result (λ fault. fault ≡ PackFault.TooLarge) }
+{
+    match end_of(entries_end(&exact.listed), filler_of(exact, parts)) {
+        Ok(at) => Ok(at),
+        Err(fault) => Err(fault),
+    }
+}
+
+/// Returns the rank at an index of the order.
+fn rank_at(exact: &ListedExact<'_>, index: usize) -> u32
+    requires good { IsListedExact exact.now }
+    requires inside { index < length exact.now.ranks.items }
+    ensures is { result ≡ slice_index exact.now.ranks.items index }
+    ensures there { result < length (data_in (database_listed exact.now.listed)) }
+{
+    let ranks = exact.ranks.as_slice();
+    ranks[index]
+}
+
+/// Writes the offset of each block to the place of its rank. At first all of them are 0.
+fn place_ranks(
+    exact: &ListedExact<'_>,
+    parts: &[Bytes],
+    first: u32,
+    offsets: &mut [u32],
+) -> Result<(), PackFault>
+    requires parts { HasExactParts exact.now parts.now }
+    requires first { first ≡ exact_start (exact_packed exact.now parts.now) }
+    requires most { first ≤ most_bytes }
+    requires none { offsets.old ≡ replicate (length (data_in (database_listed exact.now.listed))) 0 }
+    ensures are { OnOk result (AreOffsets (exact_packed exact.now parts.now) offsets.new) }
+    ensures fits { OnOk result (exact_size (exact_packed exact.now parts.now) ≤ most_bytes) }
+    ensures large { IfErr result (IsRefusedFor (exact_size (exact_packed exact.now parts.now))) }
+    ensures takes_no_memory { IfErr result (λ fault. fault ≡ PackFault.TooLarge) }
+{
+    let mut at = first;
+    let ranks = exact.ranks.as_slice();
+    for index in 0..ranks.len() {
+        let rank = rank_at(exact, index);
+        offsets[rank as usize] = at;
+        at = match end_of(at, block_of(exact, parts, rank)) {
+            Ok(end) => end,
+            Err(fault) => return Err(fault),
+        };
+    }
+    Ok(())
+}
+
+/// Returns the offset of each rank, 0 if there is no block.
+fn place_blocks<A: Allowance>(
+    memory: &A,
+    exact: &ListedExact<'_>,
+    parts: &[Bytes],
+) -> Result<Vec<u32>, PackFault>
+    requires { HasExactParts exact.now parts.now }
+    ensures are { IfOk result (λ offsets. AreOffsets (exact_packed exact.now parts.now) offsets.items) }
+    ensures fits { OnOk result (exact_size (exact_packed exact.now parts.now) ≤ most_bytes) }
+    ensures large { IfErr result (IsRefusedFor (exact_size (exact_packed exact.now parts.now))) }
+    ensures short { result ≡ Err PackFault.OutOfMemory → A.is_short memory.now }
+{
+    let Ok(mut offsets) = filled(memory, 0u32, exact.listed.rank_count()) else {
+        return Err(PackFault::OutOfMemory);
+    };
+    let first = match first_offset(exact, parts) {
+        Ok(first) => first,
+        Err(fault) => return Err(fault),
+    };
+    match place_ranks(exact, parts, first, &mut offsets) {
+        Ok(()) => Ok(offsets),
+        Err(fault) => Err(fault),
+    }
+}
+
+/// Appends the name and the bytes after it.
+fn append_name<A: Allowance>(
+    memory: &A,
+    exact: &ListedExact<'_>,
+    bytes: &mut Vec<u8>,
+) -> Result<(), PackFault>
+    requires { IsListedExact exact.now }
+    ensures items { OnOk result (bytes.new.items ≡ bytes.old.items ++ (exact.now.listed.header.name
+        ++ after_name_of exact.now.listed.header.name (exact_listed exact.now).after_name)) }
+    ensures memory { IfErr result (λ fault. fault ≡ PackFault.OutOfMemory) }
+    ensures short { IfErr result (λ _. A.is_short memory.now) }
+{
+    let name = &exact.listed.header.name;
+    append(memory, bytes, name.name())?;
+    let mut buffer = [0; NAME_SIZE];
+    match &exact.lines.after_name {
+        Some(after) => append(memory, bytes, after.bytes.decoded(&mut buffer)),
+        None => append(memory, bytes, &buffer[name.name().len()..]),
+    }
+}
+
+/// Appends the fields of the header after the name.
+fn append_fields<A: Allowance>(
+    memory: &A,
+    exact: &ListedExact<'_>,
+    offsets: &[u32],
+    bytes: &mut Vec<u8>,
+) -> Result<(), PackFault>
+    requires good { IsListedExact exact.now }
+    requires count { length offsets.now ≡ length (data_in (database_listed exact.now.listed)) }
+    ensures items { (parts : List (List ℕ)) → AreOffsets (exact_packed exact.now parts) offsets.now
+        → OnOk result (bytes.new.items ≡ bytes.old.items
+        ++ concat (fields_behind_name (exact_placed (exact_packed exact.now parts)))) }
+    ensures memory { IfErr result (λ fault. fault ≡ PackFault.OutOfMemory) }
+    ensures short { IfErr result (λ _. A.is_short memory.now) }
+{
+    let mut header = exact.listed.header;
+    header.app_info = offsets[0];
+    header.sort_info = offsets[1];
+    header.entry_count = exact.listed.entries.as_slice().len() as u16;
+    append(memory, bytes, &header.to_bytes()[NAME_SIZE..])
+}
+
+/// Returns an entry with its data at an offset.
+fn entry_at(listed: &ListedEntry<'_>, at: u32) -> DbEntry
+    requires { HasFittingId listed.now.entry }
+    ensures is { entry_of result ≡ entry_with (λ _. at) (entry_of listed.now.entry) }
+    ensures id { HasFittingId result }
+{
+    match listed.entry {
+        DbEntry::Record(mut record) => {
+            record.slot = at;
+            DbEntry::Record(record)
+        }
+        DbEntry::Resource(mut resource) => {
+            resource.slot = at;
+            DbEntry::Resource(resource)
+        }
+    }
+}
+
+/// Appends the entries with these offsets.
+fn append_entries<A: Allowance>(
+    memory: &A,
+    exact: &ListedExact<'_>,
+    offsets: &[u32],
+    bytes: &mut Vec<u8>,
+) -> Result<(), PackFault>
+    requires good { IsListedExact exact.now }
+    requires count { length offsets.now ≡ length (data_in (database_listed exact.now.listed)) }
+    ensures items { (parts : List (List ℕ)) → AreOffsets (exact_packed exact.now parts) offsets.now
+        → OnOk result (bytes.new.items ≡ bytes.old.items
+        ++ flat_map entry_bytes (exact_placed (exact_packed exact.now parts)).entries) }
+    ensures memory { IfErr result (λ fault. fault ≡ PackFault.OutOfMemory) }
+    ensures short { IfErr result (λ _. A.is_short memory.now) }
+{
+    let entries = exact.listed.entries.as_slice();
+    for index in 0..entries.len() {
+        let entry = entry_at(&entries[index], offsets[INFO_BLOCKS + index]);
+        append(memory, bytes, entry.to_bytes().as_slice())?;
+    }
+    Ok(())
+}
+
+/// Appends the blocks in their order.
+fn append_blocks<A: Allowance>(
+    memory: &A,
+    exact: &ListedExact<'_>,
+    parts: &[Bytes],
+    bytes: &mut Vec<u8>,
+) -> Result<(), PackFault>
+    requires { HasExactParts exact.now parts.now }
+    ensures items { OnOk result (bytes.new.items
+        ≡ bytes.old.items ++ exact_blocks (exact_packed exact.now parts.now)) }
+    ensures memory { IfErr result (λ fault. fault ≡ PackFault.OutOfMemory) }
+    ensures short { IfErr result (λ _. A.is_short memory.now) }
+{
+    for rank in exact.ranks.as_slice() {
+        append(memory, bytes, block_of(exact, parts, *rank))?;
+    }
+    Ok(())
+}
