@@ -18,7 +18,7 @@ struct ExactFolder {
     parts: Vec<Bytes>,
 }
 
-/// Takes a file apart as it stands; none where it has a fault.
+/// Takes a file apart as it stands. Returns `None` if it has a fault.
 fn exact_folder_of(alloc: Global, file: &[u8]) -> Result<Option<ExactFolder>, Fail> {
     if file.len() > MOST_SAMPLE {
         return Err("a file that is too long")?;
@@ -181,7 +181,7 @@ fn bytes_after_a_name_are_kept(rt: HostRuntime) -> Result<(), Fail> {
     holds("file", check_exact(rt.alloc(), &named)?)
 }
 
-/// What is put together of the parts of a file is the file.
+/// Checks that the parts of a file are put together to the file.
 fn check_exact(alloc: Global, file: &[u8]) -> Result<bool, Fail> {
     let Some(folder) = exact_folder_of(alloc, file)? else {
         return Ok(false);
@@ -193,7 +193,7 @@ fn check_exact(alloc: Global, file: &[u8]) -> Result<bool, Fail> {
     Ok(true)
 }
 
-/// How many damaged files there are.
+/// The number of damaged files.
 const DAMAGED_EXACT: u32 = 5_000;
 
 #[test]
@@ -220,7 +220,7 @@ fn damaged_files_come_back_exactly(rt: HostRuntime) -> Result<(), Fail> {
     holds("enough files", good > 2_500 && good < DAMAGED_EXACT)
 }
 
-/// What stands in the text of `MEMO_FILE` in place of a line, and what is said of that.
+/// Changes of the text of `MEMO_FILE`: a part of it, the text in its place, and the fault.
 static EXACT_FAULTS: [(&str, &str, &str); 17] = [
     ("exact\n", "exact 1\n", "line 1 WrongCount"),
     ("filler filler\n", "", "line 2 UnknownCommand"),

@@ -1,6 +1,6 @@
 //! Files that are salvaged.
 
-use crate::samples::{CAFE_FILE, MEMO_FILE, MIXED_FILE, changed, listed, rewritten};
+use crate::samples::{CAFE_FILE, MEMO_FILE, MIXED_FILE, MOST_SAMPLE, changed, listed, rewritten};
 use canonical_file::SalvagedIds;
 use file_commands::cmd_salvage_from;
 use palm_text::Counted;
@@ -12,16 +12,13 @@ use test_support::{
     EMPTY_FILE, EMPTY_WRITTEN, ORDER_FILE, ORDER_WRITTEN, TINY_FILE, bytes_of, equal, holds,
 };
 
-/// The most bytes that a file may have.
-const MOST_SALVAGED: usize = 16_777_216;
-
 /// What `salvage` writes and prints, and its status.
 fn salvaged(
     alloc: Global,
     file: &[u8],
     ids: SalvagedIds,
 ) -> Result<(Status, Vec<u8>, Vec<u8>), Fail> {
-    if file.len() > MOST_SALVAGED {
+    if file.len() > MOST_SAMPLE {
         return Err("a file that is too long")?;
     }
     let mut file_out = Counted::new(Vec::new(alloc));
