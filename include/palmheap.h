@@ -163,6 +163,37 @@ palmheap_answer palmheap_canonical(const uint8_t *file, size_t file_len, uint8_t
  * Answers: PALMHEAP_OK, PALMHEAP_NO_MEMORY, PALMHEAP_NO_ROOM, PALMHEAP_TOO_LARGE, 60 to 65. */
 palmheap_answer palmheap_pdb_list(const uint8_t *file, size_t file_len, uint8_t *text, size_t text_len, size_t *count);
 
+/* Writes the JSON document that `palmheap list --json` prints for a file into a buffer. If the file has a fault, that is
+ * the document of its first fault, and the answer is PALMHEAP_OK too. The text is UTF-8 without a zero at its end. Sets
+ * count to its size in bytes, also with PALMHEAP_NO_ROOM.
+ * Answers: PALMHEAP_OK, PALMHEAP_NO_MEMORY, PALMHEAP_NO_ROOM, PALMHEAP_TOO_LARGE. */
+palmheap_answer palmheap_pdb_json(const uint8_t *file, size_t file_len, uint8_t *text, size_t text_len, size_t *count);
+
+/* The smallest new image into which the database of a file can be imported: its size in bytes, and its slots. Both can be
+ * greater than any image has. */
+typedef struct palmheap_needs {
+    size_t size;
+    size_t slots;
+} palmheap_needs;
+
+/* Finds what palmheap_new must make at least for a file: sets needs to the numbers that `palmheap list` prints.
+ * Answers: PALMHEAP_OK, PALMHEAP_NO_MEMORY, 60 to 65. */
+palmheap_answer palmheap_pdb_needs(const uint8_t *file, size_t file_len, palmheap_needs *needs);
+
+/* Writes the file that `palmheap salvage` writes for a damaged file into a buffer. Its records get IDs as in the canonical
+ * form, or keep those of the damaged file if exact_ids. Sets count to its size in bytes, and faults to the number of
+ * lines of palmheap_salvage_lines, 0 if the file has no fault; both also with PALMHEAP_NO_ROOM. A file shorter than 78
+ * bytes has no header, so it is refused.
+ * Answers: PALMHEAP_OK, PALMHEAP_NO_MEMORY, PALMHEAP_NO_ROOM, PALMHEAP_TOO_LARGE, PALMHEAP_TRUNCATED. */
+palmheap_answer palmheap_salvage(const uint8_t *file, size_t file_len, bool exact_ids, uint8_t *salvaged,
+    size_t salvaged_len, size_t *count, size_t *faults);
+
+/* Writes a line for each fault of a file into a buffer, as `palmheap salvage` prints them: ASCII without a zero at its
+ * end. Sets count to its size in bytes, also with PALMHEAP_NO_ROOM.
+ * Answers: PALMHEAP_OK, PALMHEAP_NO_MEMORY, PALMHEAP_NO_ROOM, PALMHEAP_TOO_LARGE, PALMHEAP_TRUNCATED. */
+palmheap_answer palmheap_salvage_lines(const uint8_t *file, size_t file_len, uint8_t *text, size_t text_len,
+    size_t *count);
+
 /* Makes an image without chunks that fills a buffer. slots is the number of its movable chunks at most, 1 to 65,535.
  * image_len must be a multiple of 8, 64 to 16,777,208, and have room for the slots (docs/FORMAT.md).
  * Answers: PALMHEAP_OK, PALMHEAP_NO_MEMORY, PALMHEAP_BAD_SIZE, PALMHEAP_BAD_SLOT_COUNT. */

@@ -17,7 +17,7 @@ TOP = os.path.dirname(os.path.dirname(os.path.realpath(__file__)))
 sys.path.insert(0, f"{TOP}/python")
 sys.dont_write_bytecode = True
 from palmheap import _library as rows
-from palmheap._library import BOOL, SIZE, U8, U16, U32, Answer, Block, Bytes, Counts, DatabaseInfo, Loan, Place, Sizes
+from palmheap._library import BOOL, SIZE, U8, U16, U32, Answer, Block, Bytes, Counts, DatabaseInfo, Loan, Needs, Place, Sizes
 
 # The calls on an open store: what they take, and what they write. `bytes` stands for a pointer and a length.
 CALLS = {name: (row.takes, row.writes) for name, row in rows.CALLS.items()}
@@ -72,6 +72,10 @@ class Library:
             "palmheap_pdb_blocks": [*one, c.POINTER(Block), size, c.POINTER(size)],
             "palmheap_canonical": [*one, u8, size, c.POINTER(size)],
             "palmheap_pdb_list": [*one, u8, size, c.POINTER(size)],
+            "palmheap_pdb_json": [*one, u8, size, c.POINTER(size)],
+            "palmheap_pdb_needs": [*one, c.POINTER(Needs)],
+            "palmheap_salvage": [*one, BOOL, u8, size, c.POINTER(size), c.POINTER(size)],
+            "palmheap_salvage_lines": [*one, u8, size, c.POINTER(size)],
             "palmheap_new": [u8, size, c.c_uint16],
             "palmheap_check": [*one, c.POINTER(Counts)],
             "palmheap_run": [u8, size, *one, c.POINTER(Bytes), size, u8, size, u8, size, *sizes, c.POINTER(Sizes)],
@@ -132,6 +136,24 @@ class Library:
 
     def pdb_list(self, file):
         return bytes(self._made(self.so.palmheap_pdb_list, file)).decode()
+
+    def pdb_json(self, file):
+        return bytes(self._made(self.so.palmheap_pdb_json, file)).decode()
+
+    def pdb_needs(self, file):
+        needs = Needs()
+        self._good(self.so.palmheap_pdb_needs(*span(file), c.byref(needs)))
+        return needs.size, needs.slots
+
+    def salvage(self, file, exact_ids):
+        """Returns the salvaged file, the number of faults, and a line for each of them."""
+        faults = SIZE(0)
+
+        def made(*words):
+            return self.so.palmheap_salvage(*words[:2], exact_ids, *words[2:], c.byref(faults))
+
+        salvaged = bytes(self._made(made, file))
+        return salvaged, faults.value, bytes(self._made(self.so.palmheap_salvage_lines, file)).decode()
 
     def new(self, size, slots):
         if size not in IMAGE_SIZES:

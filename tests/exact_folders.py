@@ -6,7 +6,7 @@
 Draws COUNT files (200), most of them damaged. For each it runs `PROGRAM unpack --exact` and `PROGRAM pack`, and looks
 whether the folder is the one that `folder_of` makes, and the file the one that was unpacked. Then it edits the folder,
 and looks whether `pack` gives the file of `file_of`, or names the faulty line. Each difference has a line on standard
-error; the status is 1 then.
+error; the status is 1 then. `PROGRAM put` of the same file is compared with the file of `file_with`.
 """
 import random
 import struct
@@ -66,6 +66,26 @@ def parsed(file):
 
 def name_of(file):
     return file[:31].split(b"\0")[0]
+
+
+def file_with(file, rank, part):
+    """The file with the block of a rank replaced. `Faulty` has the line if it isn't."""
+    attributes, entries, blocks, order, filler = parsed(file)
+    if rank >= len(blocks):
+        raise Faulty("refused 14 IndexOutOfRange")
+    if blocks[rank] is None:
+        raise Faulty("refused 24 NoInfoBlock" if rank < 2 else "refused 15 RecordDeleted")
+    blocks[rank] = part
+    if any(not blocks[one] and other < one for one, other in zip(order, order[1:])):
+        raise Faulty("bad EmptyPart")
+    size = 10 if attributes & 1 else 8
+    end = 78 + size * len(entries)
+    new, at = bytearray(file[:end]), end + len(filler)
+    for one in order:
+        field = 52 + 4 * one if one < 2 else 78 + size * (one - 2) + (6 if attributes & 1 else 0)
+        struct.pack_into(">I", new, field, at)
+        at += len(blocks[one])
+    return bytes(new) + filler + b"".join(blocks[one] for one in order)
 
 
 # ---- the folder of a file
@@ -251,10 +271,28 @@ def write_folder(folder, text, parts):
     (folder / "database").write_text(text)
 
 
+def put_differences(program, draw, folder, file):
+    """What differs if a block of a file is replaced."""
+    rank = draw.randrange(8)
+    part = draw.choice((b"", b"x", draw.randbytes(30)))
+    (folder / "part").write_bytes(part)
+    done = run(program, "put", str(folder / "file"), rank_word(rank), str(folder / "part"), str(folder / "put"))
+    try:
+        wanted = file_with(file, rank, part)
+    except Faulty as fault:
+        line = str(fault) if str(fault).startswith("refused ") or str(fault) == "bad EmptyPart" else f"bad {fault}"
+        if done.returncode != 1 or done.stdout.split(b"\n")[0] != line.encode():
+            yield f"put {rank}: {line} is wanted, and there is {done.stdout}"
+        return
+    if done.stdout != f"ok {len(wanted)}\n".encode() or (folder / "put").read_bytes() != wanted:
+        yield f"put {rank}: another file, or {done.stdout}"
+
+
 def differences(program, draw, folder):
     """What differs at one drawn file."""
     file = damaged(draw, drawn_file(draw))
     (folder / "file").write_bytes(file)
+    yield from put_differences(program, random.Random(len(file)), folder, file)
     done = run(program, "unpack", "--exact", str(folder / "file"), str(folder / "parts"))
     try:
         text, parts = folder_of(file)

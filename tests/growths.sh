@@ -79,7 +79,9 @@ only '(^|[^a-z_])failed[ ]*(::<[^(]*>)?\(' \
     ./palmheap_c/src/buffers.rt:refused_write ./palmheap_c/src/explaining.rt:refused_text \
     ./pdb_files/src/exporting.rt:refused_write ./raw_region/src/region.rt:of_zeros
 only '(^|[^a-z_])refused_(write|block|entry|text)[ ]*(::<[^(]*>)?\(' \
+    ./palmheap_c/src/documents.rt:fault_document ./palmheap_c/src/documents.rt:listing_document \
     ./palmheap_c/src/explaining.rt:palmheap_explain ./palmheap_c/src/files.rt:listing_of \
+    ./palmheap_c/src/salvaging.rt:lines_of ./palmheap_c/src/salvaging.rt:salvaged_of \
     ./palmheap_c/src/opening.rt:boxed_store ./palmheap_c/src/opening.rt:palmheap_write_image ./palmheap_c/src/pointers.rt:keep_loan \
     ./palmheap_c/src/runs.rt:run_on ./pdb_files/src/exporting.rt:file_bytes
 # the vectors of the program itself grow without a grant; the other two functions pass one on
@@ -121,6 +123,7 @@ listed=$(
 ./file_ids/src/give.rt:zeros_for filled(memory, 0, count as usize)
 ./file_parts/src/exact_listed.rt:ranks_of zeros(memory, listed.rank_count()) {
 ./file_parts/src/exact_packing.rt:place_blocks filled(memory, 0u32, exact.listed.rank_count())
+./file_parts/src/replaced.rt:place_blocks filled(memory, 0u32, count)
 ./heap_check/src/chained.rt:check_chained no_marks()
 ./heap_map/src/cells.rt:cells_of Cells::new(memory, size, ((area + (size - 1)) / size) as usize)?
 ./heap_map/src/cells.rt:marks_of room_for(memory, firsts.len())?
@@ -164,6 +167,28 @@ END
 if [ "$(requests)" != "$listed" ]; then
     diff <(printf '%s\n' "$listed") <(requests) >&2
     printf 'these requests of memory are not as listed\n' >&2
+    status=1
+fi
+
+# A request inside allowance could ask for more than its caller does, and then say that an allocation failed.
+own=$(grep -hE '[a-z_]+!\[|[a-z_]+!\(in|[A-Z][A-Za-z]+::[a-z_]+\(|\.(resize|reserve|push|extend_from_slice|insert)\(' \
+    allowance/src/*.rt | sed '/^ *\/\//d; s/^ *//')
+listed=$(
+    cat <<'END'
+outcome(memory, vec![in memory.grant()?; 0u8; count])
+let mut filled = Vec::new(memory.grant()?);
+let grown = filled.resize(count, item);
+outcome(memory, Vec::from_slice(memory.grant()?, bytes))
+outcome(memory, Vec::with_capacity(memory.grant()?, count))
+let grown = match items.push(item) {
+let grown = bytes.extend_from_slice(more);
+let grown = match map.insert(key, value) {
+outcome(memory, String::format(memory.grant()?, value))
+END
+)
+if [ "$own" != "$listed" ]; then
+    diff <(printf '%s\n' "$listed") <(printf '%s\n' "$own") >&2
+    printf 'these requests of allowance are not as listed\n' >&2
     status=1
 fi
 exit "$status"

@@ -99,6 +99,36 @@ def rewritten(library, file):
         return None
 
 
+def documents(library, file):
+    """What `palmheap list --json` should print, and the line that `list` has for the needs."""
+    try:
+        needs = "needs %d bytes and %d slots in a heap\n" % library.pdb_needs(file)
+    except palmheap.Fault:
+        needs = ""
+    return library.pdb_json(file).encode(), needs
+
+
+def salvaged(library, file, exact_ids):
+    """What `palmheap salvage` should write, and print; None and no text if the file is refused."""
+    try:
+        new, faults, lines = library.salvage(file, exact_ids)
+    except palmheap.Fault:
+        return None, ""
+    if faults != lines.count("\n"):
+        sys.exit(f"{file.hex()}: {faults} faults are counted, and the lines are {lines!r}")
+    return new, f"ok {len(new)}\n{lines}"
+
+
+def compare_salvaged(library, program, room, file, exact_ids):
+    words = ["--exact-ids"] if exact_ids else []
+    text, status = run(program, "salvage", *words, "-", f"{room}/new", file=file)
+    wanted = salvaged(library, file, exact_ids)
+    with open(f"{room}/new" if status == 0 else os.devnull, "rb") as it:
+        there = (it.read(), text.decode()) if status == 0 else (None, "")
+    if there != wanted:
+        sys.exit(f"{file.hex()}: the library salvages {wanted}, and the program {there}")
+
+
 def run(program, *words, file=b""):
     ran = subprocess.run([program, *words], input=file, stdout=subprocess.PIPE, stderr=subprocess.DEVNULL, check=False)
     return ran.stdout, ran.returncode
@@ -125,7 +155,13 @@ def compare_damaged(program, seed, count):
             met.append(wanted.split()[1] if status else "ok")
             if (said, given) != (wanted, status):
                 sys.exit(f"file {index}, {file.hex()}: the library has {wanted!r}, and the program {text!r}")
+            document, needs = documents(library, file)
+            if needs not in text:
+                sys.exit(f"file {index}, {file.hex()}: the library has {needs!r}, and the program {text!r}")
             if index % 10 == 0:
+                if run(program, "list", "--json", "-", file=file)[0] != document:
+                    sys.exit(f"file {index}, {file.hex()}: the documents differ")
+                compare_salvaged(library, program, room, file, index % 20 == 0)
                 _, given = run(program, "canonical", "-", f"{room}/out", file=file)
                 bytes_of = rewritten(library, file)
                 with open(f"{room}/out", "rb") if given == 0 else open(os.devnull, "rb") as it:

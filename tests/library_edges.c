@@ -25,7 +25,8 @@ static void is_file_fault(const char *what, palmheap_answer answer) {
 static void without_store(uint8_t *image) {
     palmheap_counts counts;
     palmheap_sizes sizes;
-    size_t count = 0;
+    palmheap_needs needs;
+    size_t count = 0, faults;
     want("kind_name", palmheap_kind_name(PALMHEAP_BAD_CHUNK, NULL, 0, &count), PALMHEAP_CALL_NO_ROOM);
     want("kind_name, count", count, strlen("BadChunk"));
     want("refusal_name", palmheap_refusal_name(PALMHEAP_REFUSED_LENT, NULL, 0, &count), PALMHEAP_CALL_NO_ROOM);
@@ -34,6 +35,11 @@ static void without_store(uint8_t *image) {
     is_file_fault("pdb_blocks", palmheap_pdb_blocks(NULL, 0, NULL, 0, &count));
     is_file_fault("canonical", palmheap_canonical(NULL, 0, NULL, 0, &count));
     is_file_fault("pdb_list", palmheap_pdb_list(NULL, 0, NULL, 0, &count));
+    want("pdb_json", palmheap_pdb_json(NULL, 0, NULL, 0, &count).kind, PALMHEAP_NO_ROOM);
+    want("pdb_json, count", count, strlen("{\"fault\":\"Truncated\",\"numbers\":[],\"at\":0}\n"));
+    is_file_fault("pdb_needs", palmheap_pdb_needs(NULL, 0, &needs));
+    is_file_fault("salvage", palmheap_salvage(NULL, 0, true, NULL, 0, &count, &faults));
+    is_file_fault("salvage_lines", palmheap_salvage_lines(NULL, 0, NULL, 0, &count));
     want("new", palmheap_new(NULL, 0, 1).kind, PALMHEAP_BAD_SIZE);
     want("check", palmheap_check(NULL, 0, &counts).kind, PALMHEAP_TOO_SHORT);
     want("run", palmheap_run(NULL, 0, NULL, 0, NULL, 0, NULL, 0, NULL, 0, NULL, 0, &sizes).kind, PALMHEAP_TOO_SHORT);

@@ -1,10 +1,10 @@
-/* Part of tests/library.sh: where files have faults, files as structures, and explanations.
+/* Part of tests/library.sh: where files have faults, files as structures, salvaged files, and explanations.
  *
  *   gcc library_files.c libpalmheap.a -o files && ./files
  *
  * Damages a file of three records, the last one deleted and without data, at each field that can be wrong, and compares
- * what palmheap_pdb_damage says of it. Reads the file, with room for its entries or too little. Asks for
- * explanations. The status is 1 if something is wrong.
+ * what palmheap_pdb_damage says of it. Reads the file, with room for its entries or too little. Salvages what is left of
+ * the damaged file, and writes its document. Asks for explanations. The status is 1 if something is wrong.
  */
 #include <palmheap.h>
 #include <stdio.h>
@@ -93,6 +93,60 @@ static void read_file(void) {
     need(entries[3].kind == 0x07070707, "an entry too many is written");
 }
 
+/* What palmheap_salvage makes of the file has no fault, `records` records and this size, and these lines are about it. */
+static void is_salvaged(bool exact_ids, size_t records, size_t wanted, const char *lines) {
+    static uint8_t salvaged[SIZE + 1], text[512];
+    size_t size = 9, faults = 9, len = 9, line_count = 0;
+    palmheap_answer answer = palmheap_salvage(file, SIZE, exact_ids, NULL, 0, &size, &faults);
+    need(answer.kind == PALMHEAP_NO_ROOM && size == wanted, "another size of a salvaged file");
+    for (const char *at = lines; *at != 0; at++) line_count += *at == '\n';
+    need(faults == line_count, "another number of faults");
+    memset(salvaged, 7, sizeof salvaged);
+    need(palmheap_salvage(file, SIZE, exact_ids, salvaged, SIZE + 1, &size, &faults).kind == PALMHEAP_OK, "not salvaged");
+    need(size == wanted && faults == line_count && salvaged[size] == 7, "the salvaged file is longer than its size");
+    need(palmheap_pdb_check(salvaged, size).kind == PALMHEAP_OK && salvaged[77] == records, "another salvaged file");
+    need(palmheap_salvage_lines(file, SIZE, text, sizeof text, &len).kind == PALMHEAP_OK, "no lines");
+    need(len == strlen(lines) && memcmp(text, lines, len) == 0, "other lines");
+    make();
+}
+
+static void salvage(void) {
+    size_t size = 99, faults = 99;
+    make();
+    is_salvaged(false, 3, SIZE, "");
+    put_u32(86, 0);
+    is_salvaged(false, 2, SIZE - 8, "entry 1 offset 0 within the entries: dropped\n");
+    put_u32(72, 1);
+    put_u32(52, SIZE + 1);
+    is_salvaged(true, 3, SIZE - 3, "chained list: ignored\napp offset 117 beyond the end: dropped\n");
+    need(palmheap_salvage(file, 77, false, NULL, 0, &size, &faults).kind == PALMHEAP_TRUNCATED, "a header is salvaged");
+    need(palmheap_salvage_lines(file, 77, NULL, 0, &size).kind == PALMHEAP_TRUNCATED, "lines without a header");
+    need(size == 99 && faults == 99, "a refused file changes something");
+}
+
+/* The document of the file, or of the start of it, begins with this. */
+static void has_document(size_t size, const char *front) {
+    static uint8_t text[1024];
+    size_t count = 0, len;
+    need(palmheap_pdb_json(file, size, NULL, 0, &len).kind == PALMHEAP_NO_ROOM && len <= sizeof text, "no size");
+    need(palmheap_pdb_json(file, size, text, len, &count).kind == PALMHEAP_OK && count == len, "no document");
+    need(memcmp(text, front, strlen(front)) == 0 && text[len - 1] == '\n', "another document");
+    make();
+}
+
+static void documents(void) {
+    palmheap_needs needs = {9, 9};
+    make();
+    has_document(SIZE, "{\"size\":116,\"name\":\"Three\",");
+    has_document(50, "{\"fault\":\"Truncated\",\"numbers\":[],\"at\":50}\n");
+    put_u32(86, 0);
+    has_document(SIZE, "{\"fault\":\"BadOffset\",\"numbers\":[1],\"at\":86}\n");
+    need(palmheap_pdb_needs(file, 50, &needs).kind == PALMHEAP_TRUNCATED && needs.size == 9, "needs of a damaged file");
+    /* The directory, the header with three entries, and three blocks, in a table of five slots. */
+    need(palmheap_pdb_needs(file, SIZE, &needs).kind == PALMHEAP_OK && needs.slots == 5, "another number of slots");
+    need(needs.size == 40 + 16 + 112 + 3 * 16, "another size of an image");
+}
+
 /* The explanation of a word begins with these bytes, and ends with a line's end. */
 static void is_explained(const char *word, const char *front) {
     static uint8_t text[1024];
@@ -116,6 +170,8 @@ static void explain(void) {
 int main(void) {
     explain();
     read_file();
+    salvage();
+    documents();
     make();
     is_damaged(SIZE, PALMHEAP_OK, 0, (palmheap_damage){9, 9, 9, 9, false});
     is_damaged(50, PALMHEAP_TRUNCATED, 0, (palmheap_damage){50, 50, 78, SIZE_MAX, false});

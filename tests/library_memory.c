@@ -41,7 +41,7 @@ void __wrap_free(void *block) {
 
 /* ---- the caller's memory */
 
-/* A file with one record: a header, an entry, and its data at 88. */
+/* A file with one record: a header, an entry, and its data at 88. Its first 87 bytes are damaged. */
 static uint8_t file[97] = "MemoDB";
 /* A line that can't get memory is no failure of the run, so no line here needs any. */
 static const char script[] = "new h 8 1\nread h 0 8\n";
@@ -49,9 +49,10 @@ static const char script[] = "new h 8 1\nread h 0 8\n";
 /* All that a function may write, but for the store. */
 static struct memory {
     uint8_t image[SIZE], out[OUT], printed[64];
-    size_t ends[2], count;
+    size_t ends[2], count, faults;
     palmheap_block places[8];
     palmheap_counts counts;
+    palmheap_needs needs;
     palmheap_sizes sizes;
     palmheap_store opened;
     uint32_t db;
@@ -73,6 +74,15 @@ static uint32_t pdb_read(void) {
 
 static uint32_t canonical(void) { return palmheap_canonical(file, sizeof file, memory.out, OUT, &memory.count).kind; }
 static uint32_t list(void) { return palmheap_pdb_list(file, sizeof file, memory.out, OUT, &memory.count).kind; }
+static uint32_t json(void) { return palmheap_pdb_json(file, sizeof file, memory.out, OUT, &memory.count).kind; }
+static uint32_t needs(void) { return palmheap_pdb_needs(file, sizeof file, &memory.needs).kind; }
+static uint32_t json_of_fault(void) { return palmheap_pdb_json(file, 87, memory.out, OUT, &memory.count).kind; }
+
+static uint32_t salvage(void) {
+    return palmheap_salvage(file, 87, false, memory.out, OUT, &memory.count, &memory.faults).kind;
+}
+
+static uint32_t salvage_lines(void) { return palmheap_salvage_lines(file, 87, memory.out, OUT, &memory.count).kind; }
 static uint32_t new(void) { return palmheap_new(memory.image, SIZE, 40).kind; }
 static uint32_t new_chained(void) { return palmheap_new_chained(memory.image, SIZE, 40).kind; }
 static uint32_t check(void) { return palmheap_check(memory.image, SIZE, &memory.counts).kind; }
@@ -128,6 +138,11 @@ int main(void) {
     try("pdb_read", pdb_read, PALMHEAP_NO_MEMORY, 0);
     try("canonical", canonical, PALMHEAP_NO_MEMORY, 0);
     try("pdb_list", list, PALMHEAP_NO_MEMORY, 0);
+    try("pdb_json", json, PALMHEAP_NO_MEMORY, 0);
+    try("pdb_json of a fault", json_of_fault, PALMHEAP_NO_MEMORY, 0);
+    try("pdb_needs", needs, PALMHEAP_NO_MEMORY, 0);
+    try("salvage", salvage, PALMHEAP_NO_MEMORY, 0);
+    try("salvage_lines", salvage_lines, PALMHEAP_NO_MEMORY, 0);
     try("new_chained", new_chained, PALMHEAP_NO_MEMORY, 0);
     try("new", new, PALMHEAP_NO_MEMORY, 0);
     try("check", check, PALMHEAP_NO_MEMORY, 0);

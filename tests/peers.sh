@@ -1,14 +1,16 @@
 #!/bin/sh
 # Files of other programs: each is imported into a blank image, exported again, and read back by the program that
 # made it. What it reads has to be the same. docs/FORMAT.md says what may differ byte by byte. Each is also unpacked and
-# packed, which gives the same bytes as the export.
+# packed, which gives the same bytes as the export. An exact folder of it gives the file itself back, and `salvage`
+# writes its canonical form. Books of calibre are rewritten but not imported.
 #
 #   tests/peers.sh [PROGRAM]
 #
-# PROGRAM is the one that `../palmheap --build` builds, if none is given. It needs Debian's packages libpalm-perl and libpalm-pdb-perl (Palm::PDB,
-# and modules of it for memos, addresses, dates, tasks and mails), txt2pdbdoc, and imgvtopgm. For each file it prints how many
-# bytes there were and are, how many of them differ where both have one, and what `palmheap list` says of that. Each
-# case that fails has a line on standard error; the status is 1 then. The gate runs none of this.
+# PROGRAM is the one that `../palmheap --build` builds, if none is given. It needs Debian's packages libpalm-perl and
+# libpalm-pdb-perl (Palm::PDB, and modules of it for memos, addresses, dates, tasks and mails), txt2pdbdoc, imgvtopgm
+# and calibre. For each file it prints how many bytes there were and are, how many of them differ where both have one,
+# and what `palmheap list` says of that. Each case that fails has a line on standard error; the status is 1 then. The
+# gate runs none of this.
 top=$(cd -- "$(dirname -- "$0")/.." && pwd)
 program=${1:-$top/crates/palmheap/out/palmheap}
 if [ $# = 0 ]; then
@@ -16,7 +18,7 @@ if [ $# = 0 ]; then
     "$top/palmheap" --build --keep || exit 125
 fi
 case $program in /*) ;; *) program=$PWD/$program ;; esac
-for needed in perl txt2pdbdoc pgmtoimgv imgvtopnm; do
+for needed in perl txt2pdbdoc pgmtoimgv imgvtopnm ebook-convert; do
     command -v "$needed" >/dev/null || { printf '%s is missing\n' "$needed" >&2; exit 2; }
 done
 perl -MPalm::PDB -MPalm::Memo -MPalm::Address -MPalm::Datebook -MPalm::ToDo -MPalm::Mail -e 1 || exit 2
@@ -32,11 +34,9 @@ is() {
     failed=1
 }
 
-# rewrite FILE: the file that was exported is the canonical form, and the listing says `canonical` if that has the same
-# bytes as the file
+# rewrite FILE: writes the canonical form. The listing says `canonical` if that has the same bytes as the file
 rewrite() {
     "$program" canonical "$1" "$1.form" >printed && "$program" list - <"$1" >listed || failed=1
-    is "$1" "$1.out" "$1.form"
     case $(tail -n 1 listed) in
         canonical) is "$1" "$1" "$1.form" ;;
         'changes '*) ! cmp -s "$1" "$1.form" || { printf '%s: nothing changes\n' "$1" >&2; failed=1; } ;;
@@ -50,6 +50,20 @@ apart() {
     is "$1" "$1.packed" "$1.out"
 }
 
+# kept FILE: an exact folder gives the file back, and what is salvaged from it is its canonical form
+kept() {
+    "$program" unpack --exact "$1" "$1.exact" >printed && "$program" pack "$1.exact" "$1.again" >printed || failed=1
+    is "$1" "$1" "$1.again"
+    "$program" salvage "$1" "$1.salvaged" >printed || failed=1
+    is "$1" "$1.form" "$1.salvaged"
+}
+
+# tell FILE OTHER: prints how many bytes of a file differ from those of its canonical form
+tell() {
+    printf '%-12s %8s bytes, %8s written, %s of them others: %s\n' "$1" "$(wc -c <"$1")" "$(wc -c <"$2")" \
+        "$(cmp -l "$1" "$2" 2>/dev/null | wc -l)" "$(tail -n 1 listed)"
+}
+
 # through FILE: imports a file and exports it, to FILE.out
 through() {
     printf 'import d 1\nexport d\n' >calls.txt
@@ -59,9 +73,10 @@ through() {
     fi
     mv after.img.1 "$1.out" || exit 1
     rewrite "$1"
+    is "$1" "$1.out" "$1.form"
     apart "$1"
-    printf '%-12s %7s bytes, %7s written, %s of them others: %s\n' "$1" "$(wc -c <"$1")" "$(wc -c <"$1.out")" \
-        "$(cmp -l "$1" "$1.out" 2>/dev/null | wc -l)" "$(tail -n 1 listed)"
+    kept "$1"
+    tell "$1" "$1.out"
 }
 
 # Prints all that Palm::PDB reads from a file.
@@ -162,5 +177,28 @@ through picture.pdb
 imgvtopnm picture.pdb >before.pnm 2>complained || { cat complained >&2; failed=1; }
 imgvtopnm picture.pdb.out >after.pnm 2>complained || { cat complained >&2; failed=1; }
 is picture.pdb before.pnm after.pnm
+
+# A picture with a note: imgvtopnm can't read it without the bytes before the first block.
+echo "A note" >note.txt
+pgmtoimgv -t Noted -n note.txt picture.pgm noted.pdb 2>complained || { cat complained >&2; exit 1; }
+"$program" unpack --exact noted.pdb noted.parts >printed && "$program" pack noted.parts noted.again >printed || failed=1
+is noted.pdb noted.pdb noted.again
+imgvtopnm noted.again >after.pnm 2>complained || { cat complained >&2; failed=1; }
+is noted.pdb before.pnm after.pnm
+
+# Books of calibre: PalmDoc, Mobipocket and KF8.
+perl -e 'print "Chapter $_\n\n", "The quick brown fox jumps over the lazy dog. " x 8, "\n\n" for 1 .. 200' >book.txt
+for book in book.pdb book.mobi book.azw3; do
+    ebook-convert book.txt "$book" >printed 2>&1 || { cat printed >&2; exit 1; }
+    rewrite "$book"
+    kept "$book"
+    tell "$book" "$book.form"
+    grep -q '^created .* since 1970$' listed || { printf '%s: no date since 1970\n' "$book" >&2; failed=1; }
+    cp "$book.form" "form-$book"
+    ebook-convert "$book" before.txt >printed 2>&1 || failed=1
+    ebook-convert "form-$book" after.txt >printed 2>&1 || failed=1
+    grep -q 'Chapter 12' before.txt || { printf '%s: no text was read\n' "$book" >&2; failed=1; }
+    is "$book" before.txt after.txt
+done
 
 exit "$failed"

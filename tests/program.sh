@@ -59,7 +59,7 @@ is 'a numbered refusal' "$("$program" explain 1)" "$("$program" explain '3 refus
 
 # each name that the completion of explain gives is explained, and each line of zsh's has the same names
 names=$(sed -n "s/^ *local names='\(.*\)'\$/\1/p" "$top/share/palmheap.bash")
-is 'the names are found' 61 "$(echo $names | wc -w)"
+is 'the names are found' 62 "$(echo $names | wc -w)"
 is 'the names in zsh' "    compadd -- $names --help" "$(grep 'compadd -- Already' "$top/share/_palmheap")"
 for name in $names; do
     "$program" explain "$name" >/dev/null 2>&1
@@ -277,6 +277,30 @@ is 'nothing is packed' '' "$(ls out.pdb 2>/dev/null)"
 (trap '' XFSZ; ulimit -f 0 && exec "$program" unpack empty.pdb full) >printed 2>complained
 is 'an unpacked file over a limit leaves nothing' '' "$(ls full 2>/dev/null)"
 rm -r parts hanging
+
+# a block that is replaced: the block that is there gives the file back, and a part over the limit is refused
+{
+    printf Memo
+    head -c 56 /dev/zero
+    printf 'DATAmemo'
+    head -c 9 /dev/zero
+    printf '\002\000\000\000\136\100\000\000\001\000\000\000\141\000\000\000\002firsecond'
+} >two.pdb
+"$program" get two.pdb 0 >first
+says 'the block that is there' 0 'ok 103' '' put two.pdb 0 first out.pdb
+is 'the block that is there gives the file back' '' "$(cmp two.pdb out.pdb 2>&1)"
+printf longer >part
+says 'a longer block' 0 'ok 106' '' put two.pdb 0 part out.pdb
+is 'the longer block' longer "$("$program" get out.pdb 0)"
+is 'the block after it' second "$("$program" get out.pdb 1)"
+is 'a block from standard input to standard output' "$(cksum <out.pdb)" "$("$program" put two.pdb 0 - - <part 2>printed | cksum)"
+is 'its reply' 'ok 106' "$(cat printed)"
+head -c 16777119 /dev/zero >part
+says 'a new file that is just small enough' 0 'ok 16777216' '' put two.pdb 1 part out.pdb
+head -c 16777120 /dev/zero >part
+says 'a new file that would be too large' 1 'bad TooLarge' '' put two.pdb 1 part none.pdb
+is 'no file is put' '' "$(ls none.pdb 2>/dev/null)"
+rm two.pdb first part out.pdb
 
 # a file that a transfer as text has changed: a byte 0d comes before each 0a
 {

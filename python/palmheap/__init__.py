@@ -41,7 +41,23 @@ from ._errors import (
     UniqueIdNotFound,
     refusal_name,
 )
-from ._files import Blocks, Counts, Run, blocks, canonical, check_file, check_image, listing, new_image, run
+from ._files import (
+    Blocks,
+    Counts,
+    Needs,
+    Run,
+    Salvaged,
+    blocks,
+    canonical,
+    check_file,
+    check_image,
+    document,
+    listing,
+    needs,
+    new_image,
+    run,
+    salvage,
+)
 from ._library import LibraryNotFound
 from ._store import ALL, END, DatabaseInfo, Loan, Lock, NewEntry, RecordInfo, ResourceInfo, Store
 
@@ -74,6 +90,7 @@ __all__ = [
     "Loan",
     "Lock",
     "LockOverflow",
+    "Needs",
     "NewEntry",
     "NoInfoBlock",
     "NoSuchDatabase",
@@ -93,6 +110,7 @@ __all__ = [
     "ResourceInfo",
     "ResourceNotFound",
     "Run",
+    "Salvaged",
     "ScriptFault",
     "Store",
     "TooManyEntries",
@@ -101,10 +119,13 @@ __all__ = [
     "canonical",
     "check_file",
     "check_image",
+    "document",
     "listing",
+    "needs",
     "new_image",
     "read",
     "refusal_name",
     "run",
+    "salvage",
     "write",
 ]

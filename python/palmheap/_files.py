@@ -47,6 +47,20 @@ class Counts(NamedTuple):
     databases: int
 
 
+class Needs(NamedTuple):
+    """The smallest new image into which the database of a file can be imported: its size, and its slots."""
+
+    size: int
+    slots: int
+
+
+class Salvaged(NamedTuple):
+    """A salvaged file, and a line for each fault of the damaged one."""
+
+    file: bytes
+    faults: list[str]
+
+
 class Run(NamedTuple):
     """The results of a script: the image afterwards, the reply lines, and the files that its lines export."""
 
@@ -72,6 +86,37 @@ def blocks(file: Buffer) -> Blocks:
 def listing(file: Buffer) -> str:
     """Returns the text that `palmheap list` prints for a file."""
     return bytes(_made(low.library().palmheap_pdb_list, file, low.U8)).decode()
+
+
+def document(file: Buffer) -> str:
+    """Returns the JSON document that `palmheap list --json` prints for a file: if it has a fault, that of the fault."""
+    return bytes(_made(low.library().palmheap_pdb_json, file, low.U8)).decode()
+
+
+def needs(file: Buffer) -> Needs:
+    """Returns the size and the number of slots that `new_image` needs at least for the database of a file."""
+    given, found = low.exact_bytes(file), low.Needs()
+    _good(low.library().palmheap_pdb_needs(given or None, len(given), c.byref(found)))
+    return Needs(found.size, found.slots)
+
+
+def salvage(file: Buffer, exact_ids: bool = False) -> Salvaged:
+    """Salvages a damaged file, as `palmheap salvage` does. Raises a `FileFault` if it is shorter than a header.
+
+    Records get IDs as in the canonical form, or keep those of the damaged file if `exact_ids`.
+    """
+    given, count, faults = low.exact_bytes(file), c.c_size_t(0), c.c_size_t(0)
+    salvaged, room = (low.U8 * 0)(), 0
+    while True:
+        words = (given or None, len(given), bool(exact_ids), salvaged, room, c.byref(count), c.byref(faults))
+        answer = low.library().palmheap_salvage(*words)
+        if answer.kind != Kind.NO_ROOM:
+            break
+        room = count.value
+        salvaged = (low.U8 * room)()
+    _good(answer)
+    lines = bytes(_made(low.library().palmheap_salvage_lines, file, low.U8)).decode()
+    return Salvaged(bytes(salvaged), lines.splitlines())
 
 
 def canonical(file: Buffer) -> bytes:

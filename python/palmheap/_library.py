@@ -39,6 +39,10 @@ class FileEntry(c.Structure):
     _fields_ = [("start", SIZE), ("end", SIZE), ("kind", U32), ("id", U32), ("attributes", U8), ("has_data", BOOL)]
 
 
+class Needs(c.Structure):
+    _fields_ = [("size", SIZE), ("slots", SIZE)]
+
+
 class Bytes(c.Structure):
     _fields_ = [("at", c.c_char_p), ("len", SIZE)]
 
@@ -87,6 +91,7 @@ STRUCTURES = {
     "palmheap_damage": Damage,
     "palmheap_block": Block,
     "palmheap_file_entry": FileEntry,
+    "palmheap_needs": Needs,
     "palmheap_bytes": Bytes,
     "palmheap_sizes": Sizes,
     "palmheap_store": Place,
@@ -113,7 +118,11 @@ FILE_FUNCTIONS = {
     "pdb_check": Row((bytes,), (), Answer),
     "pdb_blocks": Row((bytes, c.POINTER(Block), SIZE), (SIZE,), Answer),
     "pdb_list": Row((bytes, bytearray), (SIZE,), Answer),
+    "pdb_json": Row((bytes, bytearray), (SIZE,), Answer),
+    "pdb_needs": Row((bytes,), (Needs,), Answer),
     "canonical": Row((bytes, bytearray), (SIZE,), Answer),
+    "salvage": Row((bytes, BOOL, bytearray), (SIZE, SIZE), Answer),
+    "salvage_lines": Row((bytes, bytearray), (SIZE,), Answer),
     "new": Row((bytearray, U16), (), Answer),
     "check": Row((bytes,), (Counts,), Answer),
     "run": Row(

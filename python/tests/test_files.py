@@ -1,5 +1,6 @@
 """Functions on files, images and scripts; files as values of Python; the command line."""
 
+import json
 import pickle
 import subprocess
 import sys
@@ -156,6 +157,47 @@ def test_read_and_write(tmp_path):
     with pytest.raises(ValueError):
         palmheap.write(memos, path)
     assert [it.name for it in tmp_path.iterdir()] == ["memo.pdb"]
+
+
+@given(databases(), st.booleans(), st.randoms(use_true_random=False))
+def test_salvage(it, exact_ids, rng):
+    """What is salvaged has no fault. Of a file without fault it is the canonical form, unless IDs are kept."""
+    file = damaged(it._built(), rng)
+    if len(file) < 78:
+        with pytest.raises(palmheap.FileFault) as fault:
+            palmheap.salvage(file, exact_ids)
+        assert fault.value.kind == palmheap.Kind.TRUNCATED
+        return
+    found = palmheap.salvage(file, exact_ids)
+    palmheap.check_file(found.file)
+    try:
+        palmheap.check_file(file)
+    except palmheap.FileFault:
+        assert found.faults
+    else:
+        assert not found.faults and (exact_ids or found.file == palmheap.canonical(file))
+    if exact_ids:
+        ids = [entry.id for entry in palmheap.Database.from_bytes(file).records] if not found.faults else None
+        assert ids is None or [entry.id for entry in palmheap.Database.from_bytes(found.file).records] == ids
+
+
+@given(databases(), st.randoms(use_true_random=False))
+def test_document(it, rng):
+    """The document has the size of the file, or its first fault."""
+    for file in (it._built(), damaged(it._built(), rng)):
+        document = json.loads(palmheap.document(file))
+        try:
+            palmheap.check_file(file)
+        except palmheap.FileFault as fault:
+            assert document["fault"] == str(fault).split()[0]
+        else:
+            needs = palmheap.needs(file)
+            assert (document["size"], document["needs"]) == (len(file), needs._asdict())
+            if needs.size <= 1 << 20:
+                image = palmheap.new_image(needs.size, needs.slots)
+                with palmheap.Store.open(image) as store:
+                    store.import_file(file)
+                    assert store.free_bytes() == 0
 
 
 def test_too_large():

@@ -1,14 +1,13 @@
 -- The blocks of a file, one after the other.
-use Rattle.std.proofs.Common.{◌≡◌, ℕ, ◌+◌, ◌-◌, ◌<◌, Option, Some, None, List, [], ◌∷◌, ◌++◌, length, get_or, drop, map, refl, sym, ap, ◌∙◌, arith, add-one, drop-cons, length-append, length-drop}
-use Rattle.std.specs.Prelude.{All, slice_range}
+use Rattle.std.proofs.Common.{◌≡◌, ℕ, ◌+◌, ◌-◌, ◌<◌, Option, None, List, [], ◌∷◌, ◌++◌, length, get_or, drop, map, refl, sym, ap, ◌∙◌, arith, add-one, drop-cons, length-append}
+use Rattle.std.specs.Prelude.{All}
 use Rattle.std.specs.List.{sum_by}
-use Rattle.std.proofs.lemmas.List.{length-take}
 use Rattle.std.proofs.lemmas.List.Elements.{All-head, All-tail}
 use Rattle.std.proofs.lemmas.List.Sums.{sum_by-cons}
-use Rattle.heap_model.specs.Files.{block_bytes, block_size, blocks_in}
+use Rattle.heap_model.specs.Files.{block_bytes, blocks_in}
 use Rattle.pdb_format.specs.Blocks.{bytes_at, IsBlockWithin, length_within}
 use Rattle.pdb_format.specs.declared.blocks.Block.{Block}
-use Rattle.pdb_format.proofs.FileBlocks.{block_count, length-blocks, block_of}
+use Rattle.pdb_format.proofs.FileBlocks.{block_long, block_count, length-blocks, block_of}
 use Rattle.pdb_format.proofs.WrittenOffsets.{all_bytes}
 use Rattle.pdb_format.specs.Opened.{HasPlaces}
 
@@ -26,17 +25,6 @@ block_here file blocks i bytes has inside is =
     blocks_from (blocks_in file) i (omega arith)
     ∙ ap (λ (block : Option (List ℕ)). block_bytes block ++ all_bytes (drop (i + 1) (blocks_in file))) (sym (block_of file blocks i has.are inside))
     ∙ ap (λ (xs : List ℕ). xs ++ all_bytes (drop (i + 1) (blocks_in file))) (sym is)
-
--- how many bytes a block has
-pub block_long : (file : List ℕ) (block : Option Block) → IsBlockWithin (length file) block → block_size (bytes_at file block) ≡ length_within block
-block_long file None within = refl
-block_long file (Some block) within =
-    let first = within.0 in
-    let last = within.1 in
-    let rest = length-drop block.start file in
-    let long = length-take (block.end - block.start) (drop block.start file) in
-    let is : length (slice_range file block.start block.end) ≡ block.end - block.start = omega arith in
-    is
 
 all_long : (file : List ℕ) (blocks : List (Option Block)) → All (IsBlockWithin (length file)) blocks → length (all_bytes (map (bytes_at file) blocks)) ≡ sum_by length_within blocks
 all_long file [] within = refl

@@ -12,7 +12,7 @@ use Rattle.pdb_format.specs.declared.blocks.Block.{Block}
 use Rattle.pdb_format.specs.ReadFiles.{header_read, entries_read, database_read}
 use Rattle.pdb_format.proofs.FileParts.{length-with_offsets}
 use Rattle.pdb_format.proofs.ReadFiles.{length-entries_read}
-use Rattle.canonical_file.proofs.BlockTexts.{block_long}
+use Rattle.pdb_format.proofs.FileBlocks.{block_long}
 
 kind_is : (file : List ℕ) → has_resources (header_in file).attributes ≡ resources_in file
 unfolding header_in

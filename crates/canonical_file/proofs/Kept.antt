@@ -111,9 +111,9 @@ seed_kept : (header : DatabaseHeader) (seed : ℕ) → seed ≡ seed_in header.s
 unfolding seeded
 seed_kept header seed is = ap (seeded header) is ∙ sym (header_stays header)
 
-seed_fits : (header : DatabaseHeader) (seed : ℕ) → seed ≤ greatest_id → HeaderFits header → HeaderFits (seeded header seed)
-unfolding seeded
-seed_fits header seed most fits =
+-- a header fits with a seed that fits
+pub fits_seeded : (header : DatabaseHeader) (seed : ℕ) → HeaderFits header → seed ≤ greatest_id → HeaderFits (record header { seed = with_seed header.seed seed })
+fits_seeded header seed fits most =
     let field = fits.seed in
     record {
       attributes = fits.attributes;
@@ -126,6 +126,10 @@ seed_fits header seed most fits =
       creator = fits.creator;
       seed = omega arith;
     }
+
+seed_fits : (header : DatabaseHeader) (seed : ℕ) → seed ≤ greatest_id → HeaderFits header → HeaderFits (seeded header seed)
+unfolding seeded
+seed_fits header seed most fits = fits_seeded header seed fits most
 
 header_read : (file : List ℕ) (d : Database (Option (List ℕ))) → (reads : Reads file d) → d.header ≡ seeded (header_in file) reads.last_seed
 unfolding seeded

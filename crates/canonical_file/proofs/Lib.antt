@@ -16,7 +16,6 @@ pub mod WholeEntries
 pub mod SoundParts
 pub mod NamedHeaders
 pub mod MendedFiles
-pub mod OwnRead
 pub mod SalvageTexts
 pub mod SoundEntries
 pub mod SalvagedFiles

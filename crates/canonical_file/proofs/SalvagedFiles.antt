@@ -11,7 +11,7 @@ use Rattle.heap_model.specs.Store.{unique_ids}
 use Rattle.heap_model.specs.Files.{HasFault, HasNoFault, HaveIds, IsFirstFault, IsReadAs}
 use Rattle.heap_model.specs.declared.file_fault.FileFault.{FileFault}
 use Rattle.pdb_format.specs.ReadFiles.{database_read}
-use Rattle.pdb_format.proofs.ReadFiles.{blocks_read_are}
+use Rattle.pdb_format.proofs.ReadFiles.{all_read, blocks_read_are, given_read}
 use Rattle.canonical_file.specs.Canonical.{IsCanonicalFault, WritesOne, WroteOne}
 use Rattle.canonical_file.specs.declared.canonical.CanonicalFault.{CanonicalFault}
 use Rattle.canonical_file.specs.declared.canonical.CanonicalFault.TheVariants.{BadFile, OutOfMemory, Write}
@@ -21,7 +21,6 @@ use Rattle.canonical_file.specs.Salvaged.{IsRewrittenBy, IsSalvageFault}
 use Rattle.canonical_file.specs.declared.salvage.SalvagedIds.{SalvagedIds}
 use Rattle.canonical_file.specs.declared.salvage.SalvagedIds.TheVariants.{Distinct, Exact}
 use Rattle.canonical_file.proofs.MendedFiles.{mended_blocks, mended_heads}
-use Rattle.canonical_file.proofs.OwnRead.{all_read, own_ids_read}
 
 header_there : (file : List ℕ) (d : Database ℕ) → database_in file ≡ d → header_in file ≡ d.header
 unfolding database_in
@@ -54,6 +53,10 @@ own_header file b ids seed =
 own_entries : (file ids : List ℕ) (seed : ℕ) → AllZip IsReadAs (database_in file).entries (database_read file ids seed).entries
 unfolding database_read
 own_entries file ids seed = all_read file ids
+
+own_ids_read : (file : List ℕ) (seed : ℕ) → unique_ids (database_read file (unique_ids (database_in file)) seed) ≡ unique_ids (database_in file)
+unfolding database_read
+own_ids_read file seed = given_read file (unique_ids (database_in file)) refl
 
 pub salvages : (rule : SalvagedIds) (file bytes : List ℕ) → AreBytes file → 78 ≤ length file → IsRewrittenBy rule (mended file) bytes → Salvages rule file bytes
 unfolding seeded

@@ -8,7 +8,7 @@ use Rattle.heap_model.specs.Chunk.{need}
 use Rattle.heap_model.specs.Database.{entry_offset}
 use Rattle.heap_model.specs.Files.{blocks_in, entries_end}
 use Rattle.heap_model.specs.FileSteps.{size_of_block, block_sizes}
-use Rattle.pdb_format.specs.Blocks.{bytes_at, IsBlockWithin, length_within}
+use Rattle.pdb_format.specs.Blocks.{bytes_at, IsBlockWithin, length_within, size_within}
 use Rattle.pdb_format.specs.declared.blocks.Block.{Block}
 use Rattle.pdb_format.proofs.FileBlocks.{size_is}
 use Rattle.canonical_file.specs.Needs.{chunk_need, chunk_slots, file_bytes, file_slots}
@@ -16,35 +16,26 @@ use Rattle.canonical_file.specs.BlockNeeds.{block_need, block_slots}
 
 -- ---- by the sizes of blocks
 
-needs_by : (file : List ℕ) (blocks : List (Option Block)) → All (IsBlockWithin (length file)) blocks → sum_by chunk_need (map size_of_block (map (bytes_at file) blocks)) ≡ sum_by block_need blocks
-needs_by file [] within = refl
-needs_by file (block ∷ blocks) within =
-    let first = sum_by-cons chunk_need (size_of_block (bytes_at file block)) (map size_of_block (map (bytes_at file) blocks)) in
-    let one : block_need block ≡ chunk_need (size_of_block (bytes_at file block)) = ap chunk_need (size_is file block (All-head (IsBlockWithin (length file)) block blocks within)) in
-    let rest = needs_by file blocks (All-tail (IsBlockWithin (length file)) block blocks within) in
-    let all = sum_by-cons block_need block blocks in
-    omega arith
-
-slots_by : (file : List ℕ) (blocks : List (Option Block)) → All (IsBlockWithin (length file)) blocks → sum_by chunk_slots (map size_of_block (map (bytes_at file) blocks)) ≡ sum_by block_slots blocks
-slots_by file [] within = refl
-slots_by file (block ∷ blocks) within =
-    let first = sum_by-cons chunk_slots (size_of_block (bytes_at file block)) (map size_of_block (map (bytes_at file) blocks)) in
-    let one : block_slots block ≡ chunk_slots (size_of_block (bytes_at file block)) = ap chunk_slots (size_is file block (All-head (IsBlockWithin (length file)) block blocks within)) in
-    let rest = slots_by file blocks (All-tail (IsBlockWithin (length file)) block blocks within) in
-    let all = sum_by-cons block_slots block blocks in
+sums_by : (f : Option ℕ → ℕ) (file : List ℕ) (blocks : List (Option Block)) → All (IsBlockWithin (length file)) blocks → sum_by f (map size_of_block (map (bytes_at file) blocks)) ≡ sum_by (λ block. f (size_within block)) blocks
+sums_by f file [] within = refl
+sums_by f file (block ∷ blocks) within =
+    let first = sum_by-cons f (size_of_block (bytes_at file block)) (map size_of_block (map (bytes_at file) blocks)) in
+    let one : f (size_within block) ≡ f (size_of_block (bytes_at file block)) = ap f (size_is file block (All-head (IsBlockWithin (length file)) block blocks within)) in
+    let rest = sums_by f file blocks (All-tail (IsBlockWithin (length file)) block blocks within) in
+    let all = sum_by-cons (λ (block : Option Block). f (size_within block)) block blocks in
     omega arith
 
 -- the needs of the database of a file, by the places of its blocks
 pub bytes_are : (file : List ℕ) (blocks : List (Option Block)) → map (bytes_at file) blocks ≡ blocks_in file → All (IsBlockWithin (length file)) blocks → file_bytes file ≡ need (entries_end file) + sum_by block_need blocks
 bytes_are file blocks are within =
     let first = sum_by-cons chunk_need (Some (entries_end file)) (block_sizes file) in
-    let rest : sum_by chunk_need (block_sizes file) ≡ sum_by block_need blocks = ap (λ (bs : List (Option (List ℕ))). sum_by chunk_need (map size_of_block bs)) (sym are) ∙ needs_by file blocks within in
+    let rest : sum_by chunk_need (block_sizes file) ≡ sum_by block_need blocks = ap (λ (bs : List (Option (List ℕ))). sum_by chunk_need (map size_of_block bs)) (sym are) ∙ sums_by chunk_need file blocks within in
     first ∙ ap (λ (n : ℕ). need (entries_end file) + n) rest
 
 pub slots_are : (file : List ℕ) (blocks : List (Option Block)) → map (bytes_at file) blocks ≡ blocks_in file → All (IsBlockWithin (length file)) blocks → file_slots file ≡ 1 + sum_by block_slots blocks
 slots_are file blocks are within =
     let first = sum_by-cons chunk_slots (Some (entries_end file)) (block_sizes file) in
-    let rest : sum_by chunk_slots (block_sizes file) ≡ sum_by block_slots blocks = ap (λ (bs : List (Option (List ℕ))). sum_by chunk_slots (map size_of_block bs)) (sym are) ∙ slots_by file blocks within in
+    let rest : sum_by chunk_slots (block_sizes file) ≡ sum_by block_slots blocks = ap (λ (bs : List (Option (List ℕ))). sum_by chunk_slots (map size_of_block bs)) (sym are) ∙ sums_by chunk_slots file blocks within in
     first ∙ ap (λ (n : ℕ). 1 + n) rest
 
 -- ---- how large they may be

@@ -5,7 +5,7 @@ use Rattle.std.specs.List.{AllZip, filter_map}
 use Rattle.std.proofs.lemmas.Nat.{and_le_l}
 use Rattle.std.proofs.lemmas.List.Elements.{All-nil, All-cons, All-head, All-tail}
 use Rattle.heap_model.specs.Bytes.{AreBytes}
-use Rattle.heap_model.specs.UniqueIds.{greatest_id, seed_in, with_seed}
+use Rattle.heap_model.specs.UniqueIds.{greatest_id, seed_in}
 use Rattle.heap_model.specs.Database.{Database, DatabaseHeader, Entry, a_record, a_resource, entry_data, data_in, EntryFits, HeaderFits, IsDatabaseName, entry_offset, has_resources, is_deleted, header_in, resources_in, entry_count_in}
 use Rattle.heap_model.specs.Store.{unique_id, unique_ids}
 use Rattle.heap_model.specs.Files.{HasNoFault, IsReadAs, Reads, idle, idle_attributes, idle_entry, kept_ids, file_of}
@@ -24,6 +24,7 @@ use Rattle.canonical_file.specs.declared.salvage.SalvagedIds.TheVariants.{Distin
 use Rattle.canonical_file.proofs.BlockTexts.{blocks_long}
 use Rattle.canonical_file.proofs.FoundPlaces.{finds_places}
 use Rattle.canonical_file.proofs.GivenFit.{given_fit}
+use Rattle.canonical_file.proofs.Kept.{fits_seeded}
 use Rattle.canonical_file.proofs.KeptEntries.{data_at}
 use Rattle.canonical_file.proofs.MendedFiles.{mended_blocks, mended_good, mended_heads, mended_long, resources_sound, sound_entries}
 use Rattle.canonical_file.proofs.SoundParts.{attributes_there, few, header_fits, inside, sound_few, sound_fits, sound_named, whole_most}
@@ -120,22 +121,6 @@ none_at file d blocks same k e s below none =
     sym parts.1 ∙ none_there file (2 + k) (get_or (sound_offsets file) (2 + k) 0) (sym parts.0 ∙ none)
 
 -- ---- the file
-
-seed_fits : (field last : ℕ) → field < 2 ^ 32 → last ≤ greatest_id → with_seed field last < 2 ^ 32
-seed_fits field last low most = omega arith
-
-fits_seeded : (h : DatabaseHeader) (last : ℕ) → HeaderFits h → last ≤ greatest_id → HeaderFits (record h { seed = with_seed h.seed last })
-fits_seeded h last fits most = record {
-  attributes = fits.attributes;
-  version = fits.version;
-  creation_date = fits.creation_date;
-  modification_date = fits.modification_date;
-  backup_date = fits.backup_date;
-  modification_number = fits.modification_number;
-  kind = fits.kind;
-  creator = fits.creator;
-  seed = seed_fits h.seed last fits.seed most;
-}
 
 first_most : (r : Bool) (n : ℕ) → n < 2 ^ 16 → entry_offset r n + 2 < 2 ^ 20
 first_most false n few = omega arith

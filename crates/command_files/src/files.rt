@@ -4,6 +4,7 @@
 ghost use Rattle.std.specs.Prelude.{[], ◌≡◌, ◌≤◌, ◌⊎◌, ◌++◌, IfOk, IfErr, codes, decimal, length, string_bytes, vec_len};
 
 use crate::faults::{STANDARD_INPUT, STANDARD_STREAM, fail, fail_to_read};
+use crate::outputs::close_output;
 use crate::region_input::{SizedFault, read_sized};
 use crate::replacing::output_for_database;
 use heap_model::Bytes;
@@ -159,8 +160,6 @@ pub fn write_file<R: Files + Eprint + AllocGlobal>(rt: &R, path: &str, bytes: &[
         Ok(()) => Status::Done,
         Err(_) => Status::WriteFault,
     };
-    let (out, fault) = out.into_inner().into_parts();
-    out.close();
-    report_outcome(rt, status, &[(path, fault)]);
+    report_outcome(rt, status, &[(path, close_output(out))]);
     status
 }

@@ -12,6 +12,7 @@
 //! | `faults` | reports why a command did not start |
 //! | `line_hints` | reports what is wrong with a faulty line |
 //! | `buffered` | returns and reports the first error of a buffered writer |
+//! | `outputs` | closes and reports the outputs of a command |
 //! | `suggestions` | reports what an input looks like, which command explains a fault |
 #![tactic(auto)]
 
@@ -19,6 +20,7 @@ mod buffered;
 mod faults;
 mod files;
 mod line_hints;
+mod outputs;
 mod region_input;
 mod replacing;
 mod suggestions;
@@ -33,6 +35,7 @@ pub use files::{
     write_files,
 };
 pub use line_hints::report_line_hint;
+pub use outputs::{close_output, report_image, report_output, report_outputs};
 pub use region_input::{SizedFault, read_region_from};
 pub use replacing::{output_for_database, output_for_image, output_for_picture};
 pub use suggestions::{

@@ -1,6 +1,6 @@
 -- The rows of the table that a word is the name or number of, and their lines. Upper and lower case
 -- are the same.
-use Rattle.std.specs.Prelude.{ℕ, Bool, false, ◌||◌, ◌==◌, ◌++◌, List, [], ◌∷◌, Option, None, Some, map, codes, decimal, cond, count_by}
+use Rattle.std.specs.Prelude.{ℕ, Bool, true, false, ◌||◌, ◌==◌, ◌++◌, List, [], ◌∷◌, Option, None, Some, map, codes, decimal, cond, count_by}
 use Rattle.std.specs.List.{flat_map, list_any}
 use Rattle.std.specs.Str.{bytes_eq, str_eq_ignore_ascii_case}
 use Rattle.std.specs.Borrow.{Bor}
@@ -16,7 +16,7 @@ use Rattle.explanations.specs.declared.table.TheConstants.{SECTIONS, IMAGE_ROWS,
 use Rattle.explanations.specs.declared.table.Section.{Section}
 use Rattle.explanations.specs.declared.table.Section.TheVariants.{Images, Databases as DatabaseSection, Files, Lines, Sizes, Changes, FirstCalls, NextCalls, LastCalls}
 use Rattle.explanations.specs.declared.table.Subject.{Subject}
-use Rattle.explanations.specs.declared.table.Subject.TheVariants.{Heap, Databases, File, Line, Blank, Output, Change, Call}
+use Rattle.explanations.specs.declared.table.Subject.TheVariants.{Heap, Databases, File, Line, Blank, Output, EmptyPart, Change, Call}
 
 -- a row of the table: what it explains, its values and its text
 abbrev pub Explanation : Type 0
@@ -93,6 +93,7 @@ same_subject (File fault) (File other) = bytes_eq (file_fault_name fault) (file_
 same_subject (Line fault) (Line other) = bytes_eq (script_fault_name fault) (script_fault_name other)
 same_subject (Blank fault) (Blank other) = bytes_eq (blank_fault_name fault) (blank_fault_name other)
 same_subject (Output fault) (Output other) = bytes_eq (migrate_fault_name fault) (migrate_fault_name other)
+same_subject EmptyPart EmptyPart = true
 same_subject (Change change) (Change other) = bytes_eq (change_name change) (change_name other)
 same_subject (Call refusal) (Call other) = number_of refusal == number_of other
 same_subject subject other = false

@@ -10,7 +10,7 @@ use Rattle.script_lines.specs.FaultNames.{script_fault_name}
 use Rattle.explanations.specs.declared.table.FileChange.{FileChange}
 use Rattle.explanations.specs.declared.table.FileChange.TheVariants as changes
 use Rattle.explanations.specs.declared.table.Subject.{Subject}
-use Rattle.explanations.specs.declared.table.Subject.TheVariants.{Heap, Databases, File, Line, Blank, Output, Change, Call}
+use Rattle.explanations.specs.declared.table.Subject.TheVariants.{Heap, Databases, File, Line, Blank, Output, EmptyPart, Change, Call}
 
 -- the name of a change in a rewritten file
 abbrev pub change_name : FileChange → List ℕ
@@ -28,6 +28,7 @@ subject_name (File fault) = file_fault_name fault
 subject_name (Line fault) = script_fault_name fault
 subject_name (Blank fault) = blank_fault_name fault
 subject_name (Output fault) = migrate_fault_name fault
+subject_name EmptyPart = codes "EmptyPart"
 subject_name (Change change) = change_name change
 subject_name (Call refusal) = name_of refusal
 
@@ -43,6 +44,7 @@ topic_text (Databases fault) = codes ", a fault of the databases of an image: "
 topic_text (File fault) = codes ", a fault of a PDB or PRC file: "
 topic_text (Line fault) = codes ", a fault of a line: "
 topic_text (Blank fault) = codes ", a fault of 'new' and 'import': "
-topic_text (Output fault) = codes ", a fault of 'migrate', 'pack' and 'import': "
+topic_text (Output fault) = codes ", a fault of 'migrate', 'pack', 'put' and 'import': "
+topic_text EmptyPart = codes ", a fault of 'put': "
 topic_text (Change change) = codes ", a change in a rewritten file: "
 topic_text (Call refusal) = codes ", a refusal: "

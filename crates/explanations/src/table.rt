@@ -53,6 +53,8 @@ pub enum Subject {
     /// A file or an image that would be too large. `migrate`, `pack` and `import` print it after
     /// `bad`.
     Output(MigrateFault),
+    /// A part that can't be empty at its place. `put` prints it after `bad`.
+    EmptyPart,
     /// A change in a rewritten file.
     Change(FileChange),
     /// A refusal of a call. A script line prints it after `refused`.
@@ -71,6 +73,7 @@ impl Subject {
             Subject::Line(fault) => fault.name(),
             Subject::Blank(fault) => fault.name(),
             Subject::Output(fault) => fault.name(),
+            Subject::EmptyPart => "EmptyPart",
             Subject::Change(change) => change.name(),
             Subject::Call(refusal) => refusal.name(),
         }
@@ -312,13 +315,14 @@ static LINE_ROWS: [Explanation; 3] = [
             " K",
             "word K, from 1, is a quoted word that isn't closed, or something follows its \
                 closing quote. Or it is the first word that isn't of its kind: a text or a \
-                type needs quotes",
+                type needs quotes. In the text of a folder, K is 1 for entry 65536",
         ),
     ),
 ];
 
-/// The faults of a size or a slot count, and of a file or an image that would be too large.
-static SIZE_ROWS: [Explanation; 3] = [
+/// The faults of a size or a slot count, of a file or an image that would be too large, and of a
+/// part that can't be empty.
+static SIZE_ROWS: [Explanation; 4] = [
     (
         Subject::Blank(BlankFault::BadSize),
         ("", "SIZE isn't a multiple of 8 from 64 to 16777208"),
@@ -336,8 +340,16 @@ static SIZE_ROWS: [Explanation; 3] = [
         (
             "",
             "the image that migrate or import would write has more than 16777208 bytes, \
-                import needs more than 65535 slots, or the file that pack would write has \
+                import needs more than 65535 slots, or the file that pack or put would write has \
                 more than 16777216 bytes",
+        ),
+    ),
+    (
+        Subject::EmptyPart,
+        (
+            "",
+            "PART has no bytes, and the next block of the file has a lower index. With one \
+                offset for both, the bytes of that block would be read as those of this one",
         ),
     ),
 ];

@@ -4,3 +4,4 @@ pub mod ResourceData
 pub mod Got
 pub mod Reported
 pub mod Salvaging
+pub mod PutStatuses

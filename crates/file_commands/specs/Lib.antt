@@ -5,3 +5,4 @@ pub mod LineFaults
 pub mod WantedBlocks
 pub mod Gets
 pub mod Salvages
+pub mod Puts

@@ -55,11 +55,15 @@ pub record IsFirstResource (file : List ℕ) (kind id index : ℕ) : Type 0 wher
 abbrev pub HasNoResource : List ℕ → ℕ → ℕ → Type 0
 HasNoResource file kind id = (index : ℕ) → index < entry_count_in file → HasTypeAndId kind id (entry_in file index) → ⊥
 
+-- the rank of the block that is asked for
+abbrev pub IsWantedRank : List ℕ → WantedBlock → ℕ → Type 0
+IsWantedRank file (Info which) rank = rank ≡ info_rank which
+IsWantedRank file (Entry index) rank = rank ≡ 2 + index
+IsWantedRank file (Resource kind id) rank = (index : ℕ) × IsFirstResource file kind id index × (rank ≡ 2 + index)
+
 -- the block that is asked for has these bytes
 abbrev pub IsWantedBlock : List ℕ → WantedBlock → List ℕ → Type 0
-IsWantedBlock file (Info which) bytes = block_of_rank file (info_rank which) ≡ Some bytes
-IsWantedBlock file (Entry index) bytes = block_of_rank file (2 + index) ≡ Some bytes
-IsWantedBlock file (Resource kind id) bytes = (index : ℕ) × IsFirstResource file kind id index × (block_of_rank file (2 + index) ≡ Some bytes)
+IsWantedBlock file wanted bytes = (rank : ℕ) × IsWantedRank file wanted rank × (block_of_rank file rank ≡ Some bytes)
 
 -- The file doesn't have the block that is asked for, and this is the refusal:
 -- - `NoInfoBlock`: it doesn't have the info block.

@@ -1,11 +1,13 @@
-//! The command `get`, over files.
+//! The commands `get` and `put`, over files.
 
 ghost use Rattle.std.specs.Prelude.{◌≡◌, ◌≢◌, ◌≤◌, ◌↔◌, length, option_map, None};
 ghost use Rattle.file_commands.specs.WantedBlocks.{spelled_block};
 
 use crate::block_words::{WantedBlock, wanted_block};
 use crate::comments::comment_on_file;
+use crate::file_rewrites::{NewFile, write_to};
 use crate::get_command::cmd_get_from;
+use crate::put_command::NewBlock;
 use crate::wanted::find_block;
 use command_files::{STANDARD_ERROR, STANDARD_OUTPUT, input_name, read_file_or_input};
 use heap_model::Refusal;
@@ -35,6 +37,45 @@ pub fn get<R: Files + Input + Print + Eprint + AllocGlobal>(
         Err(status) => return status,
     };
     let status = get_block(rt, file.as_slice(), wanted);
+    comment_on_file(rt, path, status, file.as_slice());
+    if status == Status::Refused {
+        comment_on_block(rt, path, file.as_slice(), wanted);
+    }
+    status
+}
+
+/// Runs `put`. The path `-` means standard input. The output path `-` means standard output, and then
+/// the reply goes to standard error. If the word asks for no block, it reports that there.
+pub fn put<R: Files + Input + Print + Eprint + AllocGlobal>(
+    rt: &R,
+    path: &str,
+    word: &str,
+    part_path: &str,
+    out_path: &str,
+) -> Status
+    ensures { (result ≡ Status.BadWords) ↔ (spelled_block word.now None ≡ None) }
+{
+    let Some(wanted) = wanted_block(word.as_bytes(), None) else {
+        let _ = eprintln!(rt;
+            "error: '{word}' is no block: it is the index of an entry, 'app' or 'sort'"
+        );
+        return Status::BadWords;
+    };
+    let file = match read_file_or_input(rt, path) {
+        Ok(file) => file,
+        Err(status) => return status,
+    };
+    let part = match read_file_or_input(rt, part_path) {
+        Ok(part) => part,
+        Err(status) => return status,
+    };
+    let bytes = part.as_slice();
+    let status = write_to(
+        rt,
+        file.as_slice(),
+        NewFile::Put(NewBlock { wanted, bytes }),
+        out_path,
+    );
     comment_on_file(rt, path, status, file.as_slice());
     if status == Status::Refused {
         comment_on_block(rt, path, file.as_slice(), wanted);

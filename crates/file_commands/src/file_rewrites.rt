@@ -1,9 +1,10 @@
-//! The commands `canonical` and `salvage`, over files.
+//! The commands `canonical` and `salvage`, over files, and the output of `put`.
 
 ghost use Rattle.std.specs.Prelude.{◌≢◌, ◌≤◌, length};
 
 use crate::canonical_command::cmd_canonical_from;
 use crate::comments::{DROPPED, comment_on_file, comment_on_salvage, name_dropped};
+use crate::put_command::{NewBlock, cmd_put_from};
 use crate::salvage_command::cmd_salvage_from;
 use canonical_file::SalvagedIds;
 use command_files::{
@@ -22,11 +23,13 @@ const BUFFER_SIZE: usize = 65_536;
 
 /// The new file that is written for a file.
 #[derive(Clone, Copy)]
-enum NewFile {
+pub(crate) enum NewFile<'a> {
     /// Its canonical form.
     Canonical,
     /// The file that is salvaged from it.
     Salvaged(SalvagedIds),
+    /// The file with a block replaced.
+    Put(NewBlock<'a>),
 }
 
 /// Runs `canonical`. The path `-` means standard input. The output path `-` means standard output,
@@ -89,10 +92,10 @@ fn salvage_by<R: Files + Input + Print + Eprint + AllocGlobal>(
 }
 
 /// Writes a new file for a file to a path. The path `-` means standard output.
-fn write_to<R: Files + Print + Eprint + AllocGlobal>(
+pub(crate) fn write_to<R: Files + Print + Eprint + AllocGlobal>(
     rt: &R,
     file: &[u8],
-    new: NewFile,
+    new: NewFile<'_>,
     out_path: &str,
 ) -> Status
     requires { length file.now ≤ MOST_INPUT }
@@ -106,7 +109,7 @@ fn write_to<R: Files + Print + Eprint + AllocGlobal>(
 }
 
 /// Writes a new file for a file to standard output.
-fn write_to_output<R: Print + Eprint + AllocGlobal>(rt: &R, file: &[u8], new: NewFile) -> Status
+fn write_to_output<R: Print + Eprint + AllocGlobal>(rt: &R, file: &[u8], new: NewFile<'_>) -> Status
     requires { length file.now ≤ MOST_INPUT }
     ensures { result ≢ Status.BadWords }
 {
@@ -125,7 +128,7 @@ fn write_to_output<R: Print + Eprint + AllocGlobal>(rt: &R, file: &[u8], new: Ne
 fn write_to_file<R: Files + Print + Eprint + AllocGlobal>(
     rt: &R,
     file: &[u8],
-    new: NewFile,
+    new: NewFile<'_>,
     out_path: &str,
 ) -> Status
     requires { length file.now ≤ MOST_INPUT }
@@ -152,7 +155,7 @@ fn write_to_file<R: Files + Print + Eprint + AllocGlobal>(
 fn rewrite<W: Write + Drop, V: Write>(
     alloc: Global,
     file: &[u8],
-    new: NewFile,
+    new: NewFile<'_>,
     file_out: W,
     out: &mut Counted<V>,
 ) -> (Status, Option<io::Error>)
@@ -166,6 +169,7 @@ fn rewrite<W: Write + Drop, V: Write>(
     let status = match new {
         NewFile::Canonical => cmd_canonical_from(&alloc, file, &mut file_out, out),
         NewFile::Salvaged(ids) => cmd_salvage_from(&alloc, file, ids, &mut file_out, out),
+        NewFile::Put(block) => cmd_put_from(&alloc, file, block, &mut file_out, out),
     };
     (status, buffered_fault(file_out.into_inner()))
 }

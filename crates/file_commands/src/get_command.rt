@@ -64,7 +64,7 @@ fn put_wanted<W: Write, V: Write>(
 }
 
 /// Prints the line for a block that a file doesn't have.
-fn say_refusal<V: Write>(out: &mut Counted<V>, refusal: Refusal) -> Status
+pub(crate) fn say_refusal<V: Write>(out: &mut Counted<V>, refusal: Refusal) -> Status
     ensures statuses { (result ≡ Status.Refused) ⊎ (result ≡ Status.WriteFault) }
     ensures refused { result ≡ Status.Refused
         → Puts V.contents out.old out.new (no_block_line refusal) true }

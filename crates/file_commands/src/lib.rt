@@ -1,4 +1,5 @@
-//! The commands `list`, `canonical`, `salvage`, `get`, `unpack` and `pack` on PDB and PRC files.
+//! The commands `list`, `canonical`, `salvage`, `get`, `put`, `unpack` and `pack` on PDB and PRC
+//! files.
 //!
 //! Each is a function over bytes and counted writers, `cmd_list_from` for `list`. Its contract
 //! defines what is written, by the status that the command returns. `list` writes rows in a
@@ -9,8 +10,8 @@
 //! for one of them, and `cmd_reports_from` does it for each file that a source gives
 //! (`specs/Reports.antt`).
 //!
-//! `report_files`, `canonical`, `salvage`, `salvage_exact_ids`, `get`, `unpack` and `pack` are the
-//! commands over files and folders. They call the system, and their clauses state only the statuses
+//! `report_files`, `canonical`, `salvage`, `salvage_exact_ids`, `get`, `put`, `unpack` and `pack` are
+//! the commands over files and folders. They call the system, and their clauses state only the statuses
 //! with which a command ends. The stored runs of `test_program` show which files are read and
 //! written.
 //!
@@ -20,13 +21,13 @@
 //! | `reports` | these commands for one file, and for several files of a source |
 //! | `inputs` | a source of files |
 //! | `canonical_command`, `salvage_command` | the commands `canonical` and `salvage`, over bytes |
-//! | `get_command` | the command `get`, over bytes |
+//! | `get_command`, `put_command` | the commands `get` and `put`, over bytes |
 //! | `block_words`, `wanted` | the words that ask for a block; the block that is asked for |
 //! | `parts` | the commands `unpack` and `pack`, over bytes |
 //! | `faults`, `line_faults` | writes lines for a faulty or rewritten file, for a faulty line |
 //! | `file_listings` | the commands `list`, `list --json` and `canonical --check`, over files |
 //! | `file_rewrites` | the commands `canonical` and `salvage`, over files |
-//! | `file_blocks` | the command `get`, over files |
+//! | `file_blocks` | the commands `get` and `put`, over files |
 //! | `folders` | the commands `unpack` and `pack`, over files and folders |
 //! | `comments` | reports what a file looks like, what is allowed at its fault, what a rewrite drops |
 #![tactic(auto)]
@@ -45,6 +46,7 @@ mod inputs;
 mod line_faults;
 mod list_command;
 mod parts;
+mod put_command;
 mod reports;
 mod salvage_command;
 mod wanted;
@@ -53,7 +55,7 @@ pub use block_words::{WantedBlock, wanted_block};
 pub use canonical_command::cmd_canonical_from;
 pub use changes_command::cmd_changes_from;
 pub use comments::{comment_on_damage, name_each_dropped};
-pub use file_blocks::get;
+pub use file_blocks::{get, put};
 pub use file_listings::report_files;
 pub use file_rewrites::{canonical, salvage, salvage_exact_ids};
 pub use folders::{pack, path_in, unpack};
@@ -62,6 +64,7 @@ pub use inputs::Inputs;
 pub use line_faults::say_line_fault;
 pub use list_command::cmd_list_from;
 pub use parts::{cmd_pack_from, list_parts, say_count, unpack_file};
+pub use put_command::{NewBlock, cmd_put_from};
 pub use reports::{Asked, Report, cmd_report_from, cmd_reports_from};
 pub use salvage_command::cmd_salvage_from;
 pub use wanted::find_block;

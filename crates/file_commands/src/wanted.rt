@@ -1,10 +1,11 @@
 //! The block of a file that is asked for.
 
-ghost use Rattle.std.specs.Prelude.{◌≡◌, ◌+◌, ◌<◌, ◌↔◌, IfOk, IfErr, IfSome, IfNone, IsTrue, Some, option_map, true};
+ghost use Rattle.std.specs.Prelude.{◌≡◌, ◌+◌, ◌<◌, ◌↔◌, IfOk, IfErr, IfSome, IfNone, IsTrue, option_map, true};
 ghost use Rattle.heap_model.specs.Database.{resources_in, entry_count_in};
 ghost use Rattle.heap_model.specs.ResourceSteps.{HasTypeAndId};
 ghost use Rattle.db_format.specs.EitherEntry.{entry_of};
-ghost use Rattle.file_commands.specs.WantedBlocks.{HasNoResource, IsFirstResource, IsWantedBlock, LacksBlock, block_of_rank, info_rank};
+ghost use Rattle.file_parts.specs.Replacing.{has_block};
+ghost use Rattle.file_commands.specs.WantedBlocks.{HasNoResource, IsFirstResource, IsWantedBlock, IsWantedRank, LacksBlock, block_of_rank, info_rank};
 
 use crate::block_words::WantedBlock;
 use db_format::{DbEntry, INFO_BLOCKS};
@@ -15,13 +16,34 @@ use pdb_format::PdbFile;
 ///
 /// # Errors
 ///
+/// The same as for `find_rank`.
+#[tactic(auto, using(crate::proofs::ResourceData::wanted_has))]
+pub fn find_block<'a>(file: &PdbFile<'a>, wanted: WantedBlock) -> Result<&'a [u8], Refusal>
+    ensures block { IfOk result (λ bytes. IsWantedBlock file.now wanted bytes.now) }
+    ensures lacks { IfErr result (LacksBlock file.now wanted) }
+{
+    match find_rank(file, wanted) {
+        Ok(rank) => match bytes_at(file, rank) {
+            Some(bytes) => Ok(bytes),
+            None => unreachable!(),
+        },
+        Err(refusal) => Err(refusal),
+    }
+}
+
+/// Returns the rank of the block that is asked for.
+///
+/// # Errors
+///
 /// - `NoInfoBlock`: if the file doesn't have the info block.
 /// - `IndexOutOfRange`: if the file doesn't have that many entries.
 /// - `RecordDeleted`: if the record has no data.
 /// - `NotResourceDatabase`: if a resource is asked for, and the file has records.
 /// - `ResourceNotFound`: if no resource has the type and the id.
-pub fn find_block<'a>(file: &PdbFile<'a>, wanted: WantedBlock) -> Result<&'a [u8], Refusal>
-    ensures block { IfOk result (λ bytes. IsWantedBlock file.now wanted bytes.now) }
+pub(crate) fn find_rank(file: &PdbFile<'_>, wanted: WantedBlock) -> Result<usize, Refusal>
+    ensures rank { IfOk result (IsWantedRank file.now wanted) }
+    ensures there { IfOk result (λ rank. has_block file.now rank ≡ true) }
+    ensures inside { IfOk result (λ rank. rank < 2 + entry_count_in file.now) }
     ensures lacks { IfErr result (LacksBlock file.now wanted) }
 {
     match wanted {
@@ -31,13 +53,16 @@ pub fn find_block<'a>(file: &PdbFile<'a>, wanted: WantedBlock) -> Result<&'a [u8
     }
 }
 
-/// Returns the bytes of an info block.
-fn find_info<'a>(file: &PdbFile<'a>, which: Which) -> Result<&'a [u8], Refusal>
-    ensures block { IfOk result (λ bytes. IsWantedBlock file.now (WantedBlock.Info which) bytes.now) }
+/// Returns the rank of an info block that the file has.
+fn find_info(file: &PdbFile<'_>, which: Which) -> Result<usize, Refusal>
+    ensures rank { IfOk result (IsWantedRank file.now (WantedBlock.Info which)) }
+    ensures there { IfOk result (λ rank. has_block file.now rank ≡ true) }
+    ensures inside { IfOk result (λ rank. rank < 2 + entry_count_in file.now) }
     ensures lacks { IfErr result (LacksBlock file.now (WantedBlock.Info which)) }
 {
-    match bytes_at(file, rank_of(which)) {
-        Some(bytes) => Ok(bytes),
+    let rank = rank_of(which);
+    match bytes_at(file, rank) {
+        Some(_) => Ok(rank),
         None => Err(Refusal::NoInfoBlock),
     }
 }
@@ -53,31 +78,35 @@ fn rank_of(which: Which) -> usize
     }
 }
 
-/// Returns the data of the entry at an index.
-fn find_data<'a>(file: &PdbFile<'a>, index: u32) -> Result<&'a [u8], Refusal>
-    ensures block { IfOk result (λ bytes. IsWantedBlock file.now (WantedBlock.Entry index) bytes.now) }
+/// Returns the rank of the data of the entry at an index.
+fn find_data(file: &PdbFile<'_>, index: u32) -> Result<usize, Refusal>
+    ensures rank { IfOk result (IsWantedRank file.now (WantedBlock.Entry index)) }
+    ensures there { IfOk result (λ rank. has_block file.now rank ≡ true) }
+    ensures inside { IfOk result (λ rank. rank < 2 + entry_count_in file.now) }
     ensures lacks { IfErr result (LacksBlock file.now (WantedBlock.Entry index)) }
 {
     if index >= u32::from(file.entry_count()) {
         return Err(Refusal::IndexOutOfRange);
     }
-    match bytes_at(file, INFO_BLOCKS + index as usize) {
-        Some(bytes) => Ok(bytes),
+    let rank = INFO_BLOCKS + index as usize;
+    match bytes_at(file, rank) {
+        Some(_) => Ok(rank),
         None => Err(Refusal::RecordDeleted),
     }
 }
 
-/// Returns the data of the first resource of a type and an id.
-fn find_resource<'a>(file: &PdbFile<'a>, kind: u32, id: u16) -> Result<&'a [u8], Refusal>
-    ensures block { IfOk result (λ bytes.
-        IsWantedBlock file.now (WantedBlock.Resource kind id) bytes.now) }
+/// Returns the rank of the data of the first resource of a type and an id.
+fn find_resource(file: &PdbFile<'_>, kind: u32, id: u16) -> Result<usize, Refusal>
+    ensures rank { IfOk result (IsWantedRank file.now (WantedBlock.Resource kind id)) }
+    ensures there { IfOk result (λ rank. has_block file.now rank ≡ true) }
+    ensures inside { IfOk result (λ rank. rank < 2 + entry_count_in file.now) }
     ensures lacks { IfErr result (LacksBlock file.now (WantedBlock.Resource kind id)) }
 {
     if !file.has_resources() {
         return Err(Refusal::NotResourceDatabase);
     }
     match first_resource(file, kind, id) {
-        Some(index) => Ok(data_of_first(file, kind, id, index)),
+        Some(index) => Ok(rank_of_first(file, kind, id, index)),
         None => Err(Refusal::ResourceNotFound),
     }
 }
@@ -95,17 +124,15 @@ fn first_resource(file: &PdbFile<'_>, kind: u32, id: u16) -> Option<u16>
     None
 }
 
-/// Returns the data of the first resource of a type and an id, by its index. A resource always has
-/// data.
-fn data_of_first<'a>(file: &PdbFile<'a>, kind: u32, id: u16, index: u16) -> &'a [u8]
+/// Returns the rank of the data of the first resource of a type and an id, by its index. A resource
+/// always has data.
+fn rank_of_first(file: &PdbFile<'_>, kind: u32, id: u16, index: u16) -> usize
     requires { IsFirstResource file.now kind id index }
-    ensures { block_of_rank file.now (2 + index) ≡ Some result.now }
+    ensures is { result ≡ 2 + index }
+    ensures there { has_block file.now result ≡ true }
 {
     file.know_file();
-    match bytes_at(file, INFO_BLOCKS + index as usize) {
-        Some(bytes) => bytes,
-        None => unreachable!(),
-    }
+    INFO_BLOCKS + index as usize
 }
 
 /// Returns whether an entry is a resource of a type and an id.

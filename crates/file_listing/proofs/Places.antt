@@ -1,7 +1,6 @@
 -- The field of a fault lies within the file.
-use Rattle.std.proofs.Common.{◌≡◌, ℕ, ◌+◌, ◌<◌, ◌≤◌, Bool, true, false, List, [], ◌∷◌, ◌++◌, length, sym, subst, arith, inl, inr}
+use Rattle.std.proofs.Common.{◌≡◌, ℕ, ◌+◌, ◌<◌, ◌≤◌, Bool, true, false, List, [], ◌∷◌, ◌++◌, length, sym, subst, arith}
 use Rattle.std.specs.List.{All}
-use Rattle.std.proofs.lemmas.Bool.{cases_lt}
 use Rattle.std.proofs.lemmas.List.Elements.{All-head}
 use Rattle.heap_model.specs.DatabaseFields.{header_size}
 use Rattle.heap_model.specs.Database.{resources_in, entry_count_in, entry_offset}
@@ -12,6 +11,7 @@ use Rattle.heap_model.specs.declared.file_fault.FileFault.{FileFault}
 use Rattle.heap_model.specs.declared.file_fault.FileFault.TheVariants.{Truncated, BadOffset}
 use Rattle.db_format.specs.Headers.{info_block_at}
 use Rattle.pdb_format.proofs.FaultLaws.{IsWithout}
+use Rattle.pdb_format.proofs.GoodFiles.{whole_file}
 use Rattle.file_listing.specs.Damage.{data_field}
 
 pub info_near : (which : Which) → info_block_at which ≤ 78
@@ -32,17 +32,7 @@ whole file index (one ∷ before) after rest order earlier =
 
 -- so it has its header and its entries
 pub entries_there : (file : List ℕ) (index : ℕ) → IsFirstFault file (BadOffset index) → (header_size ≤ length file) × (entries_end file ≤ length file)
-entries_there file index first =
-    let none = whole file index first.before first.after _ first.order first.earlier in
-    let header : header_size ≤ length file = elim (cases_lt (length file) header_size) [
-      | inl less ↦ absurd (none (inl less))
-      | inr enough ↦ omega arith
-    ] in
-    let entries : entries_end file ≤ length file = elim (cases_lt (length file) (entries_end file)) [
-      | inl less ↦ absurd (none (inr less))
-      | inr enough ↦ omega arith
-    ] in
-    (header, entries)
+entries_there file index first = whole_file file (whole file index first.before first.after _ first.order first.earlier)
 
 field_inside : (resources : Bool) (index count end : ℕ) → index < count → entry_offset resources count ≤ end → entry_offset resources index + data_field resources ≤ end
 field_inside true index count end inside within = omega arith

@@ -1,11 +1,10 @@
 -- The lines of text of a row.
-use Rattle.std.specs.Prelude.{◌++◌, if◌then◌else◌, ℕ, Bool, true, false, List, [], ◌∷◌, Option, Some, None, codes, decimal}
-use Rattle.std.specs.List.{list_all}
+use Rattle.std.specs.Prelude.{◌++◌, ℕ, Bool, true, false, List, [], ◌∷◌, Option, Some, None, codes, decimal}
 use Rattle.hex.specs.Hex.{encode_lower}
 use Rattle.heap_model.specs.Bytes.{u16_bytes, u32_bytes}
 use Rattle.palm_text.specs.FaultTexts.{fault_text}
-use Rattle.palm_text.specs.Pieces.{is_printable, script_spelled}
-use Rattle.unicode_text.specs.Texts.{text_between}
+use Rattle.palm_text.specs.Pieces.{script_spelled}
+use Rattle.unicode_text.specs.Texts.{between, text_between}
 use Rattle.canonical_file.specs.Changes.{changes_line}
 use Rattle.heap_model.specs.declared.file_fault.FileFault.{FileFault}
 use Rattle.file_listing.specs.declared.rows.Extent.{Extent}
@@ -42,23 +41,20 @@ abbrev pub extent_text : (before : List ℕ) → Option Extent → (after : List
 extent_text before None after = before ++ (codes " none" ++ after)
 extent_text before (Some block) after = before ++ (codes " " ++ (decimal block.offset ++ (codes " " ++ (decimal block.size ++ after))))
 
--- the characters of the name of a category in quotes, at the end of a line
-abbrev pub quoted : List ℕ → List ℕ
-quoted name = if list_all is_printable name then codes " \"" ++ (name ++ codes "\"") else []
-
-unfoldable pub category_text : List ℕ → List ℕ
-category_text name = quoted name ++ text_between (codes " \"") name (codes "\"")
+-- the characters of the name of a category in quotes, and the end of the line
+abbrev pub named_end : List ℕ → List ℕ
+named_end name = between (codes " \"") name (codes "\"\n")
 
 abbrev pub category_end : Option (List ℕ) → List ℕ
 category_end None = codes "\n"
-category_end (Some name) = category_text name ++ codes "\n"
+category_end (Some name) = named_end name
 
 -- a category with a name
 unfoldable pub category_start : ℕ → List ℕ
 category_start number = codes "category " ++ decimal number
 
 unfoldable pub category_line : ℕ → List ℕ → List ℕ
-category_line number name = category_start number ++ category_end (Some name)
+category_line number name = category_start number ++ named_end name
 
 abbrev pub line_if_named : ℕ → Option (List ℕ) → List ℕ
 line_if_named number None = []

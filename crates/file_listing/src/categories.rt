@@ -8,12 +8,9 @@ ghost use Rattle.heap_model.specs.Files.{blocks_in};
 ghost use Rattle.file_listing.specs.Categories as words;
 ghost use Rattle.file_listing.specs.Categories.{layout_size, all_named, categories_in, category_name, record_category};
 
-use db_format::{NameField, RecordAttrs, name_in};
+use db_format::{CATEGORIES, NameField, RecordAttrs, name_in};
 use pdb_format::PdbFile;
 use std::marker::Model;
-
-/// The number of categories.
-pub(crate) const CATEGORIES: u8 = 16;
 
 /// The size of the field of a name in bytes.
 const FIELD_SIZE: usize = 16;

@@ -4,7 +4,7 @@ ghost use Rattle.std.specs.Prelude.{◌≡◌, ◌++◌, codes, decimal, is_ok, 
 ghost use Rattle.palm_text.specs.Counted.{Writes};
 ghost use Rattle.palm_text.specs.Pieces.{piece_text};
 ghost use Rattle.file_listing.specs.Lines as words;
-ghost use Rattle.file_listing.specs.Lines.{entry_start, epoch_end, category_end, category_line, category_start, category_text, extent_text, heading, line, line_if_named, listed_fault, listed_record, listed_resource, listing_line, moment_line, needs_line, quoted, record_values, seconds_text, size_text, slots_text};
+ghost use Rattle.file_listing.specs.Lines.{entry_start, epoch_end, category_end, category_line, category_start, extent_text, heading, line, line_if_named, listed_fault, listed_record, listed_resource, listing_line, moment_line, named_end, needs_line, record_values, seconds_text, size_text, slots_text};
 
 use crate::moments::put_moment;
 use crate::rows::{Epoch, Extent, Moment, Notation, RecordRow, Row};
@@ -12,9 +12,9 @@ use canonical_file::put_changes;
 use db_format::NameField;
 use heap_model::FileFault;
 use itoa::Buffer;
-use palm_text::{Counted, Piece, WriteFault, are_printable, faulty_pieces, put_all, put_pieces};
+use palm_text::{Counted, Piece, WriteFault, faulty_pieces, put_all, put_pieces};
 use std::io::Write;
-use unicode_text::put_text;
+use unicode_text::{put_between, put_text};
 
 /// The notation in lines of text.
 #[derive(Clone, Copy)]
@@ -224,38 +224,11 @@ fn put_record<W: Write>(out: &mut Counted<W>, row: &RecordRow) -> Result<(), Wri
     put_category_end(out, &row.category)
 }
 
-/// Writes a name in quotes, if scripts can spell it so.
-#[tactic(auto, using(palm_text::proofs::Parts::nothing))]
-fn put_quoted<W: Write>(out: &mut Counted<W>, name: &[u8]) -> Result<(), WriteFault>
-    ensures { Writes W.contents out.old out.new (quoted name.now) (is_ok result) }
-{
-    if are_printable(name) {
-        put_pieces(
-            out,
-            &[Piece::Text(b" \""), Piece::Text(name), Piece::Text(b"\"")],
-        )
-    } else {
-        Ok(())
-    }
-}
-
-/// Writes the characters of the name of a category in quotes.
-#[tactic(auto, using(palm_text::proofs::Parts::then, palm_text::proofs::Parts::stops), unfolding(crate::specs::Lines::category_text))]
-fn put_category_text<W: Write>(out: &mut Counted<W>, name: &[u8]) -> Result<(), WriteFault>
-    ensures { Writes W.contents out.old out.new (category_text name.now) (is_ok result) }
-{
-    put_quoted(out, name)?;
-    put_text(out, b" \"", name, b"\"")
-}
-
-/// Writes the name of a category and the end of the line.
-#[tactic(auto, using(palm_text::proofs::Parts::then, palm_text::proofs::Parts::stops))]
+/// Writes the characters of the name of a category in quotes, and the end of the line.
 fn put_named_end<W: Write>(out: &mut Counted<W>, name: &[u8]) -> Result<(), WriteFault>
-    ensures { Writes W.contents out.old out.new (category_text name.now ++ codes "\n")
-        (is_ok result) }
+    ensures { Writes W.contents out.old out.new (named_end name.now) (is_ok result) }
 {
-    put_category_text(out, name)?;
-    put_all(out, b"\n")
+    put_between(out, b" \"", name, b"\"\n")
 }
 
 /// Writes the name of a category, if it has one, and the end of the line.

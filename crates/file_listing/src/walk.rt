@@ -11,11 +11,11 @@ ghost use Rattle.file_listing.specs.Listing as words;
 ghost use Rattle.file_listing.specs.Categories.{layout_size};
 ghost use Rattle.file_listing.specs.Listing.{extent_at, info_extent, first_rows, category_rows, count_rows, entry_rows, last_rows, body_rows, rows_of};
 
-use crate::categories::{CATEGORIES, Categories, name_of};
+use crate::categories::{Categories, name_of};
 use crate::facts::Facts;
 use crate::needs::size_and_slots;
 use crate::rows::{Extent, Notation, RecordRow, Row};
-use db_format::{DbEntry, INFO_BLOCKS};
+use db_format::{CATEGORIES, DbEntry, INFO_BLOCKS};
 use palm_text::{Counted, WriteFault};
 use pdb_format::{Block, PdbFile};
 use std::io::Write;

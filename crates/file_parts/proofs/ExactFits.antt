@@ -51,7 +51,7 @@ one_writable file k true good bytes inside is =
       λ none. resource_block file k _ _ _ good inside here (none_planned file k (entry_at true file at) inside here (ap size_of_block none)),
     )
 
-all_writable : (file : List ℕ) → HasNoFault file → AreBytes file → All (IsWritableEntry (has_resources (exact_database file).header.attributes)) (exact_database file).entries
+pub all_writable : (file : List ℕ) → HasNoFault file → AreBytes file → All (IsWritableEntry (has_resources (exact_database file).header.attributes)) (exact_database file).entries
 unfolding exact_database header_in
 all_writable file good bytes = λ k d inside.
     let long = length-map-range_with_len (exact_entry file) 0 (entry_count_in file) in
@@ -59,18 +59,18 @@ all_writable file good bytes = λ k d inside.
     subst (IsWritableEntry (resources_in file)) (sym (get_or-map-range_with_len (exact_entry file) 0 (entry_count_in file) k k d less (omega arith)))
     (one_writable file k (resources_in file) good bytes less refl)
 
-count_small : (file : List ℕ) → AreBytes file → length (exact_database file).entries < 2 ^ 16
+pub count_small : (file : List ℕ) → AreBytes file → length (exact_database file).entries < 2 ^ 16
 unfolding exact_database
 count_small file bytes =
     let long = length-map-range_with_len (exact_entry file) 0 (entry_count_in file) in
     let small = u16_small file 76 bytes in
     omega arith
 
-file_name : (file : List ℕ) → HasNoFault file → IsDatabaseName (exact_database file).header.name
+pub file_name : (file : List ℕ) → HasNoFault file → IsDatabaseName (exact_database file).header.name
 unfolding exact_database header_in
 file_name file good = file_named file good
 
-file_header : (file : List ℕ) → AreBytes file → HeaderFits (exact_database file).header
+pub file_header : (file : List ℕ) → AreBytes file → HeaderFits (exact_database file).header
 unfolding exact_database
 file_header file bytes = header_small file bytes
 

@@ -70,7 +70,7 @@ there_as file exact is =
 
 -- ---- the text
 
-names_are : (file : List ℕ) (exact : ExactFile) → IsExactly file exact → AreNames file exact.database.header.name exact.after_name
+pub names_are : (file : List ℕ) (exact : ExactFile) → IsExactly file exact → AreNames file exact.database.header.name exact.after_name
 unfolding header_in
 names_are file exact is =
     let name : exact.database.header.name ≡ name_in file = ap (λ (h : DatabaseHeader). h.name) is.header in

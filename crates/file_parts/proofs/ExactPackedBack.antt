@@ -35,7 +35,7 @@ either_of : (name after : List ℕ) → length name + length after ≡ 32 → (v
 either_of name after room true one is = (let long = eqb-true (length after) 1 one in inl (omega arith))
 either_of name after room false one is = inr (eqb-true (slice_index after 0) 0 is)
 
-after_good : (name after : List ℕ) → is_after_name name after ≡ true → AreAfter name after
+pub after_good : (name after : List ℕ) → is_after_name name after ≡ true → AreAfter name after
 after_good name after is =
     let parts = and_parts (length after + length name == 32) ((length after == 1) || (slice_index after 0 == 0)) is in
     let sum = eqb-true (length after + length name) 32 parts.0 in

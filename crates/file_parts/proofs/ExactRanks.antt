@@ -119,7 +119,7 @@ none_there : (file : List ℕ) (r : ℕ) → r < length (offsets_in file) → ge
 none_there file r inside none = ap is_some (block_is file r inside ∙ ap (block_at file r) none)
 
 -- the rank of a block that is there is in the order
-found_in : (file ranks : List ℕ) (r : ℕ) → AreSorted (offsets_in file) (length file) (starts_of (offsets_in file) ranks) → r < length (offsets_in file) → is_some (get_or (blocks_in file) r None) ≡ true
+pub found_in : (file ranks : List ℕ) (r : ℕ) → AreSorted (offsets_in file) (length file) (starts_of (offsets_in file) ranks) → r < length (offsets_in file) → is_some (get_or (blocks_in file) r None) ≡ true
     → (j : ℕ) × (j < length ranks) × (get_or ranks j 0 ≡ r)
 found_in file ranks r sorted inside some =
     let offsets : List ℕ = offsets_in file in
@@ -132,14 +132,14 @@ found_in file ranks r sorted inside some =
           (found.0, omega arith, sym (ap (λ (start : Start). start.rank) (start_at offsets ranks found.0 (omega arith))) ∙ found.2)
     ]
 
-apart : (file ranks : List ℕ) (i j : ℕ) → AreSorted (offsets_in file) (length file) (starts_of (offsets_in file) ranks) → i < j → j < length ranks → get_or ranks i 0 ≡ get_or ranks j 0 → ⊥
+pub apart : (file ranks : List ℕ) (i j : ℕ) → AreSorted (offsets_in file) (length file) (starts_of (offsets_in file) ranks) → i < j → j < length ranks → get_or ranks i 0 ≡ get_or ranks j 0 → ⊥
 apart file ranks i j sorted less inside same =
     let offsets : List ℕ = offsets_in file in
     let long = length-map ranks (start_of offsets) in
     ranks_apart offsets (length file) (starts_of offsets ranks) sorted i j less (omega arith)
     (ap (λ (start : Start). start.rank) (start_at offsets ranks i (omega arith)) ∙ same ∙ sym (ap (λ (start : Start). start.rank) (start_at offsets ranks j inside)))
 
-rank_there : (file ranks : List ℕ) (blocks : List (Option (List ℕ))) (j : ℕ) → AreSorted (offsets_in file) (length file) (starts_of (offsets_in file) ranks) → AreThereAs file blocks → j < length ranks → is_some (get_or blocks (get_or ranks j 0) None) ≡ true
+pub rank_there : (file ranks : List ℕ) (blocks : List (Option (List ℕ))) (j : ℕ) → AreSorted (offsets_in file) (length file) (starts_of (offsets_in file) ranks) → AreThereAs file blocks → j < length ranks → is_some (get_or blocks (get_or ranks j 0) None) ≡ true
 rank_there file ranks blocks j sorted are inside =
     let place = place_of file ranks j sorted inside in
     are.some (get_or ranks j 0) place.inside ∙ some_there file (get_or ranks j 0) place.inside place.some

@@ -32,10 +32,10 @@ name_front file =
 abbrev entries_of : List ℕ → List (Entry (Option (List ℕ)))
 entries_of file = map (exact_entry file) (range_with_len 0 (entry_count_in file))
 
-entries_long : (file : List ℕ) → length (entries_of file) ≡ entry_count_in file
+pub entries_long : (file : List ℕ) → length (entries_of file) ≡ entry_count_in file
 entries_long file = length-map-range_with_len (exact_entry file) 0 (entry_count_in file)
 
-exact_entry_is : (file : List ℕ) (k : ℕ) (e : Entry (Option (List ℕ))) → k < entry_count_in file → get_or (entries_of file) k e ≡ exact_entry file k
+pub exact_entry_is : (file : List ℕ) (k : ℕ) (e : Entry (Option (List ℕ))) → k < entry_count_in file → get_or (entries_of file) k e ≡ exact_entry file k
 exact_entry_is file k e inside = get_or-map-range_with_len (exact_entry file) 0 (entry_count_in file) k k e inside (omega arith)
 
 values_of : (entry : Entry ℕ) (block : Option (List ℕ)) → HasValuesOf entry (entry_with (λ _. block) entry)
@@ -67,7 +67,7 @@ block_exact file (suc (suc k)) inside =
     ∙ data_with (entry_in file k) (get_or (blocks_in file) (2 + k) None)
     ∙ ap (λ (rank : ℕ). get_or (blocks_in file) rank None) next
 
-blocks_exact : (file : List ℕ) → data_in (exact_database file) ≡ blocks_in file
+pub blocks_exact : (file : List ℕ) → data_in (exact_database file) ≡ blocks_in file
 unfolding exact_database
 blocks_exact file =
     let count = block_count file in

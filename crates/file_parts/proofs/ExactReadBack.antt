@@ -193,7 +193,7 @@ module _ (exact : ExactFile) (sound : IsSound exact) where
   is_headed : IsHeaded (exact_bytes exact) (exact_placed exact)
   is_headed = subst (λ (file : List ℕ). IsHeaded file (exact_placed exact)) (sym field_is) (headed (exact_placed exact) exact.after_name (exact.filler ++ exact_blocks exact) fits sound.after)
 
-  file_long : length (exact_bytes exact) ≡ exact_size exact
+  pub file_long : length (exact_bytes exact) ≡ exact_size exact
   file_long =
       let is = ap length front_is ∙ length-append front (blocks_of (exact_block exact) exact.order) in
       let long = front_long in

@@ -1,15 +1,14 @@
 -- Ranks in list order: none is lower than the one before it.
-use Rattle.std.proofs.Common.{◌≡◌, ℕ, suc, ◌-◌, ◌<◌, ◌≤◌, true, false, List, [], ◌∷◌, length, get_or, refl, sym, ap, subst, ◌∙◌, arith, inl, inr}
+use Rattle.std.proofs.Common.{◌≡◌, ℕ, suc, ◌-◌, ◌<◌, ◌≤◌, true, false, List, [], ◌∷◌, length, get_or, refl, sym, ap, le-leb, subst, ◌∙◌, arith, inl, inr}
 use Rattle.std.specs.Prelude.{nat_lt}
 use Rattle.std.proofs.lemmas.Bool.{cases_lt, lt-ltb, ltb-true}
-use Rattle.laws_heap.proofs.Tests.{leb-is-true}
 use Rattle.file_parts.specs.ExactTexts.{is_rising}
 use Rattle.file_parts.proofs.ExactRanks.{not_true, rising_at, true_false}
 
 pub rising_all : (xs : List ℕ) → ((i : ℕ) → suc i < length xs → get_or xs i 0 ≤ get_or xs (suc i) 0) → is_rising xs ≡ true
 rising_all [] each = refl
 rising_all (x ∷ []) each = refl
-rising_all (x ∷ y ∷ ys) each = rw (leb-is-true x y (each 0 (omega arith))) (rising_all (y ∷ ys) (λ i inside. each (suc i) (omega arith)))
+rising_all (x ∷ y ∷ ys) each = rw (le-leb x y (each 0 (omega arith))) (rising_all (y ∷ ys) (λ i inside. each (suc i) (omega arith)))
 
 pub rising_breaks : (xs : List ℕ) (i : ℕ) → suc i < length xs → get_or xs (suc i) 0 < get_or xs i 0 → is_rising xs ≡ false
 rising_breaks xs i inside lower = not_true (is_rising xs) (λ rising. (let rises = rising_at xs i (suc i) rising (omega arith) inside in omega arith))

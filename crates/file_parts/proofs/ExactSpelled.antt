@@ -1,21 +1,16 @@
 -- A file without fault is the bytes of what it is exactly.
-use Rattle.std.proofs.Common.{◌≡◌, ℕ, zero, suc, ◌+◌, ◌*◌, ◌-◌, ◌^◌, ◌<◌, ◌≤◌, Bool, true, false, Option, None, List, [], ◌∷◌, ◌++◌, length, get_or, take, drop, map, refl, sym, ap, ◌∙◌, arith, inl, inr, append_assoc, append-nil}
+use Rattle.std.proofs.Common.{◌≡◌, ℕ, suc, ◌+◌, ◌*◌, ◌-◌, ◌^◌, ◌<◌, ◌≤◌, Bool, true, false, Option, None, List, [], ◌∷◌, ◌++◌, length, get_or, take, drop, map, refl, sym, ap, ◌∙◌, arith, inl, inr, append_assoc}
 use Rattle.std.specs.Prelude.{◌&&◌, ◌==◌, nat_lt, filter, slice_index}
 use Rattle.std.specs.List.{AllZip, concat, flat_map}
 use Rattle.std.proofs.lemmas.Bool.{and_parts, cases_eq, ltb-true}
 use Rattle.std.proofs.lemmas.List.{length-drop, length-take, drop-drop, take-append-drop}
-use Rattle.std.proofs.lemmas.List.FromFn.{length-map-range_with_len}
-use Rattle.std.proofs.lemmas.Grind.{flat_map-append}
-use Rattle.byteorder.specs.Endian.{big_from, big_bytes}
 use Rattle.byteorder.specs.Numbers.{big_from-lt}
-use Rattle.heap_model.specs.Bytes.{u16_at, u24_at, u32_at, u16_bytes, u24_bytes, u32_bytes, AreBytes}
-use Rattle.heap_model.specs.Lists.{numbered}
+use Rattle.heap_model.specs.Bytes.{u16_at, u32_at, AreBytes}
 use Rattle.heap_model.specs.DatabaseFields.{entry_size}
-use Rattle.heap_model.specs.Database.{Database, DatabaseHeader, Entry, a_record, a_resource, database_in, entry_at, entry_bytes, entry_count_in, entry_data, entry_in, entry_offset, fields_behind_name, has_resources, header_in, resources_in}
+use Rattle.heap_model.specs.Database.{Database, DatabaseHeader, Entry, a_record, a_resource, database_in, entry_bytes, entry_count_in, entry_data, entry_offset, fields_behind_name, has_resources, header_in, resources_in}
 use Rattle.heap_model.specs.Files.{HasNoFault, blocks_in, block_bytes, block_size, entries_end, offsets_in}
 use Rattle.heap_model.specs.declared.file_fault.FileFault.TheVariants.{Truncated}
-use Rattle.laws_store.proofs.Numbers.{numbered_more, read_bytes, slices_join, number_in_front, byte_in_front}
-use Rattle.laws_store.proofs.Spellings.{size-zero, size-suc}
+use Rattle.laws_store.proofs.Shapes.{entries_upto, fields_back, length-entries_in}
 use Rattle.pdb_format.specs.Filler.{filler_in, first_start}
 use Rattle.pdb_format.proofs.GoodFiles.{not_truncated, offset_count}
 use Rattle.pdb_format.proofs.LeastOffsets.{first_after, least_most}
@@ -24,59 +19,15 @@ use Rattle.pdb_format.proofs.Zips.{zip_long}
 use Rattle.file_parts.specs.Exact.{ExactFile, HasValuesOf, IsExactly, entries_placed, exact_block, exact_blocks, exact_bytes, exact_offset, exact_placed, exact_size, exact_start, is_misplaced, offset_among}
 use Rattle.file_parts.proofs.ExactBlocks.{blocks_rest, first_begins, join, none_misplaced, offset_back, ranks_sorted, starts_of, zero_of}
 
--- ---- the header and the entries, as they were read
-
-length-entries_in : (bytes : List ℕ) → length (numbered (entry_in bytes) (entry_count_in bytes)) ≡ entry_count_in bytes
-length-entries_in bytes = length-map-range_with_len (entry_in bytes) 0 (entry_count_in bytes)
-
-fields_back : (bytes : List ℕ) → AreBytes bytes → 78 ≤ length bytes → u32_at bytes 72 ≡ 0 → concat (fields_behind_name (database_in bytes)) ≡ take 46 (drop 32 bytes)
-unfolding database_in header_in u16_at u32_at u16_bytes u32_bytes
-fields_back bytes b inside next =
-    let p13 : big_bytes 2 (length (numbered (entry_in bytes) (entry_count_in bytes))) ++ [] ≡ take 2 (drop 76 bytes) =
-    ap (λ (n : ℕ). big_bytes 2 n ++ []) (length-entries_in bytes) ∙ number_in_front 2 0 76 bytes [] b (omega arith) refl in
-    let p12 : big_bytes 4 0 ++ (big_bytes 2 (length (numbered (entry_in bytes) (entry_count_in bytes))) ++ []) ≡ take 6 (drop 72 bytes) =
-    ap (λ (n : ℕ). big_bytes 4 n ++ (big_bytes 2 (length (numbered (entry_in bytes) (entry_count_in bytes))) ++ [])) (sym next) ∙ number_in_front 4 2 72 bytes _ b (omega arith) p13 in
-    let p11 = number_in_front 4 6 68 bytes _ b (omega arith) p12 in
-    let p10 = number_in_front 4 10 64 bytes _ b (omega arith) p11 in
-    let p9 = number_in_front 4 14 60 bytes _ b (omega arith) p10 in
-    let p8 = number_in_front 4 18 56 bytes _ b (omega arith) p9 in
-    let p7 = number_in_front 4 22 52 bytes _ b (omega arith) p8 in
-    let p6 = number_in_front 4 26 48 bytes _ b (omega arith) p7 in
-    let p5 = number_in_front 4 30 44 bytes _ b (omega arith) p6 in
-    let p4 = number_in_front 4 34 40 bytes _ b (omega arith) p5 in
-    let p3 = number_in_front 4 38 36 bytes _ b (omega arith) p4 in
-    let p2 = number_in_front 2 42 34 bytes _ b (omega arith) p3 in
-    number_in_front 2 44 32 bytes _ b (omega arith) p2
-
-entry_back : (resources : Bool) (bytes : List ℕ) (at : ℕ) → AreBytes bytes → at + entry_size resources ≤ length bytes → entry_bytes (entry_at resources bytes at) ≡ take (entry_size resources) (drop at bytes)
-unfolding entry_bytes u16_bytes u24_bytes u32_bytes u16_at u24_at u32_at
-entry_back false bytes at b inside =
-    let e : at + 4 + 1 ≡ at + 5 = omega arith in
-    let p3 : big_bytes 3 (big_from (at + 5) 3 bytes) ≡ take 3 (drop (at + 4 + 1) bytes) = read_bytes 3 (at + 5) bytes b (omega arith) ∙ ap (λ (k : ℕ). take 3 (drop k bytes)) (sym e) in
-    let p2 = byte_in_front 3 (at + 4) bytes (big_bytes 3 (big_from (at + 5) 3 bytes)) (omega arith) p3 in
-    number_in_front 4 4 at bytes _ b (omega arith) p2
-entry_back true bytes at b inside =
-    let e : at + 4 + 2 ≡ at + 6 = omega arith in
-    let p3 : big_bytes 4 (big_from (at + 6) 4 bytes) ≡ take 4 (drop (at + 4 + 2) bytes) = read_bytes 4 (at + 6) bytes b (omega arith) ∙ ap (λ (k : ℕ). take 4 (drop k bytes)) (sym e) in
-    let p2 = number_in_front 2 4 (at + 4) bytes _ b (omega arith) p3 in
-    number_in_front 4 6 at bytes _ b (omega arith) p2
-
-entries_upto : (r : Bool) (bytes : List ℕ) (n : ℕ) → AreBytes bytes → entry_offset r n ≤ length bytes → flat_map entry_bytes (numbered (λ i. entry_at r bytes (entry_offset r i)) n) ≡ take (entry_size r * n) (drop 78 bytes)
-entries_upto r bytes zero b inside = ap (λ (k : ℕ). take k (drop 78 bytes)) (sym (size-zero r))
-entries_upto r bytes (suc n) b inside =
-    let each : ℕ → Entry ℕ = λ i. entry_at r bytes (entry_offset r i) in
-    let more : entry_size r * suc n ≡ entry_size r * n + entry_size r = (let s = size-suc r n in omega arith) in
-    let ih = entries_upto r bytes n b (omega arith) in
-    let one = entry_back r bytes (entry_offset r n) b (omega arith) in
-    ap (flat_map entry_bytes) (numbered_more each n)
-    ∙ flat_map-append entry_bytes (numbered each n) (each n ∷ [])
-    ∙ ap (λ (xs : List ℕ). xs ++ flat_map entry_bytes (each n ∷ [])) ih
-    ∙ ap (λ (xs : List ℕ). take (entry_size r * n) (drop 78 bytes) ++ xs) (append-nil (entry_bytes (each n)) ∙ one)
-    ∙ slices_join (entry_size r * n) (entry_size r) 78 bytes ∙ ap (λ (k : ℕ). take k (drop 78 bytes)) (sym more)
+-- ---- the entries, as they were read
 
 entries_back : (bytes : List ℕ) → AreBytes bytes → entries_end bytes ≤ length bytes → flat_map entry_bytes (database_in bytes).entries ≡ take (entry_size (resources_in bytes) * entry_count_in bytes) (drop 78 bytes)
 unfolding database_in
 entries_back bytes b inside = entries_upto (resources_in bytes) bytes (entry_count_in bytes) b inside
+
+entries_counted : (bytes : List ℕ) → length (database_in bytes).entries ≡ entry_count_in bytes
+unfolding database_in
+entries_counted bytes = length-entries_in bytes
 
 -- ---- the database with its offsets is that of the file
 
@@ -115,19 +66,18 @@ pub order_sorted : (file : List ℕ) (exact : ExactFile) → AreBytes file → I
 order_sorted file exact b is = ranks_sorted file exact.order is.good (few_ranks file b) is.order
 
 entry_count : (file : List ℕ) (exact : ExactFile) → IsExactly file exact → length exact.database.entries ≡ entry_count_in file
-unfolding database_in
-entry_count file exact is = sym (zip_long HasValuesOf (database_in file).entries exact.database.entries is.entries) ∙ length-entries_in file
+entry_count file exact is = sym (zip_long HasValuesOf (database_in file).entries exact.database.entries is.entries) ∙ entries_counted file
 
 resources_are : (file : List ℕ) (exact : ExactFile) → IsExactly file exact → has_resources exact.database.header.attributes ≡ resources_in file
 unfolding header_in
 resources_are file exact is = ap (λ (h : DatabaseHeader). has_resources h.attributes) is.header
 
-entries_end_is : (file : List ℕ) (exact : ExactFile) → IsExactly file exact → entry_offset (has_resources exact.database.header.attributes) (length exact.database.entries) ≡ entries_end file
+pub entries_end_is : (file : List ℕ) (exact : ExactFile) → IsExactly file exact → entry_offset (has_resources exact.database.header.attributes) (length exact.database.entries) ≡ entries_end file
 entries_end_is file exact is =
     ap (λ (r : Bool). entry_offset r (length exact.database.entries)) (resources_are file exact is)
     ∙ ap (entry_offset (resources_in file)) (entry_count file exact is)
 
-start_is : (file : List ℕ) (exact : ExactFile) → IsExactly file exact → exact_start exact ≡ first_start file
+pub start_is : (file : List ℕ) (exact : ExactFile) → IsExactly file exact → exact_start exact ≡ first_start file
 start_is file exact is =
     let end = entries_end_is file exact is in
     let low = first_after file is.good in
@@ -179,7 +129,7 @@ no_list file good = elim (cases_eq (u32_at file 72) 0) [
 ]
 
 pub bytes_are : (file : List ℕ) (exact : ExactFile) → AreBytes file → IsExactly file exact → exact_bytes exact ≡ file
-unfolding exact_bytes
+unfolding exact_bytes database_in u16_at
 bytes_are file exact b is =
     let inside = not_truncated file is.good in
     let header = inside.0 in
@@ -194,7 +144,7 @@ bytes_are file exact b is =
     ∙ ap (λ (xs : List ℕ). filler_in file ++ xs) (blocks_are file exact b is)
     ∙ join file (entries_end file) (first_start file) (first_after file is.good) in
     let entries_are : entries ≡ take size (drop 78 file) = ap (λ (d : Database ℕ). flat_map entry_bytes d.entries) (placed_is file exact b is) ∙ entries_back file b end in
-    let fields_are : fields ≡ take 46 (drop 32 file) = ap (λ (d : Database ℕ). concat (fields_behind_name d)) (placed_is file exact b is) ∙ fields_back file b header (no_list file is.good) in
+    let fields_are : fields ≡ take 46 (drop 32 file) = ap (λ (d : Database ℕ). concat (fields_behind_name d)) (placed_is file exact b is) ∙ fields_back (database_in file) file b header refl (entries_counted file) (no_list file is.good) in
     sym (append_assoc exact.database.header.name after (fields ++ (entries ++ tail)))
     ∙ ap (λ (xs : List ℕ). xs ++ (fields ++ (entries ++ tail))) is.name_field
     ∙ ap (λ (xs : List ℕ). take 32 file ++ (fields ++ (entries ++ xs))) tail_is

@@ -35,3 +35,6 @@ pub mod ExactRead
 pub mod ExactPacked
 pub mod ExactListings
 pub mod FolderTexts
+pub mod Replacements
+pub mod ReplacedFiles
+pub mod ReplacedSound

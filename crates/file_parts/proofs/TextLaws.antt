@@ -14,7 +14,7 @@ use Rattle.heap_model.specs.Database.{DatabaseHeader, Database, Entry, a_record,
 use Rattle.palm_text.specs.Pieces.{script_spelled}
 use Rattle.script_lines.specs.Words.{is_passed_over, words_of, with_word}
 use Rattle.script_lines.specs.Spellings.{digit_value, hex_below, number_behind, number_below, spelled_four}
-use Rattle.script_lines.proofs.ReadBack.{texts_are_read_back, four_bytes_are_read_back}
+use Rattle.script_lines.proofs.ReadBack.{are_four, texts_are_read_back, four_bytes_are_read_back}
 use Rattle.file_parts.specs.Texts.{header_lines, part_text, info_line, info_lines, entry_line, entry_lines, body_lines, database_text}
 use Rattle.file_parts.specs.Left.{left}
 use Rattle.file_parts.specs.Words.{begins_name, is_name_byte, has_name_bytes, spelled_part, part_or, is_name, spelled_name, entry_word, words_after, read_entry}
@@ -103,13 +103,6 @@ are_two : (a b : ℕ) → a < 256 → b < 256 → AreBytes (a ∷ b ∷ [])
 are_two a b first second zero = first
 are_two a b first second (suc zero) = second
 are_two a b first second (suc (suc k)) = omega arith
-
-are_four : (a b c d : ℕ) → a < 256 → b < 256 → c < 256 → d < 256 → AreBytes (a ∷ b ∷ c ∷ d ∷ [])
-are_four a b c d first second third last zero = first
-are_four a b c d first second third last (suc zero) = second
-are_four a b c d first second third last (suc (suc zero)) = third
-are_four a b c d first second third last (suc (suc (suc zero))) = last
-are_four a b c d first second third last (suc (suc (suc (suc k)))) = omega arith
 
 u16_are : (n : ℕ) → AreBytes (u16_bytes n)
 unfolding u16_bytes

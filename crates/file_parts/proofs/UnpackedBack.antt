@@ -4,7 +4,7 @@ use Rattle.std.specs.Prelude.{All, bit_and}
 use Rattle.std.specs.List.{AllZip, filter_map}
 use Rattle.std.proofs.lemmas.Nat.{and_le_l}
 use Rattle.std.proofs.lemmas.List.Elements.{All-head, All-tail, All-nil, All-cons}
-use Rattle.heap_model.specs.UniqueIds.{greatest_id, seed_in, with_seed}
+use Rattle.heap_model.specs.UniqueIds.{greatest_id, seed_in}
 use Rattle.heap_model.specs.Database.{Database, DatabaseHeader, Entry, a_record, a_resource, entry_data, entry_offset, has_resources, is_deleted, IsDatabaseName, HeaderFits}
 use Rattle.heap_model.specs.Store.{unique_id, unique_ids}
 use Rattle.heap_model.specs.Files.{kept_ids, idle, idle_entry, Reads, first_block, file_of}
@@ -14,6 +14,7 @@ use Rattle.pdb_format.proofs.WrittenOffsets.{all_bytes}
 use Rattle.file_ids.proofs.GivenLaws.{given_distinct}
 use Rattle.canonical_file.specs.Canonical.{IsCanonical}
 use Rattle.canonical_file.proofs.GivenFit.{given_fit}
+use Rattle.canonical_file.proofs.Kept.{fits_seeded}
 use Rattle.file_parts.specs.Laws.{UnpacksBack}
 use Rattle.file_parts.proofs.PackedBack.{none_zero}
 
@@ -104,21 +105,6 @@ same_size d e back =
     let long = ap (λ (xs : List (Option (List ℕ))). length (all_bytes xs)) back.blocks in
     omega arith
 
-header_fits : (h : DatabaseHeader) (last : ℕ) → HeaderFits h → last ≤ greatest_id → HeaderFits (record h { seed = with_seed h.seed last })
-header_fits h last fits low =
-    let seed = fits.seed in
-    record {
-      attributes = fits.attributes;
-      version = fits.version;
-      creation_date = fits.creation_date;
-      modification_date = fits.modification_date;
-      backup_date = fits.backup_date;
-      modification_number = fits.modification_number;
-      kind = fits.kind;
-      creator = fits.creator;
-      seed = omega arith;
-    }
-
 read_fit : (d e : Database (Option (List ℕ))) (back : IsReadBack d e) → HasFile d → All (λ id. (0 < id) × (id ≤ greatest_id)) (unique_ids e) × (back.last_seed ≤ greatest_id)
 read_fit d e back is =
     given_fit (kept_ids [] (unique_ids d)) [] (seed_in d.header.seed) (unique_ids d) (unique_ids e) back.last_seed (omega arith)
@@ -135,7 +121,7 @@ read_has_file d e back is =
     let blocks = (same_head _ _ _ _ (same_head _ _ _ _ back.blocks).1).1 in
     record {
       name = subst (λ (h : DatabaseHeader). IsDatabaseName h.name) (sym back.header) is.name;
-      header = subst HeaderFits (sym back.header) (header_fits d.header back.last_seed is.header fit.1);
+      header = subst HeaderFits (sym back.header) (fits_seeded d.header back.last_seed is.header fit.1);
       entries = subst (λ (r : Bool). All (IsWritableEntry r) e.entries) (sym kind) (kept_writable (has_resources d.header.attributes) d.entries e.entries back.entries is.entries fit.0 blocks);
       entry_count = omega arith;
       size = omega arith;

@@ -13,3 +13,4 @@ pub mod ExactListed
 pub mod ExactUnpacking
 pub mod ExactLaws
 pub mod Either
+pub mod Replacing

@@ -14,7 +14,6 @@ ghost use Rattle.file_parts.specs.Packing.{IsRefusedFor};
 ghost use Rattle.file_parts.specs.ExactTexts.{after_name_of};
 ghost use Rattle.file_parts.specs.ExactListed.{AreOffsets, HasExactParts, IsExactPackFault, IsExactlyPacked, IsListedExact, IsMisplacedLine, exact_listed, exact_packed};
 
-use crate::entries::ListedEntry;
 use crate::exact_listed::ListedExact;
 use crate::listed::Listed;
 use crate::packing::{PackFault, append, end_of, part_bytes};
@@ -271,12 +270,12 @@ fn append_fields<A: Allowance>(
 }
 
 /// Returns an entry with its data at an offset.
-fn entry_at(listed: &ListedEntry<'_>, at: u32) -> DbEntry
-    requires { HasFittingId listed.now.entry }
-    ensures is { entry_of result ≡ entry_with (λ _. at) (entry_of listed.now.entry) }
+pub(crate) fn entry_at(entry: DbEntry, at: u32) -> DbEntry
+    requires { HasFittingId entry }
+    ensures is { entry_of result ≡ entry_with (λ _. at) (entry_of entry) }
     ensures id { HasFittingId result }
 {
-    match listed.entry {
+    match entry {
         DbEntry::Record(mut record) => {
             record.slot = at;
             DbEntry::Record(record)
@@ -305,7 +304,7 @@ fn append_entries<A: Allowance>(
 {
     let entries = exact.listed.entries.as_slice();
     for index in 0..entries.len() {
-        let entry = entry_at(&entries[index], offsets[INFO_BLOCKS + index]);
+        let entry = entry_at(entries[index].entry, offsets[INFO_BLOCKS + index]);
         append(memory, bytes, entry.to_bytes().as_slice())?;
     }
     Ok(())

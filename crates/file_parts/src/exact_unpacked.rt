@@ -42,7 +42,7 @@ impl BlockStart {
 ///
 /// - `BadFile`: if the file has a fault. It contains the first one.
 /// - `OutOfMemory`: if an allocation failed.
-pub(crate) fn unpack_exact<'a, A: Allowance>(
+pub fn unpack_exact<'a, A: Allowance>(
     memory: &A,
     file: &'a [u8],
 ) -> Result<UnpackedExact<'a>, UnpackFault>
@@ -118,6 +118,13 @@ fn ranks_in<A: Allowance>(memory: &A, file: &PdbFile<'_>) -> Result<Vec<u32>, Al
 }
 
 impl<'a> UnpackedExact<'a> {
+    /// Returns the file.
+    pub fn file(&self) -> &PdbFile<'a>
+        ensures { result.now ≡ self.now.file }
+    {
+        &self.file
+    }
+
     /// Returns the number of parts that may be there: one for each rank, and that of the filler.
     pub fn part_count(&self) -> usize
         ensures is { result ≡ length (blocks_in self.now.file) + 1 }

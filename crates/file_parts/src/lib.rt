@@ -18,6 +18,9 @@
 //! record 01 1 00000
 //! ```
 //!
+//! `replace_block` makes a file with one block replaced, and all else as it is
+//! (`specs/Replacing.antt`).
+//!
 //! Start with `specs/Texts.antt`, which defines the text. This crate knows no folders: a part is a
 //! name and bytes.
 #![tactic(auto)]
@@ -35,13 +38,14 @@ mod lines;
 mod listed;
 mod packing;
 mod part_file;
+mod replaced;
 mod text;
 mod unpacked;
 mod words;
 
 pub use either::{FolderForm, ListedFolder, TakenApart, read_folder, take_apart};
 pub use exact_listed::ListedExact;
-pub use exact_unpacked::UnpackedExact;
+pub use exact_unpacked::{UnpackedExact, unpack_exact};
 pub use laws::{
     exact_files_are_spelled, exact_folders_pack_back, exact_texts_are_read,
     packed_folders_are_exact, texts_are_read,
@@ -49,5 +53,6 @@ pub use laws::{
 pub use listed::{Listed, read_listed};
 pub use packing::{PackFault, pack};
 pub use part_file::PartFile;
+pub use replaced::{ReplaceFault, Replaced, replace_block};
 pub use text::put_database;
 pub use unpacked::{Part, PartName, UnpackFault, Unpacked, unpack};

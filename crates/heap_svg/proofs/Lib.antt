@@ -3,3 +3,5 @@ pub mod RowLaws
 pub mod PieceLaws
 pub mod RoomLaws
 pub mod ChoiceLaws
+pub mod DrawingLaws
+pub mod ChainLaws

@@ -15,15 +15,14 @@ use Rattle.heap_svg.specs.Legend.{kinds_text, databases_note, sizes_at, pieces_t
 
 -- ---- the head
 
--- the first line, with the height of the picture
-unfoldable pub first_line : ℕ → List ℕ
-first_line height =
-    codes "<svg xmlns=\"http://www.w3.org/2000/svg\" width=\"1224\" height=\"" ++ (decimal height ++ (codes "\" viewBox=\"0 0 1224 " ++ (decimal height ++ codes "\" font-family=\"sans-serif\" font-size=\"12\">\n")))
-
--- the styles: the colours of the kinds of chunks and of databases, and a white background
-unfoldable pub style_text : List ℕ
-style_text =
-    codes "<style>\n"
+-- the first line with the height of the picture, the styles with the colours of the kinds of chunks and of databases, and
+-- a white background
+unfoldable pub open_text : ℕ → List ℕ
+open_text height =
+    codes "<svg xmlns=\"http://www.w3.org/2000/svg\" width=\"1224\" height=\"" ++ (decimal height
+    ++ (codes "\" viewBox=\"0 0 1224 " ++ (decimal height
+    ++ (codes "\" font-family=\"sans-serif\" font-size=\"12\">\n"
+    ++ (codes "<style>\n"
     ++ (codes "svg{overflow:visible}\n"
     ++ (codes "path{stroke:#fff;stroke-width:.8;vector-effect:non-scaling-stroke}\n"
     ++ (codes ".s{stroke:none}\n"
@@ -45,61 +44,43 @@ style_text =
     ++ (codes ".c12{fill:#edc948}\n"
     ++ (codes ".c13{fill:#ff9da7}\n"
     ++ (codes "</style>\n"
-    ++ (codes "<rect width=\"100%\" height=\"100%\" fill=\"#fff\"/>\n"))))))))))))))))))))))
-
--- the head of the picture
-unfoldable pub open_text : ℕ → List ℕ
-open_text height = first_line height ++ style_text
+    ++ (codes "<rect width=\"100%\" height=\"100%\" fill=\"#fff\"/>\n")))))))))))))))))))))))))))
 
 -- the size of the image, and its slots
 unfoldable pub used_slots_text : ℕ → ℕ → ℕ → List ℕ
 used_slots_text size used slots =
     codes "<text x=\"74\" y=\"22\" class=\"t\">" ++ (decimal size ++ (codes " bytes, " ++ (decimal used ++ (codes " of " ++ (decimal slots ++ codes " slots in use</text>\n")))))
 
--- what is free
-unfoldable pub free_note : ℕ → ℕ → ℕ → List ℕ
-free_note total count largest =
-    codes "<text x=\"74\" y=\"42\">free " ++ (decimal total ++ (codes " bytes in " ++ (decimal count ++ (codes " pieces, the largest " ++ (decimal largest ++ codes "; a compact leaves ")))))
-
--- what a compact leaves of it
-unfoldable pub compact_note : ℕ → ℕ → List ℕ
-compact_note count largest = decimal count ++ (codes " pieces, the largest " ++ (decimal largest ++ codes "</text>\n"))
+-- what is free, and what a compact leaves of it
+unfoldable pub free_note : ℕ → ℕ → ℕ → ℕ → ℕ → List ℕ
+free_note total count largest left_count left_largest =
+    codes "<text x=\"74\" y=\"42\">free " ++ (decimal total ++ (codes " bytes in " ++ (decimal count
+    ++ (codes " pieces, the largest " ++ (decimal largest ++ (codes "; a compact leaves " ++ (decimal left_count
+    ++ (codes " pieces, the largest " ++ (decimal left_largest ++ codes "</text>\n")))))))))
 
 -- ---- the bar: what is used, the largest free piece, what a compact adds to it, and what else is free
 
 unfoldable pub bar_open : ℕ → List ℕ
 bar_open size = codes "<svg x=\"74\" y=\"52\" width=\"1000\" height=\"9\" viewBox=\"0 0 " ++ (decimal size ++ codes " 9\" preserveAspectRatio=\"none\">\n")
 
--- a part of the bar: where it begins, how many bytes it stands for, its colour, and what a browser says of it
+-- a part of the bar: its first byte, its end, its colour, and what a browser says of it
 unfoldable pub bar_part : ℕ → ℕ → List ℕ → List ℕ → List ℕ
-bar_part x width colour title =
-    codes "<rect x=\"" ++ (decimal x ++ (codes "\" width=\"" ++ (decimal width ++ (codes "\" height=\"9\" fill=\"" ++ (colour ++ (codes "\"><title>" ++ (title ++ codes "</title></rect>\n")))))))
+bar_part start end colour title =
+    codes "<rect x=\"" ++ (decimal start ++ (codes "\" width=\"" ++ (decimal (end - start) ++ (codes "\" height=\"9\" fill=\"" ++ (colour ++ (codes "\"><title>" ++ (title ++ codes "</title></rect>\n")))))))
 
-unfoldable pub used_part : ℕ → List ℕ
-used_part used = bar_part 0 used (codes "#888") (codes "used")
-
-unfoldable pub largest_part : ℕ → ℕ → List ℕ
-largest_part used largest = bar_part used largest (codes "#2ca02c") (codes "the largest free piece")
-
-unfoldable pub compact_part : ℕ → ℕ → ℕ → List ℕ
-compact_part used largest most = bar_part (used + largest) (most - largest) (codes "#98df8a") (codes "what a compact adds to it")
-
-unfoldable pub other_part : ℕ → ℕ → ℕ → List ℕ
-other_part used most total = bar_part (used + most) (total - most) (codes "#f7b6b2") (codes "free in other stretches") ++ codes "</svg>\n"
-
-unfoldable pub last_parts : ℕ → ℕ → ℕ → ℕ → List ℕ
-last_parts used total largest most = compact_part used largest most ++ other_part used most total
-
-unfoldable pub free_parts : ℕ → ℕ → ℕ → ℕ → List ℕ
-free_parts used total largest most = largest_part used largest ++ last_parts used total largest most
-
-unfoldable pub all_parts : ℕ → ℕ → ℕ → ℕ → List ℕ
-all_parts used total largest most = used_part used ++ free_parts used total largest most
+-- its parts by their ends
+unfoldable pub bar_parts : ℕ → ℕ → ℕ → ℕ → List ℕ
+bar_parts used largest most size =
+    bar_part 0 used (codes "#888") (codes "used")
+    ++ (bar_part used largest (codes "#2ca02c") (codes "the largest free piece")
+    ++ (bar_part largest most (codes "#98df8a") (codes "what a compact adds to it")
+    ++ (bar_part most size (codes "#f7b6b2") (codes "free in other stretches")
+    ++ codes "</svg>\n")))
 
 -- the bar of an image of a size, by how many bytes are free, how many the largest free piece has, and how many the largest
 -- that a compact leaves
 unfoldable pub bar_text : ℕ → ℕ → ℕ → ℕ → List ℕ
-bar_text size total largest most = bar_open size ++ all_parts (size - total) total largest most
+bar_text size total largest most = bar_open size ++ bar_parts (size - total) (size - total + largest) (size - total + most) size
 
 -- ---- the rows
 
@@ -108,14 +89,11 @@ unfoldable pub frame_text : ℕ → ℕ → List ℕ
 frame_text line rows =
     codes "<svg x=\"74\" y=\"74\" width=\"1000\" height=\"" ++ (decimal (pitch * rows) ++ (codes "\" viewBox=\"0 0 " ++ (decimal line ++ (codes " " ++ (decimal (pitch * rows) ++ codes "\" preserveAspectRatio=\"none\">\n")))))
 
-unfoldable pub closed_strips : ℕ → List Strip → List ℕ
-closed_strips line strips = strips_text line strips ++ codes "</svg>\n<text x=\"1082\" y=\"68\" class=\"r\">room of stretches</text>\n"
-
-unfoldable pub labelled_strips : ℕ → ℕ → List Strip → List ℕ
-labelled_strips line rows strips = closed_strips line strips ++ labels_text line rows
-
+-- the strips in their frame, the line over the rooms, and the offsets of the rows
 unfoldable pub framed_text : ℕ → ℕ → List Strip → List ℕ
-framed_text line rows strips = frame_text line rows ++ labelled_strips line rows strips
+framed_text line rows strips =
+    frame_text line rows ++ (strips_text line strips
+    ++ (codes "</svg>\n<text x=\"1082\" y=\"68\" class=\"r\">room of stretches</text>\n" ++ labels_text line rows))
 
 -- ---- the whole
 
@@ -128,13 +106,10 @@ top_text image rows =
     open_text (height_of rows (length (listed image)))
     ++ used_slots_text (length image) (count_by is_movable (chunks_of image)) (length (slots_of image))
 
-unfoldable pub compact_notes : List ℕ → List ℕ
-compact_notes image =
-    compact_note (length (compact_pieces image)) (greatest (compact_pieces image))
-    ++ bar_text (length image) (free_total image) (greatest (free_pieces image)) (greatest (compact_pieces image))
-
 unfoldable pub notes_text : List ℕ → List ℕ
-notes_text image = free_note (free_total image) (length (free_pieces image)) (greatest (free_pieces image)) ++ compact_notes image
+notes_text image =
+    free_note (free_total image) (length (free_pieces image)) (greatest (free_pieces image)) (length (compact_pieces image)) (greatest (compact_pieces image))
+    ++ bar_text (length image) (free_total image) (greatest (free_pieces image)) (greatest (compact_pieces image))
 
 unfoldable pub middle_text : List ℕ → ℕ → ℕ → List ℕ
 middle_text image line rows = framed_text line rows (strips_of image (thin_below line)) ++ rights_text line (rooms_drawn image) rows
@@ -142,20 +117,11 @@ middle_text image line rows = framed_text line rows (strips_of image (thin_below
 unfoldable pub closing_text : List ℕ → ℕ → List ℕ
 closing_text image rows = pieces_text (sizes_at rows (length (listed image))) (free_pieces image) ++ codes "</svg>\n"
 
-unfoldable pub lists_text : List ℕ → ℕ → List ℕ
-lists_text image rows = databases_note image rows ++ closing_text image rows
-
 unfoldable pub bottom_text : List ℕ → ℕ → List ℕ
-bottom_text image rows = kinds_text rows ++ lists_text image rows
-
-unfoldable pub lower_text : List ℕ → ℕ → ℕ → List ℕ
-lower_text image line rows = middle_text image line rows ++ bottom_text image rows
-
-unfoldable pub inner_text : List ℕ → ℕ → ℕ → List ℕ
-inner_text image line rows = notes_text image ++ lower_text image line rows
+bottom_text image rows = kinds_text rows ++ (databases_note image rows ++ closing_text image rows)
 
 unfoldable pub drawing_text : List ℕ → ℕ → ℕ → List ℕ
-drawing_text image line rows = top_text image rows ++ inner_text image line rows
+drawing_text image line rows = top_text image rows ++ (notes_text image ++ (middle_text image line rows ++ bottom_text image rows))
 
 -- This is the picture of an image: its rows have as many bytes as they are to, it is the text for them, and its strips
 -- show the image.

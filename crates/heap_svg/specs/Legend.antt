@@ -88,13 +88,11 @@ sizes_at rows count = 22 * ((count + 1) / 2) + (legend_at rows + 44)
 abbrev pub is_of_size : ℕ → ℕ → Bool
 is_of_size least size = nat_le least size && nat_lt size (2 * least)
 
--- how many pieces there are of a size; the sizes stand in rows of seven
-unfoldable pub piece_size_text : ℕ → ℕ → ℕ → ℕ → List ℕ
-piece_size_text top index least count =
-    codes "<text x=\"" ++ (decimal (142 * (index % 7) + 74) ++ (codes "\" y=\"" ++ (decimal (18 * (index / 7) + (top + 18)) ++ (codes "\">" ++ (decimal least ++ (codes ": " ++ (decimal count ++ codes "</text>\n")))))))
-
+-- how many pieces there are of a size, if there are any; the sizes stand in rows of seven
 unfoldable pub size_note : ℕ → ℕ → ℕ → ℕ → List ℕ
-size_note top index least count = if count == 0 then [] else piece_size_text top index least count
+size_note top index least count =
+    if count == 0 then []
+    else codes "<text x=\"" ++ (decimal (142 * (index % 7) + 74) ++ (codes "\" y=\"" ++ (decimal (18 * (index / 7) + (top + 18)) ++ (codes "\">" ++ (decimal least ++ (codes ": " ++ (decimal count ++ codes "</text>\n")))))))
 
 -- the least size of a class: the powers of two from 8 on
 abbrev pub least_of : ℕ → ℕ

@@ -101,11 +101,8 @@ abbrev pub sizes_in : ℕ → ℕ → List Room → List ℕ
 sizes_in line row [] = []
 sizes_in line row (room ∷ rooms) = if room.start / line == row then room.size ∷ sizes_in line row rooms else sizes_in line row rooms
 
-unfoldable pub others_text : ℕ → List ℕ
-others_text others = codes " and " ++ (decimal others ++ codes " more</text>\n")
-
 unfoldable pub more_text : ℕ → List ℕ
-more_text others = if others == 0 then codes "</text>\n" else others_text others
+more_text others = if others == 0 then codes "</text>\n" else codes " and " ++ (decimal others ++ codes " more</text>\n")
 
 unfoldable pub largest_text : ℕ → ℕ → List ℕ
 largest_text row largest = codes "<text x=\"1082\" y=\"" ++ (decimal (pitch * row + 85) ++ (codes "\" class=\"r\">" ++ (decimal largest ++ codes " bytes")))

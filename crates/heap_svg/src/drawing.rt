@@ -8,13 +8,11 @@ ghost use Rattle.heap_map.specs.Pictures.{IsMapFault};
 ghost use Rattle.heap_svg.specs.Legend.{sizes_at};
 ghost use Rattle.heap_svg.specs.Strips.{strips_of as strips_model, ShowImage};
 ghost use Rattle.heap_svg.specs.Rows as rows_of;
-ghost use Rattle.heap_svg.specs.Drawing.{WritesDrawing, bottom_text, closing_text, compact_notes, drawing_text, inner_text, lists_text, lower_text, middle_text, notes_text, top_text};
+ghost use Rattle.heap_svg.specs.Drawing.{WritesDrawing, bottom_text, closing_text, drawing_text, middle_text, notes_text, top_text};
 ghost use Rattle.heap_svg.specs.Drawings.{HasDrawing};
 
 use crate::bytes_of_rows::{PITCH, row_count, row_size, thin_below};
-use crate::frame::{
-    Bar, put_bar, put_compact_note, put_framed, put_free_note, put_open, put_slots,
-};
+use crate::frame::{Bar, put_bar, put_framed, put_free_note, put_open, put_slots};
 use crate::legend::{put_databases_note, put_kinds};
 use crate::pieces::piece_sizes;
 use crate::right::put_rights;
@@ -30,7 +28,7 @@ use std::io::Write;
 use store_check::StoreSummary;
 
 /// The parts of a drawing that are found before the first write: the counts of the image, its free
-/// pieces, its rooms, the size of a row, and the strips.
+/// pieces, its rooms, the size of a row, the number of rows, and the strips.
 #[derive(Drop)]
 struct Drawing {
     summary: StoreSummary,
@@ -38,6 +36,7 @@ struct Drawing {
     pieces: Vec<u32>,
     rooms: Rooms,
     line: u32,
+    rows: u32,
     strips: Vec<Strip>,
 }
 
@@ -77,6 +76,7 @@ fn draw<A: Allowance>(
         pieces,
         rooms,
         line,
+        rows: row_count(summary.heap.size, line),
         strips,
     })
 }
@@ -92,219 +92,91 @@ fn sizes_top(rows: u32, databases: u32) -> u32
     22 * ((databases + 1) / 2) + (PITCH * rows + 88 + 44)
 }
 
-/// Writes the first lines, the size of the image and its slots. `rows` is the number of rows, also
-/// below.
-#[tactic(auto, using(palm_text::proofs::Parts::then, palm_text::proofs::Parts::stops), unfolding(crate::specs::Drawing::top_text))]
-fn put_top<W: Write>(
-    out: &mut Counted<W>,
-    region: &Region,
-    drawing: &Drawing,
-    rows: u32,
-) -> Result<(), WriteFault>
-    requires accepted { Accepted region.now.bytes }
-    requires drawing { HasDrawing region.now.bytes drawing.now }
-    requires rows { rows < 2 ^ 24 }
-    ensures { Writes W.contents out.old out.new (top_text region.now.bytes rows) (is_ok result) }
-{
-    let heap = drawing.summary.heap;
-    put_open(out, sizes_top(rows, drawing.summary.databases) + 70)?;
-    put_slots(out, heap.size, heap.movable, heap.slots)
-}
+impl Drawing {
+    /// Writes the first lines, the size of the image and its slots.
+    #[tactic(auto, using(palm_text::proofs::Parts::then, palm_text::proofs::Parts::stops), unfolding(crate::specs::Drawing::top_text))]
+    fn put_top<W: Write>(&self, out: &mut Counted<W>, region: &Region) -> Result<(), WriteFault>
+        requires { HasDrawing region.now.bytes self.now }
+        ensures { Writes W.contents out.old out.new
+            (top_text region.now.bytes self.now.rows) (is_ok result) }
+    {
+        let heap = self.summary.heap;
+        put_open(out, sizes_top(self.rows, self.summary.databases) + 70)?;
+        put_slots(out, heap.size, heap.movable, heap.slots)
+    }
 
-/// Writes the free pieces after a compact, and the bar.
-#[tactic(auto, using(palm_text::proofs::Parts::then, palm_text::proofs::Parts::stops), unfolding(crate::specs::Drawing::compact_notes))]
-fn put_compact_notes<W: Write>(
-    out: &mut Counted<W>,
-    region: &Region,
-    drawing: &Drawing,
-) -> Result<(), WriteFault>
-    requires accepted { Accepted region.now.bytes }
-    requires drawing { HasDrawing region.now.bytes drawing.now }
-    ensures { Writes W.contents out.old out.new (compact_notes region.now.bytes) (is_ok result) }
-{
-    let heap = drawing.summary.heap;
-    put_compact_note(out, drawing.rooms.count, drawing.rooms.largest)?;
-    put_bar(
-        out,
-        heap.size,
-        Bar {
-            used: heap.size.saturating_sub(heap.free),
-            free: heap.free,
-            largest: drawing.free.largest,
-            most: drawing.rooms.largest,
-        },
-    )
-}
+    /// Writes the free pieces, those that a compact leaves, and the bar.
+    #[tactic(auto, using(palm_text::proofs::Parts::then, palm_text::proofs::Parts::stops), unfolding(crate::specs::Drawing::notes_text))]
+    fn put_notes<W: Write>(&self, out: &mut Counted<W>, region: &Region) -> Result<(), WriteFault>
+        requires { HasDrawing region.now.bytes self.now }
+        ensures { Writes W.contents out.old out.new (notes_text region.now.bytes) (is_ok result) }
+    {
+        let heap = self.summary.heap;
+        put_free_note(out, heap.free, self.free, &self.rooms)?;
+        put_bar(
+            out,
+            heap.size,
+            Bar {
+                free: heap.free,
+                largest: self.free.largest,
+                most: self.rooms.largest,
+            },
+        )
+    }
 
-/// Writes the free pieces, those after a compact, and the bar.
-#[tactic(auto, using(palm_text::proofs::Parts::then, palm_text::proofs::Parts::stops), unfolding(crate::specs::Drawing::notes_text))]
-fn put_notes<W: Write>(
-    out: &mut Counted<W>,
-    region: &Region,
-    drawing: &Drawing,
-) -> Result<(), WriteFault>
-    requires accepted { Accepted region.now.bytes }
-    requires drawing { HasDrawing region.now.bytes drawing.now }
-    ensures { Writes W.contents out.old out.new (notes_text region.now.bytes) (is_ok result) }
-{
-    put_free_note(
-        out,
-        drawing.summary.heap.free,
-        drawing.free.count,
-        drawing.free.largest,
-    )?;
-    put_compact_notes(out, region, drawing)
-}
+    /// Writes the rows, their offsets, and the rooms at the right.
+    #[tactic(auto, using(palm_text::proofs::Parts::then, palm_text::proofs::Parts::stops), unfolding(crate::specs::Drawing::middle_text))]
+    fn put_middle<W: Write>(&self, out: &mut Counted<W>, region: &Region) -> Result<(), WriteFault>
+        requires { HasDrawing region.now.bytes self.now }
+        ensures { Writes W.contents out.old out.new
+            (middle_text region.now.bytes self.now.line self.now.rows) (is_ok result) }
+    {
+        put_framed(out, self.line, self.rows, self.strips.as_slice())?;
+        put_rights(out, self.line, self.rooms.all.as_slice(), self.rows)
+    }
 
-/// Writes the rows, their offsets, and the rooms at the right.
-#[tactic(auto, using(palm_text::proofs::Parts::then, palm_text::proofs::Parts::stops), unfolding(crate::specs::Drawing::middle_text))]
-fn put_middle<W: Write>(
-    out: &mut Counted<W>,
-    region: &Region,
-    drawing: &Drawing,
-    rows: u32,
-) -> Result<(), WriteFault>
-    requires accepted { Accepted region.now.bytes }
-    requires drawing { HasDrawing region.now.bytes drawing.now }
-    requires rows { rows ≡ rows_of.rows_in drawing.now.summary.heap.size drawing.now.line }
-    ensures { Writes W.contents out.old out.new
-        (middle_text region.now.bytes drawing.now.line rows) (is_ok result) }
-{
-    put_framed(out, drawing.line, rows, drawing.strips.as_slice())?;
-    put_rights(out, drawing.line, drawing.rooms.all.as_slice(), rows)
-}
+    /// Writes the free pieces by size, and the end of the picture.
+    #[tactic(auto, using(palm_text::proofs::Parts::then, palm_text::proofs::Parts::stops), unfolding(crate::specs::Drawing::closing_text))]
+    fn put_closing<W: Write>(&self, out: &mut Counted<W>, region: &Region) -> Result<(), WriteFault>
+        requires { HasDrawing region.now.bytes self.now }
+        ensures { Writes W.contents out.old out.new
+            (closing_text region.now.bytes self.now.rows) (is_ok result) }
+    {
+        put_pieces_by_size(
+            out,
+            sizes_top(self.rows, self.summary.databases),
+            self.pieces.as_slice(),
+        )?;
+        put_all(out, b"</svg>\n")
+    }
 
-/// Writes the free pieces by size, and the end of the picture.
-#[tactic(auto, using(palm_text::proofs::Parts::then, palm_text::proofs::Parts::stops), unfolding(crate::specs::Drawing::closing_text))]
-fn put_closing<W: Write>(
-    out: &mut Counted<W>,
-    region: &Region,
-    drawing: &Drawing,
-    rows: u32,
-) -> Result<(), WriteFault>
-    requires accepted { Accepted region.now.bytes }
-    requires drawing { HasDrawing region.now.bytes drawing.now }
-    requires rows { rows < 2 ^ 24 }
-    ensures { Writes W.contents out.old out.new
-        (closing_text region.now.bytes rows) (is_ok result) }
-{
-    put_pieces_by_size(
-        out,
-        sizes_top(rows, drawing.summary.databases),
-        drawing.pieces.as_slice(),
-    )?;
-    put_all(out, b"</svg>\n")
-}
+    /// Writes everything below the rows: the kinds of chunks, the databases, and the free pieces by
+    /// size.
+    #[tactic(auto, using(palm_text::proofs::Parts::then, palm_text::proofs::Parts::stops), unfolding(crate::specs::Drawing::bottom_text))]
+    fn put_bottom<W: Write>(&self, out: &mut Counted<W>, region: &Region) -> Result<(), WriteFault>
+        requires whole { region.now.lents ≡ [] }
+        requires drawing { HasDrawing region.now.bytes self.now }
+        ensures { Writes W.contents out.old out.new
+            (bottom_text region.now.bytes self.now.rows) (is_ok result) }
+    {
+        put_kinds(out, self.rows)?;
+        put_databases_note(out, region, self.rows)?;
+        self.put_closing(out, region)
+    }
 
-/// Writes the databases, the free pieces by size, and the end of the picture.
-#[tactic(auto, using(palm_text::proofs::Parts::then, palm_text::proofs::Parts::stops), unfolding(crate::specs::Drawing::lists_text))]
-fn put_lists<W: Write>(
-    out: &mut Counted<W>,
-    region: &Region,
-    drawing: &Drawing,
-    rows: u32,
-) -> Result<(), WriteFault>
-    requires whole { region.now.lents ≡ [] }
-    requires accepted { Accepted region.now.bytes }
-    requires drawing { HasDrawing region.now.bytes drawing.now }
-    requires rows { rows < 2 ^ 24 }
-    ensures { Writes W.contents out.old out.new (lists_text region.now.bytes rows) (is_ok result) }
-{
-    put_databases_note(out, region, rows)?;
-    put_closing(out, region, drawing, rows)
-}
-
-/// Writes everything below the rows.
-#[tactic(auto, using(palm_text::proofs::Parts::then, palm_text::proofs::Parts::stops), unfolding(crate::specs::Drawing::bottom_text))]
-fn put_bottom<W: Write>(
-    out: &mut Counted<W>,
-    region: &Region,
-    drawing: &Drawing,
-    rows: u32,
-) -> Result<(), WriteFault>
-    requires whole { region.now.lents ≡ [] }
-    requires accepted { Accepted region.now.bytes }
-    requires drawing { HasDrawing region.now.bytes drawing.now }
-    requires rows { rows < 2 ^ 24 }
-    ensures { Writes W.contents out.old out.new (bottom_text region.now.bytes rows) (is_ok result) }
-{
-    put_kinds(out, rows)?;
-    put_lists(out, region, drawing, rows)
-}
-
-/// Writes the rows and everything below them.
-#[tactic(auto, using(palm_text::proofs::Parts::then, palm_text::proofs::Parts::stops), unfolding(crate::specs::Drawing::lower_text))]
-fn put_lower<W: Write>(
-    out: &mut Counted<W>,
-    region: &Region,
-    drawing: &Drawing,
-    rows: u32,
-) -> Result<(), WriteFault>
-    requires whole { region.now.lents ≡ [] }
-    requires accepted { Accepted region.now.bytes }
-    requires drawing { HasDrawing region.now.bytes drawing.now }
-    requires rows { rows ≡ rows_of.rows_in drawing.now.summary.heap.size drawing.now.line }
-    requires few { rows < 2 ^ 24 }
-    ensures { Writes W.contents out.old out.new
-        (lower_text region.now.bytes drawing.now.line rows) (is_ok result) }
-{
-    put_middle(out, region, drawing, rows)?;
-    put_bottom(out, region, drawing, rows)
-}
-
-/// Writes everything after the first lines.
-#[tactic(auto, using(palm_text::proofs::Parts::then, palm_text::proofs::Parts::stops), unfolding(crate::specs::Drawing::inner_text))]
-fn put_inner<W: Write>(
-    out: &mut Counted<W>,
-    region: &Region,
-    drawing: &Drawing,
-    rows: u32,
-) -> Result<(), WriteFault>
-    requires whole { region.now.lents ≡ [] }
-    requires accepted { Accepted region.now.bytes }
-    requires drawing { HasDrawing region.now.bytes drawing.now }
-    requires rows { rows ≡ rows_of.rows_in drawing.now.summary.heap.size drawing.now.line }
-    requires few { rows < 2 ^ 24 }
-    ensures { Writes W.contents out.old out.new
-        (inner_text region.now.bytes drawing.now.line rows) (is_ok result) }
-{
-    put_notes(out, region, drawing)?;
-    put_lower(out, region, drawing, rows)
-}
-
-/// Writes the whole picture with this number of rows.
-#[tactic(auto, using(palm_text::proofs::Parts::then, palm_text::proofs::Parts::stops), unfolding(crate::specs::Drawing::drawing_text))]
-fn put_rows<W: Write>(
-    out: &mut Counted<W>,
-    region: &Region,
-    drawing: &Drawing,
-    rows: u32,
-) -> Result<(), WriteFault>
-    requires whole { region.now.lents ≡ [] }
-    requires accepted { Accepted region.now.bytes }
-    requires drawing { HasDrawing region.now.bytes drawing.now }
-    requires rows { rows ≡ rows_of.rows_in drawing.now.summary.heap.size drawing.now.line }
-    requires few { rows < 2 ^ 24 }
-    ensures { Writes W.contents out.old out.new
-        (drawing_text region.now.bytes drawing.now.line rows) (is_ok result) }
-{
-    put_top(out, region, drawing, rows)?;
-    put_inner(out, region, drawing, rows)
-}
-
-/// Writes the whole picture.
-fn put_drawing<W: Write>(
-    out: &mut Counted<W>,
-    region: &Region,
-    drawing: &Drawing,
-) -> Result<(), WriteFault>
-    requires whole { region.now.lents ≡ [] }
-    requires accepted { Accepted region.now.bytes }
-    requires drawing { HasDrawing region.now.bytes drawing.now }
-    ensures { WritesDrawing region.now.bytes W.contents out.old out.new (is_ok result) }
-{
-    let rows = row_count(drawing.summary.heap.size, drawing.line);
-    put_rows(out, region, drawing, rows)
+    /// Writes the whole picture.
+    #[tactic(auto, using(palm_text::proofs::Parts::then, palm_text::proofs::Parts::stops), unfolding(crate::specs::Drawing::drawing_text))]
+    fn put<W: Write>(&self, out: &mut Counted<W>, region: &Region) -> Result<(), WriteFault>
+        requires whole { region.now.lents ≡ [] }
+        requires drawing { HasDrawing region.now.bytes self.now }
+        ensures { Writes W.contents out.old out.new
+            (drawing_text region.now.bytes self.now.line self.now.rows) (is_ok result) }
+    {
+        self.put_top(out, region)?;
+        self.put_notes(out, region)?;
+        self.put_middle(out, region)?;
+        self.put_bottom(out, region)
+    }
 }
 
 /// Checks an image, and finds what is drawn of it if it is accepted.
@@ -329,6 +201,7 @@ fn drawn<A: Allowance>(memory: &A, region: &Region) -> Result<Drawing, MapFault>
 /// - `BadImage`: the image is not accepted. Nothing was written.
 /// - `OutOfMemory`: an allocation failed. Nothing was written.
 /// - `Write`: a write failed. A prefix of the picture was written.
+#[tactic(auto, using(crate::proofs::DrawingLaws::writes_drawing))]
 pub fn put_svg<A: Allowance, W: Write>(
     memory: &A,
     region: &Region,
@@ -344,7 +217,7 @@ pub fn put_svg<A: Allowance, W: Write>(
     ensures short { result ≡ Err MapFault.OutOfMemory → A.is_short memory.now }
 {
     let drawing = drawn(memory, region)?;
-    match put_drawing(out, region, &drawing) {
+    match drawing.put(out, region) {
         Ok(()) => Ok(()),
         Err(_) => Err(MapFault::Write),
     }

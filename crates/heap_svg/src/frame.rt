@@ -2,19 +2,22 @@
 
 ghost use Rattle.std.specs.Prelude.{◌≡◌, ◌≤◌, ◌<◌, ◌+◌, ◌-◌, ◌*◌, ◌^◌, All, is_ok};
 ghost use Rattle.palm_text.specs.Counted.{Writes};
-ghost use Rattle.heap_svg.specs.Drawing.{all_parts, bar_open, bar_part, bar_text, closed_strips, compact_note, compact_part, first_line, frame_text, framed_text, free_note, free_parts, labelled_strips, largest_part, last_parts, open_text, other_part, used_slots_text, style_text, used_part};
+ghost use Rattle.heap_svg.specs.Drawing.{bar_open, bar_part, bar_parts, bar_text, frame_text, framed_text, free_note, open_text, used_slots_text};
 
 use crate::bytes_of_rows::PITCH;
 use crate::rectangles::put_strips;
 use crate::right::put_labels;
+use crate::rooms::Rooms;
 use crate::strips::Strip;
+use heap_map::Pieces;
 use palm_text::{Counted, Piece, WriteFault, put_all, put_pieces};
 use std::io::Write;
 
-/// Writes the first line of a picture of this height.
-#[tactic(auto, unfolding(crate::specs::Drawing::first_line))]
-fn put_first_line<W: Write>(out: &mut Counted<W>, height: u32) -> Result<(), WriteFault>
-    ensures { Writes W.contents out.old out.new (first_line height) (is_ok result) }
+/// Writes the head of a picture of this height: its first line, the styles with the colours of the
+/// kinds of chunks and of databases, and a white background.
+#[tactic(auto, unfolding(crate::specs::Drawing::open_text))]
+pub(crate) fn put_open<W: Write>(out: &mut Counted<W>, height: u32) -> Result<(), WriteFault>
+    ensures { Writes W.contents out.old out.new (open_text height) (is_ok result) }
 {
     put_pieces(
         out,
@@ -24,18 +27,6 @@ fn put_first_line<W: Write>(out: &mut Counted<W>, height: u32) -> Result<(), Wri
             Piece::Text(b"\" viewBox=\"0 0 1224 "),
             Piece::Number(height),
             Piece::Text(b"\" font-family=\"sans-serif\" font-size=\"12\">\n"),
-        ],
-    )
-}
-
-/// Writes the styles: the colours of the kinds of chunks and of databases, and a white background.
-#[tactic(auto, unfolding(crate::specs::Drawing::style_text))]
-fn put_style<W: Write>(out: &mut Counted<W>) -> Result<(), WriteFault>
-    ensures { Writes W.contents out.old out.new style_text (is_ok result) }
-{
-    put_pieces(
-        out,
-        &[
             Piece::Text(b"<style>\n"),
             Piece::Text(b"svg{overflow:visible}\n"),
             Piece::Text(b"path{stroke:#fff;stroke-width:.8;vector-effect:non-scaling-stroke}\n"),
@@ -63,15 +54,6 @@ fn put_style<W: Write>(out: &mut Counted<W>) -> Result<(), WriteFault>
     )
 }
 
-/// Writes the head of a picture of this height.
-#[tactic(auto, using(palm_text::proofs::Parts::then, palm_text::proofs::Parts::stops), unfolding(crate::specs::Drawing::open_text))]
-pub(crate) fn put_open<W: Write>(out: &mut Counted<W>, height: u32) -> Result<(), WriteFault>
-    ensures { Writes W.contents out.old out.new (open_text height) (is_ok result) }
-{
-    put_first_line(out, height)?;
-    put_style(out)
-}
-
 /// Writes the size of the image, and its slots.
 #[tactic(auto, unfolding(crate::specs::Drawing::used_slots_text))]
 pub(crate) fn put_slots<W: Write>(
@@ -96,15 +78,16 @@ pub(crate) fn put_slots<W: Write>(
     )
 }
 
-/// Writes the number of free bytes, the number of pieces, and the size of the largest one.
+/// Writes the number of free bytes, the free pieces, and those that a compact leaves.
 #[tactic(auto, unfolding(crate::specs::Drawing::free_note))]
 pub(crate) fn put_free_note<W: Write>(
     out: &mut Counted<W>,
     total: u32,
-    pieces: u32,
-    largest: u32,
+    free: Pieces,
+    rooms: &Rooms,
 ) -> Result<(), WriteFault>
-    ensures { Writes W.contents out.old out.new (free_note total pieces largest) (is_ok result) }
+    ensures { Writes W.contents out.old out.new
+        (free_note total free.count free.largest rooms.now.count rooms.now.largest) (is_ok result) }
 {
     put_pieces(
         out,
@@ -112,39 +95,22 @@ pub(crate) fn put_free_note<W: Write>(
             Piece::Text(b"<text x=\"74\" y=\"42\">free "),
             Piece::Number(total),
             Piece::Text(b" bytes in "),
-            Piece::Number(pieces),
+            Piece::Number(free.count),
             Piece::Text(b" pieces, the largest "),
-            Piece::Number(largest),
+            Piece::Number(free.largest),
             Piece::Text(b"; a compact leaves "),
-        ],
-    )
-}
-
-/// Writes the number of pieces after a compact, and the size of the largest one.
-#[tactic(auto, unfolding(crate::specs::Drawing::compact_note))]
-pub(crate) fn put_compact_note<W: Write>(
-    out: &mut Counted<W>,
-    pieces: u32,
-    largest: u32,
-) -> Result<(), WriteFault>
-    ensures { Writes W.contents out.old out.new (compact_note pieces largest) (is_ok result) }
-{
-    put_pieces(
-        out,
-        &[
-            Piece::Number(pieces),
+            Piece::Number(rooms.count),
             Piece::Text(b" pieces, the largest "),
-            Piece::Number(largest),
+            Piece::Number(rooms.largest),
             Piece::Text(b"</text>\n"),
         ],
     )
 }
 
-/// The numbers of the bar, in bytes: used, free, the largest free piece, and the largest free piece
-/// after a compact.
+/// The numbers of the bar, in bytes: free, the largest free piece, and the largest free piece after a
+/// compact.
 #[derive(Clone, Copy)]
 pub(crate) struct Bar {
-    pub(crate) used: u32,
     pub(crate) free: u32,
     pub(crate) largest: u32,
     pub(crate) most: u32,
@@ -165,25 +131,24 @@ fn put_bar_open<W: Write>(out: &mut Counted<W>, size: u32) -> Result<(), WriteFa
     )
 }
 
-/// Writes a part of the bar: its first byte, its number of bytes, its colour, and its tooltip.
-#[tactic(auto, unfolding(crate::specs::Drawing::bar_part))]
+/// Writes a part of the bar: its first byte, its end, its colour, and its tooltip.
 fn put_bar_part<W: Write>(
     out: &mut Counted<W>,
-    x: u32,
-    width: u32,
+    start: u32,
+    end: u32,
     colour: &'static [u8],
     title: &'static [u8],
 ) -> Result<(), WriteFault>
     ensures { Writes W.contents out.old out.new
-        (bar_part x width colour.now title.now) (is_ok result) }
+        (bar_part start end colour.now title.now) (is_ok result) }
 {
     put_pieces(
         out,
         &[
             Piece::Text(b"<rect x=\""),
-            Piece::Number(x),
+            Piece::Number(start),
             Piece::Text(b"\" width=\""),
-            Piece::Number(width),
+            Piece::Number(end.saturating_sub(start)),
             Piece::Text(b"\" height=\"9\" fill=\""),
             Piece::Text(colour),
             Piece::Text(b"\"><title>"),
@@ -193,116 +158,34 @@ fn put_bar_part<W: Write>(
     )
 }
 
-/// Writes the part for used bytes.
-#[tactic(auto, unfolding(crate::specs::Drawing::used_part))]
-fn put_used_part<W: Write>(out: &mut Counted<W>, used: u32) -> Result<(), WriteFault>
-    ensures { Writes W.contents out.old out.new (used_part used) (is_ok result) }
-{
-    put_bar_part(out, 0, used, b"#888", b"used")
-}
-
-/// Writes the part for the largest free piece.
-#[tactic(auto, unfolding(crate::specs::Drawing::largest_part))]
-fn put_largest_part<W: Write>(
-    out: &mut Counted<W>,
-    used: u32,
-    largest: u32,
-) -> Result<(), WriteFault>
-    ensures { Writes W.contents out.old out.new (largest_part used largest) (is_ok result) }
-{
-    put_bar_part(out, used, largest, b"#2ca02c", b"the largest free piece")
-}
-
-/// Writes the part for the bytes that a compact adds to the largest free piece.
-#[tactic(auto, unfolding(crate::specs::Drawing::compact_part))]
-fn put_compact_part<W: Write>(
+/// Writes the parts of the bar by their ends, and the end of the bar.
+fn put_bar_parts<W: Write>(
     out: &mut Counted<W>,
     used: u32,
     largest: u32,
     most: u32,
+    size: u32,
 ) -> Result<(), WriteFault>
-    requires { used + largest < 2 ^ 32 }
-    ensures { Writes W.contents out.old out.new (compact_part used largest most) (is_ok result) }
+    ensures { Writes W.contents out.old out.new (bar_parts used largest most size) (is_ok result) }
 {
-    put_bar_part(
-        out,
-        used + largest,
-        most.saturating_sub(largest),
-        b"#98df8a",
-        b"what a compact adds to it",
-    )
-}
-
-/// Writes the part for free bytes in other stretches, and the end of the bar.
-fn put_other_part<W: Write>(
-    out: &mut Counted<W>,
-    used: u32,
-    most: u32,
-    free: u32,
-) -> Result<(), WriteFault>
-    requires { used + most < 2 ^ 32 }
-    ensures { Writes W.contents out.old out.new (other_part used most free) (is_ok result) }
-{
-    let width = free.saturating_sub(most);
-    match put_bar_part(
-        out,
-        used + most,
-        width,
-        b"#f7b6b2",
-        b"free in other stretches",
-    ) {
-        Ok(()) => put_all(out, b"</svg>\n"),
-        Err(fault) => Err(fault),
-    }
-}
-
-/// Writes the part for the bytes that a compact adds, and the last part.
-#[tactic(auto, using(palm_text::proofs::Parts::then, palm_text::proofs::Parts::stops), unfolding(crate::specs::Drawing::last_parts))]
-fn put_last_parts<W: Write>(out: &mut Counted<W>, bar: Bar) -> Result<(), WriteFault>
-    requires largest { bar.used + bar.largest < 2 ^ 32 }
-    requires most { bar.used + bar.most < 2 ^ 32 }
-    ensures { Writes W.contents out.old out.new
-        (last_parts bar.used bar.free bar.largest bar.most) (is_ok result) }
-{
-    put_compact_part(out, bar.used, bar.largest, bar.most)?;
-    put_other_part(out, bar.used, bar.most, bar.free)
-}
-
-/// Writes the parts for free bytes.
-#[tactic(auto, using(palm_text::proofs::Parts::then, palm_text::proofs::Parts::stops), unfolding(crate::specs::Drawing::free_parts))]
-fn put_free_parts<W: Write>(out: &mut Counted<W>, bar: Bar) -> Result<(), WriteFault>
-    requires largest { bar.used + bar.largest < 2 ^ 32 }
-    requires most { bar.used + bar.most < 2 ^ 32 }
-    ensures { Writes W.contents out.old out.new
-        (free_parts bar.used bar.free bar.largest bar.most) (is_ok result) }
-{
-    put_largest_part(out, bar.used, bar.largest)?;
-    put_last_parts(out, bar)
-}
-
-/// Writes all parts of the bar.
-#[tactic(auto, using(palm_text::proofs::Parts::then, palm_text::proofs::Parts::stops), unfolding(crate::specs::Drawing::all_parts))]
-fn put_all_parts<W: Write>(out: &mut Counted<W>, bar: Bar) -> Result<(), WriteFault>
-    requires largest { bar.used + bar.largest < 2 ^ 32 }
-    requires most { bar.used + bar.most < 2 ^ 32 }
-    ensures { Writes W.contents out.old out.new
-        (all_parts bar.used bar.free bar.largest bar.most) (is_ok result) }
-{
-    put_used_part(out, bar.used)?;
-    put_free_parts(out, bar)
+    put_bar_part(out, 0, used, b"#888", b"used")?;
+    put_bar_part(out, used, largest, b"#2ca02c", b"the largest free piece")?;
+    put_bar_part(out, largest, most, b"#98df8a", b"what a compact adds to it")?;
+    put_bar_part(out, most, size, b"#f7b6b2", b"free in other stretches")?;
+    put_all(out, b"</svg>\n")
 }
 
 /// Writes the bar for an image of this size.
 #[tactic(auto, using(palm_text::proofs::Parts::then, palm_text::proofs::Parts::stops), unfolding(crate::specs::Drawing::bar_text))]
 pub(crate) fn put_bar<W: Write>(out: &mut Counted<W>, size: u32, bar: Bar) -> Result<(), WriteFault>
-    requires used { bar.used ≡ size - bar.free }
-    requires largest { bar.used + bar.largest < 2 ^ 32 }
-    requires most { bar.used + bar.most < 2 ^ 32 }
+    requires largest { size - bar.free + bar.largest < 2 ^ 32 }
+    requires most { size - bar.free + bar.most < 2 ^ 32 }
     ensures { Writes W.contents out.old out.new
         (bar_text size bar.free bar.largest bar.most) (is_ok result) }
 {
+    let used = size.saturating_sub(bar.free);
     put_bar_open(out, size)?;
-    put_all_parts(out, bar)
+    put_bar_parts(out, used, used + bar.largest, used + bar.most, size)
 }
 
 /// Writes the frame of the rows. In it a byte is one unit wide.
@@ -325,46 +208,7 @@ fn put_frame<W: Write>(out: &mut Counted<W>, line: u32, rows: u32) -> Result<(),
     )
 }
 
-/// Writes the strips, the end of their frame, and the line over the rooms.
-#[tactic(auto, using(palm_text::proofs::Parts::then, palm_text::proofs::Parts::stops), unfolding(crate::specs::Drawing::closed_strips))]
-fn put_closed_strips<W: Write>(
-    out: &mut Counted<W>,
-    line: u32,
-    strips: &[Strip],
-) -> Result<(), WriteFault>
-    requires line { 64 ≤ line }
-    requires small { line < 2 ^ 24 }
-    requires inside { All (λ strip. strip.at + strip.size < 2 ^ 24) strips.now }
-    ensures { Writes W.contents out.old out.new (closed_strips line strips.now) (is_ok result) }
-{
-    put_strips(out, line, strips)?;
-    put_all(
-        out,
-        b"</svg>\n<text x=\"1082\" y=\"68\" class=\"r\">room of stretches</text>\n",
-    )
-}
-
-/// Writes the strips and the offsets of the rows.
-#[tactic(auto, using(palm_text::proofs::Parts::then, palm_text::proofs::Parts::stops), unfolding(crate::specs::Drawing::labelled_strips))]
-fn put_labelled_strips<W: Write>(
-    out: &mut Counted<W>,
-    line: u32,
-    rows: u32,
-    strips: &[Strip],
-) -> Result<(), WriteFault>
-    requires line { 64 ≤ line }
-    requires small { line < 2 ^ 24 }
-    requires rows { rows < 2 ^ 26 }
-    requires offsets { line * rows < 2 ^ 32 }
-    requires inside { All (λ strip. strip.at + strip.size < 2 ^ 24) strips.now }
-    ensures { Writes W.contents out.old out.new
-        (labelled_strips line rows strips.now) (is_ok result) }
-{
-    put_closed_strips(out, line, strips)?;
-    put_labels(out, line, rows)
-}
-
-/// Writes the strips in their frame, and the offsets of the rows.
+/// Writes the strips in their frame, the line over the rooms, and the offsets of the rows.
 #[tactic(auto, using(palm_text::proofs::Parts::then, palm_text::proofs::Parts::stops), unfolding(crate::specs::Drawing::framed_text))]
 pub(crate) fn put_framed<W: Write>(
     out: &mut Counted<W>,
@@ -380,5 +224,10 @@ pub(crate) fn put_framed<W: Write>(
     ensures { Writes W.contents out.old out.new (framed_text line rows strips.now) (is_ok result) }
 {
     put_frame(out, line, rows)?;
-    put_labelled_strips(out, line, rows, strips)
+    put_strips(out, line, strips)?;
+    put_all(
+        out,
+        b"</svg>\n<text x=\"1082\" y=\"68\" class=\"r\">room of stretches</text>\n",
+    )?;
+    put_labels(out, line, rows)
 }

@@ -4,7 +4,7 @@ ghost use Rattle.std.specs.Prelude.{◌≡◌, ◌≤◌, ◌<◌, ◌+◌, ◌*
 ghost use Rattle.heap_model.specs.Space.{greatest};
 ghost use Rattle.palm_text.specs.Counted.{Writes};
 ghost use Rattle.heap_svg.specs.Rows as texts;
-ghost use Rattle.heap_svg.specs.Rows.{label_text, labels_text, largest_text, more_text, others_text, right_of, right_text, rights_text, sizes_in};
+ghost use Rattle.heap_svg.specs.Rows.{label_text, labels_text, largest_text, more_text, right_text, rights_text, sizes_in};
 
 use crate::bytes_of_rows::PITCH;
 use crate::rooms::Room;
@@ -78,11 +78,14 @@ fn rooms_in(rooms: &[Room], line: u32, row: u32) -> RowRooms
     here
 }
 
-/// Writes the number of other rooms, and the end of the line.
-#[tactic(auto, unfolding(crate::specs::Rows::others_text))]
-fn put_others<W: Write>(out: &mut Counted<W>, others: u32) -> Result<(), WriteFault>
-    ensures { Writes W.contents out.old out.new (others_text others) (is_ok result) }
+/// Writes the number of other rooms if there are any, and the end of the line.
+#[tactic(auto, using(crate::proofs::ChoiceLaws::when_none, crate::proofs::ChoiceLaws::when_some), unfolding(crate::specs::Rows::more_text))]
+fn put_more<W: Write>(out: &mut Counted<W>, others: u32) -> Result<(), WriteFault>
+    ensures { Writes W.contents out.old out.new (more_text others) (is_ok result) }
 {
+    if others == 0 {
+        return put_all(out, b"</text>\n");
+    }
     put_pieces(
         out,
         &[
@@ -91,18 +94,6 @@ fn put_others<W: Write>(out: &mut Counted<W>, others: u32) -> Result<(), WriteFa
             Piece::Text(b" more</text>\n"),
         ],
     )
-}
-
-/// Writes the number of other rooms if there are any, and the end of the line.
-#[tactic(auto, using(crate::proofs::ChoiceLaws::when_none, crate::proofs::ChoiceLaws::when_some), unfolding(crate::specs::Rows::more_text))]
-fn put_more<W: Write>(out: &mut Counted<W>, others: u32) -> Result<(), WriteFault>
-    ensures { Writes W.contents out.old out.new (more_text others) (is_ok result) }
-{
-    if others == 0 {
-        put_all(out, b"</text>\n")
-    } else {
-        put_others(out, others)
-    }
 }
 
 /// Writes the size of the largest room.
@@ -148,21 +139,6 @@ fn put_right<W: Write>(out: &mut Counted<W>, row: u32, rooms: RowRooms) -> Resul
     }
 }
 
-/// Writes the rooms of a row of `line` bytes.
-fn put_rooms_in<W: Write>(
-    out: &mut Counted<W>,
-    line: u32,
-    rooms: &[Room],
-    row: u32,
-) -> Result<(), WriteFault>
-    requires line { 1 ≤ line }
-    requires few { length rooms.now < 2 ^ 32 }
-    requires row { row < 2 ^ 26 }
-    ensures { Writes W.contents out.old out.new (right_of line rooms.now row) (is_ok result) }
-{
-    put_right(out, row, rooms_in(rooms, line, row))
-}
-
 /// Writes the rooms of all rows.
 pub(crate) fn put_rights<W: Write>(
     out: &mut Counted<W>,
@@ -176,7 +152,7 @@ pub(crate) fn put_rights<W: Write>(
     ensures { Writes W.contents out.old out.new (rights_text line rooms.now rows) (is_ok result) }
 {
     for row in 0..rows {
-        match put_rooms_in(out, line, rooms, row) {
+        match put_right(out, row, rooms_in(rooms, line, row)) {
             Ok(()) => {}
             Err(fault) => return Err(fault),
         }

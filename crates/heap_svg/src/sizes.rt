@@ -3,7 +3,7 @@
 ghost use Rattle.std.specs.Prelude.{◌≡◌, ◌<◌, ◌≤◌, ◌+◌, ◌*◌, ◌^◌, count_by, length, is_ok};
 ghost use Rattle.palm_text.specs.Counted.{Writes};
 ghost use Rattle.heap_svg.specs.Legend as texts;
-ghost use Rattle.heap_svg.specs.Legend.{least_of, pieces_by_size, pieces_text, size_note, size_notes, piece_size_text, sizes_head};
+ghost use Rattle.heap_svg.specs.Legend.{least_of, pieces_by_size, pieces_text, size_note, size_notes, sizes_head};
 
 use palm_text::{Counted, Piece, WriteFault, put_pieces};
 use std::io::Write;
@@ -42,9 +42,9 @@ fn count_of(pieces: &[u32], least: u32) -> u32
     count
 }
 
-/// Writes the number of pieces of a class, at the place of an index.
-#[tactic(auto, unfolding(crate::specs::Legend::piece_size_text))]
-fn put_size<W: Write>(
+/// Writes the number of pieces of a class if there are any, at the place of an index.
+#[tactic(auto, using(palm_text::proofs::Parts::nothing, crate::proofs::ChoiceLaws::when_none, crate::proofs::ChoiceLaws::when_some), unfolding(crate::specs::Legend::size_note))]
+fn put_size_note<W: Write>(
     out: &mut Counted<W>,
     top: u32,
     index: u32,
@@ -53,8 +53,11 @@ fn put_size<W: Write>(
 ) -> Result<(), WriteFault>
     requires top { top < 2 ^ 31 }
     requires index { index < 21 }
-    ensures { Writes W.contents out.old out.new (piece_size_text top index least count) (is_ok result) }
+    ensures { Writes W.contents out.old out.new (size_note top index least count) (is_ok result) }
 {
+    if count == 0 {
+        return Ok(());
+    }
     put_pieces(
         out,
         &[
@@ -69,26 +72,6 @@ fn put_size<W: Write>(
             Piece::Text(b"</text>\n"),
         ],
     )
-}
-
-/// Writes the number of pieces of a class if there are any.
-#[tactic(auto, using(palm_text::proofs::Parts::nothing, crate::proofs::ChoiceLaws::when_none, crate::proofs::ChoiceLaws::when_some), unfolding(crate::specs::Legend::size_note))]
-fn put_size_note<W: Write>(
-    out: &mut Counted<W>,
-    top: u32,
-    index: u32,
-    least: u32,
-    count: u32,
-) -> Result<(), WriteFault>
-    requires top { top < 2 ^ 31 }
-    requires index { index < 21 }
-    ensures { Writes W.contents out.old out.new (size_note top index least count) (is_ok result) }
-{
-    if count == 0 {
-        Ok(())
-    } else {
-        put_size(out, top, index, least, count)
-    }
 }
 
 /// Writes the number of pieces of each class.

@@ -4,4 +4,5 @@ pub use Rattle.chunk_format.specs.Blank
 pub use Rattle.store_check.specs.Checks
 pub mod FaultLines
 pub mod FaultDocuments
+pub mod Printed
 pub mod JsonEnds

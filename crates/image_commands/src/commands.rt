@@ -5,7 +5,7 @@ ghost use Rattle.image_commands.specs.Commands.{EndsCheck, EndsNew, heap_line, s
 ghost use Rattle.allowance.specs.Refusals.{GrowthRefused};
 ghost use Rattle.palm_text.specs.Output.{Puts, output};
 
-use crate::fault_lines::{say_bad_image, say_no_image};
+use crate::faults::{say_bad_image, say_no_image};
 use allowance::{Allowance, text_of};
 use chunk_format::{BlankFault, blank_from};
 use heap_check::Summary;

@@ -4,10 +4,11 @@ ghost use Rattle.std.specs.Prelude.{◌≢◌};
 
 use crate::commands::{check_region_from, cmd_new_from};
 use command_files::{
-    STANDARD_OUTPUT, looks_like_file, output_for_image, read_image, suggest_explain, suggest_list,
+    looks_like_file, output_for_image, read_image, report_image, report_output, suggest_explain,
+    suggest_list,
 };
 use palm_text::Counted;
-use program_io::{Noted, Status, report_outcome};
+use program_io::{Noted, Status};
 use std::io;
 use std::io::Input;
 use std::rt::Files;
@@ -29,10 +30,7 @@ pub fn new<R: Files + Print + Eprint + AllocGlobal>(
     let mut image_out = Counted::new(Noted::new(image_out));
     let mut out = Counted::new(Noted::new(io::writer(rt)));
     let status = cmd_new_from(&rt.alloc(), size, slots, &mut image_out, &mut out);
-    let (image_out, image_fault) = image_out.into_inner().into_parts();
-    image_out.close();
-    let (_, fault) = out.into_inner().into_parts();
-    report_outcome(rt, status, &[(path, image_fault), (STANDARD_OUTPUT, fault)]);
+    let status = report_image(rt, status, path, image_out, out);
     suggest_explain(rt, status, Some(size));
     status
 }
@@ -47,8 +45,7 @@ pub fn check<R: Files + Input + Print + Eprint + AllocGlobal>(rt: &R, path: &str
     };
     let mut out = Counted::new(Noted::new(io::writer(rt)));
     let status = check_region_from(&rt.alloc(), &image, &mut out);
-    let (_, fault) = out.into_inner().into_parts();
-    report_outcome(rt, status, &[(STANDARD_OUTPUT, fault)]);
+    let status = report_output(rt, status, out);
     suggest_list(rt, path, status, looks_like_file(&image));
     status
 }

@@ -2,8 +2,9 @@
 
 ghost use Rattle.std.specs.Prelude.{[], ◌≡◌};
 ghost use Rattle.image_commands.specs.JsonEnds.{EndsCheckJson};
+ghost use Rattle.palm_text.specs.Output.{output};
 
-use crate::fault_documents::say_image_fault;
+use crate::faults::say_image_fault;
 use crate::summary_documents::say_summary;
 use allowance::Allowance;
 use palm_text::Counted;
@@ -18,7 +19,7 @@ pub fn cmd_check_json<A: Allowance, V: Write>(
     image: &[u8],
     out: &mut Counted<V>,
 ) -> Status
-    ensures ends { EndsCheckJson image.now V.contents out.old out.new result }
+    ensures ends { EndsCheckJson image.now (output V.contents out.old out.new) result }
     ensures short { result ≡ Status.NoMemory → A.is_short memory.now }
 {
     match Region::copied_from(memory, image) {
@@ -35,7 +36,7 @@ pub fn check_json_region_from<A: Allowance, V: Write>(
     out: &mut Counted<V>,
 ) -> Status
     requires whole { region.now.lents ≡ [] }
-    ensures ends { EndsCheckJson region.now.bytes V.contents out.old out.new result }
+    ensures ends { EndsCheckJson region.now.bytes (output V.contents out.old out.new) result }
     ensures short { result ≡ Status.NoMemory → A.is_short memory.now }
 {
     match check_store(memory, region) {

@@ -21,24 +21,21 @@
 //! |---|---|
 //! | `commands` | the commands over bytes |
 //! | `images` | the commands over files |
-//! | `fault_lines` | the line for a fault |
-//! | `fault_documents` | the document for a fault |
+//! | `faults` | the line and the document for a fault |
 //! | `summary_documents` | the document of the counts of an image |
 //! | `json_check` | the command `check --json`, over bytes (`specs/JsonEnds.antt`) |
 //! | `json_images` | the command `check --json`, over files |
 #![tactic(auto)]
 
 mod commands;
-mod fault_documents;
-mod fault_lines;
+mod faults;
 mod images;
 mod json_check;
 mod json_images;
 mod summary_documents;
 
 pub use commands::{check_region_from, cmd_check, cmd_check_from, cmd_new, cmd_new_from};
-pub use fault_documents::say_image_fault;
-pub use fault_lines::{say_bad_image, say_no_image};
+pub use faults::{say_bad_image, say_image_fault, say_no_image};
 pub use images::{check, new};
 pub use json_check::{check_json_region_from, cmd_check_json};
 pub use json_images::check_json;

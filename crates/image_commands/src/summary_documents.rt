@@ -1,8 +1,9 @@
 //! The document of the counts of an image.
 
-ghost use Rattle.std.specs.Prelude.{◌≡◌, ◌⊎◌, is_ok, true, false};
+ghost use Rattle.std.specs.Prelude.{is_ok};
 ghost use Rattle.palm_text.specs.Counted.{Writes};
-ghost use Rattle.palm_text.specs.Output.{Puts};
+ghost use Rattle.palm_text.specs.Output.{Puts, output};
+ghost use Rattle.image_commands.specs.FaultLines.{Says};
 ghost use Rattle.image_commands.specs.JsonEnds.{heap_json, summary_json};
 
 use heap_check::Summary;
@@ -52,11 +53,8 @@ fn put_summary<W: Write>(out: &mut Counted<W>, summary: &StoreSummary) -> Result
 
 /// Prints the document of the counts of an image.
 pub(crate) fn say_summary<V: Write>(out: &mut Counted<V>, summary: &StoreSummary) -> Status
-    ensures statuses { (result ≡ Status.Done) ⊎ (result ≡ Status.WriteFault) }
-    ensures done { result ≡ Status.Done
-        → Puts V.contents out.old out.new (summary_json summary.now) true }
-    ensures write { result ≡ Status.WriteFault
-        → Puts V.contents out.old out.new (summary_json summary.now) false }
+    ensures { Says (output V.contents out.old out.new)
+        (summary_json summary.now) Status.Done result }
 {
     match put_summary(out, summary) {
         Ok(()) => Status::Done,

@@ -7,7 +7,7 @@ use crate::meanings::explain;
 use clap::error::ErrorKind;
 use command_files::{STANDARD_OUTPUT, fail};
 use file_commands::{
-    Asked, Report, canonical, get, pack, report_files, salvage, salvage_exact_ids, unpack,
+    Asked, Report, canonical, get, pack, put, report_files, salvage, salvage_exact_ids, unpack,
 };
 use file_parts::FolderForm;
 use image_commands::{check, check_json, new};
@@ -47,6 +47,12 @@ pub fn fulfil<R: Files + Input + Print + Eprint + AllocGlobal>(
             exact_ids,
         } => salvage_as(rt, file, out, exact_ids),
         BaseRequest::Get { file, block, id } => get(rt, file, block, id),
+        BaseRequest::Put {
+            file,
+            block,
+            part,
+            out,
+        } => put(rt, file, block, part, out),
         BaseRequest::Unpack {
             file,
             folder,

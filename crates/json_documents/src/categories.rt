@@ -6,13 +6,13 @@ ghost use Rattle.unicode_text.specs.Pieces.{json_text};
 ghost use Rattle.json_documents.specs.RowTexts as words;
 ghost use Rattle.json_documents.specs.RowTexts.{category_json};
 
-use db_format::NameField;
+use db_format::{CATEGORIES, NameField};
 use palm_text::{Counted, WriteFault};
 use std::io::Write;
 use unicode_text::{JsonPiece, put_json};
 
 /// The number of the last category.
-const LAST_CATEGORY: u8 = 15;
+const LAST_CATEGORY: u8 = CATEGORIES - 1;
 
 /// Returns the start of the array, or the comma before the category of a number.
 fn array_start(number: u8) -> JsonPiece<'static>

@@ -45,11 +45,11 @@ spelled_shape d bytes s = rw s.bytes_are (shape_of_spelled d s.fits)
 
 -- ---- what is in shape is a spelling
 
-length-entries_in : (bytes : List ℕ) → length (numbered (entry_in bytes) (entry_count_in bytes)) ≡ entry_count_in bytes
+pub length-entries_in : (bytes : List ℕ) → length (numbered (entry_in bytes) (entry_count_in bytes)) ≡ entry_count_in bytes
 length-entries_in bytes = length-map-range_with_len (entry_in bytes) 0 (entry_count_in bytes)
 
 -- the fields after the name, as they were read
-fields_back : (d : Database ℕ) (bytes : List ℕ) → AreBytes bytes → 78 ≤ length bytes → d ≡ database_in bytes → length d.entries ≡ entry_count_in bytes → u32_at bytes 72 ≡ 0 → concat (fields_behind_name d) ≡ take 46 (drop 32 bytes)
+pub fields_back : (d : Database ℕ) (bytes : List ℕ) → AreBytes bytes → 78 ≤ length bytes → d ≡ database_in bytes → length d.entries ≡ entry_count_in bytes → u32_at bytes 72 ≡ 0 → concat (fields_behind_name d) ≡ take 46 (drop 32 bytes)
 unfolding database_in header_in u16_at u32_at u16_bytes u32_bytes
 fields_back d bytes b inside is count next = rw is (
     let p13 : big_bytes 2 (length (numbered (entry_in bytes) (entry_count_in bytes))) ++ [] ≡ take 2 (drop 76 bytes) =
@@ -69,7 +69,7 @@ fields_back d bytes b inside is count next = rw is (
     number_in_front 2 44 32 bytes _ b (omega arith) p2)
 
 -- an entry, as it was read
-entry_back : (resources : Bool) (bytes : List ℕ) (at : ℕ) → AreBytes bytes → at + entry_size resources ≤ length bytes → entry_bytes (entry_at resources bytes at) ≡ take (entry_size resources) (drop at bytes)
+pub entry_back : (resources : Bool) (bytes : List ℕ) (at : ℕ) → AreBytes bytes → at + entry_size resources ≤ length bytes → entry_bytes (entry_at resources bytes at) ≡ take (entry_size resources) (drop at bytes)
 unfolding entry_bytes u16_bytes u24_bytes u32_bytes u16_at u24_at u32_at
 entry_back false bytes at b inside =
     let e : at + 4 + 1 ≡ at + 5 = omega arith in
@@ -82,7 +82,8 @@ entry_back true bytes at b inside =
     let p2 = number_in_front 2 4 (at + 4) bytes _ b (omega arith) p3 in
     number_in_front 4 6 at bytes _ b (omega arith) p2
 
-entries_upto : (r : Bool) (bytes : List ℕ) (n : ℕ) → AreBytes bytes → entry_offset r n ≤ length bytes → flat_map entry_bytes (numbered (λ i. entry_at r bytes (entry_offset r i)) n) ≡ take (entry_size r * n) (drop 78 bytes)
+-- the entries, as they were read
+pub entries_upto : (r : Bool) (bytes : List ℕ) (n : ℕ) → AreBytes bytes → entry_offset r n ≤ length bytes → flat_map entry_bytes (numbered (λ i. entry_at r bytes (entry_offset r i)) n) ≡ take (entry_size r * n) (drop 78 bytes)
 entries_upto r bytes zero b inside = ap (λ (k : ℕ). take k (drop 78 bytes)) (sym (size-zero r))
 entries_upto r bytes (suc n) b inside =
     let each : ℕ → Entry ℕ = λ i. entry_at r bytes (entry_offset r i) in

@@ -23,7 +23,7 @@ use Rattle.palm_script.proofs.LineLaws.{one_more}
 use Rattle.live_scripts.specs.declared.fault.LiveFault.{LiveFault}
 use Rattle.live_scripts.specs.declared.fault.LiveFault.TheVariants as faults
 use Rattle.live_scripts.specs.declared.session.Session.{Session}
-use Rattle.live_scripts.specs.Live.{CutBetweenLines, Prints, ReadStops, RunStops, RunsText}
+use Rattle.live_scripts.specs.Live.{CutBetweenLines, Prints, ReadStops, RunStops, RunsText, StopsBy, point}
 use Rattle.live_scripts.specs.Sessions.{EndsOn, HasRun, IsReadFault, LineStops, ReadsLine, RunsLine, RunsOn, StopsAt, StopsOn, bound_in, live_state}
 use Rattle.program_io.specs.Status.{IsOfReading}
 use Rattle.program_io.specs.declared.input.InputFault.{InputFault}
@@ -164,35 +164,32 @@ module _ {W : Type 0} (given : Setting) (contents : W → Option (List ℕ)) whe
   pub runs_nothing : (session : Session) (old : Memory) (out : Writing W) → RunsOn given [] (live_state session old) (live_state session old) (output contents out out)
   runs_nothing session old out front first out_first has = rw append-nil has
 
+  -- ---- a run that ends after the lines of `front`
+
+  stops_after : (fault : LiveFault) (front more : List ℕ) (first : Memory) (out_first : Writing W) (session : Session) (old new : Memory) (out out_after : Writing W) → (has : HasRun given front first (live_state session old) (output contents out_first out))
+      → StopsBy given fault (point front has.ran_lines (labelled old (bound_in session)) more) new (output contents out out_after) → RunStops given (front ++ more) first new (output contents out_first out_after) fault
+  unfolding whole
+  stops_after fault front more first out_first session old new out out_after has by = record {
+    front = front;
+    rest = more;
+    parts = refl;
+    cut = has.whole more;
+    files = session.files.items;
+    mid = old;
+    out_mid = out;
+    ran = whole front first out_first session old out has;
+    by = by;
+  }
+
   -- ---- a line at which the run ends
 
   pub line_stops_on : (fault : LiveFault) (next text rest : List ℕ) (session session_new : Session) (old new : Memory) (out out_after : Writing W) → lines next ≡ text ∷ [] → lines (next ++ rest) ≡ text ∷ lines rest
       → LineStops given fault text (live_state session old) (live_state session_new new) (output contents out out_after)
       → (front : List ℕ) (first : Memory) (out_first : Writing W) → HasRun given front first (live_state session old) (output contents out_first out) → RunStops given (front ++ (next ++ rest)) first new (output contents out_first out_after) fault
   unfolding whole
-  line_stops_on (faults.Line fault) next text rest session session_new old new out out_after one cut (read, number, same, same_out) front first out_first has = record {
-    front = front;
-    rest = next ++ rest;
-    parts = refl;
-    cut = has.whole (next ++ rest);
-    files = session.files.items;
-    mid = old;
-    out_mid = out;
-    ran = whole front first out_first session old out has;
-    by = (fault_script front (next ++ rest) text (lines rest) session.count (numberings session.labels) has.ran_lines fault has.goes_on cut read number, number ∙ ap (λ n. n + 1) has.counted, same, same_out);
-  }
+  line_stops_on (faults.Line fault) next text rest session session_new old new out out_after one cut (read, number, same, same_out) front first out_first has = stops_after (faults.Line fault) front (next ++ rest) first out_first session old new out out_after has (fault_script front (next ++ rest) text (lines rest) session.count (numberings session.labels) has.ran_lines fault has.goes_on cut read number, number ∙ ap (λ n. n + 1) has.counted, same, same_out)
   line_stops_on (faults.Input fault) next text rest session session_new old new out out_after one cut none front first out_first has = absurd none
-  line_stops_on faults.Memory next text rest session session_new old new out out_after one cut (wanted, inl (same, same_out)) front first out_first has = record {
-    front = front;
-    rest = next ++ rest;
-    parts = refl;
-    cut = has.whole (next ++ rest);
-    files = session.files.items;
-    mid = old;
-    out_mid = out;
-    ran = whole front first out_first session old out has;
-    by = (wanted, same, same_out);
-  }
+  line_stops_on faults.Memory next text rest session session_new old new out out_after one cut (wanted, inl (same, same_out)) front first out_first has = stops_after faults.Memory front (next ++ rest) first out_first session old new out out_after has (wanted, same, same_out)
   line_stops_on faults.Memory next text rest session session_new old new out out_after one cut (wanted, inr (line, read, replies)) front first out_first has = record {
     front = front ++ next;
     rest = rest;
@@ -211,27 +208,17 @@ module _ {W : Type 0} (given : Setting) (contents : W → Option (List ℕ)) whe
     };
     by = (wanted, refl, refl);
   }
-  line_stops_on faults.Write next text rest session session_new old new out out_after one cut (line, read, (reply, step, written)) front first out_first has = record {
-    front = front;
-    rest = next ++ rest;
+  line_stops_on faults.Write next text rest session session_new old new out out_after one cut (line, read, (reply, step, written)) front first out_first has = stops_after faults.Write front (next ++ rest) first out_first session old new out out_after has (inl (record {
+    next = next;
+    more = rest;
     parts = refl;
-    cut = has.whole (next ++ rest);
-    files = session.files.items;
-    mid = old;
-    out_mid = out;
-    ran = whole front first out_first session old out has;
-    by = inl (record {
-      next = next;
-      more = rest;
-      parts = refl;
-      cut = cut ∙ sym (ap (λ (l : List (List ℕ)). l ++ lines rest) one);
-      line = line;
-      read = one_script front next text session.count (numberings session.labels) (numberings session_new.labels) has.ran_lines line has.goes_on one read;
-      reply = reply;
-      step = step;
-      written = written;
-    });
-  }
+    cut = cut ∙ sym (ap (λ (l : List (List ℕ)). l ++ lines rest) one);
+    line = line;
+    read = one_script front next text session.count (numberings session.labels) (numberings session_new.labels) has.ran_lines line has.goes_on one read;
+    reply = reply;
+    step = step;
+    written = written;
+  }))
 
   -- ---- the last line
 
@@ -265,17 +252,7 @@ module _ {W : Type 0} (given : Setting) (contents : W → Option (List ℕ)) whe
 
   -- a flush after the lines of a text that failed
   pub flush_stops : (front : List ℕ) (first : Memory) (out_first : Writing W) (session : Session) (new : Memory) (out out_after : Writing W) → HasRun given front first (live_state session new) (output contents out_first out) → Flushes contents out out_after false → (more : List ℕ) → RunStops given (front ++ more) first new (output contents out_first out_after) faults.Write
-  flush_stops front first out_first session new out out_after has flush more = record {
-    front = front;
-    rest = more;
-    parts = refl;
-    cut = has.whole more;
-    files = session.files.items;
-    mid = new;
-    out_mid = out;
-    ran = whole front first out_first session new out has;
-    by = inr (refl, flush);
-  }
+  flush_stops front first out_first session new out out_after has flush more = stops_after faults.Write front more first out_first session new new out out_after has (inr (refl, flush))
 
   -- the last flush
   pub last_flush_stops : (text : List ℕ) (first : Memory) (out_first : Writing W) (new : Memory) (out out_after : Writing W) (files : List (List ℕ)) → RunsText given text first new (output contents out_first out) files → Flushes contents out out_after false → RunStops given text first new (output contents out_first out_after) faults.Write
@@ -295,28 +272,8 @@ module _ {W : Type 0} (given : Setting) (contents : W → Option (List ℕ)) whe
 
   pub read_fails : (fault : InputFault) (end : LiveFault) (front : List ℕ) (first : Memory) (out_first : Writing W) (session : Session) (new : Memory) (out : Writing W) → IsReadFault fault end → (fault ≡ InputMemory → given.short) → HasRun given front first (live_state session new) (output contents out_first out) → (more : List ℕ) → RunStops given (front ++ more) first new (output contents out_first out) end
   read_fails fault (faults.Line other) front first out_first session new out is wanted has more = absurd is
-  read_fails fault (faults.Input other) front first out_first session new out is wanted has more = record {
-    front = front;
-    rest = more;
-    parts = refl;
-    cut = has.whole more;
-    files = session.files.items;
-    mid = new;
-    out_mid = out;
-    ran = whole front first out_first session new out has;
-    by = ((λ memory. is.2 (sym is.0 ∙ memory)), subst IsOfReading (sym is.0) is.1, refl, refl);
-  }
-  read_fails fault faults.Memory front first out_first session new out is wanted has more = record {
-    front = front;
-    rest = more;
-    parts = refl;
-    cut = has.whole more;
-    files = session.files.items;
-    mid = new;
-    out_mid = out;
-    ran = whole front first out_first session new out has;
-    by = (wanted is, refl, refl);
-  }
+  read_fails fault (faults.Input other) front first out_first session new out is wanted has more = stops_after (faults.Input other) front more first out_first session new new out out has ((λ memory. is.2 (sym is.0 ∙ memory)), subst IsOfReading (sym is.0) is.1, refl, refl)
+  read_fails fault faults.Memory front first out_first session new out is wanted has more = stops_after faults.Memory front more first out_first session new new out out has (wanted is, refl, refl)
   read_fails fault faults.Write front first out_first session new out is wanted has more = absurd is
 
   -- no memory for the first read

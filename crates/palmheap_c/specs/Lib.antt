@@ -4,6 +4,7 @@ pub mod Buffers
 pub mod Calls
 pub mod ChainedImages
 pub mod Damages
+pub mod Documents
 pub mod FileEntries
 pub mod Explaining
 pub mod Holding
@@ -12,8 +13,10 @@ pub mod Keeping
 pub mod Kinds
 pub mod LoanNames
 pub mod Loans
+pub mod Needs
 pub mod Opened
 pub mod Opening
 pub mod Pointers
 pub mod Refusals
 pub mod Runs
+pub mod Salvaging

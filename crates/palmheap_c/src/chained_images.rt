@@ -59,7 +59,8 @@ fn blank_chain(alloc: Global, size: usize, slots: u16) -> Result<Region, Answer>
     }
 }
 
-/// Returns the number of bytes that the word `next` and its padding take after this number of slots.
+/// Returns the number of bytes that the word `next` and its padding take after this number of
+/// slots.
 fn growth(slots: u16) -> usize
     ensures is { result ≡ growths.growth slots }
     ensures few { result ≤ 8 }

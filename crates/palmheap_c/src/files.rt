@@ -19,7 +19,7 @@ use pdb_format::{OpenFault, PdbFile, check_file};
 use std::alloc::Global;
 
 /// The greatest size of a file that can be listed or rewritten: 16 MiB.
-const MOST_LISTED_BYTES: usize = 1 << 24;
+pub(crate) const MOST_LISTED_BYTES: usize = 1 << 24;
 
 /// Checks whether a database can be read from a file, and returns its first fault. Allocates
 /// nothing.
@@ -59,7 +59,7 @@ pub extern "C" fn palmheap_pdb_blocks(
 }
 
 /// Opens a file.
-fn open<'a>(alloc: Global, file: &'a [u8]) -> Result<PdbFile<'a>, Answer>
+pub(crate) fn open<'a>(alloc: Global, file: &'a [u8]) -> Result<PdbFile<'a>, Answer>
     ensures opened { IfOk result (λ opened. opened ≡ file.now) }
     ensures good { OnOk result (HasNoFault file.now) }
     ensures err { IfErr result (λ answer.

@@ -10,6 +10,9 @@
 //! | `files` | checks, lists and rewrites PDB and PRC files |
 //! | `file_entries` | reads their headers and entries |
 //! | `damages` | finds where a file has its first fault |
+//! | `salvaging` | salvages damaged files |
+//! | `needs` | finds the smallest image for a file |
+//! | `documents` | lists files as JSON |
 //! | `images` | makes and checks images |
 //! | `chained_images` | makes images with a chain of tables |
 //! | `runs` | runs a script on an image |
@@ -33,6 +36,7 @@ mod chained_images;
 mod counts;
 mod damages;
 mod database_calls;
+mod documents;
 mod explaining;
 mod file_calls;
 mod file_entries;
@@ -45,6 +49,7 @@ mod kinds;
 mod loan_names;
 mod loans;
 mod memory_calls;
+mod needs;
 mod opening;
 mod parts;
 mod pointers;
@@ -53,6 +58,7 @@ mod refusals;
 mod resource_calls;
 mod results;
 mod runs;
+mod salvaging;
 mod version;
 
 pub use answers::Answer;
@@ -71,6 +77,7 @@ pub use database_calls::palmheap_DmSetDatabaseInfo;
 pub use database_calls::palmheap_info_block;
 pub use database_calls::palmheap_set_info_block;
 pub use database_calls::palmheap_take_info_block;
+pub use documents::palmheap_pdb_json;
 pub use explaining::palmheap_explain;
 pub use file_calls::palmheap_export;
 pub use file_calls::palmheap_import;
@@ -114,6 +121,8 @@ pub use memory_calls::palmheap_MemPtrNew;
 pub use memory_calls::palmheap_MemPtrRecoverHandle;
 pub use memory_calls::palmheap_largest_stretch;
 pub use memory_calls::palmheap_more_slots;
+pub use needs::Needs;
+pub use needs::palmheap_pdb_needs;
 pub use opening::palmheap_close;
 pub use opening::palmheap_open;
 pub use opening::palmheap_write_image;
@@ -156,4 +165,6 @@ pub use resource_calls::palmheap_DmResourceInfo;
 pub use resource_calls::palmheap_DmSetResourceInfo;
 pub use results::Sizes;
 pub use runs::palmheap_run;
+pub use salvaging::palmheap_salvage;
+pub use salvaging::palmheap_salvage_lines;
 pub use version::palmheap_version;

@@ -4,13 +4,12 @@ use Rattle.std.specs.Prelude.{All, slice_range, slice_index}
 use Rattle.std.proofs.lemmas.List.{length-map, length-take, get_or-map}
 use Rattle.std.proofs.lemmas.List.FromFn.{length-map-range_with_len, get_or-map-range_with_len}
 use Rattle.heap_model.specs.Database.{Entry, a_record, a_resource, entry_data, resources_in, entry_count_in, entry_offset, entry_in, is_deleted}
-use Rattle.heap_model.specs.Files.{HasBadOffset, HasNoFault, offsets_in, block_at, blocks_in}
+use Rattle.heap_model.specs.Files.{HasBadOffset, HasNoFault, offsets_in, block_at, block_size, blocks_in}
 use Rattle.heap_model.specs.FileSteps.{size_of_block}
 use Rattle.laws_heap.proofs.Tests.{true_or_false}
-use Rattle.pdb_format.specs.Blocks.{bytes_at, IsBlockWithin}
+use Rattle.pdb_format.specs.Blocks.{bytes_at, IsBlockWithin, length_within, size_within}
 use Rattle.pdb_format.specs.declared.blocks.Block.{Block}
 use Rattle.pdb_format.proofs.GoodFiles.{offset_count, entry_offset_is, good_offset}
-use Rattle.pdb_format.specs.Blocks.{size_within}
 
 -- how many there are
 pub block_count : (file : List ℕ) → length (blocks_in file) ≡ 2 + entry_count_in file
@@ -25,15 +24,20 @@ block_of file blocks rank are inside = sym (get_or-map (bytes_at file) blocks ra
 
 -- ---- how many bytes
 
-pub size_is : (file : List ℕ) (block : Option Block) → IsBlockWithin (length file) block → size_within block ≡ size_of_block (bytes_at file block)
-size_is file None within = refl
-size_is file (Some block) within =
+-- how many bytes a block has
+pub block_long : (file : List ℕ) (block : Option Block) → IsBlockWithin (length file) block → block_size (bytes_at file block) ≡ length_within block
+block_long file None within = refl
+block_long file (Some block) within =
     let first = within.0 in
     let last = within.1 in
     let rest = length-drop block.start file in
     let long = length-take (block.end - block.start) (drop block.start file) in
-    let is : block.end - block.start ≡ length (slice_range file block.start block.end) = omega arith in
-    ap (λ (n : ℕ). Some n) is
+    let is : length (slice_range file block.start block.end) ≡ block.end - block.start = omega arith in
+    is
+
+pub size_is : (file : List ℕ) (block : Option Block) → IsBlockWithin (length file) block → size_within block ≡ size_of_block (bytes_at file block)
+size_is file None within = refl
+size_is file (Some block) within = ap (λ (n : ℕ). Some n) (sym (block_long file (Some block) within))
 
 pub size_at : (file : List ℕ) (blocks : List (Option Block)) (rank : ℕ) (size : Option ℕ) → map (bytes_at file) blocks ≡ blocks_in file → All (IsBlockWithin (length file)) blocks → rank < length blocks → size ≡ size_within (get_or blocks rank None)
     → size ≡ size_of_block (get_or (blocks_in file) rank None)

@@ -11,9 +11,9 @@ use Rattle.heap_model.specs.Database.{Entry, a_record, a_resource, entry_data, r
 use Rattle.heap_model.specs.Files.{entries_end, IsOutside, IsBadInfo, HasBadOffset, HasFault, HasNoFault, offsets_in}
 use Rattle.heap_model.specs.declared.file_fault.FileFault.TheVariants.{Truncated, BadOffset}
 
-pub not_truncated : (file : List ℕ) → HasNoFault file → (header_size ≤ length file) × (entries_end file ≤ length file)
-not_truncated file good =
-    let none = good 0 Truncated (omega arith) in
+-- a file that isn't truncated has its header and its entries
+pub whole_file : (file : List ℕ) → (HasFault file Truncated → ⊥) → (header_size ≤ length file) × (entries_end file ≤ length file)
+whole_file file none =
     let header : header_size ≤ length file = elim (cases_lt (length file) header_size) [
       | inl less ↦ absurd (none (inl less))
       | inr enough ↦ omega arith
@@ -23,6 +23,9 @@ not_truncated file good =
       | inr enough ↦ omega arith
     ] in
     (header, entries)
+
+pub not_truncated : (file : List ℕ) → HasNoFault file → (header_size ≤ length file) × (entries_end file ≤ length file)
+not_truncated file good = whole_file file (good 0 Truncated (omega arith))
 
 offset_grows : (resources : Bool) (index count : ℕ) → index ≤ count → entry_offset resources index ≤ entry_offset resources count
 offset_grows true index count less = omega arith

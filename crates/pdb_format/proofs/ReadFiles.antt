@@ -31,10 +31,9 @@ resource_id : (resources : Bool) (file : List ℕ) (at given : ℕ) (block : Opt
 resource_id true file at given block e = refl
 resource_id false file at given block e = absurd cc
 
--- they are those that are given
-pub ids_read : (file ids : List ℕ) (seed last : ℕ) → HaveIds seed (unique_ids (database_in file)) ids last → filter_map unique_id (entries_read file ids) ≡ ids
-ids_read file ids seed last have =
-    let long = given_long (kept_ids [] (unique_ids (database_in file))) [] seed (unique_ids (database_in file)) ids last have in
+-- the records have these IDs, if there is one for each
+pub given_read : (file ids : List ℕ) → length ids ≡ length (unique_ids (database_in file)) → filter_map unique_id (entries_read file ids) ≡ ids
+given_read file ids long =
     let many = length-entries_read file ids in
     let at : ℕ → ℕ = λ k. entry_offset (resources_in file) k in
     let block : ℕ → Option (List ℕ) = λ k. get_or (blocks_in file) (2 + k) None in
@@ -48,6 +47,10 @@ ids_read file ids seed last have =
           all_given unique_id (entries_read file ids) ids (omega arith) (λ k d inside. ap unique_id (entry_read_is file ids k d (omega arith)) ∙ record_id (resources_in file) file (at k) (get_or ids k 0) (block k) records)
     ]
 
+-- so they have those that are given
+pub ids_read : (file ids : List ℕ) (seed last : ℕ) → HaveIds seed (unique_ids (database_in file)) ids last → filter_map unique_id (entries_read file ids) ≡ ids
+ids_read file ids seed last have = given_read file ids (given_long (kept_ids [] (unique_ids (database_in file))) [] seed (unique_ids (database_in file)) ids last have)
+
 -- ---- the entries and the blocks
 
 one_read : (entry : Entry ℕ) (given : ℕ) (block : Option (List ℕ)) → IsReadAs entry (entry_read entry given block)
@@ -58,7 +61,7 @@ pub data_read : (entry : Entry ℕ) (given : ℕ) (block : Option (List ℕ)) �
 data_read (a_record attributes id at) given block = refl
 data_read (a_resource kind id at) given block = refl
 
-all_read : (file ids : List ℕ) → AllZip IsReadAs (database_in file).entries (entries_read file ids)
+pub all_read : (file ids : List ℕ) → AllZip IsReadAs (database_in file).entries (entries_read file ids)
 unfolding database_in
 all_read file ids =
     numbered_zip IsReadAs (entry_in file) (entries_read file ids) 0 (entry_count_in file) (length-entries_read file ids)

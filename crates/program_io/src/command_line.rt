@@ -95,6 +95,14 @@ pub enum BaseRequest<'a> {
         /// The id of the resource.
         id: Option<&'a str>,
     },
+    Put {
+        file: &'a str,
+        /// The index of an entry, `app` or `sort`.
+        block: &'a str,
+        /// The file with the block's new bytes.
+        part: &'a str,
+        out: &'a str,
+    },
     Unpack {
         file: &'a str,
         folder: &'a str,
@@ -133,6 +141,9 @@ the output can't be '-': standard output has what is printed. A file of that nam
 
 /// Why `-` may be there once.
 const ONE_INPUT: &str = "only one of IMAGE, SCRIPT and FILE can be '-', standard input";
+
+/// Why `-` may be there once in `put`.
+const ONE_FILE: &str = "only one of FILE and PART can be '-', standard input";
 
 /// Returns the request of the words of a command line. The first word is the program's own name.
 ///
@@ -300,6 +311,8 @@ fn stream_fault(request: &Request<'_>) -> Option<&'static str> {
             input_fault(taken, files.as_slice())
         }
         Request::Import { files, .. } => input_fault(0, files.as_slice()),
+        Request::Base(BaseRequest::Put { file, part, .. }) if is_stream(file) && is_stream(part) =>
+            { Some(ONE_FILE) }
         Request::Base(BaseRequest::List { files, .. } | BaseRequest::Changes { files }) => {
             input_fault(0, files.paths.as_slice())
         }

@@ -5,7 +5,7 @@
 
 use crate::help_texts::{
     BLOCKS, CANONICAL_FORMS, CANONICAL_USAGE, CHECKS, LISTINGS, MAPS, MEANINGS, MIGRATION,
-    NEW_IMAGES, PACKING, SALVAGES, SCRIPTS, STORES, UNPACKING,
+    NEW_BLOCKS, NEW_IMAGES, PACKING, SALVAGES, SCRIPTS, STORES, UNPACKING,
 };
 
 /// A command: its word, its help, and its arguments in order.
@@ -51,7 +51,7 @@ pub(crate) enum Count {
 }
 
 /// Every command.
-pub(crate) const COMMANDS: [CommandRow; 15] = [
+pub(crate) const COMMANDS: [CommandRow; 16] = [
     CommandRow {
         name: "new",
         about: "Writes an image with nothing in it, and prints 'ok'",
@@ -242,6 +242,31 @@ pub(crate) const COMMANDS: [CommandRow; 15] = [
                 name: "ID",
                 count: Count::AtMostOne,
                 help: "The id of the resource, below 65536, after its type",
+            },
+        ],
+    },
+    CommandRow {
+        name: "put",
+        about: "Writes a PDB or PRC file anew, with the bytes of one block replaced",
+        after_help: Some(NEW_BLOCKS),
+        usage: None,
+        arguments: &[
+            DATABASE_FILE,
+            Argument {
+                name: "BLOCK",
+                count: Count::One,
+                help: "Index of a record or resource, from 0; or 'app' or 'sort'",
+            },
+            Argument {
+                name: "PART",
+                count: Count::One,
+                help: "File with the new bytes of the block; '-' is standard input",
+            },
+            Argument {
+                name: "OUT",
+                count: Count::One,
+                help: "File for the new database. One that is there is replaced, once\n\
+                    the new one is whole; '-' is standard output",
             },
         ],
     },

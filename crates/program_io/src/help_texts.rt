@@ -15,11 +15,12 @@ movable chunks, and a directory lists them.
 Exit status:
   0  done
   1  the image, the file or the text was refused; standard output says why:
-     'bad' and the first fault, or 'bad TooLarge' if 'migrate', 'pack' or
-     'import' would make it too large, or 'line', the number of the first
+     'bad' and the first fault, or 'bad TooLarge' if 'migrate', 'pack', 'put'
+     or 'import' would make it too large, or 'line', the number of the first
      faulty line and what is wrong in it; or 'refused', the number and the
      name of a refusal, if 'import' refused a file, no database has a NAME of
-     'export', or FILE of 'get' does not have the block. 'get' prints these
+     'export', or FILE of 'get' or 'put' does not have the block; or
+     'bad EmptyPart' if a block of 'put' can not be empty. 'get' prints these
      lines on standard error
   2  the words were refused, or there is no image of that SIZE with that many
      SLOTS, or 'explain' knows no such WORD
@@ -341,6 +342,25 @@ refused as by 'palmheap list'. If the file does not have the block, the line
   refused 14 IndexOutOfRange
 
 'palmheap explain IndexOutOfRange' prints what that means.";
+
+pub(crate) const NEW_BLOCKS: &str = "\
+For example, 'palmheap put MemoDB.pdb 0 memo.bin New.pdb' writes MemoDB.pdb to
+New.pdb, with the bytes of memo.bin as the data of its first record, and prints
+'ok' and the size of the new file. BLOCK is an index, as 'palmheap list' shows
+it; 'app' for the AppInfo block; or 'sort' for the SortInfo block. All else
+stays as it is: attributes, IDs, the name, the bytes before the first block and
+the order of the blocks. Only offsets move. 'palmheap get' writes a block.
+
+A file that cannot be read as a database, and a block that it does not have,
+are refused as by 'palmheap get'. There are two more lines:
+
+  bad TooLarge   the new file would have more than 16777216 bytes
+  bad EmptyPart  PART has no bytes, and the block after this one in the file
+                 comes before it in the list: both would have one offset, and
+                 the other one would be read as the empty block
+
+If OUT is '-', the new file goes to standard output, and what is printed goes
+to standard error.";
 
 pub(crate) const UNPACKING: &str = "\
 For example, 'palmheap unpack MemoDB.pdb memos' makes the folder memos with

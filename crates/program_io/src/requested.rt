@@ -13,10 +13,10 @@ pub(crate) fn requested<'a>(
     matches: &ArgMatches<'a>,
 ) -> Result<Option<Request<'a>>, AllocError> {
     match matches.subcommand() {
-        Some(("run", given)) => run_requested(alloc, given),
-        Some(("export", given)) => export_requested(alloc, given),
-        Some(("import", given)) => import_requested(alloc, given),
-        Some(("list", given)) => list_requested(alloc, given),
+        Some(("run", given)) => Ok(run_requested(given, words_of(alloc, given, "FILE")?)),
+        Some(("export", given)) => Ok(export_requested(given, words_of(alloc, given, "NAME")?)),
+        Some(("import", given)) => Ok(import_requested(given, words_of(alloc, given, "FILE")?)),
+        Some(("list", given)) => Ok(Some(list_requested(given, words_of(alloc, given, "FILE")?))),
         Some(("canonical", given)) => canonical_requested(alloc, given),
         Some((name, given)) => Ok(image_requested(name, given)),
         None => Ok(None),
@@ -40,6 +40,7 @@ fn base_requested<'a>(name: &str, given: &ArgMatches<'a>) -> Option<BaseRequest<
         "check" => check_requested(given),
         "salvage" => salvage_requested(given),
         "get" => get_requested(given),
+        "put" => put_requested(given),
         "unpack" => unpack_requested(given),
         "pack" => pack_requested(given),
         "explain" => explain_requested(given),
@@ -62,15 +63,16 @@ fn check_requested<'a>(given: &ArgMatches<'a>) -> Option<BaseRequest<'a>> {
     })
 }
 
-fn run_requested<'a>(
+/// Returns the words of an argument that takes several.
+fn words_of<'a>(
     alloc: Global,
     given: &ArgMatches<'a>,
-) -> Result<Option<Request<'a>>, AllocError> {
-    let files = Vec::from_slice(alloc, given.get_strs("FILE").unwrap_or(&[]))?;
-    Ok(run_on(given, files))
+    name: &str,
+) -> Result<Vec<&'a str>, AllocError> {
+    Vec::from_slice(alloc, given.get_strs(name).unwrap_or(&[]))
 }
 
-fn run_on<'a>(given: &ArgMatches<'a>, files: Vec<&'a str>) -> Option<Request<'a>> {
+fn run_requested<'a>(given: &ArgMatches<'a>, files: Vec<&'a str>) -> Option<Request<'a>> {
     Some(Request::Run {
         image: given.get_str("IMAGE")?,
         script: given.get_str("SCRIPT")?,
@@ -97,15 +99,11 @@ fn map_requested<'a>(given: &ArgMatches<'a>) -> Option<Request<'a>> {
     })
 }
 
-fn list_requested<'a>(
-    alloc: Global,
-    given: &ArgMatches<'a>,
-) -> Result<Option<Request<'a>>, AllocError> {
-    let paths = Vec::from_slice(alloc, given.get_strs("FILE").unwrap_or(&[]))?;
-    Ok(Some(Request::Base(BaseRequest::List {
+fn list_requested<'a>(given: &ArgMatches<'a>, paths: Vec<&'a str>) -> Request<'a> {
+    Request::Base(BaseRequest::List {
         form: form_of(given),
         files: named_files(given, paths),
-    })))
+    })
 }
 
 /// Returns the files whose paths are printed if that is asked for, or if there are several.
@@ -155,6 +153,15 @@ fn get_requested<'a>(given: &ArgMatches<'a>) -> Option<BaseRequest<'a>> {
     })
 }
 
+fn put_requested<'a>(given: &ArgMatches<'a>) -> Option<BaseRequest<'a>> {
+    Some(BaseRequest::Put {
+        file: given.get_str("FILE")?,
+        block: given.get_str("BLOCK")?,
+        part: given.get_str("PART")?,
+        out: given.get_str("OUT")?,
+    })
+}
+
 fn unpack_requested<'a>(given: &ArgMatches<'a>) -> Option<BaseRequest<'a>> {
     Some(BaseRequest::Unpack {
         file: given.get_str("FILE")?,
@@ -186,15 +193,7 @@ fn form_of(given: &ArgMatches) -> Form {
     }
 }
 
-fn export_requested<'a>(
-    alloc: Global,
-    given: &ArgMatches<'a>,
-) -> Result<Option<Request<'a>>, AllocError> {
-    let names = Vec::from_slice(alloc, given.get_strs("NAME").unwrap_or(&[]))?;
-    Ok(export_of(given, names))
-}
-
-fn export_of<'a>(given: &ArgMatches<'a>, names: Vec<&'a str>) -> Option<Request<'a>> {
+fn export_requested<'a>(given: &ArgMatches<'a>, names: Vec<&'a str>) -> Option<Request<'a>> {
     Some(Request::Export {
         image: given.get_str("IMAGE")?,
         folder: given.get_str("DIR")?,
@@ -202,15 +201,7 @@ fn export_of<'a>(given: &ArgMatches<'a>, names: Vec<&'a str>) -> Option<Request<
     })
 }
 
-fn import_requested<'a>(
-    alloc: Global,
-    given: &ArgMatches<'a>,
-) -> Result<Option<Request<'a>>, AllocError> {
-    let files = Vec::from_slice(alloc, given.get_strs("FILE").unwrap_or(&[]))?;
-    Ok(import_of(given, files))
-}
-
-fn import_of<'a>(given: &ArgMatches<'a>, files: Vec<&'a str>) -> Option<Request<'a>> {
+fn import_requested<'a>(given: &ArgMatches<'a>, files: Vec<&'a str>) -> Option<Request<'a>> {
     Some(Request::Import {
         out: given.get_str("OUT")?,
         size: given.get_one::<u32>("SIZE"),

@@ -39,10 +39,7 @@ impl Given<Name> for ChunkLabel {
     ghost meant = { λ label names. table name_of_nothing names label.0 };
 
     fn among(self, names: &[Name]) -> Name {
-        match names.get(self.0) {
-            Some(name) => *name,
-            None => Name(0),
-        }
+        item_or(names, self.0, Name(0))
     }
 }
 
@@ -51,10 +48,17 @@ impl Given<Db> for DatabaseLabel {
     ghost meant = { λ label databases. table number_of_nothing databases label.0 };
 
     fn among(self, databases: &[Db]) -> Db {
-        match databases.get(self.0) {
-            Some(db) => *db,
-            None => Db(0),
-        }
+        item_or(databases, self.0, Db(0))
+    }
+}
+
+/// Returns the item at a place of a table, or `absent` if the table ends before it.
+fn item_or<Named: Copy>(bound: &[Named], place: usize, absent: Named) -> Named
+    ensures { result ≡ table absent bound.now place }
+{
+    match bound.get(place) {
+        Some(named) => *named,
+        None => absent,
     }
 }
 

@@ -114,49 +114,31 @@ memory_row Largest = row (codes "largest") [] (Print (in_memory memory.LargestSt
 memory_row Compact = row (codes "compact") [] (Silent (in_memory memory.Compact))
 memory_row MoreSlots = row (codes "moreslots") [] (Print (in_memory memory.MoreSlots))
 
--- the kinds of the words after `create` and `dbset`
-abbrev pub creation_kinds : List Kind
-creation_kinds =
-    kinds.Database ∷ kinds.Text ∷ kinds.FourBytes ∷ kinds.FourBytes ∷ kinds.Flag ∷ kinds.Number ∷ []
-
-abbrev pub info_kinds : List Kind
-info_kinds =
-    kinds.Database ∷ kinds.Text ∷ kinds.Short ∷ kinds.Short ∷ kinds.Number ∷ kinds.Number ∷ kinds.Number
-    ∷ kinds.FourBytes ∷ kinds.FourBytes ∷ []
-
 -- a database's name, as a call gives it: the first bytes of a text, at most one more than a name
 -- may have
 abbrev pub name_from_text : List ℕ → List ℕ
 name_from_text text = take name_size text
 
-abbrev pub created : Makes creation_kinds
-created label text kind creator resources date =
-    BindDatabase label (on_databases (database.Create (name_from_text text) kind creator resources date))
-
-abbrev pub info_set : Makes info_kinds
-info_set db text attributes version creation_date modification_date backup_date kind creator =
-    Print (on_databases (database.SetInfo db (record {
-      name = name_from_text text;
-      attributes = attributes;
-      version = version;
-      creation_date = creation_date;
-      modification_date = modification_date;
-      backup_date = backup_date;
-      modification_number = 0;
-      kind = kind;
-      creator = creator;
-      seed = 0;
-      entry_count = 0;
-    })))
-
 abbrev pub database_row : DatabaseCommand → CommandRow
-database_row Create = row (codes "create") creation_kinds created
+database_row Create = row (codes "create") (kinds.Database ∷ kinds.Text ∷ kinds.FourBytes ∷ kinds.FourBytes ∷ kinds.Flag ∷ kinds.Number ∷ []) (λ label text kind creator resources date. BindDatabase label (on_databases (database.Create (name_from_text text) kind creator resources date)))
 database_row Find = row (codes "find") (kinds.Database ∷ kinds.Text ∷ []) (λ label text. BindDatabase label (on_databases (database.Find (name_from_text text))))
 database_row Nth = row (codes "nth") (kinds.Database ∷ kinds.Number ∷ []) (λ label index. BindDatabase label (on_databases (database.Nth index)))
 database_row Count = row (codes "dbcount") [] (Print (on_databases database.Count))
 database_row Delete = row (codes "dbdelete") (kinds.Database ∷ []) (λ db. Print (on_databases (database.Delete db)))
 database_row Info = row (codes "dbinfo") (kinds.Database ∷ []) (λ db. Print (on_databases (database.Info db)))
-database_row SetInfo = row (codes "dbset") info_kinds info_set
+database_row SetInfo = row (codes "dbset") (kinds.Database ∷ kinds.Text ∷ kinds.Short ∷ kinds.Short ∷ kinds.Number ∷ kinds.Number ∷ kinds.Number ∷ kinds.FourBytes ∷ kinds.FourBytes ∷ []) (λ db text attributes version creation_date modification_date backup_date kind creator. Print (on_databases (database.SetInfo db (record {
+  name = name_from_text text;
+  attributes = attributes;
+  version = version;
+  creation_date = creation_date;
+  modification_date = modification_date;
+  backup_date = backup_date;
+  modification_number = 0;
+  kind = kind;
+  creator = creator;
+  seed = 0;
+  entry_count = 0;
+}))))
 database_row SetInfoBlock = row (codes "infoset") (kinds.Database ∷ kinds.Which ∷ kinds.Chunk ∷ []) (λ db which name. Print (on_databases (database.SetInfoBlock db which name)))
 database_row TakeInfoBlock = row (codes "infotake") (kinds.Database ∷ kinds.Which ∷ kinds.Byte ∷ kinds.Chunk ∷ []) (λ db which owner label. BindChunk label (on_databases (database.TakeInfoBlock db which owner)))
 database_row InfoBlock = row (codes "info") (kinds.Database ∷ kinds.Which ∷ kinds.Chunk ∷ []) (λ db which label. BindChunk label (on_databases (database.InfoBlock db which)))

@@ -1,4 +1,3 @@
 pub mod LentBytes
 pub mod LineCounts
 pub mod Commands
-pub mod ValueKinds

@@ -3,7 +3,7 @@
 use Rattle.std.specs.Prelude.{◌≤◌, ◌+◌, ℕ, Bool, true, false, List, [], ◌∷◌, All, length, max}
 use Rattle.script_commands.specs.declared.line.Line.{Line}
 use Rattle.heap_model.specs.declared.call.Call.{Call}
-use Rattle.heap_model.specs.declared.call.Call.TheVariants.{Memory, Database, Record, Resource, File}
+use Rattle.heap_model.specs.declared.call.Call.TheVariants.{Memory, File}
 use Rattle.heap_model.specs.declared.call.MemoryCall.{MemoryCall}
 use Rattle.heap_model.specs.declared.call.MemoryCall.TheVariants.{Write, StrCopy}
 use Rattle.heap_model.specs.declared.call.FileCall.{FileCall}
@@ -13,22 +13,14 @@ use Rattle.script_commands.specs.declared.line.Line.TheVariants.{Bind, Print, Si
 -- the number of the chunk label that a line binds, plus 1; 0 if it binds none
 abbrev pub chunk_label_end : Line → ℕ
 chunk_label_end (Bind label name) = label.0 + 1
-chunk_label_end (Print call) = 0
-chunk_label_end (Silent call) = 0
 chunk_label_end (BindChunk label call) = label.0 + 1
-chunk_label_end (BindDatabase label call) = 0
-chunk_label_end (Import label file) = 0
-chunk_label_end (Export label) = 0
+chunk_label_end line = 0
 
 -- the same for the label of a database
 abbrev pub database_label_end : Line → ℕ
-database_label_end (Bind label name) = 0
-database_label_end (Print call) = 0
-database_label_end (Silent call) = 0
-database_label_end (BindChunk label call) = 0
 database_label_end (BindDatabase label call) = label.0 + 1
 database_label_end (Import label file) = label.0 + 1
-database_label_end (Export label) = 0
+database_label_end line = 0
 
 -- the number of bytes that a call of the memory manager gives; `count` is the length of its bytes
 abbrev pub bytes_written : {Chunk Given : Type 0} → (Given → ℕ) → MemoryCall Chunk Given → ℕ
@@ -44,20 +36,16 @@ bytes_read count (files.Export db) = 0
 -- the same for a call of any manager
 abbrev pub bytes_given : {Chunk Database Given : Type 0} → (Given → ℕ) → Call Chunk Database Given → ℕ
 bytes_given count (Memory call) = bytes_written count call
-bytes_given count (Database call) = 0
-bytes_given count (Record call) = 0
-bytes_given count (Resource call) = 0
 bytes_given count (File call) = bytes_read count call
+bytes_given count call = 0
 
 -- the number of bytes that the call of a line gives
 abbrev pub byte_count : Line → ℕ
-byte_count (Bind label name) = 0
 byte_count (Print call) = bytes_given length call
 byte_count (Silent call) = bytes_given length call
 byte_count (BindChunk label call) = bytes_given length call
 byte_count (BindDatabase label call) = bytes_given length call
-byte_count (Import label file) = 0
-byte_count (Export label) = 0
+byte_count line = 0
 
 -- the count of each line is at most `most`; `count` is one of the three counts above
 abbrev pub EachAtMost : (Line → ℕ) → ℕ → List Line → Type 0
@@ -70,10 +58,5 @@ greatest_count count (line ∷ lines) = max (count line) (greatest_count count l
 
 -- a line exports a file if it is accepted
 abbrev pub is_export : Line → Bool
-is_export (Bind label name) = false
-is_export (Print call) = false
-is_export (Silent call) = false
-is_export (BindChunk label call) = false
-is_export (BindDatabase label call) = false
-is_export (Import label file) = false
 is_export (Export label) = true
+is_export line = false

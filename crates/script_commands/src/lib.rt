@@ -1,9 +1,10 @@
 //! The commands of scripts, and the lines that they make.
 //!
 //! `specs/Commands.antt` defines the commands, one row each: the word, the kinds of the words after
-//! it and the line that they make. `ValueKinds` defines which values words of a kind stand for.
-//! `LentBytes` defines which bytes a text lends, and `LineCounts` the counts of lines.
-//! `find_command` returns the command of a word, `row_of` its row, and `make_line` its line.
+//! it and the line that they make. `LentBytes` defines which bytes a text lends, and `LineCounts`
+//! the counts of lines. `find_command` returns the command of a word, `row_of` its word and kinds,
+//! and `make_line` its line. The code has a row for each command, too: `memory_commands` and the
+//! macros beside it. `command.rt` says how to read one.
 #![tactic(auto)]
 
 mod command;
@@ -14,7 +15,6 @@ mod memory_command;
 mod record_command;
 mod resource_command;
 mod value;
-mod words;
 
 pub use command::{Command, CommandRow, find_command, make_line, row_of};
 pub use database_command::DatabaseCommand;

@@ -3,5 +3,4 @@ pub mod LineLaws
 pub mod LabelLaws
 pub mod NumberLaws
 pub mod ScriptLaws
-pub mod KindLaws
 pub mod ReadBack

@@ -93,7 +93,7 @@ texts_are_read_back text h = by_printable (list_all is_printable text) refl
 
 -- ---- four bytes
 
-are_four : (a b c d : ℕ) → a < 256 → b < 256 → c < 256 → d < 256 → AreBytes (a ∷ b ∷ c ∷ d ∷ [])
+pub are_four : (a b c d : ℕ) → a < 256 → b < 256 → c < 256 → d < 256 → AreBytes (a ∷ b ∷ c ∷ d ∷ [])
 are_four a b c d first second third last zero = first
 are_four a b c d first second third last (suc zero) = second
 are_four a b c d first second third last (suc (suc zero)) = third

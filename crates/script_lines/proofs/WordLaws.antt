@@ -35,23 +35,21 @@ plain_more b bs e = rw e refl
 plain_none : (b : ℕ) (bs : List ℕ) → is_blank b ≡ true → plain (b ∷ bs) ≡ 0
 plain_none b bs e = rw e refl
 
--- blanks before change no words
-pub words_of-blanks : (bs : List ℕ) → words_of (drop (blanks bs) bs) ≡ words_of bs
-unfolding words_of
-words_of-blanks [] = refl
-words_of-blanks (b ∷ bs) = by_first (is_blank b) refl (words_of-blanks bs)
+-- blanks before change nothing of a function that passes over one blank
+blanks_skipped : {A : Type 0} (of : List ℕ → A) → ((b : ℕ) (bs : List ℕ) → is_blank b ≡ true → of (b ∷ bs) ≡ of bs) → (bs : List ℕ) → of (drop (blanks bs) bs) ≡ of bs
+blanks_skipped of skips [] = refl
+blanks_skipped of skips (b ∷ bs) = by_first (is_blank b) refl (blanks_skipped of skips bs)
   where
-    by_first : (v : Bool) → is_blank b ≡ v → words_of (drop (blanks bs) bs) ≡ words_of bs → words_of (drop (blanks (b ∷ bs)) (b ∷ bs)) ≡ words_of (b ∷ bs)
-    by_first true e more = rw (blanks_more b bs e, drop_more, e) more
+    by_first : (v : Bool) → is_blank b ≡ v → of (drop (blanks bs) bs) ≡ of bs → of (drop (blanks (b ∷ bs)) (b ∷ bs)) ≡ of (b ∷ bs)
+    by_first true e more = rw (blanks_more b bs e, drop_more, skips b bs e) more
     by_first false e more = rw (blanks_none b bs e) refl
 
+pub words_of-blanks : (bs : List ℕ) → words_of (drop (blanks bs) bs) ≡ words_of bs
+unfolding words_of
+words_of-blanks bs = blanks_skipped words_of (λ b bs e. rw e refl) bs
+
 pub is_passed_over-blanks : (bs : List ℕ) → is_passed_over (drop (blanks bs) bs) ≡ is_passed_over bs
-is_passed_over-blanks [] = refl
-is_passed_over-blanks (b ∷ bs) = by_first (is_blank b) refl (is_passed_over-blanks bs)
-  where
-    by_first : (v : Bool) → is_blank b ≡ v → is_passed_over (drop (blanks bs) bs) ≡ is_passed_over bs → is_passed_over (drop (blanks (b ∷ bs)) (b ∷ bs)) ≡ is_passed_over (b ∷ bs)
-    by_first true e more = rw (blanks_more b bs e, drop_more, e) more
-    by_first false e more = rw (blanks_none b bs e) refl
+is_passed_over-blanks bs = blanks_skipped is_passed_over (λ b bs e. rw e refl) bs
 
 -- after them stands no blank
 pub no_blank : (bs : List ℕ) (b : ℕ) (rest : List ℕ) → drop (blanks bs) bs ≡ b ∷ rest → is_blank b ≡ false

@@ -10,4 +10,3 @@ pub mod Laws
 pub use Rattle.script_commands.specs.Commands
 pub use Rattle.script_commands.specs.LentBytes
 pub use Rattle.script_commands.specs.LineCounts
-pub use Rattle.script_commands.specs.ValueKinds

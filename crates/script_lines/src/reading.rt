@@ -76,11 +76,12 @@ fn read_command<'a, A: Allowance>(
     if kinds.len() != count {
         return Err(ScriptFault::WrongCount);
     }
-    let Values { values, bytes } = match read_values(memory, kinds, words, labels) {
-        Ok(values) => values,
-        Err(fault) => return Err(fault),
-    };
-    Ok(make_line(command, &values, bytes))
+    match read_values(memory, kinds, words, labels) {
+        Ok(Values { values, bytes }) => {
+            make_line(command, &values, bytes).ok_or(ScriptFault::WrongCount)
+        }
+        Err(fault) => Err(fault),
+    }
 }
 
 /// Reads a line from its text, and numbers its labels among those of the lines before it. Returns

@@ -1,19 +1,19 @@
 -- What `databases` prints. Where a definition ends in a `Bool`, it says whether all was written and flushed.
-use Rattle.std.specs.Prelude.{◌≡◌, ◌≢◌, ◌⊎◌, ◌++◌, ℕ, Bool, true, false, List, length, map, codes, decimal}
+use Rattle.std.specs.Prelude.{◌++◌, ℕ, Bool, true, false, List, length, map, codes, decimal}
 use Rattle.std.specs.List.{flat_map}
 use Rattle.hex.specs.Hex.{encode_lower}
 use Rattle.heap_model.specs.Bytes.{u16_bytes, u32_bytes}
 use Rattle.heap_model.specs.Database.{has_resources}
 use Rattle.heap_model.specs.DatabaseSteps.{info_of}
 use Rattle.heap_model.specs.Files.{file_of}
-use Rattle.heap_model.specs.Store.{StoredDatabase, Store, Accepted, content, store_of}
+use Rattle.heap_model.specs.Store.{StoredDatabase, Store, content, store_of}
 use Rattle.heap_model.specs.declared.database.DbInfo.{DbInfo}
 use Rattle.palm_text.specs.Pieces.{script_spelled}
 use Rattle.unicode_text.specs.Texts.{text_between}
-use Rattle.palm_text.specs.Output.{IsUnused, Output, PutsTo}
+use Rattle.palm_text.specs.Output.{Output, PutsTo}
 use Rattle.image_commands.specs.FaultLines.{PutsBadImage}
+use Rattle.image_commands.specs.Printed.{EndsPrinted}
 use Rattle.program_io.specs.declared.status.Status.{Status}
-use Rattle.program_io.specs.declared.status.Status.TheVariants.{Done, Refused, BadWords, ReadFault, WriteFault, NoMemory}
 use Rattle.store_commands.specs.declared.databases.Row.{Row}
 
 -- which entries a database has
@@ -65,12 +65,5 @@ abbrev pub databases_text : Store → List ℕ
 databases_text store = rows_text (listed_rows store)
 
 -- what `databases` wrote of an image, by the status with which it ends
-pub record EndsDatabases {V : Type 0} (image : List ℕ) (out : Output V) (status : Status) : Type 0 where
-  pub done : status ≡ Done → PutsTo out (databases_text (store_of image)) true
-  pub accepted : status ≡ Done → Accepted image
-  pub refused : status ≡ Refused → Accepted image → ⊥
-  pub fault : status ≡ Refused → PutsBadImage image out true
-  pub no_memory : status ≡ NoMemory → IsUnused out
-  pub write_fault : status ≡ WriteFault → (Accepted image × PutsTo out (databases_text (store_of image)) false) ⊎ ((Accepted image → ⊥) × PutsBadImage image out false)
-  pub good_words : status ≢ BadWords
-  pub reads_nothing : status ≢ ReadFault
+abbrev pub EndsDatabases : {V : Type 0} → List ℕ → Output V → Status → Type 0
+EndsDatabases image out = EndsPrinted image (PutsTo out (databases_text (store_of image))) (PutsBadImage image out) out

@@ -1,16 +1,15 @@
 -- What `databases --json` prints. Where a definition ends in a `Bool`, it says whether all was written and flushed.
-use Rattle.std.specs.Prelude.{◌≡◌, ◌≢◌, ◌⊎◌, ◌++◌, ℕ, Bool, true, false, List, [], ◌∷◌, Option, codes, decimal}
+use Rattle.std.specs.Prelude.{◌++◌, ℕ, Bool, true, false, List, [], ◌∷◌, codes, decimal}
 use Rattle.std.specs.List.{flat_map}
 use Rattle.heap_model.specs.Bytes.{u32_bytes}
 use Rattle.heap_model.specs.Database.{has_resources}
-use Rattle.heap_model.specs.Store.{Store, Accepted, store_of}
+use Rattle.heap_model.specs.Store.{Store, store_of}
 use Rattle.heap_model.specs.declared.database.DbInfo.{DbInfo}
-use Rattle.palm_text.specs.Counted.{Writing}
-use Rattle.palm_text.specs.Output.{Puts}
+use Rattle.palm_text.specs.Output.{Output, PutsTo}
 use Rattle.unicode_text.specs.Strings.{string, hex_string}
 use Rattle.image_commands.specs.JsonEnds.{PutsImageFault}
+use Rattle.image_commands.specs.Printed.{EndsPrinted}
 use Rattle.program_io.specs.declared.status.Status.{Status}
-use Rattle.program_io.specs.declared.status.Status.TheVariants.{Done, Refused, BadWords, ReadFault, WriteFault, NoMemory}
 use Rattle.store_commands.specs.declared.databases.Row.{Row}
 use Rattle.store_commands.specs.Databases.{listed_rows}
 
@@ -60,12 +59,5 @@ abbrev pub databases_json : Store → List ℕ
 databases_json store = databases_document (listed_rows store)
 
 -- what `databases --json` wrote of an image, by the status with which it ends
-pub record EndsDatabasesJson {V : Type 0} (image : List ℕ) (contents : V → Option (List ℕ)) (old new : Writing V) (status : Status) : Type 0 where
-  pub done : status ≡ Done → Puts contents old new (databases_json (store_of image)) true
-  pub accepted : status ≡ Done → Accepted image
-  pub refused : status ≡ Refused → Accepted image → ⊥
-  pub fault : status ≡ Refused → PutsImageFault image contents old new true
-  pub no_memory : status ≡ NoMemory → new ≡ old
-  pub write_fault : status ≡ WriteFault → (Accepted image × Puts contents old new (databases_json (store_of image)) false) ⊎ ((Accepted image → ⊥) × PutsImageFault image contents old new false)
-  pub good_words : status ≢ BadWords
-  pub reads_nothing : status ≢ ReadFault
+abbrev pub EndsDatabasesJson : {V : Type 0} → List ℕ → Output V → Status → Type 0
+EndsDatabasesJson image out = EndsPrinted image (PutsTo out (databases_json (store_of image))) (PutsImageFault image out) out

@@ -4,7 +4,7 @@ ghost use Rattle.std.specs.Prelude.{[], ◌≡◌, ◌⊎◌, Err, IfOk, IfErr, 
 ghost use Rattle.heap_model.specs.Store.{Accepted};
 ghost use Rattle.heap_model.specs.Database as databases;
 ghost use Rattle.palm_text.specs.Counted.{Writes};
-ghost use Rattle.palm_text.specs.Output.{Puts};
+ghost use Rattle.palm_text.specs.Output.{Puts, output};
 ghost use Rattle.image_commands.specs.JsonEnds.{PutsImageFault};
 ghost use Rattle.store_commands.specs.DatabasesJson.{EndsDatabasesJson, closed_json, databases_document, info_json, kind_and_type_json, more_json, next_json, row_json, rows_json, file_size_json};
 
@@ -27,7 +27,7 @@ pub fn cmd_databases_json<A: Allowance, V: Write>(
     image: &[u8],
     out: &mut Counted<V>,
 ) -> Status
-    ensures ends { EndsDatabasesJson image.now V.contents out.old out.new result }
+    ensures ends { EndsDatabasesJson image.now (output V.contents out.old out.new) result }
     ensures short { result ≡ Status.NoMemory → A.is_short memory.now }
 {
     match Region::copied_from(memory, image) {
@@ -43,7 +43,7 @@ pub fn databases_json_region_from<A: Allowance, V: Write>(
     out: &mut Counted<V>,
 ) -> Status
     requires whole { region.lents ≡ [] }
-    ensures ends { EndsDatabasesJson region.bytes V.contents out.old out.new result }
+    ensures ends { EndsDatabasesJson region.bytes (output V.contents out.old out.new) result }
     ensures short { result ≡ Status.NoMemory → A.is_short memory.now }
 {
     let store = match opened_json(memory, region, out) {
@@ -79,9 +79,9 @@ fn opened_json<A: Allowance, V: Write>(
     ensures refused { (result ≡ Err Status.Refused) ⊎ (result ≡ Err Status.WriteFault)
         → Accepted region.bytes → ⊥ }
     ensures said { result ≡ Err Status.Refused
-        → PutsImageFault region.bytes V.contents out.old out.new true }
+        → PutsImageFault region.bytes (output V.contents out.old out.new) true }
     ensures write { result ≡ Err Status.WriteFault
-        → PutsImageFault region.bytes V.contents out.old out.new false }
+        → PutsImageFault region.bytes (output V.contents out.old out.new) false }
     ensures no_memory { result ≡ Err Status.NoMemory → out.new ≡ out.old }
     ensures short { result ≡ Err Status.NoMemory → A.is_short memory.now }
 {

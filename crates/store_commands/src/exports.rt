@@ -11,7 +11,7 @@ ghost use Rattle.store_commands.specs.Exports as words;
 ghost use Rattle.store_commands.specs.Exports.{AreExported, IsFileNamed, IsMissing, IsNamedBy, NotExported, IsNotNamed, file_for};
 
 use crate::file_names::file_name;
-use crate::images::{count_of, file_of_database, info_of, nth_of, opened, say_refusal};
+use crate::images::{count_of, file_of_database, info_of, nth_of, opened, say_refused};
 use allowance::{Allowance, push};
 use db_format::DbAttrs;
 use heap_model::{Bytes, Db, DbName, Refusal};
@@ -221,12 +221,8 @@ fn say_missing<V: Write>(word: usize, out: &mut Counted<V>) -> Ended
     ensures fault { result.status ≡ Status.WriteFault
         → Puts V.contents out.old out.new (refusal_line Refusal.NoSuchDatabase) false }
 {
-    let status = match say_refusal(out, Refusal::NoSuchDatabase) {
-        Ok(()) => Status::Refused,
-        Err(_) => Status::WriteFault,
-    };
     Ended {
-        status,
+        status: say_refused(Refusal::NoSuchDatabase, out),
         word: Some(word),
     }
 }

@@ -7,7 +7,7 @@ ghost use Rattle.heap_model.specs.Leaving.{database_here};
 ghost use Rattle.heap_model.specs.DatabaseSteps as rows;
 ghost use Rattle.palm_store.specs.Databases.{HasNumber};
 ghost use Rattle.palm_text.specs.Output.{Puts, output};
-ghost use Rattle.image_commands.specs.FaultLines.{PutsBadImage};
+ghost use Rattle.image_commands.specs.FaultLines.{PutsBadImage, Says};
 ghost use Rattle.script_calls.specs.Lines.{refusal_line};
 
 use allowance::Allowance;
@@ -114,12 +114,20 @@ pub(crate) fn file_of_database<A: Allowance>(
     }
 }
 
+/// Prints the reply line for a refusal. Returns `Refused`, or `WriteFault` if a write or the flush
+/// failed.
+pub(crate) fn say_refused<V: Write>(refusal: Refusal, out: &mut Counted<V>) -> Status
+    ensures { Says (output V.contents out.old out.new) (refusal_line refusal) Status.Refused result }
+{
+    match put_refused(out, refusal) {
+        Ok(()) => Status::Refused,
+        Err(_) => Status::WriteFault,
+    }
+}
+
 /// Writes the reply line for a refusal, and flushes.
 #[tactic(auto, using(palm_text::proofs::Parts::then_flush))]
-pub(crate) fn say_refusal<V: Write>(
-    out: &mut Counted<V>,
-    refusal: Refusal,
-) -> Result<(), WriteFault>
+fn put_refused<V: Write>(out: &mut Counted<V>, refusal: Refusal) -> Result<(), WriteFault>
     ensures { Puts V.contents out.old out.new (refusal_line refusal) (is_ok result) }
 {
     put_refusal(out, refusal)?;

@@ -1,7 +1,7 @@
 //! The command `import`: an image that is just large enough for some files, with their databases in
 //! it.
 
-ghost use Rattle.std.specs.Prelude.{[], ◌≡◌, ◌≢◌, ◌<◌, ◌≤◌, ◌⊎◌, ℕ, List, Err, IfOk, IfErr, OnOk, None, IfSome, IfNone, All, is_ok, length, min, replicate, slice_index_or, take, codes, true, false};
+ghost use Rattle.std.specs.Prelude.{[], ◌≡◌, ◌≢◌, ◌<◌, ◌≤◌, ℕ, List, Err, IfOk, IfErr, OnOk, None, IfSome, IfNone, All, is_ok, length, min, replicate, slice_index_or, take, codes};
 ghost use Rattle.std.specs.List.{concat};
 ghost use Rattle.heap_model.specs.Files.{HasNoFault};
 ghost use Rattle.heap_model.specs.Store.{Accepted};
@@ -9,11 +9,10 @@ ghost use Rattle.chunk_format.specs.Blank.{IsRegionSize};
 ghost use Rattle.canonical_file.specs.Needs.{enough, full_size};
 ghost use Rattle.palm_text.specs.Counted.{Writes};
 ghost use Rattle.palm_text.specs.Output.{Puts, output};
-ghost use Rattle.script_calls.specs.Lines.{refusal_line};
 ghost use Rattle.store_commands.specs.Imports.{EndsImport, EndsRefused, ImportsAll, IsChosen, IsFilled, IsNew, IsNoImage, IsNotImported, IsStopped, IsWhy, PutsFilled, StayWithinLimits, image_line, import_text};
 
 use crate::exports::Ended;
-use crate::images::{put_store, say_refusal};
+use crate::images::{put_store, say_refused};
 use allowance::{Allowance, push};
 use canonical_file::{ENOUGH, image_size, image_slots, needs_of_files};
 use chunk_format::{BlankFault, blank_from, is_image_size};
@@ -275,20 +274,6 @@ fn say_why<V: Write>(why: NotImported, out: &mut Counted<V>) -> Ended
         NotImported::OutOfMemory => (Status::NoMemory, None),
     };
     Ended { status, word }
-}
-
-/// Prints the reply line for a file that is refused.
-fn say_refused<V: Write>(refusal: Refusal, out: &mut Counted<V>) -> Status
-    ensures statuses { (result ≡ Status.Refused) ⊎ (result ≡ Status.WriteFault) }
-    ensures said { result ≡ Status.Refused
-        → Puts V.contents out.old out.new (refusal_line refusal) true }
-    ensures fault { result ≡ Status.WriteFault
-        → Puts V.contents out.old out.new (refusal_line refusal) false }
-{
-    match say_refusal(out, refusal) {
-        Ok(()) => Status::Refused,
-        Err(_) => Status::WriteFault,
-    }
 }
 
 /// Writes an image into which `count` files were imported, and then prints its lines.

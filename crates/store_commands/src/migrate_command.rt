@@ -4,7 +4,8 @@ ghost use Rattle.std.specs.Prelude.{[], ◌≡◌, ◌⊎◌, Err, IfOk, IfErr, 
 ghost use Rattle.heap_model.specs.Store.{Accepted};
 ghost use Rattle.heap_migration.specs.FaultNames.{migrate_fault_name};
 ghost use Rattle.heap_migration.specs.Stores.{IsMigrated};
-ghost use Rattle.palm_text.specs.Output.{Puts, output};
+ghost use Rattle.image_commands.specs.FaultLines.{Says};
+ghost use Rattle.palm_text.specs.Output.{output};
 ghost use Rattle.program_io.specs.BadLines.{bad_line};
 ghost use Rattle.store_commands.specs.Migrating.{EndsMigrate, PutsNotMigrated};
 ghost use Rattle.allowance.specs.Refusals.{GrowthRefused};
@@ -106,11 +107,8 @@ fn migrated<A: Allowance, V: Write>(
 
 /// Prints `bad` and the name of the reason why an image isn't migrated.
 fn say_not_migrated<V: Write>(reason: MigrateFault, out: &mut Counted<V>) -> Status
-    ensures statuses { (result ≡ Status.Refused) ⊎ (result ≡ Status.WriteFault) }
-    ensures said { result ≡ Status.Refused
-        → Puts V.contents out.old out.new (bad_line (migrate_fault_name reason)) true }
-    ensures write { result ≡ Status.WriteFault
-        → Puts V.contents out.old out.new (bad_line (migrate_fault_name reason)) false }
+    ensures { Says (output V.contents out.old out.new)
+        (bad_line (migrate_fault_name reason)) Status.Refused result }
 {
     say_bad(reason.name(), Status::Refused, out)
 }

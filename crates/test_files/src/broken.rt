@@ -4,8 +4,8 @@
 use crate::samples::{MIXED_FILE, changed, documented, listed, rewritten};
 use canonical_file::SalvagedIds;
 use file_commands::{
-    WantedBlock, cmd_canonical_from, cmd_changes_from, cmd_get_from, cmd_list_from,
-    cmd_salvage_from,
+    NewBlock, WantedBlock, cmd_canonical_from, cmd_changes_from, cmd_get_from, cmd_list_from,
+    cmd_put_from, cmd_salvage_from,
 };
 use file_listing::TextRows;
 use json_documents::JsonRows;
@@ -20,6 +20,12 @@ use test_support::{
 
 /// The most bytes that a file may have.
 const MOST_BROKEN: usize = 16_777_216;
+
+/// The data of the second record, which is first in the file.
+const NEW_BLOCK: NewBlock<'static> = NewBlock {
+    wanted: WantedBlock::Entry(1),
+    bytes: b"abcd",
+};
 
 #[test]
 fn refused_memory_prints_nothing(rt: HostRuntime) -> Result<(), Fail> {
@@ -152,6 +158,46 @@ fn refused_memory_gets_nothing(rt: HostRuntime) -> Result<(), Fail> {
         equal(granted, out.into_inner().len(), 0)?;
     }
     Err("too many growths")?
+}
+
+#[test]
+fn refused_memory_puts_nothing(rt: HostRuntime) -> Result<(), Fail> {
+    let file = bytes_of(rt.alloc(), MIXED_FILE)?;
+    if file.len() > MOST_BROKEN {
+        return Ok(());
+    }
+    for granted in 0..100 {
+        let memory = RefusesOne::behind(rt.alloc(), granted);
+        let mut file_out = Counted::new(Vec::new(rt.alloc()));
+        let mut out = Counted::new(Vec::new(rt.alloc()));
+        let status = cmd_put_from(&memory, &file, NEW_BLOCK, &mut file_out, &mut out);
+        if !memory.has_refused() {
+            return equal(granted, status, Status::Done);
+        }
+        equal(granted, status, Status::NoMemory)?;
+        equal(granted, file_out.into_inner().len(), 0)?;
+        equal(granted, out.into_inner().len(), 0)?;
+    }
+    Err("too many growths")?
+}
+
+/// A new file is cut after each byte, and nothing is printed then. The line after a whole file is
+/// cut too.
+#[test]
+fn a_full_writer_gets_a_prefix_of_a_new_file(rt: HostRuntime) -> Result<(), Fail> {
+    let file = bytes_of(rt.alloc(), MIXED_FILE)?;
+    if file.len() > MOST_BROKEN {
+        return Ok(());
+    }
+    for room in 0..101 {
+        let mut file_out = Counted::new(Narrow::new(rt.alloc(), room, 7, WhenFull::TakesNothing));
+        let mut out = Counted::new(Vec::new(rt.alloc()));
+        let status = cmd_put_from(&rt.alloc(), &file, NEW_BLOCK, &mut file_out, &mut out);
+        equal(room, status, Status::WriteFault)?;
+        holds(room, file_out.into_inner().is_cut_at(room))?;
+        equal(room, out.into_inner().len(), 0)?;
+    }
+    Ok(())
 }
 
 /// A block, and the line for one that the file doesn't have, are cut like a listing. Nothing goes

@@ -20,6 +20,8 @@ mod listings;
 #[cfg(test)]
 mod parts;
 #[cfg(test)]
+mod puts;
+#[cfg(test)]
 mod salvage;
 #[cfg(test)]
 mod samples;

@@ -61,6 +61,7 @@ all_have_rows = record {
   lines = line_has_row;
   blanks = blank_has_row;
   outputs = output_has_row;
+  parts = refl;
   changes = change_has_row;
   refusals = refusal_has_row;
 }

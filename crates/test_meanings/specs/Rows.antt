@@ -16,7 +16,7 @@ use Rattle.store_check.specs.declared.fault.StoreFault.TheVariants as store
 use Rattle.explanations.specs.Explained.{has_row}
 use Rattle.explanations.specs.declared.table.FileChange.{FileChange}
 use Rattle.explanations.specs.declared.table.Subject.{Subject}
-use Rattle.explanations.specs.declared.table.Subject.TheVariants.{Heap, Databases, File, Line, Blank, Output, Change, Call}
+use Rattle.explanations.specs.declared.table.Subject.TheVariants.{Heap, Databases, File, Line, Blank, Output, EmptyPart, Change, Call}
 
 -- the row for a fault of an image is about its heap, or about its databases
 abbrev pub image_subject : StoreFault → Subject
@@ -48,5 +48,6 @@ pub record AllHaveRows : Type 0 where
   pub lines : (fault : ScriptFault) → IsTrue (has_row (line_subject fault))
   pub blanks : (fault : BlankFault) → IsTrue (has_row (blank_subject fault))
   pub outputs : (fault : MigrateFault) → IsTrue (has_row (output_subject fault))
+  pub parts : IsTrue (has_row EmptyPart)
   pub changes : (change : FileChange) → IsTrue (has_row (Change change))
   pub refusals : (refusal : Refusal) → IsTrue (has_row (Call refusal))

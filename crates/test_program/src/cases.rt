@@ -10,7 +10,7 @@ pub(crate) enum Output {
 }
 
 /// The words of each run behind the program's own name, and what becomes of what it prints.
-pub(crate) static CASES: [(&str, Output); 218] = [
+pub(crate) static CASES: [(&str, Output); 229] = [
     // images that are made, or that there are not
     ("new 64 1 out.img", Taken),
     ("new 128 3 out.img", Taken),
@@ -136,6 +136,21 @@ pub(crate) static CASES: [(&str, Output); 218] = [
     ("get order.pdb first 1", Taken),
     ("get order.pdb 1", Refused),
     ("get blank.img 0", Taken),
+    // files with a block replaced: in a file, on standard output, and with its bytes on standard
+    // input
+    ("put order.pdb 1 calls.txt out.pdb", Taken),
+    ("put tiny.prc 0 calls.txt -", Taken),
+    ("put tiny.prc 1 - out.pdb", Taken),
+    // a block that a file doesn't have, a damaged file, and no files
+    ("put order.pdb app calls.txt out.pdb", Taken),
+    ("put damaged.pdb 0 calls.txt out.pdb", Taken),
+    ("put none.pdb 0 calls.txt out.pdb", Taken),
+    ("put order.pdb 0 none.txt out.pdb", Taken),
+    // words that ask for no block, an image that would be replaced, and outputs that take nothing
+    ("put order.pdb first calls.txt out.pdb", Taken),
+    ("put order.pdb 0 calls.txt blank.img", Taken),
+    ("put order.pdb 0 calls.txt none/out.pdb", Taken),
+    ("put order.pdb 0 calls.txt out.pdb", Refused),
     // files that are taken apart, or not: a damaged one, and folders that are there or can't be
     // made
     ("unpack order.pdb out", Taken),

@@ -87,6 +87,12 @@ fn base_shown(alloc: Global, request: &BaseRequest) -> Result<String, AllocError
             block,
             id: Some(id),
         } => format!(in alloc; "get {file} {block} {id}\n"),
+        BaseRequest::Put {
+            file,
+            block,
+            part,
+            out,
+        } => format!(in alloc; "put {file} {block} {part} {out}\n"),
         BaseRequest::Unpack {
             file,
             folder,
@@ -388,7 +394,7 @@ fn words_are_read(rt: HostRuntime) -> Result<(), Fail> {
 }
 
 /// The same for the commands on files, of which some take several.
-static FILE_CASES: [(&str, &str, &str); 31] = [
+static FILE_CASES: [(&str, &str, &str); 36] = [
     ("palmheap list memo.pdb", "list Text [\"memo.pdb\"]\n", ""),
     (
         "palmheap canonical memo.pdb new.pdb",
@@ -417,6 +423,27 @@ static FILE_CASES: [(&str, &str, &str); 31] = [
     ),
     ("palmheap get memo.pdb 0", "get memo.pdb 0\n", ""),
     ("palmheap get - app", "get - app\n", ""),
+    (
+        "palmheap put memo.pdb 0 part new.pdb",
+        "put memo.pdb 0 part new.pdb\n",
+        "",
+    ),
+    ("palmheap put - app part -", "put - app part -\n", ""),
+    (
+        "palmheap put - app - new.pdb",
+        "2 error: only one of FILE and PART can be '-', standard input\n",
+        "",
+    ),
+    (
+        "palmheap put memo.pdb 0 part",
+        "2 error: the following required arguments were not provided:\n  <OUT>\n",
+        "",
+    ),
+    (
+        "palmheap put --help",
+        "0 ",
+        "Usage: palmheap put <FILE> <BLOCK> <PART> <OUT>",
+    ),
     (
         "palmheap get tool.prc tSTR 1000",
         "get tool.prc tSTR 1000\n",
@@ -560,7 +587,7 @@ fn lines_in_one_word_are_read(rt: HostRuntime) -> Result<(), Fail> {
 }
 
 /// The commands that have help.
-static COMMANDS: [&str; 15] = [
+static COMMANDS: [&str; 16] = [
     "new",
     "check",
     "run",
@@ -570,6 +597,7 @@ static COMMANDS: [&str; 15] = [
     "canonical",
     "salvage",
     "get",
+    "put",
     "unpack",
     "pack",
     "databases",

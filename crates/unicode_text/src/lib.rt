@@ -22,4 +22,4 @@ mod texts;
 
 pub use characters::character_of;
 pub use pieces::{JsonPiece, put_json};
-pub use texts::put_text;
+pub use texts::{put_between, put_text};

@@ -50,8 +50,12 @@ fn put_closed<W: Write>(out: &mut Counted<W>, bytes: &[u8], after: &[u8]) -> Res
 }
 
 /// Writes the characters of a name between two texts.
+///
+/// # Errors
+///
+/// - `WriteFault`: if a write failed, or took 0 bytes.
 #[tactic(auto, using(palm_text::proofs::Parts::then, palm_text::proofs::Parts::stops))]
-fn put_between<W: Write>(
+pub fn put_between<W: Write>(
     out: &mut Counted<W>,
     before: &[u8],
     name: &[u8],

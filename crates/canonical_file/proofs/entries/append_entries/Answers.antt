@@ -10,7 +10,7 @@ use Rattle.pdb_format.proofs.FileBlocks.{length-blocks, block_of}
 use Rattle.pdb_format.proofs.ReadFiles.{length-entries_read}
 use Rattle.canonical_file.specs.Written.{ids_of}
 use Rattle.canonical_file.proofs.Appended.{text_more, length_more, room_left}
-use Rattle.canonical_file.proofs.BlockTexts.{block_long}
+use Rattle.pdb_format.proofs.FileBlocks.{block_long}
 use Rattle.canonical_file.proofs.EntryTexts.{entry_here}
 use Rattle.canonical_file.proofs.entries.append_entries.Goals as goal
 

@@ -1,7 +1,7 @@
 use Rattle.std.proofs.Common.{◌≡◌, ◌-◌, ℕ, Option, Some, length, sym, ap, subst}
 use Rattle.std.specs.Prelude.{slice_range}
 use Rattle.pdb_format.specs.Blocks.{IsBlockWithin}
-use Rattle.canonical_file.proofs.BlockTexts.{block_long}
+use Rattle.pdb_format.proofs.FileBlocks.{block_long}
 use Rattle.file_listing.specs.declared.rows.Extent.{Extent}
 use Rattle.file_listing.proofs.walk.extent_of.Goals as goal
 

@@ -1,6 +1,7 @@
 use Rattle.std.proofs.Common.{◌≡◌, ◌+◌, ◌<◌, ◌≤◌, ◌++◌, ℕ, List, length, get_or, refl, sym, ap, ◌∙◌, arith, append-nil}
 use Rattle.std.specs.List.{flat_map}
-use Rattle.heap_model.specs.Database.{Entry, entry_bytes}
+use Rattle.heap_model.specs.Database.{Entry, entry_bytes, entry_with}
+use Rattle.db_format.specs.EitherEntry.{entry_of}
 use Rattle.file_parts.specs.declared.entries.ListedEntry.{ListedEntry}
 use Rattle.file_parts.proofs.ExactPacked.{entries_whole, entry_more}
 use Rattle.file_parts.proofs.exact_packing.append_entries.Goals as goal
@@ -18,7 +19,8 @@ loop-index-preserved g c = λ parts are.
     let inside : i < length entries = omega arith in
     let is_item : item ≡ get_or entries i item = c.index-entries-index.is ∙ ap (λ (xs : List ListedEntry). get_or xs i item) c.as_slice-entries.ensures.value in
     entry_more exact parts c.args.offsets.now c.args.bytes.now.items c.loop-index.bytes.items c.as_slice.result.now c.append.new.bytes.items i (get_or c.args.offsets.now (2 + i) 0) item are inside is_item refl
-    (c.as_slice.ensures ∙ c.to_bytes.ensures.is ∙ ap entry_bytes c.entry_at-entry.ensures.is) c.in_ok-append.ensures.items (c.loop-index.invariant parts are)
+    (c.as_slice.ensures ∙ c.to_bytes.ensures.is ∙ ap entry_bytes c.entry_at-entry.ensures.is
+    ∙ ap (λ (x : ListedEntry). entry_bytes (entry_with {Data = ℕ} (λ _. get_or c.args.offsets.now (2 + i) 0) (entry_of x.entry))) (sym c.index-entries-index.is)) c.in_ok-append.ensures.items (c.loop-index.invariant parts are)
 
 pub returns-clause-items : goal.returns-clause-items
 returns-clause-items g c = λ parts are.

@@ -1,5 +1,6 @@
-use Rattle.std.proofs.Common.{ℕ, subst, arith}
-use Rattle.heap_svg.specs.Rows.{IsRowSize}
+use Rattle.std.proofs.Common.{ℕ, length, ap, ◌∙◌, subst, arith}
+use Rattle.heap_svg.specs.Rows.{IsRowSize, rows_in}
+use Rattle.heap_svg.proofs.RowLaws.{row_low, row_small}
 use Rattle.heap_svg.proofs.drawing.draw.Goals as goal
 
 pub row_size-line-requires : goal.row_size-line-requires
@@ -8,8 +9,20 @@ row_size-line-requires g c =
     let most = c.requires.accepted.heap.1.tiles.head.most in
     omega arith
 
+pub row_count-requires : goal.row_count-requires
+row_count-requires g c =
+    let size : ℕ = length c.args.region.now.bytes in
+    let line = c.row_size-line.result in
+    let summary = c.requires.summary.heap.size in
+    let most = c.requires.accepted.heap.1.tiles.head.most in
+    let is = subst (λ (n : ℕ). IsRowSize n line) summary c.row_size-line.ensures in
+    let low = row_low size line is in
+    let small = row_small size line most is in
+    record { size = omega arith; line = omega arith }
+
 pub returns-clause-drawing : goal.returns-clause-drawing
 returns-clause-drawing g c = record {
+  accepted = c.requires.accepted;
   summary = c.requires.summary;
   pieces = c.in_ok-pieces.ensures.pieces;
   count = c.free_pieces.ensures.count;
@@ -19,6 +32,7 @@ returns-clause-drawing g c = record {
   left_count = c.in_ok-rooms.ensures.count;
   left_largest = c.in_ok-rooms.ensures.largest;
   line = subst (λ (n : ℕ). IsRowSize n c.row_size-line.result) c.requires.summary.heap.size c.row_size-line.ensures;
+  rows = c.row_count.ensures ∙ ap (λ (n : ℕ). rows_in n c.row_size-line.result) c.requires.summary.heap.size;
   strips = c.in_ok-strips.ensures.exact;
   shown = c.in_ok-strips.ensures.shown;
 }

@@ -15,7 +15,7 @@ returns-in-Err g c =
       refused = search rules;
       said = λ is.
           let refused : c.say_bad_image.result ≡ Refused = cc in
-          puts_answer g.V.Write.contents c.args.out.now c.say_bad_image.new.out c.args.region.bytes c.in-Err.error.fault true other c.in-Err.ensures.fault (c.say_bad_image.ensures.refused refused);
+          puts_answer g.V.Write.contents c.args.out.now c.say_bad_image.new.out c.args.region.bytes c.in-Err.error.fault true other c.in-Err.ensures.fault (c.say_bad_image.ensures.said refused);
       write = λ is.
           let failed : c.say_bad_image.result ≡ WriteFault = cc in
           puts_answer g.V.Write.contents c.args.out.now c.say_bad_image.new.out c.args.region.bytes c.in-Err.error.fault false other c.in-Err.ensures.fault (c.say_bad_image.ensures.write failed);

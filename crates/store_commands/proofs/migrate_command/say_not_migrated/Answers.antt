@@ -1,12 +1,11 @@
-use Rattle.std.proofs.Common.{List, ℕ, subst, true, false}
-use Rattle.palm_text.specs.Output.{Puts}
+use Rattle.std.proofs.Common.{List, ℕ, subst}
+use Rattle.image_commands.specs.FaultLines.{Says}
+use Rattle.palm_text.specs.Output.{output}
 use Rattle.program_io.specs.BadLines.{bad_line}
+use Rattle.program_io.specs.declared.status.Status.TheVariants.{Refused}
 use Rattle.store_commands.proofs.migrate_command.say_not_migrated.Goals as goal
 
-pub returns-clause-said : goal.returns-clause-said
-returns-clause-said g c = λ is.
-    subst (λ (name : List ℕ). Puts g.V.Write.contents c.args.out.now c.say_bad.new.out (bad_line name) true) c.name.ensures (c.say_bad.ensures.said is)
-
-pub returns-clause-write : goal.returns-clause-write
-returns-clause-write g c = λ is.
-    subst (λ (name : List ℕ). Puts g.V.Write.contents c.args.out.now c.say_bad.new.out (bad_line name) false) c.name.ensures (c.say_bad.ensures.fault is)
+pub returns : goal.returns
+returns g c =
+    subst (λ (name : List ℕ). Says (output g.V.Write.contents c.args.out.now c.say_bad.new.out) (bad_line name) Refused c.say_bad.result) c.name.ensures
+    (record { statuses = c.say_bad.ensures.status; said = c.say_bad.ensures.said; write = c.say_bad.ensures.fault })

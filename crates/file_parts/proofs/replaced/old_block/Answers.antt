@@ -1,0 +1,8 @@
+use Rattle.std.proofs.Common.{arith}
+use Rattle.pdb_format.proofs.FileBlocks.{block_count}
+use Rattle.file_parts.proofs.replaced.old_block.Goals as goal
+
+pub block-requires : goal.block-requires
+block-requires c =
+    let count = block_count c.args.file.now in
+    omega (arith, count, c.requires)

@@ -1,0 +1,14 @@
+use Rattle.std.proofs.Common.{refl}
+use Rattle.file_parts.specs.ExactUnpacking.{exact_of}
+use Rattle.file_parts.proofs.ReplacedFiles.{exactly_in}
+use Rattle.file_parts.proofs.ReplacedSound.{part_empty, place_why}
+use Rattle.file_parts.proofs.replaced.ready.Goals as goal
+
+pub returns-then-not-is_in_order-clause-why : goal.returns-then-not-is_in_order-clause-why
+returns-then-not-is_in_order-clause-why g c =
+    let r = c.args.replacing in
+    let found = c.if-not-is_in_order.ensures.no refl in
+    (part_empty r found.0 c.requires found.1, (exact_of r.unpacked, exactly_in r c.requires, (found.0, found.1)))
+
+pub returns-clause-why : goal.returns-clause-why
+returns-clause-why g c = place_why c.args.replacing c.in-Err.fault c.requires c.in-Err.ensures.large
