@@ -77,16 +77,7 @@ fn base_shown(alloc: Global, request: &BaseRequest) -> Result<String, AllocError
             let exact = if *exact_ids { " exact" } else { "" };
             format!(in alloc; "salvage {file} {out}{exact}\n")
         }
-        BaseRequest::Get {
-            file,
-            block,
-            id: None,
-        } => format!(in alloc; "get {file} {block}\n"),
-        BaseRequest::Get {
-            file,
-            block,
-            id: Some(id),
-        } => format!(in alloc; "get {file} {block} {id}\n"),
+        BaseRequest::Get { file, block, id } => get_shown(alloc, file, block, *id),
         BaseRequest::Put {
             file,
             block,
@@ -103,6 +94,18 @@ fn base_shown(alloc: Global, request: &BaseRequest) -> Result<String, AllocError
         }
         BaseRequest::Pack { folder, out } => format!(in alloc; "pack {folder} {out}\n"),
         BaseRequest::Explain { word } => format!(in alloc; "explain {word}\n"),
+    }
+}
+
+fn get_shown(
+    alloc: Global,
+    file: &str,
+    block: &str,
+    id: Option<&str>,
+) -> Result<String, AllocError> {
+    match id {
+        None => format!(in alloc; "get {file} {block}\n"),
+        Some(id) => format!(in alloc; "get {file} {block} {id}\n"),
     }
 }
 
