@@ -50,6 +50,7 @@ run 'rt' tests/dropped_loans.sh
 run 'rt' tests/program.sh
 run 'rt cmp' tests/hostile.sh
 run 'rt python3' tests/salvage.py crates/palmheap/out/palmheap 2000
+run 'rt python3' tests/listing.py crates/palmheap/out/palmheap 1000
 run 'rt awk diff python3' tests/maps.sh
 run 'rt python3' tests/exact_folders.py crates/palmheap/out/palmheap
 run 'gcc python3' tests/abi.py
