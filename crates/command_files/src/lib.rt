@@ -31,7 +31,7 @@ pub use faults::{
     input_name,
 };
 pub use files::{
-    read_file, read_file_or_input, read_files, read_image, report_left_files, write_file,
+    read_file, read_file_or_input, read_file_or_input_within, read_file_within, read_files, read_image, report_left_files, write_file,
     write_files,
 };
 pub use line_hints::report_line_hint;
