@@ -311,6 +311,16 @@ is 'a large file that is packed as it was' '' "$(cmp large.pdb out.pdb 2>&1)"
 says 'a large file and an image' 3 '' 'fault read
 large.pdb: longer than 16777216 bytes' import new.img large.pdb
 is 'no image is made' '' "$(ls new.img 2>/dev/null)"
+{
+    printf '#'
+    head -c 16777215 /dev/zero
+} >large.txt
+"$program" run a.img large.txt out.img >/dev/null 2>complained
+is 'a script of the greatest size, status' 0 "$?"
+printf '#' >>large.txt
+says 'a script that is too long' 3 '' 'fault read
+large.txt: longer than 16777216 bytes' run a.img large.txt out.img
+rm large.txt out.img complained
 rm -r two.pdb first part out.pdb large large.pdb salvaged.pdb
 
 # a file that a transfer as text has changed: a byte 0d comes before each 0a

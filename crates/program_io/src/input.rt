@@ -121,7 +121,7 @@ pub fn read_within<A: Allowance, R: Read>(
     let Ok(mut turn) = buffer(memory, MOST_READ) else {
         return Err(InputFault::Memory);
     };
-    let Ok(mut bytes) = empty(memory, room) else {
+    let Ok(mut bytes) = with_room(memory, room) else {
         return Err(InputFault::Memory);
     };
     while read_turn_within(memory, reader, &mut turn, &mut bytes, most)? > 0 {}
@@ -142,7 +142,7 @@ fn at_most_input(fault: InputFault) -> InputFault
 }
 
 /// Returns an empty vector with room for `n` bytes. Nothing is allocated if that is 0.
-fn empty<A: Allowance>(memory: &A, n: usize) -> Result<Vec<u8>, AllocError>
+fn with_room<A: Allowance>(memory: &A, n: usize) -> Result<Vec<u8>, AllocError>
     ensures none { IfOk result (λ bytes. bytes.items ≡ []) }
     ensures len { IfOk result (λ bytes. vec_len bytes ≡ 0) }
     ensures short { OnErr result (A.is_short memory.now) }

@@ -200,8 +200,20 @@ static WITHIN: [(usize, usize, usize, usize, Outcome); 12] = [
     (6, 1, 0, 5, Outcome::LongerThan(5)),
     (65_537, 65_536, 65_537, 65_537, Outcome::Bytes(65_537)),
     (65_538, 65_536, 65_537, 65_537, Outcome::LongerThan(65_537)),
-    (17_000_000, 65_536, 17_000_000, 4_294_967_295, Outcome::Bytes(17_000_000)),
-    (usize::MAX, 65_536, 0, 17_000_000, Outcome::LongerThan(17_000_000)),
+    (
+        17_000_000,
+        65_536,
+        17_000_000,
+        4_294_967_295,
+        Outcome::Bytes(17_000_000),
+    ),
+    (
+        usize::MAX,
+        65_536,
+        0,
+        17_000_000,
+        Outcome::LongerThan(17_000_000),
+    ),
 ];
 
 /// At most one read more than those whose bytes fit, and one at the end.
