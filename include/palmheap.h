@@ -51,7 +51,7 @@ enum {
     PALMHEAP_OK = 0,
     PALMHEAP_NO_MEMORY = 1,      /* an allocation failed */
     PALMHEAP_NO_ROOM = 2,        /* a buffer is too short; the function's count or sizes say how long it must be */
-    PALMHEAP_TOO_LARGE = 3,      /* a file is longer than 16 MiB */
+    PALMHEAP_TOO_LARGE = 3,      /* a file is longer than 4,294,967,293 bytes */
     PALMHEAP_BAD_SIZE = 4,       /* no image has this size */
     PALMHEAP_BAD_SLOT_COUNT = 5, /* no image of the size has this number of slots */
 

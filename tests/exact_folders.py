@@ -15,7 +15,7 @@ import sys
 import tempfile
 from pathlib import Path
 
-MOST = 16_777_216
+MOST = 4_294_967_293
 
 
 class Faulty(Exception):

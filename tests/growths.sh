@@ -93,7 +93,7 @@ only '\.push\(' \
 # Out of memory can be invented by a request that no allocator grants: a clause says that an allocation failed, not that
 # it asked for no more than was needed. So each request by a number is listed. All others copy or append what is there.
 # the functions of allowance and of raw_region that take a number, and those that pass one on
-sized='(zeros|filled|room_for|zeroed_from|of_zeros|buffer|set_for|zeros_for|widen|grow|Cells::new|empty_set|no_marks|no_owners|unbound_(names|databases))'
+sized='(zeros|filled|room_for|zeroed_from|of_zeros|buffer|set_for|zeros_for|widen|grow|Cells::new|empty_set|no_marks|no_owners|unbound_(names|databases)|with_room)'
 requests() {
     awk '
         /^[ ]*\/\// || /^(pub )?use / { next }
@@ -150,7 +150,9 @@ listed=$(
 ./pdb_files/src/importing.rt:no_names filled(memory, Name(0), blocks.len())
 ./pdb_format/src/blocks.rt:find_blocks filled(memory, None, rank_count(file) as usize)?
 ./program_io/src/input.rt:buffer zeros(memory, n)
-./program_io/src/input.rt:read_input_from buffer(memory, MOST_READ)
+./program_io/src/input.rt:read_within buffer(memory, MOST_READ)
+./program_io/src/input.rt:read_within with_room(memory, room)
+./program_io/src/input.rt:with_room room_for(memory, n)
 ./raw_region/src/region.rt:copied_from of_zeros(memory, bytes.len())?
 ./raw_region/src/region.rt:of_zeros zeros(memory, size / 64 + 1)?
 ./raw_region/src/region.rt:zeroed zeroed_from(&alloc, size)

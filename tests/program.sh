@@ -207,7 +207,7 @@ mkdir many
 cp empty.pdb many/a.pdb
 cp empty.pdb many/b.pdb
 printf short >many/short.pdb
-head -c 16777217 /dev/zero >many/long.pdb
+truncate -s 4294967296 many/long.pdb
 mkdir many/folder
 says 'several files' 3 '==> many/a.pdb <==
 changes filler
@@ -221,7 +221,7 @@ many/short.pdb: 5 bytes, and at least 78 are needed
 fault read
 many/folder: Is a directory (os error 21)
 fault read
-many/long.pdb: longer than 16777216 bytes' \
+many/long.pdb: longer than 4294967295 bytes' \
     canonical --check many/a.pdb many/none.pdb many/short.pdb many/folder many/long.pdb many/b.pdb
 says 'one file of two is refused' 1 '{"path":"many/short.pdb","fault":"Truncated","numbers":[],"at":5}' \
     'many/short.pdb: 5 bytes, and at least 78 are needed' list --json --path many/short.pdb
@@ -268,11 +268,9 @@ parts/part: not a file' pack parts out.pdb
 done
 says 'a part that is missing' 3 '' 'fault read
 parts/part: No such file or directory (os error 2)' pack parts out.pdb
-head -c 17000000 /dev/zero >parts/part
+truncate -s 4294967294 parts/part
 says 'a part that is too long' 3 '' 'fault read
-parts/part: longer than 16777216 bytes' pack parts out.pdb
-head -c 16777216 /dev/zero >parts/part
-says 'a file that would be too large' 1 'bad TooLarge' '' pack parts out.pdb
+parts/part: longer than 4294967293 bytes' pack parts out.pdb
 is 'nothing is packed' '' "$(ls out.pdb 2>/dev/null)"
 (trap '' XFSZ; ulimit -f 0 && exec "$program" unpack empty.pdb full) >printed 2>complained
 is 'an unpacked file over a limit leaves nothing' '' "$(ls full 2>/dev/null)"
@@ -295,12 +293,35 @@ is 'the longer block' longer "$("$program" get out.pdb 0)"
 is 'the block after it' second "$("$program" get out.pdb 1)"
 is 'a block from standard input to standard output' "$(cksum <out.pdb)" "$("$program" put two.pdb 0 - - <part 2>printed | cksum)"
 is 'its reply' 'ok 106' "$(cat printed)"
-head -c 16777119 /dev/zero >part
-says 'a new file that is just small enough' 0 'ok 16777216' '' put two.pdb 1 part out.pdb
-head -c 16777120 /dev/zero >part
-says 'a new file that would be too large' 1 'bad TooLarge' '' put two.pdb 1 part none.pdb
-is 'no file is put' '' "$(ls none.pdb 2>/dev/null)"
-rm two.pdb first part out.pdb
+
+# a file of 17 MB: only commands on images and scripts refuse it
+head -c 17000000 /dev/zero >part
+says 'a large file' 0 'ok 17000097' '' put two.pdb 1 part large.pdb
+is 'a large block' "$(cksum <part)" "$("$program" get large.pdb 1 | cksum)"
+is 'its listing' 'ok 17000097' "$("$program" list large.pdb | sed -n 1p)"
+says 'a large file that is checked' 0 'changes filler' '' canonical --check large.pdb
+says 'a large file that is rewritten' 0 'ok 17000099
+changes filler' '' canonical large.pdb out.pdb
+is 'its large block' "$(cksum <part)" "$("$program" get out.pdb 1 | cksum)"
+says 'a large file that is salvaged' 0 'ok 17000099' '' salvage large.pdb salvaged.pdb
+is 'a large file that is salvaged has all of it' '' "$(cmp out.pdb salvaged.pdb 2>&1)"
+says 'a large file that is unpacked' 0 'ok 3' '' unpack --exact large.pdb large
+says 'a large file that is packed' 0 'ok 17000097' '' pack large out.pdb
+is 'a large file that is packed as it was' '' "$(cmp large.pdb out.pdb 2>&1)"
+says 'a large file and an image' 3 '' 'fault read
+large.pdb: longer than 16777216 bytes' import new.img large.pdb
+is 'no image is made' '' "$(ls new.img 2>/dev/null)"
+{
+    printf '#'
+    head -c 16777215 /dev/zero
+} >large.txt
+"$program" run a.img large.txt out.img >/dev/null 2>complained
+is 'a script of the greatest size, status' 0 "$?"
+printf '#' >>large.txt
+says 'a script that is too long' 3 '' 'fault read
+large.txt: longer than 16777216 bytes' run a.img large.txt out.img
+rm large.txt out.img complained
+rm -r two.pdb first part out.pdb large large.pdb salvaged.pdb
 
 # a file that a transfer as text has changed: a byte 0d comes before each 0a
 {

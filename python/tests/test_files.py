@@ -200,11 +200,11 @@ def test_document(it, rng):
                     assert store.free_bytes() == 0
 
 
-def test_too_large():
-    large = palmheap.Database(b"x", b"DATA", b"memo", records=[palmheap.Record(bytes(1 << 24), 1)])
-    with pytest.raises(palmheap.FileFault) as it:
-        large.to_bytes()
-    assert it.value.kind == palmheap.Kind.TOO_LARGE
+def test_large():
+    data = bytes(17_000_000)
+    file = palmheap.Database(b"x", b"DATA", b"memo", records=[palmheap.Record(data, 1)]).to_bytes()
+    assert len(file) == 88 + len(data)
+    assert palmheap.Database.from_bytes(file).records[0].data == data
 
 
 def test_images():

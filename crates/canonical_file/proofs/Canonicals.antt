@@ -11,6 +11,7 @@ use Rattle.pdb_format.proofs.ReadFiles.{reads}
 use Rattle.pdb_format.proofs.ReadOnce.{read_once}
 use Rattle.palm_text.specs.Counted.{Writing}
 use Rattle.file_ids.specs.declared.give.GivenIds.{GivenIds}
+use Rattle.pdb_format.specs.Opened.{most_file_bytes}
 use Rattle.canonical_file.specs.Canonical.{GetsIds, IsCanonical, WritesCanonical, WritesOne, WroteCanonical, WroteOne}
 use Rattle.canonical_file.specs.declared.canonical.CanonicalFault.{CanonicalFault}
 use Rattle.canonical_file.specs.declared.changes.Changes.{Changes}
@@ -91,7 +92,7 @@ stays file d changes known tested = (
 canonical_is : (file bytes : List ℕ) (d : Database (Option (List ℕ))) → Known file d → (is : IsCanonical file bytes) → bytes ≡ file_of d
 canonical_is file bytes d known is = is.written ∙ ap file_of (read_once file is.database d is.reads known.reads)
 
-pub are_changes : (file ids : List ℕ) (seed : ℕ) (changes : Changes) → AreBytes file → length file ≤ 16777216 → HasNoFault file → AreGivenIn file ids seed → AreTested file changes → AreChanges file changes
+pub are_changes : (file ids : List ℕ) (seed : ℕ) (changes : Changes) → AreBytes file → length file ≤ most_file_bytes → HasNoFault file → AreGivenIn file ids seed → AreTested file changes → AreChanges file changes
 are_changes file ids seed changes bytes short good given tested =
     let d : Database (Option (List ℕ)) = database_read file ids seed in
     let known = known_of file ids seed bytes short good given in

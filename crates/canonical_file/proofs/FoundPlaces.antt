@@ -9,12 +9,12 @@ use Rattle.std.proofs.lemmas.List.Elements.{All-replicate}
 use Rattle.std.proofs.lemmas.List.Sorted.{IsPermutation-refl, IsPermutation-cons, IsPermutation-trans, IsPermutation-insert, IsNonDecreasingBy-short, IsNonDecreasingBy-insert}
 use Rattle.std.proofs.lemmas.List.Sums.{prefix_len-le-length, prefix_len_passes, prefix_len_stops}
 use Rattle.laws_heap.proofs.Tests.{leb-is-true}
-use Rattle.heap_model.specs.Files.{HasNoFault, offsets_in}
+use Rattle.heap_model.specs.Files.{HasNoFault, entries_end, offsets_in}
 use Rattle.pdb_format.specs.Blocks.{length_within}
 use Rattle.pdb_format.specs.Opened.{HasPlaces}
 use Rattle.pdb_format.specs.Starts.{begins, order, starts_in}
 use Rattle.pdb_format.specs.declared.blocks.Block.{Block}
-use Rattle.pdb_format.proofs.PlacedBlocks.{ArePut, all_placed, all_put, all_within, file_sorted, none_taken, nothing_put, put_more, taken_more, taken_most}
+use Rattle.pdb_format.proofs.PlacedBlocks.{ArePut, all_placed, all_put, all_within, file_sorted, first_behind, none_taken, nothing_put, put_more, taken_more, taken_most}
 use Rattle.pdb_format.proofs.SortedStarts.{AreSorted}
 
 -- ---- a list can be sorted
@@ -93,6 +93,6 @@ finds_places file good few =
         places = placed;
         are = all_put file all.blocks placed;
         within = all_within (offsets_in file) (length file) items all.blocks sorted all.put;
-        total = taken_most (length file) items all.blocks (length items) (omega arith) all.taken;
+        total = taken_most (length file) (entries_end file) items all.blocks (length items) (omega arith) (first_behind file items good sorted) all.taken;
       };
     }

@@ -1,25 +1,28 @@
 -- The database that is read with the IDs that a file's records are given.
-use Rattle.std.proofs.Common.{◌≡◌, ℕ, ◌<◌, ◌≤◌, Bool, true, false, Option, List, length, refl, sym, subst, ◌∙◌, arith}
+use Rattle.std.proofs.Common.{◌≡◌, ℕ, ◌+◌, ◌<◌, ◌≤◌, Bool, true, false, Option, List, length, refl, sym, ap, subst, ◌∙◌, arith}
 use Rattle.std.specs.Prelude.{◌↔◌, All, not, IsTrue, IsFalse}
 use Rattle.heap_model.specs.Bytes.{AreBytes}
 use Rattle.heap_model.specs.Lists.{Distinct}
 use Rattle.heap_model.specs.UniqueIds.{greatest_id}
 use Rattle.heap_model.specs.Database.{Database, database_in}
 use Rattle.heap_model.specs.Store.{unique_ids}
-use Rattle.heap_model.specs.Files.{HasNoFault, Reads}
+use Rattle.heap_model.specs.Files.{HasNoFault, Reads, entries_end}
 use Rattle.pdb_format.specs.ReadFiles.{database_read}
 use Rattle.pdb_format.proofs.FileIds.{given_long}
-use Rattle.pdb_format.proofs.ReadFiles.{reads}
+use Rattle.pdb_format.proofs.ReadFiles.{blocks_read_are, reads}
 use Rattle.pdb_format.proofs.ReadIds.{given_same}
+use Rattle.pdb_format.specs.Opened.{most_file_bytes}
 use Rattle.canonical_file.specs.Changes.{KeepsIds, Says}
 use Rattle.canonical_file.specs.Given.{AreGivenIn}
+use Rattle.pdb_format.proofs.WrittenOffsets.{all_bytes}
 use Rattle.canonical_file.proofs.Kept.{Known}
+use Rattle.canonical_file.proofs.Lengths.{file_long}
 
 -- they are the IDs of its records
 ids_are : (file ids : List ℕ) (seed : ℕ) → AreGivenIn file ids seed → (d : Database (Option (List ℕ))) → (read : Reads file d) → (unique_ids d ≡ ids) × (read.last_seed ≡ seed)
 ids_are file ids seed given d read = given_same _ _ _ _ (unique_ids d) ids read.last_seed seed read.ids given.have
 
-pub known_of : (file ids : List ℕ) (seed : ℕ) → AreBytes file → length file ≤ 16777216 → HasNoFault file → AreGivenIn file ids seed → Known file (database_read file ids seed)
+pub known_of : (file ids : List ℕ) (seed : ℕ) → AreBytes file → length file ≤ most_file_bytes → HasNoFault file → AreGivenIn file ids seed → Known file (database_read file ids seed)
 known_of file ids seed bytes short good given =
     let read = reads file ids seed good given.have in
     let are = ids_are file ids seed given (database_read file ids seed) read in
@@ -29,6 +32,7 @@ known_of file ids seed bytes short good given =
       bytes = bytes;
       short = short;
       reads = read;
+      long = file_long file ids seed good ∙ ap (λ (blocks : List (Option (List ℕ))). entries_end file + 2 + length (all_bytes blocks)) (sym (blocks_read_are file ids seed));
       fit = subst (λ (xs : List ℕ). All (λ id. (0 < id) × (id ≤ greatest_id)) xs) (sym are.0) given.fit;
       distinct = subst (λ (xs : List ℕ). Distinct xs) (sym are.0) given.distinct;
       seed = omega arith;

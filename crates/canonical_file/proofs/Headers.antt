@@ -1,18 +1,22 @@
 -- The header of a canonical form.
-use Rattle.std.proofs.Common.{◌≡◌, ℕ, ◌+◌, Option, None, List, length, map, get_or, refl, sym, ap, ◌∙◌, arith}
+use Rattle.std.proofs.Common.{◌≡◌, ℕ, ◌+◌, ◌^◌, ◌<◌, ◌≤◌, Option, None, List, [], ◌∷◌, length, drop, map, get_or, refl, sym, ap, ◌∙◌, arith}
+use Rattle.std.specs.List.{sum_by}
 use Rattle.std.proofs.lemmas.List.{length-map}
+use Rattle.std.proofs.lemmas.List.Sums.{sum_by-cons}
 use Rattle.heap_model.specs.Database.{Database, has_resources, header_in, resources_in, entry_count_in, entry_offset}
 use Rattle.heap_model.specs.Files.{blocks_in, idle_entry, idle, block_size, block_offset, with_offsets, first_block}
 use Rattle.db_format.specs.declared.header.DbHeader.{DbHeader}
 use Rattle.db_format.specs.Headers.{header_values, IsHeaderOf}
-use Rattle.pdb_format.specs.Blocks.{bytes_at, IsBlockWithin, length_within}
+use Rattle.pdb_format.specs.Blocks.{bytes_at, places_in, IsBlockWithin, length_within}
 use Rattle.pdb_format.specs.Filler.{first_place}
 use Rattle.pdb_format.specs.FileTexts.{data_at}
+use Rattle.pdb_format.specs.Opened.{HasPlaces}
 use Rattle.pdb_format.specs.declared.blocks.Block.{Block}
 use Rattle.pdb_format.specs.ReadFiles.{header_read, entries_read, database_read}
 use Rattle.pdb_format.proofs.FileParts.{length-with_offsets}
 use Rattle.pdb_format.proofs.ReadFiles.{length-entries_read}
-use Rattle.pdb_format.proofs.FileBlocks.{block_long}
+use Rattle.pdb_format.proofs.FileBlocks.{block_long, length-blocks}
+use Rattle.canonical_file.specs.Canonical.{most_bytes}
 
 kind_is : (file : List ℕ) → has_resources (header_in file).attributes ≡ resources_in file
 unfolding header_in
@@ -45,6 +49,25 @@ data_at_is file ids seed app sort app_here app_within sort_here sort_within =
     let first = first_is file ids seed in
     let app_size = app_long file ids seed app app_here app_within in
     let sort_size = sort_long file ids seed sort sort_here sort_within in
+    omega arith
+
+-- ---- its offsets have four bytes
+
+infos_and_data : (blocks : List (Option Block)) → 2 ≤ length blocks → sum_by length_within blocks ≡ length_within (get_or blocks 0 None) + length_within (get_or blocks 1 None) + sum_by length_within (drop 2 blocks)
+infos_and_data [] many = absurd (omega arith)
+infos_and_data (app ∷ []) many = absurd (omega arith)
+infos_and_data (app ∷ sort ∷ blocks) many =
+    let one = sum_by-cons length_within app (sort ∷ blocks) in
+    let two = sum_by-cons length_within sort blocks in
+    omega arith
+
+-- all of its blocks, one after the other
+pub offsets_fit : (file : List ℕ) → HasPlaces file (places_in file) → length file ≤ most_bytes
+    → first_place file + length_within (get_or (places_in file) 0 None) + length_within (get_or (places_in file) 1 None) + sum_by length_within (drop 2 (places_in file)) < 2 ^ 32
+offsets_fit file places short =
+    let long = length-blocks file (places_in file) places.are in
+    let parts = infos_and_data (places_in file) (omega arith) in
+    let total = places.total in
     omega arith
 
 same_offset : (at other : ℕ) (block same : Option (List ℕ)) → at ≡ other → block ≡ same → block_offset at block ≡ block_offset other same

@@ -26,6 +26,7 @@ use Rattle.pdb_format.proofs.WrittenIds.{ids_stay, header_stays}
 use Rattle.pdb_format.proofs.WrittenOffsets.{all_bytes, running, size_more, offset_most}
 use Rattle.pdb_format.specs.Filler.{first_start}
 use Rattle.pdb_format.proofs.LeastOffsets.{least_most}
+use Rattle.pdb_format.specs.Opened.{most_file_bytes}
 use Rattle.canonical_file.specs.Changes.{IsIdle, NoneIsBusy, HasPlainFiller, HasPlainName, AreRising, IsInOrder}
 use Rattle.canonical_file.proofs.Rising.{first_of, least_first, some_pass}
 use Rattle.canonical_file.proofs.Tiled.{AreTiled, tiled}
@@ -34,8 +35,9 @@ use Rattle.canonical_file.proofs.Placed.{placed, data_from, same_head, entries_b
 -- what is known of a file and of the database that is read from it
 pub record Known (file : List ℕ) (d : Database (Option (List ℕ))) : Type 0 where
   pub bytes : AreBytes file
-  pub short : length file ≤ 16777216
+  pub short : length file ≤ most_file_bytes
   pub reads : Reads file d
+  pub long : length (file_of d) ≡ entries_end file + 2 + length (all_bytes (data_in d))
   pub fit : All (λ id. (0 < id) × (id ≤ greatest_id)) (unique_ids d)
   pub distinct : Distinct (unique_ids d)
   pub seed : reads.last_seed ≤ greatest_id
@@ -323,9 +325,9 @@ placed_fits file d k same =
     let front = front_of file k.bytes k.reads.good (plain_name file d k.reads same) in
     let was : Database ℕ = database_in file in
     let all = total d in
-    let long = file_length file d same in
+    let long = k.long in
+    let same_long = ap length same in
     let short = k.short in
-    let inside = (not_truncated file k.reads.good).1 in
     let first = first_read file d k.reads in
     let app = offset_most (first_block d) d.app_info in
     let sort = offset_most (first_block d + block_size d.app_info) d.sort_info in

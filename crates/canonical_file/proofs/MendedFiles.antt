@@ -26,7 +26,7 @@ pub resources_sound : (file : List ℕ) → has_resources (sound_in file).header
 unfolding sound_in header_in
 resources_sound file = refl
 
-front_long : (file : List ℕ) → AreBytes file → length (front file) ≡ entry_offset (resources_in file) (length (sound_in file).entries)
+pub front_long : (file : List ℕ) → AreBytes file → length (front file) ≡ entry_offset (resources_in file) (length (sound_in file).entries)
 unfolding front
 front_long file b = length-spelled (sound_in file) (sound_fits file b) ∙ ap (λ (r : Bool). entry_offset r (length (sound_in file).entries)) (resources_sound file)
 
@@ -83,7 +83,7 @@ pub mended_heads : (file : List ℕ) → AreBytes file → IsHeaded (mended file
 unfolding mended
 mended_heads file b = spelled_heads (sound_in file) (drop (length (spelled (sound_in file))) file) (sound_fits file b)
 
-mended_end : (file : List ℕ) → AreBytes file → entries_end (mended file) ≡ length (front file)
+pub mended_end : (file : List ℕ) → AreBytes file → entries_end (mended file) ≡ length (front file)
 mended_end file b =
     let head = mended_heads file b in
     ap (λ (r : Bool). entry_offset r (entry_count_in (mended file))) (head.resources ∙ resources_sound file)

@@ -26,7 +26,7 @@ use Rattle.canonical_file.proofs.FoundPlaces.{finds_places}
 use Rattle.canonical_file.proofs.GivenFit.{given_fit}
 use Rattle.canonical_file.proofs.Kept.{fits_seeded}
 use Rattle.canonical_file.proofs.KeptEntries.{data_at}
-use Rattle.canonical_file.proofs.MendedFiles.{mended_blocks, mended_good, mended_heads, mended_long, resources_sound, sound_entries}
+use Rattle.canonical_file.proofs.MendedFiles.{front_long, mended_blocks, mended_end, mended_good, mended_heads, mended_long, resources_sound, sound_entries}
 use Rattle.canonical_file.proofs.SoundParts.{attributes_there, few, header_fits, inside, sound_few, sound_fits, sound_named, whole_most}
 
 -- ---- the IDs that are given
@@ -122,11 +122,7 @@ none_at file d blocks same k e s below none =
 
 -- ---- the file
 
-first_most : (r : Bool) (n : ℕ) → n < 2 ^ 16 → entry_offset r n + 2 < 2 ^ 20
-first_most false n few = omega arith
-first_most true n few = omega arith
-
-blocks_fit : (file : List ℕ) → AreBytes file → 78 ≤ length file → length (all_bytes (sound_blocks file)) ≤ length file
+blocks_fit : (file : List ℕ) → AreBytes file → 78 ≤ length file → entry_offset (resources_in file) (length (sound_in file).entries) + length (all_bytes (sound_blocks file)) ≤ length file
 blocks_fit file b header =
     let good = mended_good file b header in
     let count = offset_count (mended file) in
@@ -139,6 +135,8 @@ blocks_fit file b header =
     let total = found.places.total in
     let same = ap (λ (bs : List (Option (List ℕ))). length (all_bytes bs)) (sym (mended_blocks file b header)) ∙ blocks_long (mended file) found.blocks found.places in
     let long = mended_long file b header in
+    let end = mended_end file b in
+    let front = front_long file b in
     omega arith
 
 pub salvaged_file : (rule : SalvagedIds) (file : List ℕ) (d : Database (Option (List ℕ))) → AreBytes file → 78 ≤ length file → length file ≤ most_bytes → IsSalvaged rule file d → HasFile d
@@ -151,7 +149,7 @@ salvaged_file rule file d b header short is =
     let all = few file b in
     let size = blocks_fit file b header in
     let data_size = ap (λ (bs : List (Option (List ℕ))). length (all_bytes bs)) is.blocks in
-    let first = first_most (has_resources d.header.attributes) (length d.entries) (omega arith) in
+    let first = ap (λ (r : Bool). entry_offset r (length d.entries)) kind ∙ ap (entry_offset (resources_in file)) (sym same) in
     record {
       name = subst (λ (h : DatabaseHeader). IsDatabaseName h.name) (sym is.header) (sound_named file);
       header = subst HeaderFits (sym is.header) (fits_seeded (sound_header file) is.last_seed (header_fits file b) ids.1);

@@ -1,11 +1,12 @@
 -- The canonical form of a file.
-use Rattle.std.specs.Prelude.{◌≡◌, ◌≤◌, ◌++◌, ◌^◌, ℕ, Bool, true, List, length, slice_range, Option}
+use Rattle.std.specs.Prelude.{◌≡◌, ◌≤◌, ◌++◌, ◌-◌, ℕ, Bool, true, List, length, slice_range, Option}
 use Rattle.palm_text.specs.Counted.{Writing, Writes}
 use Rattle.heap_model.specs.UniqueIds.{greatest_id, seed_in}
 use Rattle.heap_model.specs.Database.{Database, Entry, entry_with, header_in, database_in}
 use Rattle.heap_model.specs.Store.{unique_ids}
 use Rattle.heap_model.specs.Files.{HasNoFault, HaveIds, IsFirstFault, Reads, idle_entry, block_bytes, block_offset, file_of}
 use Rattle.pdb_format.specs.Blocks.{bytes_at}
+use Rattle.pdb_format.specs.Opened.{most_file_bytes}
 use Rattle.pdb_format.specs.ReadFiles.{HasIdsFor}
 use Rattle.pdb_format.specs.declared.blocks.Block.{Block}
 use Rattle.file_ids.specs.declared.give.GivenIds.{GivenIds}
@@ -20,9 +21,10 @@ pub record IsCanonical (file bytes : List ℕ) : Type 0 where
   pub reads : Reads file database
   pub written : bytes ≡ file_of database
 
--- the most bytes that a file may have here: 16 MiB
+-- The most bytes that a file may have that is rewritten. A canonical form has at most two bytes more
+-- than the file, so it is at most as large as a file may be.
 abbrev pub most_bytes : ℕ
-most_bytes = 2 ^ 24
+most_bytes = most_file_bytes - 2
 
 -- bytes with a property go to a writer: all of them if `ok`, or else a prefix of them
 abbrev pub WritesOne : {W : Type 0} → (List ℕ → Type 0) → (W → Option (List ℕ)) → Writing W → Writing W → Bool → Type 0

@@ -17,10 +17,13 @@ use allowance::{Allowance, room_for};
 use file_ids::{GivenIds, give_ids};
 use heap_model::FileFault;
 use palm_text::{Counted, WriteFault, put_all};
-use pdb_format::{FILLER, PdbFile};
+use pdb_format::{FILLER, MOST_FILE_BYTES, PdbFile};
 use std::alloc::AllocError;
 use std::io::Write;
 use thiserror::Error;
+
+/// The greatest size in bytes of a file that is rewritten. Its canonical form can be two bytes longer.
+pub const MOST_BYTES: usize = MOST_FILE_BYTES - 2;
 
 /// The reason why no canonical form was written.
 #[derive(Clone, Copy, Debug, PartialEq, Eq, Error)]

@@ -1,7 +1,8 @@
 //! The changes of a file.
 
 ghost use Rattle.std.specs.Prelude.{◌≡◌, ◌≤◌, ℕ, IsTrue, length, IfOk, OnErr, All};
-ghost use Rattle.canonical_file.specs.Canonical.{IsCanonical, most_bytes};
+ghost use Rattle.pdb_format.specs.Opened.{most_file_bytes};
+ghost use Rattle.canonical_file.specs.Canonical.{IsCanonical};
 ghost use Rattle.canonical_file.specs.Changes as words;
 ghost use Rattle.canonical_file.specs.Changes.{AreChanges};
 ghost use Rattle.canonical_file.specs.Given.{AreGivenIn};
@@ -39,7 +40,7 @@ impl Changes {
 
 /// The same as `find_changes`, for the IDs that the file's records get. It allocates nothing.
 pub fn changes_by(file: &PdbFile<'_>, given: &GivenIds) -> Changes
-    requires short { length file.now ≤ most_bytes }
+    requires short { length file.now ≤ most_file_bytes }
     requires given { AreGivenIn file.now given.now.ids.items given.now.seed }
     ensures changes { AreChanges file.now result }
     ensures same { IsTrue (words.is_none result) → IsCanonical file.now file.now }
@@ -64,7 +65,7 @@ pub fn changes_by(file: &PdbFile<'_>, given: &GivenIds) -> Changes
 ///
 /// - `AllocError`: if an allocation failed.
 pub fn find_changes<A: Allowance>(memory: &A, file: &PdbFile<'_>) -> Result<Changes, AllocError>
-    requires { length file.now ≤ most_bytes }
+    requires { length file.now ≤ most_file_bytes }
     ensures changes { IfOk result (AreChanges file.now) }
     ensures same { IfOk result (λ changes.
         IsTrue (words.is_none changes) → IsCanonical file.now file.now) }

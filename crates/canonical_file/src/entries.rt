@@ -1,13 +1,14 @@
 //! The entries of a canonical form.
 
-ghost use Rattle.std.specs.Prelude.{◌≡◌, ◌≤◌, ◌<◌, ◌+◌, ◌++◌, ◌^◌, length, vec_len, vec_capacity, slice_index_or, None};
+ghost use Rattle.std.specs.Prelude.{◌≡◌, ◌≤◌, ◌<◌, ◌+◌, ◌++◌, ◌^◌, drop, length, vec_len, vec_capacity, slice_index_or, None};
+ghost use Rattle.std.specs.List.{sum_by};
 ghost use Rattle.heap_model.specs.Database.{entry_count_in};
 ghost use Rattle.heap_model.specs.Files.{blocks_in};
 ghost use Rattle.db_format.specs.EitherEntry.{entry_of, HasFittingId};
-ghost use Rattle.pdb_format.specs.Blocks.{bytes_at};
+ghost use Rattle.pdb_format.specs.Blocks.{bytes_at, length_within, places_in};
 ghost use Rattle.pdb_format.specs.FileTexts.{entries_text};
 ghost use Rattle.pdb_format.specs.ReadFiles.{entries_read, entry_read_at};
-ghost use Rattle.canonical_file.specs.Canonical.{placed_entry, most_bytes};
+ghost use Rattle.canonical_file.specs.Canonical.{placed_entry};
 ghost use Rattle.canonical_file.specs.Written.{CanHaveIds, ids_of};
 
 use crate::blocks::{append, block_length, block_offset};
@@ -41,9 +42,8 @@ pub(crate) fn append_entries(
     first: u32,
     bytes: &mut Vec<u8>,
 )
-    requires size { length file.now ≤ most_bytes }
     requires ids { CanHaveIds file.now ids }
-    requires short { first ≤ 2 ^ 26 }
+    requires fits { first + sum_by length_within (drop 2 (places_in file.now)) < 2 ^ 32 }
     requires room { vec_len bytes.old
         + length (entries_text first (entries_read file.now (ids_of file.now ids)))
         ≤ vec_capacity bytes.old }

@@ -1,6 +1,7 @@
 //! The header of a canonical form, and the offsets of its blocks.
 
-ghost use Rattle.std.specs.Prelude.{◌≡◌, ◌≤◌, ◌<◌, ◌+◌, ◌^◌, ℕ, List, length, slice_index_or, None};
+ghost use Rattle.std.specs.Prelude.{◌≡◌, ◌≤◌, ◌<◌, ◌+◌, ◌^◌, ℕ, List, drop, length, slice_index_or, None};
+ghost use Rattle.std.specs.List.{sum_by};
 ghost use Rattle.heap_model.specs.Database.{entry_count_in};
 ghost use Rattle.heap_model.specs.UniqueIds.{greatest_id};
 ghost use Rattle.pdb_format.specs.Blocks.{places_in, length_within};
@@ -16,8 +17,9 @@ use pdb_format::PdbFile;
 pub(crate) fn data_start(file: &PdbFile<'_>) -> u32
     requires { length file.now ≤ most_bytes }
     ensures is { (ids : List ℕ) (seed : ℕ) → result ≡ data_at (database_read file.now ids seed) }
-    ensures most { result ≤ 2 ^ 26 }
+    ensures fits { result + sum_by length_within (drop 2 (places_in file.now)) < 2 ^ 32 }
 {
+    file.know_file();
     let app = file.block(0);
     let sort = file.block(1);
     file.first_place() + block_length(app) as u32 + block_length(sort) as u32
@@ -29,6 +31,7 @@ pub(crate) fn header_bytes(file: &PdbFile<'_>, seed: u32) -> [u8; DATABASE_HEADE
     requires seed { seed ≤ greatest_id }
     ensures { (ids : List ℕ) → result ≡ header_text (database_read file.now ids seed) }
 {
+    file.know_file();
     let app = file.block(0);
     let app_at = file.first_place();
     let sort_at = app_at + block_length(app) as u32;

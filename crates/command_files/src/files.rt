@@ -5,19 +5,19 @@ ghost use Rattle.std.specs.Prelude.{[], ◌≡◌, ◌≤◌, ◌⊎◌, ◌++�
 
 use crate::faults::{STANDARD_INPUT, STANDARD_STREAM, fail, fail_to_read};
 use crate::outputs::close_output;
-use crate::region_input::{SizedFault, read_sized};
+use crate::region_input::{SizedFault, read_sized, size_of};
 use crate::replacing::output_for_database;
 use heap_model::Bytes;
 use palm_text::{Counted, put};
-use program_io::{InputFault, MOST_INPUT, Noted, Status, read_input_from, report_outcome};
+use program_io::{InputFault, MOST_INPUT, Noted, Status, read_within, report_outcome};
 use raw_region::Region;
 use std::alloc::{AllocError, Global};
 use std::fs;
 use std::fs::File;
-use std::io::Input;
+use std::io::{Input, Read};
 use std::rt::Files;
 
-/// Reads a whole file.
+/// Reads a whole file of at most `MOST_INPUT` bytes.
 ///
 /// # Errors
 /// - `ReadFault`: the file can't be read, or is longer than `MOST_INPUT`.
@@ -26,8 +26,20 @@ pub fn read_file<R: Files + Eprint + AllocGlobal>(rt: &R, path: &str) -> Result<
     ensures limit { IfOk result (λ bytes. vec_len bytes ≤ MOST_INPUT) }
     ensures faults { IfErr result (λ status. (status ≡ Status.ReadFault) ⊎ (status ≡ Status.NoMemory)) }
 {
+    read_file_within(rt, path, MOST_INPUT)
+}
+
+/// The same as `read_file`, with `most` as the greatest size.
+pub fn read_file_within<R: Files + Eprint + AllocGlobal>(
+    rt: &R,
+    path: &str,
+    most: usize,
+) -> Result<Vec<u8>, Status>
+    ensures limit { IfOk result (λ bytes. vec_len bytes ≤ most) }
+    ensures faults { IfErr result (λ status. (status ≡ Status.ReadFault) ⊎ (status ≡ Status.NoMemory)) }
+{
     let read = match File::open(rt, path) {
-        Ok(mut file) => read_input_from(&rt.alloc(), &mut file),
+        Ok(mut file) => read_opened(rt, path, &mut file, most),
         Err(error) => Err(InputFault::from(error)),
     };
     match read {
@@ -36,7 +48,24 @@ pub fn read_file<R: Files + Eprint + AllocGlobal>(rt: &R, path: &str) -> Result<
     }
 }
 
-/// Reads a whole file. The path `-` means standard input.
+/// Reads a whole file that is open, and whose path this is. If the path has a size, it takes that
+/// much memory at once, or reads nothing if the size is too great.
+fn read_opened<R: Files + AllocGlobal, F: Read>(
+    rt: &R,
+    path: &str,
+    file: &mut F,
+    most: usize,
+) -> Result<Vec<u8>, InputFault>
+    ensures limit { IfOk result (λ bytes. vec_len bytes ≤ most) }
+{
+    let size = size_of(rt, path).unwrap_or(0);
+    if size > most as u64 {
+        return Err(InputFault::LongerThan(most));
+    }
+    read_within(&rt.alloc(), file, size as usize, most)
+}
+
+/// Reads a whole file of at most `MOST_INPUT` bytes. The path `-` means standard input.
 pub fn read_file_or_input<R: Files + Input + Eprint + AllocGlobal>(
     rt: &R,
     path: &str,
@@ -44,10 +73,22 @@ pub fn read_file_or_input<R: Files + Input + Eprint + AllocGlobal>(
     ensures limit { IfOk result (λ bytes. vec_len bytes ≤ MOST_INPUT) }
     ensures faults { IfErr result (λ status. (status ≡ Status.ReadFault) ⊎ (status ≡ Status.NoMemory)) }
 {
+    read_file_or_input_within(rt, path, MOST_INPUT)
+}
+
+/// The same as `read_file_or_input`, with `most` as the greatest size.
+pub fn read_file_or_input_within<R: Files + Input + Eprint + AllocGlobal>(
+    rt: &R,
+    path: &str,
+    most: usize,
+) -> Result<Vec<u8>, Status>
+    ensures limit { IfOk result (λ bytes. vec_len bytes ≤ most) }
+    ensures faults { IfErr result (λ status. (status ≡ Status.ReadFault) ⊎ (status ≡ Status.NoMemory)) }
+{
     if path != STANDARD_STREAM {
-        return read_file(rt, path);
+        return read_file_within(rt, path, most);
     }
-    match read_input_from(&rt.alloc(), &mut rt.reader()) {
+    match read_within(&rt.alloc(), &mut rt.reader(), 0, most) {
         Ok(bytes) => Ok(bytes),
         Err(fault) => Err(fail_to_read(rt, STANDARD_INPUT, fault)),
     }

@@ -31,8 +31,8 @@ pub use faults::{
     input_name,
 };
 pub use files::{
-    read_file, read_file_or_input, read_files, read_image, report_left_files, write_file,
-    write_files,
+    read_file, read_file_or_input, read_file_or_input_within, read_file_within, read_files,
+    read_image, report_left_files, write_file, write_files,
 };
 pub use line_hints::report_line_hint;
 pub use outputs::{close_output, report_image, report_output, report_outputs};

@@ -33,24 +33,20 @@ pub(crate) fn read_sized<R: Files + AllocGlobal>(rt: &R, path: &str) -> Result<R
     ensures limit { IfOk result (λ region. length region.bytes ≤ MOST_INPUT) }
     ensures whole { IfOk result (λ region. region.lents ≡ []) }
 {
-    let Some(size) = size_of(rt, path) else {
-        return Err(SizedFault::OtherSize);
+    let size = match size_of(rt, path) {
+        Some(size) if size <= MOST_INPUT as u64 => size,
+        _ => return Err(SizedFault::OtherSize),
     };
     match File::open(rt, path) {
-        Ok(mut file) => read_region_from(&rt.alloc(), &mut file, size),
+        Ok(mut file) => read_region_from(&rt.alloc(), &mut file, size as u32),
         Err(error) => Err(SizedFault::Input(InputFault::from(error))),
     }
 }
 
-/// Returns the size of the file at a path in bytes. Returns `None` if there is no file, or if it is
-/// longer than `MOST_INPUT`.
-fn size_of(rt: &impl Files, path: &str) -> Option<u32>
-    ensures { IfSome result (λ size. size ≤ MOST_INPUT) }
-{
+/// Returns the size of the file at a path in bytes. Returns `None` if there is no file.
+pub(crate) fn size_of(rt: &impl Files, path: &str) -> Option<u64> {
     match fs::metadata(rt, path) {
-        Ok(found) if found.is_file() && found.len() <= MOST_INPUT as u64 => {
-            Some(found.len() as u32)
-        }
+        Ok(found) if found.is_file() => Some(found.len()),
         _ => None,
     }
 }

@@ -3,7 +3,7 @@
 ghost use Rattle.std.specs.Prelude.{◌≡◌, ◌≤◌, ◌⊎◌, ◌++◌, is_ok, length, option_map};
 ghost use Rattle.palm_text.specs.Counted.{Writes};
 ghost use Rattle.palm_text.specs.Output.{Puts};
-ghost use Rattle.canonical_file.specs.Canonical.{most_bytes};
+ghost use Rattle.pdb_format.specs.Opened.{most_file_bytes};
 ghost use Rattle.canonical_file.specs.Changes.{changes_line};
 ghost use Rattle.file_listing.specs.Lines.{heading};
 ghost use Rattle.file_commands.specs.Ends.{EndsChanges};
@@ -26,7 +26,7 @@ pub fn cmd_changes_from<A: Allowance, V: Write>(
     file: &[u8],
     out: &mut Counted<V>,
 ) -> Status
-    requires { length file.now ≤ most_bytes }
+    requires { length file.now ≤ most_file_bytes }
     ensures ends { EndsChanges (option_map (λ path. path.now) path.entry) file.now
         V.contents out.old out.new result }
     ensures short { result ≡ Status.NoMemory → A.is_short memory.now }
@@ -46,7 +46,7 @@ fn say_changes<A: Allowance, V: Write>(
     file: &PdbFile<'_>,
     out: &mut Counted<V>,
 ) -> Status
-    requires { length file.now ≤ most_bytes }
+    requires { length file.now ≤ most_file_bytes }
     ensures ends { EndsChanges (option_map (λ path. path.now) path.entry) file.now
         V.contents out.old out.new result }
     ensures short { result ≡ Status.NoMemory → A.is_short memory.now }

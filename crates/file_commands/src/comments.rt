@@ -11,7 +11,7 @@ use heap_model::Bytes;
 use hints::{
     MAC_HEADER_SIZE, looks_like_image, looks_like_mac, looks_like_page, parts_hint, without_returns,
 };
-use pdb_format::check_file;
+use pdb_format::{MOST_FILE_BYTES, check_file};
 use program_io::{MOST_INPUT, Status};
 
 /// Reports on standard error how many bytes of a file a rewrite drops. It reports nothing if the
@@ -79,7 +79,7 @@ pub(crate) fn comment_on_salvage<R: Eprint + AllocGlobal>(
 /// transfer may have made of the file. It reports nothing if the file has no fault, looks like an
 /// image, or is longer than all files that are read.
 pub fn comment_on_damage<R: Eprint + AllocGlobal>(rt: &R, path: &str, file: &[u8]) {
-    if file.len() > MOST_INPUT || looks_like_image(file) {
+    if file.len() > MOST_FILE_BYTES || looks_like_image(file) {
         return;
     }
     if let Err(fault) = check_file(file) {
@@ -107,9 +107,12 @@ fn name_transfer<R: Eprint + AllocGlobal>(rt: &R, path: &str, file: &[u8]) {
     }
 }
 
-/// Returns whether a file is what a transfer as text makes of a file without a fault. If an
-/// allocation fails, it returns `false`.
+/// Returns whether a file of at most `MOST_INPUT` bytes is what a transfer as text makes of a file
+/// without a fault. If an allocation fails, it returns `false`.
 fn is_converted<R: AllocGlobal>(rt: &R, file: &[u8]) -> bool {
+    if file.len() > MOST_INPUT {
+        return false;
+    }
     match without_returns(&rt.alloc(), file) {
         Ok(Some(original)) => check_file(original.as_slice()).is_ok(),
         Ok(None) | Err(_) => false,

@@ -4,7 +4,7 @@ ghost use Rattle.std.specs.Prelude.{◌≡◌, ◌≤◌, ◌⊎◌, length, tru
 ghost use Rattle.heap_model.specs.Files.{IsFirstFault};
 ghost use Rattle.palm_text.specs.Output.{Puts};
 ghost use Rattle.palm_text.specs.Counted.{Writes};
-ghost use Rattle.canonical_file.specs.Canonical.{most_bytes};
+ghost use Rattle.pdb_format.specs.Opened.{most_file_bytes};
 ghost use Rattle.file_commands.specs.Ends.{PutsFaultRow, count_line, rewritten_lines};
 ghost use Rattle.file_listing.specs.Listing.{fault_row};
 
@@ -24,7 +24,7 @@ fn put_fault_row<N: Notation, V: Write>(
     file: &[u8],
     fault: FileFault,
 ) -> Result<(), WriteFault>
-    requires short { length file.now ≤ most_bytes }
+    requires short { length file.now ≤ most_file_bytes }
     requires first { IsFirstFault file.now fault }
     ensures { Puts V.contents out.old out.new (N.row_text notation.now (fault_row file.now fault))
         (is_ok result) }
@@ -41,7 +41,7 @@ pub(crate) fn say_fault<N: Notation, V: Write>(
     file: &[u8],
     fault: FileFault,
 ) -> Status
-    requires short { length file.now ≤ most_bytes }
+    requires short { length file.now ≤ most_file_bytes }
     requires first { IsFirstFault file.now fault }
     ensures statuses { (result ≡ Status.Refused) ⊎ (result ≡ Status.WriteFault) }
     ensures refused { result ≡ Status.Refused

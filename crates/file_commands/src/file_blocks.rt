@@ -9,11 +9,12 @@ use crate::file_rewrites::{NewFile, write_to};
 use crate::get_command::cmd_get_from;
 use crate::put_command::NewBlock;
 use crate::wanted::find_block;
-use command_files::{STANDARD_ERROR, STANDARD_OUTPUT, input_name, read_file_or_input};
+use canonical_file::MOST_BYTES;
+use command_files::{STANDARD_ERROR, STANDARD_OUTPUT, input_name, read_file_or_input_within};
 use heap_model::Refusal;
 use palm_text::Counted;
-use pdb_format::PdbFile;
-use program_io::{ErrorOutput, MOST_INPUT, Noted, Status, report_outcome};
+use pdb_format::{MOST_FILE_BYTES, PdbFile};
+use program_io::{ErrorOutput, Noted, Status, report_outcome};
 use std::io;
 use std::io::Input;
 use std::rt::Files;
@@ -32,7 +33,7 @@ pub fn get<R: Files + Input + Print + Eprint + AllocGlobal>(
     let Some(wanted) = block_of_words(word, id) else {
         return refuse_words(rt, word, id);
     };
-    let file = match read_file_or_input(rt, path) {
+    let file = match read_file_or_input_within(rt, path, MOST_FILE_BYTES) {
         Ok(file) => file,
         Err(status) => return status,
     };
@@ -61,11 +62,11 @@ pub fn put<R: Files + Input + Print + Eprint + AllocGlobal>(
         );
         return Status::BadWords;
     };
-    let file = match read_file_or_input(rt, path) {
+    let file = match read_file_or_input_within(rt, path, MOST_BYTES) {
         Ok(file) => file,
         Err(status) => return status,
     };
-    let part = match read_file_or_input(rt, part_path) {
+    let part = match read_file_or_input_within(rt, part_path, MOST_BYTES) {
         Ok(part) => part,
         Err(status) => return status,
     };
@@ -95,7 +96,7 @@ fn block_of_words(word: &str, id: Option<&str>) -> Option<WantedBlock>
 
 /// Writes a block of a file to standard output, and lines to standard error.
 fn get_block<R: Print + Eprint + AllocGlobal>(rt: &R, file: &[u8], wanted: WantedBlock) -> Status
-    requires { length file.now ≤ MOST_INPUT }
+    requires { length file.now ≤ MOST_FILE_BYTES }
     ensures { result ≢ Status.BadWords }
 {
     let mut block_out = Counted::new(Noted::new(io::writer(rt)));

@@ -5,8 +5,9 @@ ghost use Rattle.std.specs.Prelude.{◌≢◌, ⊤};
 use crate::comments::{WOULD_BE_DROPPED, comment_on_file, name_dropped};
 use crate::inputs::Inputs;
 use crate::reports::{Asked, cmd_reports_from};
-use command_files::{STANDARD_OUTPUT, buffered_fault, fail, read_file_or_input};
+use command_files::{STANDARD_OUTPUT, buffered_fault, fail, read_file_or_input_within};
 use palm_text::Counted;
+use pdb_format::MOST_FILE_BYTES;
 use program_io::{Noted, Status, report_fault, report_outcome};
 use std::io;
 use std::io::{BufWriter, Input};
@@ -22,7 +23,7 @@ impl<R: Files + Input + Eprint + AllocGlobal> Inputs for SystemFiles<'_, R> {
     ghost gives = { λ _ _ _. ⊤ };
 
     fn read(&self, path: &str) -> Result<Vec<u8>, Status> {
-        read_file_or_input(self.rt, path)
+        read_file_or_input_within(self.rt, path, MOST_FILE_BYTES)
     }
 
     /// Reports on standard error if there was not enough memory, what the file looks like, what is

@@ -6,13 +6,13 @@ use crate::canonical_command::cmd_canonical_from;
 use crate::comments::{DROPPED, comment_on_file, comment_on_salvage, name_dropped};
 use crate::put_command::{NewBlock, cmd_put_from};
 use crate::salvage_command::cmd_salvage_from;
-use canonical_file::SalvagedIds;
+use canonical_file::{MOST_BYTES, SalvagedIds};
 use command_files::{
     STANDARD_ERROR, STANDARD_OUTPUT, STANDARD_STREAM, buffered_fault, output_for_database,
-    read_file_or_input,
+    read_file_or_input_within,
 };
 use palm_text::Counted;
-use program_io::{ErrorOutput, MOST_INPUT, Noted, Status, report_outcome};
+use program_io::{ErrorOutput, Noted, Status, report_outcome};
 use std::alloc::Global;
 use std::io;
 use std::io::{BufWriter, Input, Write};
@@ -41,7 +41,7 @@ pub fn canonical<R: Files + Input + Print + Eprint + AllocGlobal>(
 ) -> Status
     ensures { result ≢ Status.BadWords }
 {
-    let file = match read_file_or_input(rt, path) {
+    let file = match read_file_or_input_within(rt, path, MOST_BYTES) {
         Ok(file) => file,
         Err(status) => return status,
     };
@@ -82,7 +82,7 @@ fn salvage_by<R: Files + Input + Print + Eprint + AllocGlobal>(
 ) -> Status
     ensures { result ≢ Status.BadWords }
 {
-    let file = match read_file_or_input(rt, path) {
+    let file = match read_file_or_input_within(rt, path, MOST_BYTES) {
         Ok(file) => file,
         Err(status) => return status,
     };
@@ -98,7 +98,7 @@ pub(crate) fn write_to<R: Files + Print + Eprint + AllocGlobal>(
     new: NewFile<'_>,
     out_path: &str,
 ) -> Status
-    requires { length file.now ≤ MOST_INPUT }
+    requires { length file.now ≤ MOST_BYTES }
     ensures { result ≢ Status.BadWords }
 {
     if out_path == STANDARD_STREAM {
@@ -110,7 +110,7 @@ pub(crate) fn write_to<R: Files + Print + Eprint + AllocGlobal>(
 
 /// Writes a new file for a file to standard output.
 fn write_to_output<R: Print + Eprint + AllocGlobal>(rt: &R, file: &[u8], new: NewFile<'_>) -> Status
-    requires { length file.now ≤ MOST_INPUT }
+    requires { length file.now ≤ MOST_BYTES }
     ensures { result ≢ Status.BadWords }
 {
     let mut out = Counted::new(Noted::new(ErrorOutput::new(rt)));
@@ -131,7 +131,7 @@ fn write_to_file<R: Files + Print + Eprint + AllocGlobal>(
     new: NewFile<'_>,
     out_path: &str,
 ) -> Status
-    requires { length file.now ≤ MOST_INPUT }
+    requires { length file.now ≤ MOST_BYTES }
     ensures { result ≢ Status.BadWords }
 {
     let mut file_out = match output_for_database(rt, out_path) {
@@ -159,7 +159,7 @@ fn rewrite<W: Write + Drop, V: Write>(
     file_out: W,
     out: &mut Counted<V>,
 ) -> (Status, Option<io::Error>)
-    requires { length file.now ≤ MOST_INPUT }
+    requires { length file.now ≤ MOST_BYTES }
     ensures { result.0 ≢ Status.BadWords }
 {
     let Ok(file_out) = BufWriter::with_capacity(alloc, BUFFER_SIZE, Noted::new(file_out)) else {

@@ -6,8 +6,10 @@ ghost use Rattle.file_parts.specs.Either.{HasFolderParts, IsListedFolder, IsTake
 
 use crate::comments::{DROPPED, comment_on_file, comment_on_order, comment_on_text, name_dropped};
 use crate::parts::{cmd_pack_from, list_parts, say_count, unpack_file};
+use canonical_file::MOST_BYTES;
 use command_files::{
-    STANDARD_OUTPUT, buffered_fault, fail, output_for_database, read_file, read_file_or_input,
+    STANDARD_OUTPUT, buffered_fault, fail, output_for_database, read_file_or_input_within,
+    read_file_within,
 };
 use file_parts::{FolderForm, ListedFolder, Part, PartName, TakenApart};
 use heap_model::Bytes;
@@ -36,7 +38,7 @@ pub fn unpack<R: Files + Input + Print + Eprint + AllocGlobal>(
 ) -> Status
     ensures { result ≢ Status.BadWords }
 {
-    let file = match read_file_or_input(rt, path) {
+    let file = match read_file_or_input_within(rt, path, MOST_BYTES) {
         Ok(file) => file,
         Err(status) => return status,
     };
@@ -55,7 +57,7 @@ fn unpack_to<R: Files + Print + Eprint + AllocGlobal>(
     folder: &str,
     form: FolderForm,
 ) -> Status
-    requires { length file.now ≤ MOST_INPUT }
+    requires { length file.now ≤ MOST_BYTES }
     ensures { result ≢ Status.BadWords }
 {
     let mut out = Counted::new(Noted::new(io::writer(rt)));
@@ -351,14 +353,15 @@ fn remove_parts<R: Files + AllocGlobal>(
 fn read_text<R: Files + Eprint + AllocGlobal>(rt: &R, folder: &str) -> Result<Vec<u8>, Status>
     ensures { IfErr result (λ status. (status ≡ Status.ReadFault) ⊎ (status ≡ Status.NoMemory)) }
 {
-    read_in(rt, folder, TEXT_NAME)
+    read_in(rt, folder, TEXT_NAME, MOST_INPUT)
 }
 
-/// Reads a file of a folder. Refuses a link, a folder or a device.
+/// Reads a file of a folder, of at most `most` bytes. Refuses a link, a folder or a device.
 fn read_in<R: Files + Eprint + AllocGlobal>(
     rt: &R,
     folder: &str,
     name: &str,
+    most: usize,
 ) -> Result<Vec<u8>, Status>
     ensures { IfErr result (λ status. (status ≡ Status.ReadFault) ⊎ (status ≡ Status.NoMemory)) }
 {
@@ -371,7 +374,7 @@ fn read_in<R: Files + Eprint + AllocGlobal>(
             let _ = eprintln!(rt; "{path}: not a file");
             Err(Status::ReadFault)
         }
-        _ => read_file(rt, path.as_str()),
+        _ => read_file_within(rt, path.as_str(), most),
     }
 }
 
@@ -389,7 +392,7 @@ fn read_parts<R: Files + Eprint + AllocGlobal>(
         ⊎ (status ≡ Status.NoMemory) ⊎ (status ≡ Status.Refused)) }
 {
     let mut parts = Vec::new(rt.alloc());
-    let mut left = MOST_INPUT;
+    let mut left = MOST_BYTES;
     for rank in 0..listed.part_count() {
         let bytes = read_rank(rt, folder, listed, rank)?;
         if bytes.len() > left {
@@ -418,7 +421,7 @@ fn read_rank<R: Files + Eprint + AllocGlobal>(
         return Ok(Vec::new(rt.alloc()));
     };
     match str::from_utf8(part.name()) {
-        Ok(name) => read_in(rt, folder, name),
+        Ok(name) => read_in(rt, folder, name, MOST_BYTES),
         Err(_) => Err(fail(rt, Status::ReadFault)),
     }
 }

@@ -3,7 +3,7 @@
 ghost use Rattle.std.specs.Prelude.{◌≡◌, ◌≤◌, ◌⊎◌, length, true, false, is_ok};
 ghost use Rattle.palm_text.specs.Counted.{Writes};
 ghost use Rattle.palm_text.specs.Output.{Puts, output};
-ghost use Rattle.canonical_file.specs.Canonical.{most_bytes};
+ghost use Rattle.pdb_format.specs.Opened.{most_file_bytes};
 ghost use Rattle.file_commands.specs.Gets.{EndsGet, no_block_line};
 
 use crate::block_words::WantedBlock;
@@ -28,7 +28,7 @@ pub fn cmd_get_from<A: Allowance, W: Write, V: Write>(
     block_out: &mut Counted<W>,
     out: &mut Counted<V>,
 ) -> Status
-    requires { length file.now ≤ most_bytes }
+    requires { length file.now ≤ most_file_bytes }
     ensures ends { EndsGet file.now wanted (output W.contents block_out.old block_out.new)
         (output V.contents out.old out.new) result }
     ensures short { result ≡ Status.NoMemory → A.is_short memory.now }

@@ -5,7 +5,8 @@ ghost use Rattle.std.specs.Result.{result_map_both};
 ghost use Rattle.program_io.specs.declared.status.Status.{Status};
 ghost use Rattle.program_io.specs.declared.status.Status.TheVariants as statuses;
 
-use program_io::{MOST_INPUT, Status};
+use pdb_format::MOST_FILE_BYTES;
+use program_io::Status;
 
 /// A source of files.
 pub trait Inputs {
@@ -15,10 +16,10 @@ pub trait Inputs {
     /// Reads a whole file.
     ///
     /// # Errors
-    /// - `ReadFault`: the file can't be read, or is longer than `MOST_INPUT`.
+    /// - `ReadFault`: the file can't be read, or is longer than `MOST_FILE_BYTES`.
     /// - `NoMemory`: an allocation failed.
     fn read(&self, path: &str) -> Result<Vec<u8>, Status>
-        ensures limit { IfOk result (λ bytes. vec_len bytes ≤ MOST_INPUT) }
+        ensures limit { IfOk result (λ bytes. vec_len bytes ≤ MOST_FILE_BYTES) }
         ensures faults { IfErr result (λ status.
             (status ≡ statuses.ReadFault) ⊎ (status ≡ statuses.NoMemory)) }
         ensures gives { gives self.now path.now

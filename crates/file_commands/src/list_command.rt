@@ -1,7 +1,7 @@
 //! The command `list`.
 
 ghost use Rattle.std.specs.Prelude.{◌≡◌, ◌≢◌, ◌≤◌, length, true, false, Err, IfErr, OnOk};
-ghost use Rattle.canonical_file.specs.Canonical.{most_bytes};
+ghost use Rattle.pdb_format.specs.Opened.{most_file_bytes};
 ghost use Rattle.file_listing.specs.Listing.{IsListFault};
 ghost use Rattle.file_commands.specs.Ends.{EndsList, PutsListing};
 
@@ -20,7 +20,7 @@ pub fn cmd_list_from<N: Notation, A: Allowance, V: Write>(
     file: &[u8],
     out: &mut Counted<V>,
 ) -> Status
-    requires { length file.now ≤ most_bytes }
+    requires { length file.now ≤ most_file_bytes }
     ensures ends { EndsList (N.row_text notation.now) file.now V.contents out.old out.new result }
     ensures short { result ≡ Status.NoMemory → A.is_short memory.now }
 {
@@ -40,7 +40,7 @@ fn put_flushed<N: Notation, A: Allowance, V: Write>(
     file: &[u8],
     out: &mut Counted<V>,
 ) -> Result<(), ListFault>
-    requires { length file.now ≤ most_bytes }
+    requires { length file.now ≤ most_file_bytes }
     ensures done { OnOk result
         (PutsListing (N.row_text notation.now) file.now V.contents out.old out.new true) }
     ensures why { IfErr result (IsListFault file.now) }

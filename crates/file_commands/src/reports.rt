@@ -1,7 +1,7 @@
 //! What `list`, `list --json` and `canonical --check` print, for a file and for several files.
 
 ghost use Rattle.std.specs.Prelude.{◌≡◌, ◌≢◌, ◌≤◌, length, map, option_map};
-ghost use Rattle.canonical_file.specs.Canonical.{most_bytes};
+ghost use Rattle.pdb_format.specs.Opened.{most_file_bytes};
 ghost use Rattle.palm_text.specs.Output.{output};
 ghost use Rattle.file_commands.specs.Reports as words;
 ghost use Rattle.file_commands.specs.Reports.{EndsNext, EndsReport, EndsReports, MayReport};
@@ -45,7 +45,7 @@ pub fn cmd_report_from<A: Allowance, V: Write>(
     file: &[u8],
     out: &mut Counted<V>,
 ) -> Status
-    requires { length file.now ≤ most_bytes }
+    requires { length file.now ≤ most_file_bytes }
     ensures ends { EndsReport report (option_map (λ path. path.now) path.entry) file.now
         (output V.contents out.old out.new) result }
     ensures short { result ≡ Status.NoMemory → A.is_short memory.now }

@@ -6,7 +6,7 @@ ghost use Rattle.heap_model.specs.Database.{resources_in};
 ghost use Rattle.heap_model.specs.Database as databases;
 ghost use Rattle.heap_model.specs.DatabaseFields.{header_size};
 ghost use Rattle.heap_model.specs.Files.{IsFirstFault};
-ghost use Rattle.canonical_file.specs.Canonical.{most_bytes};
+ghost use Rattle.pdb_format.specs.Opened.{most_file_bytes};
 ghost use Rattle.file_listing.specs.Damage as words;
 
 use byteorder::{BigEndian, ByteOrder};
@@ -60,10 +60,10 @@ pub enum Damage {
 /// Returns the offset of the field that has the first fault of a file. It is the size of the file
 /// if the file is truncated.
 pub fn fault_place(file: &[u8], fault: FileFault) -> usize
-    requires short { length file.now ≤ most_bytes }
+    requires short { length file.now ≤ most_file_bytes }
     requires first { IsFirstFault file.now fault }
     ensures is { result ≡ words.fault_place file.now fault }
-    ensures most { result ≤ most_bytes }
+    ensures most { result ≤ most_file_bytes }
 {
     match fault {
         FileFault::Truncated => file.len(),
@@ -90,7 +90,7 @@ fn data_place(file: &[u8], index: u32) -> usize
 /// Returns the number that a file has at the place of its first fault, and the numbers that are
 /// allowed there.
 pub fn damage_of(file: &[u8], fault: FileFault) -> Damage
-    requires short { length file.now ≤ most_bytes }
+    requires short { length file.now ≤ most_file_bytes }
     requires first { IsFirstFault file.now fault }
     ensures { result ≡ words.damage_of file.now fault }
 {

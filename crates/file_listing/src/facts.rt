@@ -1,7 +1,7 @@
 //! The facts of a listing that are found before its first row is written.
 
 ghost use Rattle.std.specs.Prelude.{◌≤◌, length, IfOk, OnErr};
-ghost use Rattle.canonical_file.specs.Canonical.{most_bytes};
+ghost use Rattle.pdb_format.specs.Opened.{most_file_bytes};
 ghost use Rattle.file_listing.specs.Listing.{AreFacts};
 
 use crate::categories::{Categories, categories_of};
@@ -28,7 +28,7 @@ pub(crate) fn facts_of<'a, A: Allowance>(
     memory: &A,
     file: &PdbFile<'a>,
 ) -> Result<Facts<'a>, AllocError>
-    requires { length file.now ≤ most_bytes }
+    requires { length file.now ≤ most_file_bytes }
     ensures facts { IfOk result (AreFacts file.now) }
     ensures short { OnErr result (A.is_short memory.now) }
 {

@@ -1,7 +1,7 @@
 //! The listing of a file, on a writer.
 
 ghost use Rattle.std.specs.Prelude.{◌≡◌, ◌≢◌, ◌≤◌, length, false, true, Err, IfErr, OnOk, is_ok};
-ghost use Rattle.canonical_file.specs.Canonical.{most_bytes};
+ghost use Rattle.pdb_format.specs.Opened.{most_file_bytes};
 ghost use Rattle.heap_model.specs.Files.{HasNoFault, IsFirstFault};
 ghost use Rattle.palm_text.specs.Counted.{Writes};
 ghost use Rattle.file_listing.specs.Listing.{IsListFault, WritesListing, fault_row};
@@ -47,7 +47,7 @@ pub fn put_listing<N: Notation, A: Allowance, W: Write>(
     file: &[u8],
     out: &mut Counted<W>,
 ) -> Result<(), ListFault>
-    requires { length file.now ≤ most_bytes }
+    requires { length file.now ≤ most_file_bytes }
     ensures done { OnOk result
         (WritesListing (N.row_text notation.now) file.now W.contents out.old out.new true) }
     ensures good { OnOk result (HasNoFault file.now) }
@@ -72,7 +72,7 @@ fn put_opened<N: Notation, A: Allowance, W: Write>(
     file: &PdbFile<'_>,
     out: &mut Counted<W>,
 ) -> Result<(), ListFault>
-    requires { length file.now ≤ most_bytes }
+    requires { length file.now ≤ most_file_bytes }
     ensures done { OnOk result
         (WritesListing (N.row_text notation.now) file.now W.contents out.old out.new true) }
     ensures why { IfErr result (IsListFault file.now) }
@@ -102,7 +102,7 @@ pub fn put_fault<N: Notation, W: Write>(
     file: &[u8],
     fault: FileFault,
 ) -> Result<(), WriteFault>
-    requires short { length file.now ≤ most_bytes }
+    requires short { length file.now ≤ most_file_bytes }
     requires first { IsFirstFault file.now fault }
     ensures { Writes W.contents out.old out.new (N.row_text notation.now (fault_row file.now fault))
         (is_ok result) }

@@ -6,7 +6,7 @@ ghost use Rattle.heap_model.specs.Database.{entry_count_in};
 ghost use Rattle.db_format.specs.EitherEntry.{entry_of};
 ghost use Rattle.palm_text.specs.Counted.{Writes};
 ghost use Rattle.pdb_format.specs.Blocks.{IsBlockWithin, bytes_at};
-ghost use Rattle.canonical_file.specs.Canonical.{most_bytes};
+ghost use Rattle.pdb_format.specs.Opened.{most_file_bytes};
 ghost use Rattle.file_listing.specs.Listing as words;
 ghost use Rattle.file_listing.specs.Categories.{layout_size};
 ghost use Rattle.file_listing.specs.Listing.{extent_at, info_extent, first_rows, category_rows, count_rows, entry_rows, last_rows, body_rows, rows_of};
@@ -40,7 +40,7 @@ fn put_rows<N: Notation, W: Write>(
 
 /// Returns the extent of a block that begins at an offset.
 fn extent_of(file: &PdbFile<'_>, at: u32, block: Option<Block>) -> Option<Extent>
-    requires short { length file.now ≤ most_bytes }
+    requires short { length file.now ≤ most_file_bytes }
     requires within { IsBlockWithin (length file.now) block }
     ensures { result ≡ extent_at at (bytes_at file.now block) }
 {
@@ -55,7 +55,7 @@ fn extent_of(file: &PdbFile<'_>, at: u32, block: Option<Block>) -> Option<Extent
 
 /// Returns the extent of an info block. AppInfo has the rank 0, and SortInfo the rank 1.
 fn info_of(file: &PdbFile<'_>, rank: usize) -> Option<Extent>
-    requires short { length file.now ≤ most_bytes }
+    requires short { length file.now ≤ most_file_bytes }
     requires inside { rank < 2 }
     ensures { result ≡ info_extent file.now rank }
 {
@@ -69,7 +69,7 @@ fn put_head<N: Notation, W: Write>(
     file: &PdbFile<'_>,
     facts: &Facts<'_>,
 ) -> Result<(), WriteFault>
-    requires { length file.now ≤ most_bytes }
+    requires { length file.now ≤ most_file_bytes }
     ensures { Writes W.contents out.old out.new
         (flat_map (N.row_text notation.now) (first_rows file.now facts.now)) (is_ok result) }
 {
@@ -160,7 +160,7 @@ fn entry_row(
     entry: DbEntry,
     block: Option<Block>,
 ) -> Row
-    requires short { length file.now ≤ most_bytes }
+    requires short { length file.now ≤ most_file_bytes }
     requires within { IsBlockWithin (length file.now) block }
     ensures { result ≡ words.entry_row categories.now index (entry_of entry) (bytes_at file.now block) }
 {
@@ -183,7 +183,7 @@ fn entry_row(
 
 /// Returns the row of the entry at an index.
 fn entry_row_at(file: &PdbFile<'_>, categories: &Categories<'_>, index: u16) -> Row
-    requires short { length file.now ≤ most_bytes }
+    requires short { length file.now ≤ most_file_bytes }
     requires inside { index < entry_count_in file.now }
     ensures { result ≡ words.entry_row_at file.now categories.now index }
 {
@@ -198,7 +198,7 @@ fn put_entries<N: Notation, W: Write>(
     file: &PdbFile<'_>,
     categories: &Categories<'_>,
 ) -> Result<(), WriteFault>
-    requires { length file.now ≤ most_bytes }
+    requires { length file.now ≤ most_file_bytes }
     ensures { Writes W.contents out.old out.new
         (flat_map (N.row_text notation.now) (entry_rows file.now categories.now)) (is_ok result) }
 {
@@ -237,7 +237,7 @@ fn put_rest<N: Notation, W: Write>(
     file: &PdbFile<'_>,
     facts: &Facts<'_>,
 ) -> Result<(), WriteFault>
-    requires { length file.now ≤ most_bytes }
+    requires { length file.now ≤ most_file_bytes }
     ensures { Writes W.contents out.old out.new (flat_map (N.row_text notation.now)
         (entry_rows file.now facts.now.categories ++ last_rows file.now facts.now)) (is_ok result) }
 {
@@ -253,7 +253,7 @@ fn put_body<N: Notation, W: Write>(
     file: &PdbFile<'_>,
     facts: &Facts<'_>,
 ) -> Result<(), WriteFault>
-    requires { length file.now ≤ most_bytes }
+    requires { length file.now ≤ most_file_bytes }
     ensures { Writes W.contents out.old out.new
         (flat_map (N.row_text notation.now) (body_rows file.now facts.now)) (is_ok result) }
 {
@@ -269,7 +269,7 @@ fn put_after_head<N: Notation, W: Write>(
     file: &PdbFile<'_>,
     facts: &Facts<'_>,
 ) -> Result<(), WriteFault>
-    requires { length file.now ≤ most_bytes }
+    requires { length file.now ≤ most_file_bytes }
     ensures { Writes W.contents out.old out.new (flat_map (N.row_text notation.now)
         (category_rows facts.now.categories ++ body_rows file.now facts.now)) (is_ok result) }
 {
@@ -285,7 +285,7 @@ pub(crate) fn put_rows_of<N: Notation, W: Write>(
     file: &PdbFile<'_>,
     facts: &Facts<'_>,
 ) -> Result<(), WriteFault>
-    requires { length file.now ≤ most_bytes }
+    requires { length file.now ≤ most_file_bytes }
     ensures { Writes W.contents out.old out.new
         (flat_map (N.row_text notation.now) (rows_of file.now facts.now)) (is_ok result) }
 {

@@ -210,7 +210,7 @@ impl<'a> ListedFolder<'a> {
     ///
     /// # Errors
     ///
-    /// - `TooLarge`: if the file would have more than 16,777,216 bytes.
+    /// - `TooLarge`: if the file would have more than `MOST_BYTES` bytes.
     /// - `BadLine`: if no file has the blocks of an exact folder in the order of its lines.
     /// - `OutOfMemory`: if an allocation failed.
     pub fn pack<A: Allowance>(&self, memory: &A, parts: &[Bytes]) -> Result<Vec<u8>, PackFault>

@@ -27,7 +27,7 @@ use script_lines::{LineFault, ScriptFault};
 ///
 /// # Errors
 ///
-/// - `TooLarge`: if the file would have more than 16,777,216 bytes.
+/// - `TooLarge`: if the file would have more than `MOST_BYTES` bytes.
 /// - `BadLine`: if a line `order` puts a block without bytes directly before one of a lower rank.
 /// - `OutOfMemory`: if an allocation failed.
 pub(crate) fn pack_exact<A: Allowance>(

@@ -16,20 +16,17 @@ use crate::entries::ListedEntry;
 use crate::listed::Listed;
 use crate::part_file::PartFile;
 use allowance::Allowance;
-use canonical_file::canonical_bytes;
+use canonical_file::{MOST_BYTES, canonical_bytes};
 use db_format::{DATABASE_HEADER_SIZE, DbAttrs, DbEntry, INFO_BLOCKS};
 use heap_model::Bytes;
 use pdb_format::{FILLER, PdbFile, first_place_after, idle_entry_at};
 use script_lines::LineFault;
 use thiserror::Error;
 
-/// The greatest size of a file in bytes.
-const MOST_BYTES: u32 = 16_777_216;
-
 /// The reason why no file was put together.
 #[derive(Clone, Copy, Debug, PartialEq, Eq, Error)]
 pub enum PackFault {
-    /// The file would have more than 16,777,216 bytes.
+    /// The file would have more than `MOST_BYTES` bytes.
     #[error("TooLarge")]
     TooLarge,
     /// A line of the text of an exact folder is at fault.
@@ -88,7 +85,7 @@ pub(crate) fn end_of(at: u32, block: &[u8]) -> Result<u32, PackFault>
     ensures large { IfErr result (IsRefusedFor (at + length block.now)) }
     ensures takes_no_memory { IfErr result (λ fault. fault ≡ PackFault.TooLarge) }
 {
-    if block.len() > (MOST_BYTES - at) as usize {
+    if block.len() > MOST_BYTES - at as usize {
         return Err(PackFault::TooLarge);
     }
     Ok(at + block.len() as u32)
@@ -261,7 +258,7 @@ fn file_bytes<A: Allowance>(
 ///
 /// # Errors
 ///
-/// - `TooLarge`: if the file would have more than 16,777,216 bytes.
+/// - `TooLarge`: if the file would have more than `MOST_BYTES` bytes.
 /// - `OutOfMemory`: if an allocation failed.
 pub fn pack<A: Allowance>(
     memory: &A,

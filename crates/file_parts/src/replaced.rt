@@ -26,7 +26,7 @@ use thiserror::Error;
 /// The reason why a block was not replaced.
 #[derive(Clone, Copy, Debug, PartialEq, Eq, Error)]
 pub enum ReplaceFault {
-    /// The file would have more than 16,777,216 bytes.
+    /// The file would have more than `MOST_BYTES` bytes.
     #[error("TooLarge")]
     TooLarge,
     /// The block would have no bytes, and the block after it has a lower rank.
@@ -64,7 +64,7 @@ pub struct Replaced<'a> {
 ///
 /// # Errors
 ///
-/// - `TooLarge`: if the file would have more than 16,777,216 bytes.
+/// - `TooLarge`: if the file would have more than `MOST_BYTES` bytes.
 /// - `EmptyPart`: if the part has no bytes, and the block after it has a lower rank. Both would have
 ///   one offset, and the block of the lower rank would be read as the empty one.
 /// - `OutOfMemory`: if an allocation failed.

@@ -89,7 +89,10 @@ fn read_fault(fault: InputFault) -> LiveFault
 {
     match fault {
         InputFault::Memory => LiveFault::Memory,
-        InputFault::Open(_) | InputFault::Read(_) | InputFault::TooLong => LiveFault::Input(fault),
+        InputFault::Open(_)
+        | InputFault::Read(_)
+        | InputFault::TooLong
+        | InputFault::LongerThan(_) => LiveFault::Input(fault),
     }
 }
 

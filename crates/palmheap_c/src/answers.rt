@@ -37,7 +37,7 @@ pub(crate) const NO_ROOM: Answer = Answer {
     entry: 0,
 };
 
-/// A file is longer than 16 MiB.
+/// A file is longer than 4,294,967,293 bytes.
 pub(crate) const TOO_LARGE: Answer = Answer {
     kind: 3,
     at: 0,

@@ -4,11 +4,9 @@ ghost use Rattle.std.specs.Prelude.{◌≡◌};
 ghost use Rattle.palmheap_c.specs.Damages as damages;
 
 use crate::answers::{Answer, NO_FAULT, TOO_LARGE, of_file};
+use canonical_file::MOST_BYTES;
 use file_listing::{Damage as FileDamage, damage_of, fault_place};
 use pdb_format::check_file;
-
-/// The greatest size of a file whose damage is told: 16 MiB.
-const MOST_BYTES: usize = 1 << 24;
 
 /// The offset of the field that has the first fault of a file, the number that it has, and the
 /// numbers that are allowed there: those from `least` to `most`. If `or_zero` is true, 0 is allowed

@@ -11,7 +11,7 @@ ghost use Rattle.palmheap_c.specs.Documents as words;
 
 use crate::answers::{Answer, NO_MEMORY, TOO_LARGE};
 use crate::buffers::{put_bytes, refused_write};
-use crate::files::MOST_LISTED_BYTES;
+use canonical_file::MOST_BYTES;
 use file_listing::{ListFault, put_fault, put_listing};
 use heap_model::FileFault;
 use json_documents::JsonRows;
@@ -31,7 +31,7 @@ pub extern "C" fn palmheap_pdb_json(
     ensures { words.IsDocumentAnswer file.now (buffer text.old count.old) (buffer text.new count.new)
         result }
 {
-    if file.len() > MOST_LISTED_BYTES {
+    if file.len() > MOST_BYTES {
         return TOO_LARGE;
     }
     match document_of(alloc, file) {

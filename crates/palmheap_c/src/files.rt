@@ -12,14 +12,11 @@ ghost use Rattle.palmheap_c.specs.Buffers.{IsBytesAnswer, buffer};
 use crate::answers::{Answer, NO_FAULT, NO_MEMORY, NO_ROOM, TOO_LARGE, of_file};
 use crate::blocks::{Block, put_blocks};
 use crate::buffers::{put_bytes, refused_write};
-use canonical_file::canonical_bytes;
+use canonical_file::{MOST_BYTES, canonical_bytes};
 use file_listing::{ListFault, TextRows, put_listing};
 use palm_text::Counted;
 use pdb_format::{OpenFault, PdbFile, check_file};
 use std::alloc::Global;
-
-/// The greatest size of a file that can be listed or rewritten: 16 MiB.
-pub(crate) const MOST_LISTED_BYTES: usize = 1 << 24;
 
 /// Checks whether a database can be read from a file, and returns its first fault. Allocates
 /// nothing.
@@ -96,7 +93,7 @@ fn canonical_of(alloc: Global, file: &[u8]) -> Result<Vec<u8>, Answer>
     ensures ok { IfOk result (λ bytes. IsCanonical file.now bytes.items) }
     ensures err { IfErr result (IsFileRefusal file.now) }
 {
-    if file.len() > MOST_LISTED_BYTES {
+    if file.len() > MOST_BYTES {
         return Err(TOO_LARGE);
     }
     match open(alloc, file) {
@@ -140,7 +137,7 @@ fn listing_of(alloc: Global, file: &[u8]) -> Result<Vec<u8>, Answer>
     ensures ok { IfOk result (λ text. IsListing file.now text.items) }
     ensures err { IfErr result (IsFileRefusal file.now) }
 {
-    if file.len() > MOST_LISTED_BYTES {
+    if file.len() > MOST_BYTES {
         return Err(TOO_LARGE);
     }
     let mut out = Counted::new(Vec::new(alloc));

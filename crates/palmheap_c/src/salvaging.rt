@@ -10,8 +10,7 @@ ghost use Rattle.palmheap_c.specs.Salvaging as words;
 
 use crate::answers::{Answer, NO_MEMORY, TOO_LARGE, of_file};
 use crate::buffers::{put_bytes, refused_write};
-use crate::files::MOST_LISTED_BYTES;
-use canonical_file::{CanonicalFault, SalvagedIds, put_salvage_lines, put_salvaged};
+use canonical_file::{CanonicalFault, MOST_BYTES, SalvagedIds, put_salvage_lines, put_salvaged};
 use db_format::DATABASE_HEADER_SIZE;
 use heap_model::FileFault;
 use palm_text::Counted;
@@ -60,7 +59,7 @@ pub extern "C" fn palmheap_salvage_lines(
     ensures { words.IsLinesAnswer file.now (buffer text.old count.old) (buffer text.new count.new)
         result }
 {
-    if file.len() > MOST_LISTED_BYTES {
+    if file.len() > MOST_BYTES {
         return TOO_LARGE;
     }
     if file.len() < DATABASE_HEADER_SIZE {
@@ -90,7 +89,7 @@ fn salvaged_of(alloc: Global, file: &[u8], rule: SalvagedIds) -> Result<Vec<u8>,
     ensures fits { OnOk result (length file.now ≤ most_bytes) }
     ensures err { IfErr result (words.IsSalvageRefusal file.now) }
 {
-    if file.len() > MOST_LISTED_BYTES {
+    if file.len() > MOST_BYTES {
         return Err(TOO_LARGE);
     }
     let mut out = Counted::new(Vec::new(alloc));

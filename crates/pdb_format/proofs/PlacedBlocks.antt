@@ -7,12 +7,12 @@ use Rattle.std.proofs.lemmas.Bool.{cases_eq, cases_lt}
 use Rattle.std.proofs.lemmas.List.{length-map, length-set, get_or_past, get_or_default, get_or-set_same, get_or-set_other}
 use Rattle.std.proofs.lemmas.List.FromFn.{fill_by_all}
 use Rattle.std.proofs.lemmas.List.Sums.{sum_by-set, sum_by-le}
-use Rattle.heap_model.specs.Files.{starts_behind, offsets_in, block_end, block_at, blocks_in, HasNoFault}
+use Rattle.heap_model.specs.Files.{starts_behind, offsets_in, block_end, block_at, blocks_in, entries_end, HasNoFault}
 use Rattle.pdb_format.specs.declared.starts.Start.{Start}
 use Rattle.pdb_format.specs.declared.blocks.Block.{Block}
 use Rattle.pdb_format.specs.Starts.{starts_in, order, begins}
 use Rattle.pdb_format.specs.Blocks.{bytes_at, place_at, places_in, IsBlockWithin, length_within}
-use Rattle.pdb_format.proofs.GoodFiles.{offset_inside_file}
+use Rattle.pdb_format.proofs.GoodFiles.{not_truncated, offset_after, offset_inside_file}
 use Rattle.pdb_format.proofs.SortedStarts.{none, AreSorted, items_are, ranks_apart, start_found, begins_inside, sorted_end}
 
 -- the block of an index among sorted starts
@@ -179,12 +179,30 @@ taken_more offsets last items blocks index sorted inside are so_far =
     let here = begins_inside last items index inside in
     omega arith
 
--- once all are put down, they take no more than there is
-pub taken_most : (last : ℕ) (items : List Start) (blocks : List (Option Block)) (index : ℕ) → length items ≤ index → sum_by length_within blocks + begins last items 0 ≡ begins last items index → sum_by length_within blocks ≤ last
-taken_most last items blocks index all so_far =
+-- once all are put down, they take no more than there is from the first of them on
+pub taken_most : (last low : ℕ) (items : List Start) (blocks : List (Option Block)) (index : ℕ) → length items ≤ index → low ≤ begins last items 0 → sum_by length_within blocks + begins last items 0 ≡ begins last items index
+    → low + sum_by length_within blocks ≤ last
+taken_most last low items blocks index all first so_far =
     let long = length-map items (λ (start : Start). start.at) in
     let is : begins last items index ≡ last = get_or_past (map (λ (start : Start). start.at) items) index last (omega arith) in
     omega arith
+
+-- the first of them comes after the entries
+pub first_behind : (file : List ℕ) (items : List Start) → HasNoFault file → AreSorted (offsets_in file) (length file) items → entries_end file ≤ begins (length file) items 0
+first_behind file items good sorted = elim (cases_lt 0 (length items)) [
+  | inl some ↦
+      let here = begins_inside (length file) items 0 some in
+      let are = items_are (offsets_in file) (length file) items sorted 0 some in
+      let at = are.0.1 in
+      let there = are.1 in
+      let after = offset_after file good (get_or items 0 none).rank (omega arith) in
+      omega arith
+  | inr empty ↦
+      let long = length-map items (λ (start : Start). start.at) in
+      let is : begins (length file) items 0 ≡ length file = get_or_past (map (λ (start : Start). start.at) items) 0 (length file) (omega arith) in
+      let inside = (not_truncated file good).1 in
+      omega arith
+]
 
 -- the sorted starts of a file without fault
 pub file_sorted : (file : List ℕ) (items : List Start) → HasNoFault file → length (offsets_in file) ≤ 2 ^ 32 → IsPermutation (starts_in (offsets_in file)) items → IsNonDecreasingBy order items → AreSorted (offsets_in file) (length file) items

@@ -2,7 +2,7 @@
 
 ghost use Rattle.std.specs.Prelude.{◌≡◌, ◌<◌, ◌≤◌, ◌+◌, length, map, None, IfOk, OnErr, All};
 ghost use Rattle.std.specs.List.Sorted.{IsPermutation, IsNonDecreasingBy};
-ghost use Rattle.heap_model.specs.Files.{offsets_in, blocks_in, HasNoFault};
+ghost use Rattle.heap_model.specs.Files.{offsets_in, blocks_in, entries_end, HasNoFault};
 ghost use Rattle.pdb_format.specs.Starts.{starts_in, order, begins};
 ghost use Rattle.std.specs.List.{sum_by};
 ghost use Rattle.pdb_format.specs.Blocks.{bytes_at, places_in, IsBlockWithin, length_within};
@@ -44,7 +44,7 @@ fn put_blocks(file: &[u8], starts: &[Start], blocks: &mut [Option<Block>])
     ensures places { blocks.new ≡ places_in file.now }
     ensures are { map (bytes_at file.now) blocks.new ≡ blocks_in file.now }
     ensures inside { All (IsBlockWithin (length file.now)) blocks.new }
-    ensures total { sum_by length_within blocks.new ≤ length file.now }
+    ensures total { entries_end file.now + sum_by length_within blocks.new ≤ length file.now }
 {
     for index in 0..starts.len() {
         let start = starts[index];

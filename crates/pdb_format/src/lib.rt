@@ -26,5 +26,5 @@ pub use laws::{
     contents_are_short, contents_are_writable, files_are_read, files_are_read_once,
     written_files_are_read, written_files_have_their_size,
 };
-pub use pdb_file::{OpenFault, PdbFile};
+pub use pdb_file::{MOST_FILE_BYTES, OpenFault, PdbFile};
 pub use written::{idle_attributes, idle_entry_at};

@@ -25,6 +25,9 @@ use heap_model::FileFault;
 use std::alloc::AllocError;
 use std::marker::Model;
 
+/// The greatest size of a file in bytes. Its offsets are numbers of 32 bits.
+pub const MOST_FILE_BYTES: usize = 4_294_967_295;
+
 /// The reason why a file was not opened.
 #[derive(Clone, Copy)]
 pub enum OpenFault {

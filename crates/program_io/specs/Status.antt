@@ -5,7 +5,7 @@ use Rattle.std.specs.declared.io.Error.{Error}
 use Rattle.std.specs.declared.io.ErrorKind.TheVariants.{OutOfMemory}
 use Rattle.std.specs.declared.option.Option.TheVariants.{None, Some}
 use Rattle.program_io.specs.declared.input.InputFault.{InputFault}
-use Rattle.program_io.specs.declared.input.InputFault.TheVariants.{Open, Read, TooLong, Memory}
+use Rattle.program_io.specs.declared.input.InputFault.TheVariants.{Open, Read, TooLong, LongerThan, Memory}
 use Rattle.program_io.specs.declared.status.Status.{Status}
 use Rattle.program_io.specs.declared.status.Status.TheVariants.{Done, Refused, BadWords, ReadFault, WriteFault, NoMemory}
 
@@ -36,16 +36,26 @@ abbrev pub FaultOf : Error → InputFault → Type 0
 FaultOf error (Open other) = other ≡ error
 FaultOf error (Read failure) = ⊥
 FaultOf error TooLong = ⊥
+FaultOf error (LongerThan most) = ⊥
 FaultOf error Memory = error_kind error ≡ OutOfMemory
 
 -- a fault of a file that was opened
 abbrev pub IsOfReading : InputFault → Type 0
 IsOfReading (Open error) = ⊥
+IsOfReading (LongerThan most) = ⊥
 IsOfReading fault = Unit {0}
+
+-- a fault of a file that was opened, and that may have at most `most` bytes
+abbrev pub IsOfReadingWithin : ℕ → InputFault → Type 0
+IsOfReadingWithin most (Open error) = ⊥
+IsOfReadingWithin most TooLong = ⊥
+IsOfReadingWithin most (LongerThan limit) = limit ≡ most
+IsOfReadingWithin most fault = Unit {0}
 
 -- the status of a run that can't read an input file
 abbrev pub status_of : InputFault → Status
 status_of (Open error) = ReadFault
 status_of (Read failure) = ReadFault
 status_of TooLong = ReadFault
+status_of (LongerThan most) = ReadFault
 status_of Memory = NoMemory

@@ -161,7 +161,7 @@ pub(crate) const COMMANDS: [CommandRow; 16] = [
             Argument {
                 name: "FILE",
                 count: Count::Several,
-                help: "PDB or PRC files, of at most 16777216 bytes each; '-' is\n\
+                help: "PDB or PRC files, of at most 4294967295 bytes each; '-' is\n\
                     standard input, and './-' a file of that name",
             },
             Argument {
@@ -231,7 +231,7 @@ pub(crate) const COMMANDS: [CommandRow; 16] = [
         after_help: Some(BLOCKS),
         usage: None,
         arguments: &[
-            DATABASE_FILE,
+            READ_FILE,
             Argument {
                 name: "BLOCK",
                 count: Count::One,
@@ -384,7 +384,15 @@ pub(crate) const COMMANDS: [CommandRow; 16] = [
 const DATABASE_FILE: Argument = Argument {
     name: "FILE",
     count: Count::One,
-    help: "PDB or PRC file, of at most 16777216 bytes; '-' is standard input,\n\
+    help: "PDB or PRC file, of at most 4294967293 bytes; '-' is standard input,\n\
+        and './-' a file of that name",
+};
+
+/// A file of which no new one is written.
+const READ_FILE: Argument = Argument {
+    name: "FILE",
+    count: Count::One,
+    help: "PDB or PRC file, of at most 4294967295 bytes; '-' is standard input,\n\
         and './-' a file of that name",
 };
 

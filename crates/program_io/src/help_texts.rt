@@ -24,7 +24,9 @@ Exit status:
      lines on standard error
   2  the words were refused, or there is no image of that SIZE with that many
      SLOTS, or 'explain' knows no such WORD
-  3  a file could not be read or written, or is longer than 16777216 bytes;
+  3  a file could not be read or written, or is too long: at most 4294967295
+     bytes for 'list', 'get' and 'canonical --check', 4294967293 for 'put',
+     'pack', 'unpack', 'canonical' and 'salvage', and 16777216 for the others;
      or standard output could not be written; or DIR of 'unpack' or a file of
      'export' is there; or OUT looks like a PDB or PRC file that an image
      would replace, like an image that a PDB or PRC file would replace, or
@@ -354,7 +356,7 @@ the order of the blocks. Only offsets move. 'palmheap get' writes a block.
 A file that cannot be read as a database, and a block that it does not have,
 are refused as by 'palmheap get'. There are two more lines:
 
-  bad TooLarge   the new file would have more than 16777216 bytes
+  bad TooLarge   the new file would have more than 4294967293 bytes
   bad EmptyPart  PART has no bytes, and the block after this one in the file
                  comes before it in the list: both would have one offset, and
                  the other one would be read as the empty block

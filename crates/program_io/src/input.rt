@@ -1,19 +1,19 @@
 //! Reading an input file.
 
-ghost use Rattle.std.specs.Prelude.{◌≡◌, ◌+◌, ◌++◌, ◌≤◌, ◌<◌, IfOk, IfErr, OnOk, OnErr, IfSome, vec_len, length};
+ghost use Rattle.std.specs.Prelude.{[], ◌≡◌, ◌+◌, ◌++◌, ◌≤◌, ◌<◌, IfOk, IfErr, OnOk, OnErr, IfSome, vec_len, length};
 ghost use Rattle.std.specs.Io.{StartsWith};
 ghost use Rattle.std.specs.Io.KnownBytes.{IsAtEnd, Keeps, prepend_known};
 ghost use Rattle.allowance.specs.Refusals.{GrowthRefused};
-ghost use Rattle.program_io.specs.Status.{IsOfReading};
+ghost use Rattle.program_io.specs.Status.{IsOfReading, IsOfReadingWithin};
 
 use crate::reading::{ReadFailure, read_once};
-use allowance::{Allowance, zeros};
+use allowance::{Allowance, room_for, zeros};
 use std::alloc::{AllocError, Global};
 use std::io;
 use std::io::{ErrorKind, Read};
 use thiserror::Error;
 
-/// The greatest size of an input file in bytes.
+/// The greatest size of an input file in bytes, unless a reader is given another one.
 pub const MOST_INPUT: usize = 16_777_216;
 
 /// The greatest number of bytes that one read asks for.
@@ -31,6 +31,9 @@ pub enum InputFault {
     /// The file has more than `MOST_INPUT` bytes.
     #[error("longer than {MOST_INPUT} bytes")]
     TooLong,
+    /// The file has more bytes than this number, the greatest size that was given.
+    #[error("longer than {0} bytes")]
+    LongerThan(usize),
     /// An allocation failed.
     #[error("out of memory")]
     Memory,
@@ -86,12 +89,68 @@ pub fn read_input_from<A: Allowance, R: Read>(
     ensures no_memory { result ≡ Err InputFault.Memory → A.is_short memory.now }
     ensures of_reading { IfErr result IsOfReading }
 {
+    match read_within(memory, reader, 0, MOST_INPUT) {
+        Ok(bytes) => Ok(bytes),
+        Err(fault) => Err(at_most_input(fault)),
+    }
+}
+
+/// The same as `read_input_from`, with `most` as the greatest size. It first takes memory for `room`
+/// bytes: if the size of a file is known, the bytes aren't copied while they grow.
+///
+/// # Errors
+///
+/// - `Read`: if a read failed.
+/// - `LongerThan`: if the reader gives more than `most` bytes. It has this number.
+/// - `Memory`: if an allocation failed.
+pub fn read_within<A: Allowance, R: Read>(
+    memory: &A,
+    reader: &mut R,
+    room: usize,
+    most: usize,
+) -> Result<Vec<u8>, InputFault>
+    ensures limit { IfOk result (λ bytes. vec_len bytes ≤ most) }
+    ensures bytes { IfOk result (λ bytes.
+        IfSome (R.remaining reader.old) (λ all. bytes.items ≡ all)) }
+    ensures end { OnOk result (IsAtEnd (R.remaining reader.new)) }
+    ensures too_long { result ≡ Err (InputFault.LongerThan most)
+        → IfSome (R.remaining reader.old) (λ all. most < length all) }
+    ensures no_memory { result ≡ Err InputFault.Memory → A.is_short memory.now }
+    ensures of_reading { IfErr result (IsOfReadingWithin most) }
+{
     let Ok(mut turn) = buffer(memory, MOST_READ) else {
         return Err(InputFault::Memory);
     };
-    let mut bytes = Vec::new(memory.allocator());
-    while read_turn(memory, reader, &mut turn, &mut bytes)? > 0 {}
+    let Ok(mut bytes) = with_room(memory, room) else {
+        return Err(InputFault::Memory);
+    };
+    while read_turn_within(memory, reader, &mut turn, &mut bytes, most)? > 0 {}
     Ok(bytes)
+}
+
+/// Returns the fault of a reader of at most `MOST_INPUT` bytes.
+fn at_most_input(fault: InputFault) -> InputFault
+    requires { IsOfReadingWithin MOST_INPUT fault }
+    ensures too_long { result ≡ InputFault.TooLong → fault ≡ InputFault.LongerThan MOST_INPUT }
+    ensures no_memory { result ≡ InputFault.Memory → fault ≡ InputFault.Memory }
+    ensures of_reading { IsOfReading result }
+{
+    match fault {
+        InputFault::LongerThan(_) => InputFault::TooLong,
+        _ => fault,
+    }
+}
+
+/// Returns an empty vector with room for `n` bytes. Nothing is allocated if that is 0.
+fn with_room<A: Allowance>(memory: &A, n: usize) -> Result<Vec<u8>, AllocError>
+    ensures none { IfOk result (λ bytes. bytes.items ≡ []) }
+    ensures len { IfOk result (λ bytes. vec_len bytes ≡ 0) }
+    ensures short { OnErr result (A.is_short memory.now) }
+{
+    if n == 0 {
+        return Ok(Vec::new(memory.allocator()));
+    }
+    room_for(memory, n)
 }
 
 /// Allocates a buffer of `n` bytes.
@@ -131,12 +190,41 @@ pub fn read_turn<A: Allowance, R: Read>(
     ensures no_memory { result ≡ Err InputFault.Memory → A.is_short memory.now }
     ensures of_reading { IfErr result IsOfReading }
 {
+    match read_turn_within(memory, reader, turn, bytes, MOST_INPUT) {
+        Ok(n) => Ok(n),
+        Err(fault) => Err(at_most_input(fault)),
+    }
+}
+
+/// The same as `read_turn`, with `most` as the greatest number of bytes.
+fn read_turn_within<A: Allowance, R: Read>(
+    memory: &A,
+    reader: &mut R,
+    turn: &mut [u8],
+    bytes: &mut Vec<u8>,
+    most: usize,
+) -> Result<usize, InputFault>
+    requires room { 0 < length turn.old }
+    requires limit { vec_len bytes.old ≤ most }
+    ensures limit { OnOk result (vec_len bytes.new ≤ most) }
+    ensures count { IfOk result (λ n. vec_len bytes.new ≡ vec_len bytes.old + n) }
+    ensures front { OnOk result (StartsWith bytes.new.items bytes.old.items) }
+    ensures kept { OnOk result (Keeps
+        (prepend_known bytes.old.items (R.remaining reader.old))
+        (prepend_known bytes.new.items (R.remaining reader.new))) }
+    ensures end { IfOk result (λ n. n ≡ 0 → IsAtEnd (R.remaining reader.new)) }
+    ensures too_long { result ≡ Err (InputFault.LongerThan most)
+        → IfSome (prepend_known bytes.old.items (R.remaining reader.old))
+        (λ all. most < length all) }
+    ensures no_memory { result ≡ Err InputFault.Memory → A.is_short memory.now }
+    ensures of_reading { IfErr result (IsOfReadingWithin most) }
+{
     let n = match read_once(reader, turn) {
         Ok(n) => n,
         Err(failure) => return Err(InputFault::Read(failure)),
     };
-    if n > MOST_INPUT - bytes.len() {
-        return Err(InputFault::TooLong);
+    if n > most - bytes.len() {
+        return Err(InputFault::LongerThan(most));
     }
     match extend(memory, bytes, &turn[..n]) {
         Ok(()) => Ok(n),

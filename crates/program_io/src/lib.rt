@@ -10,7 +10,7 @@
 //! | `command_rows` | the commands and their arguments, with their help |
 //! | `requested` | the request of the words that were matched |
 //! | `help_texts` | the texts of the help |
-//! | `input` | reads a file to its end, within the limit |
+//! | `input` | reads a file to its end, within a limit |
 //! | `reading` | one read, and its failure |
 //! | `output` | prints a line and returns the status of the run, or flushes a writer |
 //! | `output_file` | a file that replaces another as a whole |
@@ -35,7 +35,9 @@ mod status;
 
 pub use error_output::ErrorOutput;
 pub use fault_report::{report_fault, report_input_fault, report_outcome, report_write_fault};
-pub use input::{InputFault, MOST_INPUT, MOST_READ, read_input, read_input_from, read_turn};
+pub use input::{
+    InputFault, MOST_INPUT, MOST_READ, read_input, read_input_from, read_turn, read_within,
+};
 pub use noted::Noted;
 pub use output::{flushed, say, say_bad, say_text};
 pub use output_file::OutputFile;

@@ -86,7 +86,10 @@ impl From<InputFault> for Status {
 
     fn from(fault: InputFault) -> Status {
         match fault {
-            InputFault::Open(_) | InputFault::Read(_) | InputFault::TooLong => Status::ReadFault,
+            InputFault::Open(_)
+            | InputFault::Read(_)
+            | InputFault::TooLong
+            | InputFault::LongerThan(_) => Status::ReadFault,
             InputFault::Memory => Status::NoMemory,
         }
     }

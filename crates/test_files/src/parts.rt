@@ -1,6 +1,7 @@
 //! Files that are taken apart, and put together.
 
 use crate::samples::{MEMO_FILE, MIXED_FILE, rewritten};
+use canonical_file::MOST_BYTES;
 use file_parts::{PackFault, pack, put_database, read_listed, unpack};
 use heap_model::Bytes;
 use palm_text::Counted;
@@ -12,9 +13,6 @@ use std::str;
 use std::test::*;
 use test_support::{EMPTY_FILE, ORDER_FILE, TINY_FILE, bytes_of, equal, holds};
 
-/// The most bytes that a file may have.
-const MOST_OF_PARTS: usize = 16_777_216;
-
 /// The text of a file, and its parts by their ranks: no bytes where there is none.
 #[derive(Drop, Debug, PartialEq, Eq)]
 struct Folder {
@@ -24,7 +22,7 @@ struct Folder {
 
 /// Takes a file apart; none where it has a fault.
 fn folder_of(alloc: Global, file: &[u8]) -> Result<Option<Folder>, Fail> {
-    if file.len() > MOST_OF_PARTS {
+    if file.len() > MOST_BYTES {
         return Err("a file that is too long")?;
     }
     let Ok(unpacked) = unpack(&alloc, file) else {
@@ -312,28 +310,22 @@ fn ids_are_given(rt: HostRuntime) -> Result<(), Fail> {
     )
 }
 
-/// Parts that make a file of one byte more than a file may have, and of just as many.
+/// A part that makes a file of more than 16 MiB.
 #[test]
-fn files_that_are_too_large(rt: HostRuntime) -> Result<(), Fail> {
-    for (more, is_large) in [(0, false), (1, true)] {
-        let mut parts = Vec::new(rt.alloc());
-        parts.push(Bytes::of(Vec::new(rt.alloc())))?;
-        parts.push(Bytes::of(Vec::new(rt.alloc())))?;
-        parts.push(Bytes::of(vec![in rt.alloc(); 0u8; (MOST_OF_PARTS - 88usize).saturating_add(
-            more
-        )]?))?;
-        match file_of(rt.alloc(), MEMO_TEXT.as_bytes(), &parts)? {
-            Ok(file) => {
-                holds(more, !is_large)?;
-                equal(more, file.len(), MOST_OF_PARTS)?;
-            }
-            Err(fault) => {
-                holds(more, is_large)?;
-                equal(more, fault.as_str(), "TooLarge")?;
-            }
-        }
-    }
-    Ok(())
+fn a_large_file(rt: HostRuntime) -> Result<(), Fail> {
+    let mut parts = Vec::new(rt.alloc());
+    parts.push(Bytes::of(Vec::new(rt.alloc())))?;
+    parts.push(Bytes::of(Vec::new(rt.alloc())))?;
+    parts.push(Bytes::of(vec![in rt.alloc(); 7u8; 17_000_000]?))?;
+    let file = match file_of(rt.alloc(), MEMO_TEXT.as_bytes(), &parts)? {
+        Ok(file) => file,
+        Err(fault) => return Err(Fail::new(fault.as_str())),
+    };
+    equal("bytes", file.len(), 17_000_088)?;
+    let Some(folder) = folder_of(rt.alloc(), &file)? else {
+        return Err("a file with a fault")?;
+    };
+    holds("parts", folder.parts == parts)
 }
 
 /// One line more than there may be entries is a faulty line.

@@ -1,7 +1,7 @@
 //! Reading input: how far, and what a read that fails gives.
 
 use command_files::{SizedFault, read_region_from};
-use program_io::{InputFault, MOST_INPUT, read_input, read_input_from};
+use program_io::{InputFault, MOST_INPUT, read_input, read_input_from, read_within};
 use std::alloc::Global;
 use std::io::ErrorKind;
 use std::test::Fail;
@@ -13,6 +13,7 @@ enum Outcome {
     Bytes(usize),
     ReadFault,
     TooLong,
+    LongerThan(usize),
     NoMemory,
 }
 
@@ -21,6 +22,7 @@ fn outcome_of(read: Result<Vec<u8>, InputFault>) -> Outcome {
         Ok(bytes) => Outcome::Bytes(bytes.len()),
         Err(InputFault::Open(_) | InputFault::Read(_)) => Outcome::ReadFault,
         Err(InputFault::TooLong) => Outcome::TooLong,
+        Err(InputFault::LongerThan(most)) => Outcome::LongerThan(most),
         Err(InputFault::Memory) => Outcome::NoMemory,
     }
 }
@@ -181,6 +183,73 @@ static TOO_LONG: [(usize, usize, usize); 3] = [
 fn refuses_more_than_the_limit(rt: HostRuntime) -> Result<(), Fail> {
     for (left, step, most) in &TOO_LONG {
         check_too_long(rt.alloc(), *left, *step, *most)?;
+    }
+    Ok(())
+}
+
+/// How many bytes there are, how many a read gives, for how many there is room at first, how many
+/// there may be, and what comes of it.
+static WITHIN: [(usize, usize, usize, usize, Outcome); 12] = [
+    (0, 1, 0, 0, Outcome::Bytes(0)),
+    (1, 1, 0, 0, Outcome::LongerThan(0)),
+    (5, 5, 0, 5, Outcome::Bytes(5)),
+    (5, 2, 5, 5, Outcome::Bytes(5)),
+    (5, 2, 3, 5, Outcome::Bytes(5)),
+    (5, 2, 9, 5, Outcome::Bytes(5)),
+    (6, 5, 5, 5, Outcome::LongerThan(5)),
+    (6, 1, 0, 5, Outcome::LongerThan(5)),
+    (65_537, 65_536, 65_537, 65_537, Outcome::Bytes(65_537)),
+    (65_538, 65_536, 65_537, 65_537, Outcome::LongerThan(65_537)),
+    (
+        17_000_000,
+        65_536,
+        17_000_000,
+        4_294_967_295,
+        Outcome::Bytes(17_000_000),
+    ),
+    (
+        usize::MAX,
+        65_536,
+        0,
+        17_000_000,
+        Outcome::LongerThan(17_000_000),
+    ),
+];
+
+/// At most one read more than those whose bytes fit, and one at the end.
+fn check_within(
+    alloc: Global,
+    (left, step, room, most, wanted): (usize, usize, usize, usize, Outcome),
+) -> Result<(), Fail> {
+    let mut source = Source::new(left, step);
+    let came = outcome_of(read_within(&alloc, &mut source, room, most));
+    equal(
+        format_args!("{left} bytes of {most}, {step} at a time"),
+        (came, source.reads <= most / step.min(65_536) + 2),
+        (wanted, true),
+    )
+}
+
+#[test]
+fn reads_within_another_limit(rt: HostRuntime) -> Result<(), Fail> {
+    for row in &WITHIN {
+        check_within(rt.alloc(), *row)?;
+    }
+    Ok(())
+}
+
+/// A growth for the turn, one for the room, and one for each read that gives bytes.
+#[test]
+fn every_growth_within_a_limit_may_be_refused(rt: HostRuntime) -> Result<(), Fail> {
+    for before in 0..7 {
+        let memory = RefusesOne::behind(rt.alloc(), before);
+        let came = outcome_of(read_within(&memory, &mut Source::new(4, 1), 4, 4));
+        let wanted = if before < 6 {
+            Outcome::NoMemory
+        } else {
+            Outcome::Bytes(4)
+        };
+        equal(format_args!("after {before}"), came, wanted)?;
     }
     Ok(())
 }

@@ -62,6 +62,11 @@ fn a_file_that_is_not_read_is_named(rt: HostRuntime) -> Result<(), Fail> {
         InputFault::TooLong,
         "fault read\na.img: longer than 16777216 bytes\n",
     )?;
+    check_input(
+        alloc,
+        InputFault::LongerThan(4_294_967_295),
+        "fault read\na.img: longer than 4294967295 bytes\n",
+    )?;
     check_input(alloc, InputFault::Memory, "fault memory\n")
 }
 

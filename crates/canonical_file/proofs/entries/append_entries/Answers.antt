@@ -1,9 +1,10 @@
 use Rattle.std.proofs.Common.{◌≡◌, ◌+◌, ◌<◌, ◌≤◌, ◌++◌, ℕ, None, List, Option, length, get_or, drop, vec_len, vec_capacity, refl, sym, ap, ◌∙◌, arith, append-nil}
 use Rattle.std.specs.List.{sum_by}
 use Rattle.std.proofs.lemmas.List.{drop_all}
-use Rattle.std.proofs.lemmas.List.Sums.{sum_by-take-drop, sum_by-drop_more}
+use Rattle.std.proofs.lemmas.List.Sums.{sum_by-drop_more}
 use Rattle.heap_model.specs.Database.{Entry, entry_count_in, entry_bytes}
 use Rattle.pdb_format.specs.Blocks.{length_within}
+use Rattle.pdb_format.specs.declared.blocks.Block.{Block}
 use Rattle.pdb_format.specs.FileTexts.{entries_text}
 use Rattle.pdb_format.specs.ReadFiles.{entries_read}
 use Rattle.pdb_format.proofs.FileBlocks.{length-blocks, block_of}
@@ -16,10 +17,8 @@ use Rattle.canonical_file.proofs.entries.append_entries.Goals as goal
 
 pub loop-index-init : goal.loop-index-init
 loop-index-init c =
-    let sum = sum_by-take-drop length_within c.blocks-blocks.result.now 2 in
-    let all = c.requires.short in
-    let size = c.requires.size in
-    let total = c.blocks-blocks.ensures.places.total in
+    let same = ap (λ (blocks : List (Option Block)). sum_by length_within (drop 2 blocks)) c.blocks-blocks.ensures.places.places in
+    let fits = c.requires.fits in
     record {
       short = omega arith;
       text = refl;

@@ -1,10 +1,10 @@
 use Rattle.std.proofs.Common.{◌≡◌, ◌+◌, ◌<◌, ◌≤◌, ℕ, length, set, slice_index_or, Some, subst, sym, arith, rules}
 use Rattle.std.specs.List.{sum_by}
-use Rattle.heap_model.specs.Files.{offsets_in}
+use Rattle.heap_model.specs.Files.{offsets_in, entries_end}
 use Rattle.pdb_format.specs.Blocks.{length_within}
 use Rattle.pdb_format.specs.Starts.{begins}
 use Rattle.pdb_format.proofs.SortedStarts.{none, items_are}
-use Rattle.pdb_format.proofs.PlacedBlocks.{ArePut, nothing_put, put_more, all_placed, all_put, all_within, none_taken, taken_more, taken_most, file_sorted}
+use Rattle.pdb_format.proofs.PlacedBlocks.{ArePut, nothing_put, put_more, all_placed, all_put, all_within, none_taken, taken_more, taken_most, first_behind, file_sorted}
 use Rattle.pdb_format.proofs.blocks.put_blocks.Goals as goal
 
 pub loop-index-init : goal.loop-index-init
@@ -67,5 +67,9 @@ returns-clause-inside c =
 
 pub returns-clause-total : goal.returns-clause-total
 returns-clause-total c =
-    let past : length c.args.starts.now ≤ c.loop-index.index = omega arith in
-    taken_most (length c.args.file.now) c.args.starts.now c.loop-index.blocks c.loop-index.index past c.loop-index.invariant.taken
+    let few = c.requires.few in
+    let file = c.args.file.now in
+    let starts = c.args.starts.now in
+    let sorted = file_sorted file starts c.requires.good (omega arith) c.requires.all c.requires.rising in
+    let past : length starts ≤ c.loop-index.index = omega arith in
+    taken_most (length file) (entries_end file) starts c.loop-index.blocks c.loop-index.index past (first_behind file starts c.requires.good sorted) c.loop-index.invariant.taken
