@@ -1,9 +1,6 @@
 pub mod SurveyLaws
 pub mod SlotLaws
-pub mod OwnerLaws
-pub mod DirectoryLaws
 pub mod CheckLaws
-pub mod ChainedLaws
 pub mod TableLaws
 pub mod WalkLaws
 pub mod BodyLaws
