@@ -32,6 +32,7 @@ const STAND_IN_OWNER: u8 = 1;
 /// Moves a movable chunk without locks to the start of neighbouring free chunks that have the room.
 /// It has `count` bytes there: its first ones, or all of them and zeros after them. Returns whether
 /// there is a run of free chunks with the room.
+#[inline(always)]
 pub(crate) fn relocate(region: &mut Region, lists: &mut Lists, found: Found, count: u32) -> bool
     requires heap { HoldsHeap region.old }
     requires found { IsOne region.old.bytes found }
@@ -58,6 +59,7 @@ pub(crate) fn relocate(region: &mut Region, lists: &mut Lists, found: Found, cou
 }
 
 /// Moves a movable chunk without locks to the start of room. The chunk may be the directory.
+#[inline(always)]
 fn relocate_to(region: &mut Region, lists: &mut Lists, found: Found, room: Room, count: u32)
     requires heap { HoldsHeap region.old }
     requires found { IsOne region.old.bytes found }
@@ -82,6 +84,7 @@ fn relocate_to(region: &mut Region, lists: &mut Lists, found: Found, room: Room,
 
 /// Moves the directory. While it moves, the image has no directory, so that each step leaves an
 /// accepted heap.
+#[inline(never)]
 fn relocate_directory(region: &mut Region, lists: &mut Lists, found: Found, room: Room, count: u32)
     requires heap { HoldsHeap region.old }
     requires found { IsOne region.old.bytes found }
@@ -105,6 +108,7 @@ fn relocate_directory(region: &mut Region, lists: &mut Lists, found: Found, room
 
 /// Moves a chunk that isn't the directory. A fixed chunk stands in for it at the new place until
 /// the old chunk is free, so that each step leaves an accepted heap.
+#[inline(always)]
 fn relocate_other(region: &mut Region, lists: &mut Lists, found: Found, room: Room, count: u32)
     requires heap { HoldsHeap region.old }
     requires found { IsOne region.old.bytes found }

@@ -646,6 +646,7 @@ impl Space {
     /// Moves a movable chunk without locks to the start of room that `find_room` finds. It has
     /// `count` bytes there: its first ones, or all of them and zeros after them. Returns whether
     /// there is room. No other chunk moves.
+    #[inline(always)]
     pub fn relocate(&mut self, found: Found, count: u32) -> bool
         requires found { IsOne self.old.bytes found }
         requires unlocked { found.lock ≡ 0 }

@@ -11,10 +11,10 @@ use heap_model::{Name, Place};
 #[derive(Clone, Copy, Debug, PartialEq, Eq)]
 pub struct Found {
     pub name: Name,
-    pub place: Place,
-    pub length: u32,
     pub lock: u8,
     pub owner: u8,
+    pub place: Place,
+    pub length: u32,
 }
 
 /// Returns the chunk whose body is at a place, if its header is a movable one's.

@@ -45,6 +45,7 @@ impl Heap {
     /// - `InvalidHandle`: no chunk has the name, or the manager owns the chunk.
     /// - `ChunkNotLocked`: the chunk has no lock and isn't fixed.
     /// - `Lent`: the bytes of the chunk are lent.
+    #[inline(always)]
     pub fn take_out_also(&mut self, name: Name) -> Result<Loan, Refusal>
         ensures taken { IfOk result (λ loan. TakesOut self.old self.new name loan) }
         ensures refused { OnErr result (self.new ≡ self.old) }

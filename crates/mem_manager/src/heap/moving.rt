@@ -86,8 +86,23 @@ pub(crate) fn resize_found(space: &mut Space, found: Found, size: u32) -> Result
     if found.lock > 0 {
         return Err(Refusal::ChunkLocked);
     }
-    if !resize_by_moving(space, found, size) {
+    if !resize_by_moving(space, apart(found), size) {
         return Err(Refusal::NotEnoughSpace);
     }
     Ok(())
+}
+
+/// Returns the same chunk, as a value of its own. The callers of a call that isn't in line pass it,
+/// so that what they found stays in registers until then.
+#[inline(always)]
+fn apart(found: Found) -> Found
+    ensures { result ≡ found }
+{
+    Found {
+        name: found.name,
+        lock: found.lock,
+        owner: found.owner,
+        place: found.place,
+        length: found.length,
+    }
 }
