@@ -60,7 +60,7 @@ after_is name (Some after) room good = by_test (is_after_name name after.bytes) 
 
 -- ---- the order of its blocks
 
-some_filled : (bytes : List ℕ) (part : Option (List ℕ)) → is_some (filled bytes part) ≡ is_some part
+pub some_filled : (bytes : List ℕ) (part : Option (List ℕ)) → is_some (filled bytes part) ≡ is_some part
 some_filled bytes None = refl
 some_filled bytes (Some name) = refl
 

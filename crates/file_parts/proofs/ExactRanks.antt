@@ -182,7 +182,7 @@ order_back file ranks blocks sorted are = by_rising (is_rising ranks) refl where
 pub rest_from : (xs : List ℕ) (i : ℕ) → i < length xs → drop i xs ≡ get_or xs i 0 ∷ drop (i + 1) xs
 rest_from xs i inside = rw (add-one, drop-cons xs i 0) refl
 
-free_here : (file ranks : List ℕ) (blocks : List (Option (List ℕ))) (i : ℕ) → AreSorted (offsets_in file) (length file) (starts_of (offsets_in file) ranks) → AreThereAs file blocks → i < length ranks → is_other blocks (take i ranks) (get_or ranks i 0) ≡ true
+pub free_here : (file ranks : List ℕ) (blocks : List (Option (List ℕ))) (i : ℕ) → AreSorted (offsets_in file) (length file) (starts_of (offsets_in file) ranks) → AreThereAs file blocks → i < length ranks → is_other blocks (take i ranks) (get_or ranks i 0) ≡ true
 free_here file ranks blocks i sorted are inside =
     let rank : ℕ = get_or ranks i 0 in
     let none : (times rank (take i ranks) == 0) ≡ true = elim (cases_eq (times rank (take i ranks)) 0) [

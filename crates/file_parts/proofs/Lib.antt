@@ -38,3 +38,5 @@ pub mod FolderTexts
 pub mod Replacements
 pub mod ReplacedFiles
 pub mod ReplacedSound
+pub mod ValueLaws
+pub mod ValuesBack

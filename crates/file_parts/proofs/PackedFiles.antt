@@ -8,9 +8,9 @@ use Rattle.pdb_format.proofs.WrittenOffsets.{all_bytes, size_more}
 use Rattle.file_parts.specs.declared.listed.Listed.{Listed}
 use Rattle.file_parts.specs.declared.packing.PackFault.{PackFault}
 use Rattle.file_parts.specs.declared.packing.PackFault.TheVariants.{TooLarge, BadLine, OutOfMemory}
-use Rattle.file_parts.specs.Listed.{entry_listed, entries_listed, database_listed}
-use Rattle.file_parts.specs.Packing.{IsRefusedFor, filled, part_at, database_of_parts}
-use Rattle.file_parts.proofs.PackedEntries.{block_filled, length-packed}
+use Rattle.file_parts.specs.Listed.{database_listed}
+use Rattle.file_parts.specs.Packing.{IsRefusedFor, filled, part_at, database_of_parts, with_parts}
+use Rattle.file_parts.proofs.PackedEntries.{block_filled, length-filled}
 
 -- a larger file is refused as well
 pub refused_more : (n m : ℕ) (fault : PackFault) → n ≤ m → IsRefusedFor n fault → IsRefusedFor m fault
@@ -26,23 +26,28 @@ sizes d =
     omega arith
 
 -- the block of a rank
+pub block_with : (parts : List (List ℕ)) (d : Database (Option (List ℕ))) (rank : ℕ) → rank < length (data_in d) → get_or (data_in (with_parts parts d)) rank None ≡ filled (part_at parts rank) (get_or (data_in d) rank None)
+block_with parts d zero inside = refl
+block_with parts d (suc zero) inside = refl
+block_with parts d (suc (suc k)) inside =
+    let long = length-map d.entries (entry_data {Data = Option (List ℕ)}) in
+    let next : 2 + k ≡ suc (suc k) = omega arith in
+    block_filled parts 2 k d.entries (omega arith)
+    ∙ ap (λ (r : ℕ). filled (part_at parts r) (get_or (map entry_data d.entries) k None)) next
+
 pub block_packed : (listed : Listed) (parts : List (List ℕ)) (rank : ℕ) → rank < length (data_in (database_listed listed))
     → get_or (data_in (database_of_parts listed parts)) rank None ≡ filled (part_at parts rank) (get_or (data_in (database_listed listed)) rank None)
-block_packed listed parts zero inside = refl
-block_packed listed parts (suc zero) inside = refl
-block_packed listed parts (suc (suc k)) inside =
-    let long = length-map (entries_listed listed.entries.items) (entry_data {Data = Option (List ℕ)}) in
-    let next : 2 + k ≡ suc (suc k) = omega arith in
-    block_filled parts 2 k (entries_listed listed.entries.items) (omega arith)
-    ∙ ap (λ (r : ℕ). filled (part_at parts r) (get_or (map entry_data (entries_listed listed.entries.items)) k None)) next
+block_packed listed parts rank inside = block_with parts (database_listed listed) rank inside
+
+pub count_with : (parts : List (List ℕ)) (d : Database (Option (List ℕ))) → length (data_in (with_parts parts d)) ≡ length (data_in d)
+count_with parts d =
+    let one = length-map (with_parts parts d).entries (entry_data {Data = Option (List ℕ)}) in
+    let two = length-map d.entries (entry_data {Data = Option (List ℕ)}) in
+    let three = length-filled parts 2 d.entries in
+    omega arith
 
 pub count_packed : (listed : Listed) (parts : List (List ℕ)) → length (data_in (database_of_parts listed parts)) ≡ length (data_in (database_listed listed))
-count_packed listed parts =
-    let one = length-map (database_of_parts listed parts).entries (entry_data {Data = Option (List ℕ)}) in
-    let two = length-map (entries_listed listed.entries.items) (entry_data {Data = Option (List ℕ)}) in
-    let three = length-packed listed.entries.items parts in
-    let four = length-map listed.entries.items entry_listed in
-    omega arith
+count_packed listed parts = count_with parts (database_listed listed)
 
 blocks_from : (blocks : List (Option (List ℕ))) (i : ℕ) → i < length blocks → all_bytes (drop i blocks) ≡ block_bytes (get_or blocks i None) ++ all_bytes (drop (i + 1) blocks)
 blocks_from blocks i inside = rw (add-one, drop-cons blocks i None) refl

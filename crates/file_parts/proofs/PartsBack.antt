@@ -1,11 +1,12 @@
 -- The text and the parts of a database give it back.
 use Rattle.std.proofs.Common.{◌≡◌, ℕ, zero, suc, ◌+◌, ◌/◌, ◌%◌, ◌^◌, ◌<◌, ◌≤◌, Bool, true, false, Option, Some, None, List, [], ◌∷◌, ◌++◌, length, map, take, refl, sym, ap, ◌∙◌, arith, append_assoc, append-nil, length-append}
 use Rattle.std.specs.Prelude.{All, Ok, ◌==◌}
+use Rattle.std.specs.List.{AllZip}
 use Rattle.std.proofs.Math.Seq.{get_or-append_seam}
 use Rattle.std.proofs.lemmas.Fmt.{decimal_digit}
 use Rattle.std.proofs.lemmas.List.Elements.{All-head, All-tail, All-nil, All-cons}
 use Rattle.heap_model.specs.Bytes.{AreBytes}
-use Rattle.heap_model.specs.Database.{Database, Entry, a_record, a_resource, entry_data, entry_with, data_in, has_resources, name_in, IsDatabaseName, HeaderFits}
+use Rattle.heap_model.specs.Database.{Database, DatabaseHeader, Entry, a_record, a_resource, entry_data, entry_with, data_in, has_resources, name_in, IsDatabaseName, HeaderFits}
 use Rattle.heap_model.specs.Files.{block_bytes}
 use Rattle.pdb_format.specs.Writable.{IsWritableEntry, HasFile}
 use Rattle.file_parts.specs.Texts.{app_name, sort_name, entry_name, name_if_data, named_entries, with_names, database_text}
@@ -29,31 +30,59 @@ filled_entry name (a_resource kind id block) = ap (λ (b : Option (List ℕ)). a
 all_blocks : List (Entry (Option (List ℕ))) → List (List ℕ)
 all_blocks es = map block_bytes (map entry_data es)
 
-entries_filled : (front more : List (List ℕ)) (index rank : ℕ) (es : List (Entry (Option (List ℕ)))) → length front ≡ rank → filled_entries (front ++ (all_blocks es ++ more)) rank (named_entries index es) ≡ es
+-- with this data in place of its name, an entry is this one
+abbrev pub IsFilledTo : Entry (Option (List ℕ)) → Entry (Option (List ℕ)) → Type 0
+IsFilledTo named e = entry_with (filled (block_bytes (entry_data e))) named ≡ e
+
+entries_filled : (front more : List (List ℕ)) (rank : ℕ) (named es : List (Entry (Option (List ℕ)))) → AllZip IsFilledTo named es → length front ≡ rank → filled_entries (front ++ (all_blocks es ++ more)) rank named ≡ es
 unfolding all_blocks
-entries_filled front more index rank [] long = refl
-entries_filled front more index rank (e ∷ es) long =
+entries_filled front more rank [] [] all long = refl
+entries_filled front more rank [] (e ∷ es) all long = absurd all
+entries_filled front more rank (n ∷ named) [] all long = absurd all
+entries_filled front more rank (n ∷ named) (e ∷ es) all long =
     let block : List ℕ = block_bytes (entry_data e) in
     let rest : List (List ℕ) = all_blocks es ++ more in
     let longer = length-append front (block ∷ []) in
     let here : part_at (front ++ block ∷ rest) rank ≡ block = ap (λ (r : ℕ). part_at (front ++ block ∷ rest) r) (sym long) ∙ get_or-append_seam front block rest [] in
     let joined : front ++ block ∷ rest ≡ (front ++ block ∷ []) ++ rest = sym (append_assoc front (block ∷ []) rest) in
-    ap (λ (bytes : List ℕ). entry_with (filled bytes) (entry_with (name_if_data (entry_name index)) e) ∷ filled_entries (front ++ block ∷ rest) (rank + 1) (named_entries (index + 1) es)) here
-    ∙ ap (λ (one : Entry (Option (List ℕ))). one ∷ filled_entries (front ++ block ∷ rest) (rank + 1) (named_entries (index + 1) es)) (filled_entry (entry_name index) e)
-    ∙ ap (λ (parts : List (List ℕ)). e ∷ filled_entries parts (rank + 1) (named_entries (index + 1) es)) joined
-    ∙ ap (λ (xs : List (Entry (Option (List ℕ)))). e ∷ xs) (entries_filled (front ++ block ∷ []) more (index + 1) (rank + 1) es (omega arith))
+    ap (λ (bytes : List ℕ). entry_with (filled bytes) n ∷ filled_entries (front ++ block ∷ rest) (rank + 1) named) here
+    ∙ ap (λ (one : Entry (Option (List ℕ))). one ∷ filled_entries (front ++ block ∷ rest) (rank + 1) named) all.0
+    ∙ ap (λ (parts : List (List ℕ)). e ∷ filled_entries parts (rank + 1) named) joined
+    ∙ ap (λ (xs : List (Entry (Option (List ℕ)))). e ∷ xs) (entries_filled (front ++ block ∷ []) more (rank + 1) named es all.1 (omega arith))
 
-whole : Database (Option (List ℕ)) → Option (List ℕ) → Option (List ℕ) → List (Entry (Option (List ℕ))) → Database (Option (List ℕ))
-whole d app sort entries = record { header = d.header; app_info = app; sort_info = sort; entries = entries }
+-- these are names in place of the data of a database
+pub record AreNamesOf (d named : Database (Option (List ℕ))) : Type 0 where
+  pub header : named.header ≡ d.header
+  pub app : filled (block_bytes d.app_info) named.app_info ≡ d.app_info
+  pub sort : filled (block_bytes d.sort_info) named.sort_info ≡ d.sort_info
+  pub entries : AllZip IsFilledTo named.entries d.entries
+
+whole : DatabaseHeader → Option (List ℕ) → Option (List ℕ) → List (Entry (Option (List ℕ))) → Database (Option (List ℕ))
+whole header app sort entries = record { header = header; app_info = app; sort_info = sort; entries = entries }
 
 -- with its parts, and others after them
-pub parts_and_more : (d : Database (Option (List ℕ))) (more : List (List ℕ)) → with_parts (map block_bytes (data_in d) ++ more) (with_names d) ≡ d
+pub filled_back : (d named : Database (Option (List ℕ))) (more : List (List ℕ)) → AreNamesOf d named → with_parts (map block_bytes (data_in d) ++ more) named ≡ d
 unfolding all_blocks whole
-parts_and_more d more =
-    let entries = entries_filled (block_bytes d.app_info ∷ block_bytes d.sort_info ∷ []) more 0 2 d.entries refl in
-    ap (λ (es : List (Entry (Option (List ℕ)))). whole d (filled (block_bytes d.app_info) (name_if_data app_name d.app_info)) (filled (block_bytes d.sort_info) (name_if_data sort_name d.sort_info)) es) entries
-    ∙ ap (λ (app : Option (List ℕ)). whole d app (filled (block_bytes d.sort_info) (name_if_data sort_name d.sort_info)) d.entries) (filled_named app_name d.app_info)
-    ∙ ap (λ (sort : Option (List ℕ)). whole d d.app_info sort d.entries) (filled_named sort_name d.sort_info)
+filled_back d named more are =
+    let app : Option (List ℕ) = filled (block_bytes d.app_info) named.app_info in
+    let sort : Option (List ℕ) = filled (block_bytes d.sort_info) named.sort_info in
+    let entries : List (Entry (Option (List ℕ))) = filled_entries (map block_bytes (data_in d) ++ more) 2 named.entries in
+    ap (λ (h : DatabaseHeader). whole h app sort entries) are.header
+    ∙ ap (whole d.header app sort) (entries_filled (block_bytes d.app_info ∷ block_bytes d.sort_info ∷ []) more 2 named.entries d.entries are.entries refl)
+    ∙ ap (λ (block : Option (List ℕ)). whole d.header block sort d.entries) are.app
+    ∙ ap (λ (block : Option (List ℕ)). whole d.header d.app_info block d.entries) are.sort
+
+all_filled : (index : ℕ) (es : List (Entry (Option (List ℕ)))) → AllZip IsFilledTo (named_entries index es) es
+all_filled index [] = tt
+all_filled index (e ∷ es) = (filled_entry (entry_name index) e, all_filled (index + 1) es)
+
+pub parts_and_more : (d : Database (Option (List ℕ))) (more : List (List ℕ)) → with_parts (map block_bytes (data_in d) ++ more) (with_names d) ≡ d
+parts_and_more d more = filled_back d (with_names d) more (record {
+  header = refl;
+  app = filled_named app_name d.app_info;
+  sort = filled_named sort_name d.sort_info;
+  entries = all_filled 0 d.entries;
+})
 
 pub parts_back : (d : Database (Option (List ℕ))) → with_parts (map block_bytes (data_in d)) (with_names d) ≡ d
 parts_back d = ap (λ (parts : List (List ℕ)). with_parts parts (with_names d)) (sym (append-nil (map block_bytes (data_in d)))) ∙ parts_and_more d []

@@ -1,5 +1,6 @@
 pub mod Texts
 pub mod Unpacking
+pub mod Values
 pub mod Left
 pub mod Words
 pub mod Reading

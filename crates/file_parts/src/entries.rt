@@ -16,7 +16,7 @@ use db_format::{DbEntry, RecordAttrs, RecordEntry, ResourceEntry};
 use script_lines::{LineFault, NO_MEMORY_FAULT, ScriptFault, four_bytes_of, hex_byte_of, short_of};
 
 /// The greatest number of entries of a database.
-const MOST_LISTED_ENTRIES: usize = 65_535;
+pub(crate) const MOST_LISTED_ENTRIES: usize = 65_535;
 
 /// An entry, and the part with its data.
 #[derive(Drop)]

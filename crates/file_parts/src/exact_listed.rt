@@ -73,7 +73,7 @@ fn read_after_lines<'a, A: Allowance>(
 }
 
 /// Checks the lines whose faults depend on the lines of the database.
-fn checked<'a, A: Allowance>(
+pub(crate) fn checked<'a, A: Allowance>(
     memory: &A,
     exact: ExactLines<'a>,
     listed: Listed<'a>,

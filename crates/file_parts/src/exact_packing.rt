@@ -30,7 +30,7 @@ use script_lines::{LineFault, ScriptFault};
 /// - `TooLarge`: if the file would have more than `MOST_BYTES` bytes.
 /// - `BadLine`: if a line `order` puts a block without bytes directly before one of a lower rank.
 /// - `OutOfMemory`: if an allocation failed.
-pub(crate) fn pack_exact<A: Allowance>(
+pub fn pack_exact<A: Allowance>(
     memory: &A,
     exact: &ListedExact<'_>,
     parts: &[Bytes],

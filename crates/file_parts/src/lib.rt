@@ -41,10 +41,12 @@ mod part_file;
 mod replaced;
 mod text;
 mod unpacked;
+mod values;
 mod words;
 
 pub use either::{FolderForm, ListedFolder, TakenApart, read_folder, take_apart};
 pub use exact_listed::ListedExact;
+pub use exact_packing::pack_exact;
 pub use exact_unpacked::{UnpackedExact, unpack_exact};
 pub use laws::{
     exact_files_are_spelled, exact_folders_pack_back, exact_texts_are_read,
@@ -56,3 +58,4 @@ pub use part_file::PartFile;
 pub use replaced::{ReplaceFault, Replaced, replace_block};
 pub use text::put_database;
 pub use unpacked::{Part, PartName, UnpackFault, Unpacked, unpack};
+pub use values::{ValueFault, list_entry, list_exact, list_header};
