@@ -6,8 +6,10 @@ ghost use Rattle.heap_place.specs.Found.{found_if_movable, found_if_fixed};
 use chunk_format::{FIXED_LOCK, Header, MANAGERS_OWNER};
 use heap_model::{Name, Place};
 
-/// A live chunk: its name, the place and the length of its body in bytes, its lock (15 if it is
-/// fixed) and its owner.
+/// A live chunk: its name, its lock (15 if it is fixed), its owner, and the place and the length of
+/// its body in bytes. The fields have this order so that the place stays one word: a `Result` of a
+/// chunk or a `Refusal` is copied by the fields of both, and a refusal has two bytes after its first
+/// word.
 #[derive(Clone, Copy, Debug, PartialEq, Eq)]
 pub struct Found {
     pub name: Name,

@@ -92,8 +92,8 @@ pub(crate) fn resize_found(space: &mut Space, found: Found, size: u32) -> Result
     Ok(())
 }
 
-/// Returns the same chunk, as a value of its own. The callers of a call that isn't in line pass it,
-/// so that what they found stays in registers until then.
+/// Returns the chunk in a new value, for a call that takes it by its address. Only the new value is
+/// written to memory: the chunk that was found stays in registers.
 #[inline(always)]
 fn apart(found: Found) -> Found
     ensures { result ≡ found }
