@@ -2,14 +2,14 @@
 use Rattle.std.proofs.Common.{◌≡◌, ℕ, ◌+◌, ◌-◌, ◌≤◌, List, [], ◌++◌, length, take, drop, replicate, refl, sym, ap, subst, ◌∙◌, append_assoc, arith, length-append, length-take}
 use Rattle.std.proofs.lemmas.List.{take-append-le, take-take, take_at}
 use Rattle.heap_model.specs.Bytes.{overwritten, sized_to, u32_at}
-use Rattle.heap_model.specs.Database.{Database, IsDatabaseName, header_bytes, spelled, resources_in, entry_count_in, header_in, database_in}
+use Rattle.heap_model.specs.Database.{Database, IsDatabaseName, header_bytes, spelled, resources_in, header_in, database_in}
 use Rattle.heap_model.specs.Leaving.{SpellsHere, Leaves, database_here}
 use Rattle.heap_model.specs.Maps.{put}
 use Rattle.heap_model.specs.Reading.{held}
 use Rattle.heap_model.specs.Store.{bytes_under}
 use Rattle.laws_heap.proofs.Frames.{length-overwritten}
 use Rattle.laws_heap.proofs.Resizings.{length-sized_to}
-use Rattle.laws_store.proofs.Spellings.{length-header_bytes, count_read}
+use Rattle.laws_store.proofs.Spellings.{length-header_bytes}
 use Rattle.db_format.specs.Headers.{WritesField}
 use Rattle.db_format.proofs.FieldLaws.{over_piece, header_over}
 use Rattle.database_edits.specs.Managers.{IsManagers, Rebodies, HasHeaderOf, PutsHeader}
@@ -20,12 +20,11 @@ use Rattle.database_edits.proofs.Databases.{kind_read, header_inside}
 
 -- ---- what is read of it
 
-pub is_heading : (image : List ℕ) (db : ℕ) (heading : Heading) → SpellsHere image db → heading.resources ≡ resources_in (bytes_under image db) → heading.entry_count ≡ entry_count_in (bytes_under image db)
+pub is_heading : (image : List ℕ) (db : ℕ) (heading : Heading) → SpellsHere image db → heading.resources ≡ resources_in (bytes_under image db)
     → heading.modification_number ≡ u32_at (bytes_under image db) 48 → heading.seed ≡ u32_at (bytes_under image db) 68 → IsHeading heading (database_here image db)
 unfolding database_in header_in
-is_heading image db heading s kind count number seed = record {
+is_heading image db heading s kind number seed = record {
   kind = kind ∙ kind_read image db s;
-  entry_count = count ∙ ap entry_count_in s.spelled.bytes_are ∙ count_read (database_here image db) s.spelled.fits;
   modification_number = number;
   seed = seed;
 }

@@ -1,4 +1,5 @@
 pub mod Managers
+pub mod Opened
 pub mod Edits
 pub mod Headings
 pub mod Recorded

@@ -7,32 +7,34 @@ ghost use Rattle.heap_model.specs.Space.{ShortFor};
 ghost use Rattle.heap_model.specs.Database.{entry_bytes};
 ghost use Rattle.heap_model.specs.Database as databases;
 ghost use Rattle.heap_model.specs.Lending.{KeepsLoan};
-ghost use Rattle.heap_model.specs.Leaving.{SpellsHere, database_here};
+ghost use Rattle.heap_model.specs.Leaving.{database_here};
 ghost use Rattle.heap_model.specs.Store.{bytes_under};
 ghost use Rattle.db_format.specs.EitherEntry.{entry_of, is_resource, HasFittingId};
 ghost use Rattle.db_format.specs.Entries.{WritesEntry};
 ghost use Rattle.mem_manager.specs.Lookup.{StandsAs};
 ghost use Rattle.database_edits.specs.Edits.{HasKindHere};
 ghost use Rattle.database_edits.specs.Managers.{IsManagers, Rebodies};
+ghost use Rattle.database_edits.specs.Opened.{IsOpenHere};
 
+use crate::opened::OpenDatabase;
 use db_format::{DbEntry, entry_offset};
-use heap_model::{Db, Name, Refusal};
-use mem_manager::{Found, Heap};
+use heap_model::{Name, Refusal};
+use mem_manager::Heap;
 
 /// Writes bytes over those of a database, starting at offset `at`. It is inlined, so that the few
 /// bytes of a field or of an entry are written as one number.
 #[inline(always)]
-pub(crate) fn put_part(heap: &mut Heap, db: Db, chunk: Found, at: u32, part: &[u8])
-    requires stands { StandsAs heap.old.bytes db.0 chunk }
-    requires managers { IsManagers heap.old.bytes db.0 }
-    requires inside { at + length part.now ≤ length (bytes_under heap.old.bytes db.0) }
-    ensures writes { Rebodies heap.old.bytes heap.new.bytes db.0
-        (overwritten (bytes_under heap.old.bytes db.0) at part.now) }
-    ensures stands { StandsAs heap.new.bytes db.0 chunk }
+pub(crate) fn put_part(heap: &mut Heap, opened: OpenDatabase, at: u32, part: &[u8])
+    requires stands { StandsAs heap.old.bytes opened.db.0 opened.chunk }
+    requires managers { IsManagers heap.old.bytes opened.db.0 }
+    requires inside { at + length part.now ≤ length (bytes_under heap.old.bytes opened.db.0) }
+    ensures writes { Rebodies heap.old.bytes heap.new.bytes opened.db.0
+        (overwritten (bytes_under heap.old.bytes opened.db.0) at part.now) }
+    ensures stands { StandsAs heap.new.bytes opened.db.0 opened.chunk }
     ensures loan { KeepsLoan heap.old heap.new }
     ensures rest { heap.new ≡ record heap.old { bytes = heap.new.bytes } }
 {
-    heap.sys_write(Name(db.0), chunk, at, part);
+    heap.sys_write(Name(opened.db.0), opened.chunk, at, part);
 }
 
 /// Writes an entry at the place of index `index`, among resources or among records. The place may
@@ -40,31 +42,30 @@ pub(crate) fn put_part(heap: &mut Heap, db: Db, chunk: Found, at: u32, part: &[u
 #[inline(always)]
 pub(crate) fn put_entry(
     heap: &mut Heap,
-    db: Db,
-    chunk: Found,
+    opened: OpenDatabase,
     index: u16,
     entry: DbEntry,
     resources: bool,
 )
-    requires stands { StandsAs heap.old.bytes db.0 chunk }
-    requires managers { IsManagers heap.old.bytes db.0 }
+    requires stands { StandsAs heap.old.bytes opened.db.0 opened.chunk }
+    requires managers { IsManagers heap.old.bytes opened.db.0 }
     requires inside { databases.entry_offset resources (index + 1)
-        ≤ length (bytes_under heap.old.bytes db.0) }
+        ≤ length (bytes_under heap.old.bytes opened.db.0) }
     requires kind { is_resource entry ≡ resources }
     requires id { HasFittingId entry }
     ensures entry { WritesEntry resources (entry_of entry) (entry_bytes (entry_of entry)) }
-    ensures writes { Rebodies heap.old.bytes heap.new.bytes db.0
-        (overwritten (bytes_under heap.old.bytes db.0)
+    ensures writes { Rebodies heap.old.bytes heap.new.bytes opened.db.0
+        (overwritten (bytes_under heap.old.bytes opened.db.0)
         (databases.entry_offset resources index) (entry_bytes (entry_of entry))) }
-    ensures len { length (bytes_under heap.new.bytes db.0) ≡ length (bytes_under heap.old.bytes db.0) }
-    ensures stands { StandsAs heap.new.bytes db.0 chunk }
+    ensures len { length (bytes_under heap.new.bytes opened.db.0) ≡ length (bytes_under heap.old.bytes opened.db.0) }
+    ensures stands { StandsAs heap.new.bytes opened.db.0 opened.chunk }
     ensures loan { KeepsLoan heap.old heap.new }
     ensures rest { heap.new ≡ record heap.old { bytes = heap.new.bytes } }
 {
     let at = entry_offset(resources, index) as u32;
     match entry {
-        DbEntry::Record(record) => put_part(heap, db, chunk, at, &record.to_bytes()),
-        DbEntry::Resource(resource) => put_part(heap, db, chunk, at, &resource.to_bytes()),
+        DbEntry::Record(record) => put_part(heap, opened, at, &record.to_bytes()),
+        DbEntry::Resource(resource) => put_part(heap, opened, at, &resource.to_bytes()),
     }
 }
 
@@ -73,26 +74,25 @@ pub(crate) fn put_entry(
 #[inline(always)]
 pub(crate) fn slide_entries(
     heap: &mut Heap,
-    db: Db,
-    chunk: Found,
+    opened: OpenDatabase,
     first: u16,
     end: u16,
     to: u16,
     resources: bool,
 )
-    requires stands { StandsAs heap.old.bytes db.0 chunk }
-    requires managers { IsManagers heap.old.bytes db.0 }
+    requires stands { StandsAs heap.old.bytes opened.db.0 opened.chunk }
+    requires managers { IsManagers heap.old.bytes opened.db.0 }
     requires order { first ≤ end }
     requires from_inside { databases.entry_offset resources end
-        ≤ length (bytes_under heap.old.bytes db.0) }
+        ≤ length (bytes_under heap.old.bytes opened.db.0) }
     requires to_inside { databases.entry_offset resources (to + (end - first))
-        ≤ length (bytes_under heap.old.bytes db.0) }
-    ensures slides { Rebodies heap.old.bytes heap.new.bytes db.0
-        (overwritten (bytes_under heap.old.bytes db.0) (databases.entry_offset resources to)
-        (slice_range (bytes_under heap.old.bytes db.0)
+        ≤ length (bytes_under heap.old.bytes opened.db.0) }
+    ensures slides { Rebodies heap.old.bytes heap.new.bytes opened.db.0
+        (overwritten (bytes_under heap.old.bytes opened.db.0) (databases.entry_offset resources to)
+        (slice_range (bytes_under heap.old.bytes opened.db.0)
         (databases.entry_offset resources first) (databases.entry_offset resources end))) }
-    ensures len { length (bytes_under heap.new.bytes db.0) ≡ length (bytes_under heap.old.bytes db.0) }
-    ensures stands { StandsAs heap.new.bytes db.0 chunk }
+    ensures len { length (bytes_under heap.new.bytes opened.db.0) ≡ length (bytes_under heap.old.bytes opened.db.0) }
+    ensures stands { StandsAs heap.new.bytes opened.db.0 opened.chunk }
     ensures loan { KeepsLoan heap.old heap.new }
     ensures rest { heap.new ≡ record heap.old { bytes = heap.new.bytes; slid = heap.new.slid } }
 {
@@ -102,8 +102,8 @@ pub(crate) fn slide_entries(
     let from = entry_offset(resources, first) as u32;
     let count = entry_offset(resources, end) as u32 - from;
     heap.sys_slide(
-        Name(db.0),
-        chunk,
+        Name(opened.db.0),
+        opened.chunk,
         from,
         entry_offset(resources, to) as u32,
         count,
@@ -116,43 +116,43 @@ pub(crate) fn slide_entries(
 ///
 /// - `NotEnoughSpace`: if there is no room for the longer chunk. Nothing has changed then.
 #[inline(always)]
-pub(crate) fn grow(heap: &mut Heap, db: Db, chunk: Found, size: u32) -> Result<(), Refusal>
-    requires stands { StandsAs heap.old.bytes db.0 chunk }
-    requires managers { IsManagers heap.old.bytes db.0 }
-    ensures grows { OnOk result (Rebodies heap.old.bytes heap.new.bytes db.0
-        (sized_to (bytes_under heap.old.bytes db.0) size)) }
-    ensures no_room { OnErr result (ShortFor heap.old.bytes db.0 (need size)) }
+pub(crate) fn grow(heap: &mut Heap, opened: OpenDatabase, size: u32) -> Result<(), Refusal>
+    requires stands { StandsAs heap.old.bytes opened.db.0 opened.chunk }
+    requires managers { IsManagers heap.old.bytes opened.db.0 }
+    ensures grows { OnOk result (Rebodies heap.old.bytes heap.new.bytes opened.db.0
+        (sized_to (bytes_under heap.old.bytes opened.db.0) size)) }
+    ensures no_room { OnErr result (ShortFor heap.old.bytes opened.db.0 (need size)) }
     ensures refusal { IfErr result (λ refusal. refusal ≡ Refusal.NotEnoughSpace) }
     ensures refused { OnErr result (heap.new ≡ heap.old) }
     ensures loan { KeepsLoan heap.old heap.new }
     ensures rest { heap.new ≡ record heap.old { bytes = heap.new.bytes; slid = heap.new.slid } }
 {
-    heap.sys_resize(Name(db.0), chunk, size)
+    heap.sys_resize(Name(opened.db.0), opened.chunk, size)
 }
 
 /// Shrinks the chunk of a database to its first `size` bytes.
 #[inline(always)]
-pub(crate) fn shrink(heap: &mut Heap, db: Db, chunk: Found, size: u32)
-    requires stands { StandsAs heap.old.bytes db.0 chunk }
-    requires managers { IsManagers heap.old.bytes db.0 }
-    requires inside { size ≤ length (bytes_under heap.old.bytes db.0) }
-    ensures shrinks { Rebodies heap.old.bytes heap.new.bytes db.0
-        (sized_to (bytes_under heap.old.bytes db.0) size) }
+pub(crate) fn shrink(heap: &mut Heap, opened: OpenDatabase, size: u32)
+    requires stands { StandsAs heap.old.bytes opened.db.0 opened.chunk }
+    requires managers { IsManagers heap.old.bytes opened.db.0 }
+    requires inside { size ≤ length (bytes_under heap.old.bytes opened.db.0) }
+    ensures shrinks { Rebodies heap.old.bytes heap.new.bytes opened.db.0
+        (sized_to (bytes_under heap.old.bytes opened.db.0) size) }
     ensures loan { KeepsLoan heap.old heap.new }
     ensures rest { heap.new ≡ record heap.old { bytes = heap.new.bytes; slid = heap.new.slid } }
 {
-    heap.sys_resize(Name(db.0), chunk, size).unwrap();
+    heap.sys_resize(Name(opened.db.0), opened.chunk, size)
+        .unwrap();
 }
 
 /// Returns the entry of an index.
 #[inline(always)]
-pub(crate) fn entry_here(heap: &Heap, db: Db, chunk: Found, index: u16) -> DbEntry
-    requires stands { StandsAs heap.now.bytes db.0 chunk }
-    requires spells { SpellsHere heap.now.bytes db.0 }
-    requires inside { index < length (database_here heap.now.bytes db.0).entries }
-    ensures is { entry_of result ≡ databases.entry_in (bytes_under heap.now.bytes db.0) index }
-    ensures kind { HasKindHere heap.now.bytes db.0 (is_resource result) }
+pub(crate) fn entry_here(heap: &Heap, opened: OpenDatabase, index: u16) -> DbEntry
+    requires opened { IsOpenHere heap.now.bytes opened }
+    requires inside { index < length (database_here heap.now.bytes opened.db.0).entries }
+    ensures is { entry_of result ≡ databases.entry_in (bytes_under heap.now.bytes opened.db.0) index }
+    ensures kind { HasKindHere heap.now.bytes opened.db.0 (is_resource result) }
     ensures id { HasFittingId result }
 {
-    DbEntry::read(heap.sys_body_found(Name(db.0), chunk), index)
+    DbEntry::read(heap.sys_body_found(Name(opened.db.0), opened.chunk), index)
 }

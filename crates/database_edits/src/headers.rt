@@ -4,27 +4,28 @@ ghost use Rattle.std.specs.Prelude.{◌≡◌, ◌≤◌, length};
 ghost use Rattle.heap_model.specs.DatabaseFields.{header_size};
 ghost use Rattle.heap_model.specs.Space.{MovesNothing};
 ghost use Rattle.heap_model.specs.Lending.{KeepsLoan};
-ghost use Rattle.heap_model.specs.Leaving.{SpellsHere, database_here};
+ghost use Rattle.heap_model.specs.Leaving.{database_here};
 ghost use Rattle.heap_model.specs.Store.{bytes_under};
 ghost use Rattle.db_format.specs.Headers.{HasModificationNumber, HasSeed, HasEntryCount, HasInfoBlock};
 ghost use Rattle.mem_manager.specs.Lookup.{StandsAs};
 ghost use Rattle.database_edits.specs.Managers.{IsManagers, PutsHeader};
 ghost use Rattle.database_edits.specs.Headings.{IsHeading};
+ghost use Rattle.database_edits.specs.Opened.{IsOpenHere};
 
+use crate::opened::OpenDatabase;
 use db_format::{
-    ENTRY_COUNT_AT, MODIFICATION_NUMBER_AT, SEED_AT, entry_count, entry_count_bytes, has_resources,
+    ENTRY_COUNT_AT, MODIFICATION_NUMBER_AT, SEED_AT, entry_count_bytes, has_resources,
     info_block_at, info_block_bytes, modification_number, modification_number_bytes, seed,
     seed_bytes,
 };
-use heap_model::{Db, Name, Which};
-use mem_manager::{Found, Heap};
+use heap_model::{Name, Which};
+use mem_manager::Heap;
 
 /// The fields of a database's header that edits need.
 #[derive(Clone, Copy)]
 pub(crate) struct Heading {
     /// Whether the entries are resources; otherwise they are records.
     pub resources: bool,
-    pub entry_count: u16,
     pub modification_number: u32,
     /// The field of the seed, including the bits above the seed.
     pub seed: u32,
@@ -32,15 +33,13 @@ pub(crate) struct Heading {
 
 /// Returns the heading of a database.
 #[inline(always)]
-pub(crate) fn heading_here(heap: &Heap, db: Db, chunk: Found) -> Heading
-    requires stands { StandsAs heap.now.bytes db.0 chunk }
-    requires spells { SpellsHere heap.now.bytes db.0 }
-    ensures { IsHeading result (database_here heap.now.bytes db.0) }
+pub(crate) fn heading_here(heap: &Heap, opened: OpenDatabase) -> Heading
+    requires opened { IsOpenHere heap.now.bytes opened }
+    ensures { IsHeading result (database_here heap.now.bytes opened.db.0) }
 {
-    let body = heap.sys_body_found(Name(db.0), chunk);
+    let body = heap.sys_body_found(Name(opened.db.0), opened.chunk);
     Heading {
         resources: has_resources(body),
-        entry_count: entry_count(body),
         modification_number: modification_number(body),
         seed: seed(body),
     }
@@ -48,66 +47,81 @@ pub(crate) fn heading_here(heap: &Heap, db: Db, chunk: Found) -> Heading
 
 /// Writes the modification number into a header.
 #[inline(always)]
-pub(crate) fn put_modification_number(heap: &mut Heap, db: Db, chunk: Found, number: u32)
-    requires stands { StandsAs heap.old.bytes db.0 chunk }
-    requires managers { IsManagers heap.old.bytes db.0 }
-    requires inside { header_size ≤ length (bytes_under heap.old.bytes db.0) }
-    ensures puts { PutsHeader heap.old.bytes heap.new.bytes db.0 (HasModificationNumber number) }
+pub(crate) fn put_modification_number(heap: &mut Heap, opened: OpenDatabase, number: u32)
+    requires stands { StandsAs heap.old.bytes opened.db.0 opened.chunk }
+    requires managers { IsManagers heap.old.bytes opened.db.0 }
+    requires inside { header_size ≤ length (bytes_under heap.old.bytes opened.db.0) }
+    ensures puts { PutsHeader heap.old.bytes heap.new.bytes opened.db.0 (HasModificationNumber number) }
     ensures unmoved { MovesNothing heap.old.bytes heap.new.bytes }
-    ensures stands { StandsAs heap.new.bytes db.0 chunk }
+    ensures stands { StandsAs heap.new.bytes opened.db.0 opened.chunk }
     ensures loan { KeepsLoan heap.old heap.new }
     ensures rest { heap.new ≡ record heap.old { bytes = heap.new.bytes } }
 {
     let bytes = modification_number_bytes(number);
-    heap.sys_write(Name(db.0), chunk, MODIFICATION_NUMBER_AT as u32, &bytes);
+    heap.sys_write(
+        Name(opened.db.0),
+        opened.chunk,
+        MODIFICATION_NUMBER_AT as u32,
+        &bytes,
+    );
 }
 
 /// Writes the field of the seed into a header.
 #[inline(always)]
-pub(crate) fn put_seed(heap: &mut Heap, db: Db, chunk: Found, seed: u32)
-    requires stands { StandsAs heap.old.bytes db.0 chunk }
-    requires managers { IsManagers heap.old.bytes db.0 }
-    requires inside { header_size ≤ length (bytes_under heap.old.bytes db.0) }
-    ensures puts { PutsHeader heap.old.bytes heap.new.bytes db.0 (HasSeed seed) }
-    ensures managers { IsManagers heap.new.bytes db.0 }
-    ensures inside { header_size ≤ length (bytes_under heap.new.bytes db.0) }
-    ensures stands { StandsAs heap.new.bytes db.0 chunk }
+pub(crate) fn put_seed(heap: &mut Heap, opened: OpenDatabase, seed: u32)
+    requires stands { StandsAs heap.old.bytes opened.db.0 opened.chunk }
+    requires managers { IsManagers heap.old.bytes opened.db.0 }
+    requires inside { header_size ≤ length (bytes_under heap.old.bytes opened.db.0) }
+    ensures puts { PutsHeader heap.old.bytes heap.new.bytes opened.db.0 (HasSeed seed) }
+    ensures managers { IsManagers heap.new.bytes opened.db.0 }
+    ensures inside { header_size ≤ length (bytes_under heap.new.bytes opened.db.0) }
+    ensures stands { StandsAs heap.new.bytes opened.db.0 opened.chunk }
     ensures loan { KeepsLoan heap.old heap.new }
     ensures rest { heap.new ≡ record heap.old { bytes = heap.new.bytes } }
 {
     let bytes = seed_bytes(seed);
-    heap.sys_write(Name(db.0), chunk, SEED_AT as u32, &bytes);
+    heap.sys_write(Name(opened.db.0), opened.chunk, SEED_AT as u32, &bytes);
 }
 
 /// Writes the number of entries into a header.
 #[inline(always)]
-pub(crate) fn put_entry_count(heap: &mut Heap, db: Db, chunk: Found, count: u16)
-    requires stands { StandsAs heap.old.bytes db.0 chunk }
-    requires managers { IsManagers heap.old.bytes db.0 }
-    requires inside { header_size ≤ length (bytes_under heap.old.bytes db.0) }
-    ensures puts { PutsHeader heap.old.bytes heap.new.bytes db.0 (HasEntryCount count) }
-    ensures managers { IsManagers heap.new.bytes db.0 }
-    ensures inside { header_size ≤ length (bytes_under heap.new.bytes db.0) }
-    ensures stands { StandsAs heap.new.bytes db.0 chunk }
+pub(crate) fn put_entry_count(heap: &mut Heap, opened: OpenDatabase, count: u16)
+    requires stands { StandsAs heap.old.bytes opened.db.0 opened.chunk }
+    requires managers { IsManagers heap.old.bytes opened.db.0 }
+    requires inside { header_size ≤ length (bytes_under heap.old.bytes opened.db.0) }
+    ensures puts { PutsHeader heap.old.bytes heap.new.bytes opened.db.0 (HasEntryCount count) }
+    ensures managers { IsManagers heap.new.bytes opened.db.0 }
+    ensures inside { header_size ≤ length (bytes_under heap.new.bytes opened.db.0) }
+    ensures stands { StandsAs heap.new.bytes opened.db.0 opened.chunk }
     ensures loan { KeepsLoan heap.old heap.new }
     ensures rest { heap.new ≡ record heap.old { bytes = heap.new.bytes } }
 {
     let bytes = entry_count_bytes(count);
-    heap.sys_write(Name(db.0), chunk, ENTRY_COUNT_AT as u32, &bytes);
+    heap.sys_write(
+        Name(opened.db.0),
+        opened.chunk,
+        ENTRY_COUNT_AT as u32,
+        &bytes,
+    );
 }
 
 /// Writes the slot of an info block, or 0 for none, into a header.
-pub(crate) fn put_info_block(heap: &mut Heap, db: Db, chunk: Found, which: Which, slot: u32)
-    requires stands { StandsAs heap.old.bytes db.0 chunk }
-    requires managers { IsManagers heap.old.bytes db.0 }
-    requires inside { header_size ≤ length (bytes_under heap.old.bytes db.0) }
-    ensures puts { PutsHeader heap.old.bytes heap.new.bytes db.0 (HasInfoBlock which slot) }
-    ensures managers { IsManagers heap.new.bytes db.0 }
-    ensures inside { header_size ≤ length (bytes_under heap.new.bytes db.0) }
-    ensures stands { StandsAs heap.new.bytes db.0 chunk }
+pub(crate) fn put_info_block(heap: &mut Heap, opened: OpenDatabase, which: Which, slot: u32)
+    requires stands { StandsAs heap.old.bytes opened.db.0 opened.chunk }
+    requires managers { IsManagers heap.old.bytes opened.db.0 }
+    requires inside { header_size ≤ length (bytes_under heap.old.bytes opened.db.0) }
+    ensures puts { PutsHeader heap.old.bytes heap.new.bytes opened.db.0 (HasInfoBlock which slot) }
+    ensures managers { IsManagers heap.new.bytes opened.db.0 }
+    ensures inside { header_size ≤ length (bytes_under heap.new.bytes opened.db.0) }
+    ensures stands { StandsAs heap.new.bytes opened.db.0 opened.chunk }
     ensures loan { KeepsLoan heap.old heap.new }
     ensures rest { heap.new ≡ record heap.old { bytes = heap.new.bytes } }
 {
     let bytes = info_block_bytes(slot);
-    heap.sys_write(Name(db.0), chunk, info_block_at(which) as u32, &bytes);
+    heap.sys_write(
+        Name(opened.db.0),
+        opened.chunk,
+        info_block_at(which) as u32,
+        &bytes,
+    );
 }

@@ -5,16 +5,17 @@ ghost use Rattle.heap_model.specs.Database.{DatabaseHeader};
 ghost use Rattle.heap_model.specs.EntrySteps.{seeded_by, most_entries};
 ghost use Rattle.heap_model.specs.UniqueIds.{greatest_id, with_seed};
 ghost use Rattle.heap_model.specs.Lending.{KeepsLoan};
-ghost use Rattle.heap_model.specs.Leaving.{SpellsHere, database_here};
+ghost use Rattle.heap_model.specs.Leaving.{database_here};
 ghost use Rattle.db_format.specs.EitherEntry.{entry_of, is_resource, HasFittingId};
-ghost use Rattle.mem_manager.specs.Lookup.{StandsAs};
 ghost use Rattle.database_edits.specs.Edits.{Changes, HasKindHere, HasNoRoomForEntry, entry_inserted};
+ghost use Rattle.database_edits.specs.Opened.{IsOpenHere};
 
 use crate::bodies::{grow, put_entry, slide_entries};
 use crate::headers::{heading_here, put_entry_count, put_modification_number, put_seed};
+use crate::opened::OpenDatabase;
 use db_format::{DbEntry, SEEDS, entry_offset};
-use heap_model::{Db, Name, Refusal};
-use mem_manager::{Found, Heap};
+use heap_model::{Name, Refusal};
+use mem_manager::Heap;
 
 /// Inserts an entry at an index; the entries from there on move up by one. The ID of a record
 /// becomes the seed, and the modification number is raised. The chunk grows, and other chunks may
@@ -26,35 +27,36 @@ use mem_manager::{Found, Heap};
 #[inline(always)]
 pub fn insert_entry(
     heap: &mut Heap,
-    db: Db,
-    chunk: Found,
+    opened: OpenDatabase,
     index: u16,
     entry: DbEntry,
 ) -> Result<(), Refusal>
-    requires stands { StandsAs heap.old.bytes db.0 chunk }
-    requires spells { SpellsHere heap.old.bytes db.0 }
-    requires inside { index ≤ length (database_here heap.old.bytes db.0).entries }
-    requires few { length (database_here heap.old.bytes db.0).entries < most_entries }
-    requires kind { HasKindHere heap.old.bytes db.0 (is_resource entry) }
+    requires opened { IsOpenHere heap.old.bytes opened }
+    requires inside { index ≤ length (database_here heap.old.bytes opened.db.0).entries }
+    requires few { length (database_here heap.old.bytes opened.db.0).entries < most_entries }
+    requires kind { HasKindHere heap.old.bytes opened.db.0 (is_resource entry) }
     requires id { HasFittingId entry }
     ensures inserted { OnOk result
-        (Changes heap.old.bytes heap.new.bytes db.0 (entry_inserted index (entry_of entry))) }
-    ensures no_room { OnErr result (HasNoRoomForEntry heap.old.bytes db.0 (is_resource entry)) }
+        (Changes heap.old.bytes heap.new.bytes opened.db.0 (entry_inserted index (entry_of entry))) }
+    ensures no_room { OnErr result (HasNoRoomForEntry heap.old.bytes opened.db.0 (is_resource entry)) }
     ensures refusal { IfErr result (λ refusal. refusal ≡ Refusal.NotEnoughSpace) }
     ensures refused { OnErr result (heap.new ≡ heap.old) }
     ensures loan { KeepsLoan heap.old heap.new }
     ensures rest { heap.new ≡ record heap.old { bytes = heap.new.bytes; slid = heap.new.slid } }
 {
-    let heading = heading_here(heap, db, chunk);
-    let count = heading.entry_count;
+    let heading = heading_here(heap, opened);
+    let count = opened.entry_count as u16;
     let resources = entry.is_resource();
-    grow(heap, db, chunk, entry_offset(resources, count + 1) as u32)?;
-    let grown = heap.sys_find(Name(db.0));
-    slide_entries(heap, db, grown, index, count, index + 1, resources);
-    put_entry(heap, db, grown, index, entry, resources);
-    put_entry_count(heap, db, grown, count + 1);
-    put_seed(heap, db, grown, seed_after(heading.seed, entry));
-    put_modification_number(heap, db, grown, heading.modification_number.wrapping_add(1));
+    grow(heap, opened, entry_offset(resources, count + 1) as u32)?;
+    let grown = OpenDatabase {
+        chunk: heap.sys_find(Name(opened.db.0)),
+        ..opened
+    };
+    slide_entries(heap, grown, index, count, index + 1, resources);
+    put_entry(heap, grown, index, entry, resources);
+    put_entry_count(heap, grown, count + 1);
+    put_seed(heap, grown, seed_after(heading.seed, entry));
+    put_modification_number(heap, grown, heading.modification_number.wrapping_add(1));
     Ok(())
 }
 

@@ -2,47 +2,46 @@
 
 ghost use Rattle.std.specs.Prelude.{◌≡◌, ◌<◌, ◌≤◌, length};
 ghost use Rattle.heap_model.specs.Lending.{KeepsLoan};
-ghost use Rattle.heap_model.specs.Leaving.{SpellsHere, database_here};
+ghost use Rattle.heap_model.specs.Leaving.{database_here};
 ghost use Rattle.db_format.specs.EitherEntry.{entry_of, is_resource, HasFittingId};
 ghost use Rattle.mem_manager.specs.Lookup.{StandsAs};
 ghost use Rattle.database_edits.specs.Edits.{Changes, HasKindHere, entry_written, entry_moved};
+ghost use Rattle.database_edits.specs.Opened.{IsOpenHere};
 
 use crate::counting::{count_change, count_change_if};
+use crate::opened::OpenDatabase;
 use crate::{moving, writing};
 use db_format::DbEntry;
-use heap_model::Db;
-use mem_manager::{Found, Heap};
+use mem_manager::Heap;
 
 /// Writes an entry in place of the one at an index. If `counts` is true, the modification number is
 /// raised.
 #[inline(always)]
-pub fn write_entry(heap: &mut Heap, db: Db, chunk: Found, index: u16, entry: DbEntry, counts: bool)
-    requires stands { StandsAs heap.old.bytes db.0 chunk }
-    requires spells { SpellsHere heap.old.bytes db.0 }
-    requires inside { index < length (database_here heap.old.bytes db.0).entries }
-    requires kind { HasKindHere heap.old.bytes db.0 (is_resource entry) }
+pub fn write_entry(heap: &mut Heap, opened: OpenDatabase, index: u16, entry: DbEntry, counts: bool)
+    requires opened { IsOpenHere heap.old.bytes opened }
+    requires inside { index < length (database_here heap.old.bytes opened.db.0).entries }
+    requires kind { HasKindHere heap.old.bytes opened.db.0 (is_resource entry) }
     requires id { HasFittingId entry }
-    ensures written { Changes heap.old.bytes heap.new.bytes db.0
+    ensures written { Changes heap.old.bytes heap.new.bytes opened.db.0
         (entry_written counts index (entry_of entry)) }
-    ensures stands { StandsAs heap.new.bytes db.0 chunk }
+    ensures stands { StandsAs heap.new.bytes opened.db.0 opened.chunk }
     ensures loan { KeepsLoan heap.old heap.new }
     ensures rest { heap.new ≡ record heap.old { bytes = heap.new.bytes } }
 {
-    count_change_if(heap, db, chunk, counts);
-    writing::write_entry(heap, db, chunk, index, entry);
+    count_change_if(heap, opened, counts);
+    writing::write_entry(heap, opened, index, entry);
 }
 
 /// Moves the entry at index `from` before the one at index `to`, or after the last. `to` is an
 /// index from before the move. The modification number is raised.
-pub fn move_entry(heap: &mut Heap, db: Db, chunk: Found, from: u16, to: u16)
-    requires stands { StandsAs heap.old.bytes db.0 chunk }
-    requires spells { SpellsHere heap.old.bytes db.0 }
-    requires from_inside { from < length (database_here heap.old.bytes db.0).entries }
-    requires to_inside { to ≤ length (database_here heap.old.bytes db.0).entries }
-    ensures moved { Changes heap.old.bytes heap.new.bytes db.0 (entry_moved from to) }
+pub fn move_entry(heap: &mut Heap, opened: OpenDatabase, from: u16, to: u16)
+    requires opened { IsOpenHere heap.old.bytes opened }
+    requires from_inside { from < length (database_here heap.old.bytes opened.db.0).entries }
+    requires to_inside { to ≤ length (database_here heap.old.bytes opened.db.0).entries }
+    ensures moved { Changes heap.old.bytes heap.new.bytes opened.db.0 (entry_moved from to) }
     ensures loan { KeepsLoan heap.old heap.new }
     ensures rest { heap.new ≡ record heap.old { bytes = heap.new.bytes; slid = heap.new.slid } }
 {
-    count_change(heap, db, chunk);
-    moving::move_entry(heap, db, chunk, from, to);
+    count_change(heap, opened);
+    moving::move_entry(heap, opened, from, to);
 }

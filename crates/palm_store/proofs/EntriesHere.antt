@@ -12,8 +12,11 @@ use Rattle.heap_model.specs.declared.names.Db.{Db}
 use Rattle.heap_model.specs.declared.entry.Entry as heard
 use Rattle.db_format.proofs.ViewLaws.{attributes_read, length-read, entry_read}
 use Rattle.laws_store.proofs.Shapes.{offset_below}
-use Rattle.laws_store.proofs.Numbered.{in_store, number_here, number_spelled, entries_here, kind_here, entry_fits, accepted_sound}
+use Rattle.laws_store.proofs.Numbered.{in_store, number_here, number_spelled, entries_here, kind_here, entry_fits, accepted_sound, accepted_spells}
+use Rattle.database_edits.specs.declared.opened.OpenDatabase.{OpenDatabase}
+use Rattle.database_edits.specs.Opened.{IsOpenHere}
 use Rattle.palm_store.specs.Databases.{HasNumber, HasDatabase}
+use Rattle.palm_store.specs.Opened.{IsOpened}
 use Rattle.palm_store.specs.EntryCalls.{IsHeard}
 use Rattle.palm_store.proofs.Numbers.{number_shape}
 
@@ -32,6 +35,14 @@ count_fits image db a has =
     let few = spelled.fits.entry_count in
     let same = ap length (entries_here image db has) in
     omega arith
+
+-- a database that is open in the store is open in the heap
+pub opened_here : (image : List ℕ) (opened : OpenDatabase) → Accepted image → IsOpened image opened → IsOpenHere image opened
+opened_here image opened a is = record {
+  stands = is.chunk;
+  spells = accepted_spells image opened.db.0 a is.number;
+  count = is.count ∙ ap length (entries_here image opened.db is.number);
+}
 
 pub header_inside : (image body : List ℕ) (db : Db) → Accepted image → HasNumber image db.0 → body ≡ bytes_under image db.0 → header_size ≤ length body
 header_inside image body db a has body_is = (let shape = number_shape image db.0 a has in subst (λ (xs : List ℕ). header_size ≤ length xs) (sym body_is) shape.header)

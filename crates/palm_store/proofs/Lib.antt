@@ -30,6 +30,7 @@ pub mod AttributeChanges
 pub mod FilledData
 pub mod OpenedEntries
 pub mod EntriesChanged
+pub mod StillOpen
 pub mod AccessChecks
 pub mod TwoChanges
 pub mod SearchLaws

@@ -28,12 +28,9 @@ resources_of_image image db = resources_under (store_of image) db
 abbrev pub data_of_image : List ℕ → Db → ℕ → ℕ
 data_of_image image db index = data_under (store_of image) db index
 
--- the database has these attributes; and below, this number of entries
+-- the database has these attributes
 abbrev pub HasDbAttributes : List ℕ → Db → ℕ → Type 0
 HasDbAttributes image db attributes = In (store_of image) db (λ database. database.header.attributes ≡ attributes)
-
-abbrev pub HasCount : List ℕ → Db → ℕ → Type 0
-HasCount image db count = count ≡ length (entries_of_image image db)
 
 -- the information on an index: that of the entry there, or none if there is no entry
 abbrev pub IsHeard : List ℕ → Db → ℕ → Option heard.Entry → Type 0

@@ -5,12 +5,12 @@ pub mod EntryInfos
 pub mod NewEntries
 pub mod WholeDatabases
 pub mod EntryCalls
+pub mod Opened
 pub mod InfoBlocks
 pub mod Replies
 pub mod KnownIds
 pub mod AttributeChanges
 pub mod Files
 pub mod Loans
-pub mod Found
 pub mod Checks
 pub mod Search

@@ -9,5 +9,5 @@ mod shapes;
 pub use infos::{EntryInfo, FoundEntry, NewEntry};
 pub(crate) use known::{KnownIds, NOTHING_KNOWN};
 pub(crate) use making::{new_entry, put_in, take_in};
-pub(crate) use reading::{count_entries, entry_at, read_entry};
+pub(crate) use reading::{entry_at, read_entry};
 pub(crate) use shapes::{emptied, entry_with, with_slot};

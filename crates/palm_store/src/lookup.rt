@@ -11,5 +11,5 @@ mod name;
 pub(crate) use directory::{
     DIRECTORY_WORD_SIZE, count_databases, directory_bytes, index_of, listed_in,
 };
-pub(crate) use header::{chunk_of, find_chunk, find_header, header_in, header_of, info_in};
+pub(crate) use header::{find_header, find_opened, header_in, header_of, info_in, opened_of};
 pub(crate) use name::{find_named, has_other_name};

@@ -4,15 +4,15 @@ ghost use Rattle.std.specs.Prelude.{◌≡◌, ◌<◌, [], length, OnOk, IfOk, 
 ghost use Rattle.heap_model.specs.Database.{has_resources};
 ghost use Rattle.heap_model.specs.Store.{Accepted};
 ghost use Rattle.heap_model.specs.Refusals.{NoneHolds, FirstBrings};
-ghost use Rattle.palm_store.specs.Found.{StandsAs};
 ghost use Rattle.palm_store.specs.Databases.{HasNumber, HasDatabase};
-ghost use Rattle.palm_store.specs.EntryCalls.{entries_of_image, resources_of_image, HasCount};
+ghost use Rattle.palm_store.specs.Opened.{IsOpened};
+ghost use Rattle.palm_store.specs.EntryCalls.{entries_of_image, resources_of_image};
 ghost use Rattle.palm_store.specs.Checks.{are_resources, wrong_kind, attribute_checks, opening_checks, finding_checks, IsTold, IsOfKind};
 
 use crate::store::Store;
+use database_edits::OpenDatabase;
 use db_format::{DatabaseView, DbAttrs};
 use heap_model::{Db, Entry, Refusal};
-use mem_manager::Found;
 
 /// The kind of the entries that a call acts on.
 #[derive(Clone, Copy)]
@@ -79,16 +79,7 @@ pub fn open_database<'a>(
     Ok(database)
 }
 
-/// A database that is open for a call.
-#[derive(Clone, Copy)]
-pub struct Opened {
-    /// The chunk of the database, in its current state.
-    pub chunk: Found,
-    pub entry_count: u32,
-}
-
-/// Opens a database that has entries of a kind, for an access, and returns its chunk and entry
-/// count.
+/// Opens a database that has entries of a kind, for an access, for the calls on entries.
 ///
 /// # Errors
 /// The same as for `open_database`.
@@ -98,23 +89,20 @@ pub fn open_entries(
     db: Db,
     kind: EntryKind,
     access: Access,
-) -> Result<Opened, Refusal>
+) -> Result<OpenDatabase, Refusal>
     ensures accepted { Accepted store.now.bytes }
     ensures known { OnOk result (HasNumber store.now.bytes db.0) }
-    ensures chunk { IfOk result (λ opened. StandsAs store.now.bytes db.0 opened.chunk) }
+    ensures opened { IfOk result (IsOpened store.now.bytes) }
+    ensures db { IfOk result (λ opened. opened.db ≡ db) }
     ensures kind { OnOk result (resources_of_image store.now.bytes db ≡ are_resources kind) }
-    ensures count { IfOk result (λ opened. HasCount store.now.bytes db opened.entry_count) }
     ensures passes { OnOk result (NoneHolds (opening_checks store.now.bytes db kind access [])) }
     ensures refused { IfErr result
         (FirstBrings (opening_checks store.now.bytes db kind access [])) }
 {
-    let chunk = store.find_chunk(db)?;
-    let database = store.database_in(db, chunk);
+    let opened = store.find_opened(db)?;
+    let database = store.database_in(opened);
     check_attributes(database.attributes(), kind, access)?;
-    Ok(Opened {
-        chunk,
-        entry_count: database.entry_count(),
-    })
+    Ok(opened)
 }
 
 /// Returns the number of entries of a database that has entries of a kind, for an access.
@@ -126,7 +114,7 @@ pub fn count_entries(store: &Store, db: Db, kind: EntryKind, access: Access) -> 
     ensures accepted { Accepted store.now.bytes }
     ensures known { OnOk result (HasNumber store.now.bytes db.0) }
     ensures kind { OnOk result (resources_of_image store.now.bytes db ≡ are_resources kind) }
-    ensures count { IfOk result (HasCount store.now.bytes db) }
+    ensures count { IfOk result (λ count. count ≡ length (entries_of_image store.now.bytes db)) }
     ensures passes { OnOk result (NoneHolds (opening_checks store.now.bytes db kind access [])) }
     ensures refused { IfErr result
         (FirstBrings (opening_checks store.now.bytes db kind access [])) }
@@ -134,11 +122,10 @@ pub fn count_entries(store: &Store, db: Db, kind: EntryKind, access: Access) -> 
     Ok(open_entries(store, db, kind, access)?.entry_count)
 }
 
-/// An entry, and the chunk of its database.
+/// An entry, and its database.
 #[derive(Clone, Copy)]
 pub struct EntryAt {
-    /// The chunk of the database, in its current state.
-    pub chunk: Found,
+    pub opened: OpenDatabase,
     pub entry: Entry,
 }
 
@@ -162,7 +149,8 @@ pub fn find_entry(
     ensures known { OnOk result (HasNumber store.now.bytes db.0) }
     ensures kind { OnOk result (resources_of_image store.now.bytes db ≡ are_resources kind) }
     ensures inside { OnOk result (index < length (entries_of_image store.now.bytes db)) }
-    ensures chunk { IfOk result (λ found. StandsAs store.now.bytes db.0 found.chunk) }
+    ensures opened { IfOk result (λ found. IsOpened store.now.bytes found.opened) }
+    ensures db { IfOk result (λ found. found.opened.db ≡ db) }
     ensures is { IfOk result (λ found. IsTold store.now.bytes db index found.entry) }
     ensures of_kind { IfOk result (λ found. IsOfKind kind found.entry) }
     ensures passes { OnOk result
@@ -176,7 +164,7 @@ pub fn find_entry(
         return Err(Refusal::IndexOutOfRange);
     };
     Ok(EntryAt {
-        chunk: found.chunk,
+        opened: found.opened,
         entry,
     })
 }

@@ -9,8 +9,7 @@ ghost use Rattle.heap_model.specs.EntrySteps.{MakesNone};
 ghost use Rattle.heap_model.specs.Categories.{IsOf};
 ghost use Rattle.heap_model.specs.RecordSteps.{no_category, no_categories, HasLockedOf, category_deleted};
 ghost use Rattle.heap_model.specs.declared.call.RecordCall.{RecordCall};
-ghost use Rattle.palm_store.specs.Found.{StandsAs};
-ghost use Rattle.palm_store.specs.Databases.{HasNumber};
+ghost use Rattle.palm_store.specs.Opened.{IsOpened};
 ghost use Rattle.palm_store.specs.EntryCalls.{entries_of_image, resources_of_image, LeavesChanged};
 ghost use Rattle.palm_store.specs.Replies.{done_or_refused, number_or_refused};
 ghost use Rattle.palm_store.specs.Search.{IsFirst, NoneBehind};
@@ -21,7 +20,7 @@ use crate::records::has_locked_of;
 use crate::search::{count_of, first_of};
 use db_format::CATEGORIES;
 use heap_model::{Db, Refusal};
-use palm_store::{Access, EntryKind, Found, Store, open_database, open_entries};
+use palm_store::{Access, EntryKind, OpenDatabase, Store, open_database, open_entries};
 
 /// Counts the records of a category, 0 to 15, or of any category if it is 0xFF. Deleted records
 /// don't count.
@@ -99,8 +98,8 @@ pub fn move_category(
     let opened = open_entries(store, db, EntryKind::Records, Access::Write)?;
     check_category(to)?;
     check_category(from)?;
-    store.change_attributes(db, opened.chunk, Moving { to, from, dirty });
-    store.count_change(db, opened.chunk);
+    store.change_attributes(opened, Moving { to, from, dirty });
+    store.count_change(opened);
     Ok(())
 }
 
@@ -119,48 +118,46 @@ pub fn delete_category(store: &mut Store, db: Db, category: u8) -> Result<(), Re
 {
     let opened = open_entries(store, db, EntryKind::Records, Access::Write)?;
     check_category(category)?;
-    if has_locked_of(store, db, opened.chunk, category) {
+    if has_locked_of(store, opened, category) {
         return Err(Refusal::ChunkLocked);
     }
-    delete_all_of(store, db, opened.chunk, category);
-    store.count_change(db, opened.chunk);
+    delete_all_of(store, opened, category);
+    store.count_change(opened);
     Ok(())
 }
 
 /// Deletes each record of a category that isn't deleted. The caller must prove that none of them
 /// has locked data.
-fn delete_all_of(store: &mut Store, db: Db, chunk: Found, category: u8)
+fn delete_all_of(store: &mut Store, opened: OpenDatabase, category: u8)
     requires accepted { Accepted store.old.bytes }
-    requires known { HasNumber store.old.bytes db.0 }
-    requires chunk { StandsAs store.old.bytes db.0 chunk }
-    requires records { resources_of_image store.old.bytes db ≡ false }
-    requires unlocked { HasLockedOf (store_of store.old.bytes) db category → ⊥ }
+    requires opened { IsOpened store.old.bytes opened }
+    requires records { resources_of_image store.old.bytes opened.db ≡ false }
+    requires unlocked { HasLockedOf (store_of store.old.bytes) opened.db category → ⊥ }
     ensures deleted { LeavesChanged store.old store.new
-        (λ before. category_deleted before db category) }
-    ensures stands { StandsAs store.new.bytes db.0 chunk }
+        (λ before. category_deleted before opened.db category) }
+    ensures opened { IsOpened store.new.bytes opened }
     ensures none_made { MakesNone store.old.bytes store.new.bytes }
     ensures loan { KeepsLoan store.old store.new }
     ensures rest { store.new ≡ record store.old { bytes = store.new.bytes } }
 {
     let mut from = 0;
-    while let Some(index) = next_of(store, db, chunk, from, category) {
-        store.entry_free_data(db, chunk, index, false);
+    while let Some(index) = next_of(store, opened, from, category) {
+        store.entry_free_data(opened, index, false);
         from = index + 1;
     }
 }
 
 /// Returns the index of the first record of a database, from an index on, that is of a category.
 #[inline]
-fn next_of(store: &Store, db: Db, chunk: Found, from: u32, category: u8) -> Option<u32>
-    requires known { HasNumber store.now.bytes db.0 }
-    requires chunk { StandsAs store.now.bytes db.0 chunk }
-    requires records { resources_of_image store.now.bytes db ≡ false }
+fn next_of(store: &Store, opened: OpenDatabase, from: u32, category: u8) -> Option<u32>
+    requires opened { IsOpened store.now.bytes opened }
+    requires records { resources_of_image store.now.bytes opened.db ≡ false }
     ensures is { IfSome result
-        (IsFirst (entries_of_image store.now.bytes db) from (IsOf category)) }
+        (IsFirst (entries_of_image store.now.bytes opened.db) from (IsOf category)) }
     ensures none { IfNone result
-        (NoneBehind (entries_of_image store.now.bytes db) from (IsOf category)) }
+        (NoneBehind (entries_of_image store.now.bytes opened.db) from (IsOf category)) }
 {
-    first_of(&store.database_in(db, chunk), from, category)
+    first_of(&store.database_in(opened), from, category)
 }
 
 /// Checks that a category is 0 to 15.

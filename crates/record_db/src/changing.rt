@@ -7,8 +7,7 @@ ghost use Rattle.heap_model.specs.Store.{Accepted, store_of};
 ghost use Rattle.heap_model.specs.EntrySteps.{entry_under, entry_changed, with_attributes, MakesNone};
 ghost use Rattle.heap_model.specs.RecordSteps.{id_set};
 ghost use Rattle.heap_model.specs.declared.call.RecordCall.{RecordCall};
-ghost use Rattle.palm_store.specs.Found.{StandsAs};
-ghost use Rattle.palm_store.specs.Databases.{HasNumber};
+ghost use Rattle.palm_store.specs.Opened.{IsOpened};
 ghost use Rattle.palm_store.specs.EntryCalls.{entries_of_image, resources_of_image, raised_if, LeavesChanged};
 ghost use Rattle.palm_store.specs.Replies.{done_or_refused, name_or_refused};
 ghost use Rattle.record_db.specs.Checks.{DoesRecord};
@@ -36,7 +35,7 @@ pub fn delete(store: &mut Store, db: Db, index: u32) -> Result<(), Refusal>
     if is_locked(store, live.data) {
         return Err(Refusal::ChunkLocked);
     }
-    store.entry_free_data(db, live.chunk, index, true);
+    store.entry_free_data(live.opened, index, true);
     Ok(())
 }
 
@@ -54,7 +53,7 @@ pub fn archive(store: &mut Store, db: Db, index: u32) -> Result<(), Refusal>
     ensures refused { OnErr result (store.new ≡ store.old) }
 {
     let live = find_live(store, db, index, Access::Write)?;
-    mark(store, db, index, live, RecordAttrs::DELETE, true);
+    mark(store, index, live, RecordAttrs::DELETE, true);
     Ok(())
 }
 
@@ -74,7 +73,7 @@ pub fn remove(store: &mut Store, db: Db, index: u32) -> Result<(), Refusal>
     if has_locked(store, found.info.data) {
         return Err(Refusal::ChunkLocked);
     }
-    store.entry_drop(db, found.chunk, index, None);
+    store.entry_drop(found.opened, index, None);
     Ok(())
 }
 
@@ -95,7 +94,7 @@ pub fn move_record(store: &mut Store, db: Db, from: u32, to: u32) -> Result<(), 
     if from >= opened.entry_count || to > opened.entry_count {
         return Err(Refusal::IndexOutOfRange);
     }
-    store.entry_move(db, opened.chunk, from, to);
+    store.entry_move(opened, from, to);
     Ok(())
 }
 
@@ -115,7 +114,7 @@ pub fn get(store: &mut Store, db: Db, index: u32) -> Result<Name, Refusal>
     if is_busy(live.attributes) {
         return Err(Refusal::RecordBusy);
     }
-    mark(store, db, index, live, RecordAttrs::BUSY, false);
+    mark(store, index, live, RecordAttrs::BUSY, false);
     Ok(live.data)
 }
 
@@ -135,7 +134,7 @@ pub fn release(store: &mut Store, db: Db, index: u32, dirty: bool) -> Result<(),
         attributes: released(found.info.attributes, dirty),
         id: found.info.id,
     };
-    store.entry_set(db, found.chunk, index, left, false);
+    store.entry_set(found.opened, index, left, false);
     Ok(())
 }
 
@@ -156,7 +155,7 @@ pub fn detach(store: &mut Store, db: Db, index: u32, owner: u8) -> Result<Name, 
 {
     let live = find_live(store, db, index, Access::Write)?;
     check_owner(owner)?;
-    store.entry_drop(db, live.chunk, index, Some(owner));
+    store.entry_drop(live.opened, index, Some(owner));
     Ok(live.data)
 }
 
@@ -182,32 +181,31 @@ pub fn set_record_info(
 {
     let found = find_record(store, db, index, Access::Write)?;
     let id = id_or(id, found.info.id);
-    if id != found.info.id && has_id(store, db, found.chunk, id) {
+    if id != found.info.id && has_id(store, found.opened, id) {
         return Err(Refusal::DuplicateId);
     }
     let given = EntryInfo::Record {
         attributes: with_given(found.info.attributes, attributes),
         id,
     };
-    store.entry_set(db, found.chunk, index, given, true);
+    store.entry_set(found.opened, index, given, true);
     Ok(())
 }
 
 /// Sets bits of the attributes of a record that has data. The database counts the call if `counts`
 /// is true.
 #[inline(always)]
-fn mark(store: &mut Store, db: Db, index: u32, live: LiveRecord, bits: RecordAttrs, counts: bool)
+fn mark(store: &mut Store, index: u32, live: LiveRecord, bits: RecordAttrs, counts: bool)
     requires accepted { Accepted store.old.bytes }
-    requires known { HasNumber store.old.bytes db.0 }
-    requires chunk { StandsAs store.old.bytes db.0 live.chunk }
-    requires records { resources_of_image store.old.bytes db ≡ false }
-    requires inside { index < length (entries_of_image store.old.bytes db) }
-    requires is { entry_under (store_of store.old.bytes) db index
+    requires opened { IsOpened store.old.bytes live.opened }
+    requires records { resources_of_image store.old.bytes live.opened.db ≡ false }
+    requires inside { index < length (entries_of_image store.old.bytes live.opened.db) }
+    requires is { entry_under (store_of store.old.bytes) live.opened.db index
         ≡ Some (a_record live.attributes live.id live.«data».0) }
     requires some { 0 < live.«data».0 }
     ensures marked { LeavesChanged store.old store.new
-        (λ store. raised_if counts (entry_changed store db index
-        (with_attributes (λ attributes. bit_or attributes bits.0))) db) }
+        (λ store. raised_if counts (entry_changed store live.opened.db index
+        (with_attributes (λ attributes. bit_or attributes bits.0))) live.opened.db) }
     ensures none_made { MakesNone store.old.bytes store.new.bytes }
     ensures loan { KeepsLoan store.old store.new }
     ensures rest { store.new ≡ record store.old { bytes = store.new.bytes } }
@@ -216,7 +214,7 @@ fn mark(store: &mut Store, db: Db, index: u32, live: LiveRecord, bits: RecordAtt
         attributes: marked(live.attributes, bits),
         id: live.id,
     };
-    store.entry_set(db, live.chunk, index, marked, counts);
+    store.entry_set(live.opened, index, marked, counts);
 }
 
 /// Returns the unique ID in the low 24 bits of a number, or the record's own ID if they are 0.

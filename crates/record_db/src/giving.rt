@@ -35,7 +35,7 @@ pub fn attach(store: &mut Store, db: Db, at: u32, name: Name) -> Result<u32, Ref
     let entry = NewEntry::Record {
         attributes: of_attached_record(),
     };
-    store.entry_attach(db, opened.chunk, index, entry, name)?;
+    store.entry_attach(opened, index, entry, name)?;
     Ok(index)
 }
 
@@ -71,6 +71,6 @@ pub fn attach_replacing(
         attributes: marked(live.attributes, RecordAttrs::DIRTY),
         id: live.id,
     };
-    store.entry_swap(db, live.chunk, index, dirty, name, owner);
+    store.entry_swap(live.opened, index, dirty, name, owner);
     Ok(live.data)
 }

@@ -35,7 +35,7 @@ pub fn new_record(store: &mut Store, db: Db, at: u32, size: u32) -> Result<(u32,
     let entry = NewEntry::Record {
         attributes: of_new_record(),
     };
-    let name = store.entry_new(db, opened.chunk, index, entry, size)?;
+    let name = store.entry_new(opened, index, entry, size)?;
     Ok((index, name))
 }
 
@@ -64,7 +64,7 @@ pub fn resize_record(store: &mut Store, db: Db, index: u32, size: u32) -> Result
 {
     let live = find_live(store, db, index, Access::Write)?;
     store.entry_resize(live.data, size)?;
-    let chunk = store.chunk_of(db);
-    store.count_change(db, chunk);
+    let opened = store.opened_of(db);
+    store.count_change(opened);
     Ok(())
 }

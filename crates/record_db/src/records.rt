@@ -6,8 +6,8 @@ ghost use Rattle.heap_model.specs.Store.{Accepted, store_of};
 ghost use Rattle.heap_model.specs.Refusals.{NoneHolds, FirstBrings};
 ghost use Rattle.heap_model.specs.EntrySteps.{entry_under, HasId};
 ghost use Rattle.heap_model.specs.RecordSteps.{HasLockedOf};
-ghost use Rattle.palm_store.specs.Found.{StandsAs};
 ghost use Rattle.palm_store.specs.Databases.{HasNumber};
+ghost use Rattle.palm_store.specs.Opened.{IsOpened};
 ghost use Rattle.palm_store.specs.EntryCalls.{entries_of_image, resources_of_image};
 ghost use Rattle.palm_store.specs.Search.{SomeHas};
 ghost use Rattle.palm_store.specs.Checks.{IsNamed, IsLockedChunk, finding_checks};
@@ -16,21 +16,19 @@ ghost use Rattle.record_db.specs.Checks.{IsRecordTold, living_checks};
 use crate::attributes::{has_category, is_deleted};
 use crate::search::find_id;
 use heap_model::{Db, Name, RecordInfo, Refusal};
-use palm_store::{Access, EntryKind, Found, Store, find_entry, is_locked};
+use palm_store::{Access, EntryKind, OpenDatabase, Store, find_entry, is_locked};
 
-/// A record, deleted or not.
+/// A record, deleted or not, of an open database.
 #[derive(Clone, Copy)]
 pub(crate) struct FoundRecord {
-    /// The chunk of its database.
-    pub(crate) chunk: Found,
+    pub(crate) opened: OpenDatabase,
     pub(crate) info: RecordInfo,
 }
 
-/// A record that is not deleted, and so has data.
+/// A record of an open database that is not deleted, and so has data.
 #[derive(Clone, Copy)]
 pub(crate) struct LiveRecord {
-    /// The chunk of its database.
-    pub(crate) chunk: Found,
+    pub(crate) opened: OpenDatabase,
     pub(crate) attributes: u8,
     pub(crate) id: u32,
     pub(crate) data: Name,
@@ -48,7 +46,8 @@ pub(crate) fn find_record(
     ensures known { OnOk result (HasNumber store.now.bytes db.0) }
     ensures records { OnOk result (resources_of_image store.now.bytes db ≡ false) }
     ensures inside { OnOk result (index < length (entries_of_image store.now.bytes db)) }
-    ensures chunk { IfOk result (λ found. StandsAs store.now.bytes db.0 found.chunk) }
+    ensures opened { IfOk result (λ found. IsOpened store.now.bytes found.opened) }
+    ensures db { IfOk result (λ found. found.opened.db ≡ db) }
     ensures is { IfOk result (λ found. IsRecordTold store.now.bytes db index found.info) }
     ensures passes { OnOk result (NoneHolds (finding_checks store.now.bytes db index EntryKind.Records access)) }
     ensures refused { IfErr result
@@ -56,7 +55,7 @@ pub(crate) fn find_record(
 {
     let found = find_entry(store, db, index, EntryKind::Records, access)?;
     Ok(FoundRecord {
-        chunk: found.chunk,
+        opened: found.opened,
         info: found.entry.as_record().unwrap(),
     })
 }
@@ -73,7 +72,8 @@ pub(crate) fn find_live(
     ensures known { OnOk result (HasNumber store.now.bytes db.0) }
     ensures records { OnOk result (resources_of_image store.now.bytes db ≡ false) }
     ensures inside { OnOk result (index < length (entries_of_image store.now.bytes db)) }
-    ensures chunk { IfOk result (λ live. StandsAs store.now.bytes db.0 live.chunk) }
+    ensures opened { IfOk result (λ live. IsOpened store.now.bytes live.opened) }
+    ensures db { IfOk result (λ live. live.opened.db ≡ db) }
     ensures is { IfOk result (λ live.
         entry_under (store_of store.now.bytes) db index
         ≡ Some (a_record live.attributes live.id live.«data».0)) }
@@ -87,7 +87,7 @@ pub(crate) fn find_live(
         return Err(Refusal::RecordDeleted);
     }
     Ok(LiveRecord {
-        chunk: found.chunk,
+        opened: found.opened,
         attributes: found.info.attributes,
         id: found.info.id,
         data: found.info.data.unwrap(),
@@ -106,23 +106,21 @@ pub(crate) fn has_locked(store: &Store, data: Option<Name>) -> bool
 }
 
 /// Whether a record of a database has a unique ID.
-pub(crate) fn has_id(store: &Store, db: Db, chunk: Found, id: u32) -> bool
-    requires known { HasNumber store.now.bytes db.0 }
-    requires chunk { StandsAs store.now.bytes db.0 chunk }
-    requires records { resources_of_image store.now.bytes db ≡ false }
-    ensures { IsTrue result ↔ SomeHas (entries_of_image store.now.bytes db) (HasId id) }
+pub(crate) fn has_id(store: &Store, opened: OpenDatabase, id: u32) -> bool
+    requires opened { IsOpened store.now.bytes opened }
+    requires records { resources_of_image store.now.bytes opened.db ≡ false }
+    ensures { IsTrue result ↔ SomeHas (entries_of_image store.now.bytes opened.db) (HasId id) }
 {
-    find_id(&store.database_in(db, chunk), id).is_some()
+    find_id(&store.database_in(opened), id).is_some()
 }
 
 /// Whether a record that is of a category and not deleted has locked data.
-pub(crate) fn has_locked_of(store: &Store, db: Db, chunk: Found, category: u8) -> bool
-    requires known { HasNumber store.now.bytes db.0 }
-    requires chunk { StandsAs store.now.bytes db.0 chunk }
-    requires records { resources_of_image store.now.bytes db ≡ false }
-    ensures { IsTrue result ↔ HasLockedOf (store_of store.now.bytes) db category }
+pub(crate) fn has_locked_of(store: &Store, opened: OpenDatabase, category: u8) -> bool
+    requires opened { IsOpened store.now.bytes opened }
+    requires records { resources_of_image store.now.bytes opened.db ≡ false }
+    ensures { IsTrue result ↔ HasLockedOf (store_of store.now.bytes) opened.db category }
 {
-    let records = store.database_in(db, chunk);
+    let records = store.database_in(opened);
     for index in 0..records.entry_count() {
         let record = records.record(index);
         if has_category(record.attributes, category) && is_locked(store, Name(record.slot)) {

@@ -25,7 +25,7 @@ pub fn detach_resource(store: &mut Store, db: Db, index: u32, owner: u8) -> Resu
 {
     let resource = resource_at(store, db, index, Access::Write)?;
     check_owner(owner)?;
-    store.entry_drop(db, resource.chunk, index, Some(owner));
+    store.entry_drop(resource.opened, index, Some(owner));
     Ok(resource.info.data)
 }
 
@@ -46,7 +46,7 @@ pub fn remove_resource(store: &mut Store, db: Db, index: u32) -> Result<(), Refu
     if is_locked(store, resource.info.data) {
         return Err(Refusal::ChunkLocked);
     }
-    store.entry_drop(db, resource.chunk, index, None);
+    store.entry_drop(resource.opened, index, None);
     Ok(())
 }
 
@@ -70,8 +70,7 @@ pub fn set_resource_info(
 {
     let resource = resource_at(store, db, index, Access::Write)?;
     store.entry_set(
-        db,
-        resource.chunk,
+        resource.opened,
         index,
         EntryInfo::Resource { kind, id },
         true,

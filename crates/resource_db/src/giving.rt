@@ -34,8 +34,7 @@ pub fn attach_resource(
     let opened = open_entries(store, db, EntryKind::Resources, Access::Write)?;
     store.check_given(name)?;
     store.entry_attach(
-        db,
-        opened.chunk,
+        opened,
         opened.entry_count,
         NewEntry::Resource { kind, id },
         name,

@@ -36,8 +36,7 @@ pub fn new_resource(
 {
     let opened = open_entries(store, db, EntryKind::Resources, Access::Write)?;
     let name = store.entry_new(
-        db,
-        opened.chunk,
+        opened,
         opened.entry_count,
         NewEntry::Resource { kind, id },
         size,
@@ -69,7 +68,7 @@ pub fn resize_resource(store: &mut Store, db: Db, index: u32, size: u32) -> Resu
 {
     let resource = resource_at(store, db, index, Access::Write)?;
     store.entry_resize(resource.info.data, size)?;
-    let chunk = store.chunk_of(db);
-    store.count_change(db, chunk);
+    let opened = store.opened_of(db);
+    store.count_change(opened);
     Ok(())
 }

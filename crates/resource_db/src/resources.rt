@@ -5,19 +5,18 @@ ghost use Rattle.heap_model.specs.Database.{a_resource};
 ghost use Rattle.heap_model.specs.Store.{Accepted, store_of};
 ghost use Rattle.heap_model.specs.Refusals.{NoneHolds, FirstBrings};
 ghost use Rattle.heap_model.specs.EntrySteps.{entry_under};
-ghost use Rattle.palm_store.specs.Found.{StandsAs};
 ghost use Rattle.palm_store.specs.Databases.{HasNumber};
+ghost use Rattle.palm_store.specs.Opened.{IsOpened};
 ghost use Rattle.palm_store.specs.EntryCalls.{entries_of_image, resources_of_image};
 ghost use Rattle.palm_store.specs.Checks.{finding_checks};
 
 use heap_model::{Db, Refusal, ResourceInfo};
-use palm_store::{Access, EntryKind, Found, Store, find_entry};
+use palm_store::{Access, EntryKind, OpenDatabase, Store, find_entry};
 
-/// A resource, with the chunk of its database.
+/// A resource of an open database.
 #[derive(Clone, Copy)]
 pub(crate) struct FoundResource {
-    /// The chunk of its database.
-    pub(crate) chunk: Found,
+    pub(crate) opened: OpenDatabase,
     pub(crate) info: ResourceInfo,
 }
 
@@ -32,7 +31,8 @@ pub(crate) fn resource_at(
     ensures known { OnOk result (HasNumber store.now.bytes db.0) }
     ensures resources { OnOk result (resources_of_image store.now.bytes db ≡ true) }
     ensures inside { OnOk result (index < length (entries_of_image store.now.bytes db)) }
-    ensures chunk { IfOk result (λ found. StandsAs store.now.bytes db.0 found.chunk) }
+    ensures opened { IfOk result (λ found. IsOpened store.now.bytes found.opened) }
+    ensures db { IfOk result (λ found. found.opened.db ≡ db) }
     ensures is { IfOk result (λ found.
         entry_under (store_of store.now.bytes) db index
         ≡ Some (a_resource found.info.kind found.info.id found.info.«data».0)) }
@@ -44,7 +44,7 @@ pub(crate) fn resource_at(
 {
     let found = find_entry(store, db, index, EntryKind::Resources, access)?;
     Ok(FoundResource {
-        chunk: found.chunk,
+        opened: found.opened,
         info: found.entry.as_resource().unwrap(),
     })
 }

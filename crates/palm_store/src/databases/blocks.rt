@@ -8,23 +8,22 @@ ghost use Rattle.heap_model.specs.DatabaseSteps.{info_block, info_block_set, inf
 ghost use Rattle.heap_model.specs.Refusals.{NoneHolds, FirstBrings};
 ghost use Rattle.heap_model.specs.EntrySteps.{raised, LeavesStore, MakesNone};
 ghost use Rattle.heap_model.specs.Store.{Accepted, store_of};
-ghost use Rattle.mem_manager.specs.Lookup.{StandsAs};
 ghost use Rattle.palm_store.specs.Databases.{HasNumber};
 ghost use Rattle.palm_store.specs.EntryCalls.{MayBeGiven};
 ghost use Rattle.palm_store.specs.EntryInfos.{MayOwn};
+ghost use Rattle.palm_store.specs.Opened.{IsOpened};
 ghost use Rattle.palm_store.specs.InfoBlocks.{block_of_image, writing_checks};
 
-use crate::lookup::{find_chunk, header_in};
-use database_edits::write_block;
+use crate::lookup::{find_opened, header_in};
+use database_edits::{OpenDatabase, write_block};
 use db_format::{DbAttrs, app_info, attributes, sort_info};
 use heap_model::{Db, Name, Refusal, Which};
-use mem_manager::{DATA_OWNER, Found, Heap};
+use mem_manager::{DATA_OWNER, Heap};
 
-/// An info block as a database names it.
+/// An open database, and an info block as it names it.
 #[derive(Clone, Copy)]
 pub(crate) struct FoundBlock {
-    /// The chunk of the database.
-    pub(crate) chunk: Found,
+    pub(crate) opened: OpenDatabase,
     /// The name of the block, or `Name(0)` if there is none.
     pub(crate) name: Name,
 }
@@ -37,18 +36,19 @@ pub(crate) struct FoundBlock {
 pub(crate) fn find_writable_block(heap: &Heap, db: Db, which: Which) -> Result<FoundBlock, Refusal>
     requires accepted { Accepted heap.now.bytes }
     ensures known { OnOk result (HasNumber heap.now.bytes db.0) }
-    ensures chunk { IfOk result (λ found. StandsAs heap.now.bytes db.0 found.chunk) }
+    ensures opened { IfOk result (λ found. IsOpened heap.now.bytes found.opened) }
+    ensures db { IfOk result (λ found. found.opened.db ≡ db) }
     ensures is { IfOk result (λ found. found.name.0 ≡ block_of_image heap.now.bytes db which) }
     ensures passes { OnOk result (NoneHolds (writing_checks heap.now.bytes db)) }
     ensures refused { IfErr result (FirstBrings (writing_checks heap.now.bytes db)) }
 {
-    let chunk = find_chunk(heap, db)?;
-    let header = header_in(heap, db, chunk);
+    let opened = find_opened(heap, db)?;
+    let header = header_in(heap, opened);
     if DbAttrs(attributes(header)).is_read_only() {
         return Err(Refusal::ReadOnly);
     }
     Ok(FoundBlock {
-        chunk,
+        opened,
         name: Name(block_in(header, which)),
     })
 }
@@ -66,37 +66,36 @@ pub(crate) fn block_in(body: &[u8], which: Which) -> u32
 
 /// Makes a movable chunk of a caller's an info block of a database that doesn't have this block.
 /// The chunk keeps its locks. The database counts the call.
-pub(crate) fn give_block(heap: &mut Heap, db: Db, chunk: Found, which: Which, name: Name)
+pub(crate) fn give_block(heap: &mut Heap, opened: OpenDatabase, which: Which, name: Name)
     requires accepted { Accepted heap.old.bytes }
-    requires number { HasNumber heap.old.bytes db.0 }
-    requires chunk { StandsAs heap.old.bytes db.0 chunk }
-    requires none { block_of_image heap.old.bytes db which ≡ 0 }
+    requires opened { IsOpened heap.old.bytes opened }
+    requires none { block_of_image heap.old.bytes opened.db which ≡ 0 }
     requires given { MayBeGiven heap.old.bytes name.0 }
     ensures given { LeavesStore heap.old.bytes heap.new.bytes
-        (raised (info_block_set (store_of heap.old.bytes) db which name.0) db) }
+        (raised (info_block_set (store_of heap.old.bytes) opened.db which name.0) opened.db) }
     ensures none_made { MakesNone heap.old.bytes heap.new.bytes }
     ensures loan { KeepsLoan heap.old heap.new }
     ensures rest { heap.new ≡ record heap.old { bytes = heap.new.bytes } }
 {
-    write_block(heap, db, chunk, which, name.0);
+    write_block(heap, opened, which, name.0);
     heap.sys_set_owner(name, DATA_OWNER);
 }
 
 /// Takes an info block from a database, and gives its chunk to an owner. The chunk keeps its locks.
 /// The database counts the call.
-pub(crate) fn take_block(heap: &mut Heap, db: Db, found: FoundBlock, which: Which, owner: u8)
+pub(crate) fn take_block(heap: &mut Heap, found: FoundBlock, which: Which, owner: u8)
     requires accepted { Accepted heap.old.bytes }
-    requires number { HasNumber heap.old.bytes db.0 }
-    requires chunk { StandsAs heap.old.bytes db.0 found.chunk }
-    requires is { found.name.0 ≡ block_of_image heap.old.bytes db which }
-    requires there { 0 < block_of_image heap.old.bytes db which }
+    requires opened { IsOpened heap.old.bytes found.opened }
+    requires is { found.name.0 ≡ block_of_image heap.old.bytes found.opened.db which }
+    requires there { 0 < block_of_image heap.old.bytes found.opened.db which }
     requires owner { MayOwn owner }
     ensures taken { LeavesStore heap.old.bytes heap.new.bytes
-        (raised (info_block_taken (store_of heap.old.bytes) db which owner) db) }
+        (raised (info_block_taken (store_of heap.old.bytes) found.opened.db which owner)
+        found.opened.db) }
     ensures none_made { MakesNone heap.old.bytes heap.new.bytes }
     ensures loan { KeepsLoan heap.old heap.new }
     ensures rest { heap.new ≡ record heap.old { bytes = heap.new.bytes } }
 {
-    write_block(heap, db, found.chunk, which, 0);
+    write_block(heap, found.opened, which, 0);
     heap.sys_set_owner(found.name, owner);
 }

@@ -11,14 +11,15 @@ ghost use Rattle.heap_model.specs.MemorySteps.{Of, IsLocked};
 ghost use Rattle.heap_model.specs.Store.{Accepted};
 ghost use Rattle.heap_model.specs.StoreWords.{all_gone};
 ghost use Rattle.mem_manager.specs.Lookup.{IsMovable, StandsAs};
-ghost use Rattle.palm_store.specs.Databases.{HasNumber};
 ghost use Rattle.palm_store.specs.Databases.{named_under};
+ghost use Rattle.palm_store.specs.Opened.{IsOpened};
 
 use crate::chunks::free_chunk_of;
 use crate::lookup::header_in;
+use database_edits::OpenDatabase;
 use db_format::{INFO_BLOCKS, app_info, entry_count, entry_slot, has_resources, sort_info};
-use heap_model::{Db, Name};
-use mem_manager::{FIXED_LOCK, Found, Heap};
+use heap_model::Name;
+use mem_manager::{FIXED_LOCK, Heap};
 
 /// Returns the number of slots of a database: those of its info blocks, and one for each entry.
 fn slot_count(body: &[u8]) -> u32
@@ -60,15 +61,14 @@ fn is_locked(heap: &Heap, slot: Name) -> bool
 }
 
 /// Returns whether a database names a locked chunk.
-pub(crate) fn has_locked(heap: &Heap, db: Db, chunk: Found) -> bool
+pub(crate) fn has_locked(heap: &Heap, opened: OpenDatabase) -> bool
     requires accepted { Accepted heap.now.bytes }
-    requires number { HasNumber heap.now.bytes db.0 }
-    requires chunk { StandsAs heap.now.bytes db.0 chunk }
+    requires opened { IsOpened heap.now.bytes opened }
     ensures { IsTrue result
         ↔ Any (λ name. Of (callers_map heap.now.bytes name) IsLocked)
-        (named_under heap.now.bytes db.0) }
+        (named_under heap.now.bytes opened.db.0) }
 {
-    let body = header_in(heap, db, chunk);
+    let body = header_in(heap, opened);
     for index in 0..slot_count(body) {
         if is_locked(heap, slot_at(body, index)) {
             return true;
@@ -90,16 +90,15 @@ fn is_lent(heap: &Heap, slot: Name) -> bool
 }
 
 /// Returns whether a database names a chunk whose body is lent.
-pub(crate) fn has_lent(heap: &Heap, db: Db, chunk: Found) -> bool
+pub(crate) fn has_lent(heap: &Heap, opened: OpenDatabase) -> bool
     requires accepted { Accepted heap.now.bytes }
-    requires number { HasNumber heap.now.bytes db.0 }
-    requires chunk { StandsAs heap.now.bytes db.0 chunk }
-    ensures { IsTrue result ↔ Any (IsLent heap.now) (named_under heap.now.bytes db.0) }
+    requires opened { IsOpened heap.now.bytes opened }
+    ensures { IsTrue result ↔ Any (IsLent heap.now) (named_under heap.now.bytes opened.db.0) }
 {
     if heap.is_whole() {
         return false;
     }
-    let body = header_in(heap, db, chunk);
+    let body = header_in(heap, opened);
     for index in 0..slot_count(body) {
         if is_lent(heap, slot_at(body, index)) {
             return true;
@@ -110,21 +109,20 @@ pub(crate) fn has_lent(heap: &Heap, db: Db, chunk: Found) -> bool
 
 /// Frees all chunks that a database names. None of them is locked. The database's own chunk stays
 /// at its place, with its bytes.
-pub(crate) fn free_data(heap: &mut Heap, db: Db, chunk: Found)
+pub(crate) fn free_data(heap: &mut Heap, opened: OpenDatabase)
     requires accepted { Accepted heap.old.bytes }
-    requires number { HasNumber heap.old.bytes db.0 }
-    requires chunk { StandsAs heap.old.bytes db.0 chunk }
+    requires opened { IsOpened heap.old.bytes opened }
     requires unlocked { Any (λ name. Of (callers_map heap.old.bytes name) IsLocked)
-        (named_under heap.old.bytes db.0) → ⊥ }
+        (named_under heap.old.bytes opened.db.0) → ⊥ }
     ensures leaves { Leaves heap.old.bytes heap.new.bytes
-        (all_gone (held heap.old.bytes) (named_under heap.old.bytes db.0)) }
-    ensures stands { StandsAs heap.new.bytes db.0 chunk }
+        (all_gone (held heap.old.bytes) (named_under heap.old.bytes opened.db.0)) }
+    ensures stands { StandsAs heap.new.bytes opened.db.0 opened.chunk }
     ensures loan { KeepsLoan heap.old heap.new }
     ensures rest { heap.new ≡ record heap.old { bytes = heap.new.bytes } }
 {
-    let count = slot_count(header_in(heap, db, chunk));
+    let count = slot_count(header_in(heap, opened));
     for index in 0..count {
-        let slot = slot_at(heap.sys_body_found(Name(db.0), chunk), index);
+        let slot = slot_at(heap.sys_body_found(Name(opened.db.0), opened.chunk), index);
         free_chunk_of(heap, slot);
     }
 }

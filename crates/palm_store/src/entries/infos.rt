@@ -1,14 +1,13 @@
 //! The information on entries that callers give and get.
 
+use database_edits::OpenDatabase;
 use db_format::DbAttrs;
 use heap_model::Entry;
-use mem_manager::Found;
 
 /// The database and the entry that a look-up by index finds.
 #[derive(Clone, Copy)]
 pub struct FoundEntry {
-    /// The chunk of the database.
-    pub chunk: Found,
+    pub opened: OpenDatabase,
     /// The attributes of the database.
     pub attributes: DbAttrs,
     /// The fields of the entry at the index, if there is one.

@@ -10,8 +10,7 @@ ghost use Rattle.heap_model.specs.Store.{Accepted, store_of};
 ghost use Rattle.heap_model.specs.Leaving.{Leaves};
 ghost use Rattle.heap_model.specs.EntrySteps.{entry_growth, most_entries, MakesNone};
 ghost use Rattle.db_format.specs.EitherEntry.{entry_of, is_resource, HasFittingId};
-ghost use Rattle.mem_manager.specs.Lookup.{StandsAs};
-ghost use Rattle.palm_store.specs.Databases.{HasNumber};
+ghost use Rattle.palm_store.specs.Opened.{IsOpened};
 ghost use Rattle.palm_store.specs.EntryInfos.{makes_resource, IsMadeOf};
 ghost use Rattle.palm_store.specs.EntryCalls.{entries_of_image, resources_of_image, MayBeGiven};
 ghost use Rattle.palm_store.specs.NewEntries.{PutsIn, TakesIn};
@@ -22,11 +21,11 @@ use crate::entries::known::KnownIds;
 use crate::entries::shapes::with_slot;
 use crate::lookup::header_in;
 use bitflags::Flags;
-use database_edits::insert_entry;
+use database_edits::{OpenDatabase, insert_entry};
 use db_format::{DbEntry, RecordAttrs, RecordEntry, ResourceEntry};
 use fresh_ids::free_ids;
-use heap_model::{Db, Name, Refusal};
-use mem_manager::{DATA_OWNER, Found, Heap};
+use heap_model::{Name, Refusal};
+use mem_manager::{DATA_OWNER, Heap};
 
 /// Makes a chunk of zeros for data, and puts an entry with it in at an index. The database counts
 /// the call.
@@ -35,32 +34,35 @@ use mem_manager::{DATA_OWNER, Found, Heap};
 /// - `NotEnoughSpace`: if there is no room. The heap then has the same contents as before.
 pub(crate) fn put_in(
     heap: &mut Heap,
-    db: Db,
+    opened: OpenDatabase,
     at: u32,
     entry: DbEntry,
     size: u32,
 ) -> Result<Name, Refusal>
     requires accepted { Accepted heap.old.bytes }
-    requires number { HasNumber heap.old.bytes db.0 }
-    requires inside { at ≤ length (entries_of_image heap.old.bytes db) }
-    requires few { length (entries_of_image heap.old.bytes db) < most_entries }
-    requires kind { is_resource entry ≡ resources_of_image heap.old.bytes db }
+    requires opened { IsOpened heap.old.bytes opened }
+    requires inside { at ≤ length (entries_of_image heap.old.bytes opened.db) }
+    requires few { length (entries_of_image heap.old.bytes opened.db) < most_entries }
+    requires kind { is_resource entry ≡ resources_of_image heap.old.bytes opened.db }
     requires id { HasFittingId entry }
-    ensures puts { IfOk result (λ name. PutsIn heap.old.bytes heap.new.bytes db.0 at
+    ensures puts { IfOk result (λ name. PutsIn heap.old.bytes heap.new.bytes opened.db.0 at
         (entry_with (λ (none : ℕ). name.0) (entry_of entry)) name.0 size) }
     ensures name_fits { IfOk result (λ name. EntryFits (is_resource entry) (entry_of entry)
         → EntryFits (is_resource entry) (entry_with (λ (none : ℕ). name.0) (entry_of entry))) }
     ensures no_room { OnErr result ((free_slots heap.old.bytes < 1)
         ⊎ Stuck (rooms heap.old.bytes)
-        (making size ∷ entry_growth heap.old.bytes (store_of heap.old.bytes) db ∷ [])) }
+        (making size ∷ entry_growth heap.old.bytes (store_of heap.old.bytes) opened.db ∷ [])) }
     ensures refusal { IfErr result (λ refusal. refusal ≡ Refusal.NotEnoughSpace) }
     ensures refused { OnErr result (Leaves heap.old.bytes heap.new.bytes (held heap.old.bytes)) }
     ensures loan { KeepsLoan heap.old heap.new }
     ensures rest { heap.new ≡ record heap.old { bytes = heap.new.bytes; slid = heap.new.slid } }
 {
     let name = heap.sys_new(size, DATA_OWNER)?;
-    let chunk = heap.sys_find(Name(db.0));
-    if let Err(refusal) = insert_entry(heap, db, chunk, at as u16, with_slot(entry, name)) {
+    let still = OpenDatabase {
+        chunk: heap.sys_find(Name(opened.db.0)),
+        ..opened
+    };
+    if let Err(refusal) = insert_entry(heap, still, at as u16, with_slot(entry, name)) {
         let made = heap.sys_find(name);
         heap.sys_free(name, made);
         return Err(refusal);
@@ -75,33 +77,31 @@ pub(crate) fn put_in(
 #[inline(always)]
 pub(crate) fn take_in(
     heap: &mut Heap,
-    db: Db,
-    chunk: Found,
+    opened: OpenDatabase,
     at: u32,
     entry: DbEntry,
     name: Name,
 ) -> Result<(), Refusal>
     requires accepted { Accepted heap.old.bytes }
-    requires number { HasNumber heap.old.bytes db.0 }
-    requires chunk { StandsAs heap.old.bytes db.0 chunk }
-    requires inside { at ≤ length (entries_of_image heap.old.bytes db) }
-    requires few { length (entries_of_image heap.old.bytes db) < most_entries }
-    requires kind { is_resource entry ≡ resources_of_image heap.old.bytes db }
+    requires opened { IsOpened heap.old.bytes opened }
+    requires inside { at ≤ length (entries_of_image heap.old.bytes opened.db) }
+    requires few { length (entries_of_image heap.old.bytes opened.db) < most_entries }
+    requires kind { is_resource entry ≡ resources_of_image heap.old.bytes opened.db }
     requires id { HasFittingId entry }
     requires given { MayBeGiven heap.old.bytes name.0 }
-    ensures takes { OnOk result (TakesIn heap.old.bytes heap.new.bytes db.0 at
+    ensures takes { OnOk result (TakesIn heap.old.bytes heap.new.bytes opened.db.0 at
         (entry_with (λ (none : ℕ). name.0) (entry_of entry)) name.0) }
     ensures none_made { MakesNone heap.old.bytes heap.new.bytes }
     ensures name_fits { EntryFits (is_resource entry) (entry_of entry)
         → EntryFits (is_resource entry) (entry_with (λ (none : ℕ). name.0) (entry_of entry)) }
     ensures no_room { OnErr result (Stuck (rooms heap.old.bytes)
-        (entry_growth heap.old.bytes (store_of heap.old.bytes) db ∷ [])) }
+        (entry_growth heap.old.bytes (store_of heap.old.bytes) opened.db ∷ [])) }
     ensures refusal { IfErr result (λ refusal. refusal ≡ Refusal.NotEnoughSpace) }
     ensures refused { OnErr result (heap.new ≡ heap.old) }
     ensures loan { KeepsLoan heap.old heap.new }
     ensures rest { heap.new ≡ record heap.old { bytes = heap.new.bytes; slid = heap.new.slid } }
 {
-    insert_entry(heap, db, chunk, at as u16, with_slot(entry, name))?;
+    insert_entry(heap, opened, at as u16, with_slot(entry, name))?;
     heap.sys_set_owner(name, DATA_OWNER);
     Ok(())
 }
@@ -117,18 +117,16 @@ pub(crate) struct MadeEntry {
 #[inline(always)]
 pub(crate) fn new_entry(
     heap: &Heap,
-    db: Db,
-    chunk: Found,
+    opened: OpenDatabase,
     entry: NewEntry,
     known: KnownIds,
 ) -> MadeEntry
     requires accepted { Accepted heap.now.bytes }
-    requires number { HasNumber heap.now.bytes db.0 }
-    requires chunk { StandsAs heap.now.bytes db.0 chunk }
-    requires kind { makes_resource entry ≡ resources_of_image heap.now.bytes db }
-    requires few { length (entries_of_image heap.now.bytes db) < most_entries }
+    requires opened { IsOpened heap.now.bytes opened }
+    requires kind { makes_resource entry ≡ resources_of_image heap.now.bytes opened.db }
+    requires few { length (entries_of_image heap.now.bytes opened.db) < most_entries }
     requires known { StandFree (store_of heap.now.bytes) known }
-    ensures is { IsMadeOf (store_of heap.now.bytes) db entry 0 (entry_of result.entry) }
+    ensures is { IsMadeOf (store_of heap.now.bytes) opened.db entry 0 (entry_of result.entry) }
     ensures kind { is_resource result.entry ≡ makes_resource entry }
     ensures id { HasFittingId result.entry }
     ensures fits { EntryFits (is_resource result.entry) (entry_of result.entry) }
@@ -136,7 +134,7 @@ pub(crate) fn new_entry(
 {
     match entry {
         NewEntry::Record { attributes } => {
-            let free = free_ids(header_in(heap, db, chunk), known.of(db));
+            let free = free_ids(header_in(heap, opened), known.of(opened.db));
             MadeEntry {
                 entry: DbEntry::Record(RecordEntry {
                     attributes: RecordAttrs::from_bits_retain(attributes),
@@ -144,7 +142,7 @@ pub(crate) fn new_entry(
                     slot: 0,
                 }),
                 known: KnownIds {
-                    db,
+                    db: opened.db,
                     ids: free.without(free.first),
                 },
             }

@@ -6,42 +6,30 @@ ghost use Rattle.heap_model.specs.Store.{Accepted};
 ghost use Rattle.heap_model.specs.EntrySteps.{OfEntry, Tells};
 ghost use Rattle.heap_model.specs.Leaving.{database_here};
 ghost use Rattle.db_format.specs.EitherEntry.{entry_of, is_resource, HasFittingId};
-ghost use Rattle.mem_manager.specs.Lookup.{StandsAs};
-ghost use Rattle.palm_store.specs.Databases.{HasNumber};
 ghost use Rattle.palm_store.specs.EntryCalls.{entries_of_image};
+ghost use Rattle.palm_store.specs.Opened.{IsOpened};
 
 use crate::entries::shapes::told;
 use crate::lookup::header_in;
+use database_edits::OpenDatabase;
 use db_format::{DbEntry, entry_count};
-use heap_model::{Db, Entry};
-use mem_manager::{Found, Heap};
-
-/// Returns the number of entries of a database.
-#[inline(always)]
-pub(crate) fn count_entries(heap: &Heap, db: Db, chunk: Found) -> u32
-    requires accepted { Accepted heap.now.bytes }
-    requires number { HasNumber heap.now.bytes db.0 }
-    requires chunk { StandsAs heap.now.bytes db.0 chunk }
-    ensures { result ≡ length (entries_of_image heap.now.bytes db) }
-{
-    entry_count(header_in(heap, db, chunk)) as u32
-}
+use heap_model::Entry;
+use mem_manager::Heap;
 
 /// Returns the entry at an index, as the database has it.
 #[inline(always)]
-pub(crate) fn read_entry(heap: &Heap, db: Db, chunk: Found, index: u32) -> DbEntry
+pub(crate) fn read_entry(heap: &Heap, opened: OpenDatabase, index: u32) -> DbEntry
     requires accepted { Accepted heap.now.bytes }
-    requires number { HasNumber heap.now.bytes db.0 }
-    requires chunk { StandsAs heap.now.bytes db.0 chunk }
-    requires inside { index < length (entries_of_image heap.now.bytes db) }
-    ensures is { slice_get (database_here heap.now.bytes db.0).entries index
+    requires opened { IsOpened heap.now.bytes opened }
+    requires inside { index < length (entries_of_image heap.now.bytes opened.db) }
+    ensures is { slice_get (database_here heap.now.bytes opened.db.0).entries index
         ≡ Some (entry_of result) }
     ensures kind { is_resource result
-        ≡ has_resources (database_here heap.now.bytes db.0).header.attributes }
+        ≡ has_resources (database_here heap.now.bytes opened.db.0).header.attributes }
     ensures id { HasFittingId result }
     ensures fits { EntryFits (is_resource result) (entry_of result) }
 {
-    DbEntry::read(header_in(heap, db, chunk), index as u16)
+    DbEntry::read(header_in(heap, opened), index as u16)
 }
 
 /// Returns the fields of the entry at an index, of the database with these bytes, if there is one.

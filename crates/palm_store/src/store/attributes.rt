@@ -3,32 +3,28 @@
 ghost use Rattle.std.specs.Prelude.{◌≡◌, false, map};
 ghost use Rattle.heap_model.specs.Lending.{KeepsLoan};
 ghost use Rattle.heap_model.specs.EntrySteps.{with_attributes, with_entries, MakesNone};
-ghost use Rattle.mem_manager.specs.Lookup.{StandsAs};
 ghost use Rattle.palm_store.specs.AttributeChanges.{MayChange};
-ghost use Rattle.palm_store.specs.Databases.{HasNumber};
 ghost use Rattle.palm_store.specs.EntryCalls.{resources_of_image, LeavesChanged};
+ghost use Rattle.palm_store.specs.Opened.{IsOpened};
 
 use crate::store::Store;
-use database_edits::change_attributes;
-use heap_model::Db;
-use mem_manager::Found;
+use database_edits::{OpenDatabase, change_attributes};
 use raw_region::ByteChange;
 
 impl Store {
     /// Changes the attributes of each record of a database, in one pass. The database doesn't count
     /// the call.
-    pub fn change_attributes<C: ByteChange>(&mut self, db: Db, chunk: Found, change: C)
-        requires number { HasNumber self.old.bytes db.0 }
-        requires chunk { StandsAs self.old.bytes db.0 chunk }
-        requires records { resources_of_image self.old.bytes db ≡ false }
+    pub fn change_attributes<C: ByteChange>(&mut self, opened: OpenDatabase, change: C)
+        requires opened { IsOpened self.old.bytes opened }
+        requires records { resources_of_image self.old.bytes opened.db ≡ false }
         requires change { MayChange (C.made change) }
         ensures changed { LeavesChanged self.old self.new
-            (λ store. with_entries store db (map (with_attributes (C.made change)))) }
-        ensures stands { StandsAs self.new.bytes db.0 chunk }
+            (λ store. with_entries store opened.db (map (with_attributes (C.made change)))) }
+        ensures opened { IsOpened self.new.bytes opened }
         ensures none_made { MakesNone self.old.bytes self.new.bytes }
         ensures loan { KeepsLoan self.old self.new }
         ensures rest { self.new ≡ record self.old { bytes = self.new.bytes } }
     {
-        change_attributes(&mut self.heap, db, chunk, change);
+        change_attributes(&mut self.heap, opened, change);
     }
 }

@@ -33,7 +33,7 @@ impl Store {
             return Err(Refusal::AlreadyExists);
         }
         self.check_given(name)?;
-        give_block(&mut self.heap, db, found.chunk, which, name);
+        give_block(&mut self.heap, found.opened, which, name);
         self.known = NOTHING_KNOWN;
         Ok(())
     }
@@ -60,7 +60,7 @@ impl Store {
         check_owner(owner)?;
         self.known = NOTHING_KNOWN;
         let name = found.name;
-        take_block(&mut self.heap, db, found, which, owner);
+        take_block(&mut self.heap, found, which, owner);
         Ok(name)
     }
 

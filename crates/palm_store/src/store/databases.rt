@@ -9,7 +9,7 @@ ghost use Rattle.palm_store.specs.Replies.{DoesDatabase, done_or_refused, databa
 use crate::databases::{empty_header, free_data, has_locked, list_new, unlist, with_info};
 use crate::entries::NOTHING_KNOWN;
 use crate::lookup::{
-    DIRECTORY_WORD_SIZE, count_databases, directory_bytes, find_chunk, find_header, find_named,
+    DIRECTORY_WORD_SIZE, count_databases, directory_bytes, find_header, find_named, find_opened,
     has_other_name, header_in, index_of, info_in, listed_in,
 };
 use crate::store::Store;
@@ -71,13 +71,13 @@ impl Store {
             (done_or_refused result) self.new }
         ensures refused { OnErr result (self.new ≡ self.old) }
     {
-        let chunk = find_chunk(&self.heap, db)?;
-        if has_locked(&self.heap, db, chunk) {
+        let opened = find_opened(&self.heap, db)?;
+        if has_locked(&self.heap, opened) {
             return Err(Refusal::ChunkLocked);
         }
-        let index = index_of(&self.heap, db);
-        free_data(&mut self.heap, db, chunk);
-        self.heap.sys_free(Name(db.0), chunk);
+        let index = index_of(&self.heap, opened.db);
+        free_data(&mut self.heap, opened);
+        self.heap.sys_free(Name(opened.db.0), opened.chunk);
         unlist(&mut self.heap, index);
         self.known = NOTHING_KNOWN;
         Ok(())
@@ -142,17 +142,17 @@ impl Store {
             (done_or_refused result) self.new }
         ensures refused { OnErr result (self.new ≡ self.old) }
     {
-        let chunk = find_chunk(&self.heap, db)?;
-        let header = header_in(&self.heap, db, chunk);
+        let opened = find_opened(&self.heap, db)?;
+        let header = header_in(&self.heap, opened);
         let Some(name) = NameField::of_name(info.name.as_slice()) else {
             return Err(Refusal::InvalidName);
         };
-        if has_other_name(&self.heap, db, info.name.as_slice()) {
+        if has_other_name(&self.heap, opened.db, info.name.as_slice()) {
             return Err(Refusal::AlreadyExists);
         }
         let header = with_info(DbHeader::read(header), name, info);
         self.heap
-            .sys_write(Name(db.0), chunk, 0, &header.to_bytes());
+            .sys_write(Name(opened.db.0), opened.chunk, 0, &header.to_bytes());
         self.known = NOTHING_KNOWN;
         Ok(())
     }

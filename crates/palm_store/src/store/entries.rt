@@ -11,22 +11,22 @@ ghost use Rattle.heap_model.specs.Refusals.{NoneHolds, FirstBrings};
 ghost use Rattle.heap_model.specs.StoreWords.{with_number};
 ghost use Rattle.heap_model.specs.EntrySteps.{data_freed, raised, MakesNone};
 ghost use Rattle.heap_model.specs.StoreSteps.{StoreAsBefore};
-ghost use Rattle.mem_manager.specs.Lookup.{StandsAs};
 ghost use Rattle.palm_store.specs.Databases.{HasNumber, HasDatabase};
+ghost use Rattle.palm_store.specs.Opened.{IsOpened};
 ghost use Rattle.palm_store.specs.EntryInfos.{makes_resource, MayOwn, dropped_to};
 ghost use Rattle.palm_store.specs.EntryCalls.{entries_of_image, resources_of_image, data_of_image, HasDbAttributes, HasLockedData, IsEntryData, IsHeard, MayHave, MayBeGiven, checks_of_giving, checks_of_making, checks_of_attaching, checks_of_data_growth, raised_if, LeavesChanged, LeavesMade, LeavesAttached, entry_informed, entry_given, entry_moved_in, data_sized};
 
 use crate::chunks::{check_taken, free_chunk_of};
 use crate::entries::{
-    EntryInfo, FoundEntry, NewEntry, count_entries, emptied, entry_at, entry_with, new_entry,
-    put_in, read_entry, take_in, with_slot,
+    EntryInfo, FoundEntry, NewEntry, emptied, entry_at, entry_with, new_entry, put_in, read_entry,
+    take_in, with_slot,
 };
-use crate::lookup::{chunk_of, find_chunk, find_header, header_in};
+use crate::lookup::{find_header, find_opened, header_in, opened_of};
 use crate::store::Store;
-use database_edits::{count_change, move_entry, remove_entry, write_entry};
+use database_edits::{OpenDatabase, count_change, move_entry, remove_entry, write_entry};
 use db_format::{DatabaseView, DbAttrs};
 use heap_model::{Db, Name, Refusal};
-use mem_manager::{DATA_OWNER, Found};
+use mem_manager::DATA_OWNER;
 
 /// The greatest number of entries of a database.
 const MOST_ENTRIES: u32 = 65535;
@@ -46,41 +46,41 @@ impl Store {
         Ok(DatabaseView::of(header))
     }
 
-    /// Finds the chunk of the database of a number, in its current state, for the calls below. The
-    /// result is valid until a call changes the store. After a change with the postcondition
-    /// `stands` it stays valid.
+    /// Finds the database of a number for the calls below. The result is valid until a call changes
+    /// the store. After a change with the postcondition `opened` it stays valid.
     ///
     /// # Errors
     /// - `NoSuchDatabase`: if no database has the number.
     #[inline(always)]
-    pub fn find_chunk(&self, db: Db) -> Result<Found, Refusal>
+    pub fn find_opened(&self, db: Db) -> Result<OpenDatabase, Refusal>
         ensures accepted { Accepted self.now.bytes }
         ensures known { OnOk result (HasNumber self.now.bytes db.0) }
-        ensures is { IfOk result (StandsAs self.now.bytes db.0) }
+        ensures opened { IfOk result (IsOpened self.now.bytes) }
+        ensures db { IfOk result (λ opened. opened.db ≡ db) }
         ensures unknown { OnErr result (with_number (store_of self.now.bytes) db.0 ≡ None) }
         ensures refusal { IfErr result (λ refusal. refusal ≡ Refusal.NoSuchDatabase) }
     {
-        find_chunk(&self.heap, db)
+        find_opened(&self.heap, db)
     }
 
-    /// Returns the chunk of an existing database, as `find_chunk` does.
+    /// Returns an existing database, as `find_opened` does.
     #[inline(always)]
-    pub fn chunk_of(&self, db: Db) -> Found
+    pub fn opened_of(&self, db: Db) -> OpenDatabase
         requires { HasNumber self.now.bytes db.0 }
-        ensures { StandsAs self.now.bytes db.0 result }
+        ensures opened { IsOpened self.now.bytes result }
+        ensures db { result.db ≡ db }
     {
-        chunk_of(&self.heap, db)
+        opened_of(&self.heap, db)
     }
 
-    /// Returns the database whose chunk was found, to be read.
+    /// Returns an open database, to be read.
     #[inline(always)]
-    pub fn database_in<'a>(&'a self, db: Db, chunk: Found) -> DatabaseView<'a>
-        requires number { HasNumber self.now.bytes db.0 }
-        requires chunk { StandsAs self.now.bytes db.0 chunk }
+    pub fn database_in<'a>(&'a self, opened: OpenDatabase) -> DatabaseView<'a>
+        requires opened { IsOpened self.now.bytes opened }
         ensures accepted { Accepted self.now.bytes }
-        ensures is { HasDatabase self.now.bytes db.0 result }
+        ensures is { HasDatabase self.now.bytes opened.db.0 result }
     {
-        DatabaseView::of(header_in(&self.heap, db, chunk))
+        DatabaseView::of(header_in(&self.heap, opened))
     }
 
     /// Returns the attributes of a database, and the fields of its entry at an index, if there is
@@ -94,15 +94,16 @@ impl Store {
         ensures known { OnOk result (HasNumber self.now.bytes db.0) }
         ensures attributes { IfOk result (λ found.
             HasDbAttributes self.now.bytes db found.attributes.0) }
-        ensures chunk { IfOk result (λ found. StandsAs self.now.bytes db.0 found.chunk) }
+        ensures opened { IfOk result (λ found. IsOpened self.now.bytes found.opened) }
+        ensures db { IfOk result (λ found. found.opened.db ≡ db) }
         ensures entry { IfOk result (λ found. IsHeard self.now.bytes db index found.entry) }
         ensures unknown { OnErr result (with_number (store_of self.now.bytes) db.0 ≡ None) }
         ensures refusal { IfErr result (λ refusal. refusal ≡ Refusal.NoSuchDatabase) }
     {
-        let chunk = find_chunk(&self.heap, db)?;
-        let header = header_in(&self.heap, db, chunk);
+        let opened = find_opened(&self.heap, db)?;
+        let header = header_in(&self.heap, opened);
         Ok(FoundEntry {
-            chunk,
+            opened,
             attributes: DbAttrs(db_format::attributes(header)),
             entry: entry_at(header, index),
         })
@@ -120,20 +121,18 @@ impl Store {
     #[inline(always)]
     pub fn entry_new(
         &mut self,
-        db: Db,
-        chunk: Found,
+        opened: OpenDatabase,
         at: u32,
         entry: NewEntry,
         size: u32,
     ) -> Result<Name, Refusal>
-        requires number { HasNumber self.old.bytes db.0 }
-        requires chunk { StandsAs self.old.bytes db.0 chunk }
-        requires inside { at ≤ length (entries_of_image self.old.bytes db) }
-        requires kind { makes_resource entry ≡ resources_of_image self.old.bytes db }
-        ensures made { IfOk result (λ name. LeavesMade self.old self.new db at entry name.0 size) }
+        requires opened { IsOpened self.old.bytes opened }
+        requires inside { at ≤ length (entries_of_image self.old.bytes opened.db) }
+        requires kind { makes_resource entry ≡ resources_of_image self.old.bytes opened.db }
+        ensures made { IfOk result (λ name. LeavesMade self.old self.new opened.db at entry name.0 size) }
         ensures new_name { IfOk result (λ name. held self.old.bytes name.0 ≡ None) }
-        ensures could { OnOk result (NoneHolds (checks_of_making self.old.bytes db size)) }
-        ensures why { IfErr result (FirstBrings (checks_of_making self.old.bytes db size)) }
+        ensures could { OnOk result (NoneHolds (checks_of_making self.old.bytes opened.db size)) }
+        ensures why { IfErr result (FirstBrings (checks_of_making self.old.bytes opened.db size)) }
         ensures refused { OnErr result (LeavesChanged self.old self.new (λ store. store)) }
         ensures as_before { OnErr result (StoreAsBefore self.old self.new) }
         ensures untouched { IfErr result (λ refusal.
@@ -141,11 +140,13 @@ impl Store {
         ensures loan { KeepsLoan self.old self.new }
         ensures rest { self.new ≡ record self.old { bytes = self.new.bytes; slid = self.new.slid } }
     {
-        if count_entries(&self.heap, db, chunk) >= MOST_ENTRIES {
+        // the store is looked at, so that its invariant is known
+        let _ = &self.heap;
+        if opened.entry_count >= MOST_ENTRIES {
             return Err(Refusal::TooManyEntries);
         }
-        let made = new_entry(&self.heap, db, chunk, entry, self.known);
-        let name = put_in(&mut self.heap, db, at, made.entry, size)?;
+        let made = new_entry(&self.heap, opened, entry, self.known);
+        let name = put_in(&mut self.heap, opened, at, made.entry, size)?;
         self.known = made.known;
         Ok(name)
     }
@@ -174,30 +175,28 @@ impl Store {
     #[inline(always)]
     pub fn entry_attach(
         &mut self,
-        db: Db,
-        chunk: Found,
+        opened: OpenDatabase,
         at: u32,
         entry: NewEntry,
         name: Name,
     ) -> Result<(), Refusal>
-        requires number { HasNumber self.old.bytes db.0 }
-        requires chunk { StandsAs self.old.bytes db.0 chunk }
-        requires inside { at ≤ length (entries_of_image self.old.bytes db) }
-        requires kind { makes_resource entry ≡ resources_of_image self.old.bytes db }
+        requires opened { IsOpened self.old.bytes opened }
+        requires inside { at ≤ length (entries_of_image self.old.bytes opened.db) }
+        requires kind { makes_resource entry ≡ resources_of_image self.old.bytes opened.db }
         requires given { MayBeGiven self.old.bytes name.0 }
-        ensures attached { OnOk result (LeavesAttached self.old self.new db at entry name.0) }
+        ensures attached { OnOk result (LeavesAttached self.old self.new opened.db at entry name.0) }
         ensures none_made { MakesNone self.old.bytes self.new.bytes }
-        ensures could { OnOk result (NoneHolds (checks_of_attaching self.old.bytes db)) }
-        ensures why { IfErr result (FirstBrings (checks_of_attaching self.old.bytes db)) }
+        ensures could { OnOk result (NoneHolds (checks_of_attaching self.old.bytes opened.db)) }
+        ensures why { IfErr result (FirstBrings (checks_of_attaching self.old.bytes opened.db)) }
         ensures refused { OnErr result (self.new ≡ self.old) }
         ensures loan { KeepsLoan self.old self.new }
         ensures rest { self.new ≡ record self.old { bytes = self.new.bytes; slid = self.new.slid } }
     {
-        if count_entries(&self.heap, db, chunk) >= MOST_ENTRIES {
+        if opened.entry_count >= MOST_ENTRIES {
             return Err(Refusal::TooManyEntries);
         }
-        let made = new_entry(&self.heap, db, chunk, entry, self.known);
-        take_in(&mut self.heap, db, chunk, at, made.entry, name)?;
+        let made = new_entry(&self.heap, opened, entry, self.known);
+        take_in(&mut self.heap, opened, at, made.entry, name)?;
         self.known = made.known;
         Ok(())
     }
@@ -230,19 +229,18 @@ impl Store {
     /// Sets the fields of an entry. Its data stays. The database counts the call if `counts` is
     /// true.
     #[inline(always)]
-    pub fn entry_set(&mut self, db: Db, chunk: Found, index: u32, info: EntryInfo, counts: bool)
-        requires number { HasNumber self.old.bytes db.0 }
-        requires chunk { StandsAs self.old.bytes db.0 chunk }
-        requires inside { index < length (entries_of_image self.old.bytes db) }
-        requires info { MayHave self.old.bytes db index info }
+    pub fn entry_set(&mut self, opened: OpenDatabase, index: u32, info: EntryInfo, counts: bool)
+        requires opened { IsOpened self.old.bytes opened }
+        requires inside { index < length (entries_of_image self.old.bytes opened.db) }
+        requires info { MayHave self.old.bytes opened.db index info }
         ensures set { LeavesChanged self.old self.new
-            (λ store. raised_if counts (entry_informed store db index info) db) }
+            (λ store. raised_if counts (entry_informed store opened.db index info) opened.db) }
         ensures none_made { MakesNone self.old.bytes self.new.bytes }
         ensures loan { KeepsLoan self.old self.new }
         ensures rest { self.new ≡ record self.old { bytes = self.new.bytes } }
     {
-        let entry = entry_with(read_entry(&self.heap, db, chunk, index), info);
-        write_entry(&mut self.heap, db, chunk, index as u16, entry, counts);
+        let entry = entry_with(read_entry(&self.heap, opened, index), info);
+        write_entry(&mut self.heap, opened, index as u16, entry, counts);
         self.known = self.known.without(info);
     }
 
@@ -252,29 +250,27 @@ impl Store {
     #[inline(always)]
     pub fn entry_swap(
         &mut self,
-        db: Db,
-        chunk: Found,
+        opened: OpenDatabase,
         index: u32,
         info: EntryInfo,
         name: Name,
         owner: u8,
     )
-        requires number { HasNumber self.old.bytes db.0 }
-        requires chunk { StandsAs self.old.bytes db.0 chunk }
-        requires inside { index < length (entries_of_image self.old.bytes db) }
-        requires info { MayHave self.old.bytes db index info }
-        requires there { 0 < data_of_image self.old.bytes db index }
+        requires opened { IsOpened self.old.bytes opened }
+        requires inside { index < length (entries_of_image self.old.bytes opened.db) }
+        requires info { MayHave self.old.bytes opened.db index info }
+        requires there { 0 < data_of_image self.old.bytes opened.db index }
         requires given { MayBeGiven self.old.bytes name.0 }
         requires owner { MayOwn owner }
         ensures swapped { LeavesChanged self.old self.new
-            (λ store. raised (entry_given store db index info name.0 owner) db) }
+            (λ store. raised (entry_given store opened.db index info name.0 owner) opened.db) }
         ensures none_made { MakesNone self.old.bytes self.new.bytes }
         ensures loan { KeepsLoan self.old self.new }
         ensures rest { self.new ≡ record self.old { bytes = self.new.bytes } }
     {
-        let was = read_entry(&self.heap, db, chunk, index);
+        let was = read_entry(&self.heap, opened, index);
         let entry = with_slot(entry_with(was, info), name);
-        write_entry(&mut self.heap, db, chunk, index as u16, entry, true);
+        write_entry(&mut self.heap, opened, index as u16, entry, true);
         self.heap.sys_set_owner(Name(was.slot()), owner);
         self.heap.sys_set_owner(name, DATA_OWNER);
         self.known = self.known.without(info);
@@ -283,66 +279,56 @@ impl Store {
     /// Moves the entry at `from` to before the one at `to`, or to the end. Both are counted before
     /// the move. The database counts the call.
     #[inline(always)]
-    pub fn entry_move(&mut self, db: Db, chunk: Found, from: u32, to: u32)
-        requires number { HasNumber self.old.bytes db.0 }
-        requires chunk { StandsAs self.old.bytes db.0 chunk }
-        requires from_inside { from < length (entries_of_image self.old.bytes db) }
-        requires to_inside { to ≤ length (entries_of_image self.old.bytes db) }
+    pub fn entry_move(&mut self, opened: OpenDatabase, from: u32, to: u32)
+        requires opened { IsOpened self.old.bytes opened }
+        requires from_inside { from < length (entries_of_image self.old.bytes opened.db) }
+        requires to_inside { to ≤ length (entries_of_image self.old.bytes opened.db) }
         ensures moved { LeavesChanged self.old self.new
-            (λ store. raised (entry_moved_in store db from to) db) }
+            (λ store. raised (entry_moved_in store opened.db from to) opened.db) }
         ensures none_made { MakesNone self.old.bytes self.new.bytes }
         ensures loan { KeepsLoan self.old self.new }
         ensures rest { self.new ≡ record self.old { bytes = self.new.bytes; slid = self.new.slid } }
     {
-        move_entry(&mut self.heap, db, chunk, from as u16, to as u16);
+        move_entry(&mut self.heap, opened, from as u16, to as u16);
     }
 
     /// Frees the data of a record, if it has any. The record is deleted then, and keeps its ID and
     /// its other attributes. The database counts the call if `counts` is true.
     #[inline(always)]
-    pub fn entry_free_data(&mut self, db: Db, chunk: Found, index: u32, counts: bool)
-        requires number { HasNumber self.old.bytes db.0 }
-        requires chunk { StandsAs self.old.bytes db.0 chunk }
-        requires records { resources_of_image self.old.bytes db ≡ false }
-        requires inside { index < length (entries_of_image self.old.bytes db) }
-        requires unlocked { HasLockedData self.old.bytes db index → ⊥ }
+    pub fn entry_free_data(&mut self, opened: OpenDatabase, index: u32, counts: bool)
+        requires opened { IsOpened self.old.bytes opened }
+        requires records { resources_of_image self.old.bytes opened.db ≡ false }
+        requires inside { index < length (entries_of_image self.old.bytes opened.db) }
+        requires unlocked { HasLockedData self.old.bytes opened.db index → ⊥ }
         ensures freed { LeavesChanged self.old self.new
-            (λ store. raised_if counts (data_freed store db index) db) }
-        ensures stands { StandsAs self.new.bytes db.0 chunk }
+            (λ store. raised_if counts (data_freed store opened.db index) opened.db) }
+        ensures opened { IsOpened self.new.bytes opened }
         ensures none_made { MakesNone self.old.bytes self.new.bytes }
         ensures loan { KeepsLoan self.old self.new }
         ensures rest { self.new ≡ record self.old { bytes = self.new.bytes } }
     {
-        let entry = read_entry(&self.heap, db, chunk, index);
-        write_entry(
-            &mut self.heap,
-            db,
-            chunk,
-            index as u16,
-            emptied(entry),
-            counts,
-        );
+        let entry = read_entry(&self.heap, opened, index);
+        write_entry(&mut self.heap, opened, index as u16, emptied(entry), counts);
         free_chunk_of(&mut self.heap, Name(entry.slot()));
     }
 
     /// Drops an entry. Its data, if it has any, is freed or gets an owner. The database counts the
     /// call.
     #[inline(always)]
-    pub fn entry_drop(&mut self, db: Db, chunk: Found, index: u32, owner: Option<u8>)
-        requires number { HasNumber self.old.bytes db.0 }
-        requires chunk { StandsAs self.old.bytes db.0 chunk }
-        requires inside { index < length (entries_of_image self.old.bytes db) }
-        requires unlocked { IfNone owner (HasLockedData self.old.bytes db index → ⊥) }
+    pub fn entry_drop(&mut self, opened: OpenDatabase, index: u32, owner: Option<u8>)
+        requires opened { IsOpened self.old.bytes opened }
+        requires inside { index < length (entries_of_image self.old.bytes opened.db) }
+        requires unlocked { IfNone owner (HasLockedData self.old.bytes opened.db index → ⊥) }
         requires owner { IfSome owner MayOwn }
-        requires there { IfSome owner (λ owner. 0 < data_of_image self.old.bytes db index) }
+        requires there { IfSome owner (λ owner. 0 < data_of_image self.old.bytes opened.db index) }
         ensures dropped { LeavesChanged self.old self.new
-            (λ store. raised (dropped_to store db index owner) db) }
+            (λ store. raised (dropped_to store opened.db index owner) opened.db) }
         ensures none_made { MakesNone self.old.bytes self.new.bytes }
         ensures loan { KeepsLoan self.old self.new }
         ensures rest { self.new ≡ record self.old { bytes = self.new.bytes; slid = self.new.slid } }
     {
-        let slot = Name(read_entry(&self.heap, db, chunk, index).slot());
-        remove_entry(&mut self.heap, db, chunk, index as u16);
+        let slot = Name(read_entry(&self.heap, opened, index).slot());
+        remove_entry(&mut self.heap, opened, index as u16);
         match owner {
             None => free_chunk_of(&mut self.heap, slot),
             Some(owner) => self.heap.sys_set_owner(slot, owner),
@@ -351,15 +337,14 @@ impl Store {
 
     /// Counts a change of a database: raises its modification number by 1, modulo 2^32.
     #[inline(always)]
-    pub fn count_change(&mut self, db: Db, chunk: Found)
-        requires number { HasNumber self.old.bytes db.0 }
-        requires chunk { StandsAs self.old.bytes db.0 chunk }
-        ensures counted { LeavesChanged self.old self.new (λ store. raised store db) }
+    pub fn count_change(&mut self, opened: OpenDatabase)
+        requires opened { IsOpened self.old.bytes opened }
+        ensures counted { LeavesChanged self.old self.new (λ store. raised store opened.db) }
         ensures none_made { MakesNone self.old.bytes self.new.bytes }
         ensures unmoved { MovesNothing self.old.bytes self.new.bytes }
         ensures loan { KeepsLoan self.old self.new }
         ensures rest { self.new ≡ record self.old { bytes = self.new.bytes } }
     {
-        count_change(&mut self.heap, db, chunk);
+        count_change(&mut self.heap, opened);
     }
 }

@@ -12,7 +12,7 @@ ghost use Rattle.palm_store.specs.EntryCalls.{LeavesChanged};
 ghost use Rattle.palm_store.specs.Files.{IsDataName, HasDataOf, data_filled};
 
 use crate::databases::has_lent;
-use crate::lookup::{chunk_of, find_header};
+use crate::lookup::{find_header, opened_of};
 use crate::store::Store;
 use heap_model::{Db, Name};
 
@@ -49,7 +49,7 @@ impl Store {
         requires { HasNumber self.now.bytes db.0 }
         ensures { IsTrue result ↔ Any (IsLent self.now) (named_under self.now.bytes db.0) }
     {
-        has_lent(&self.heap, db, chunk_of(&self.heap, db))
+        has_lent(&self.heap, opened_of(&self.heap, db))
     }
 
     /// Writes bytes over all of a chunk for data without a lock: an info block of a database, or

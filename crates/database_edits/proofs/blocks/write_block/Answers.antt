@@ -8,15 +8,15 @@ use Rattle.database_edits.proofs.InfoBlocks.{block_fits, block_written}
 use Rattle.database_edits.proofs.blocks.write_block.Goals as goal
 
 pub put_info_block-requires-clause-inside : goal.put_info_block-requires-clause-inside
-put_info_block-requires-clause-inside c = header_inside c.args.heap.now.bytes c.args.db.0 c.requires.spells
+put_info_block-requires-clause-inside c = header_inside c.args.heap.now.bytes c.args.opened.db.0 c.requires.opened.spells
 
 pub returns-clause-written : goal.returns-clause-written
 returns-clause-written c =
-    (block_written c.args.heap.now.bytes c.put_info_block.new.heap.bytes c.put_modification_number.new.heap.bytes c.args.db.0 c.args.which c.args.slot c.heading_here-heading.result.modification_number (next_modification c.heading_here-heading.result.modification_number)
-    c.requires.spells (omega arith) c.heading_here-heading.ensures.modification_number refl c.put_info_block.ensures.puts c.put_modification_number.ensures.puts).leaves
+    (block_written c.args.heap.now.bytes c.put_info_block.new.heap.bytes c.put_modification_number.new.heap.bytes c.args.opened.db.0 c.args.which c.args.slot c.heading_here-heading.result.modification_number (next_modification c.heading_here-heading.result.modification_number)
+    c.requires.opened.spells (omega arith) c.heading_here-heading.ensures.modification_number refl c.put_info_block.ensures.puts c.put_modification_number.ensures.puts).leaves
 
 pub returns-clause-fits : goal.returns-clause-fits
-returns-clause-fits c = block_fits c.args.which c.args.slot (database_here c.args.heap.now.bytes c.args.db.0) (omega arith) c.requires.spells.spelled.fits
+returns-clause-fits c = block_fits c.args.which c.args.slot (database_here c.args.heap.now.bytes c.args.opened.db.0) (omega arith) c.requires.opened.spells.spelled.fits
 
 pub returns-clause-loan : goal.returns-clause-loan
 returns-clause-loan c = keeps_then _ _ _ c.put_info_block.ensures.loan c.put_modification_number.ensures.loan

@@ -1,5 +1,6 @@
 -- The header that is written is that of the database with its number raised.
-use Rattle.std.proofs.Common.{refl}
+use Rattle.std.proofs.Common.{ℕ, length, refl, sym, ap, ◌∙◌}
+use Rattle.heap_model.specs.Database.{Database}
 use Rattle.heap_model.specs.StoreWords.{next_modification}
 use Rattle.heap_model.specs.Leaving.{database_here}
 use Rattle.database_edits.specs.Edits.{counted}
@@ -8,21 +9,25 @@ use Rattle.database_edits.proofs.RaisedNumbers.{raised, spells_now, database_now
 use Rattle.database_edits.proofs.counting.count_change.Goals as goal
 
 pub put_modification_number-requires-clause-inside : goal.put_modification_number-requires-clause-inside
-put_modification_number-requires-clause-inside c = header_inside c.args.heap.now.bytes c.args.db.0 c.requires.spells
+put_modification_number-requires-clause-inside c = header_inside c.args.heap.now.bytes c.args.opened.db.0 c.requires.opened.spells
 
 pub returns-clause-counted : goal.returns-clause-counted
 returns-clause-counted c =
-    (raised c.args.heap.now.bytes c.put_modification_number.new.heap.bytes c.args.db.0 c.heading_here-heading.result.modification_number (next_modification c.heading_here-heading.result.modification_number) c.requires.spells c.heading_here-heading.ensures.modification_number refl
+    (raised c.args.heap.now.bytes c.put_modification_number.new.heap.bytes c.args.opened.db.0 c.heading_here-heading.result.modification_number (next_modification c.heading_here-heading.result.modification_number) c.requires.opened.spells c.heading_here-heading.ensures.modification_number refl
     c.put_modification_number.ensures.puts).leaves
-
-pub returns-clause-spells : goal.returns-clause-spells
-returns-clause-spells c =
-    spells_now c.args.heap.now.bytes c.put_modification_number.new.heap.bytes c.args.db.0 (counted (database_here c.args.heap.now.bytes c.args.db.0)) (counted_fits (database_here c.args.heap.now.bytes c.args.db.0) c.requires.spells.spelled.fits)
-    (raised c.args.heap.now.bytes c.put_modification_number.new.heap.bytes c.args.db.0 c.heading_here-heading.result.modification_number (next_modification c.heading_here-heading.result.modification_number) c.requires.spells c.heading_here-heading.ensures.modification_number refl
-    c.put_modification_number.ensures.puts)
 
 pub returns-clause-now : goal.returns-clause-now
 returns-clause-now c =
-    database_now c.args.heap.now.bytes c.put_modification_number.new.heap.bytes c.args.db.0 (counted (database_here c.args.heap.now.bytes c.args.db.0)) (counted_fits (database_here c.args.heap.now.bytes c.args.db.0) c.requires.spells.spelled.fits)
-    (raised c.args.heap.now.bytes c.put_modification_number.new.heap.bytes c.args.db.0 c.heading_here-heading.result.modification_number (next_modification c.heading_here-heading.result.modification_number) c.requires.spells c.heading_here-heading.ensures.modification_number refl
+    database_now c.args.heap.now.bytes c.put_modification_number.new.heap.bytes c.args.opened.db.0 (counted (database_here c.args.heap.now.bytes c.args.opened.db.0)) (counted_fits (database_here c.args.heap.now.bytes c.args.opened.db.0) c.requires.opened.spells.spelled.fits)
+    (raised c.args.heap.now.bytes c.put_modification_number.new.heap.bytes c.args.opened.db.0 c.heading_here-heading.result.modification_number (next_modification c.heading_here-heading.result.modification_number) c.requires.opened.spells c.heading_here-heading.ensures.modification_number refl
     c.put_modification_number.ensures.puts)
+
+pub returns-clause-opened : goal.returns-clause-opened
+returns-clause-opened c = record {
+  stands = c.put_modification_number.ensures.stands;
+  spells =
+      spells_now c.args.heap.now.bytes c.put_modification_number.new.heap.bytes c.args.opened.db.0 (counted (database_here c.args.heap.now.bytes c.args.opened.db.0)) (counted_fits (database_here c.args.heap.now.bytes c.args.opened.db.0) c.requires.opened.spells.spelled.fits)
+      (raised c.args.heap.now.bytes c.put_modification_number.new.heap.bytes c.args.opened.db.0 c.heading_here-heading.result.modification_number (next_modification c.heading_here-heading.result.modification_number) c.requires.opened.spells c.heading_here-heading.ensures.modification_number refl
+      c.put_modification_number.ensures.puts);
+  count = c.requires.opened.count ∙ ap (λ (d : Database ℕ). length d.entries) (sym (returns-clause-now c));
+}

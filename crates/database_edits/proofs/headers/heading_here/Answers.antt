@@ -2,24 +2,21 @@
 use Rattle.std.proofs.Common.{◌≤◌, ℕ, List, length, sym, ap, subst, ◌∙◌}
 use Rattle.heap_model.specs.Bytes.{u32_at}
 use Rattle.heap_model.specs.DatabaseFields.{header_size}
-use Rattle.heap_model.specs.Database.{resources_in, entry_count_in}
+use Rattle.heap_model.specs.Database.{resources_in}
 use Rattle.database_edits.proofs.Databases.{header_inside}
 use Rattle.database_edits.proofs.HeadersHere.{is_heading}
 use Rattle.database_edits.proofs.headers.heading_here.Goals as goal
 
 pub has_resources-requires : goal.has_resources-requires
-has_resources-requires c = subst (λ (body : List ℕ). header_size ≤ length body) (sym c.sys_body_found-body.ensures) (header_inside c.args.heap.now.bytes c.args.db.0 c.requires.spells)
-
-pub entry_count-requires : goal.entry_count-requires
-entry_count-requires c = subst (λ (body : List ℕ). header_size ≤ length body) (sym c.sys_body_found-body.ensures) (header_inside c.args.heap.now.bytes c.args.db.0 c.requires.spells)
+has_resources-requires c = subst (λ (body : List ℕ). header_size ≤ length body) (sym c.sys_body_found-body.ensures) (header_inside c.args.heap.now.bytes c.args.opened.db.0 c.requires.opened.spells)
 
 pub modification_number-requires : goal.modification_number-requires
-modification_number-requires c = subst (λ (body : List ℕ). header_size ≤ length body) (sym c.sys_body_found-body.ensures) (header_inside c.args.heap.now.bytes c.args.db.0 c.requires.spells)
+modification_number-requires c = subst (λ (body : List ℕ). header_size ≤ length body) (sym c.sys_body_found-body.ensures) (header_inside c.args.heap.now.bytes c.args.opened.db.0 c.requires.opened.spells)
 
 pub seed-requires : goal.seed-requires
-seed-requires c = subst (λ (body : List ℕ). header_size ≤ length body) (sym c.sys_body_found-body.ensures) (header_inside c.args.heap.now.bytes c.args.db.0 c.requires.spells)
+seed-requires c = subst (λ (body : List ℕ). header_size ≤ length body) (sym c.sys_body_found-body.ensures) (header_inside c.args.heap.now.bytes c.args.opened.db.0 c.requires.opened.spells)
 
 pub returns : goal.returns
 returns c =
-    is_heading c.args.heap.now.bytes c.args.db.0 _ c.requires.spells (c.has_resources.ensures ∙ ap resources_in c.sys_body_found-body.ensures) (c.entry_count.ensures ∙ ap entry_count_in c.sys_body_found-body.ensures)
+    is_heading c.args.heap.now.bytes c.args.opened.db.0 _ c.requires.opened.spells (c.has_resources.ensures ∙ ap resources_in c.sys_body_found-body.ensures)
     (c.modification_number.ensures ∙ ap (λ (body : List ℕ). u32_at body 48) c.sys_body_found-body.ensures) (c.seed.ensures ∙ ap (λ (body : List ℕ). u32_at body 68) c.sys_body_found-body.ensures)

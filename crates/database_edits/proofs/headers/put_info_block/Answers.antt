@@ -9,14 +9,14 @@ use Rattle.database_edits.proofs.headers.put_info_block.Goals as goal
 
 pub returns-clause-puts : goal.returns-clause-puts
 returns-clause-puts c =
-    field_put c.args.heap.now.bytes c.sys_write.new.self.bytes c.args.db.0 (info_block_at c.args.which) c.info_block_bytes-bytes.result (HasInfoBlock c.args.which c.args.slot) c.requires.managers (block_within c.args.which c.info_block_bytes-bytes.result (omega arith))
+    field_put c.args.heap.now.bytes c.sys_write.new.self.bytes c.args.opened.db.0 (info_block_at c.args.which) c.info_block_bytes-bytes.result (HasInfoBlock c.args.which c.args.slot) c.requires.managers (block_within c.args.which c.info_block_bytes-bytes.result (omega arith))
     (c.info_block_bytes-bytes.ensures c.args.which)
-    (subst (λ (at : ℕ). Leaves c.args.heap.now.bytes c.sys_write.new.self.bytes (put (held c.args.heap.now.bytes) c.args.db.0 at c.info_block_bytes-bytes.result)) c.info_block_at.ensures c.sys_write.ensures.leaves)
+    (subst (λ (at : ℕ). Leaves c.args.heap.now.bytes c.sys_write.new.self.bytes (put (held c.args.heap.now.bytes) c.args.opened.db.0 at c.info_block_bytes-bytes.result)) c.info_block_at.ensures c.sys_write.ensures.leaves)
 
 pub returns-clause-managers : goal.returns-clause-managers
-returns-clause-managers c = put_managers c.args.heap.now.bytes c.sys_write.new.self.bytes c.args.db.0 c.info_block_at.result c.info_block_bytes-bytes.result c.requires.managers c.sys_write.ensures.leaves
+returns-clause-managers c = put_managers c.args.heap.now.bytes c.sys_write.new.self.bytes c.args.opened.db.0 c.info_block_at.result c.info_block_bytes-bytes.result c.requires.managers c.sys_write.ensures.leaves
 
 pub returns-clause-inside : goal.returns-clause-inside
 returns-clause-inside c =
-    put_inside c.args.heap.now.bytes c.sys_write.new.self.bytes c.args.db.0 (info_block_at c.args.which) c.info_block_bytes-bytes.result c.requires.managers c.requires.inside (block_within c.args.which c.info_block_bytes-bytes.result (omega arith))
-    (subst (λ (at : ℕ). Leaves c.args.heap.now.bytes c.sys_write.new.self.bytes (put (held c.args.heap.now.bytes) c.args.db.0 at c.info_block_bytes-bytes.result)) c.info_block_at.ensures c.sys_write.ensures.leaves)
+    put_inside c.args.heap.now.bytes c.sys_write.new.self.bytes c.args.opened.db.0 (info_block_at c.args.which) c.info_block_bytes-bytes.result c.requires.managers c.requires.inside (block_within c.args.which c.info_block_bytes-bytes.result (omega arith))
+    (subst (λ (at : ℕ). Leaves c.args.heap.now.bytes c.sys_write.new.self.bytes (put (held c.args.heap.now.bytes) c.args.opened.db.0 at c.info_block_bytes-bytes.result)) c.info_block_at.ensures c.sys_write.ensures.leaves)

@@ -5,4 +5,4 @@ use Rattle.database_edits.proofs.headers.put_modification_number.Goals as goal
 
 pub returns-clause-puts : goal.returns-clause-puts
 returns-clause-puts c =
-    field_put c.args.heap.now.bytes c.sys_write.new.self.bytes c.args.db.0 48 c.modification_number_bytes-bytes.result (HasModificationNumber c.args.number) c.requires.managers (omega arith) c.modification_number_bytes-bytes.ensures c.sys_write.ensures.leaves
+    field_put c.args.heap.now.bytes c.sys_write.new.self.bytes c.args.opened.db.0 48 c.modification_number_bytes-bytes.result (HasModificationNumber c.args.number) c.requires.managers (omega arith) c.modification_number_bytes-bytes.ensures c.sys_write.ensures.leaves

@@ -7,4 +7,4 @@ pub returns-else-from-to-clause-respells : goal.returns-else-from-to-clause-resp
 returns-else-from-to-clause-respells c =
     let low = c.if-to-from.false in
     let high = c.if-from-to.false in
-    went_nowhere c.args.heap.now.bytes c.args.db.0 c.args.from c.args.to c.requires.spells c.requires.from_inside (omega (arith, low)) (omega (arith, high))
+    went_nowhere c.args.heap.now.bytes c.args.opened.db.0 c.args.from c.args.to c.requires.opened.spells c.requires.from_inside (omega (arith, low)) (omega (arith, high))

@@ -16,9 +16,9 @@ move_entry-requires-clause-to_inside c = subst (λ (d : Database ℕ). c.args.to
 
 pub returns-clause-moved : goal.returns-clause-moved
 returns-clause-moved c =
-    let d : Database ℕ = database_here c.args.heap.now.bytes c.args.db.0 in
-    respells_twice c.args.heap.now.bytes c.count_change.new.heap.bytes c.move_entry.new.heap.bytes c.args.db.0 (counted d) (entry_moved c.args.from c.args.to d) c.requires.spells c.count_change.ensures.counted
-    (subst (λ (e : Database ℕ). Respells c.count_change.new.heap.bytes c.move_entry.new.heap.bytes c.args.db.0 (record e { entries = moved e.entries c.args.from c.args.to })) c.count_change.ensures.now c.move_entry.ensures.respells)
+    let d : Database ℕ = database_here c.args.heap.now.bytes c.args.opened.db.0 in
+    respells_twice c.args.heap.now.bytes c.count_change.new.heap.bytes c.move_entry.new.heap.bytes c.args.opened.db.0 (counted d) (entry_moved c.args.from c.args.to d) c.requires.opened.spells c.count_change.ensures.counted
+    (subst (λ (e : Database ℕ). Respells c.count_change.new.heap.bytes c.move_entry.new.heap.bytes c.args.opened.db.0 (record e { entries = moved e.entries c.args.from c.args.to })) c.count_change.ensures.now c.move_entry.ensures.respells)
 
 pub returns-clause-loan : goal.returns-clause-loan
 returns-clause-loan c = keeps_then _ _ _ c.count_change.ensures.loan c.move_entry.ensures.loan

@@ -4,19 +4,19 @@ use Rattle.std.proofs.Common.{◌≡◌, ◌≤◌, ◌-◌, length}
 use Rattle.heap_model.specs.Lending.{KeepsLoan}
 use Rattle.heap_model.specs.Store.{store_of}
 use Rattle.heap_model.specs.EntrySteps.{entries_in, MakesNone}
-use Rattle.palm_store.specs.Found.{StandsAs}
+use Rattle.palm_store.specs.Opened.{IsOpened}
 use Rattle.record_db.proofs.CategoryTurns.{HasDeletedSome}
 use Rattle.record_db.proofs.categories.delete_all_of.Given as goal
 
 abbrev pub invariant-loop-index : goal.invariant-loop-index
 invariant-loop-index l = record {
-  deleted : HasDeletedSome l.initial.store.bytes l.store.bytes l.db l.category l.from;
-  within : l.from ≤ length (entries_in (store_of l.initial.store.bytes) l.db);
-  stands : StandsAs l.store.bytes l.db.0 l.chunk;
+  deleted : HasDeletedSome l.initial.store.bytes l.store.bytes l.opened.db l.category l.from;
+  within : l.from ≤ length (entries_in (store_of l.initial.store.bytes) l.opened.db);
+  opened : IsOpened l.store.bytes l.opened;
   none_made : MakesNone l.initial.store.bytes l.store.bytes;
   loan : KeepsLoan l.initial.store l.store;
   rest : l.store ≡ record l.initial.store { bytes = l.store.bytes };
 }
 
 abbrev pub decreases-loop-index : goal.decreases-loop-index
-decreases-loop-index l = length (entries_in (store_of l.initial.store.bytes) l.db) - l.from
+decreases-loop-index l = length (entries_in (store_of l.initial.store.bytes) l.opened.db) - l.from

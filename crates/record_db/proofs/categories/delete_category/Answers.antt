@@ -1,6 +1,5 @@
-use Rattle.std.proofs.Common.{refl, map, inl, inr}
+use Rattle.std.proofs.Common.{refl, inl, inr}
 use Rattle.heap_model.specs.Store.{store_of}
-use Rattle.heap_model.specs.Categories.{deleted_category}
 use Rattle.heap_model.specs.RecordSteps.{category_deleted}
 use Rattle.heap_model.specs.declared.call.Call.TheVariants as calls
 use Rattle.heap_model.specs.declared.call.RecordCall.TheVariants.{DeleteCategory}
@@ -9,9 +8,6 @@ use Rattle.heap_model.specs.declared.refusal.Refusal.TheVariants.{ChunkLocked}
 use Rattle.laws_heap.proofs.KeptLoans.{keeps_then}
 use Rattle.laws_store.proofs.CallSteps.{refused, changes, kept_then}
 use Rattle.palm_store.proofs.TwoChanges.{raised_after}
-use Rattle.palm_store.proofs.SearchLaws.{number_read}
-use Rattle.record_db.proofs.CategoryTurns.{number_mid}
-use Rattle.palm_store.proofs.OpenedEntries.{here}
 use Rattle.record_db.proofs.categories.delete_category.Goals as goal
 
 pub returns-then-has_locked_of-clause-does : goal.returns-then-has_locked_of-clause-does
@@ -19,7 +15,7 @@ returns-then-has_locked_of-clause-does c =
     let count = c.in_ok-opened.ensures in
     let none = count.passes in
     refused c.args.store.now (calls.Record (DeleteCategory c.args.db c.args.category)) ChunkLocked count.accepted
-    (inr (none.0, inr (none.1.0, inr (none.1.1.0, inr (c.in_ok-check_category.ensures.passes.0, inl (c.has_locked_of.ensures.0 c.if-has_locked_of.true, refl))))))
+    (inr (none.0, inr (none.1.0, inr (none.1.1.0, inr (c.in_ok-check_category.ensures.passes.0, inl (rw (← c.in_ok-opened.ensures.db) (c.has_locked_of.ensures.0 c.if-has_locked_of.true), refl))))))
 
 pub returns-then-has_locked_of-clause-refused : goal.returns-then-has_locked_of-clause-refused
 returns-then-has_locked_of-clause-refused c = refl
@@ -27,15 +23,9 @@ returns-then-has_locked_of-clause-refused c = refl
 pub delete_all_of-requires-clause-unlocked : goal.delete_all_of-requires-clause-unlocked
 delete_all_of-requires-clause-unlocked c = λ is. (let found = c.has_locked_of.ensures.1 is in let none = c.if-has_locked_of.false in absurd cc)
 
-pub count_change-requires-clause-number : goal.count_change-requires-clause-number
-count_change-requires-clause-number c =
-    let h = here c.args.store.now.bytes c.args.db.0 c.in_ok-opened.ensures.accepted c.in_ok-opened.ensures.known in
-    let m = number_mid c.args.store.now.bytes c.delete_all_of.new.store.bytes c.args.db (map (deleted_category c.args.category)) (category_deleted (store_of c.args.store.now.bytes) c.args.db c.args.category) h c.delete_all_of.ensures.deleted.same refl in
-    number_read c.delete_all_of.new.store.bytes c.args.db _ m
-
 pub returns-clause-does : goal.returns-clause-does
 returns-clause-does c =
     let none = c.in_ok-opened.ensures.passes in
-    let leaves = raised_after c.args.store.now.bytes c.delete_all_of.new.store.bytes c.count_change.new.self.bytes c.args.db (category_deleted (store_of c.args.store.now.bytes) c.args.db c.args.category) c.delete_all_of.ensures.deleted c.count_change.ensures.counted c.count_change.ensures.none_made in
+    let leaves = raised_after c.args.store.now.bytes c.delete_all_of.new.store.bytes c.count_change.new.self.bytes c.args.db (category_deleted (store_of c.args.store.now.bytes) c.args.db c.args.category) (rw (← c.in_ok-opened.ensures.db) c.delete_all_of.ensures.deleted) (rw (← c.in_ok-opened.ensures.db) c.count_change.ensures.counted) c.count_change.ensures.none_made in
     changes c.args.store.now c.count_change.new.self (calls.Record (DeleteCategory c.args.db c.args.category)) Done _ (λ slots. refl) c.in_ok-opened.ensures.accepted leaves
-    ((none.0, (none.1.0, (none.1.1.0, (c.in_ok-check_category.ensures.passes.0, ((λ is. (let found = c.has_locked_of.ensures.1 is in let no_one = c.if-has_locked_of.false in absurd cc)), tt))))), (tt, leaves.same)) (keeps_then c.args.store.now c.delete_all_of.new.store c.count_change.new.self c.delete_all_of.ensures.loan c.count_change.ensures.loan) tt (kept_then c.args.store.now c.delete_all_of.new.store c.count_change.new.self c.delete_all_of.ensures.rest c.count_change.ensures.rest)
+    ((none.0, (none.1.0, (none.1.1.0, (c.in_ok-check_category.ensures.passes.0, ((λ is. (let found = c.has_locked_of.ensures.1 (rw c.in_ok-opened.ensures.db is) in let no_one = c.if-has_locked_of.false in absurd cc)), tt))))), (tt, leaves.same)) (keeps_then c.args.store.now c.delete_all_of.new.store c.count_change.new.self c.delete_all_of.ensures.loan c.count_change.ensures.loan) tt (kept_then c.args.store.now c.delete_all_of.new.store c.count_change.new.self c.delete_all_of.ensures.rest c.count_change.ensures.rest)

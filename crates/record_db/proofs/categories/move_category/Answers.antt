@@ -1,36 +1,26 @@
 use Rattle.std.proofs.Common.{refl, map}
 use Rattle.heap_model.specs.Store.{store_of}
-use Rattle.heap_model.specs.EntrySteps.{with_attributes, with_entries}
+use Rattle.heap_model.specs.EntrySteps.{with_entries}
 use Rattle.heap_model.specs.Categories.{moved_category}
 use Rattle.heap_model.specs.declared.call.Call.TheVariants as calls
 use Rattle.heap_model.specs.declared.call.RecordCall.TheVariants.{MoveCategory}
 use Rattle.heap_model.specs.declared.call.Reply.TheVariants.{Done}
 use Rattle.laws_heap.proofs.KeptLoans.{keeps_then}
 use Rattle.laws_store.proofs.CallSteps.{changes, kept_then}
-use Rattle.record_db.specs.Categories.{moved_attributes}
-use Rattle.record_db.proofs.CategoryTurns.{number_mid}
 use Rattle.palm_store.proofs.OpenedEntries.{here}
 use Rattle.record_db.proofs.Moved.{below_categories, may_move, category_moved}
 use Rattle.palm_store.proofs.TwoChanges.{raised_after}
-use Rattle.palm_store.proofs.SearchLaws.{number_read}
 use Rattle.record_db.proofs.categories.move_category.Goals as goal
 
 pub change_attributes-requires-clause-change : goal.change_attributes-requires-clause-change
 change_attributes-requires-clause-change c =
     may_move c.args.to c.args.from c.args.dirty (below_categories c.args.to c.in_ok-check_category.ensures.passes.0)
 
-pub count_change-requires-clause-number : goal.count_change-requires-clause-number
-count_change-requires-clause-number c =
-    let h = here c.args.store.now.bytes c.args.db.0 c.in_ok-opened.ensures.accepted c.in_ok-opened.ensures.known in
-    let change = map (with_attributes (moved_attributes c.args.to c.args.from c.args.dirty)) in
-    let m = number_mid c.args.store.now.bytes c.change_attributes.new.self.bytes c.args.db change (with_entries (store_of c.args.store.now.bytes) c.args.db change) h c.change_attributes.ensures.changed.same refl in
-    number_read c.change_attributes.new.self.bytes c.args.db _ m
-
 pub returns-clause-does : goal.returns-clause-does
 returns-clause-does c =
     let h = here c.args.store.now.bytes c.args.db.0 c.in_ok-opened.ensures.accepted c.in_ok-opened.ensures.known in
     let none = c.in_ok-opened.ensures.passes in
-    let moved = category_moved c.args.store.now.bytes c.change_attributes.new.self.bytes c.args.db c.args.to c.args.from c.args.dirty h c.in_ok-opened.ensures.accepted c.change_attributes.ensures.changed in
-    let leaves = raised_after c.args.store.now.bytes c.change_attributes.new.self.bytes c.count_change.new.self.bytes c.args.db (with_entries (store_of c.args.store.now.bytes) c.args.db (map (moved_category c.args.to c.args.from c.args.dirty))) moved c.count_change.ensures.counted c.count_change.ensures.none_made in
+    let moved = category_moved c.args.store.now.bytes c.change_attributes.new.self.bytes c.args.db c.args.to c.args.from c.args.dirty h c.in_ok-opened.ensures.accepted (rw (← c.in_ok-opened.ensures.db) c.change_attributes.ensures.changed) in
+    let leaves = raised_after c.args.store.now.bytes c.change_attributes.new.self.bytes c.count_change.new.self.bytes c.args.db (with_entries (store_of c.args.store.now.bytes) c.args.db (map (moved_category c.args.to c.args.from c.args.dirty))) moved (rw (← c.in_ok-opened.ensures.db) c.count_change.ensures.counted) c.count_change.ensures.none_made in
     changes c.args.store.now c.count_change.new.self (calls.Record (MoveCategory c.args.db c.args.to c.args.from c.args.dirty)) Done _ (λ slots. refl) c.in_ok-opened.ensures.accepted leaves
     ((none.0, (none.1.0, (none.1.1.0, (c.in_ok-check_category.ensures.passes.0, (c.in_ok-check_category-2.ensures.passes.0, tt))))), (tt, leaves.same)) (keeps_then c.args.store.now c.change_attributes.new.self c.count_change.new.self c.change_attributes.ensures.loan c.count_change.ensures.loan) tt (kept_then c.args.store.now c.change_attributes.new.self c.count_change.new.self c.change_attributes.ensures.rest c.count_change.ensures.rest)

@@ -1,9 +1,12 @@
-use Rattle.std.proofs.Common.{refl, inl, inr}
+use Rattle.std.proofs.Common.{refl, subst, inl, inr}
+use Rattle.heap_model.specs.EntrySteps.{entry_dropped, raised}
+use Rattle.heap_model.specs.declared.names.Db.{Db}
 use Rattle.heap_model.specs.declared.call.Call.TheVariants as calls
 use Rattle.heap_model.specs.declared.call.RecordCall.TheVariants.{Remove}
 use Rattle.heap_model.specs.declared.call.Reply.TheVariants.{Done}
 use Rattle.heap_model.specs.declared.refusal.Refusal.TheVariants.{ChunkLocked}
 use Rattle.laws_store.proofs.CallSteps.{refused, changes}
+use Rattle.palm_store.specs.EntryCalls.{LeavesChanged}
 use Rattle.record_db.proofs.Entries.{data_named, locked_data}
 use Rattle.record_db.proofs.changing.remove.Goals as goal
 
@@ -22,16 +25,16 @@ returns-then-has_locked-clause-does c =
 
 pub entry_drop-requires-clause-unlocked : goal.entry_drop-requires-clause-unlocked
 entry_drop-requires-clause-unlocked c =
-    let found = c.in_ok-found.ensures in
+    rw c.in_ok-found.ensures.db (let found = c.in_ok-found.ensures in
     let locked = locked_data c.args.store.now.bytes c.args.db c.args.index c.in_ok-found.found.info found.accepted found.is in
-    λ is. (let yes = c.has_locked.ensures.1 (locked.0 is) in let no = c.if-has_locked.false in absurd cc)
+    λ is. (let yes = c.has_locked.ensures.1 (locked.0 is) in let no = c.if-has_locked.false in absurd cc))
 
 pub returns-clause-does : goal.returns-clause-does
 returns-clause-does c =
     let found = c.in_ok-found.ensures in
     let none = found.passes in
     let locked = locked_data c.args.store.now.bytes c.args.db c.args.index c.in_ok-found.found.info found.accepted found.is in
-    let leaves = c.entry_drop.ensures.dropped in
+    let leaves = subst (λ (db : Db). LeavesChanged c.args.store.now c.entry_drop.new.self (λ store. raised (entry_dropped store db c.args.index) db)) found.db c.entry_drop.ensures.dropped in
     changes c.args.store.now c.entry_drop.new.self (calls.Record (Remove c.args.db c.args.index)) Done _ (λ slots. refl) found.accepted leaves
     ((none.0, (none.1.0, (none.1.1.0, (none.1.1.1.0, ((λ is. (let yes = c.has_locked.ensures.1 (locked.0 is) in let no = c.if-has_locked.false in absurd cc)), tt))))), (tt, leaves.same)) c.entry_drop.ensures.loan tt c.entry_drop.ensures.rest
 

@@ -1,13 +1,14 @@
 use Rattle.std.proofs.Common.{refl, sym, ap, subst, inl, inr}
 use Rattle.heap_model.specs.Database.{a_resource}
-use Rattle.heap_model.specs.EntrySteps.{data_of_entry}
+use Rattle.heap_model.specs.EntrySteps.{data_of_entry, entry_dropped, raised}
+use Rattle.heap_model.specs.declared.names.Db.{Db}
 use Rattle.heap_model.specs.declared.call.Call.TheVariants as calls
 use Rattle.heap_model.specs.declared.call.ResourceCall.TheVariants.{Remove}
 use Rattle.heap_model.specs.declared.call.Reply.TheVariants.{Done}
 use Rattle.heap_model.specs.declared.refusal.Refusal.TheVariants.{ChunkLocked}
 use Rattle.laws_store.proofs.CallSteps.{refused, changes}
 use Rattle.palm_store.specs.Checks.{IsLockedChunk}
-use Rattle.palm_store.specs.EntryCalls.{HasLockedData}
+use Rattle.palm_store.specs.EntryCalls.{HasLockedData, LeavesChanged}
 use Rattle.palm_store.proofs.OpenedEntries.{data_named}
 use Rattle.resource_db.proofs.changing.remove_resource.Goals as goal
 
@@ -26,16 +27,17 @@ returns-then-is_locked-clause-does c =
     (inr (none.0, inr (none.1.0, inr (none.1.1.0, inr (none.1.1.1.0, inl (locked, refl))))))
 
 pub entry_drop-requires-clause-unlocked : goal.entry_drop-requires-clause-unlocked
-entry_drop-requires-clause-unlocked c = λ locked.
+entry_drop-requires-clause-unlocked c =
+    rw c.in_ok-resource.ensures.db (λ locked.
     (let yes = c.is_locked.ensures.1 (subst (IsLockedChunk c.args.store.now.bytes) (ap data_of_entry c.in_ok-resource.ensures.is) locked) in
     let no = c.if-is_locked.false in
-    absurd cc)
+    absurd cc))
 
 pub returns-clause-does : goal.returns-clause-does
 returns-clause-does c =
     let found = c.in_ok-resource.ensures in
     let none = found.passes in
-    let leaves = c.entry_drop.ensures.dropped in
+    let leaves = subst (λ (db : Db). LeavesChanged c.args.store.now c.entry_drop.new.self (λ store. raised (entry_dropped store db c.args.index) db)) found.db c.entry_drop.ensures.dropped in
     changes c.args.store.now c.entry_drop.new.self (calls.Resource (Remove c.args.db c.args.index)) Done _ (λ slots. refl) found.accepted leaves (
       (
         none.0,

@@ -42,7 +42,7 @@ returns-clause-does c =
     let named : c.in_ok-resource.resource.info.«data».0 ≡ data_under (store_of c.args.store.now.bytes) c.args.db c.args.index = sym (ap data_of_entry c.in_ok-resource.ensures.is) in
     let grows = subst (λ (name : ℕ). NoneHolds (checks_of_data_growth c.args.store.now name c.args.size)) named c.in_ok-entry_resize.ensures.could in
     let sized = subst (λ (name : ℕ). LeavesStore c.args.store.now.bytes c.entry_resize.new.self.bytes (data_sized (store_of c.args.store.now.bytes) name c.args.size)) named c.in_ok-entry_resize.ensures.done in
-    let leaves = raised_after c.args.store.now.bytes c.entry_resize.new.self.bytes c.count_change.new.self.bytes c.args.db _ sized c.count_change.ensures.counted c.count_change.ensures.none_made in
+    let leaves = raised_after c.args.store.now.bytes c.entry_resize.new.self.bytes c.count_change.new.self.bytes c.args.db _ sized (rw (← c.opened_of-opened.ensures.db) c.count_change.ensures.counted) c.count_change.ensures.none_made in
     changes c.args.store.now c.count_change.new.self (calls.Resource (Resize c.args.db c.args.index c.args.size)) Done _ (λ slots. refl) c.in_ok-resource.ensures.accepted leaves
     ((none.0, (none.1.0, (none.1.1.0, (none.1.1.1.0, grows)))), (tt, leaves.same)) (keeps_then c.args.store.now c.entry_resize.new.self c.count_change.new.self c.entry_resize.ensures.loan c.count_change.ensures.loan) tt (then_written c.args.store.now c.entry_resize.new.self c.count_change.new.self c.in_ok-entry_resize.ensures.rest c.count_change.ensures.rest)
 

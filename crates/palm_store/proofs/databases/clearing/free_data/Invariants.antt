@@ -10,8 +10,8 @@ use Rattle.palm_store.proofs.databases.clearing.free_data.Given as goal
 
 abbrev pub invariant-loop-index : goal.invariant-loop-index
 invariant-loop-index l = record {
-  leaves : Leaves l.fn.heap.bytes l.heap.bytes (all_gone (held l.fn.heap.bytes) (take l.index (named_under l.fn.heap.bytes l.db.0)));
-  stands : StandsAs l.heap.bytes l.db.0 l.chunk;
+  leaves : Leaves l.fn.heap.bytes l.heap.bytes (all_gone (held l.fn.heap.bytes) (take l.index (named_under l.fn.heap.bytes l.opened.db.0)));
+  stands : StandsAs l.heap.bytes l.opened.db.0 l.opened.chunk;
   loan : KeepsLoan l.fn.heap l.heap;
   rest : l.heap ≡ record l.fn.heap { bytes = l.heap.bytes };
 }

@@ -11,27 +11,27 @@ use Rattle.palm_store.proofs.databases.clearing.has_locked.Goals as goal
 
 pub is_locked-requires-clause-movable : goal.is_locked-requires-clause-movable
 is_locked-requires-clause-movable c some =
-    let at = named_at c.args.heap.now.bytes c.header_in-body.result.now c.header_in-body.result.now c.args.db.0 c.loop-index.index c.slot_count-index-end.result c.slot_at.result.0 c.header_in-body.ensures.is c.header_in-body.ensures.is c.slot_count-index-end.ensures
+    let at = named_at c.args.heap.now.bytes c.header_in-body.result.now c.header_in-body.result.now c.args.opened.db.0 c.loop-index.index c.slot_count-index-end.result c.slot_at.result.0 c.header_in-body.ensures.is c.header_in-body.ensures.is c.slot_count-index-end.ensures
     c.loop-index-test.true c.slot_at.ensures in
-    slot_movable c.args.heap.now.bytes c.args.db.0 c.loop-index.index c.slot_at.result.0 c.requires.accepted c.requires.number at some
+    slot_movable c.args.heap.now.bytes c.args.opened.db.0 c.loop-index.index c.slot_at.result.0 c.requires.accepted c.requires.opened.number at some
 
 pub returns-then-is_locked : goal.returns-then-is_locked
 returns-then-is_locked c =
-    let at = named_at c.args.heap.now.bytes c.header_in-body.result.now c.header_in-body.result.now c.args.db.0 c.loop-index.index c.slot_count-index-end.result c.slot_at.result.0 c.header_in-body.ensures.is c.header_in-body.ensures.is c.slot_count-index-end.ensures
+    let at = named_at c.args.heap.now.bytes c.header_in-body.result.now c.header_in-body.result.now c.args.opened.db.0 c.loop-index.index c.slot_count-index-end.result c.slot_at.result.0 c.header_in-body.ensures.is c.header_in-body.ensures.is c.slot_count-index-end.ensures
     c.loop-index-test.true c.slot_at.ensures in
-    let shown = slot_shown c.args.heap.now.bytes c.args.db.0 c.loop-index.index c.slot_at.result.0 c.requires.accepted c.requires.number at in
+    let shown = slot_shown c.args.heap.now.bytes c.args.opened.db.0 c.loop-index.index c.slot_at.result.0 c.requires.accepted c.requires.opened.number at in
     let locked = subst (λ (o : Option LiveChunk). Of o IsLocked) (sym shown) (c.is_locked.ensures.0 c.if-is_locked.true) in
-    (λ yes. any_at (λ (name : ℕ). Of (callers_map c.args.heap.now.bytes name) IsLocked) (named_under c.args.heap.now.bytes c.args.db.0) c.loop-index.index c.slot_at.result.0 at.below at.is locked, λ any. refl)
+    (λ yes. any_at (λ (name : ℕ). Of (callers_map c.args.heap.now.bytes name) IsLocked) (named_under c.args.heap.now.bytes c.args.opened.db.0) c.loop-index.index c.slot_at.result.0 at.below at.is locked, λ any. refl)
 
 pub loop-index-preserved : goal.loop-index-preserved
 loop-index-preserved c =
-    let at = named_at c.args.heap.now.bytes c.header_in-body.result.now c.header_in-body.result.now c.args.db.0 c.loop-index.index c.slot_count-index-end.result c.slot_at.result.0 c.header_in-body.ensures.is c.header_in-body.ensures.is c.slot_count-index-end.ensures
+    let at = named_at c.args.heap.now.bytes c.header_in-body.result.now c.header_in-body.result.now c.args.opened.db.0 c.loop-index.index c.slot_count-index-end.result c.slot_at.result.0 c.header_in-body.ensures.is c.header_in-body.ensures.is c.slot_count-index-end.ensures
     c.loop-index-test.true c.slot_at.ensures in
-    let shown = slot_shown c.args.heap.now.bytes c.args.db.0 c.loop-index.index c.slot_at.result.0 c.requires.accepted c.requires.number at in
+    let shown = slot_shown c.args.heap.now.bytes c.args.opened.db.0 c.loop-index.index c.slot_at.result.0 c.requires.accepted c.requires.opened.number at in
     below_more _ _ c.loop-index.invariant (λ locked.
     both_ways _ c.if-is_locked.false (c.is_locked.ensures.1 (subst (λ (o : Option LiveChunk). Of o IsLocked) shown (subst (λ (name : ℕ). Of (callers_map c.args.heap.now.bytes name) IsLocked) (sym at.is) locked))))
 
 pub returns : goal.returns
 returns c =
     let count = c.slot_count-index-end.ensures ∙ ap (λ (body : List ℕ). length (data_in (database_in body))) c.header_in-body.ensures.is in
-    (λ locked. absurd (both_ways false refl locked), λ any. absurd (none_of (λ (name : ℕ). Of (callers_map c.args.heap.now.bytes name) IsLocked) (named_under c.args.heap.now.bytes c.args.db.0) (λ k below. c.loop-index.invariant k (omega arith)) any))
+    (λ locked. absurd (both_ways false refl locked), λ any. absurd (none_of (λ (name : ℕ). Of (callers_map c.args.heap.now.bytes name) IsLocked) (named_under c.args.heap.now.bytes c.args.opened.db.0) (λ k below. c.loop-index.invariant k (omega arith)) any))

@@ -15,7 +15,7 @@ use Rattle.heap_model.specs.EntrySteps.{most_entries}
 use Rattle.database_edits.proofs.Chunks.{is_movable}
 use Rattle.database_edits.proofs.Databases.{managers}
 use Rattle.palm_store.proofs.ListedSlots.{made_movable}
-use Rattle.palm_store.proofs.EntriesHere.{index_most}
+use Rattle.palm_store.proofs.EntriesHere.{index_most, opened_here}
 use Rattle.palm_store.proofs.NewEntries.{spells_still, database_still, made_no_directory, puts_in, no_header_room, given_back}
 use Rattle.heap_model.specs.Chunk.{data_owner}
 use Rattle.heap_model.specs.Heap.{HeapAccepted}
@@ -23,28 +23,35 @@ use Rattle.palm_store.proofs.ListedSlots.{made_chunk}
 use Rattle.palm_store.proofs.Loans.{loose_here}
 use Rattle.palm_store.proofs.entries.making.put_in.Goals as goal
 
-pub sys_find-chunk-requires : goal.sys_find-chunk-requires
-sys_find-chunk-requires c =
-    is_movable c.sys_new.new.self.bytes c.args.db.0
-    (managers c.sys_new.new.self.bytes c.args.db.0 (spells_still c.args.heap.now.bytes c.sys_new.new.self.bytes c.args.db.0 c.in_ok-name.name.0 c.args.size (accepted_spells c.args.heap.now.bytes c.args.db.0 c.requires.accepted c.requires.number) c.in_ok-name.ensures.made))
+pub sys_find-requires : goal.sys_find-requires
+sys_find-requires c =
+    is_movable c.sys_new.new.self.bytes c.args.opened.db.0
+    (managers c.sys_new.new.self.bytes c.args.opened.db.0 (spells_still c.args.heap.now.bytes c.sys_new.new.self.bytes c.args.opened.db.0 c.in_ok-name.name.0 c.args.size (accepted_spells c.args.heap.now.bytes c.args.opened.db.0 c.requires.accepted c.requires.opened.number) c.in_ok-name.ensures.made))
 
-pub insert_entry-requires-clause-spells : goal.insert_entry-requires-clause-spells
-insert_entry-requires-clause-spells c = spells_still c.args.heap.now.bytes c.sys_new.new.self.bytes c.args.db.0 c.in_ok-name.name.0 c.args.size (accepted_spells c.args.heap.now.bytes c.args.db.0 c.requires.accepted c.requires.number) c.in_ok-name.ensures.made
+pub insert_entry-requires-clause-opened : goal.insert_entry-requires-clause-opened
+insert_entry-requires-clause-opened c =
+    let here = opened_here c.args.heap.now.bytes c.args.opened c.requires.accepted c.requires.opened in
+    let still = database_still c.args.heap.now.bytes c.sys_new.new.self.bytes c.args.opened.db.0 c.in_ok-name.name.0 c.args.size here.spells c.in_ok-name.ensures.made in
+    record {
+      stands = c.sys_find.ensures.stands;
+      spells = spells_still c.args.heap.now.bytes c.sys_new.new.self.bytes c.args.opened.db.0 c.in_ok-name.name.0 c.args.size here.spells c.in_ok-name.ensures.made;
+      count = here.count ∙ ap (λ (d : Database ℕ). length d.entries) (sym still);
+    }
 
 pub insert_entry-requires-clause-inside : goal.insert_entry-requires-clause-inside
 insert_entry-requires-clause-inside c =
-    let still = database_still c.args.heap.now.bytes c.sys_new.new.self.bytes c.args.db.0 c.in_ok-name.name.0 c.args.size (accepted_spells c.args.heap.now.bytes c.args.db.0 c.requires.accepted c.requires.number) c.in_ok-name.ensures.made in
-    subst (λ (d : Database ℕ). c.args.at ≤ length d.entries) (sym still) (index_most c.args.heap.now.bytes c.args.db c.args.at c.requires.number c.requires.inside)
+    let still = database_still c.args.heap.now.bytes c.sys_new.new.self.bytes c.args.opened.db.0 c.in_ok-name.name.0 c.args.size (accepted_spells c.args.heap.now.bytes c.args.opened.db.0 c.requires.accepted c.requires.opened.number) c.in_ok-name.ensures.made in
+    subst (λ (d : Database ℕ). c.args.at ≤ length d.entries) (sym still) (index_most c.args.heap.now.bytes c.args.opened.db c.args.at c.requires.opened.number c.requires.inside)
 
 pub insert_entry-requires-clause-few : goal.insert_entry-requires-clause-few
 insert_entry-requires-clause-few c =
-    let still = database_still c.args.heap.now.bytes c.sys_new.new.self.bytes c.args.db.0 c.in_ok-name.name.0 c.args.size (accepted_spells c.args.heap.now.bytes c.args.db.0 c.requires.accepted c.requires.number) c.in_ok-name.ensures.made in
-    subst (λ (d : Database ℕ). length d.entries < most_entries) (sym still) (subst (λ (entries : List (Entry ℕ)). length entries < most_entries) (entries_here c.args.heap.now.bytes c.args.db c.requires.number) c.requires.few)
+    let still = database_still c.args.heap.now.bytes c.sys_new.new.self.bytes c.args.opened.db.0 c.in_ok-name.name.0 c.args.size (accepted_spells c.args.heap.now.bytes c.args.opened.db.0 c.requires.accepted c.requires.opened.number) c.in_ok-name.ensures.made in
+    subst (λ (d : Database ℕ). length d.entries < most_entries) (sym still) (subst (λ (entries : List (Entry ℕ)). length entries < most_entries) (entries_here c.args.heap.now.bytes c.args.opened.db c.requires.opened.number) c.requires.few)
 
 pub insert_entry-requires-clause-kind : goal.insert_entry-requires-clause-kind
 insert_entry-requires-clause-kind c =
-    let still = database_still c.args.heap.now.bytes c.sys_new.new.self.bytes c.args.db.0 c.in_ok-name.name.0 c.args.size (accepted_spells c.args.heap.now.bytes c.args.db.0 c.requires.accepted c.requires.number) c.in_ok-name.ensures.made in
-    c.with_slot.ensures.kind ∙ c.requires.kind ∙ kind_here c.args.heap.now.bytes c.args.db c.requires.number ∙ ap (λ (d : Database ℕ). has_resources d.header.attributes) (sym still)
+    let still = database_still c.args.heap.now.bytes c.sys_new.new.self.bytes c.args.opened.db.0 c.in_ok-name.name.0 c.args.size (accepted_spells c.args.heap.now.bytes c.args.opened.db.0 c.requires.accepted c.requires.opened.number) c.in_ok-name.ensures.made in
+    c.with_slot.ensures.kind ∙ c.requires.kind ∙ kind_here c.args.heap.now.bytes c.args.opened.db c.requires.opened.number ∙ ap (λ (d : Database ℕ). has_resources d.header.attributes) (sym still)
 
 pub sys_find-made-requires : goal.sys_find-made-requires
 sys_find-made-requires c =
@@ -56,7 +63,7 @@ sys_free-requires-clause-no_directory c =
 
 pub returns-in-Err-clause-no_room : goal.returns-in-Err-clause-no_room
 returns-in-Err-clause-no_room c =
-    no_header_room c.args.heap.now.bytes c.sys_new.new.self.bytes c.args.db c.in_ok-name.name.0 c.args.size _ (c.with_slot.ensures.kind ∙ c.requires.kind) (accepted_spells c.args.heap.now.bytes c.args.db.0 c.requires.accepted c.requires.number) c.in_ok-name.ensures.made c.in_ok-name.ensures.lowers
+    no_header_room c.args.heap.now.bytes c.sys_new.new.self.bytes c.args.opened.db c.in_ok-name.name.0 c.args.size _ (c.with_slot.ensures.kind ∙ c.requires.kind) (accepted_spells c.args.heap.now.bytes c.args.opened.db.0 c.requires.accepted c.requires.opened.number) c.in_ok-name.ensures.made c.in_ok-name.ensures.lowers
     c.in-Err.ensures.no_room
 
 pub returns-in-Err-clause-refused : goal.returns-in-Err-clause-refused
@@ -66,8 +73,8 @@ returns-in-Err-clause-refused c =
 
 pub returns-clause-puts : goal.returns-clause-puts
 returns-clause-puts c =
-    puts_in c.args.heap.now.bytes c.sys_new.new.self.bytes c.insert_entry.new.heap.bytes c.args.db.0 c.args.at (entry_with (λ (none : ℕ). c.in_ok-name.name.0) (entry_of c.args.entry)) (entry_of c.with_slot.result) c.in_ok-name.name.0 c.args.size
-    (accepted_spells c.args.heap.now.bytes c.args.db.0 c.requires.accepted c.requires.number) c.in_ok-name.ensures.made c.with_slot.ensures.is c.in_default.ensures.inserted
+    puts_in c.args.heap.now.bytes c.sys_new.new.self.bytes c.insert_entry.new.heap.bytes c.args.opened.db.0 c.args.at (entry_with (λ (none : ℕ). c.in_ok-name.name.0) (entry_of c.args.entry)) (entry_of c.with_slot.result) c.in_ok-name.name.0 c.args.size
+    (accepted_spells c.args.heap.now.bytes c.args.opened.db.0 c.requires.accepted c.requires.opened.number) c.in_ok-name.ensures.made c.with_slot.ensures.is c.in_default.ensures.inserted
 
 pub sys_free-requires-clause-here : goal.sys_free-requires-clause-here
 sys_free-requires-clause-here c =

@@ -6,7 +6,7 @@ use Rattle.heap_model.specs.Store.{store_of}
 use Rattle.heap_model.specs.Refusals.{FirstBrings}
 use Rattle.db_format.specs.EitherEntry.{entry_of}
 use Rattle.heap_model.specs.Database.{Entry, entry_with}
-use Rattle.palm_store.specs.Databases.{HasNumber}
+use Rattle.palm_store.specs.Opened.{IsOpened}
 use Rattle.palm_store.specs.declared.entries.known.KnownIds.{KnownIds}
 use Rattle.palm_store.proofs.KnownIds.{come_free, beside_named}
 use Rattle.palm_store.specs.EntryInfos.{makes_resource}
@@ -17,40 +17,41 @@ use Rattle.palm_store.proofs.store.Store.entry_attach.Goals as goal
 
 pub returns-in_err-take_in-clause-why : goal.returns-in_err-take_in-clause-why
 returns-in_err-take_in-clause-why c =
-    let count = c.count_entries.ensures in
-    let below = c.if-count_entries-ge-MOST_ENTRIES.false in
+    let opened : IsOpened c.self.inside.heap.bytes c.args.opened = rw c.self.view_is c.requires.opened in
+    let count = opened.count in
+    let below = c.if-opened-ge-MOST_ENTRIES.false in
     let e = c.from_residual.ensures in
-    rw (← c.self.view_is) (if_err (FirstBrings (checks_of_attaching c.self.inside.heap.bytes c.args.db)) c.from_residual.result (e.0, e.1)
+    rw (← c.self.view_is) (if_err (FirstBrings (checks_of_attaching c.self.inside.heap.bytes c.args.opened.db)) c.from_residual.result (e.0, e.1)
     (inr ((λ full. omega (arith, count, below, full)), inl (inr c.in_err-take_in.ensures.no_room, c.in_err-take_in.ensures.refusal))))
 
 pub invariant_of-self-2 : goal.invariant_of-self-2
 invariant_of-self-2 c =
-    let number : HasNumber c.self.inside.heap.bytes c.args.db.0 = rw c.self.view_is c.requires.number in
-    let inside : c.args.at ≤ length (entries_in (store_of c.self.inside.heap.bytes) c.args.db) = rw c.self.view_is c.requires.inside in
-    let kind : makes_resource c.args.entry ≡ resources_under (store_of c.self.inside.heap.bytes) c.args.db = rw c.self.view_is c.requires.kind in
+    let opened : IsOpened c.self.inside.heap.bytes c.args.opened = rw c.self.view_is c.requires.opened in
+    let inside : c.args.at ≤ length (entries_in (store_of c.self.inside.heap.bytes) c.args.opened.db) = rw c.self.view_is c.requires.inside in
+    let kind : makes_resource c.args.entry ≡ resources_under (store_of c.self.inside.heap.bytes) c.args.opened.db = rw c.self.view_is c.requires.kind in
     let may : MayBeGiven c.self.inside.heap.bytes c.args.name.0 = rw c.self.view_is c.requires.given in
     let image : List ℕ = c.self.inside.heap.bytes in
-    let count = c.count_entries.ensures in
-    let below = c.if-count_entries-ge-MOST_ENTRIES.false in
-    let few : length (entries_in (store_of image) c.args.db) < most_entries = omega (arith, count, below) in
-    let left = (attach_leaves image c.take_in.new.heap.bytes c.args.db c.args.at c.args.entry (entry_of c.new_entry-made.result.entry) _ c.args.name.0 c.self.invariant.accepted number c.new_entry-made.ensures.is may c.in_ok-take_in.ensures.takes
+    let count = opened.count in
+    let below = c.if-opened-ge-MOST_ENTRIES.false in
+    let few : length (entries_in (store_of image) c.args.opened.db) < most_entries = omega (arith, count, below) in
+    let left = (attach_leaves image c.take_in.new.heap.bytes c.args.opened.db c.args.at c.args.entry (entry_of c.new_entry-made.result.entry) _ c.args.name.0 c.self.invariant.accepted opened.number c.new_entry-made.ensures.is may c.in_ok-take_in.ensures.takes
     (c.new_entry-made.ensures.kind ∙ kind) (c.in_ok-take_in.ensures.name_fits c.new_entry-made.ensures.fits) inside few) in
     let made : Entry ℕ = entry_with (λ none. c.args.name.0) (entry_of c.new_entry-made.result.entry) in
     let known : KnownIds = c.new_entry-made.result.known in
     let beside = beside_named (store_of image) (entry_of c.new_entry-made.result.entry) c.args.name.0 known c.new_entry-made.ensures.known in
-    record { accepted = left.accepted; free = come_free (store_of image) (store_of c.take_in.new.heap.bytes) c.args.db.0 c.args.at made known left.same.databases beside }
+    record { accepted = left.accepted; free = come_free (store_of image) (store_of c.take_in.new.heap.bytes) c.args.opened.db.0 c.args.at made known left.same.databases beside }
 
 pub returns-clause-attached : goal.returns-clause-attached
 returns-clause-attached c =
-    let number : HasNumber c.self.inside.heap.bytes c.args.db.0 = rw c.self.view_is c.requires.number in
-    let inside : c.args.at ≤ length (entries_in (store_of c.self.inside.heap.bytes) c.args.db) = rw c.self.view_is c.requires.inside in
-    let kind : makes_resource c.args.entry ≡ resources_under (store_of c.self.inside.heap.bytes) c.args.db = rw c.self.view_is c.requires.kind in
+    let opened : IsOpened c.self.inside.heap.bytes c.args.opened = rw c.self.view_is c.requires.opened in
+    let inside : c.args.at ≤ length (entries_in (store_of c.self.inside.heap.bytes) c.args.opened.db) = rw c.self.view_is c.requires.inside in
+    let kind : makes_resource c.args.entry ≡ resources_under (store_of c.self.inside.heap.bytes) c.args.opened.db = rw c.self.view_is c.requires.kind in
     let may : MayBeGiven c.self.inside.heap.bytes c.args.name.0 = rw c.self.view_is c.requires.given in
     rw (← c.self.view_is) (let image : List ℕ = c.self.inside.heap.bytes in
-    let count = c.count_entries.ensures in
-    let below = c.if-count_entries-ge-MOST_ENTRIES.false in
-    let few : length (entries_in (store_of image) c.args.db) < most_entries = omega (arith, count, below) in
-    attach_steps image c.take_in.new.heap.bytes c.args.db c.args.at c.args.entry (entry_of c.new_entry-made.result.entry) _ c.args.name.0 c.self.invariant.accepted number c.new_entry-made.ensures.is may c.in_ok-take_in.ensures.takes
+    let count = opened.count in
+    let below = c.if-opened-ge-MOST_ENTRIES.false in
+    let few : length (entries_in (store_of image) c.args.opened.db) < most_entries = omega (arith, count, below) in
+    attach_steps image c.take_in.new.heap.bytes c.args.opened.db c.args.at c.args.entry (entry_of c.new_entry-made.result.entry) _ c.args.name.0 c.self.invariant.accepted opened.number c.new_entry-made.ensures.is may c.in_ok-take_in.ensures.takes
     (c.new_entry-made.ensures.kind ∙ kind) (c.in_ok-take_in.ensures.name_fits c.new_entry-made.ensures.fits) inside few)
 
 pub returns-clause-loan : goal.returns-clause-loan

@@ -1,67 +1,64 @@
 use Rattle.std.proofs.Common.{arith, ◌≤◌, length, ◌<◌}
-use Rattle.laws_store.proofs.Numbered.{accepted_spells}
-use Rattle.palm_store.proofs.EntriesHere.{count_fits, index_below, index_most}
+use Rattle.palm_store.proofs.EntriesHere.{count_fits, index_below, index_most, opened_here}
 use Rattle.palm_store.proofs.EntryChanges.{move_steps, respelled_none}
 use Rattle.heap_model.specs.Store.{store_of}
 use Rattle.heap_model.specs.EntrySteps.{entries_in}
-use Rattle.palm_store.specs.Databases.{HasNumber}
+use Rattle.palm_store.specs.Opened.{IsOpened}
 use Rattle.palm_store.proofs.KnownIds.{move_free}
 use Rattle.palm_store.proofs.store.Store.entry_move.Goals as goal
 
 pub overflow_cast-from : goal.overflow_cast-from
 overflow_cast-from c =
-    let number : HasNumber c.self.inside.heap.bytes c.args.db.0 = rw c.self.view_is c.requires.number in
-    let from_inside : c.args.from < length (entries_in (store_of c.self.inside.heap.bytes) c.args.db) = rw c.self.view_is c.requires.from_inside in
-    let few = count_fits c.self.inside.heap.bytes c.args.db c.self.invariant.accepted number in
+    let opened : IsOpened c.self.inside.heap.bytes c.args.opened = rw c.self.view_is c.requires.opened in
+    let from_inside : c.args.from < length (entries_in (store_of c.self.inside.heap.bytes) c.args.opened.db) = rw c.self.view_is c.requires.from_inside in
+    let few = count_fits c.self.inside.heap.bytes c.args.opened.db c.self.invariant.accepted opened.number in
     let below = from_inside in
     omega (arith, few, below)
 
 pub overflow_cast-to : goal.overflow_cast-to
 overflow_cast-to c =
-    let number : HasNumber c.self.inside.heap.bytes c.args.db.0 = rw c.self.view_is c.requires.number in
-    let to_inside : c.args.to ≤ length (entries_in (store_of c.self.inside.heap.bytes) c.args.db) = rw c.self.view_is c.requires.to_inside in
-    let few = count_fits c.self.inside.heap.bytes c.args.db c.self.invariant.accepted number in
+    let opened : IsOpened c.self.inside.heap.bytes c.args.opened = rw c.self.view_is c.requires.opened in
+    let to_inside : c.args.to ≤ length (entries_in (store_of c.self.inside.heap.bytes) c.args.opened.db) = rw c.self.view_is c.requires.to_inside in
+    let few = count_fits c.self.inside.heap.bytes c.args.opened.db c.self.invariant.accepted opened.number in
     let below = to_inside in
     omega (arith, few, below)
 
-pub move_entry-requires-clause-spells : goal.move_entry-requires-clause-spells
-move_entry-requires-clause-spells c =
-    let number : HasNumber c.self.inside.heap.bytes c.args.db.0 = rw c.self.view_is c.requires.number in
-    accepted_spells c.self.inside.heap.bytes c.args.db.0 c.self.invariant.accepted number
+pub move_entry-requires-clause-opened : goal.move_entry-requires-clause-opened
+move_entry-requires-clause-opened c = opened_here c.self.inside.heap.bytes c.args.opened c.self.invariant.accepted (rw c.self.view_is c.requires.opened)
 
 pub move_entry-requires-clause-from_inside : goal.move_entry-requires-clause-from_inside
 move_entry-requires-clause-from_inside c =
-    let number : HasNumber c.self.inside.heap.bytes c.args.db.0 = rw c.self.view_is c.requires.number in
-    let from_inside : c.args.from < length (entries_in (store_of c.self.inside.heap.bytes) c.args.db) = rw c.self.view_is c.requires.from_inside in
-    index_below c.self.inside.heap.bytes c.args.db c.args.from number from_inside
+    let opened : IsOpened c.self.inside.heap.bytes c.args.opened = rw c.self.view_is c.requires.opened in
+    let from_inside : c.args.from < length (entries_in (store_of c.self.inside.heap.bytes) c.args.opened.db) = rw c.self.view_is c.requires.from_inside in
+    index_below c.self.inside.heap.bytes c.args.opened.db c.args.from opened.number from_inside
 
 pub move_entry-requires-clause-to_inside : goal.move_entry-requires-clause-to_inside
 move_entry-requires-clause-to_inside c =
-    let number : HasNumber c.self.inside.heap.bytes c.args.db.0 = rw c.self.view_is c.requires.number in
-    let to_inside : c.args.to ≤ length (entries_in (store_of c.self.inside.heap.bytes) c.args.db) = rw c.self.view_is c.requires.to_inside in
-    index_most c.self.inside.heap.bytes c.args.db c.args.to number to_inside
+    let opened : IsOpened c.self.inside.heap.bytes c.args.opened = rw c.self.view_is c.requires.opened in
+    let to_inside : c.args.to ≤ length (entries_in (store_of c.self.inside.heap.bytes) c.args.opened.db) = rw c.self.view_is c.requires.to_inside in
+    index_most c.self.inside.heap.bytes c.args.opened.db c.args.to opened.number to_inside
 
 pub invariant_of-self : goal.invariant_of-self
 invariant_of-self c =
-    let number : HasNumber c.self.inside.heap.bytes c.args.db.0 = rw c.self.view_is c.requires.number in
-    let from_inside : c.args.from < length (entries_in (store_of c.self.inside.heap.bytes) c.args.db) = rw c.self.view_is c.requires.from_inside in
-    let to_inside : c.args.to ≤ length (entries_in (store_of c.self.inside.heap.bytes) c.args.db) = rw c.self.view_is c.requires.to_inside in
-    let left = move_steps c.self.inside.heap.bytes c.move_entry.new.heap.bytes c.args.db c.args.from c.args.to c.self.invariant.accepted number (index_below c.self.inside.heap.bytes c.args.db c.args.from number from_inside) (index_most c.self.inside.heap.bytes c.args.db c.args.to number to_inside)
+    let opened : IsOpened c.self.inside.heap.bytes c.args.opened = rw c.self.view_is c.requires.opened in
+    let from_inside : c.args.from < length (entries_in (store_of c.self.inside.heap.bytes) c.args.opened.db) = rw c.self.view_is c.requires.from_inside in
+    let to_inside : c.args.to ≤ length (entries_in (store_of c.self.inside.heap.bytes) c.args.opened.db) = rw c.self.view_is c.requires.to_inside in
+    let left = move_steps c.self.inside.heap.bytes c.move_entry.new.heap.bytes c.args.opened.db c.args.from c.args.to c.self.invariant.accepted opened.number (index_below c.self.inside.heap.bytes c.args.opened.db c.args.from opened.number from_inside) (index_most c.self.inside.heap.bytes c.args.opened.db c.args.to opened.number to_inside)
     c.move_entry.ensures.moved in
-    record { accepted = left.accepted; free = move_free (store_of c.self.inside.heap.bytes) (store_of c.move_entry.new.heap.bytes) c.args.db.0 c.args.from c.args.to c.self.inside.known left.same.databases c.self.invariant.free }
+    record { accepted = left.accepted; free = move_free (store_of c.self.inside.heap.bytes) (store_of c.move_entry.new.heap.bytes) c.args.opened.db.0 c.args.from c.args.to c.self.inside.known left.same.databases c.self.invariant.free }
 
 pub returns-clause-moved : goal.returns-clause-moved
 returns-clause-moved c =
-    let number : HasNumber c.self.inside.heap.bytes c.args.db.0 = rw c.self.view_is c.requires.number in
-    let from_inside : c.args.from < length (entries_in (store_of c.self.inside.heap.bytes) c.args.db) = rw c.self.view_is c.requires.from_inside in
-    let to_inside : c.args.to ≤ length (entries_in (store_of c.self.inside.heap.bytes) c.args.db) = rw c.self.view_is c.requires.to_inside in
-    rw (← c.self.view_is) (move_steps c.self.inside.heap.bytes c.move_entry.new.heap.bytes c.args.db c.args.from c.args.to c.self.invariant.accepted number (index_below c.self.inside.heap.bytes c.args.db c.args.from number from_inside) (index_most c.self.inside.heap.bytes c.args.db c.args.to number to_inside)
+    let opened : IsOpened c.self.inside.heap.bytes c.args.opened = rw c.self.view_is c.requires.opened in
+    let from_inside : c.args.from < length (entries_in (store_of c.self.inside.heap.bytes) c.args.opened.db) = rw c.self.view_is c.requires.from_inside in
+    let to_inside : c.args.to ≤ length (entries_in (store_of c.self.inside.heap.bytes) c.args.opened.db) = rw c.self.view_is c.requires.to_inside in
+    rw (← c.self.view_is) (move_steps c.self.inside.heap.bytes c.move_entry.new.heap.bytes c.args.opened.db c.args.from c.args.to c.self.invariant.accepted opened.number (index_below c.self.inside.heap.bytes c.args.opened.db c.args.from opened.number from_inside) (index_most c.self.inside.heap.bytes c.args.opened.db c.args.to opened.number to_inside)
     c.move_entry.ensures.moved)
 
 pub returns-clause-none_made : goal.returns-clause-none_made
 returns-clause-none_made c =
-    let number : HasNumber c.self.inside.heap.bytes c.args.db.0 = rw c.self.view_is c.requires.number in
-    rw (← c.self.view_is) (respelled_none c.self.inside.heap.bytes c.move_entry.new.heap.bytes c.args.db.0 _ c.self.invariant.accepted number c.move_entry.ensures.moved)
+    let opened : IsOpened c.self.inside.heap.bytes c.args.opened = rw c.self.view_is c.requires.opened in
+    rw (← c.self.view_is) (respelled_none c.self.inside.heap.bytes c.move_entry.new.heap.bytes c.args.opened.db.0 _ c.self.invariant.accepted opened.number c.move_entry.ensures.moved)
 
 pub returns-clause-loan : goal.returns-clause-loan
 returns-clause-loan c = rw (← c.self.view_is) c.move_entry.ensures.loan
