@@ -4,7 +4,7 @@ use Rattle.heap_model.specs.Store.{store_of}
 use Rattle.heap_model.specs.EntrySteps.{entry_under, entry_changed, with_attributes, OfEntry, data_of_entry}
 use Rattle.heap_model.specs.declared.names.Db.{Db}
 use Rattle.palm_store.specs.EntryCalls.{LeavesChanged}
-use Rattle.heap_model.specs.RecordSteps.{is_busy, HasAttributes}
+use Rattle.heap_model.specs.RecordSteps.{busy_bit, is_busy, HasAttributes}
 use Rattle.heap_model.specs.declared.call.Call.TheVariants as calls
 use Rattle.heap_model.specs.declared.call.RecordCall.TheVariants.{Get}
 use Rattle.heap_model.specs.declared.call.Reply.TheVariants.{Named}
@@ -24,7 +24,7 @@ returns-clause-does c =
     let found = c.in_ok-live.ensures in
     let none = found.passes in
     let is = found.is in
-    let leaves = subst (λ (db : Db). LeavesChanged c.args.store.now c.mark.new.store (λ store. entry_changed store db c.args.index (with_attributes (λ attributes. bit_or attributes _)))) found.db c.mark.ensures.marked in
+    let leaves = subst (λ (db : Db). LeavesChanged c.args.store.now c.mark.new.store (λ store. entry_changed store db c.args.index (with_attributes (λ attributes. bit_or attributes busy_bit)))) found.db c.mark.ensures.marked in
     let free : OfEntry (entry_under (store_of c.args.store.now.bytes) c.args.db c.args.index) (HasAttributes is_busy) → ⊥ = λ busy.
     (let yes : is_busy c.in_ok-live.live.attributes ≡ true = subst (λ (x : Option (Entry ℕ)). OfEntry x (HasAttributes is_busy)) is busy in
     let no : is_busy c.in_ok-live.live.attributes ≡ false = sym c.is_busy.ensures ∙ c.if-is_busy.false in
