@@ -13,6 +13,7 @@ use Rattle.heap_model.specs.Database.{Database, DatabaseHeader, Entry, a_record,
 use Rattle.heap_model.specs.Store.{unique_ids}
 use Rattle.heap_model.specs.Files.{HasNoFault, Reads, entries_end, offsets_in, blocks_in, block_size, block_offset, idle_entry, first_block, file_of}
 use Rattle.heap_model.specs.declared.file_fault.FileFault.TheVariants.{Truncated}
+use Rattle.laws_store.proofs.Entries.{fits_with}
 use Rattle.laws_store.proofs.Numbers.{AreBytes-slice}
 use Rattle.laws_store.proofs.Shapes.{database_fits, shape_spelled}
 use Rattle.laws_store.proofs.Spellings.{length-header_bytes, spelled_name, length-spelled}
@@ -117,17 +118,7 @@ seed_kept header seed is = ap (seeded header) is ∙ sym (header_stays header)
 pub fits_seeded : (header : DatabaseHeader) (seed : ℕ) → HeaderFits header → seed ≤ greatest_id → HeaderFits (record header { seed = with_seed header.seed seed })
 fits_seeded header seed fits most =
     let field = fits.seed in
-    record {
-      attributes = fits.attributes;
-      version = fits.version;
-      creation_date = fits.creation_date;
-      modification_date = fits.modification_date;
-      backup_date = fits.backup_date;
-      modification_number = fits.modification_number;
-      kind = fits.kind;
-      creator = fits.creator;
-      seed = omega arith;
-    }
+    fits_with header header.name (with_seed header.seed seed) fits (omega arith)
 
 seed_fits : (header : DatabaseHeader) (seed : ℕ) → seed ≤ greatest_id → HeaderFits header → HeaderFits (seeded header seed)
 unfolding seeded

@@ -1,6 +1,6 @@
 -- The sound parts of a file of bytes with a header can be spelled, and each of their offsets is
 -- sound or 0.
-use Rattle.std.proofs.Common.{◌≡◌, ℕ, ◌+◌, ◌-◌, ◌<◌, ◌≤◌, ◌^◌, Bool, true, false, List, [], ◌∷◌, length, take, map, get_or, refl, sym, ap, subst, ◌∙◌, arith, inl, inr}
+use Rattle.std.proofs.Common.{◌≡◌, ℕ, ◌+◌, ◌<◌, ◌≤◌, ◌^◌, Bool, true, false, List, [], ◌∷◌, length, take, map, get_or, refl, sym, ap, subst, ◌∙◌, arith, inl, inr}
 use Rattle.std.specs.Prelude.{◌⊎◌, ◌==◌, ◌&&◌, ◌||◌, not, if◌then◌else◌, All, filter, nat_le, codes}
 use Rattle.std.specs.List.{prefix_len}
 use Rattle.std.proofs.lemmas.Bool.{cases_eq, eq-eqb, eqb-true, leb-true}
@@ -14,6 +14,8 @@ use Rattle.heap_model.specs.Lists.{numbered}
 use Rattle.heap_model.specs.Database.{Entry, a_record, a_resource, entry_data, IsDatabaseName, HeaderFits, EntryFits, DatabaseFits, has_resources, is_deleted, name_in, header_in, resources_in, entry_count_in, entry_offset, entry_at, entry_in}
 use Rattle.heap_model.specs.Files.{entries_end}
 use Rattle.pdb_format.proofs.FileNames.{name_short}
+use Rattle.laws_store.proofs.Entries.{fits_with}
+use Rattle.laws_store.proofs.Shapes as shapes
 use Rattle.canonical_file.specs.Salvage.{is_sound_entry, is_sound_offset, sound_header, sound_in, sound_info, sound_name, sound_offsets, whole_entries}
 
 -- ---- the name
@@ -70,18 +72,9 @@ named_stays file name is some =
 -- ---- the numbers
 
 pub header_fits : (file : List ℕ) → AreBytes file → HeaderFits (sound_header file)
-unfolding header_in u16_at u32_at
-header_fits file b = record {
-  attributes = big_from-lt 32 2 file b;
-  version = big_from-lt 34 2 file b;
-  creation_date = big_from-lt 36 4 file b;
-  modification_date = big_from-lt 40 4 file b;
-  backup_date = big_from-lt 44 4 file b;
-  modification_number = big_from-lt 48 4 file b;
-  kind = big_from-lt 60 4 file b;
-  creator = big_from-lt 64 4 file b;
-  seed = big_from-lt 68 4 file b;
-}
+header_fits file b =
+    let fits = shapes.header_fits file b in
+    fits_with (header_in file) (sound_name (name_in file)) (header_in file).seed fits fits.seed
 
 entry_fits : (r : Bool) (file : List ℕ) (at : ℕ) → AreBytes file → EntryFits r (entry_at r file at)
 unfolding u16_at u24_at u32_at

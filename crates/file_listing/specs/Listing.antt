@@ -1,5 +1,5 @@
 -- The rows of the listing of a file, and the listing in a notation.
-use Rattle.std.specs.Prelude.{◌≡◌, ◌+◌, ◌++◌, ℕ, Bool, List, [], ◌∷◌, length, slice_index, slice_index_or, Option, Some, None}
+use Rattle.std.specs.Prelude.{◌≡◌, ◌≢◌, ◌+◌, ◌++◌, ℕ, Bool, true, false, List, [], ◌∷◌, length, slice_index, slice_index_or, Option, Some, None, Result, Err, IfErr, OnOk}
 use Rattle.std.specs.List.{flat_map}
 use Rattle.heap_model.specs.Lists.{numbered}
 use Rattle.heap_model.specs.Categories.{categories}
@@ -111,3 +111,12 @@ abbrev pub IsListFault : List ℕ → ListFault → Type 0
 IsListFault file (BadFile fault) = IsFirstFault file fault
 IsListFault file OutOfMemory = HasNoFault file
 IsListFault file Write = HasNoFault file
+
+-- A file was listed, or why not. `puts` is that its listing was written, by whether all writes succeeded, and `unused`
+-- that nothing was written.
+pub record Lists (file : List ℕ) (puts : Bool → Type 0) (unused is_short : Type 0) (result : Result (Unit {0}) ListFault) : Type 0 where
+  pub done : OnOk result (puts true)
+  pub why : IfErr result (IsListFault file)
+  pub untouched : IfErr result (λ fault. fault ≢ Write → unused)
+  pub write : result ≡ Err Write → puts false
+  pub short : result ≡ Err OutOfMemory → is_short

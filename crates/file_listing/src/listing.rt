@@ -4,7 +4,7 @@ ghost use Rattle.std.specs.Prelude.{◌≡◌, ◌≢◌, ◌≤◌, length, fal
 ghost use Rattle.pdb_format.specs.Opened.{most_file_bytes};
 ghost use Rattle.heap_model.specs.Files.{HasNoFault, IsFirstFault};
 ghost use Rattle.palm_text.specs.Counted.{Writes};
-ghost use Rattle.file_listing.specs.Listing.{IsListFault, WritesListing, fault_row};
+ghost use Rattle.file_listing.specs.Listing.{IsListFault, Lists, WritesListing, fault_row};
 
 use crate::damage::fault_place;
 use crate::facts::facts_of;
@@ -73,13 +73,9 @@ fn put_opened<N: Notation, A: Allowance, W: Write>(
     out: &mut Counted<W>,
 ) -> Result<(), ListFault>
     requires { length file.now ≤ most_file_bytes }
-    ensures done { OnOk result
-        (WritesListing (N.row_text notation.now) file.now W.contents out.old out.new true) }
-    ensures why { IfErr result (IsListFault file.now) }
-    ensures untouched { IfErr result (λ fault. fault ≢ ListFault.Write → out.new ≡ out.old) }
-    ensures write { result ≡ Err ListFault.Write
-        → WritesListing (N.row_text notation.now) file.now W.contents out.old out.new false }
-    ensures short { result ≡ Err ListFault.OutOfMemory → A.is_short memory.now }
+    ensures { Lists file.now
+        (WritesListing (N.row_text notation.now) file.now W.contents out.old out.new)
+        (out.new ≡ out.old) (A.is_short memory.now) result }
 {
     file.know_file();
     let Ok(facts) = facts_of(memory, file) else {

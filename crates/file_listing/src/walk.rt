@@ -9,7 +9,7 @@ ghost use Rattle.pdb_format.specs.Blocks.{IsBlockWithin, bytes_at};
 ghost use Rattle.pdb_format.specs.Opened.{most_file_bytes};
 ghost use Rattle.file_listing.specs.Listing as words;
 ghost use Rattle.file_listing.specs.Categories.{layout_size};
-ghost use Rattle.file_listing.specs.Listing.{extent_at, info_extent, first_rows, category_rows, count_rows, entry_rows, last_rows, body_rows, rows_of};
+ghost use Rattle.file_listing.specs.Listing.{extent_at, info_extent, first_rows, category_rows, count_rows, entry_rows, last_rows, rows_of};
 
 use crate::categories::{Categories, name_of};
 use crate::facts::Facts;
@@ -229,54 +229,6 @@ fn put_last<N: Notation, W: Write>(
     )
 }
 
-/// Writes the rows from those of the entries on.
-#[tactic(auto, using(crate::proofs::RowTexts::then_rows, crate::proofs::RowTexts::stops_rows))]
-fn put_rest<N: Notation, W: Write>(
-    notation: &N,
-    out: &mut Counted<W>,
-    file: &PdbFile<'_>,
-    facts: &Facts<'_>,
-) -> Result<(), WriteFault>
-    requires { length file.now ≤ most_file_bytes }
-    ensures { Writes W.contents out.old out.new (flat_map (N.row_text notation.now)
-        (entry_rows file.now facts.now.categories ++ last_rows file.now facts.now)) (is_ok result) }
-{
-    put_entries(notation, out, file, &facts.categories)?;
-    put_last(notation, out, file, facts)
-}
-
-/// Writes the rows from that of the kind and the number of the entries on.
-#[tactic(auto, using(crate::proofs::RowTexts::then_rows, crate::proofs::RowTexts::stops_rows))]
-fn put_body<N: Notation, W: Write>(
-    notation: &N,
-    out: &mut Counted<W>,
-    file: &PdbFile<'_>,
-    facts: &Facts<'_>,
-) -> Result<(), WriteFault>
-    requires { length file.now ≤ most_file_bytes }
-    ensures { Writes W.contents out.old out.new
-        (flat_map (N.row_text notation.now) (body_rows file.now facts.now)) (is_ok result) }
-{
-    put_count(notation, out, file)?;
-    put_rest(notation, out, file, facts)
-}
-
-/// Writes the rows from those of the categories on.
-#[tactic(auto, using(crate::proofs::RowTexts::then_rows, crate::proofs::RowTexts::stops_rows))]
-fn put_after_head<N: Notation, W: Write>(
-    notation: &N,
-    out: &mut Counted<W>,
-    file: &PdbFile<'_>,
-    facts: &Facts<'_>,
-) -> Result<(), WriteFault>
-    requires { length file.now ≤ most_file_bytes }
-    ensures { Writes W.contents out.old out.new (flat_map (N.row_text notation.now)
-        (category_rows facts.now.categories ++ body_rows file.now facts.now)) (is_ok result) }
-{
-    put_categories(notation, out, &facts.categories)?;
-    put_body(notation, out, file, facts)
-}
-
 /// Writes the rows of a file without fault.
 #[tactic(auto, using(crate::proofs::RowTexts::then_rows, crate::proofs::RowTexts::stops_rows), unfolding(crate::specs::Listing::rows_of))]
 pub(crate) fn put_rows_of<N: Notation, W: Write>(
@@ -290,5 +242,8 @@ pub(crate) fn put_rows_of<N: Notation, W: Write>(
         (flat_map (N.row_text notation.now) (rows_of file.now facts.now)) (is_ok result) }
 {
     put_head(notation, out, file, facts)?;
-    put_after_head(notation, out, file, facts)
+    put_categories(notation, out, &facts.categories)?;
+    put_count(notation, out, file)?;
+    put_entries(notation, out, file, &facts.categories)?;
+    put_last(notation, out, file, facts)
 }

@@ -1,17 +1,17 @@
 -- Chunks that are the same but for the bytes of tables, which have the same lengths. What speaks of
 -- no table's bytes holds of both.
-use Rattle.std.proofs.Common.{◌≡◌, ℕ, ◌+◌, List, [], ◌∷◌, ◌++◌, length, Option, Some, refl, sym, ap, subst, ◌∙◌, arith, inl, inr}
-use Rattle.std.specs.Prelude.{◌⊎◌, ◌==◌, if◌then◌else◌}
+use Rattle.std.proofs.Common.{◌≡◌, ℕ, ◌+◌, List, [], ◌∷◌, ◌++◌, length, Option, refl, sym, ap, subst, ◌∙◌, arith, inl, inr}
+use Rattle.std.specs.Prelude.{◌⊎◌}
 use Rattle.heap_model.specs.Chunk.{Chunk, free, movable, fixed, need, size_of, total}
 use Rattle.heap_model.specs.Placed.{EveryPlaced, AnyPlaced}
 use Rattle.heap_model.specs.Slots.{Table}
 use Rattle.heap_model.specs.Heap.{TableHere, BodyHere, ManagersHere, IsKnownIfFixed}
 use Rattle.heap_model.specs.Layout.{IsFreeAt}
-use Rattle.heap_model.specs.Meaning.{LiveChunk}
 use Rattle.heap_model.specs.Reading.{live_under, is_fixed_name}
 use Rattle.heap_model.specs.Space.{place_under}
 use Rattle.laws_heap.proofs.Tests.{cond-false}
-use Rattle.laws_heap.proofs.FixedNames.{fixed_live, table_unnamed}
+use Rattle.laws_heap.proofs.FixedNames.{table_unnamed}
+use Rattle.laws_heap.proofs.Lives.{or_else, live_first, place_first}
 
 -- both are tables, as long
 pub record BothTables (c d : Chunk) : Type 0 where
@@ -106,38 +106,30 @@ free_tells there at xs ys e h = absurd h
 
 -- ---- names
 
-live_tail : (at : ℕ) (c : Chunk) (xs ys : List Chunk) (name : ℕ) → live_under (at + size_of c) xs name ≡ live_under (at + size_of c) ys name → live_under at (c ∷ xs) name ≡ live_under at (c ∷ ys) name
-live_tail at (free size) xs ys name e = e
-live_tail at (movable bytes lock owner slot) xs ys name e = ap (λ (o : Option LiveChunk). if slot == name then Some (record { bytes = bytes; lock = lock; owner = owner }) else o) e
-live_tail at (fixed bytes owner) xs ys name e = ap (λ (o : Option LiveChunk). if is_fixed_name at owner name then Some (fixed_live bytes owner) else o) e
+-- what is found under a name (`live_first`, `place_first`), where a table has no name
+module _ {A : Type 0} (found : ℕ → List Chunk → ℕ → Option A)
+    (first : (at : ℕ) (c : Chunk) (cs : List Chunk) (name : ℕ) → found at (c ∷ cs) name ≡ or_else (found at (c ∷ []) name) (found (at + size_of c) cs name))
+    (table : (at : ℕ) (bytes : List ℕ) (cs : List Chunk) (name : ℕ) → found at (fixed bytes 0 ∷ cs) name ≡ found (at + need (length bytes)) cs name) where
+  found_first : (at : ℕ) (c d : Chunk) (cs : List Chunk) (name : ℕ) → AlikeChunk c d → found at (d ∷ cs) name ≡ found at (c ∷ cs) name
+  found_first at c d cs name a = alike (λ x. found at (x ∷ cs) name ≡ found at (c ∷ cs) name)
+      (λ xs ys e p. table at ys cs name ∙ ap (λ (n : ℕ). found (at + need n) cs name) e ∙ sym (table at xs cs name) ∙ p) c d a refl
+
+  found_alike : (at : ℕ) (cs ds : List Chunk) (name : ℕ) → AlikeChunks cs ds → found at ds name ≡ found at cs name
+  found_alike at [] [] name a = refl
+  found_alike at [] (d ∷ ds) name a = absurd a
+  found_alike at (c ∷ cs) [] name a = absurd a
+  found_alike at (c ∷ cs) (d ∷ ds) name a =
+      found_first at c d ds name a.0 ∙ first at c ds name
+      ∙ ap (or_else (found at (c ∷ []) name)) (found_alike (at + size_of c) cs ds name a.1) ∙ sym (first at c cs name)
 
 pub live_table : (at : ℕ) (bytes : List ℕ) (cs : List Chunk) (name : ℕ) → live_under at (fixed bytes 0 ∷ cs) name ≡ live_under (at + need (length bytes)) cs name
 live_table at bytes cs name = cond-false (is_fixed_name at 0 name) _ _ (table_unnamed at name)
 
-live_first : (at : ℕ) (c d : Chunk) (cs : List Chunk) (name : ℕ) → AlikeChunk c d → live_under at (d ∷ cs) name ≡ live_under at (c ∷ cs) name
-live_first at c d cs name a = alike (λ x. live_under at (x ∷ cs) name ≡ live_under at (c ∷ cs) name)
-    (λ xs ys e p. live_table at ys cs name ∙ ap (λ (n : ℕ). live_under (at + need n) cs name) e ∙ sym (live_table at xs cs name) ∙ p) c d a refl
-
 pub live_alike : (at : ℕ) (cs ds : List Chunk) (name : ℕ) → AlikeChunks cs ds → live_under at ds name ≡ live_under at cs name
-live_alike at [] [] name a = refl
-live_alike at [] (d ∷ ds) name a = absurd a
-live_alike at (c ∷ cs) [] name a = absurd a
-live_alike at (c ∷ cs) (d ∷ ds) name a = live_first at c d ds name a.0 ∙ live_tail at c ds cs name (live_alike (at + size_of c) cs ds name a.1)
-
-place_tail : (at : ℕ) (c : Chunk) (xs ys : List Chunk) (name : ℕ) → place_under (at + size_of c) xs name ≡ place_under (at + size_of c) ys name → place_under at (c ∷ xs) name ≡ place_under at (c ∷ ys) name
-place_tail at (free size) xs ys name e = e
-place_tail at (movable bytes lock owner slot) xs ys name e = ap (λ (o : Option ℕ). if slot == name then Some (at + 8) else o) e
-place_tail at (fixed bytes owner) xs ys name e = ap (λ (o : Option ℕ). if is_fixed_name at owner name then Some (at + 8) else o) e
+live_alike = found_alike live_under live_first live_table
 
 pub place_table : (at : ℕ) (bytes : List ℕ) (cs : List Chunk) (name : ℕ) → place_under at (fixed bytes 0 ∷ cs) name ≡ place_under (at + need (length bytes)) cs name
 place_table at bytes cs name = cond-false (is_fixed_name at 0 name) _ _ (table_unnamed at name)
 
-place_first : (at : ℕ) (c d : Chunk) (cs : List Chunk) (name : ℕ) → AlikeChunk c d → place_under at (d ∷ cs) name ≡ place_under at (c ∷ cs) name
-place_first at c d cs name a = alike (λ x. place_under at (x ∷ cs) name ≡ place_under at (c ∷ cs) name)
-    (λ xs ys e p. place_table at ys cs name ∙ ap (λ (n : ℕ). place_under (at + need n) cs name) e ∙ sym (place_table at xs cs name) ∙ p) c d a refl
-
 pub place_alike : (at : ℕ) (cs ds : List Chunk) (name : ℕ) → AlikeChunks cs ds → place_under at ds name ≡ place_under at cs name
-place_alike at [] [] name a = refl
-place_alike at [] (d ∷ ds) name a = absurd a
-place_alike at (c ∷ cs) [] name a = absurd a
-place_alike at (c ∷ cs) (d ∷ ds) name a = place_first at c d ds name a.0 ∙ place_tail at c ds cs name (place_alike (at + size_of c) cs ds name a.1)
+place_alike = found_alike place_under place_first place_table

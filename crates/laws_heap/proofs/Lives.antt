@@ -1,7 +1,7 @@
 -- What names stand for, and where, in lists of chunks that are put together.
 use Rattle.std.proofs.Common.{◌≡◌, ℕ, ◌+◌, Bool, true, false, cond, List, [], ◌∷◌, ◌++◌, length, Option, Some, None, refl, sym, ap, ◌∙◌, arith}
 use Rattle.std.specs.Prelude.{◌==◌}
-use Rattle.heap_model.specs.Chunk.{Chunk, free, movable, fixed, need, total}
+use Rattle.heap_model.specs.Chunk.{Chunk, free, movable, fixed, need, size_of, total}
 use Rattle.heap_model.specs.Meaning.{LiveChunk}
 use Rattle.heap_model.specs.Reading.{live_under, is_fixed_name}
 use Rattle.laws_heap.proofs.Tests.{none_some}
@@ -17,56 +17,66 @@ or_cond : {A : Type 0} (b : Bool) (x : A) (y z w : Option A) → y ≡ or_else z
 or_cond true x y z w e = refl
 or_cond false x y z w e = e
 
-pub move_live : (m n : ℕ) (cs : List Chunk) (name : ℕ) → m ≡ n → live_under m cs name ≡ live_under n cs name
-move_live m n cs name e = ap (λ (k : ℕ). live_under k cs name) e
-
-pub live_under-append : (at : ℕ) (xs ys : List Chunk) (name : ℕ) → live_under at (xs ++ ys) name ≡ or_else (live_under at xs name) (live_under (at + total xs) ys name)
-live_under-append at [] ys name = move_live at (at + 0) ys name (omega arith)
-live_under-append at (free size ∷ xs) ys name =
-    live_under-append (at + size) xs ys name ∙ ap (or_else (live_under (at + size) xs name)) (move_live (at + size + total xs) (at + (size + total xs)) ys name (omega arith))
-live_under-append at (movable bytes lock owner slot ∷ xs) ys name =
-    or_cond (slot == name) (record { bytes = bytes; lock = lock; owner = owner }) _ _ _
-    (live_under-append (at + need (length bytes)) xs ys name ∙ ap (or_else (live_under (at + need (length bytes)) xs name)) (move_live (at + need (length bytes) + total xs) (at + (need (length bytes) + total xs)) ys name (omega arith)))
-live_under-append at (fixed bytes owner ∷ xs) ys name =
-    or_cond (is_fixed_name at owner name) (fixed_live bytes owner) _ _ _
-    (live_under-append (at + need (length bytes)) xs ys name ∙ ap (or_else (live_under (at + need (length bytes)) xs name)) (move_live (at + need (length bytes) + total xs) (at + (need (length bytes) + total xs)) ys name (omega arith)))
-
-pub move_place : (m n : ℕ) (cs : List Chunk) (name : ℕ) → m ≡ n → place_under m cs name ≡ place_under n cs name
-move_place m n cs name e = ap (λ (k : ℕ). place_under k cs name) e
-
-pub place_under-append : (at : ℕ) (xs ys : List Chunk) (name : ℕ) → place_under at (xs ++ ys) name ≡ or_else (place_under at xs name) (place_under (at + total xs) ys name)
-place_under-append at [] ys name = move_place at (at + 0) ys name (omega arith)
-place_under-append at (free size ∷ xs) ys name =
-    place_under-append (at + size) xs ys name ∙ ap (or_else (place_under (at + size) xs name)) (move_place (at + size + total xs) (at + (size + total xs)) ys name (omega arith))
-place_under-append at (movable bytes lock owner slot ∷ xs) ys name =
-    or_cond (slot == name) (at + 8) _ _ _
-    (place_under-append (at + need (length bytes)) xs ys name ∙ ap (or_else (place_under (at + need (length bytes)) xs name)) (move_place (at + need (length bytes) + total xs) (at + (need (length bytes) + total xs)) ys name (omega arith)))
-place_under-append at (fixed bytes owner ∷ xs) ys name =
-    or_cond (is_fixed_name at owner name) (at + 8) _ _ _
-    (place_under-append (at + need (length bytes)) xs ys name ∙ ap (or_else (place_under (at + need (length bytes)) xs name)) (move_place (at + need (length bytes) + total xs) (at + (need (length bytes) + total xs)) ys name (omega arith)))
-
--- ---- the middle replaced
+or_joined : {A : Type 0} (x y z : Option A) → or_else (or_else x y) z ≡ or_else x (or_else y z)
+or_joined None y z = refl
+or_joined (Some x) y z = refl
 
 or_middle : {A : Type 0} (x y z y' z' : Option A) → y ≡ y' → z ≡ z' → or_else x (or_else y z) ≡ or_else x (or_else y' z')
 or_middle x y z y' z' e f = cc
 
+-- what is found under a name in chunks from an offset on: in the first chunk, or else in the others
+module _ {A : Type 0} (found : ℕ → List Chunk → ℕ → Option A) (none : (at name : ℕ) → found at [] name ≡ None)
+    (first : (at : ℕ) (c : Chunk) (cs : List Chunk) (name : ℕ) → found at (c ∷ cs) name ≡ or_else (found at (c ∷ []) name) (found (at + size_of c) cs name)) where
+  found_append : (at : ℕ) (xs ys : List Chunk) (name : ℕ) → found at (xs ++ ys) name ≡ or_else (found at xs name) (found (at + total xs) ys name)
+  found_append at [] ys name =
+      ap (λ (k : ℕ). found k ys name) (omega arith)
+      ∙ ap (λ (o : Option A). or_else o (found (at + 0) ys name)) (sym (none at name))
+  found_append at (c ∷ xs) ys name =
+      let there : at + size_of c + total xs ≡ at + (size_of c + total xs) = omega arith in
+      first at c (xs ++ ys) name
+      ∙ ap (or_else (found at (c ∷ []) name)) (found_append (at + size_of c) xs ys name ∙ ap (λ (k : ℕ). or_else (found (at + size_of c) xs name) (found k ys name)) there)
+      ∙ sym (or_joined (found at (c ∷ []) name) (found (at + size_of c) xs name) (found (at + (size_of c + total xs)) ys name))
+      ∙ ap (λ (o : Option A). or_else o (found (at + (size_of c + total xs)) ys name)) (sym (first at c xs name))
+
+  -- the middle replaced
+  found_replaced : (at : ℕ) (before mid others after : List Chunk) (name : ℕ) → total others ≡ total mid → found (at + total before) others name ≡ found (at + total before) mid name
+      → found at (before ++ (others ++ after)) name ≡ found at (before ++ (mid ++ after)) name
+  found_replaced at before mid others after name sizes same =
+      found_append at before (others ++ after) name
+      ∙ ap (or_else (found at before name)) (found_append (at + total before) others after name)
+      ∙ or_middle _ _ _ _ _ same (ap (λ (n : ℕ). found (at + total before + n) after name) sizes)
+      ∙ sym (ap (or_else (found at before name)) (found_append (at + total before) mid after name))
+      ∙ sym (found_append at before (mid ++ after) name)
+
+pub live_first : (at : ℕ) (c : Chunk) (cs : List Chunk) (name : ℕ) → live_under at (c ∷ cs) name ≡ or_else (live_under at (c ∷ []) name) (live_under (at + size_of c) cs name)
+live_first at (free size) cs name = refl
+live_first at (movable bytes lock owner slot) cs name = or_cond (slot == name) (record { bytes = bytes; lock = lock; owner = owner }) _ None _ refl
+live_first at (fixed bytes owner) cs name = or_cond (is_fixed_name at owner name) (fixed_live bytes owner) _ None _ refl
+
+pub place_first : (at : ℕ) (c : Chunk) (cs : List Chunk) (name : ℕ) → place_under at (c ∷ cs) name ≡ or_else (place_under at (c ∷ []) name) (place_under (at + size_of c) cs name)
+place_first at (free size) cs name = refl
+place_first at (movable bytes lock owner slot) cs name = or_cond (slot == name) (at + 8) _ None _ refl
+place_first at (fixed bytes owner) cs name = or_cond (is_fixed_name at owner name) (at + 8) _ None _ refl
+
+pub move_live : (m n : ℕ) (cs : List Chunk) (name : ℕ) → m ≡ n → live_under m cs name ≡ live_under n cs name
+move_live m n cs name e = ap (λ (k : ℕ). live_under k cs name) e
+
+pub move_place : (m n : ℕ) (cs : List Chunk) (name : ℕ) → m ≡ n → place_under m cs name ≡ place_under n cs name
+move_place m n cs name e = ap (λ (k : ℕ). place_under k cs name) e
+
+pub live_under-append : (at : ℕ) (xs ys : List Chunk) (name : ℕ) → live_under at (xs ++ ys) name ≡ or_else (live_under at xs name) (live_under (at + total xs) ys name)
+live_under-append = found_append live_under (λ at name. refl) live_first
+
+pub place_under-append : (at : ℕ) (xs ys : List Chunk) (name : ℕ) → place_under at (xs ++ ys) name ≡ or_else (place_under at xs name) (place_under (at + total xs) ys name)
+place_under-append = found_append place_under (λ at name. refl) place_first
+
 pub live_replaced : (at : ℕ) (before mid others after : List Chunk) (name : ℕ) → total others ≡ total mid → live_under (at + total before) others name ≡ live_under (at + total before) mid name
     → live_under at (before ++ (others ++ after)) name ≡ live_under at (before ++ (mid ++ after)) name
-live_replaced at before mid others after name sizes same =
-    live_under-append at before (others ++ after) name
-    ∙ ap (or_else (live_under at before name)) (live_under-append (at + total before) others after name)
-    ∙ or_middle _ _ _ _ _ same (move_live (at + total before + total others) (at + total before + total mid) after name (omega arith))
-    ∙ sym (ap (or_else (live_under at before name)) (live_under-append (at + total before) mid after name))
-    ∙ sym (live_under-append at before (mid ++ after) name)
+live_replaced = found_replaced live_under (λ at name. refl) live_first
 
 pub place_replaced : (at : ℕ) (before mid others after : List Chunk) (name : ℕ) → total others ≡ total mid → place_under (at + total before) others name ≡ place_under (at + total before) mid name
     → place_under at (before ++ (others ++ after)) name ≡ place_under at (before ++ (mid ++ after)) name
-place_replaced at before mid others after name sizes same =
-    place_under-append at before (others ++ after) name
-    ∙ ap (or_else (place_under at before name)) (place_under-append (at + total before) others after name)
-    ∙ or_middle _ _ _ _ _ same (move_place (at + total before + total others) (at + total before + total mid) after name (omega arith))
-    ∙ sym (ap (or_else (place_under at before name)) (place_under-append (at + total before) mid after name))
-    ∙ sym (place_under-append at before (mid ++ after) name)
+place_replaced = found_replaced place_under (λ at name. refl) place_first
 
 -- ---- free chunks have no names
 

@@ -1,8 +1,8 @@
 -- The bytes of entries where one is replaced, put in or taken out; and a header that is written
 -- anew.
 use Rattle.std.proofs.Common.{◌≡◌, ℕ, zero, suc, ◌+◌, ◌*◌, ◌<◌, ◌≤◌, Bool, List, [], ◌∷◌, ◌++◌, length, set, take, drop, refl, sym, ap, ◌∙◌, append_assoc, arith, ◌-◌}
-use Rattle.std.proofs.Math.Seq.{take-append-add, drop-append-add}
-use Rattle.std.proofs.lemmas.List.{drop_at, length-set}
+use Rattle.std.proofs.Math.Seq.{take-append-add, take-append_seam, drop-append-add, drop-append_seam}
+use Rattle.std.proofs.lemmas.List.{drop_at, length-append, length-set, take-append-drop}
 use Rattle.std.proofs.lemmas.List.Elements.{All-head, All-tail}
 use Rattle.std.proofs.lemmas.Grind.{flat_map-append}
 use Rattle.std.specs.Prelude.{All, insert, slice_range}
@@ -14,26 +14,31 @@ use Rattle.laws_store.proofs.Spellings.{length-header_bytes, length-entry_bytes,
 
 -- ---- entries before one, and from it on
 
-pub entries_front : (r : Bool) (es : List (Entry ℕ)) (i : ℕ) → All (EntryFits r) es → i ≤ length es → take (entry_size r * i) (flat_map entry_bytes es) ≡ flat_map entry_bytes (take i es)
-entries_front r es zero all below = ap (λ (n : ℕ). take n (flat_map entry_bytes es)) (size-zero r)
-entries_front r [] (suc i) all below = absurd (omega arith)
-entries_front r (e ∷ es) (suc i) all below =
+first_long : (r : Bool) (es : List (Entry ℕ)) (i : ℕ) → All (EntryFits r) es → i ≤ length es → length (flat_map entry_bytes (take i es)) ≡ entry_size r * i
+first_long r es zero all below = sym (size-zero r)
+first_long r [] (suc i) all below = absurd (omega arith)
+first_long r (e ∷ es) (suc i) all below =
     let one = length-entry_bytes r e (All-head (EntryFits r) e es all) in
-    let ih = entries_front r es i (All-tail (EntryFits r) e es all) (omega arith) in
-    let more : entry_size r * suc i ≡ length (entry_bytes e) + entry_size r * i = (let s = size-suc r i in omega arith) in
-    ap (λ (n : ℕ). take n (entry_bytes e ++ flat_map entry_bytes es)) more
-    ∙ take-append-add (entry_bytes e) (flat_map entry_bytes es) (entry_size r * i)
-    ∙ ap (λ (xs : List ℕ). entry_bytes e ++ xs) ih
+    let ih = first_long r es i (All-tail (EntryFits r) e es all) (omega arith) in
+    let both = length-append (entry_bytes e) (flat_map entry_bytes (take i es)) in
+    let s = size-suc r i in
+    omega arith
+
+-- the bytes of all entries, cut before one
+halves : (es : List (Entry ℕ)) (i : ℕ) → flat_map entry_bytes es ≡ flat_map entry_bytes (take i es) ++ flat_map entry_bytes (drop i es)
+halves es i = ap (flat_map entry_bytes) (sym (take-append-drop i es)) ∙ flat_map-append entry_bytes (take i es) (drop i es)
+
+pub entries_front : (r : Bool) (es : List (Entry ℕ)) (i : ℕ) → All (EntryFits r) es → i ≤ length es → take (entry_size r * i) (flat_map entry_bytes es) ≡ flat_map entry_bytes (take i es)
+entries_front r es i all below =
+    ap (λ (n : ℕ). take n (flat_map entry_bytes es)) (sym (first_long r es i all below))
+    ∙ ap (take (length (flat_map entry_bytes (take i es)))) (halves es i)
+    ∙ take-append_seam (flat_map entry_bytes (take i es)) (flat_map entry_bytes (drop i es))
 
 pub entries_back : (r : Bool) (es : List (Entry ℕ)) (i : ℕ) → All (EntryFits r) es → i ≤ length es → drop (entry_size r * i) (flat_map entry_bytes es) ≡ flat_map entry_bytes (drop i es)
-entries_back r es zero all below = ap (λ (n : ℕ). drop n (flat_map entry_bytes es)) (size-zero r)
-entries_back r [] (suc i) all below = absurd (omega arith)
-entries_back r (e ∷ es) (suc i) all below =
-    let one = length-entry_bytes r e (All-head (EntryFits r) e es all) in
-    let ih = entries_back r es i (All-tail (EntryFits r) e es all) (omega arith) in
-    let more : entry_size r * suc i ≡ length (entry_bytes e) + entry_size r * i = (let s = size-suc r i in omega arith) in
-    ap (λ (n : ℕ). drop n (entry_bytes e ++ flat_map entry_bytes es)) more
-    ∙ drop-append-add (entry_bytes e) (flat_map entry_bytes es) (entry_size r * i) ∙ ih
+entries_back r es i all below =
+    ap (λ (n : ℕ). drop n (flat_map entry_bytes es)) (sym (first_long r es i all below))
+    ∙ ap (drop (length (flat_map entry_bytes (take i es)))) (halves es i)
+    ∙ drop-append_seam (flat_map entry_bytes (take i es)) (flat_map entry_bytes (drop i es))
 
 -- ---- one replaced, put in, taken out
 

@@ -235,8 +235,9 @@ id_fits : (resources : Bool) (attributes id slot : ℕ) → EntryFits resources 
 id_fits false attributes id slot fits = fits.1
 id_fits true attributes id slot fits = absurd fits
 
-seeded_fits : (resources : Bool) (e : Entry ℕ) (header : DatabaseHeader) → EntryFits resources e → HeaderFits header → HeaderFits (seeded_by e header)
-seeded_fits resources (a_record attributes id slot) header fits h = record {
+-- a header fits with another name, and with another seed that fits
+pub fits_with : (header : DatabaseHeader) (name : List ℕ) (seed : ℕ) → HeaderFits header → seed < 2 ^ 32 → HeaderFits (record header { name = name; seed = seed })
+fits_with header name seed h below = record {
   attributes = h.attributes;
   version = h.version;
   creation_date = h.creation_date;
@@ -245,8 +246,11 @@ seeded_fits resources (a_record attributes id slot) header fits h = record {
   modification_number = h.modification_number;
   kind = h.kind;
   creator = h.creator;
-  seed = seed_fits header.seed id h.seed (id_fits resources attributes id slot fits);
+  seed = below;
 }
+
+seeded_fits : (resources : Bool) (e : Entry ℕ) (header : DatabaseHeader) → EntryFits resources e → HeaderFits header → HeaderFits (seeded_by e header)
+seeded_fits resources (a_record attributes id slot) header fits h = fits_with header header.name (2 ^ 24 * (header.seed / 2 ^ 24) + id) h (seed_fits header.seed id h.seed (id_fits resources attributes id slot fits))
 seeded_fits resources (a_resource kind id slot) header fits h = h
 
 -- how often a new ID is counted with those that were there

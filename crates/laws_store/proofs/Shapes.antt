@@ -122,7 +122,7 @@ unfolding u16_at u24_at u32_at
 entry_fits false bytes at b = (b (at + 4), big_from-lt (at + 5) 3 bytes b, big_from-lt at 4 bytes b)
 entry_fits true bytes at b = (big_from-lt at 4 bytes b, big_from-lt (at + 4) 2 bytes b, big_from-lt (at + 6) 4 bytes b)
 
-header_fits : (bytes : List ℕ) → AreBytes bytes → HeaderFits (header_in bytes)
+pub header_fits : (bytes : List ℕ) → AreBytes bytes → HeaderFits (header_in bytes)
 unfolding header_in u16_at u32_at
 header_fits bytes b = record {
   attributes = big_from-lt 32 2 bytes b;

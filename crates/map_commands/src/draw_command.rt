@@ -1,9 +1,8 @@
 //! The command `map` with an output file: the picture of an image, as SVG.
 
-ghost use Rattle.std.specs.Prelude.{[], ◌≡◌, ◌≢◌, Err, IfErr, OnOk, true, false};
-ghost use Rattle.heap_model.specs.Store.{Accepted};
-ghost use Rattle.heap_map.specs.Pictures.{IsMapFault};
+ghost use Rattle.std.specs.Prelude.{[], ◌≡◌};
 ghost use Rattle.map_commands.specs.Drawing.{EndsDraw, PutsDrawing};
+ghost use Rattle.map_commands.specs.Mapping.{PutsPicture};
 ghost use Rattle.palm_text.specs.Output.{output};
 
 use allowance::Allowance;
@@ -63,14 +62,9 @@ fn put_flushed<A: Allowance, W: Write>(
     file_out: &mut Counted<W>,
 ) -> Result<(), MapFault>
     requires whole { region.now.lents ≡ [] }
-    ensures accepted { OnOk result (Accepted region.now.bytes) }
-    ensures done { OnOk result
-        (PutsDrawing region.now.bytes (output W.contents file_out.old file_out.new) true) }
-    ensures why { IfErr result (IsMapFault region.now.bytes) }
-    ensures untouched { IfErr result (λ fault. fault ≢ MapFault.Write → file_out.new ≡ file_out.old) }
-    ensures write { result ≡ Err MapFault.Write
-        → PutsDrawing region.now.bytes (output W.contents file_out.old file_out.new) false }
-    ensures short { result ≡ Err MapFault.OutOfMemory → A.is_short memory.now }
+    ensures { PutsPicture region.now.bytes
+        (PutsDrawing region.now.bytes (output W.contents file_out.old file_out.new))
+        (file_out.new ≡ file_out.old) (A.is_short memory.now) result }
 {
     put_svg(memory, region, file_out)?;
     match file_out.flush() {

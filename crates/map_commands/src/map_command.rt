@@ -1,9 +1,7 @@
 //! The command `map`: the picture of an image, as text.
 
-ghost use Rattle.std.specs.Prelude.{[], ◌≡◌, ◌≢◌, Err, IfErr, OnOk, true, false};
-ghost use Rattle.heap_model.specs.Store.{Accepted};
-ghost use Rattle.heap_map.specs.Pictures.{IsMapFault};
-ghost use Rattle.map_commands.specs.Mapping.{EndsMap, PutsMap};
+ghost use Rattle.std.specs.Prelude.{[], ◌≡◌};
+ghost use Rattle.map_commands.specs.Mapping.{EndsMap, PutsMap, PutsPicture};
 ghost use Rattle.palm_text.specs.Output.{output};
 
 use allowance::Allowance;
@@ -41,13 +39,9 @@ fn put_flushed<A: Allowance, V: Write>(
     out: &mut Counted<V>,
 ) -> Result<(), MapFault>
     requires whole { region.now.lents ≡ [] }
-    ensures accepted { OnOk result (Accepted region.now.bytes) }
-    ensures done { OnOk result (PutsMap region.now.bytes (output V.contents out.old out.new) true) }
-    ensures why { IfErr result (IsMapFault region.now.bytes) }
-    ensures untouched { IfErr result (λ fault. fault ≢ MapFault.Write → out.new ≡ out.old) }
-    ensures write { result ≡ Err MapFault.Write
-        → PutsMap region.now.bytes (output V.contents out.old out.new) false }
-    ensures short { result ≡ Err MapFault.OutOfMemory → A.is_short memory.now }
+    ensures { PutsPicture region.now.bytes
+        (PutsMap region.now.bytes (output V.contents out.old out.new))
+        (out.new ≡ out.old) (A.is_short memory.now) result }
 {
     put_map(memory, region, out)?;
     match out.flush() {

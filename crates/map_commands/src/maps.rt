@@ -6,10 +6,10 @@ use crate::draw_command::draw_region_from;
 use crate::map_command::map_region_from;
 use command_files::{
     STANDARD_ERROR, STANDARD_OUTPUT, STANDARD_STREAM, buffered_fault, fail, looks_like_file,
-    output_for_picture, read_image, report_buffered, suggest_list,
+    output_for_picture, read_image, report_buffered, report_outputs, suggest_list,
 };
 use palm_text::Counted;
-use program_io::{ErrorOutput, Noted, Status, report_outcome};
+use program_io::{ErrorOutput, Noted, Status};
 use raw_region::Region;
 use std::alloc::Global;
 use std::io;
@@ -92,13 +92,13 @@ fn draw_to_output<R: Print + Eprint + AllocGlobal>(rt: &R, image: &Region) -> St
 {
     let mut out = Counted::new(Noted::new(ErrorOutput::new(rt)));
     let (status, file_fault) = draw_buffered(rt.alloc(), image, io::writer(rt), &mut out);
-    let (_, fault) = out.into_inner().into_parts();
-    report_outcome(
+    report_outputs(
         rt,
         status,
-        &[(STANDARD_OUTPUT, file_fault), (STANDARD_ERROR, fault)],
-    );
-    status
+        (STANDARD_OUTPUT, file_fault),
+        STANDARD_ERROR,
+        out,
+    )
 }
 
 /// Writes the picture of an image to a file. An image and a PDB or PRC file aren't replaced.
@@ -117,11 +117,5 @@ fn draw_to_file<R: Files + Print + Eprint + AllocGlobal>(
     let mut out = Counted::new(Noted::new(io::writer(rt)));
     let (status, file_fault) = draw_buffered(rt.alloc(), image, &mut file_out, &mut out);
     file_out.close();
-    let (_, fault) = out.into_inner().into_parts();
-    report_outcome(
-        rt,
-        status,
-        &[(out_path, file_fault), (STANDARD_OUTPUT, fault)],
-    );
-    status
+    report_outputs(rt, status, (out_path, file_fault), STANDARD_OUTPUT, out)
 }

@@ -8,12 +8,14 @@
 
 mod counted;
 mod faulty_parts;
+mod has_text;
 mod output;
 mod pieces;
 mod spelled;
 
 pub use counted::Counted;
 pub use faulty_parts::faulty_pieces;
+pub use has_text::{HasText, put_each};
 pub use output::{WriteFault, put, put_all};
-pub use pieces::{Piece, put_pieces};
+pub use pieces::{Piece, four_bytes, put_pieces};
 pub use spelled::are_printable;

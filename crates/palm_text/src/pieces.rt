@@ -1,12 +1,13 @@
 //! Lines that are written piece by piece.
 
-ghost use Rattle.std.specs.Prelude.{◌≤◌, is_ok, length};
+ghost use Rattle.std.specs.Prelude.{◌≡◌, ◌≤◌, is_ok, length};
 ghost use Rattle.hex.specs.Hex.{encode_lower};
 ghost use Rattle.heap_model.specs.Bytes.{u16_bytes, u32_bytes};
 ghost use Rattle.palm_text.specs.Counted.{Writes};
-ghost use Rattle.palm_text.specs.Pieces.{piece_text, script_spelled, text_of_pieces};
+ghost use Rattle.palm_text.specs.Pieces.{piece_text, text_of_pieces};
 
 use crate::counted::Counted;
+use crate::has_text::{HasText, put_each};
 use crate::output::{WriteFault, put_all};
 use crate::spelled::put_spelled;
 use byteorder::{BigEndian, ByteOrder};
@@ -39,43 +40,40 @@ pub enum Piece<'a> {
 }
 
 /// Writes pieces, one after another.
+#[tactic(auto, using(crate::proofs::PieceTexts::put_all_of))]
 pub fn put_pieces<W: Write>(out: &mut Counted<W>, pieces: &[Piece]) -> Result<(), WriteFault>
     ensures { Writes W.contents out.old out.new (text_of_pieces pieces.now) (is_ok result) }
 {
-    for piece in pieces {
-        match put_piece(out, piece) {
-            Ok(()) => {}
-            Err(fault) => return Err(fault),
-        }
-    }
-    Ok(())
+    put_each(out, pieces)
 }
 
-fn put_piece<W: Write>(out: &mut Counted<W>, piece: &Piece) -> Result<(), WriteFault>
-    ensures { Writes W.contents out.old out.new (piece_text piece.now) (is_ok result) }
-{
-    match piece {
-        Piece::Text(text) => put_all(out, text),
-        Piece::Spelled(text) => put_spelled(out, text),
-        Piece::FourBytes(number) => put_four_bytes(out, *number),
-        Piece::Number(number) => {
-            let mut buffer = Buffer::new();
-            put_all(out, buffer.format(*number).as_bytes())
+impl HasText for Piece<'_> {
+    ghost text = { piece_text };
+
+    fn put_to<W: Write>(&self, out: &mut Counted<W>) -> Result<(), WriteFault> {
+        match self {
+            Piece::Text(text) => put_all(out, text),
+            Piece::Spelled(text) => put_spelled(out, text),
+            Piece::FourBytes(number) => put_spelled(out, &four_bytes(*number)),
+            Piece::Number(number) => {
+                let mut buffer = Buffer::new();
+                put_all(out, buffer.format(*number).as_bytes())
+            }
+            Piece::Hex(bytes) => put_hex(out, bytes),
+            Piece::Hex8(number) => put_hex_turn(out, &[*number]),
+            Piece::Hex16(number) => put_hex_16(out, *number),
+            Piece::Hex32(number) => put_hex_turn(out, &four_bytes(*number)),
         }
-        Piece::Hex(bytes) => put_hex(out, bytes),
-        Piece::Hex8(number) => put_hex_turn(out, &[*number]),
-        Piece::Hex16(number) => put_hex_16(out, *number),
-        Piece::Hex32(number) => put_hex_32(out, *number),
     }
 }
 
-/// Writes the four bytes of a number as a spelled text.
-fn put_four_bytes<W: Write>(out: &mut Counted<W>, number: u32) -> Result<(), WriteFault>
-    ensures { Writes W.contents out.old out.new (script_spelled (u32_bytes number)) (is_ok result) }
+/// Returns the four bytes of a number, big-endian.
+pub fn four_bytes(number: u32) -> [u8; 4]
+    ensures { result ≡ u32_bytes number }
 {
     let mut bytes = [0; 4];
     BigEndian::write_u32(&mut bytes, number);
-    put_spelled(out, &bytes)
+    bytes
 }
 
 /// Writes a number in four hex digits.
@@ -84,15 +82,6 @@ fn put_hex_16<W: Write>(out: &mut Counted<W>, number: u16) -> Result<(), WriteFa
 {
     let mut bytes = [0; 2];
     BigEndian::write_u16(&mut bytes, number);
-    put_hex_turn(out, &bytes)
-}
-
-/// Writes a number in eight hex digits.
-fn put_hex_32<W: Write>(out: &mut Counted<W>, number: u32) -> Result<(), WriteFault>
-    ensures { Writes W.contents out.old out.new (encode_lower (u32_bytes number)) (is_ok result) }
-{
-    let mut bytes = [0; 4];
-    BigEndian::write_u32(&mut bytes, number);
     put_hex_turn(out, &bytes)
 }
 

@@ -35,35 +35,21 @@ first_none (row ∷ rows) fault f n = elim f [ inl here ↦ n.0 fault here | inr
 
 -- ---- no row brings `OutOfMemory`
 
+abbrev NoneBrings : StoreFault → List (StoreFault → Type 0) → Type 0
+NoneBrings fault [] = Unit {0}
+NoneBrings fault (row ∷ rows) = (row fault → ⊥) × NoneBrings fault rows
+
+not_first : (rows : List (StoreFault → Type 0)) (fault : StoreFault) → NoneBrings fault rows → FirstBrought rows fault → ⊥
+not_first [] fault n f = f
+not_first (row ∷ rows) fault n f = elim f [ inl here ↦ n.0 here | inr later ↦ not_first rows fault n.1 later.1 ]
+
 pub marked_not_memory : (image : List ℕ) → FirstBrought (marked_faults image) OutOfMemory → ⊥
-marked_not_memory image f = elim f [
-  | inl row ↦ (let e = row.2 in absurd cc)
-  | inr rest ↦ elim rest.1 [
-    | inl row ↦ (let e = row.2 in absurd cc)
-    | inr rest ↦ elim rest.1 [
-      | inl row ↦ (let e = row.3 in absurd cc)
-      | inr rest ↦ elim rest.1 [
-        | inl row ↦ (let e = row.2 in absurd cc)
-        | inr rest ↦ elim rest.1 [
-          | inl row ↦ (let e = row.2 in absurd cc)
-          | inr rest ↦ rest.1
-        ]
-      ]
-    ]
-  ]
-]
+marked_not_memory image = not_first (marked_faults image) OutOfMemory
+    (λ row. (let e = row.2 in absurd cc), (λ row. (let e = row.2 in absurd cc), (λ row. (let e = row.3 in absurd cc), (λ row. (let e = row.2 in absurd cc), (λ row. (let e = row.2 in absurd cc), tt)))))
 
 pub own_not_memory : (image : List ℕ) → FirstBrought (own_faults image) OutOfMemory → ⊥
-own_not_memory image f = elim f [
-  | inl row ↦ (let e = row.3 in absurd cc)
-  | inr rest ↦ elim rest.1 [
-    | inl row ↦ (let e = row.2 in absurd cc)
-    | inr rest ↦ elim rest.1 [
-      | inl row ↦ (let e = row.2 in absurd cc)
-      | inr rest ↦ rest.1
-    ]
-  ]
-]
+own_not_memory image = not_first (own_faults image) OutOfMemory
+    (λ row. (let e = row.3 in absurd cc), (λ row. (let e = row.2 in absurd cc), (λ row. (let e = row.2 in absurd cc), tt)))
 
 -- ---- what is known if the first three passes found nothing
 

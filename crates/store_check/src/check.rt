@@ -117,29 +117,9 @@ fn check_databases<A: Allowance>(
     ensures no_memory { result ≡ Err StoreFault.OutOfMemory → A.is_short memory.now }
 {
     let mut table = [NO_BODY; MOST_DATABASES as usize];
-    check_with_table(memory, region, owners, &mut table)
-}
-
-/// Does the same, with a table in which the headers are noted as they are found.
-fn check_with_table<A: Allowance>(
-    memory: &A,
-    region: &Region,
-    owners: &[u8],
-    table: &mut [Body],
-) -> Result<u32, StoreFault>
-    requires whole { region.now.lents ≡ [] }
-    requires accepted { HeapAccepted region.now.bytes }
-    requires owners { HasOwners region.now.bytes owners.now }
-    requires table { most_databases ≤ length table.old }
-    ensures accepted { OnOk result (Accepted region.now.bytes) }
-    ensures count { IfOk result (λ count. count ≡ length (listed region.now.bytes)) }
-    ensures fault { IfErr result (IsFirstOr (store_faults region.now.bytes)) }
-    ensures refused { IfErr result (IsRefusal region.now.bytes) }
-    ensures no_memory { result ≡ Err StoreFault.OutOfMemory → A.is_short memory.now }
-{
     know_bytes(region);
     let directory = directory_in(region);
-    check_marks(memory, region, directory, owners, table)?;
+    check_marks(memory, region, directory, owners, &mut table)?;
     let headers = &table[..listed_count(directory)];
     check_ids_and_names(memory, region, headers)?;
     Ok(headers.len() as u32)

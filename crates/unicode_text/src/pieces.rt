@@ -1,15 +1,12 @@
 //! Documents that are written piece by piece.
 
 ghost use Rattle.std.specs.Prelude.{is_ok};
-ghost use Rattle.heap_model.specs.Bytes.{u32_bytes};
 ghost use Rattle.palm_text.specs.Counted.{Writes};
 ghost use Rattle.unicode_text.specs.Pieces.{json_of, json_text};
-ghost use Rattle.unicode_text.specs.Strings.{hex_string, string};
 
 use crate::strings::{put_hex_string, put_string, put_utf8_string};
-use byteorder::{BigEndian, ByteOrder};
 use itoa::Buffer;
-use palm_text::{Counted, WriteFault, put_all};
+use palm_text::{Counted, HasText, WriteFault, four_bytes, put_all, put_each};
 use std::io::Write;
 
 /// A piece of a document.
@@ -35,46 +32,24 @@ pub enum JsonPiece<'a> {
 pub fn put_json<W: Write>(out: &mut Counted<W>, pieces: &[JsonPiece]) -> Result<(), WriteFault>
     ensures { Writes W.contents out.old out.new (json_of pieces.now) (is_ok result) }
 {
-    for piece in pieces {
-        match put_piece(out, piece) {
-            Ok(()) => {}
-            Err(fault) => return Err(fault),
+    put_each(out, pieces)
+}
+
+impl HasText for JsonPiece<'_> {
+    ghost text = { json_text };
+
+    fn put_to<W: Write>(&self, out: &mut Counted<W>) -> Result<(), WriteFault> {
+        match self {
+            JsonPiece::Text(text) => put_all(out, text),
+            JsonPiece::Number(number) => {
+                let mut buffer = Buffer::new();
+                put_all(out, buffer.format(*number).as_bytes())
+            }
+            JsonPiece::String(bytes) => put_string(out, bytes),
+            JsonPiece::Utf8(text) => put_utf8_string(out, text),
+            JsonPiece::Hex(bytes) => put_hex_string(out, bytes),
+            JsonPiece::FourBytes(number) => put_string(out, &four_bytes(*number)),
+            JsonPiece::FourHex(number) => put_hex_string(out, &four_bytes(*number)),
         }
     }
-    Ok(())
-}
-
-fn put_piece<W: Write>(out: &mut Counted<W>, piece: &JsonPiece) -> Result<(), WriteFault>
-    ensures { Writes W.contents out.old out.new (json_text piece.now) (is_ok result) }
-{
-    match piece {
-        JsonPiece::Text(text) => put_all(out, text),
-        JsonPiece::Number(number) => {
-            let mut buffer = Buffer::new();
-            put_all(out, buffer.format(*number).as_bytes())
-        }
-        JsonPiece::String(bytes) => put_string(out, bytes),
-        JsonPiece::Utf8(text) => put_utf8_string(out, text),
-        JsonPiece::Hex(bytes) => put_hex_string(out, bytes),
-        JsonPiece::FourBytes(number) => put_four_bytes(out, *number),
-        JsonPiece::FourHex(number) => put_four_hex(out, *number),
-    }
-}
-
-/// Writes the string of the four bytes of a number.
-fn put_four_bytes<W: Write>(out: &mut Counted<W>, number: u32) -> Result<(), WriteFault>
-    ensures { Writes W.contents out.old out.new (string (u32_bytes number)) (is_ok result) }
-{
-    let mut bytes = [0; 4];
-    BigEndian::write_u32(&mut bytes, number);
-    put_string(out, &bytes)
-}
-
-/// Writes the string of the hex digits of the four bytes of a number.
-fn put_four_hex<W: Write>(out: &mut Counted<W>, number: u32) -> Result<(), WriteFault>
-    ensures { Writes W.contents out.old out.new (hex_string (u32_bytes number)) (is_ok result) }
-{
-    let mut bytes = [0; 4];
-    BigEndian::write_u32(&mut bytes, number);
-    put_hex_string(out, &bytes)
 }

@@ -1,41 +1,70 @@
 //! Strings.
 
-ghost use Rattle.std.specs.Prelude.{◌≡◌, ◌++◌, ◌∷◌, [], codes, is_ok};
+ghost use Rattle.std.specs.Prelude.{◌≡◌, is_ok};
 ghost use Rattle.palm_text.specs.Counted.{Writes};
 ghost use Rattle.unicode_text.specs.Strings as words;
-ghost use Rattle.unicode_text.specs.Strings.{string_character, string_characters, closed_string, escape_of, hex_string, string};
-ghost use Rattle.unicode_text.specs.Strings.{closed_utf8_string, utf8_character, utf8_characters, utf8_string};
+ghost use Rattle.unicode_text.specs.Strings.{closed_string, escape_of, hex_string, string, string_character, string_characters, string_in, utf8_string};
 
 use crate::characters::character_of;
 use palm_text::{Counted, Piece, WriteFault, put_all, put_pieces};
 use std::io::Write;
 
+/// What the bytes of a string are.
+#[derive(Clone, Copy)]
+enum Coding {
+    /// Characters of Windows-1252.
+    Windows1252,
+    /// A text in UTF-8, whose characters outside ASCII stay as they are.
+    Utf8,
+}
+
 /// Writes the string of some bytes.
 pub(crate) fn put_string<W: Write>(out: &mut Counted<W>, bytes: &[u8]) -> Result<(), WriteFault>
     ensures { Writes W.contents out.old out.new (string bytes.now) (is_ok result) }
 {
-    match put_all(out, b"\"") {
-        Ok(()) => put_closed(out, bytes),
-        Err(fault) => Err(fault),
-    }
+    put_coded(out, Coding::Windows1252, bytes)
+}
+
+/// Writes the string of a text. Characters outside ASCII stay in UTF-8.
+pub(crate) fn put_utf8_string<W: Write>(out: &mut Counted<W>, text: &str) -> Result<(), WriteFault>
+    ensures { Writes W.contents out.old out.new (utf8_string text.now) (is_ok result) }
+{
+    put_coded(out, Coding::Utf8, text.as_bytes())
+}
+
+/// Writes the string of some bytes in a coding.
+#[tactic(auto, using(palm_text::proofs::Parts::then, palm_text::proofs::Parts::stops))]
+fn put_coded<W: Write>(out: &mut Counted<W>, coding: Coding, bytes: &[u8]) -> Result<(), WriteFault>
+    ensures { Writes W.contents out.old out.new (string_in coding bytes.now) (is_ok result) }
+{
+    put_all(out, b"\"")?;
+    put_closed(out, coding, bytes)
 }
 
 /// Writes the characters of some bytes, and the quote after them.
-fn put_closed<W: Write>(out: &mut Counted<W>, bytes: &[u8]) -> Result<(), WriteFault>
-    ensures { Writes W.contents out.old out.new (closed_string bytes.now) (is_ok result) }
+#[tactic(auto, using(palm_text::proofs::Parts::then, palm_text::proofs::Parts::stops))]
+fn put_closed<W: Write>(
+    out: &mut Counted<W>,
+    coding: Coding,
+    bytes: &[u8],
+) -> Result<(), WriteFault>
+    ensures { Writes W.contents out.old out.new (closed_string coding bytes.now) (is_ok result) }
 {
-    match put_characters(out, bytes) {
-        Ok(()) => put_all(out, b"\""),
-        Err(fault) => Err(fault),
-    }
+    put_characters(out, coding, bytes)?;
+    put_all(out, b"\"")
 }
 
 /// Writes the characters of some bytes.
-fn put_characters<W: Write>(out: &mut Counted<W>, bytes: &[u8]) -> Result<(), WriteFault>
-    ensures { Writes W.contents out.old out.new (string_characters bytes.now) (is_ok result) }
+fn put_characters<W: Write>(
+    out: &mut Counted<W>,
+    coding: Coding,
+    bytes: &[u8],
+) -> Result<(), WriteFault>
+    ensures { Writes W.contents out.old out.new (string_characters coding bytes.now)
+        (is_ok result) }
 {
     for byte in bytes {
-        match put_character(out, *byte) {
+        match put_character(out, coding, *byte) {
             Ok(()) => {}
             Err(fault) => return Err(fault),
         }
@@ -44,13 +73,23 @@ fn put_characters<W: Write>(out: &mut Counted<W>, bytes: &[u8]) -> Result<(), Wr
 }
 
 /// Writes the character of a byte.
-fn put_character<W: Write>(out: &mut Counted<W>, byte: u8) -> Result<(), WriteFault>
-    ensures { Writes W.contents out.old out.new (string_character byte) (is_ok result) }
+fn put_character<W: Write>(out: &mut Counted<W>, coding: Coding, byte: u8) -> Result<(), WriteFault>
+    ensures { Writes W.contents out.old out.new (string_character coding byte) (is_ok result) }
 {
-    if is_plain(byte) {
+    if is_kept(coding, byte) {
         put_all(out, &[byte])
     } else {
         put_escaped(out, byte)
+    }
+}
+
+/// Returns whether a byte stands in a string as it is.
+fn is_kept(coding: Coding, byte: u8) -> bool
+    ensures { result ≡ words.is_kept coding byte }
+{
+    match coding {
+        Coding::Windows1252 => is_plain(byte),
+        Coding::Utf8 => is_plain(byte) || byte >= 0x80,
     }
 }
 
@@ -62,7 +101,7 @@ fn put_escaped<W: Write>(out: &mut Counted<W>, byte: u8) -> Result<(), WriteFaul
     put_pieces(out, &[Piece::Text(b"\\u"), Piece::Hex16(code)])
 }
 
-/// Returns whether a byte stands in a string as it is.
+/// Returns whether a byte is a character that needs no escape.
 fn is_plain(byte: u8) -> bool
     ensures { result ≡ words.is_plain_in_string byte }
 {
@@ -76,48 +115,6 @@ fn code_of(byte: u8) -> u16
     match character_of(byte) {
         Some(character) => character as u16,
         None => u16::from(byte),
-    }
-}
-
-/// Writes the string of a text. Characters outside ASCII stay in UTF-8.
-#[tactic(auto, using(palm_text::proofs::Parts::then, palm_text::proofs::Parts::stops))]
-pub(crate) fn put_utf8_string<W: Write>(out: &mut Counted<W>, text: &str) -> Result<(), WriteFault>
-    ensures { Writes W.contents out.old out.new (utf8_string text.now) (is_ok result) }
-{
-    put_all(out, b"\"")?;
-    put_closed_utf8(out, text.as_bytes())
-}
-
-/// Writes the characters of a text in UTF-8, and the quote after them.
-#[tactic(auto, using(palm_text::proofs::Parts::then, palm_text::proofs::Parts::stops))]
-fn put_closed_utf8<W: Write>(out: &mut Counted<W>, text: &[u8]) -> Result<(), WriteFault>
-    ensures { Writes W.contents out.old out.new (closed_utf8_string text.now) (is_ok result) }
-{
-    put_utf8_characters(out, text)?;
-    put_all(out, b"\"")
-}
-
-/// Writes the characters of a text in UTF-8.
-fn put_utf8_characters<W: Write>(out: &mut Counted<W>, text: &[u8]) -> Result<(), WriteFault>
-    ensures { Writes W.contents out.old out.new (utf8_characters text.now) (is_ok result) }
-{
-    for byte in text {
-        match put_utf8_byte(out, *byte) {
-            Ok(()) => {}
-            Err(fault) => return Err(fault),
-        }
-    }
-    Ok(())
-}
-
-/// Writes a byte of a text in UTF-8.
-fn put_utf8_byte<W: Write>(out: &mut Counted<W>, byte: u8) -> Result<(), WriteFault>
-    ensures { Writes W.contents out.old out.new (utf8_character byte) (is_ok result) }
-{
-    if is_plain(byte) || byte >= 0x80 {
-        put_all(out, &[byte])
-    } else {
-        put_escaped(out, byte)
     }
 }
 

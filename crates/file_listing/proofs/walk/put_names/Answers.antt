@@ -2,7 +2,7 @@ use Rattle.std.proofs.Common.{◌≡◌, ◌<◌, ◌∙◌, [], drop, length, t
 use Rattle.std.proofs.lemmas.List.{drop_all}
 use Rattle.palm_text.specs.Counted.{Writes}
 use Rattle.palm_text.proofs.Parts.{nothing}
-use Rattle.unicode_text.proofs.Sequences.{then_text, stops_text}
+use Rattle.palm_text.proofs.Sequences.{then_text, stops_text}
 use Rattle.file_listing.specs.declared.rows.Row.{Row}
 use Rattle.file_listing.specs.declared.rows.Row.TheVariants.{Category}
 use Rattle.file_listing.specs.Listing.{category_row, category_rows}

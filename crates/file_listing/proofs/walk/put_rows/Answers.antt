@@ -2,7 +2,7 @@ use Rattle.std.proofs.Common.{◌≡◌, [], drop, true, false, subst, arith}
 use Rattle.std.proofs.lemmas.Grind.{common_steps}
 use Rattle.palm_text.specs.Counted.{Writes}
 use Rattle.palm_text.proofs.Parts.{nothing}
-use Rattle.unicode_text.proofs.Sequences.{then_text, stops_text}
+use Rattle.palm_text.proofs.Sequences.{then_text, stops_text}
 use Rattle.file_listing.specs.declared.rows.Row.{Row}
 use Rattle.file_listing.proofs.walk.put_rows.Goals as goal
 

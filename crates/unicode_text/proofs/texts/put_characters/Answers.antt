@@ -2,7 +2,7 @@ use Rattle.std.proofs.Common.{◌≡◌, [], drop, true, false, arith}
 use Rattle.std.proofs.lemmas.Grind.{common_steps}
 use Rattle.palm_text.proofs.Parts.{nothing}
 use Rattle.unicode_text.specs.Texts.{character}
-use Rattle.unicode_text.proofs.Sequences.{then_text, stops_text}
+use Rattle.palm_text.proofs.Sequences.{then_text, stops_text}
 use Rattle.unicode_text.proofs.texts.put_characters.Goals as goal
 
 pub loop-byte-preserved : goal.loop-byte-preserved

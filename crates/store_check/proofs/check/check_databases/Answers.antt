@@ -6,7 +6,7 @@ use Rattle.store_check.specs.Faults.{store_faults}
 use Rattle.store_check.specs.Checks.{IsFirstOr}
 use Rattle.laws_heap.proofs.Results.{if_err}
 use Rattle.store_check.proofs.CheckLaws.{marked_first, own_first, first_refused, none_accepted, listed_cut, listed_length}
-use Rattle.store_check.proofs.check.check_with_table.Goals as goal
+use Rattle.store_check.proofs.check.check_databases.Goals as goal
 
 pub returns-in_err-check_marks-clause-refused : goal.returns-in_err-check_marks-clause-refused
 returns-in_err-check_marks-clause-refused g c =

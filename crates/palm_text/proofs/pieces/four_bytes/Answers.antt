@@ -1,0 +1,6 @@
+use Rattle.heap_model.specs.Bytes.{u32_bytes}
+use Rattle.palm_text.proofs.pieces.four_bytes.Goals as goal
+
+pub returns : goal.returns
+unfolding u32_bytes
+returns c = c.write_u32.ensures

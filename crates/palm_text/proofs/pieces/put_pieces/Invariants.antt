@@ -1,8 +1,0 @@
-use Rattle.std.proofs.Common.{drop, Bool}
-use Rattle.palm_text.specs.Counted.{Writing, Writes}
-use Rattle.palm_text.specs.Pieces.{text_of_pieces}
-use Rattle.palm_text.proofs.pieces.put_pieces.Given as goal
-
--- whatever is written from here on completes the text
-abbrev pub invariant-loop-piece : goal.invariant-loop-piece
-invariant-loop-piece g l = (new : Writing g.row.W.Denot) (ok : Bool) → Writes g.W.Write.contents l.out new (text_of_pieces (drop l.piece-index l.pieces)) ok → Writes g.W.Write.contents l.fn.out new (text_of_pieces l.pieces) ok
