@@ -1,25 +1,24 @@
 -- Faults in their order, and what an image without them is.
-use Rattle.std.proofs.Common.{◌≡◌, ◌≢◌, ℕ, ◌≤◌, Bool, true, false, List, [], ◌∷◌, length, sym, ◌∙◌, Option, Some, None, Result, Ok, Err, refl, subst, arith, inl, inr}
-use Rattle.std.specs.Prelude.{IfErr, OnErr, not}
-use Rattle.std.proofs.lemmas.Bool.{false≢true}
+use Rattle.std.proofs.Common.{◌≡◌, ◌≢◌, ℕ, ◌≤◌, false, List, [], ◌∷◌, length, sym, ◌∙◌, Option, Some, None, Result, Ok, Err, refl, subst, arith, inl, inr}
+use Rattle.std.specs.Prelude.{IfErr, OnErr}
 use Rattle.heap_model.specs.Bytes.{u32_at}
 use Rattle.heap_model.specs.Chunk.{Chunk}
 use Rattle.heap_model.specs.Slots.{Table, slots_of, area_start, is_chained, first_next, further_tables}
 use Rattle.heap_model.specs.Heap.{IsHead, TableHere, IsChain, IsTablePlace, Tiles, IsKnownIfFixed, HasDirectory, IsHeap, HeapAccepted}
-use Rattle.heap_model.specs.Placed.{AnyPlaced, EveryPlaced, FirstWithout, EveryOne}
+use Rattle.heap_model.specs.Placed.{AnyPlaced, EveryPlaced, FirstWithout, EveryOne, FirstOne}
 use Rattle.heap_model.specs.Pairing.{HoldsBody, NamesItsSlot}
 use Rattle.heap_model.specs.Reading.{chunks_of}
 use Rattle.laws_heap.proofs.Placed.{FirstWithout-not, FirstOne-not}
 use Rattle.laws_heap.proofs.Runs.{stuck_run}
-use Rattle.laws_heap.proofs.Tests.{true_or_false}
-use Rattle.laws_heap.proofs.Tables.{no_chain}
+use Rattle.laws_heap.proofs.Tables.{no_chain, no_further}
 use Rattle.laws_heap.proofs.SlotNumbers.{some_place, chain_length}
 use Rattle.laws_heap.proofs.Bodies.{tied_halves, halves_tied}
 use Rattle.laws_heap.proofs.Accepted.{heap_of_read}
 use Rattle.heap_check.specs.declared.fault.HeapFault.{HeapFault}
 use Rattle.heap_check.specs.declared.fault.HeapFault.TheVariants.{BadChunk, BadTable, SlotMismatch, ChunkWithoutSlot, BadFixedOwner, BadDirectory}
 use Rattle.heap_check.specs.declared.survey.Survey.{Survey}
-use Rattle.heap_check.specs.Survey.{IsFirstWithout, IsSurvey}
+use Rattle.heap_check.specs.Survey.{IsFirstWithout, IsMarked, IsSurvey, IsPaired}
+use Rattle.heap_check.proofs.SlotLaws.{all_hold, first_mismatch}
 use Rattle.heap_check.specs.Faults.{IsTooShort, HasBadSize, HasBadSlotCount, IsBadChunk, Leads, IsBadTable, IsSlotMismatch, IsChunkWithoutSlot, IsBadFixedOwner, HasBadDirectory, slot_faults, area_faults, FirstBrought, IsFirstHeapFault}
 
 -- ---- what rules a fault out
@@ -187,37 +186,66 @@ pub refused_by : {A : Type 0} (image : List ℕ) (answer : Result A HeapFault) �
 refused_by image (Ok x) f = tt
 refused_by image (Err fault) f = refuses image fault f
 
--- ---- what a survey proves
+-- ---- what a survey proves once the later tests passed
 
-pub surveyed_tiles : (image : List ℕ) (survey : Survey) (marks : List ℕ) → IsHead image → (is_chained image ≡ true → Tiles image (chunks_of image)) → IsSurvey image survey marks → Tiles image (chunks_of image)
-surveyed_tiles image survey marks h tiles s = record { head = h; area = s.spelled; chain = elim (true_or_false (is_chained image)) [ inl chained ↦ (tiles chained).chain | inr plain ↦ no_chain image (chunks_of image) plain ] }
+-- the tiling and the marks that a survey ends with
+pub surveyed_tiles : (image : List ℕ) (survey : Survey) (marks : List ℕ) → is_chained image ≡ false → IsHead image → IsSurvey image survey marks → Tiles image (chunks_of image)
+surveyed_tiles image survey marks plain h s = record { head = h; area = s.spelled; chain = no_chain image (chunks_of image) plain }
+
+pub surveyed_mismatch : (image : List ℕ) (survey : Survey) (marks : List ℕ) (slot : ℕ) → is_chained image ≡ false → IsHead image → IsSurvey image survey marks → FirstOne (IsMarked image marks) (slots_of image) slot → IsFirstHeapFault image (SlotMismatch slot)
+surveyed_mismatch image survey marks slot plain h s f =
+    first_slot image slot (surveyed_tiles image survey marks plain h s, first_mismatch image (chunks_of image) marks slot s.surveys.marked f)
+
+pub surveyed_slots : (image : List ℕ) (survey : Survey) (marks : List ℕ) → IsSurvey image survey marks → EveryOne (IsMarked image marks) (slots_of image) → Slotted image
+surveyed_slots image survey marks s every = all_hold image (chunks_of image) marks s.surveys.marked every
 
 -- what an offset that was found, or not found, proves
-found_first : (P : ℕ → Chunk → Type 0) (at : ℕ) (cs : List Chunk) (found : Option ℕ) (there : ℕ) → IsFirstWithout P at cs found → found ≡ Some there → FirstWithout P at cs there
+pub found_first : (P : ℕ → Chunk → Type 0) (at : ℕ) (cs : List Chunk) (found : Option ℕ) (there : ℕ) → IsFirstWithout P at cs found → found ≡ Some there → FirstWithout P at cs there
 found_first P at cs found there f is = subst (λ (o : Option ℕ). IsFirstWithout P at cs o) is f
 
-found_none : (P : ℕ → Chunk → Type 0) (at : ℕ) (cs : List Chunk) (found : Option ℕ) → IsFirstWithout P at cs found → found ≡ None → EveryPlaced P at cs
+pub found_none : (P : ℕ → Chunk → Type 0) (at : ℕ) (cs : List Chunk) (found : Option ℕ) → IsFirstWithout P at cs found → found ≡ None → EveryPlaced P at cs
 found_none P at cs found f is = subst (λ (o : Option ℕ). IsFirstWithout P at cs o) is f
 
-pub surveyed_without : (image : List ℕ) (survey : Survey) (marks : List ℕ) (at : ℕ) → Tiles image (chunks_of image) → IsSurvey image survey marks → Slotted image → survey.without_slot ≡ Some at → IsFirstHeapFault image (ChunkWithoutSlot at)
-surveyed_without image survey marks at t s slotted is = first_without image at slotted (t, found_first (NamesItsSlot image) (area_start image) (chunks_of image) survey.without_slot at s.surveys.without_slot is)
+pub surveyed_without : (image : List ℕ) (survey : Survey) (marks : List ℕ) (at : ℕ) → is_chained image ≡ false → IsHead image → IsSurvey image survey marks → EveryOne (IsMarked image marks) (slots_of image) → survey.without_slot ≡ Some at
+    → IsFirstHeapFault image (ChunkWithoutSlot at)
+surveyed_without image survey marks at plain h s every is =
+    first_without image at (surveyed_slots image survey marks s every)
+    (surveyed_tiles image survey marks plain h s, found_first (NamesItsSlot image) (area_start image) (chunks_of image) survey.without_slot at s.surveys.without_slot is)
 
 pub surveyed_names : (image : List ℕ) (survey : Survey) (marks : List ℕ) → IsSurvey image survey marks → survey.without_slot ≡ None → Named image
 surveyed_names image survey marks s none = found_none (NamesItsSlot image) (area_start image) (chunks_of image) survey.without_slot s.surveys.without_slot none
 
-pub surveyed_owner : (image : List ℕ) (survey : Survey) (marks : List ℕ) (at : ℕ) → Tiles image (chunks_of image) → IsSurvey image survey marks → Slotted image → survey.without_slot ≡ None → survey.bad_owner ≡ Some at → IsFirstHeapFault image (BadFixedOwner at)
-surveyed_owner image survey marks at t s slotted none is =
-    first_owner image at slotted (surveyed_names image survey marks s none) (t, found_first (IsKnownIfFixed (further_tables image)) (area_start image) (chunks_of image) survey.bad_owner at s.surveys.bad_owner is)
+pub surveyed_owner : (image : List ℕ) (survey : Survey) (marks : List ℕ) (at : ℕ) → is_chained image ≡ false → IsHead image → IsSurvey image survey marks → EveryOne (IsMarked image marks) (slots_of image) → survey.without_slot ≡ None
+    → survey.bad_owner ≡ Some at → IsFirstHeapFault image (BadFixedOwner at)
+surveyed_owner image survey marks at plain h s every none is =
+    first_owner image at (surveyed_slots image survey marks s every) (surveyed_names image survey marks s none)
+    (surveyed_tiles image survey marks plain h s, subst (λ (ts : List Table). FirstWithout (IsKnownIfFixed ts) (area_start image) (chunks_of image) at) (sym (no_further image plain)) (found_first (IsKnownIfFixed []) (area_start image) (chunks_of image) survey.bad_owner at s.surveys.bad_owner is))
 
-pub surveyed_owners : (image : List ℕ) (survey : Survey) (marks : List ℕ) → IsSurvey image survey marks → survey.bad_owner ≡ None → Owned image
-surveyed_owners image survey marks s none = found_none (IsKnownIfFixed (further_tables image)) (area_start image) (chunks_of image) survey.bad_owner s.surveys.bad_owner none
+pub surveyed_owners : (image : List ℕ) (survey : Survey) (marks : List ℕ) → is_chained image ≡ false → IsSurvey image survey marks → survey.bad_owner ≡ None → Owned image
+surveyed_owners image survey marks plain s none = subst (λ (ts : List Table). EveryPlaced (IsKnownIfFixed ts) (area_start image) (chunks_of image)) (sym (no_further image plain)) (found_none (IsKnownIfFixed []) (area_start image) (chunks_of image) survey.bad_owner s.surveys.bad_owner none)
 
--- ---- a test that was turned
+-- everything but the directory was tested
+pub record Passed (image : List ℕ) (survey : Survey) (marks : List ℕ) : Type 0 where
+  pub plain : is_chained image ≡ false
+  pub head : IsHead image
+  pub surveyed : IsSurvey image survey marks
+  pub marked : EveryOne (IsMarked image marks) (slots_of image)
+  pub without_slot : survey.without_slot ≡ None
+  pub bad_owner : survey.bad_owner ≡ None
 
-pub not_so : (b : Bool) → not b ≡ true → b ≡ true → ⊥
-not_so true turned is = false≢true turned
-not_so false turned is = false≢true is
+pub passed_paired : (image : List ℕ) (survey : Survey) (marks : List ℕ) → Passed image survey marks → IsPaired image
+passed_paired image survey marks p = record {
+  tiles = surveyed_tiles image survey marks p.plain p.head p.surveyed;
+  slots = surveyed_slots image survey marks p.surveyed p.marked;
+  names = surveyed_names image survey marks p.surveyed p.without_slot;
+}
 
-pub is_so : (b : Bool) → not b ≡ false → b ≡ true
-is_so true turned = refl
-is_so false turned = absurd (false≢true (sym turned))
+pub passed_directory : (image : List ℕ) (survey : Survey) (marks : List ℕ) → Passed image survey marks → (HasDirectory image (chunks_of image) → ⊥) → IsFirstHeapFault image BadDirectory
+passed_directory image survey marks p none =
+    let paired = passed_paired image survey marks p in
+    first_directory image paired.slots paired.names (surveyed_owners image survey marks p.plain p.surveyed p.bad_owner) (paired.tiles, none)
+
+pub passed_heap : (image : List ℕ) (survey : Survey) (marks : List ℕ) → Passed image survey marks → HasDirectory image (chunks_of image) → HeapAccepted image
+passed_heap image survey marks p directory =
+    let paired = passed_paired image survey marks p in
+    faultless_heap image paired.tiles paired.slots paired.names (surveyed_owners image survey marks p.plain p.surveyed p.bad_owner) directory

@@ -1,18 +1,21 @@
 -- Tables along a chain: they are other chunks each, so they fit, and they are the chain once its
 -- last word is 0.
-use Rattle.std.proofs.Common.{◌≡◌, ℕ, zero, suc, ◌+◌, ◌-◌, ◌*◌, ◌/◌, ◌%◌, ◌≤◌, Bool, true, false, cond, List, [], ◌∷◌, ◌++◌, length, refl, sym, ap, ◌∙◌, arith, inl, inr}
-use Rattle.std.specs.Prelude.{◌⊎◌, ◌==◌, sum_by}
+use Rattle.std.proofs.Common.{◌≡◌, ℕ, zero, suc, ◌+◌, ◌-◌, ◌*◌, ◌/◌, ◌%◌, ◌≤◌, Bool, true, false, cond, List, [], ◌∷◌, ◌++◌, length, refl, sym, ap, subst, ◌∙◌, arith, inl, inr, length-append}
+use Rattle.std.specs.Prelude.{◌⊎◌, ◌==◌, count_by, sum_by}
 use Rattle.std.proofs.lemmas.Bool.{cases_eq, eq-eqb}
 use Rattle.std.proofs.lemmas.List.Sums.{sum_by-cons}
 use Rattle.heap_model.specs.Bytes.{u32_at}
 use Rattle.heap_model.specs.Chunk.{Chunk, free, movable, fixed, need, size_of, total, SpelledAll}
 use Rattle.heap_model.specs.Placed.{AnyPlaced}
-use Rattle.heap_model.specs.Slots.{Table, table_at, table_then, tables_within, area_start}
+use Rattle.heap_model.specs.Slots.{Table, table_at, table_then, tables_within, slots_in_row, slots_further, area_start}
 use Rattle.heap_model.specs.Heap.{TableHere, IsChain, IsTablePlace}
 use Rattle.heap_model.specs.Reading.{is_table_place}
 use Rattle.laws_heap.proofs.Tests.{true_or_false, cond-true, cond-false}
 use Rattle.laws_heap.proofs.Accepted.{Decides-place}
+use Rattle.laws_heap.proofs.Slots.{length-slots_in_row}
+use Rattle.laws_heap.proofs.SlotNumbers.{chain_length}
 use Rattle.heap_check.specs.Faults.{Leads}
+use Rattle.heap_check.specs.Chained.{ManagersBody, is_managers}
 use Rattle.heap_check.proofs.TableLaws.{TableFacts, table_facts}
 
 -- ---- places of tables
@@ -84,6 +87,27 @@ leads_read image cs (suc n) next (t ∷ ts) s most leads =
     ∙ ap (λ (x : Table). x ∷ tables_within n image (u32_at image t.place)) (table_read image t f)
     ∙ ap (λ (xs : List Table). t ∷ xs) (leads_read image cs n (u32_at image t.place) ts s (omega arith) leads.3)
 
+-- a chain leads to 0, and no table stands twice in it
+place_chain : (image : List ℕ) (cs : List Chunk) (next : ℕ) (tables : List Table) (place : ℕ) → IsChain image cs next tables → IsTablePlace tables place → (rest : List Table) × IsChain image cs place rest × (length rest ≤ length tables)
+place_chain image cs next [] place chain h = absurd h
+place_chain image cs next (t ∷ ts) place chain h = elim h [
+  | inl is ↦ (t ∷ ts, subst (λ (w : ℕ). IsChain image cs w (t ∷ ts)) (chain.0 ∙ is) chain, omega arith)
+  | inr later ↦ let r = place_chain image cs (u32_at image t.place) ts place chain.2 later in let shorter = r.2 in (r.0, r.1, omega arith)
+]
+
+pub chain_leads_on : (image : List ℕ) (cs : List Chunk) (next : ℕ) (tables : List Table) → IsChain image cs next tables → Leads image cs next tables 0
+chain_leads_on image cs next [] chain = chain
+chain_leads_on image cs next (t ∷ ts) chain = (
+  chain.0,
+  chain.1,
+  λ again.
+      let r = place_chain image cs (u32_at image t.place) ts t.place chain.2 again in
+      let shorter = r.2 in
+      let long = chain_length image cs t.place (t ∷ ts) r.0 (subst (λ (w : ℕ). IsChain image cs w (t ∷ ts)) chain.0 chain) r.1 in
+      absurd (omega arith),
+  chain_leads_on image cs (u32_at image t.place) ts chain.2,
+)
+
 -- ---- what the manager's fixed chunks weigh that aren't among some tables
 
 abbrev weight_left : (Chunk → ℕ) → (ℕ → Bool) → ℕ → Chunk → ℕ
@@ -153,6 +177,9 @@ tables_weigh weigh weight image cs next (t ∷ ts) last weighs leads =
 
 -- ---- in bytes
 
+abbrev table_bytes : Table → ℕ
+table_bytes table = 8 + 4 * table.count
+
 bytes_most : (at : ℕ) (cs : List Chunk) → unmet size_of (is_table_place []) at cs ≤ total cs
 bytes_most at [] = omega arith
 bytes_most at (free size ∷ cs) = let rest = bytes_most (at + size) cs in omega (arith, rest)
@@ -162,16 +189,57 @@ bytes_most at (fixed bytes owner ∷ cs) = let rest = bytes_most (at + need (len
   most true weight = omega arith
   most false weight = omega arith
 
-eights : (tables : List Table) → sum_by (λ table. 8) tables ≡ 8 * length tables
-eights [] = refl
-eights (t ∷ ts) =
-    let rest = eights ts in
-    let sums = sum_by-cons (λ (table : Table). 8) t ts in
-    omega (arith, rest, sums)
+bytes_sum : (tables : List Table) → sum_by table_bytes tables ≡ 8 * length tables + 4 * length (slots_further tables)
+bytes_sum [] = refl
+bytes_sum (t ∷ ts) =
+    let rest = bytes_sum ts in
+    let sums = sum_by-cons table_bytes t ts in
+    let parts = length-append (slots_in_row (t.place + 4) t.count) (slots_further ts) in
+    let row = length-slots_in_row (t.place + 4) t.count in
+    omega (arith, rest, sums, parts, row)
 
-pub tables_fit : (image : List ℕ) (cs : List Chunk) (next : ℕ) (tables : List Table) (last : ℕ) → Leads image cs next tables last → 8 * length tables ≤ total cs
+pub tables_fit : (image : List ℕ) (cs : List Chunk) (next : ℕ) (tables : List Table) (last : ℕ) → Leads image cs next tables last → 8 * length tables + 4 * length (slots_further tables) ≤ total cs
 tables_fit image cs next tables last leads =
-    let weigh = tables_weigh size_of (λ table. 8) image cs next tables last (λ table bytes owner long. omega arith) leads in
+    let weigh = tables_weigh size_of table_bytes image cs next tables last (λ table bytes owner long. omega arith) leads in
     let most = bytes_most (area_start image) cs in
-    let sum = eights tables in
+    let sum = bytes_sum tables in
     omega (arith, weigh, most, sum)
+
+-- ---- by their number
+
+abbrev one_table : Table → ℕ
+one_table table = 1
+
+abbrev one_chunk : Chunk → ℕ
+one_chunk c = 1
+
+ones : (tables : List Table) → sum_by one_table tables ≡ length tables
+ones [] = refl
+ones (t ∷ ts) = let rest = ones ts in let sums = sum_by-cons one_table t ts in omega (arith, rest, sums)
+
+all_managers : (at : ℕ) (cs : List Chunk) → unmet one_chunk (is_table_place []) at cs ≡ count_by is_managers cs
+all_managers at [] = refl
+all_managers at (free size ∷ cs) = let rest = all_managers (at + size) cs in let sums = sum_by-cons (λ (x : Chunk). cond (is_managers x) 1 0) (free size) cs in omega (arith, rest, sums)
+all_managers at (movable bytes lock owner slot ∷ cs) = let rest = all_managers (at + need (length bytes)) cs in let sums = sum_by-cons (λ (x : Chunk). cond (is_managers x) 1 0) (movable bytes lock owner slot) cs in omega (arith, rest, sums)
+all_managers at (fixed bytes owner ∷ cs) = let rest = all_managers (at + need (length bytes)) cs in let sums = sum_by-cons (λ (x : Chunk). cond (is_managers x) 1 0) (fixed bytes owner) cs in omega (arith, rest, sums)
+
+none_left : (met : ℕ → Bool) (at place : ℕ) (cs : List Chunk) → unmet one_chunk met at cs ≡ 0 → AnyPlaced (ManagersBody place) at cs → met place ≡ true
+none_left met at place [] none h = absurd h
+none_left met at place (c ∷ cs) none h = elim h [ inl own ↦ here c (omega (arith, none)) own | inr later ↦ none_left met (at + size_of c) place cs (omega (arith, none)) later ] where
+  here : (d : Chunk) → weight_left one_chunk met at d ≡ 0 → ManagersBody place at d → met place ≡ true
+  here (free size) nothing own = absurd own
+  here (movable bytes lock owner slot) nothing own = absurd own
+  here (fixed bytes owner) nothing own = elim (true_or_false (met (at + 8))) [
+    | inl is ↦ sym (ap met own.1) ∙ is
+    | inr isnt ↦
+        let one : cond {A = ℕ} (owner == 0) (cond (met (at + 8)) 0 1) 0 ≡ 1 = cond-true (owner == 0) _ 0 (eq-eqb owner 0 own.0) ∙ cond-false (met (at + 8)) 0 1 isnt in
+        absurd (omega (arith, one, nothing))
+  ]
+
+-- as many tables as the manager has fixed chunks are all of these
+pub all_tables : (image : List ℕ) (cs : List Chunk) (next : ℕ) (tables : List Table) → IsChain image cs next tables → length tables ≡ count_by is_managers cs → (place : ℕ) → AnyPlaced (ManagersBody place) (area_start image) cs → IsTablePlace tables place
+all_tables image cs next tables chain many place body =
+    let weigh = tables_weigh one_chunk one_table image cs next tables 0 (λ table bytes owner long. omega arith) (chain_leads_on image cs next tables chain) in
+    let sum = ones tables in
+    let all = all_managers (area_start image) cs in
+    (Decides-place tables place).0 (none_left (is_table_place tables) (area_start image) place cs (omega (arith, weigh, sum, all, many)) body)

@@ -1,6 +1,9 @@
 pub mod SurveyLaws
 pub mod SlotLaws
+pub mod OwnerLaws
+pub mod DirectoryLaws
 pub mod CheckLaws
+pub mod ChainedLaws
 pub mod TableLaws
 pub mod WalkLaws
 pub mod BodyLaws

@@ -1,33 +1,25 @@
 -- The walk over an accepted heap that notes the owners of slots.
-use Rattle.std.proofs.Common.{◌≡◌, true, false, ℕ, ◌+◌, ◌-◌, ◌/◌, ◌<◌, ◌≤◌, List, [], ◌∷◌, ◌++◌, length, Result, Ok, Err, set, refl, sym, ap, subst, ◌∙◌, arith, inl, inr}
-use Rattle.std.specs.Prelude.{◌⊎◌, OnOk, slice_index}
+use Rattle.std.proofs.Common.{◌≡◌, ℕ, ◌+◌, ◌-◌, ◌/◌, ◌<◌, ◌≤◌, List, [], ◌∷◌, ◌++◌, length, set, refl, sym, ap, subst, ◌∙◌, arith, inl, inr}
+use Rattle.std.specs.Prelude.{◌⊎◌, slice_index}
 use Rattle.std.proofs.lemmas.Bool.{cases_eq}
 use Rattle.std.proofs.lemmas.List.{get_or-set_same, get_or-set_other}
 use Rattle.heap_model.specs.Bytes.{u32_at}
 use Rattle.heap_model.specs.Chunk.{Chunk, free, movable, fixed, size_of, total}
-use Rattle.heap_model.specs.Slots.{area_start, is_chained, slot_count, IsSlot}
+use Rattle.heap_model.specs.Slots.{area_start, IsSlot}
 use Rattle.heap_model.specs.Placed.{AnyPlaced}
 use Rattle.heap_model.specs.Heap.{BodyHere, IsBody, IsHeap, HeapAccepted}
 use Rattle.heap_model.specs.Reading.{chunks_of}
 use Rattle.heap_model.specs.Store.{owner_of, owner_under}
 use Rattle.laws_heap.proofs.Placed.{AnyPlaced-left, AnyPlaced-right, AnyPlaced-split, AnyPlaced-mid, AnyPlaced-map}
-use Rattle.laws_heap.proofs.Slots.{slot_facts, slot_stands, stands_below}
-use Rattle.laws_heap.proofs.OneTable.{one_total, one_number}
-use Rattle.laws_heap.proofs.Meanings.{slot_place, held-is, empty_unheld}
+use Rattle.laws_heap.proofs.Slots.{slot_facts}
+use Rattle.laws_heap.proofs.Meanings.{slot_place}
 use Rattle.laws_heap.proofs.FoundChunks.{read_heap, finds_held}
 use Rattle.chunk_format.specs.declared.header.Header.{Header}
 use Rattle.chunk_format.specs.declared.header.Header.TheVariants as headers
 use Rattle.chunk_format.specs.Header.{header_of, size_by, HasHeader}
-use Rattle.heap_check.specs.Owners.{marked_word, marks_needed, NoneMarked, AreEnoughMarks, CanNote, HasOwners, IsRoomFor, NamesBy, NotesOwner}
-use Rattle.heap_check.proofs.MarkLaws.{needed_chained, needed_plain}
+use Rattle.heap_check.specs.Owners.{marked_word, NoneMarked, HasOwners, IsRoomFor, NamesBy, NotesOwner}
+use Rattle.heap_check.proofs.OwnerLaws.{empty_owner}
 use Rattle.heap_check.proofs.WalkLaws.{HasPassed, passed_step, passed_all}
-
--- an empty slot has no owner
-empty_owner : (image : List ℕ) (slot : ℕ) → HeapAccepted image → IsSlot image slot → u32_at image slot ≡ 0 → 16 ≡ owner_under image slot
-unfolding owner_under
-empty_owner image slot h s empty =
-    let heap = read_heap image h in
-    sym (ap owner_of (held-is image (chunks_of image) slot heap ∙ empty_unheld image (chunks_of image) slot heap s empty))
 
 -- the chunk is a movable one that names this word
 abbrev NamesWord : ℕ → ℕ → Chunk → Type 0
@@ -154,11 +146,11 @@ notes_all image at owners h beyond room p = record { room = room; each = each; o
 -- ---- one mark
 
 -- the mark of the word that a movable chunk names is set
-pub note_set : (owners : List ℕ) (count lock owner slot : ℕ) → IsRoomFor (headers.Movable count lock owner slot) (length owners) → NotesOwner (headers.Movable count lock owner slot) owners (set owners (slot / 4 - 4) owner)
+pub note_set : (owners : List ℕ) (count lock owner slot : ℕ) → IsRoomFor (headers.Movable count lock owner slot) (length owners) → NotesOwner (headers.Movable count lock owner slot) owners (set owners ((slot - 16) / 4) owner)
 note_set owners count lock owner slot room =
     let there = room.1 in
     let below = room.2 in
-    let mark : ℕ = slot / 4 - 4 in
+    let mark : ℕ = (slot - 16) / 4 in
     record {
       own = λ number other names.
           let is = names.0 in
@@ -167,31 +159,8 @@ note_set owners count lock owner slot room =
       others = λ number none. get_or-set_other owners mark number owner 0 (λ same. none owner ((let e : slot ≡ marked_word number = omega arith in e), refl));
     }
 
--- ---- as many marks as are needed
-
-plain_room : (image : List ℕ) (count : ℕ) → is_chained image ≡ false → slot_count image ≤ 65535 → marks_needed image ≤ count → (number : ℕ) → IsSlot image (marked_word number) → number < count
-plain_room image count plain few room number s =
-    let k = slot_stands image (marked_word number) s in
-    let there = one_number image (marked_word number) k.0 plain k.1 in
-    let below = stands_below image (marked_word number) k.0 k.1 in
-    let many = one_total image plain in
-    let need = needed_plain image plain in
-    omega (arith, there, below, many, need, room, few)
-
-chained_room : (image : List ℕ) (count : ℕ) → is_chained image ≡ true → HeapAccepted image → marks_needed image ≤ count → (number : ℕ) → IsSlot image (marked_word number) → number < count
-chained_room image count chained h room number s =
+-- as many marks as words are enough for an image with a chain
+pub chained_room : (image : List ℕ) (count : ℕ) → HeapAccepted image → length image / 4 ≤ count → (number : ℕ) → IsSlot image (marked_word number) → number < count
+chained_room image count h most number s =
     let inside = (slot_facts image (chunks_of image) (marked_word number) (read_heap image h).tiles s).inside in
-    let need = needed_chained image chained in
-    omega (arith, inside, need, room)
-
-pub plain_noted : {A E : Type 0} (image old new : List ℕ) (answer : Result A E) → is_chained image ≡ false → slot_count image ≤ 65535 → OnOk answer (HeapAccepted image) → OnOk answer (CanNote image old → HasOwners image new) → OnOk answer (AreEnoughMarks image old → HasOwners image new)
-plain_noted image old new (Ok x) plain few h noted = λ enough. noted record { accepted = h; room = plain_room image (length old) plain few enough.room; clear = enough.clear }
-plain_noted image old new (Err x) plain few h noted = tt
-
-pub chained_noted : {A E : Type 0} (image old new : List ℕ) (answer : Result A E) → is_chained image ≡ true → OnOk answer (HeapAccepted image) → OnOk answer (CanNote image old → HasOwners image new) → OnOk answer (AreEnoughMarks image old → HasOwners image new)
-chained_noted image old new (Ok x) chained h noted = λ enough. noted record { accepted = h; room = chained_room image (length old) chained h enough.room; clear = enough.clear }
-chained_noted image old new (Err x) chained h noted = tt
-
-pub enough_noted : {A E : Type 0} (image old new : List ℕ) (answer : Result A E) → AreEnoughMarks image old → OnOk answer (AreEnoughMarks image old → HasOwners image new) → OnOk answer (HasOwners image new)
-enough_noted image old new (Ok x) enough noted = noted enough
-enough_noted image old new (Err x) enough noted = tt
+    omega arith

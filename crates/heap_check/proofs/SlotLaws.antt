@@ -1,26 +1,95 @@
--- The slots that are marked: all of them before the walk, and those that no chunk has met after it.
-use Rattle.std.proofs.Common.{◌≡◌, ◌≢◌, ℕ, zero, suc, ◌+◌, ◌-◌, ◌*◌, ◌/◌, ◌%◌, ◌≤◌, true, false, List, length, replicate, refl, sym, subst, ◌∙◌, arith, inl, inr}
-use Rattle.std.specs.Prelude.{◌==◌}
-use Rattle.std.proofs.lemmas.Bool.{cases_lt, eqb-true, false≢true}
+-- Marked slots are those that hold the place of a chunk.
+use Rattle.std.proofs.Common.{◌≡◌, ◌≢◌, ℕ, zero, suc, ◌+◌, ◌<◌, ◌≤◌, true, false, List, length, map, get_or, replicate, set, refl, sym, ap, subst, ◌∙◌, arith, inl, inr}
+use Rattle.std.specs.Prelude.{◌↔◌, ◌⊎◌, slice_index}
+use Rattle.std.specs.Bool.{Decides}
+use Rattle.std.proofs.lemmas.Bool.{cases_eq}
+use Rattle.std.proofs.lemmas.Bool.Decides.{Decides-and, Decides-eqb}
+use Rattle.std.proofs.lemmas.List.{get_or-map, get_or-set_same, get_or-set_other, map-set, length-map}
 use Rattle.heap_model.specs.Bytes.{u32_at}
-use Rattle.heap_model.specs.Slots.{is_chained, StandsBehind, slots_of, slots_total, slot_count, first_slots, area_start}
+use Rattle.heap_model.specs.Chunk.{Chunk}
+use Rattle.heap_model.specs.Slots.{is_chained, IsSlot, StandsBehind, slots_of, slots_total, first_slots}
 use Rattle.heap_model.specs.Placed.{EveryOne, FirstOne}
-use Rattle.heap_model.specs.Heap.{Tiles}
 use Rattle.heap_model.specs.Pairing.{HoldsBody}
-use Rattle.heap_model.specs.Reading.{chunks_of, holds_body}
 use Rattle.laws_heap.proofs.Tests.{true_or_false}
-use Rattle.laws_heap.proofs.Accepted.{Decides-holds}
-use Rattle.laws_heap.proofs.Chunks.{SpelledAll-end}
-use Rattle.laws_heap.proofs.Slots.{slot_stands, stands_slot, stands_below, same_slot, slot_facts, first_slots-front, first_slots-all, every_first-more}
-use Rattle.laws_heap.proofs.OneTable.{one_total, one_stands, one_number}
-use Rattle.bit_sets.specs.Sets.{IsInSet, HasNone}
-use Rattle.master_table.specs.declared.slots.Row.{Row}
-use Rattle.master_table.specs.Table.{IsRow, row_start, row_end}
-use Rattle.master_table.proofs.RowLaws.{row_at, row_bounds, last_end}
+use Rattle.laws_heap.proofs.Slots.{Decides-slot, slot_stands, stands_slot, stands_below, same_slot, every_slot, first_slots-front}
+use Rattle.laws_heap.proofs.OneTable.{one_same}
+use Rattle.laws_heap.proofs.Placed.{EveryOne-like, FirstOne-like}
 use Rattle.heap_check.specs.Owners.{NoneMarked}
-use Rattle.heap_check.specs.Marks.{Marks, AddsWords, LiesFrom, IsStray, IsSlotOrStray, IsUnmetOrStray, MarksBefore, HeldBefore}
-use Rattle.heap_check.proofs.StrayLaws.{stray_word}
-use Rattle.heap_check.proofs.NameLaws.{body_in_front}
+use Rattle.heap_check.specs.Survey.{holds_place, MarkTiedSlots, AddsMark, MarkedAt, IsHolder, IsMarked}
+
+-- ---- one mark more
+
+Decides-holds_place : (image : List ℕ) (slot at : ℕ) → Decides (holds_place image slot at) (IsSlot image slot × (u32_at image slot ≡ at + 8))
+Decides-holds_place image slot at = Decides-and _ _ (Decides-slot image slot) (Decides-eqb (u32_at image slot) (at + 8))
+
+pub holds_true : (image : List ℕ) (slot at : ℕ) → IsSlot image slot → u32_at image slot ≡ at + 8 → true ≡ holds_place image slot at
+holds_true image slot at s here = sym ((Decides-holds_place image slot at).1 (s, here))
+
+pub holds_false : (image : List ℕ) (slot at : ℕ) → (IsSlot image slot → u32_at image slot ≢ at + 8) → false ≡ holds_place image slot at
+holds_false image slot at none = elim (true_or_false (holds_place image slot at)) [
+  | inl here ↦ let both = (Decides-holds_place image slot at).0 here in absurd (none both.0 both.1)
+  | inr apart ↦ sym apart
+]
+
+mark_set_in : (image : List ℕ) (old : List ℕ) (named at mark number : ℕ) → is_chained image ≡ false → StandsBehind image named number → u32_at image named ≡ at + 8 → number < length old → AddsMark image (IsHolder image named at) mark old (set old number mark)
+mark_set_in image old named at mark number plain there here room = record {
+  each = λ slot k s. elim (cases_eq k number) [
+    | inl same ↦
+        let one : named ≡ slot = same_slot image named slot number there (subst (λ (n : ℕ). StandsBehind image slot n) same s) in
+        let marked : slice_index (set old number mark) k ≡ mark = ap (λ (n : ℕ). slice_index (set old number mark) n) same ∙ get_or-set_same old number mark 0 room in
+        inl ((one, sym here ∙ ap (u32_at image) one), marked)
+    | inr apart ↦
+        inr (λ holder. apart (one_same image slot k number plain s (subst (λ (t : ℕ). StandsBehind image t number) holder.0 there)), get_or-set_other old number k mark 0 apart)
+  ];
+  beyond = λ k far. let below = stands_below image named number there in get_or-set_other old number k mark 0 (λ same. omega arith);
+}
+
+-- the same for the meanings of marks
+pub mark_set : {Mark : Type 0} (says : Mark → ℕ) (image : List ℕ) (old : List Mark) (named at : ℕ) (mark : Mark) (number : ℕ) → is_chained image ≡ false → StandsBehind image named number → u32_at image named ≡ at + 8 → number < length old
+    → AddsMark image (IsHolder image named at) (says mark) (map says old) (map says (set old number mark))
+mark_set says image old named at mark number plain there here room =
+    subst (AddsMark image (IsHolder image named at) (says mark) (map says old)) (sym (map-set says old number mark))
+    (mark_set_in image (map says old) named at (says mark) number plain there here (subst (λ (n : ℕ). number < n) (sym (length-map old says)) room))
+
+pub mark_none : (image marks : List ℕ) (P : ℕ → Type 0) (mark : ℕ) → ((slot : ℕ) → IsSlot image slot → P slot → ⊥) → AddsMark image P mark marks marks
+mark_none image marks P mark none = record { each = λ slot k s. inr (λ holds. none slot (stands_slot image slot k s) holds, refl); beyond = λ k far. refl }
+
+-- which slots are marked then
+pub marks_more : (image : List ℕ) (P : ℕ → Type 0) (mark : ℕ) (old new : List ℕ) → mark < 16 → AddsMark image P mark old new → (slot number : ℕ) → StandsBehind image slot number → (MarkedAt new number ↔ (MarkedAt old number ⊎ P slot))
+marks_more image P mark old new low adds slot number s = elim (adds.each slot number s) [
+  | inl here ↦ (λ m. inr here.0, λ m e. (let is = here.1 in omega arith))
+  | inr apart ↦ (
+    λ m. inl (λ e. m (apart.1 ∙ e)),
+    λ m. elim m [ inl was ↦ (λ e. was (sym apart.1 ∙ e)) | inr holds ↦ absurd (apart.0 holds) ],
+  )
+]
+
+-- the meaning of a mark has the mark's number among the meanings
+pub said : {Mark : Type 0} (says : Mark → ℕ) (marks : List Mark) (number : ℕ) (mark : Mark) → mark ≡ get_or marks number mark → number < length marks → slice_index (map says marks) number ≡ says mark
+said says marks number mark is below = get_or-map says marks number mark 0 below ∙ ap says (sym is)
+
+-- ---- all marks
+
+marked_like : (image : List ℕ) (cs : List Chunk) (marks : List ℕ) → MarkTiedSlots image cs marks → (slot : ℕ) → IsSlot image slot → (IsMarked image marks slot ↔ HoldsBody image cs slot)
+marked_like image cs marks are slot s =
+    let n = slot_stands image slot s in (
+      λ marked used. (are slot n.0 n.1).0 (marked used n.0 n.1),
+      λ holds used k stands. (are slot k stands).1 (holds used),
+    )
+
+all_like : (image : List ℕ) (cs : List Chunk) (marks : List ℕ) → MarkTiedSlots image cs marks → EveryOne (λ slot. IsMarked image marks slot ↔ HoldsBody image cs slot) (slots_of image)
+all_like image cs marks are = every_slot (λ slot. IsMarked image marks slot ↔ HoldsBody image cs slot) image (marked_like image cs marks are)
+
+pub all_hold : (image : List ℕ) (cs : List Chunk) (marks : List ℕ) → MarkTiedSlots image cs marks → EveryOne (IsMarked image marks) (slots_of image) → EveryOne (HoldsBody image cs) (slots_of image)
+all_hold image cs marks are every = EveryOne-like (IsMarked image marks) (HoldsBody image cs) (slots_of image) (all_like image cs marks are) every
+
+pub first_mismatch : (image : List ℕ) (cs : List Chunk) (marks : List ℕ) (slot : ℕ) → MarkTiedSlots image cs marks → FirstOne (IsMarked image marks) (slots_of image) slot → FirstOne (HoldsBody image cs) (slots_of image) slot
+first_mismatch image cs marks slot are first = FirstOne-like (IsMarked image marks) (HoldsBody image cs) (slots_of image) slot (all_like image cs marks are) first
+
+-- a slot is the first without something, if those before it have it
+pub first_of_number : (P : ℕ → Type 0) (image : List ℕ) (slot k : ℕ) → StandsBehind image slot k → EveryOne P (first_slots image k) → (P slot → ⊥) → FirstOne P (slots_of image) slot
+first_of_number P image slot k s every without =
+    record { before = s.front; after = s.rest; parts = s.parts; earlier = subst (λ (xs : List ℕ). EveryOne P xs) (first_slots-front image slot k s) every; without = without }
 
 -- marks that are made are clear
 pub none_marked : (n : ℕ) → NoneMarked (replicate n 16)
@@ -28,125 +97,11 @@ none_marked zero k below = absurd (omega arith)
 none_marked (suc n) zero below = refl
 none_marked (suc n) (suc k) below = none_marked n k (omega arith)
 
--- ---- all slots are marked
+-- so are those of which none means an owner
+pub none_said : {Mark : Type 0} (says : Mark → ℕ) (mark : Mark) → says mark ≡ 16 → (n : ℕ) → NoneMarked (map says (replicate n mark))
+none_said says mark none zero k below = absurd (omega arith)
+none_said says mark none (suc n) zero below = none
+none_said says mark none (suc n) (suc k) below = none_said says mark none n k (omega arith)
 
--- without a chain
-pub plain_marked : (image old new : List ℕ) → is_chained image ≡ false → HasNone old → AddsWords (LiesFrom 16 (16 + 4 * slot_count image)) old new → Marks new (IsSlotOrStray image)
-plain_marked image old new plain none adds word = (
-  λ has. elim ((adds word).0 has) [
-    | inl was ↦ absurd (none word was)
-    | inr lies ↦
-        let low = lies.0 in
-        let high = lies.1 in
-        inl (stands_slot image (4 * word) (word - 4) (one_stands image (4 * word) (word - 4) plain (omega arith) (omega arith)))
-  ],
-  λ either. (adds word).1 (inr (elim either [
-    | inl s ↦
-        let number = slot_stands image (4 * word) s in
-        let there = one_number image (4 * word) number.0 plain number.1 in
-        let below = stands_below image (4 * word) number.0 number.1 in
-        let many = one_total image plain in
-        (omega (arith, there), omega (arith, there, below, many))
-    | inr stray ↦ absurd (false≢true (sym plain ∙ stray.0))
-  ])),
-)
-
--- with a chain row by row
-pub rows_none : (image marks : List ℕ) → Marks marks (IsStray image) → MarksBefore image 0 marks
-rows_none image marks strays word = (λ has. inr ((strays word).0 has), λ either. elim either [ inl first ↦ (let below = first.1 in absurd (omega arith)) | inr stray ↦ (strays word).1 stray ])
-
--- where the words of a row are, of which this is the first
-pub record RowWords (image : List ℕ) (row : Row) (first start end : ℕ) : Type 0 where
-  pub own : first ≡ row.first
-  pub whole : first % 4 ≡ 0
-  pub inside : first + 4 * (end - start) ≤ length image
-
-pub row_words : (image : List ℕ) (row : Row) (first start end : ℕ) → Tiles image (chunks_of image) → IsRow image row → start ≡ row_start row → end ≡ row_end row → StandsBehind image first start → RowWords image row first start end
-row_words image row first start end t r from to s =
-    let some = r.some in
-    let own = same_slot image first row.first start s (row_at image row row.first start r (omega (arith, from)) (omega (arith, from, some)) (omega (arith, from))) in
-    let ends = (row_bounds image row (chunks_of image, t) r).ends in
-    record { own = own; whole = (slot_facts image (chunks_of image) first t (stands_slot image first start s)).whole; inside = omega (arith, own, ends, from, to) }
-
-pub rows_more : (image : List ℕ) (row : Row) (first start end : ℕ) (old new : List ℕ) → Tiles image (chunks_of image) → IsRow image row → start ≡ row_start row → end ≡ row_end row → StandsBehind image first start
-    → AddsWords (LiesFrom first (first + 4 * (end - start))) old new → MarksBefore image (row_start row) old → MarksBefore image (row_end row) new
-rows_more image row first start end old new t r from to s adds was word =
-    let w = row_words image row first start end t r from to s in
-    let own = w.own in
-    let whole = w.whole in (
-      λ has. elim ((adds word).0 has) [
-        | inl before ↦ elim ((was word).0 before) [ inl earlier ↦ (let below = earlier.1 in inl (earlier.0, omega arith, earlier.2)) | inr stray ↦ inr stray ]
-        | inr lies ↦
-            let low = lies.0 in
-            let high = lies.1 in
-            let number : ℕ = row.before + (4 * word - first) / 4 in
-            inl (number, omega (arith, low, high, whole, from, to), row_at image row (4 * word) number r (omega arith) (omega (arith, low, high, whole, from, to)) (omega (arith, own, low, whole)))
-      ],
-      λ either. (adds word).1 (elim either [
-        | inl among ↦
-            let below = among.1 in
-            elim (cases_lt among.0 row.before) [
-              | inl earlier ↦ inl ((was word).1 (inl (among.0, earlier, among.2)))
-              | inr later ↦
-                  let there = same_slot image (4 * word) (row.first + 4 * (among.0 - row.before)) among.0 among.2 (row_at image row (row.first + 4 * (among.0 - row.before)) among.0 r later below refl) in
-                  inr (omega (arith, there, own), omega (arith, there, own, later, below, from, to))
-            ]
-        | inr stray ↦ inl ((was word).1 (inr stray))
-      ]),
-    )
-
-pub rows_all : (image : List ℕ) (row : Row) (marks : List ℕ) → IsRow image row → (row.next == 0) ≡ true → MarksBefore image (row_end row) marks → Marks marks (IsSlotOrStray image)
-rows_all image row marks r last m word =
-    let end = last_end image row r (eqb-true row.next 0 last) in (
-      λ has. elim ((m word).0 has) [ inl among ↦ inl (stands_slot image (4 * word) among.0 among.2) | inr stray ↦ inr stray ],
-      λ either. (m word).1 (elim either [
-        | inl s ↦ let number = slot_stands image (4 * word) s in let below = stands_below image (4 * word) number.0 number.1 in inl (number.0, omega (arith, end, below), number.1)
-        | inr stray ↦ inr stray
-      ]),
-    )
-
--- ---- no slot in use is marked any longer
-
--- a slot is the first without something, if those before it have it
-pub first_of_number : (P : ℕ → Type 0) (image : List ℕ) (slot k : ℕ) → StandsBehind image slot k → EveryOne P (first_slots image k) → (P slot → ⊥) → FirstOne P (slots_of image) slot
-first_of_number P image slot k s every without =
-    record { before = s.front; after = s.rest; parts = s.parts; earlier = subst (λ (xs : List ℕ). EveryOne P xs) (first_slots-front image slot k s) every; without = without }
-
-pub held_more : (image : List ℕ) (slot k : ℕ) (marks : List ℕ) → Tiles image (chunks_of image) → StandsBehind image slot k → Marks marks (IsUnmetOrStray image (chunks_of image)) → (IsInSet marks (slot / 4) × (u32_at image slot ≢ 0) → ⊥) → HeldBefore image k → HeldBefore image (k + 1)
-held_more image slot k marks t s left none held =
-    let is = stands_slot image slot k s in
-    let whole = (slot_facts image (chunks_of image) slot t is).whole in
-    let here : slot ≡ 4 * (slot / 4) = omega arith in
-    every_first-more (HoldsBody image (chunks_of image)) image slot k s held
-    (elim (true_or_false (holds_body image slot)) [
-      | inl body ↦ (Decides-holds image slot).0 body
-      | inr bare ↦
-          let never : HoldsBody image (chunks_of image) slot → ⊥ = λ holds. false≢true (sym bare ∙ (Decides-holds image slot).1 holds) in
-          absurd (none ((left (slot / 4)).1 (subst (λ (n : ℕ). IsUnmetOrStray image (chunks_of image) n) here (inl (is, λ body. never (λ used. body)))), λ empty. never (λ used. absurd (used empty))))
-    ])
-
--- a slot in use that is marked holds none
-pub unmet_bare : (image : List ℕ) (slot k : ℕ) (marks : List ℕ) → Tiles image (chunks_of image) → StandsBehind image slot k → Marks marks (IsUnmetOrStray image (chunks_of image)) → IsInSet marks (slot / 4) × (u32_at image slot ≢ 0) → HoldsBody image (chunks_of image) slot → ⊥
-unmet_bare image slot k marks t s left both holds =
-    let whole = (slot_facts image (chunks_of image) slot t (stands_slot image slot k s)).whole in
-    let here : 4 * (slot / 4) ≡ slot = omega arith in
-    let body = holds both.1 in
-    elim (subst (λ (n : ℕ). IsUnmetOrStray image (chunks_of image) n) here ((left (slot / 4)).0 both.0)) [
-      | inl unmet ↦ unmet.1 body
-      | inr stray ↦
-          let word = stray_word image slot t stray in
-          let below = body_in_front slot (u32_at image slot) (area_start image) (chunks_of image) body in
-          let end = SpelledAll-end image (area_start image) (chunks_of image) _ t.area in
-          let most = t.head.most in
-          absurd (omega (arith, word, below, end, most))
-    ]
-
-pub held_none : (image : List ℕ) → HeldBefore image 0
-held_none image = tt
-
-pub held_all : (image : List ℕ) (row : Row) → IsRow image row → (row.next == 0) ≡ true → HeldBefore image (row_end row) → EveryOne (HoldsBody image (chunks_of image)) (slots_of image)
-held_all image row r last held =
-    subst (λ (xs : List ℕ). EveryOne (HoldsBody image (chunks_of image)) xs) (first_slots-all image (row_end row) (let end = last_end image row r (eqb-true row.next 0 last) in omega (arith, end))) held
-
-pub rows_total : (image : List ℕ) (row : Row) → IsRow image row → (row.next == 0) ≡ true → row_end row ≡ slots_total image
-rows_total image row r last = let end = last_end image row r (eqb-true row.next 0 last) in omega (arith, end)
+pub none_at : (image marks : List ℕ) → slots_total image ≤ length marks → NoneMarked marks → (slot number : ℕ) → StandsBehind image slot number → MarkedAt marks number → ⊥
+none_at image marks room none slot number s m = let below = stands_below image slot number s in m (none number (omega arith))

@@ -6,7 +6,7 @@ use Rattle.heap_model.specs.Slots.{Table}
 use Rattle.heap_model.specs.Heap.{TableHere}
 use Rattle.laws_heap.proofs.Chunks.{Spelled-size}
 use Rattle.chunk_format.specs.Header.{HasLive}
-use Rattle.heap_check.specs.Marks.{ManagersBody}
+use Rattle.heap_check.specs.Chained.{ManagersBody}
 
 -- ---- the body of a fixed chunk of the manager's
 

@@ -40,30 +40,32 @@ passed_size image at header f =
     let inside = takes.1 in
     (omega arith, omega arith)
 
--- One chunk more. If A brings all chunks of the image, they are these and others after them.
-pub passed_if : (image : List ℕ) (A : Type 0) (P Q : List Chunk → Type 0) (at : ℕ) (header : Header) → (A → Tiles image (chunks_of image)) → HasPassed image P at → (f : HasHeader image at header)
-    → ((chunks : List Chunk) → at ≡ area_start image + total chunks → (A → (after : List Chunk) × (chunks_of image ≡ chunks ++ f.chunk ∷ after)) → P chunks → Q (chunks ++ f.chunk ∷ [])) → HasPassed image Q (at + size_by header)
-passed_if image A P Q at header tiles p f step =
-    let size : size_by header ≡ size_of f.chunk = ap size_by f.header_is ∙ size_by-header_of f.chunk in
-    let inside = (passed_size image at header f).1 in
-    let spelled : SpelledAll image (area_start image) (p.chunks ++ f.chunk ∷ []) (at + size_by header) = SpelledAll-push image (area_start image) p.chunks at f.chunk (at + size_by header) p.spelled f.spelled (ap (λ (n : ℕ). at + n) size) in
-    record {
-      chunks = p.chunks ++ f.chunk ∷ [];
-      spelled = spelled;
-      inside = inside;
-      holds = step p.chunks (SpelledAll-end image (area_start image) p.chunks at p.spelled)
-          (λ a. let rest = chunks_after image (chunks_of image) (p.chunks ++ f.chunk ∷ []) (at + size_by header) (tiles a) spelled inside in (rest.0, rest.1 ∙ append_assoc p.chunks (f.chunk ∷ []) rest.0)) p.holds;
-    }
-
+-- one chunk more
 pub passed_more : (image : List ℕ) (P Q : List Chunk → Type 0) (at : ℕ) (header : Header) → HasPassed image P at → (f : HasHeader image at header)
     → ((chunks : List Chunk) → at ≡ area_start image + total chunks → P chunks → Q (chunks ++ f.chunk ∷ [])) → HasPassed image Q (at + size_by header)
-passed_more image P Q at header p f step = passed_if image ⊥ P Q at header (λ none. absurd none) p f (λ chunks there parts was. step chunks there was)
+passed_more image P Q at header p f step =
+    let size : size_by header ≡ size_of f.chunk = ap size_by f.header_is ∙ size_by-header_of f.chunk in
+    record {
+      chunks = p.chunks ++ f.chunk ∷ [];
+      spelled = SpelledAll-push image (area_start image) p.chunks at f.chunk (at + size_by header) p.spelled f.spelled (ap (λ (n : ℕ). at + n) size);
+      inside = (passed_size image at header f).1;
+      holds = step p.chunks (SpelledAll-end image (area_start image) p.chunks at p.spelled) p.holds;
+    }
 
 -- the same of an image of which all chunks are known
 pub passed_step : (image : List ℕ) (P Q : List Chunk → Type 0) (at : ℕ) (header : Header) → Tiles image (chunks_of image) → HasPassed image P at → (f : HasHeader image at header)
     → ((chunks after : List Chunk) → at ≡ area_start image + total chunks → chunks_of image ≡ chunks ++ f.chunk ∷ after → P chunks → Q (chunks ++ f.chunk ∷ [])) → HasPassed image Q (at + size_by header)
 passed_step image P Q at header t p f step =
-    passed_if image (Unit {0}) P Q at header (λ all. t) p f (λ chunks there parts was. let rest = parts tt in step chunks rest.0 there rest.1 was)
+    let size : size_by header ≡ size_of f.chunk = ap size_by f.header_is ∙ size_by-header_of f.chunk in
+    let inside = (passed_size image at header f).1 in
+    let spelled : SpelledAll image (area_start image) (p.chunks ++ f.chunk ∷ []) (at + size_by header) = SpelledAll-push image (area_start image) p.chunks at f.chunk (at + size_by header) p.spelled f.spelled (ap (λ (n : ℕ). at + n) size) in
+    let rest = chunks_after image (chunks_of image) (p.chunks ++ f.chunk ∷ []) (at + size_by header) t spelled inside in
+    record {
+      chunks = p.chunks ++ f.chunk ∷ [];
+      spelled = spelled;
+      inside = inside;
+      holds = step p.chunks rest.0 (SpelledAll-end image (area_start image) p.chunks at p.spelled) (rest.1 ∙ append_assoc p.chunks (f.chunk ∷ []) rest.0) p.holds;
+    }
 
 -- at the end it holds of all
 pub record HasPassedAll (image : List ℕ) (P : List Chunk → Type 0) : Type 0 where

@@ -1,6 +1,5 @@
 pub mod Faults
 pub mod Owners
 pub mod Summary
-pub mod Marks
-pub mod Tables
 pub mod Survey
+pub mod Chained

@@ -1,10 +1,10 @@
 -- The owners of the chunks of slots, as marks. Each word of the image after the frame has a mark,
 -- even if it is no slot. The mark's number counts the words between the frame and this word. In an
 -- image without a chain the number of a slot's mark counts the slots before it.
-use Rattle.std.specs.Prelude.{◌≡◌, ◌≤◌, ◌<◌, ◌+◌, ◌*◌, ◌/◌, if◌then◌else◌, ℕ, List, length, slice_index}
+use Rattle.std.specs.Prelude.{◌≡◌, ◌<◌, ◌+◌, ◌*◌, ◌/◌, if◌then◌else◌, ℕ, Bool, true, false, List, length, slice_index}
+use Rattle.heap_model.specs.Chunk.{managers_owner}
 use Rattle.heap_model.specs.Frame.{frame_size}
 use Rattle.heap_model.specs.Slots.{slot_size, is_chained, IsSlot}
-use Rattle.heap_model.specs.Heap.{HeapAccepted}
 use Rattle.heap_model.specs.Store.{owner_under}
 use Rattle.chunk_format.specs.declared.header.Header.{Header}
 use Rattle.chunk_format.specs.declared.header.Header.TheVariants as headers
@@ -25,6 +25,16 @@ marks_needed image = if is_chained image then length image / slot_size else most
 abbrev pub no_owner_mark : ℕ
 no_owner_mark = 16
 
+-- the mark that notes this owner: the owner itself, or always the manager's if owners aren't noted
+abbrev pub noted_owner : Bool → ℕ → ℕ
+noted_owner true owner = owner
+noted_owner false owner = managers_owner
+
+-- the mark of a slot if owners aren't noted, by whether its chunk was met
+abbrev pub met_owner : Bool → ℕ
+met_owner true = managers_owner
+met_owner false = no_owner_mark
+
 -- no slot is marked
 abbrev pub NoneMarked : List ℕ → Type 0
 NoneMarked marks = (number : ℕ) → number < length marks → slice_index marks number ≡ no_owner_mark
@@ -35,17 +45,6 @@ pub record HasOwners (image owners : List ℕ) : Type 0 where
   pub room : (number : ℕ) → IsSlot image (marked_word number) → number < length owners
   pub each : (number : ℕ) → IsSlot image (marked_word number) → slice_index owners number ≡ owner_under image (marked_word number)
   pub others : (number : ℕ) → number < length owners → (IsSlot image (marked_word number) → ⊥) → slice_index owners number ≡ no_owner_mark
-
--- there are as many marks as an image needs, and no slot is marked
-pub record AreEnoughMarks (image owners : List ℕ) : Type 0 where
-  pub room : marks_needed image ≤ length owners
-  pub clear : NoneMarked owners
-
--- the image is an accepted heap, each of its slots has a mark, and no slot is marked
-pub record CanNote (image owners : List ℕ) : Type 0 where
-  pub accepted : HeapAccepted image
-  pub room : (number : ℕ) → IsSlot image (marked_word number) → number < length owners
-  pub clear : NoneMarked owners
 
 -- the chunk, if it is movable, names a word whose mark is one of `count` marks
 abbrev pub IsRoomFor : Header → ℕ → Type 0

@@ -1,15 +1,11 @@
-//! Marks for words of an image, as a set of bits, and for the owners of slots' chunks.
-//!
-//! A bit is marked by the offset of its word. Its number in the set is a fourth of the offset.
+//! Marks for slots: whether the chunk of a slot was met and, if the caller needs it, the owner of
+//! the chunk.
 #![tactic(auto, using(laws_heap::proofs::Lending::all_misses, laws_heap::proofs::Lending::all_within, laws_heap::proofs::LentBodies::none_lends))]
 
-ghost use Rattle.std.specs.Prelude.{[], ◌≡◌, ◌≤◌, ◌<◌, ◌+◌, ◌*◌, ◌/◌, ◌%◌, ◌↔◌, ◌^◌, ℕ, length, IsTrue, IfSome, IfNone, None};
+ghost use Rattle.std.specs.Prelude.{[], ◌≡◌, ◌≢◌, ◌≤◌, ◌↔◌, ℕ, Bool, true, false, List, IsTrue, IfSome, IfNone, None};
 ghost use Rattle.heap_model.specs.Frame.{HasFrame};
-ghost use Rattle.bit_sets.specs.Sets.{IsInSet};
-ghost use Rattle.heap_check.specs.Marks.{AddsWords, LiesFrom};
-ghost use Rattle.heap_check.specs.Owners.{marked_word, marks_needed as model_needed};
+ghost use Rattle.heap_check.specs.Owners.{no_owner_mark, noted_owner, met_owner, marked_word, marks_needed as model_needed};
 
-use bit_sets::{add, has};
 use chunk_format::{FRAME_SIZE, SLOT_SIZE, is_chained};
 use raw_region::Region;
 
@@ -47,32 +43,53 @@ pub fn mark_number(slot: u32) -> Option<u32>
     Some((slot - FRAME_SIZE) / SLOT_SIZE)
 }
 
-/// Returns whether the word at an offset is marked. A word that the set has no room for isn't.
-#[inline]
-pub(crate) fn is_marked(marks: &[u8], at: u32) -> bool
-    ensures { IsTrue result ↔ IsInSet marks.now (at / 4) }
-{
-    let number = at / SLOT_SIZE;
-    ((number / 8) as usize) < marks.len() && has(marks, number)
+/// The mark that a walk over the chunks gives to a slot.
+pub(crate) trait Mark: Copy {
+    /// Whether a mark notes the owner.
+    ghost notes: { Bool };
+
+    /// The meaning of a mark: the owner that was noted, or none.
+    ghost says: { Self → ℕ };
+
+    /// Returns the mark of a slot whose chunk has this owner.
+    fn of(owner: u8) -> Self
+        ensures { says result ≡ noted_owner notes owner };
+
+    /// Returns whether the slot's chunk was met.
+    fn is_set(self) -> bool
+        ensures { IsTrue result ↔ (says self ≢ no_owner_mark) };
 }
 
-/// Marks `count` words in a row, of which the first is at an offset.
-pub(crate) fn mark_words(marks: &mut [u8], first: u32, count: u32)
-    requires whole { first % 4 ≡ 0 }
-    requires small { first + 4 * count < 2 ^ 30 }
-    requires room { first + 4 * count ≤ 32 * length marks.old }
-    ensures added { AddsWords (LiesFrom first (first + 4 * count)) marks.old marks.new }
-    ensures len { length marks.new ≡ length marks.old }
-{
-    let mut number = first / SLOT_SIZE;
-    let end = number + count;
-    while number < end {
-        if number % 8 == 0 && end - number >= 8 {
-            marks[(number / 8) as usize] = 0xFF;
-            number += 8;
-        } else {
-            add(marks, number);
-            number += 1;
-        }
+/// Notes only whether the slot's chunk was met.
+impl Mark for bool {
+    ghost notes = { false };
+
+    ghost says = { met_owner };
+
+    #[inline]
+    fn of(_owner: u8) -> bool {
+        true
+    }
+
+    #[inline]
+    fn is_set(self) -> bool {
+        self
+    }
+}
+
+/// Notes the owner of the slot's chunk.
+impl Mark for u8 {
+    ghost notes = { true };
+
+    ghost says = { λ owner. owner };
+
+    #[inline]
+    fn of(owner: u8) -> u8 {
+        owner
+    }
+
+    #[inline]
+    fn is_set(self) -> bool {
+        self != NO_OWNER
     }
 }

@@ -9,21 +9,15 @@ ghost use Rattle.heap_check.specs.Owners.{marked_word, NoneMarked, HasOwners, Is
 use chunk_format::{FRAME_SIZE, Header, SLOT_SIZE, area_start};
 use raw_region::Region;
 
-/// The number of words before the slots.
-const FRAME_WORDS: usize = (FRAME_SIZE / SLOT_SIZE) as usize;
-
-/// Marks the slot that a chunk names, if it is a movable one, with the owner of the chunk. A slot
-/// that has no mark is passed over.
+/// Marks the slot that a chunk names, if it is a movable one, with the owner of the chunk.
 #[inline]
-pub(crate) fn note_owner(header: Header, owners: &mut [u8])
-    ensures noted { IsRoomFor header (length owners.old) → NotesOwner header owners.old owners.new }
+fn note_owner(header: Header, owners: &mut [u8])
+    requires room { IsRoomFor header (length owners.old) }
+    ensures noted { NotesOwner header owners.old owners.new }
     ensures len { length owners.new ≡ length owners.old }
 {
     if let Header::Movable { owner, slot, .. } = header {
-        let word = (slot / SLOT_SIZE) as usize;
-        if FRAME_WORDS <= word && word - FRAME_WORDS < owners.len() {
-            owners[word - FRAME_WORDS] = owner;
-        }
+        owners[((slot - FRAME_SIZE) / SLOT_SIZE) as usize] = owner;
     }
 }
 

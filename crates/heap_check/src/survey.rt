@@ -1,41 +1,33 @@
 //! The one walk over the chunks.
 #![tactic(auto, using(laws_heap::proofs::Lending::all_misses, laws_heap::proofs::Lending::all_within, laws_heap::proofs::Lending::part_within))]
 
-ghost use Rattle.std.specs.Prelude.{[], ◌≡◌, ◌≤◌, ◌<◌, ◌+◌, ◌/◌, ◌^◌, ◌↔◌, ◌⊎◌, true, false, length, IsTrue, IfOk, IfErr, OnOk, None};
+ghost use Rattle.std.specs.Prelude.{[], ◌≡◌, ◌≢◌, ◌≤◌, ◌<◌, ◌+◌, ◌^◌, false, length, map, IfSome, IfNone, OnSome, IfOk, IfErr, OnOk, None};
 ghost use Rattle.heap_model.specs.Bytes.{u32_at};
-ghost use Rattle.heap_model.specs.Frame.{HasFrame};
-ghost use Rattle.heap_model.specs.Slots.{HasTable, is_chained as model_chained};
-ghost use Rattle.heap_model.specs.Heap.{IsHead, Tiles};
-ghost use Rattle.heap_model.specs.Reading.{chunks_of};
-ghost use Rattle.bit_sets.specs.Sets.{RemovesNumber};
+ghost use Rattle.heap_model.specs.Slots.{HasTable, IsSlot, StandsBehind, slots_total, area_start as model_start};
 ghost use Rattle.heap_check.specs.Faults.{IsBadChunk};
-ghost use Rattle.heap_check.specs.Owners.{CanNote, HasOwners};
-ghost use Rattle.heap_check.specs.Marks.{Marks, IsSlotOrStray, AreWithin, TakesWords};
-ghost use Rattle.heap_check.specs.Survey.{noted, HoldsMarked, NamesMarkedBy, BodyBy, ManagersBy, IsUnmarkedTable, IsKnownBy, IsSurvey};
+ghost use Rattle.master_table.specs.Table.{IsOneTable};
+ghost use Rattle.heap_check.specs.Owners.{NoneMarked};
+ghost use Rattle.heap_check.specs.Survey.{noted, holds_place, AddsMark, IsHolder, AreNoted, KeepsBeyond, IsSurvey};
 
-use crate::marks::is_marked;
-use crate::owners::note_owner;
-use bit_sets::remove;
-use chunk_format::{
-    DATA_OWNER, HEADER_SIZE, Header, MANAGERS_OWNER, SLOT_SIZE, area_start, directory, is_chained,
-};
+use crate::marks::Mark;
+use chunk_format::{DATA_OWNER, HEADER_SIZE, Header, MANAGERS_OWNER, area_start};
+use master_table::OneTable;
 use raw_region::Region;
 
-/// The results of a walk so far: the number of chunks of each kind, the free bytes, whether the
-/// directory was found, and the offsets of the first chunks with each fault that is tested later.
+/// The results of a walk so far: the number of chunks of each kind, the free bytes, and the offsets
+/// of the first chunks with each fault that is tested later.
 #[derive(Clone, Copy)]
 pub(crate) struct Survey {
     pub(crate) movable: u32,
     pub(crate) fixed: u32,
     pub(crate) free: u32,
-    pub(crate) directory: bool,
     pub(crate) without_slot: Option<u32>,
     pub(crate) bad_owner: Option<u32>,
 }
 
 /// Returns the first offset that failed a test, after the test of the chunk at `at`.
 #[inline]
-fn note(first: Option<u32>, at: u32, right: bool) -> Option<u32>
+pub(crate) fn note(first: Option<u32>, at: u32, right: bool) -> Option<u32>
     ensures { result ≡ noted first at right }
 {
     if right { first } else { note_wrong(first, at) }
@@ -54,98 +46,64 @@ fn note_wrong(first: Option<u32>, at: u32) -> Option<u32>
     }
 }
 
-/// Returns whether the slot at this offset is marked and holds this place. If so, it takes the mark
-/// away.
+/// Returns the number of the slot at this offset, if one is there and holds the place of the chunk
+/// at `at`.
 #[inline]
-fn take_slot(region: &Region, marks: &mut [u8], slot: u32, place: u32) -> bool
-    requires whole { region.now.lents ≡ [] }
-    requires within { AreWithin region.now.bytes marks.old }
-    ensures held { IsTrue result ↔ HoldsMarked region.now.bytes slot place marks.old }
-    ensures taken { IsTrue result → RemovesNumber marks.old marks.new (slot / 4) }
-    ensures not_taken { (IsTrue result → ⊥) → marks.new ≡ marks.old }
-    ensures len { length marks.new ≡ length marks.old }
+fn holder_of(region: &Region, table: OneTable, slot: u32, at: u32) -> Option<u32>
+    requires has_table { HasTable region.now }
+    requires table { IsOneTable region.now.bytes table }
+    requires small { at < 2 ^ 24 }
+    ensures below { IfSome result (λ number. number < slots_total region.now.bytes) }
+    ensures number { IfSome result (StandsBehind region.now.bytes slot) }
+    ensures holds { OnSome result (u32_at region.now.bytes slot ≡ at + HEADER_SIZE) }
+    ensures none { IfNone result (IsSlot region.now.bytes slot
+        → u32_at region.now.bytes slot ≢ at + HEADER_SIZE) }
 {
-    if slot % SLOT_SIZE != 0 || !is_marked(marks, slot) {
-        return false;
+    let number = table.number(slot)?;
+    if region.get_u32(slot as usize) != at + HEADER_SIZE {
+        return None;
     }
-    if region.get_u32(slot as usize) != place {
-        return false;
-    }
-    remove(marks, slot / SLOT_SIZE);
-    true
+    Some(number)
 }
 
-/// Returns whether the chunk at `at`, if it is movable, names a marked slot that holds its place.
-/// If so, it takes the mark away.
+/// Gives this mark to the slot at an offset, if one is there and holds the place of the chunk at
+/// `at`. Returns whether it did.
 #[inline]
-fn take_named(region: &Region, at: u32, header: Header, marks: &mut [u8]) -> bool
-    requires whole { region.now.lents ≡ [] }
-    requires small { at + 8 < 2 ^ 32 }
-    requires within { AreWithin region.now.bytes marks.old }
-    ensures named { IsTrue result ↔ NamesMarkedBy region.now.bytes marks.old at header }
-    ensures taken { TakesWords (λ slot. BodyBy slot (u32_at region.now.bytes slot) at header)
-        marks.old marks.new }
-    ensures len { length marks.new ≡ length marks.old }
+fn mark_holder<M: Mark>(
+    region: &Region,
+    table: OneTable,
+    slot: u32,
+    at: u32,
+    mark: M,
+    marks: &mut [M],
+) -> bool
+    requires has_table { HasTable region.now }
+    requires table { IsOneTable region.now.bytes table }
+    requires small { at < 2 ^ 24 }
+    requires room { slots_total region.now.bytes ≤ length marks.old }
+    ensures holds { result ≡ holds_place region.now.bytes slot at }
+    ensures marked { AddsMark region.now.bytes
+        (IsHolder region.now.bytes slot at) (M.says mark)
+        (map M.says marks.old) (map M.says marks.new) }
 {
-    match header {
-        Header::Movable { slot, .. } => take_slot(region, marks, slot, at + HEADER_SIZE),
-        _ => true,
-    }
-}
-
-/// Returns whether the manager's fixed chunk at `at` may be a table along a chain. It is a function
-/// of its own so that the walk, which seldom calls it, keeps no register for it.
-#[cold]
-#[inline(never)]
-fn may_be_table(region: &Region, at: u32, marks: &[u8]) -> bool
-    requires frame { HasFrame region.now }
-    requires small { at + 4 < 2 ^ 32 }
-    ensures { IsTrue result ↔ IsUnmarkedTable region.now.bytes marks.now at }
-{
-    is_chained(region) && !is_marked(marks, at + SLOT_SIZE)
-}
-
-/// Returns whether the chunk at `at`, if it is fixed, is a caller's, or one of the manager's that
-/// may be a table.
-#[inline]
-fn is_known(region: &Region, at: u32, header: Header, marks: &[u8]) -> bool
-    requires frame { HasFrame region.now }
-    requires small { at + 4 < 2 ^ 32 }
-    ensures { IsTrue result ↔ IsKnownBy region.now.bytes marks.now at header }
-{
-    match header {
-        Header::Fixed { owner, .. } => {
-            if owner == MANAGERS_OWNER {
-                may_be_table(region, at, marks)
-            } else {
-                owner < DATA_OWNER
-            }
+    match holder_of(region, table, slot, at) {
+        Some(number) => {
+            marks[number as usize] = mark;
+            true
         }
-        _ => true,
-    }
-}
-
-/// Returns whether the directory was found before, or is this chunk: a movable one of the manager's
-/// that names the directory word.
-#[inline]
-fn is_directory(found: bool, header: Header, word: u32) -> bool
-    ensures { IsTrue result ↔ (IsTrue found ⊎ ManagersBy word header) }
-{
-    match header {
-        Header::Movable { owner, slot, .. } => { found || owner == MANAGERS_OWNER && slot == word }
-        _ => found,
+        None => false,
     }
 }
 
 impl Survey {
-    ghost use Rattle.heap_check.specs.Survey.{movable_by, fixed_by, free_by};
+    ghost use Rattle.heap_check.specs.Survey.{movable_by, fixed_by, free_by, names_by, callers_by, MarksBody, Surveys};
+    ghost use Rattle.std.specs.Prelude.{[], None};
 
-    /// Returns the survey of no chunks. The directory is found if there is none.
-    fn new(directory: bool) -> Survey
+    /// Returns the survey of no chunks.
+    fn new() -> Survey
         ensures movable { result.movable ≡ 0 }
         ensures fixed { result.fixed ≡ 0 }
         ensures free { result.free ≡ 0 }
-        ensures directory { result.directory ≡ directory }
         ensures without_slot { result.without_slot ≡ None }
         ensures bad_owner { result.bad_owner ≡ None }
     {
@@ -153,67 +111,86 @@ impl Survey {
             movable: 0,
             fixed: 0,
             free: 0,
-            directory,
             without_slot: None,
             bad_owner: None,
         }
     }
 
-    /// Counts a chunk.
+    /// Adds the chunk at `at`, and marks the slot that holds its place.
     #[inline]
-    fn count(&mut self, header: Header)
-        requires { self.old.movable + self.old.fixed + self.old.free + free_by header < 2 ^ 25 }
+    fn add<M: Mark>(
+        &mut self,
+        region: &Region,
+        at: u32,
+        header: Header,
+        table: OneTable,
+        marks: &mut [M],
+    )
+        requires has_table { HasTable region.now }
+        requires table { IsOneTable region.now.bytes table }
+        requires small { at < 2 ^ 24 }
+        requires counts { self.old.movable + self.old.fixed + self.old.free + free_by header
+            < 2 ^ 25 }
+        requires room { slots_total region.now.bytes ≤ length marks.old }
         ensures movable { self.new.movable ≡ self.old.movable + movable_by header }
         ensures fixed { self.new.fixed ≡ self.old.fixed + fixed_by header }
         ensures free { self.new.free ≡ self.old.free + free_by header }
-        ensures directory { self.new.directory ≡ self.old.directory }
-        ensures without_slot { self.new.without_slot ≡ self.old.without_slot }
-        ensures bad_owner { self.new.bad_owner ≡ self.old.bad_owner }
+        ensures without_slot { self.new.without_slot
+            ≡ noted self.old.without_slot at (names_by region.now.bytes at header) }
+        ensures bad_owner { self.new.bad_owner ≡ noted self.old.bad_owner at (callers_by header) }
+        ensures marked { MarksBody M.notes region.now.bytes at header
+            (map M.says marks.old) (map M.says marks.new) }
     {
         match header {
             Header::Free { size } => self.free += size,
-            Header::Movable { .. } => self.movable += 1,
-            Header::Fixed { .. } => self.fixed += 1,
+            Header::Movable { owner, slot, .. } => {
+                self.movable += 1;
+                let holds = mark_holder(region, table, slot, at, M::of(owner), marks);
+                self.without_slot = note(self.without_slot, at, holds);
+            }
+            Header::Fixed { owner, .. } => {
+                self.fixed += 1;
+                self.bad_owner = note(
+                    self.bad_owner,
+                    at,
+                    MANAGERS_OWNER < owner && owner < DATA_OWNER,
+                );
+            }
         }
     }
 }
 
-/// Walks over the chunks, and takes away the mark of each slot that holds the place of a chunk
-/// which names it. It notes owners as `note_owner` does.
+/// Walks over the chunks of an image with this table, and marks each slot that holds the place of a
+/// chunk which names it.
 ///
 /// # Errors
 /// The offset of the first chunk that is not well-formed, or of a rest at the end that is shorter
 /// than a header.
-pub(crate) fn survey_chunks(
+pub(crate) fn survey_chunks<M: Mark>(
     region: &Region,
-    marks: &mut [u8],
-    owners: &mut [u8],
+    table: OneTable,
+    marks: &mut [M],
 ) -> Result<Survey, u32>
+    requires small { length region.now.bytes < 2 ^ 24 }
     requires whole { region.now.lents ≡ [] }
-    requires head { IsHead region.now.bytes }
-    requires tiles { model_chained region.now.bytes ≡ true
-        → Tiles region.now.bytes (chunks_of region.now.bytes) }
-    requires marked { Marks marks.old (IsSlotOrStray region.now.bytes) }
-    ensures surveyed { IfOk result (λ survey. IsSurvey region.now.bytes survey marks.new) }
-    ensures noted { OnOk result (CanNote region.now.bytes owners.old
-        → HasOwners region.now.bytes owners.new) }
+    requires has_table { HasTable region.now }
+    requires table { IsOneTable region.now.bytes table }
+    requires inside { model_start region.now.bytes ≤ length region.now.bytes }
+    requires room { slots_total region.now.bytes ≤ length marks.old }
+    requires clear { NoneMarked (map M.says marks.old) }
+    ensures surveyed { IfOk result (λ survey. IsSurvey region.now.bytes survey (map M.says marks.new)) }
+    ensures noted { OnOk result (AreNoted M.notes region.now.bytes (map M.says marks.new)) }
+    ensures beyond { KeepsBeyond region.now.bytes (map M.says marks.old) (map M.says marks.new) }
+    ensures len { length marks.new ≡ length marks.old }
     ensures stuck { IfErr result (IsBadChunk region.now.bytes) }
-    ensures len { length owners.new ≡ length owners.old }
 {
-    let word = directory(region);
-    let mut survey = Survey::new(word == 0);
+    let mut survey = Survey::new();
     let mut at = area_start(region);
     while at as usize + HEADER_SIZE as usize <= region.len() {
         let Some((header, size)) = Header::read_with_size(region, at) else {
             return Err(at);
         };
-        survey.count(header);
-        let named = take_named(region, at, header, marks);
-        let known = is_known(region, at, header, marks);
-        survey.without_slot = note(survey.without_slot, at, named);
-        survey.bad_owner = note(survey.bad_owner, at, known);
-        survey.directory = is_directory(survey.directory, header, word);
-        note_owner(header, owners);
+        survey.add(region, at, header, table, marks);
         at += size;
     }
     if (at as usize) < region.len() {

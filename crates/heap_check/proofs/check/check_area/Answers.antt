@@ -1,41 +1,63 @@
-use Rattle.heap_check.proofs.CheckLaws.{first_chunk, first_slot, first_directory, faultless_heap, surveyed_tiles, surveyed_without, surveyed_names, surveyed_owner, surveyed_owners, not_so, is_so}
+use Rattle.std.proofs.Common.{map, ◌∙◌, refl, sym, arith}
+use Rattle.std.proofs.lemmas.List.{length-map}
+use Rattle.std.proofs.lemmas.Bool.{false≢true}
+use Rattle.heap_check.proofs.CheckLaws.{surveyed_mismatch, surveyed_without, surveyed_owner, passed_paired, passed_directory, passed_heap}
+use Rattle.laws_heap.proofs.OneTable.{one_total, one_lies}
+use Rattle.laws_heap.proofs.Slots.{whole_table}
+use Rattle.heap_check.proofs.OwnerLaws.{all_owners}
 use Rattle.heap_check.proofs.check.check_area.Goals as goal
 
-pub returns-in-Err-clause-fault : goal.returns-in-Err-clause-fault
-returns-in-Err-clause-fault c = first_chunk c.args.region.now.bytes c.in-Err.at c.requires.head c.in-Err.ensures.stuck
+pub survey_chunks-requires-clause-has_table : goal.survey_chunks-requires-clause-has_table
+survey_chunks-requires-clause-has_table g c = let fits = c.requires.head.a_chunk_fits in whole_table c.args.region.now c.requires.whole (one_lies c.args.region.now.bytes c.requires.plain (omega arith))
 
-pub find_unmet-requires-clause-tiles : goal.find_unmet-requires-clause-tiles
-find_unmet-requires-clause-tiles c = surveyed_tiles c.args.region.now.bytes c.in-Ok.survey c.survey_chunks.new.marks c.requires.head c.requires.tiles c.in-Ok.ensures.surveyed
+pub survey_chunks-requires-clause-room : goal.survey_chunks-requires-clause-room
+survey_chunks-requires-clause-room g c = let total = one_total c.args.region.now.bytes c.requires.plain in omega (arith, total)
 
-pub find_unmet-requires-clause-left : goal.find_unmet-requires-clause-left
-find_unmet-requires-clause-left c = c.in-Ok.ensures.surveyed.surveys.left
+pub find_unmarked-requires-clause-has_table : goal.find_unmarked-requires-clause-has_table
+find_unmarked-requires-clause-has_table g c = let fits = c.requires.head.a_chunk_fits in whole_table c.args.region.now c.requires.whole (one_lies c.args.region.now.bytes c.requires.plain (omega arith))
 
-pub returns-in-Err-find_unmet-clause-fault : goal.returns-in-Err-find_unmet-clause-fault
-returns-in-Err-find_unmet-clause-fault c =
-    first_slot c.args.region.now.bytes c.in-Err-find_unmet.slot (surveyed_tiles c.args.region.now.bytes c.in-Ok.survey c.survey_chunks.new.marks c.requires.head c.requires.tiles c.in-Ok.ensures.surveyed, c.in-Err-find_unmet.ensures.some)
+pub find_unmarked-requires-clause-room : goal.find_unmarked-requires-clause-room
+find_unmarked-requires-clause-room g c = let total = one_total c.args.region.now.bytes c.requires.plain in omega (arith, total)
+
+pub has_directory-requires-clause-has_table : goal.has_directory-requires-clause-has_table
+has_directory-requires-clause-has_table g c = let fits = c.requires.head.a_chunk_fits in whole_table c.args.region.now c.requires.whole (one_lies c.args.region.now.bytes c.requires.plain (omega arith))
 
 pub returns-in-Some-clause-fault : goal.returns-in-Some-clause-fault
-returns-in-Some-clause-fault c =
-    surveyed_without c.args.region.now.bytes c.in-Ok.survey c.survey_chunks.new.marks c.in-Some.at (surveyed_tiles c.args.region.now.bytes c.in-Ok.survey c.survey_chunks.new.marks c.requires.head c.requires.tiles c.in-Ok.ensures.surveyed) c.in-Ok.ensures.surveyed c.in-Ok-find_unmet.ensures.none c.in-Some.is
+returns-in-Some-clause-fault g c = surveyed_mismatch c.args.region.now.bytes c.in-Ok.survey _ c.in-Some.slot c.requires.plain c.requires.head c.in-Ok.ensures.surveyed c.in-Some.ensures.some
+
+pub returns-in-Some-without_slot-clause-fault : goal.returns-in-Some-without_slot-clause-fault
+returns-in-Some-without_slot-clause-fault g c = surveyed_without c.args.region.now.bytes c.in-Ok.survey _ c.in-Some-without_slot.at c.requires.plain c.requires.head c.in-Ok.ensures.surveyed c.in_default.ensures.none c.in-Some-without_slot.is
 
 pub returns-in-Some-bad_owner-clause-fault : goal.returns-in-Some-bad_owner-clause-fault
-returns-in-Some-bad_owner-clause-fault c =
-    surveyed_owner c.args.region.now.bytes c.in-Ok.survey c.survey_chunks.new.marks c.in-Some-bad_owner.at (surveyed_tiles c.args.region.now.bytes c.in-Ok.survey c.survey_chunks.new.marks c.requires.head c.requires.tiles c.in-Ok.ensures.surveyed) c.in-Ok.ensures.surveyed c.in-Ok-find_unmet.ensures.none
-    c.in_default.is c.in-Some-bad_owner.is
+returns-in-Some-bad_owner-clause-fault g c =
+    surveyed_owner c.args.region.now.bytes c.in-Ok.survey _ c.in-Some-bad_owner.at c.requires.plain c.requires.head c.in-Ok.ensures.surveyed c.in_default.ensures.none c.in_default-without_slot.is c.in-Some-bad_owner.is
 
-pub returns-then-not-survey-clause-fault : goal.returns-then-not-survey-clause-fault
-returns-then-not-survey-clause-fault c =
-    let s = c.in-Ok.ensures.surveyed in
-    first_directory c.args.region.now.bytes c.in-Ok-find_unmet.ensures.none (surveyed_names c.args.region.now.bytes c.in-Ok.survey c.survey_chunks.new.marks s c.in_default.is) (surveyed_owners c.args.region.now.bytes c.in-Ok.survey c.survey_chunks.new.marks s c.in_default-bad_owner.is)
-    (surveyed_tiles c.args.region.now.bytes c.in-Ok.survey c.survey_chunks.new.marks c.requires.head c.requires.tiles s, λ has. not_so c.in-Ok.survey.directory c.if-not-survey.true (s.surveys.directory.1 has))
+pub has_directory-requires-clause-paired : goal.has_directory-requires-clause-paired
+has_directory-requires-clause-paired g c =
+    passed_paired c.args.region.now.bytes c.in-Ok.survey _ record { plain = c.requires.plain; head = c.requires.head; surveyed = c.in-Ok.ensures.surveyed; marked = c.in_default.ensures.none; without_slot = c.in_default-without_slot.is; bad_owner = c.in_default-bad_owner.is }
+
+pub returns-then-not-has_directory-clause-fault : goal.returns-then-not-has_directory-clause-fault
+returns-then-not-has_directory-clause-fault g c =
+    passed_directory c.args.region.now.bytes c.in-Ok.survey _ record { plain = c.requires.plain; head = c.requires.head; surveyed = c.in-Ok.ensures.surveyed; marked = c.in_default.ensures.none; without_slot = c.in_default-without_slot.is; bad_owner = c.in_default-bad_owner.is }
+    (λ has. false≢true (c.if-not-has_directory.ensures.1 has))
 
 pub returns-clause-accepted : goal.returns-clause-accepted
-returns-clause-accepted c =
-    let s = c.in-Ok.ensures.surveyed in
-    faultless_heap c.args.region.now.bytes (surveyed_tiles c.args.region.now.bytes c.in-Ok.survey c.survey_chunks.new.marks c.requires.head c.requires.tiles s) c.in-Ok-find_unmet.ensures.none
-    (surveyed_names c.args.region.now.bytes c.in-Ok.survey c.survey_chunks.new.marks s c.in_default.is) (surveyed_owners c.args.region.now.bytes c.in-Ok.survey c.survey_chunks.new.marks s c.in_default-bad_owner.is) (s.surveys.directory.0 (is_so c.in-Ok.survey.directory c.if-not-survey.false))
+returns-clause-accepted g c =
+    passed_heap c.args.region.now.bytes c.in-Ok.survey _ record { plain = c.requires.plain; head = c.requires.head; surveyed = c.in-Ok.ensures.surveyed; marked = c.in_default.ensures.none; without_slot = c.in_default-without_slot.is; bad_owner = c.in_default-bad_owner.is }
+    (c.if-not-has_directory.ensures.0 refl)
 
 pub returns-clause-summary : goal.returns-clause-summary
-returns-clause-summary c =
+returns-clause-summary g c =
     let s = c.in-Ok.ensures.surveyed.surveys in
-    record { size = c.len.ensures; slots = c.in-Ok-find_unmet.ensures.total; movable = s.movable; fixed = s.fixed; free = s.free }
+    record { size = c.len.ensures; slots = c.count.ensures ∙ c.of-table.ensures.1 ∙ sym (one_total c.args.region.now.bytes c.requires.plain); movable = s.movable; fixed = s.fixed; free = s.free }
+
+pub returns-clause-owners : goal.returns-clause-owners
+returns-clause-owners g c notes =
+    let was = length-map c.args.marks.now g.M.Mark.says in
+    let is = length-map c.survey_chunks.new.marks g.M.Mark.says in
+    let len = c.survey_chunks.ensures.len in
+    let total = one_total c.args.region.now.bytes c.requires.plain in
+    all_owners g.M.Mark.notes c.args.region.now.bytes (map g.M.Mark.says c.args.marks.now) _
+    (passed_heap c.args.region.now.bytes c.in-Ok.survey _ record { plain = c.requires.plain; head = c.requires.head; surveyed = c.in-Ok.ensures.surveyed; marked = c.in_default.ensures.none; without_slot = c.in_default-without_slot.is; bad_owner = c.in_default-bad_owner.is }
+    (c.if-not-has_directory.ensures.0 refl))
+    record { notes_owners = notes; plain = c.requires.plain; room = omega arith; len = omega arith; clear = c.requires.clear; every = c.in_default.ensures.none; noted = c.in-Ok.ensures.noted; beyond = c.survey_chunks.ensures.beyond }

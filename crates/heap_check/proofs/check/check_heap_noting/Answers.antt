@@ -1,9 +1,11 @@
-use Rattle.heap_check.proofs.CheckLaws.{refused_by}
-use Rattle.heap_check.proofs.NotingLaws.{enough_noted}
+use Rattle.heap_check.proofs.CheckLaws.{refuses, refused_by}
 use Rattle.heap_check.proofs.check.check_heap_noting.Goals as goal
 
-pub returns-clause-refused : goal.returns-clause-refused
-returns-clause-refused c = refused_by c.args.region.now.bytes c.check_image.result c.check_image.ensures.fault
+pub returns-then-is_chained-clause-refused : goal.returns-then-is_chained-clause-refused
+returns-then-is_chained-clause-refused c = refused_by c.args.region.now.bytes c.check_chained_noting.result c.check_chained_noting.ensures.fault
 
-pub returns-clause-owners : goal.returns-clause-owners
-returns-clause-owners c = enough_noted c.args.region.now.bytes c.args.owners.now c.check_image.new.owners c.check_image.result record { room = c.requires.room; clear = c.requires.clear } c.check_image.ensures.owners
+pub returns-else-is_chained-clause-refused : goal.returns-else-is_chained-clause-refused
+returns-else-is_chained-clause-refused c = refused_by c.args.region.now.bytes c.check_area.result c.check_area.ensures.fault
+
+pub returns-in-Err-clause-refused : goal.returns-in-Err-clause-refused
+returns-in-Err-clause-refused c = refuses c.args.region.now.bytes c.in-Err.fault c.in-Err.ensures.fault

@@ -4,7 +4,7 @@ use Rattle.heap_check.specs.Owners.{IsRoomFor, NotesOwner}
 use Rattle.heap_check.proofs.NotingLaws.{note_set}
 use Rattle.heap_check.proofs.owners.note_owner.Goals as goal
 
-pub returns-then-word-owners-clause-noted : goal.returns-then-word-owners-clause-noted
-returns-then-word-owners-clause-noted c = λ room.
-    subst (λ (h : Header). NotesOwner h c.args.owners.now (set c.args.owners.now (c.in-Movable.slot / 4 - 4) c.in-Movable.owner)) (sym c.in-Movable.is)
-    (note_set c.args.owners.now c.in-Movable.length c.in-Movable.lock c.in-Movable.owner c.in-Movable.slot (subst (λ (h : Header). IsRoomFor h (length c.args.owners.now)) c.in-Movable.is room))
+pub returns-in-Movable-clause-noted : goal.returns-in-Movable-clause-noted
+returns-in-Movable-clause-noted c =
+    subst (λ (h : Header). NotesOwner h c.args.owners.now (set c.args.owners.now ((c.in-Movable.slot - 16) / 4) c.in-Movable.owner)) (sym c.in-Movable.is)
+    (note_set c.args.owners.now c.in-Movable.length c.in-Movable.lock c.in-Movable.owner c.in-Movable.slot (subst (λ (h : Header). IsRoomFor h (length c.args.owners.now)) c.in-Movable.is c.requires.room))

@@ -15,16 +15,20 @@ loop-at-init c =
 pub at_with_size-header-requires-clause-chunk : goal.at_with_size-header-requires-clause-chunk
 at_with_size-header-requires-clause-chunk c = let len = c.len.ensures in passed_there c.args.region.now.bytes (NotesSlots c.args.region.now.bytes c.loop-at.owners) c.loop-at.at (read_heap c.args.region.now.bytes c.requires.accepted).tiles c.loop-at.invariant.passed (omega arith)
 
+pub note_owner-requires : goal.note_owner-requires
+note_owner-requires c =
+    let room = c.loop-at.invariant.room in
+    record { room = names_room c.args.region.now.bytes c.loop-at.at c.at_with_size-header.result.0 c.loop-at.owners (length c.loop-at.owners) c.requires.accepted c.loop-at.invariant.passed c.at_with_size-header.ensures.header (λ number s. subst (λ (n : ℕ). number < n) (sym room) (c.requires.room number s)) }
+
 pub loop-at-preserved : goal.loop-at-preserved
 loop-at-preserved c =
     let image = c.args.region.now.bytes in
     let owners = c.note_owner.new.owners in
     let room = c.loop-at.invariant.room in
     let len = c.note_owner.ensures.len in
-    let named = names_room image c.loop-at.at c.at_with_size-header.result.0 c.loop-at.owners (length c.loop-at.owners) c.requires.accepted c.loop-at.invariant.passed c.at_with_size-header.ensures.header (λ number s. subst (λ (n : ℕ). number < n) (sym room) (c.requires.room number s)) in
     record {
       passed = subst (λ (n : ℕ). HasPassed image (NotesSlots image owners) (c.loop-at.at + n)) (sym c.at_with_size-header.ensures.size)
-          (notes_more image c.loop-at.at c.at_with_size-header.result.0 c.loop-at.owners owners c.requires.accepted len c.loop-at.invariant.passed c.at_with_size-header.ensures.header (c.note_owner.ensures.noted named));
+          (notes_more image c.loop-at.at c.at_with_size-header.result.0 c.loop-at.owners owners c.requires.accepted len c.loop-at.invariant.passed c.at_with_size-header.ensures.header c.note_owner.ensures.noted);
       room = omega arith;
     }
 

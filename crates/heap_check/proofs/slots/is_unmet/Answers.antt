@@ -1,5 +1,0 @@
-use Rattle.laws_heap.proofs.Slots.{slot_within}
-use Rattle.heap_check.proofs.slots.is_unmet.Goals as goal
-
-pub get_u32-requires : goal.get_u32-requires
-get_u32-requires c = slot_within c.args.region.now c.args.slot c.requires.has_table c.requires.slot
