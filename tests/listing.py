@@ -198,7 +198,7 @@ def entry_of(listed, index, found):
         values = {**four("type", entry[0]), "id": entry[1]}
     else:
         name = listed.category(entry)
-        category = {} if listed.names is None else {"category": name and in_document(name)}
+        category = {} if name is None else {"category": in_document(name)}
         values = {"attributes": entry[0], **category, "id": entry[1]}
     return {"index": index, **values, **dict(zip(("offset", "length"), place or (None, None)))}
 
