@@ -154,7 +154,7 @@ listed=$(
 ./program_io/src/input.rt:read_within with_room(memory, room)
 ./program_io/src/input.rt:with_room room_for(memory, n)
 ./raw_region/src/region.rt:copied_from of_zeros(memory, bytes.len())?
-./raw_region/src/region.rt:of_zeros zeros(memory, size / 64 + 1)?
+./raw_region/src/region.rt:of_zeros room_for(memory, size / 64 + 1)?
 ./raw_region/src/region.rt:zeroed zeroed_from(&alloc, size)
 ./raw_region/src/region.rt:zeroed_from of_zeros(memory, size as usize)
 ./script_commands/src/line.rt:refused_growth zeros(memory, size).unwrap_err()

@@ -1,7 +1,10 @@
 -- What the marks of lent parts say, also once one more is lent or taken back.
-use Rattle.std.proofs.Common.{◌≡◌, ℕ, zero, suc, ◌+◌, ◌-◌, ◌*◌, ◌/◌, ◌%◌, ◌<◌, ◌≤◌, Bool, true, false, List, [], ◌∷◌, length, refl, sym, subst, ◌∙◌, arith, inl, inr}
+use Rattle.std.proofs.Common.{◌≡◌, ℕ, zero, suc, ◌+◌, ◌-◌, ◌*◌, ◌/◌, ◌%◌, ◌<◌, ◌≤◌, Bool, true, false, List, [], ◌∷◌, length, refl, sym, subst, ◌∙◌, arith, inl, inr, ap}
 use Rattle.std.specs.Prelude.{◌≢◌, ◌⊎◌, ◌↔◌, ◌==◌, if◌then◌else◌}
 use Rattle.std.proofs.lemmas.Bool.{cases_eq, cases_lt, eqb-true, eqb-false}
+use Rattle.std.proofs.lemmas.List.{get_or_past}
+use Rattle.std.proofs.lemmas.Nat.Bits.{bit_at-zero}
+use Rattle.std.specs.Int.{bit_at}
 use denote.RawPtr.{Ptr}
 use Rattle.bit_sets.specs.Sets.{IsInSet, HasNone, AddsNumber, RemovesNumber, HasNoneBetween, HasNoneFrom, IsLeastFrom}
 use Rattle.heap_model.specs.Memory.{Lent, EachLent, AreBeside, AreApart, without}
@@ -10,17 +13,26 @@ use Rattle.raw_region.specs.Holes.{LiesIn, KnowsLents}
 use Rattle.raw_region.specs.Marks.{BeginsAt, IsMarkable, KnowsMarks, IsNextLent, NoneBeginsAbove}
 use Rattle.raw_region.proofs.HoleLaws.{each_without, apart_without}
 
+zero-ne-one : (zero ≡ suc zero) → ⊥
+zero-ne-one e = omega (arith, e)
+
+-- a number of the set has a byte that was written
+pub in_set_inside : (set : List ℕ) (number : ℕ) → IsInSet set number → number / 8 < length set
+in_set_inside set number has = elim (cases_lt (number / 8) (length set)) [
+  | inl inside ↦ inside
+  | inr past ↦ absurd (zero-ne-one (sym (ap (λ (b : ℕ). bit_at b (number % 8)) (get_or_past set (number / 8) 0 past) ∙ bit_at-zero (number % 8)) ∙ has))
+]
+
 -- ---- where none is lent
 
-pub none_marked : (marks : List ℕ) (size : ℕ) → HasNone marks → (0 < size → size / 64 < length marks) → length marks ≤ size / 64 + 1 → KnowsMarks marks size 0 []
-none_marked marks size none room few_marks = record { room = room; few = few_marks; bits = λ unit. (λ has. none unit has, λ begins. absurd begins); even = tt; many = refl }
+pub none_marked : (marks : List ℕ) (size : ℕ) → HasNone marks → length marks ≤ size / 64 + 1 → KnowsMarks marks size 0 []
+none_marked marks size none few_marks = record { few = few_marks; bits = λ unit. (λ has. none unit has, λ begins. absurd begins); even = tt; many = refl }
 
 -- ---- one more
 
-pub marks_more : (old new : List ℕ) (size count : ℕ) (lents : List Lent) (lent : Lent) → KnowsMarks old size count lents → length new ≡ length old → IsMarkable lent.at → AddsNumber old new (lent.at / 8) → KnowsMarks new size (count + 1) (lent ∷ lents)
-marks_more old new size count lents lent k long ok a = record {
-  room = λ some. let r = k.room some in omega (arith, r, long);
-  few = let r = k.few in omega (arith, r, long);
+pub marks_more : (old new : List ℕ) (size count : ℕ) (lents : List Lent) (lent : Lent) → KnowsMarks old size count lents → length new ≤ size / 64 + 1 → IsMarkable lent.at → AddsNumber old new (lent.at / 8) → KnowsMarks new size (count + 1) (lent ∷ lents)
+marks_more old new size count lents lent k few_new ok a = record {
+  few = few_new;
   bits = bits;
   even = (ok, k.even);
   many = let m = k.many in omega (arith, m);
@@ -92,7 +104,6 @@ begins_inside p size at (l ∷ ls) each (inr r) = begins_inside p size at ls eac
 
 pub marks_fewer : (old new : List ℕ) (size count at : ℕ) (lents : List Lent) → KnowsMarks old size count lents → AreApart lents → BeginsAt at lents → length new ≡ length old → RemovesNumber old new (at / 8) → KnowsMarks new size (count - 1) (without at lents)
 marks_fewer old new size count at lents k apart begins long r = record {
-  room = λ some. let m = k.room some in omega (arith, m, long);
   few = let m = k.few in omega (arith, m, long);
   bits = bits;
   even = each_without (λ lent. IsMarkable lent.at) at lents k.even;

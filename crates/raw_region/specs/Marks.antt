@@ -11,9 +11,13 @@ BeginsAt at lents = SomeLent (λ lent. lent.at ≡ at) lents
 abbrev pub IsMarkable : ℕ → Type 0
 IsMarkable at = (0 < at) × (at % 8 ≡ 0)
 
--- the marks of a region of `size` bytes say where its lent parts begin, and how many there are
+-- a vector with this capacity has room for the marks of a region of `size` bytes
+abbrev pub HasRoomForMarks : ℕ → ℕ → Type 0
+HasRoomForMarks size capacity = 0 < size → size / 64 < capacity
+
+-- the marks of a region of `size` bytes say where its lent parts begin, and how many there are; bytes
+-- of marks that were never written are missing at the end, and have no number
 pub record KnowsMarks (marks : List ℕ) (size count : ℕ) (lents : List Lent) : Type 0 where
-  pub room : 0 < size → size / 64 < length marks
   pub few : length marks ≤ size / 64 + 1
   pub bits : (unit : ℕ) → (IsInSet marks unit ↔ BeginsAt (8 * unit) lents)
   pub even : EachLent (λ lent. IsMarkable lent.at) lents

@@ -14,8 +14,8 @@ use crate::gapped::Gapped;
 use crate::part::Part;
 use crate::room::{Lease, Room};
 use crate::run::Run;
-use crate::words;
-use allowance::{Allowance, failed, zeros};
+use crate::{marks, words};
+use allowance::{Allowance, failed, room_for};
 use byteorder::{BigEndian, ByteOrder};
 use heap_model::Tally;
 use std::alloc::{AllocError, Global};
@@ -31,8 +31,9 @@ use std::mem::{ManuallyDrop, replace};
 ///
 /// Any number of parts may be lent. Then the region owns the bytes outside of them, and contracts
 /// see zeros in their place. Proofs know which parts are lent, so no access tests it. At run time a
-/// bit for each multiple of 8 is set where a lent part begins. The bits are allocated with the
-/// region. A region can be dropped only if nothing is lent.
+/// bit for each multiple of 8 is set where a lent part begins. Their memory is allocated with the
+/// region. Nothing is written there before a part is lent, and then only up to its bit. A region can
+/// be dropped only if nothing is lent.
 pub struct Region {
     run: Gapped,
     len: usize,
@@ -53,7 +54,7 @@ impl Model for Region {
     ghost Value = { Memory };
 
     ghost use Rattle.raw_region.specs.Holes.{KnowsLents};
-    ghost use Rattle.raw_region.specs.Marks.{KnowsMarks};
+    ghost use Rattle.raw_region.specs.Marks.{HasRoomForMarks, KnowsMarks};
 
     ghost view = { λ region. record {
       bytes = region.run.bytes;
@@ -61,11 +62,12 @@ impl Model for Region {
       lents = region.run.lents;
     } };
 
-    ghost use Rattle.std.specs.Prelude.{◌≡◌, ◌<◌, ◌^◌, MatchOption};
+    ghost use Rattle.std.specs.Prelude.{◌≡◌, ◌<◌, ◌^◌, MatchOption, vec_capacity};
 
     ghost invariant = { λ region. (region.len ≡ region.run.len)
         × (region.len < 2 ^ 63) × KnowsLents region.run.ptr region.run.len region.run.lents
         × KnowsMarks region.marks.items region.run.len region.count region.run.lents
+        × HasRoomForMarks region.run.len (vec_capacity region.marks)
         × MatchOption region.lease (region.len ≡ 0) (λ lease.
         (0 < lease.size) × (lease.alloc ≡ region.alloc)
         × (lease.ptr ≡ region.run.ptr) × (lease.size ≡ region.len)) };
@@ -136,7 +138,7 @@ impl Region {
                 count: 0,
             });
         }
-        let marks = zeros(memory, size / 64 + 1)?;
+        let marks = room_for(memory, size / 64 + 1)?;
         let alloc = memory.grant()?;
         let Some((room, lease)) = Room::new(&alloc, size) else {
             return Err(unsafe { failed(memory) });
@@ -319,7 +321,7 @@ impl Region {
         let (others, run) = whole.cut_out(at, n);
         let none = replace(&mut self.run, others);
         let _no_bytes = unsafe { ManuallyDrop::new_unchecked(none) };
-        bit_sets::add(&mut self.marks, (at / 8) as u32);
+        marks::add(&mut self.marks, (at / 8) as u32);
         self.count += 1;
         Part { run }
     }
@@ -356,7 +358,7 @@ impl Region {
         requires { IsMarkable at × (at ≤ length self.now.bytes) }
         ensures { IsTrue result ↔ BeginsAt at self.now.lents }
     {
-        self.count != 0 && bit_sets::has(&self.marks, at / 8)
+        self.count != 0 && marks::has(&self.marks, at / 8)
     }
 
     /// Returns the same as `lends_at` for any offset.

@@ -1,15 +1,12 @@
-use Rattle.std.proofs.Common.{◌≡◌, ℕ, ◌+◌, ◌/◌, ◌<◌, ◌^◌, ap, sym, subst, ◌∙◌, List, ◌∷◌, length, arith}
-use Rattle.std.specs.Prelude.{MatchOption}
-use Rattle.core.specs.List.{refill}
+use Rattle.std.proofs.Common.{◌≡◌, ℕ, ◌+◌, ◌<◌, ◌^◌, ap, sym, subst, ◌∙◌, List, ◌∷◌, length, arith}
+use Rattle.std.specs.Prelude.{MatchOption, vec_capacity}
 use denote.RawPtr.{Ptr}
-use Rattle.bit_sets.specs.Sets.{AddsNumber}
 use Rattle.heap_model.specs.Memory.{Memory, Lent, Misses, NoneBegins}
 use Rattle.raw_region.specs.declared.gapped.Gapped.{Gapped}
 use Rattle.raw_region.specs.Holes.{KnowsLents, lent_at}
-use Rattle.raw_region.specs.Marks.{KnowsMarks}
+use Rattle.raw_region.specs.Marks.{HasRoomForMarks, KnowsMarks}
 use Rattle.raw_region.proofs.HoleLaws.{knows_more}
 use Rattle.raw_region.proofs.MarkLaws.{few_lent, marks_more}
-use Rattle.raw_region.proofs.GapWrites.{refill_all}
 use Rattle.raw_region.proofs.region.Region.lend.Goals as goal
 
 pub overflow_add-self : goal.overflow_add-self
@@ -37,14 +34,11 @@ invariant_of-self c =
     let all = ap (λ (m : Memory). length m.bytes) c.self.view_is in
     let inside = c.requires.within.inside in let ok = g.ok.0 in
     let place = c.requires.place in
-    let value = c.deref_mut.ensures.value in
-    let items : length marks.items ≡ marks.len = ap length (sym value) ∙ c.deref_mut.ensures.len in
-    let added = c.add.ensures.adds in
-    let many : length c.add.new.set ≡ length marks.items = c.add.ensures.len ∙ ap length value in
-    let adds : AddsNumber marks.items c.add.new.set (at / 8) = subst (λ (l : List ℕ). AddsNumber l c.add.new.set (at / 8)) value added in
-    let filled : c.add.new.set ≡ refill marks.len marks.items c.add.new.set = sym (refill_all marks.len marks.items c.add.new.set (many ∙ items) items) in
-    let k : KnowsMarks c.add.new.set g.len (c.self.inside.count + 1) (lent_at g.ptr at n ∷ g.lents) =
-    marks_more marks.items c.add.new.set g.len c.self.inside.count g.lents (lent_at g.ptr at n) inv.3 many place.0 adds in
-    subst (λ (x : Ptr × ℕ × List Lent × List ℕ). (c.self.inside.len ≡ x.1) × (c.self.inside.len < 2 ^ 63) × KnowsLents x.0 x.1 x.2 × KnowsMarks x.3 x.1 (c.self.inside.count + 1) x.2
+    let most = inv.3.few in let len_new = c.add.ensures.len in
+    let k : KnowsMarks c.add.new.marks.items g.len (c.self.inside.count + 1) (lent_at g.ptr at n ∷ g.lents) =
+    marks_more marks.items c.add.new.marks.items g.len c.self.inside.count g.lents (lent_at g.ptr at n) inv.3 (omega (arith, most, len_new, inside, ok, all)) place.0 c.add.ensures.adds in
+    let room : HasRoomForMarks g.len (vec_capacity c.add.new.marks) = λ some. let was = inv.4 some in let kept = c.add.ensures.capacity in omega (arith, was, kept) in
+    subst (λ (x : Ptr × ℕ × List Lent). (c.self.inside.len ≡ x.1) × (c.self.inside.len < 2 ^ 63) × KnowsLents x.0 x.1 x.2 × KnowsMarks c.add.new.marks.items x.1 (c.self.inside.count + 1) x.2
+    × HasRoomForMarks x.1 (vec_capacity c.add.new.marks)
     × MatchOption c.self.inside.lease (c.self.inside.len ≡ 0) (λ lease. (0 < lease.size) × (lease.alloc ≡ c.self.inside.alloc) × (lease.ptr ≡ x.0) × (lease.size ≡ c.self.inside.len)))
-    (λ i. (ptr i, len i, lents i, filled i)) (inv.0, inv.1, knows_more g.ptr g.len g.lents at n inv.2 (omega (arith, inside, ok, all)) misses begins, k, inv.4)
+    (λ i. (ptr i, len i, lents i)) (inv.0, inv.1, knows_more g.ptr g.len g.lents at n inv.2 (omega (arith, inside, ok, all)) misses begins, k, room, inv.5)
