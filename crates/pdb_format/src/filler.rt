@@ -53,7 +53,7 @@ pub fn filler_size<B: FileBytes>(file: &B) -> usize
     first_start(file) - entries_end(file)
 }
 
-/// Returns whether these bytes are those of `FILLER`.
+/// Returns whether the bytes between the entries and the first block are those of `FILLER`.
 pub fn has_filler<B: FileBytes>(file: &B) -> bool
     requires { HasNoFault (B.bytes file.now) }
     ensures { IsTrue result ↔ (words.filler_in (B.bytes file.now) ≡ words.written_filler) }

@@ -341,7 +341,7 @@ impl<'a, B: FileBytes> PdbFile<'a, B> {
         filler_size(&self.bytes)
     }
 
-    /// Returns whether these bytes are those of `FILLER`.
+    /// Returns whether the bytes between the entries and the first block are those of `FILLER`.
     pub fn has_filler(&self) -> bool
         ensures { IsTrue result ↔ (fillers.filler_in self.now ≡ fillers.written_filler) }
     {
