@@ -1,7 +1,7 @@
 -- What the first bytes of a file say of the file.
 use Rattle.std.proofs.Common.{◌≡◌, ◌<◌, ◌≤◌, ℕ, Bool, true, false, List, [], ◌++◌, ◌⊎◌, inl, inr, length, take, drop, ◌+◌, ◌-◌, ◌^◌, sym, ap, subst, ◌∙◌, arith, append-nil}
 use Rattle.std.specs.Prelude.{min, slice_range}
-use Rattle.std.proofs.lemmas.List.{take_all, take_min, drop_all, length-drop, length-take, take-append-le, take-take}
+use Rattle.std.proofs.lemmas.List.{take_all, take_min, drop_all, length-drop, length-take, drop-append-le, take-append-le, take-take}
 use Rattle.std.proofs.lemmas.Bool.{cases_lt}
 use Rattle.byteorder.specs.Numbers.{big_from-lt}
 use Rattle.heap_model.specs.Bytes.{AreBytes, u16_at, u32_at}
@@ -22,11 +22,15 @@ header_started file start s long = from s.rest s.long s.is where
       omega (arith, count)
   from rest (inr more) is = omega arith
 
--- a number of four bytes in the header
+-- a number of four bytes in them
+pub number_started : (at : ℕ) (file start : List ℕ) → IsStart file start → at + 4 ≤ length start → u32_at start at ≡ u32_at file at
+number_started at file start s inside = sym (ap (λ (bytes : List ℕ). u32_at bytes at) s.is ∙ u32_front at start s.rest inside)
+
+-- one in the header
 word_started : (at : ℕ) (file start : List ℕ) → IsStart file start → 78 ≤ length file → at + 4 ≤ 78 → u32_at start at ≡ u32_at file at
 word_started at file start s long inside =
     let header = header_started file start s long in
-    sym (ap (λ (bytes : List ℕ). u32_at bytes at) s.is ∙ u32_front at start s.rest (omega (arith, header, inside)))
+    number_started at file start s (omega (arith, header, inside))
 
 pub app_started : (file start : List ℕ) → IsStart file start → 78 ≤ length file → u32_at start app_info_at ≡ u32_at file app_info_at
 app_started file start s long = word_started app_info_at file start s long (omega arith)
@@ -163,3 +167,11 @@ pub app_part : (file : List ℕ) (start end : ℕ) → start ≡ u32_at file app
 app_part file start end is =
     take_turned (end - start) most_app (drop (u32_at file app_info_at) file)
     ∙ ap (λ (at : ℕ). take most_app (take (end - start) (drop at file))) (sym is)
+
+-- bytes among them
+pub range_started : (file start : List ℕ) → IsStart file start → (from to : ℕ) → from ≤ to → to ≤ length start → slice_range start from to ≡ slice_range file from to
+range_started file start s from to less inside =
+    let long = length-drop from start in
+    sym (ap (λ (bytes : List ℕ). take (to - from) (drop from bytes)) s.is
+    ∙ ap (take (to - from)) (drop-append-le from start s.rest (omega (arith, less, inside)))
+    ∙ take-append-le (to - from) (drop from start) s.rest (omega (arith, long, less, inside)))
