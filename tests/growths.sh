@@ -123,7 +123,7 @@ listed=$(
 ./file_ids/src/give.rt:zeros_for filled(memory, 0, count as usize)
 ./file_parts/src/exact_listed.rt:ranks_of zeros(memory, listed.rank_count()) {
 ./file_parts/src/exact_packing.rt:place_blocks filled(memory, 0u32, exact.listed.rank_count())
-./file_parts/src/replaced.rt:place_blocks filled(memory, 0u32, count)
+./file_parts/src/exact_writing.rt:place_blocks filled(memory, 0u32, source.rank_count())
 ./heap_check/src/chained.rt:check_chained no_marks()
 ./heap_map/src/cells.rt:cells_of Cells::new(memory, size, ((area + (size - 1)) / size) as usize)?
 ./heap_map/src/cells.rt:marks_of room_for(memory, firsts.len())?

@@ -37,7 +37,7 @@ last_false : (a : Bool) → IsTrue (not a) → IsFalse a
 last_false true e = absurd cc
 last_false false e = refl
 
-none_said : (changes : Changes) → IsTrue (is_none changes) → NoneSaid changes
+pub none_said : (changes : Changes) → IsTrue (is_none changes) → NoneSaid changes
 none_said changes e =
     let busy = first_false changes.busy (changes.filler || (changes.ids || (changes.name || changes.order))) e in
     let filler = first_false changes.filler (changes.ids || (changes.name || changes.order)) busy.1 in
@@ -53,7 +53,7 @@ one_false : (a : Bool) → IsFalse a → IsTrue (not a)
 one_false true e = absurd cc
 one_false false e = refl
 
-said_none : (changes : Changes) → NoneSaid changes → IsTrue (is_none changes)
+pub said_none : (changes : Changes) → NoneSaid changes → IsTrue (is_none changes)
 said_none changes none =
     more_false changes.busy _ none.busy (more_false changes.filler _ none.filler (more_false changes.ids _ none.ids (more_false changes.name _ none.name (one_false changes.order none.order))))
 

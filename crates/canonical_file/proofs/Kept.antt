@@ -73,13 +73,13 @@ entries_long : (file : List ℕ) → length (database_in file).entries ≡ entry
 unfolding database_in
 entries_long file = length-map-range_with_len (entry_in file) 0 (entry_count_in file)
 
-all_idle : (file : List ℕ) → NoneIsBusy file → All IsIdle (database_in file).entries
+pub all_idle : (file : List ℕ) → NoneIsBusy file → All IsIdle (database_in file).entries
 all_idle file none = λ k d below.
     let long = entries_long file in
     let inside : k < entry_count_in file = omega arith in
     subst IsIdle (sym (entry_here file k d inside)) (none k inside)
 
-none_busy : (file : List ℕ) → All IsIdle (database_in file).entries → NoneIsBusy file
+pub none_busy : (file : List ℕ) → All IsIdle (database_in file).entries → NoneIsBusy file
 none_busy file all = λ k inside.
     let long = entries_long file in
     let some : Entry ℕ = a_record 0 0 0 in
@@ -136,7 +136,7 @@ name_read : (file : List ℕ) (d : Database (Option (List ℕ))) → Reads file 
 name_read file d reads = ap (λ (h : DatabaseHeader). h.name) (header_read file d reads) ∙ name_kept (header_in file) reads.last_seed ∙ name_there file
 
 -- IDs that stay leave the seed as it is
-seed_stays : (file : List ℕ) (d : Database (Option (List ℕ))) → (k : Known file d) → unique_ids d ≡ unique_ids (database_in file) → k.reads.last_seed ≡ seed_in (header_in file).seed
+pub seed_stays : (file : List ℕ) (d : Database (Option (List ℕ))) → (k : Known file d) → unique_ids d ≡ unique_ids (database_in file) → k.reads.last_seed ≡ seed_in (header_in file).seed
 seed_stays file d k same =
     let ids : List ℕ = unique_ids (database_in file) in
     let seed : ℕ = seed_in (header_in file).seed in

@@ -16,7 +16,7 @@ some_id : (resources : Bool) (file : List ℕ) (start : ℕ) → resources ≡ f
 some_id false file start records = refl
 some_id true file start records = absurd cc
 
-own_id : (file : List ℕ) (index : ℕ) → index < entry_count_in file → resources_in file ≡ false → get_or (unique_ids (database_in file)) index 0 ≡ u24_at file (entry_offset (resources_in file) index + 5)
+pub own_id : (file : List ℕ) (index : ℕ) → index < entry_count_in file → resources_in file ≡ false → get_or (unique_ids (database_in file)) index 0 ≡ u24_at file (entry_offset (resources_in file) index + 5)
 own_id file index inside records =
     id_there file index (u24_at file (entry_offset (resources_in file) index + 5)) records inside (some_id (resources_in file) file (entry_offset (resources_in file) index) records)
 

@@ -90,5 +90,6 @@ pub use laws::{
     salvaged_files_are_read, salvaged_files_have_no_fault,
 };
 pub use needs::{Needs, needs_of};
+pub use record_ids::{RecordIds, entry_with_id, seed_for};
 pub use salvage::{SalvagedIds, put_salvaged};
 pub use salvage_lines::put_salvage_lines;

@@ -25,11 +25,11 @@ pub(crate) fn name_dropped<R: Eprint>(rt: &R, path: &str, status: Status, file: 
         return;
     };
     let name = input_name(path);
-    let filler = dropped_filler(file);
+    let filler = dropped_filler(&file);
     if filler > 0 {
         let _ = eprintln!(rt; "{name}: filler, {filler} bytes {end}");
     }
-    let after = dropped_name(file);
+    let after = dropped_name(&file);
     if after > 0 {
         let _ = eprintln!(rt; "{name}: after the name, {after} bytes {end}");
     }
@@ -83,7 +83,7 @@ pub fn comment_on_damage<R: Eprint + AllocGlobal>(rt: &R, path: &str, file: &[u8
         return;
     }
     if let Err(fault) = check_file(file) {
-        let damage = damage_of(file, fault);
+        let damage = damage_of(&file, fault);
         let _ = eprintln!(rt; "{}: {damage}", input_name(path));
         name_transfer(rt, path, file);
     }

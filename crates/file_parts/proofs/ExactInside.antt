@@ -31,7 +31,7 @@ times_not test q (x ∷ xs) fails = by_test (test x) refl (times_not test q xs f
       let none = same-no x q other in
       rw is (omega arith)
 
-times_below : (test : ℕ → Bool) (q from n : ℕ) → q < from → times q (filter test (range_with_len from n)) ≡ 0
+pub times_below : (test : ℕ → Bool) (q from n : ℕ) → q < from → times q (filter test (range_with_len from n)) ≡ 0
 times_below test q from zero less = refl
 times_below test q from (suc n) less = by_test (test from) refl (times_below test q (from + 1) n (omega arith)) where
   by_test : (v : Bool) → test from ≡ v → times q (filter test (range_with_len (from + 1) n)) ≡ 0 → times q (filter test (range_with_len from (suc n))) ≡ 0

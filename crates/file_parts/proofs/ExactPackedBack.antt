@@ -42,7 +42,7 @@ after_good name after is =
     let room : length name + length after ≡ 32 = omega arith in
     record { room = room; ends = either_of name after room (length after == 1) refl parts.1 }
 
-zeros_after : (name : List ℕ) → length name < 32 → AreAfter name (replicate (32 - length name) 0)
+pub zeros_after : (name : List ℕ) → length name < 32 → AreAfter name (replicate (32 - length name) 0)
 zeros_after name room =
     let zeros : List ℕ = replicate (32 - length name) 0 in
     let long : length zeros ≡ 32 - length name = length-replicate (32 - length name) 0 in
@@ -79,7 +79,7 @@ kept_above test from (suc n) k inside = by_test (test from) refl (kept_above tes
       let above = more j (rw is at less) in
       rw is (omega arith)
 
-kept_rises : (test : ℕ → Bool) (from n k : ℕ) → suc k < length (filter test (range_with_len from n)) → get_or (filter test (range_with_len from n)) k 0 ≤ get_or (filter test (range_with_len from n)) (suc k) 0
+pub kept_rises : (test : ℕ → Bool) (from n k : ℕ) → suc k < length (filter test (range_with_len from n)) → get_or (filter test (range_with_len from n)) k 0 ≤ get_or (filter test (range_with_len from n)) (suc k) 0
 kept_rises test from zero k inside = absurd (omega arith)
 kept_rises test from (suc n) k inside = by_test (test from) refl (kept_rises test (from + 1) n) k inside where
   by_test : (v : Bool) → test from ≡ v → ((i : ℕ) → suc i < length (filter test (range_with_len (from + 1) n)) → get_or (filter test (range_with_len (from + 1) n)) i 0 ≤ get_or (filter test (range_with_len (from + 1) n)) (suc i) 0)

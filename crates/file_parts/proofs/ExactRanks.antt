@@ -63,14 +63,14 @@ get_or-same (x ∷ xs) zero d e inside = refl
 get_or-same (x ∷ xs) (suc k) d e inside = get_or-same xs k d e (omega arith)
 
 -- ranks that rise are those of a range that pass a test, if the same ranks pass it
-record AreThose (test : ℕ → Bool) (from n : ℕ) (xs : List ℕ) : Type 0 where
-  low : (j : ℕ) → j < length xs → from ≤ get_or xs j 0
-  high : (j : ℕ) → j < length xs → get_or xs j 0 < from + n
-  rising : (i j : ℕ) → i < j → j < length xs → get_or xs i 0 < get_or xs j 0
-  there : (r : ℕ) → from ≤ r → r < from + n → test r ≡ true → (j : ℕ) × (j < length xs) × (get_or xs j 0 ≡ r)
-  passes : (j : ℕ) → j < length xs → test (get_or xs j 0) ≡ true
+pub record AreThose (test : ℕ → Bool) (from n : ℕ) (xs : List ℕ) : Type 0 where
+  pub low : (j : ℕ) → j < length xs → from ≤ get_or xs j 0
+  pub high : (j : ℕ) → j < length xs → get_or xs j 0 < from + n
+  pub rising : (i j : ℕ) → i < j → j < length xs → get_or xs i 0 < get_or xs j 0
+  pub there : (r : ℕ) → from ≤ r → r < from + n → test r ≡ true → (j : ℕ) × (j < length xs) × (get_or xs j 0 ≡ r)
+  pub passes : (j : ℕ) → j < length xs → test (get_or xs j 0) ≡ true
 
-those_are : (test : ℕ → Bool) (from n : ℕ) (xs : List ℕ) → AreThose test from n xs → filter test (range_with_len from n) ≡ xs
+pub those_are : (test : ℕ → Bool) (from n : ℕ) (xs : List ℕ) → AreThose test from n xs → filter test (range_with_len from n) ≡ xs
 those_are test from zero [] are = refl
 those_are test from zero (x ∷ xs) are = let low = are.low 0 (omega arith) in let high = are.high 0 (omega arith) in absurd (omega arith)
 those_are test from (suc n) [] are = filter_none test from (suc n) (λ r low high. not_true (test r) (λ yes. (let found = are.there r low high yes in let inside = found.1 in omega arith)))

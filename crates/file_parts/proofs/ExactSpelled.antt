@@ -100,7 +100,7 @@ offset_is file exact rank b is inside =
 whole : DatabaseHeader → ℕ → ℕ → List (Entry ℕ) → Database ℕ
 whole header app sort entries = record { header = header; app_info = app; sort_info = sort; entries = entries }
 
-placed_is : (file : List ℕ) (exact : ExactFile) → AreBytes file → IsExactly file exact → exact_placed exact ≡ database_in file
+pub placed_is : (file : List ℕ) (exact : ExactFile) → AreBytes file → IsExactly file exact → exact_placed exact ≡ database_in file
 unfolding database_in whole
 placed_is file exact b is =
     let count = offset_count file in

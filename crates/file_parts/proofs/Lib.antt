@@ -40,3 +40,9 @@ pub mod ReplacedFiles
 pub mod ReplacedSound
 pub mod ValueLaws
 pub mod ValuesBack
+pub mod ExactWritten
+pub mod KeptBlocks
+pub mod KeptForms
+pub mod KeptChanges
+pub mod KeptSound
+pub mod KeptSources

@@ -1,33 +1,24 @@
 -- The file that is written when a block is replaced: its blocks, its entries and its bytes.
-use Rattle.std.proofs.Common.{◌≡◌, ℕ, ◌+◌, ◌<◌, ◌≤◌, ◌++◌, Bool, true, false, Option, None, List, [], ◌∷◌, length, get_or, drop, take, refl, sym, ap, subst, ◌∙◌, arith, append_assoc, add-one, drop-cons}
-use Rattle.std.specs.List.{flat_map}
+use Rattle.std.proofs.Common.{◌≡◌, ℕ, ◌+◌, ◌<◌, ◌≤◌, Option, None, List, length, get_or, refl, sym, ap, subst, ◌∙◌, arith}
 use Rattle.std.proofs.lemmas.Bool.{eq-eqb, ne_eqb}
-use Rattle.std.proofs.lemmas.List.{drop_all}
 use Rattle.heap_model.specs.Lists.{times}
-use Rattle.heap_model.specs.Database.{Entry, a_record, a_resource, data_in, entry_bytes, entry_count_in, entry_in, entry_with, entry_offset, has_resources}
+use Rattle.heap_model.specs.Database.{Entry, a_record, a_resource, data_in, entry_count_in, entry_in, entry_with, entry_offset, has_resources}
 use Rattle.heap_model.specs.Files.{block_bytes, blocks_in, entries_end, offsets_in}
 use Rattle.laws_store.proofs.Times.{distinct-times}
 use Rattle.pdb_format.specs.Filler.{filler_in}
 use Rattle.pdb_format.proofs.FileBlocks.{block_count}
 use Rattle.pdb_format.proofs.GoodFiles.{offset_count}
 use Rattle.pdb_format.proofs.SortedStarts.{AreSorted}
-use Rattle.palm_text.specs.Counted.{Writing, Writes}
-use Rattle.palm_text.proofs.Parts.{then, stops}
-use Rattle.file_parts.specs.declared.packing.PackFault.{PackFault}
-use Rattle.file_parts.specs.declared.packing.PackFault.TheVariants as packs
-use Rattle.file_parts.specs.declared.replaced.ReplaceFault.TheVariants.{TooLarge}
 use Rattle.file_parts.specs.declared.replaced.Replacing.{Replacing}
-use Rattle.file_parts.specs.Exact.{ExactFile, IsExactly, exact_block, exact_blocks, exact_bytes, exact_database, exact_entry, exact_offset, exact_placed, exact_size, exact_start}
-use Rattle.file_parts.specs.ExactListed.{AreOffsets}
+use Rattle.file_parts.specs.Exact.{ExactFile, IsExactly, exact_block, exact_database, exact_entry, exact_start}
 use Rattle.file_parts.specs.ExactUnpacking.{exact_of}
-use Rattle.file_parts.specs.Packing.{IsRefusedFor}
-use Rattle.file_parts.specs.Replacing.{IsPlaceFault, IsReplacing, block_in, block_replaced, entries_replaced, entry_replaced, exact_replacing, rest_replaced}
+use Rattle.file_parts.specs.ExactWriting.{HasValuesAt, IsOrdered}
+use Rattle.file_parts.specs.Replacing.{IsReplacing, block_in, block_replaced, exact_replacing}
 use Rattle.file_parts.proofs.ExactBlocks.{place_of, starts_of}
-use Rattle.file_parts.proofs.ExactOffsets.{length-placed, placed_at}
-use Rattle.file_parts.proofs.ExactPlaces.{ArePlaced, blocks_of}
-use Rattle.file_parts.proofs.ExactRanks.{apart, get_or-same, rest_from}
+use Rattle.file_parts.proofs.ExactRanks.{apart, get_or-same}
 use Rattle.file_parts.proofs.ExactRead.{blocks_exact, entries_long, exact_entry_is, is_exactly}
 use Rattle.file_parts.proofs.ExactSpelled.{entries_end_is, order_sorted}
+use Rattle.file_parts.proofs.ExactWritten.{ordered_by}
 use Rattle.file_parts.proofs.Replacements.{length-replaced, replaced_at, replaced_else, replaced_here, block_there}
 use Rattle.file_parts.proofs.Replacements as replacements
 
@@ -88,88 +79,29 @@ long : (file : List ℕ) → length (exact_database file).entries ≡ entry_coun
 unfolding exact_database
 long file = entries_long file
 
-pub placed_count : (r : Replacing) → length (exact_placed (exact_replacing r)).entries ≡ entry_count_in r.unpacked.file
-placed_count r =
-    length-placed (exact_offset (exact_replacing r)) 2 (entries_replaced r.at r.part.now 2 (exact_of r.unpacked).database.entries)
-    ∙ length-replaced r.at r.part.now 2 (exact_of r.unpacked).database.entries
-    ∙ long r.unpacked.file
+pub entry_count : (r : Replacing) → length (exact_replacing r).database.entries ≡ entry_count_in r.unpacked.file
+entry_count r = length-replaced r.at r.part.now 2 (exact_of r.unpacked).database.entries ∙ long r.unpacked.file
 
 entry_of : (file : List ℕ) (i : ℕ) (e : Entry (Option (List ℕ))) → i < entry_count_in file → get_or (exact_database file).entries i e ≡ exact_entry file i
 unfolding exact_database
 entry_of file i e inside = exact_entry_is file i e inside
 
-pub entry_here : (r : Replacing) (i : ℕ) (e : Entry ℕ) → i < entry_count_in r.unpacked.file → get_or (exact_placed (exact_replacing r)).entries i e ≡ entry_replaced r i
-entry_here r i e inside =
+-- each entry has the values that it has in the file
+pub values_at : (r : Replacing) (i : ℕ) (entry : Entry ℕ) → i < length (exact_replacing r).database.entries → entry ≡ entry_in r.unpacked.file i → HasValuesAt (exact_replacing r) i entry
+values_at r i entry inside is = λ at.
     let file : List ℕ = r.unpacked.file in
     let es : List (Entry (Option (List ℕ))) = (exact_of r.unpacked).database.entries in
-    let place : ℕ → ℕ = exact_offset (exact_replacing r) in
     let one : Entry (Option (List ℕ)) = a_record 0 0 None in
-    let many = placed_count r in
-    let long = length-placed place 2 (entries_replaced r.at r.part.now 2 es) in
-    let more = length-replaced r.at r.part.now 2 es in
-    placed_at place 2 i (entries_replaced r.at r.part.now 2 es) one e (omega arith)
-    ∙ ap (entry_with {Data = Option (List ℕ)} (λ _. place (2 + i))) (replaced_at r.at r.part.now 2 i es one one (omega arith))
-    ∙ ap (λ (x : Entry (Option (List ℕ))). entry_with {Data = Option (List ℕ)} (λ _. place (2 + i)) (entry_with (block_replaced r.at r.part.now (2 + i)) x)) (entry_of file i one inside)
-    ∙ with_thrice (entry_in file i) (block_in file (2 + i)) (block_replaced r.at r.part.now (2 + i)) (place (2 + i))
+    let count = entry_count r in
+    let many = long file in
+    ap (entry_with {Data = ℕ} (λ _. at)) is
+    ∙ sym (with_thrice (entry_in file i) (block_in file (2 + i)) (block_replaced r.at r.part.now (2 + i)) at)
+    ∙ sym (ap (λ (x : Entry (Option (List ℕ))). entry_with {Data = Option (List ℕ)} (λ _. at) (entry_with (block_replaced r.at r.part.now (2 + i)) x)) (entry_of file i one (omega arith)))
+    ∙ sym (ap (entry_with {Data = Option (List ℕ)} (λ _. at)) (replaced_at r.at r.part.now 2 i es one one (omega arith)))
 
--- ---- its offsets and its size
+-- ---- its order
 
-pub blocks_whole : (exact : ExactFile) → blocks_of (exact_block exact) exact.order ≡ exact_blocks exact
-unfolding exact_blocks
-blocks_whole exact = refl
-
-pub offsets_are : (r : Replacing) (offsets : List ℕ) (at : ℕ) → ArePlaced (exact_block (exact_replacing r)) (exact_start (exact_replacing r)) (length (blocks_in r.unpacked.file)) r.unpacked.ranks.items offsets at → AreOffsets (exact_replacing r) offsets
-offsets_are r offsets at are =
-    let room = are.room in
-    record {
-      count = room ∙ sym (count_is r);
-      each = λ rank inside. are.each rank (omega arith);
-    }
-
-pub size_placed : (r : Replacing) (offsets : List ℕ) (at : ℕ) → ArePlaced (exact_block (exact_replacing r)) (exact_start (exact_replacing r)) (length (blocks_in r.unpacked.file)) r.unpacked.ranks.items offsets at → at ≡ exact_size (exact_replacing r)
-size_placed r offsets at are =
-    are.end ∙ ap (λ (xs : List ℕ). exact_start (exact_replacing r) + length xs) (blocks_whole (exact_replacing r))
-
--- a file of at least this size is too large
-pub place_fault : (part size : ℕ) (fault : PackFault) → part ≤ size → fault ≡ packs.TooLarge → IsRefusedFor part fault → IsPlaceFault size TooLarge
-place_fault part size packs.TooLarge most is large = omega arith
-place_fault part size (packs.BadLine line) most is large = absurd large
-place_fault part size packs.OutOfMemory most is large = cc
-
--- ---- its bytes
-
-front_is : (r : Replacing) → IsReplacing r → take 32 r.unpacked.file ++ rest_replaced r ≡ exact_bytes (exact_replacing r)
-unfolding exact_bytes
-front_is r g =
-    let exact : ExactFile = exact_of r.unpacked in
-    ap (λ (xs : List ℕ). xs ++ rest_replaced r) (sym (exactly_in r g).name_field)
-    ∙ append_assoc exact.database.header.name exact.after_name (rest_replaced r)
-
-module _ {W : Type 0} (contents : W → Option (List ℕ)) where
-  pub then_rest : (r : Replacing) (old mid new : Writing W) (ok : Bool) → IsReplacing r → Writes contents old mid (take 32 r.unpacked.file) true → Writes contents mid new (rest_replaced r) ok → Writes contents old new (exact_bytes (exact_replacing r)) ok
-  then_rest r old mid new ok g first rest = subst (λ (text : List ℕ). Writes contents old new text ok) (front_is r g) (then contents old mid new (take 32 r.unpacked.file) (rest_replaced r) ok first rest)
-
-  pub stops_rest : (r : Replacing) (old new : Writing W) → IsReplacing r → Writes contents old new (take 32 r.unpacked.file) false → Writes contents old new (exact_bytes (exact_replacing r)) false
-  stops_rest r old new g first = subst (λ (text : List ℕ). Writes contents old new text false) (front_is r g) (stops contents old new (take 32 r.unpacked.file) (rest_replaced r) first)
-
-entry_rest : (es : List (Entry ℕ)) (i : ℕ) (e : Entry ℕ) → i < length es → drop i es ≡ get_or es i e ∷ drop (i + 1) es
-entry_rest es i e inside = rw (add-one, drop-cons es i e) refl
-
--- the entry of an index, and those after it
-pub entries_from : (r : Replacing) (i : ℕ) → i < entry_count_in r.unpacked.file → flat_map entry_bytes (drop i (exact_placed (exact_replacing r)).entries) ≡ entry_bytes (entry_replaced r i) ++ flat_map entry_bytes (drop (i + 1) (exact_placed (exact_replacing r)).entries)
-entries_from r i inside =
-    let es : List (Entry ℕ) = (exact_placed (exact_replacing r)).entries in
-    let e : Entry ℕ = a_record 0 0 0 in
-    let many = placed_count r in
-    ap (flat_map entry_bytes) (entry_rest es i e (omega arith))
-    ∙ ap (λ (x : Entry ℕ). entry_bytes x ++ flat_map entry_bytes (drop (i + 1) es)) (entry_here r i e inside)
-
-pub entries_none : (r : Replacing) (i : ℕ) → entry_count_in r.unpacked.file ≤ i → flat_map entry_bytes (drop i (exact_placed (exact_replacing r)).entries) ≡ []
-entries_none r i past = let many = placed_count r in ap (flat_map entry_bytes) (drop_all i (exact_placed (exact_replacing r)).entries (omega arith))
-
--- the block of an index, and those after it
-pub blocks_from : (exact : ExactFile) (i : ℕ) → i < length exact.order → blocks_of (exact_block exact) (drop i exact.order) ≡ block_bytes (exact_block exact (get_or exact.order i 0)) ++ blocks_of (exact_block exact) (drop (i + 1) exact.order)
-blocks_from exact i inside = ap (blocks_of (exact_block exact)) (rest_from exact.order i inside)
-
-pub blocks_none : (exact : ExactFile) (i : ℕ) → length exact.order ≤ i → blocks_of (exact_block exact) (drop i exact.order) ≡ []
-blocks_none exact i past = ap (blocks_of (exact_block exact)) (drop_all i exact.order past)
+pub ordered_in : (r : Replacing) → IsReplacing r → IsOrdered (exact_replacing r)
+ordered_in r g =
+    let count = count_is r in
+    ordered_by (exact_replacing r) (λ i less. (let inside = rank_inside r i g less in omega arith)) (λ q. rank_once r q g)

@@ -13,11 +13,13 @@ use Rattle.pdb_format.proofs.FileBlocks.{block_count}
 use Rattle.pdb_format.proofs.GoodFiles.{offset_count}
 use Rattle.file_parts.specs.declared.replaced.Replaced.{Replaced}
 use Rattle.file_parts.specs.declared.replaced.ReplaceFault.{ReplaceFault}
-use Rattle.file_parts.specs.declared.replaced.ReplaceFault.TheVariants.{TooLarge, EmptyPart, OutOfMemory}
+use Rattle.file_parts.specs.declared.exact_writing.PlaceFault.{PlaceFault}
+use Rattle.file_parts.specs.declared.exact_writing.PlaceFault.TheVariants as places
+use Rattle.file_parts.specs.ExactWriting.{IsPlaceFault}
 use Rattle.file_parts.specs.declared.replaced.Replacing.{Replacing}
 use Rattle.file_parts.specs.Exact.{ExactFile, exact_block, exact_bytes, exact_size, is_misplaced}
 use Rattle.file_parts.specs.ExactUnpacking.{exact_of}
-use Rattle.file_parts.specs.Replacing.{IsPlaceFault, IsReplaced, IsReplacing, IsReplaceFault, Replaces, block_in, block_replaced, entries_replaced, bytes_replaced, exact_replacing, has_block}
+use Rattle.file_parts.specs.Replacing.{IsReplaced, IsReplacing, IsReplaceFault, Replaces, block_in, block_replaced, entries_replaced, bytes_replaced, exact_replacing, has_block, size_fault}
 use Rattle.file_parts.proofs.ExactFits.{all_writable, count_small, file_header, file_name}
 use Rattle.file_parts.proofs.ExactFolders.{names_are}
 use Rattle.file_parts.proofs.ExactInside.{inside_some}
@@ -45,7 +47,7 @@ writable r at bytes rank (e ∷ es) all =
 
 -- ---- the order of its blocks
 
-there_as : (file : List ℕ) → AreThereAs file (blocks_in file)
+pub there_as : (file : List ℕ) → AreThereAs file (blocks_in file)
 there_as file =
     let count = block_count file in
     let offsets = offset_count file in
@@ -161,10 +163,9 @@ part_empty r index g is =
 
 -- ---- what `replace_block` returns
 
-pub place_why : (r : Replacing) (fault : ReplaceFault) → IsReplacing r → IsPlaceFault (exact_size (exact_replacing r)) fault → IsReplaceFault r.unpacked.file r.at r.part.now fault
-place_why r TooLarge g large = (exact_of r.unpacked, exactly_in r g, large)
-place_why r EmptyPart g large = absurd large
-place_why r OutOfMemory g large = tt
+pub place_why : (r : Replacing) (fault : PlaceFault) (result : ReplaceFault) → IsReplacing r → result ≡ size_fault fault → IsPlaceFault (exact_size (exact_replacing r)) fault → IsReplaceFault r.unpacked.file r.at r.part.now result
+place_why r places.TooLarge result g is large = subst (IsReplaceFault r.unpacked.file r.at r.part.now) (sym is) (exact_of r.unpacked, exactly_in r g, large)
+place_why r places.OutOfMemory result g is large = subst (IsReplaceFault r.unpacked.file r.at r.part.now) (sym is) tt
 
 pub replaced_all : (result : Result Replaced ReplaceFault) (r : Replacing) → IfOk result IsReplaced → IfOk result (λ one. one.replacing ≡ r) → IfOk result (λ one. Replaces r.unpacked.file r.at r.part.now (bytes_replaced one))
 replaced_all (Ok one) r done same =

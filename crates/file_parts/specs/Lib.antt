@@ -15,3 +15,6 @@ pub mod ExactUnpacking
 pub mod ExactLaws
 pub mod Either
 pub mod Replacing
+pub mod ExactWriting
+pub mod Keeping
+pub mod Kept

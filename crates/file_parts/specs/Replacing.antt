@@ -1,17 +1,16 @@
 -- A file with one of its blocks replaced. All else is as it is: the attributes, the IDs, the name
 -- field, the filler and the order of the blocks. Only offsets move.
-use Rattle.std.specs.Prelude.{◌≡◌, ◌≤◌, ◌<◌, ◌+◌, ◌==◌, ◌++◌, if◌then◌else◌, is_some, ⊤, ℕ, Bool, true, false, List, [], ◌∷◌, length, slice_index_or, Option, Some, None}
-use Rattle.std.specs.List.{concat, flat_map}
+use Rattle.std.specs.Prelude.{◌≡◌, ◌≤◌, ◌<◌, ◌+◌, ◌==◌, if◌then◌else◌, is_some, ⊤, ℕ, Bool, true, false, List, [], ◌∷◌, length, slice_index_or, Option, Some, None}
 use Rattle.heap_model.specs.Bytes.{AreBytes}
-use Rattle.heap_model.specs.Database.{Entry, entry_bytes, entry_in, entry_with, fields_behind_name}
+use Rattle.heap_model.specs.Database.{Entry, entry_with}
 use Rattle.heap_model.specs.Files.{blocks_in}
-use Rattle.pdb_format.specs.Filler.{filler_in}
 use Rattle.canonical_file.specs.Canonical.{most_bytes}
-use Rattle.file_parts.specs.Exact.{ExactFile, IsExactly, exact_blocks, exact_bytes, exact_offset, exact_placed, exact_size, is_misplaced}
-use Rattle.file_parts.specs.ExactListed.{AreOffsets}
+use Rattle.file_parts.specs.Exact.{ExactFile, IsExactly, exact_bytes, exact_size, is_misplaced}
 use Rattle.file_parts.specs.ExactUnpacking.{IsUnpackedExact, exact_of}
+use Rattle.file_parts.specs.ExactWriting.{AreExactPlaces}
+use Rattle.file_parts.specs.declared.exact_writing.PlaceFault.{PlaceFault}
+use Rattle.file_parts.specs.declared.exact_writing.PlaceFault.TheVariants as places
 use Rattle.file_parts.specs.declared.replaced.Replaced.{Replaced}
-use Rattle.file_parts.specs.declared.replaced.ReplacedPlaces.{ReplacedPlaces}
 use Rattle.file_parts.specs.declared.replaced.ReplaceFault.{ReplaceFault}
 use Rattle.file_parts.specs.declared.replaced.ReplaceFault.TheVariants.{TooLarge, EmptyPart, OutOfMemory}
 use Rattle.file_parts.specs.declared.replaced.Replacing.{Replacing}
@@ -66,6 +65,11 @@ IsReplaceFault file at part TooLarge = (exact : ExactFile) × IsExactly file exa
 IsReplaceFault file at part EmptyPart = (length part ≡ 0) × ((exact : ExactFile) × IsExactly file exact × ((index : ℕ) × (is_misplaced (file_replaced exact at part) index ≡ true)))
 IsReplaceFault file at part OutOfMemory = ⊤
 
+-- the same if the file isn't laid out
+abbrev pub size_fault : PlaceFault → ReplaceFault
+size_fault places.TooLarge = TooLarge
+size_fault places.OutOfMemory = OutOfMemory
+
 -- ---- the steps
 
 -- the file has no fault, and the block
@@ -78,46 +82,12 @@ pub record IsReplacing (replacing : Replacing) : Type 0 where
 abbrev pub exact_replacing : Replacing → ExactFile
 exact_replacing replacing = file_replaced (exact_of replacing.unpacked) replacing.at replacing.part.now
 
--- the offsets of the blocks of a file that isn't too large, and its size
-pub record AreReplacedPlaces (exact : ExactFile) (places : ReplacedPlaces) : Type 0 where
-  pub offsets : AreOffsets exact places.offsets.items
-  pub size : places.size ≡ exact_size exact
-  pub fits : places.size ≤ most_bytes
-
--- the reason why a file of this size isn't laid out
-abbrev pub IsPlaceFault : ℕ → ReplaceFault → Type 0
-IsPlaceFault size TooLarge = most_bytes < size
-IsPlaceFault size EmptyPart = ⊥
-IsPlaceFault size OutOfMemory = ⊤
-
 -- a file that is ready to be written
 pub record IsReplaced (replaced : Replaced) : Type 0 where
   pub good : IsReplacing replaced.replacing
   pub placed : (index : ℕ) → is_misplaced (exact_replacing replaced.replacing) index ≡ false
-  pub places : AreReplacedPlaces (exact_replacing replaced.replacing) replaced.places
+  pub places : AreExactPlaces (exact_replacing replaced.replacing) replaced.places
 
 -- its bytes
 abbrev pub bytes_replaced : Replaced → List ℕ
 bytes_replaced replaced = exact_bytes (exact_replacing replaced.replacing)
-
--- the filler and the blocks
-abbrev pub tail_replaced : Replacing → List ℕ
-tail_replaced replacing = filler_in replacing.unpacked.file ++ exact_blocks (exact_replacing replacing)
-
--- the entries, and the bytes after them
-abbrev pub list_replaced : Replacing → List ℕ
-list_replaced replacing = flat_map entry_bytes (exact_placed (exact_replacing replacing)).entries
-
-abbrev pub body_replaced : Replacing → List ℕ
-body_replaced replacing = list_replaced replacing ++ tail_replaced replacing
-
--- the fields after the name, and the bytes after them
-abbrev pub fields_replaced : Replacing → List ℕ
-fields_replaced replacing = concat (fields_behind_name (exact_placed (exact_replacing replacing)))
-
-abbrev pub rest_replaced : Replacing → List ℕ
-rest_replaced replacing = fields_replaced replacing ++ body_replaced replacing
-
--- the entry at an index
-abbrev pub entry_replaced : Replacing → ℕ → Entry ℕ
-entry_replaced replacing index = entry_with (λ _. exact_offset (exact_replacing replacing) (2 + index)) (entry_in replacing.unpacked.file index)

@@ -19,7 +19,8 @@
 //! ```
 //!
 //! `replace_block` makes a file with one block replaced, and all else as it is
-//! (`specs/Replacing.antt`).
+//! (`specs/Replacing.antt`). `keep_parts` makes a file in canonical form, but for some things that are
+//! kept (`specs/Keeping.antt`).
 //!
 //! Start with `specs/Texts.antt`, which defines the text. This crate knows no folders: a part is a
 //! name and bytes.
@@ -32,7 +33,10 @@ mod exact_listed;
 mod exact_packing;
 mod exact_text;
 mod exact_unpacked;
+mod exact_writing;
 mod header;
+mod keep;
+mod kept;
 mod laws;
 mod lines;
 mod listed;
@@ -48,6 +52,9 @@ pub use either::{FolderForm, ListedFolder, TakenApart, read_folder, take_apart};
 pub use exact_listed::ListedExact;
 pub use exact_packing::pack_exact;
 pub use exact_unpacked::{UnpackedExact, unpack_exact};
+pub use exact_writing::PlaceFault;
+pub use keep::Keep;
+pub use kept::{Kept, keep_parts};
 pub use laws::{
     exact_files_are_spelled, exact_folders_pack_back, exact_texts_are_read,
     packed_folders_are_exact, texts_are_read,

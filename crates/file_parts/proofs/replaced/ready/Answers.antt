@@ -11,4 +11,4 @@ returns-then-not-is_in_order-clause-why g c =
     (part_empty r found.0 c.requires found.1, (exact_of r.unpacked, exactly_in r c.requires, (found.0, found.1)))
 
 pub returns-clause-why : goal.returns-clause-why
-returns-clause-why g c = place_why c.args.replacing c.in-Err.fault c.requires c.in-Err.ensures.large
+returns-clause-why g c = place_why c.args.replacing c.in-Err.fault c.replace_fault.result c.requires c.replace_fault.ensures c.in-Err.ensures.large

@@ -1,0 +1,61 @@
+use Rattle.std.proofs.Common.{◌≡◌, ◌+◌, ◌<◌, ◌≤◌, List, ℕ, true, false, drop, length, get_or, Option, sym, subst, ◌∙◌, arith}
+use Rattle.std.proofs.lemmas.List.{length-map}
+use Rattle.std.specs.List.{flat_map}
+use Rattle.heap_model.specs.Database.{Entry, entry_bytes, entry_data}
+use Rattle.db_format.specs.EitherEntry.{entry_of}
+use Rattle.palm_text.specs.Counted.{Writes}
+use Rattle.palm_text.proofs.Parts.{then, stops, nothing}
+use Rattle.file_parts.specs.Exact.{ExactFile, exact_placed}
+use Rattle.file_parts.proofs.ExactWritten.{entries_from, entries_none}
+use Rattle.file_parts.proofs.exact_writing.put_entries.Goals as goal
+
+pub bounds-offsets-index : goal.bounds-offsets-index
+bounds-offsets-index g c =
+    let file : ExactFile = g.S.ExactSource.exact c.args.source.now in
+    let count = c.requires.are.count in
+    let many = c.header-index-end.ensures.entry_count in
+    let blocks = length-map file.database.entries (entry_data {Data = Option (List ℕ)}) in
+    omega arith
+
+pub loop-index-preserved : goal.loop-index-preserved
+loop-index-preserved g c = λ new ok w.
+    let file : ExactFile = g.S.ExactSource.exact c.args.source.now in
+    let i = c.loop-index.index in
+    let es : List (Entry ℕ) = (exact_placed file).entries in
+    let many = c.header-index-end.ensures.entry_count in
+    let inside : i < length file.database.entries = omega arith in
+    let count = c.requires.are.count in
+    let blocks = length-map file.database.entries (entry_data {Data = Option (List ℕ)}) in
+    let less : 2 + i < length c.args.offsets.now = omega arith in
+    let placed : Entry ℕ = entry_of c.entry_at-entry.result in
+    let bytes : c.as_slice.result.now ≡ entry_bytes placed = c.as_slice.ensures ∙ c.to_bytes.ensures.is in
+    c.loop-index.invariant new ok
+    (subst (λ (text : List ℕ). Writes g.W.Write.contents c.loop-index.out new text ok) (sym (entries_from file i (get_or c.args.offsets.now (2 + i) 0) (entry_of c.entry.result) placed inside c.entry.ensures.is (c.requires.are.each (2 + i) less) c.entry_at-entry.ensures.is))
+    (then g.W.Write.contents c.loop-index.out c.put_all.new.out new (entry_bytes placed) (flat_map entry_bytes (drop (i + 1) es)) ok
+    (subst (λ (text : List ℕ). Writes g.W.Write.contents c.loop-index.out c.put_all.new.out text true) bytes c.in-Ok.ensures) w))
+
+pub returns-in-Err : goal.returns-in-Err
+returns-in-Err g c =
+    let file : ExactFile = g.S.ExactSource.exact c.args.source.now in
+    let i = c.loop-index.index in
+    let es : List (Entry ℕ) = (exact_placed file).entries in
+    let many = c.header-index-end.ensures.entry_count in
+    let inside : i < length file.database.entries = omega arith in
+    let count = c.requires.are.count in
+    let blocks = length-map file.database.entries (entry_data {Data = Option (List ℕ)}) in
+    let less : 2 + i < length c.args.offsets.now = omega arith in
+    let placed : Entry ℕ = entry_of c.entry_at-entry.result in
+    let bytes : c.as_slice.result.now ≡ entry_bytes placed = c.as_slice.ensures ∙ c.to_bytes.ensures.is in
+    c.loop-index.invariant c.put_all.new.out false
+    (subst (λ (text : List ℕ). Writes g.W.Write.contents c.loop-index.out c.put_all.new.out text false) (sym (entries_from file i (get_or c.args.offsets.now (2 + i) 0) (entry_of c.entry.result) placed inside c.entry.ensures.is (c.requires.are.each (2 + i) less) c.entry_at-entry.ensures.is))
+    (stops g.W.Write.contents c.loop-index.out c.put_all.new.out (entry_bytes placed) (flat_map entry_bytes (drop (i + 1) es))
+    (subst (λ (text : List ℕ). Writes g.W.Write.contents c.loop-index.out c.put_all.new.out text false) bytes c.in-Err.ensures)))
+
+pub returns : goal.returns
+returns g c =
+    let file : ExactFile = g.S.ExactSource.exact c.args.source.now in
+    let i = c.loop-index.index in
+    let many = c.header-index-end.ensures.entry_count in
+    let past : length file.database.entries ≤ i = omega arith in
+    c.loop-index.invariant c.loop-index.out true
+    (subst (λ (text : List ℕ). Writes g.W.Write.contents c.loop-index.out c.loop-index.out text true) (sym (entries_none file i past)) (nothing g.W.Write.contents c.loop-index.out))

@@ -1,0 +1,14 @@
+use Rattle.pdb_format.specs.ReadFiles.{database_read}
+use Rattle.canonical_file.proofs.Given.{known_of}
+use Rattle.file_parts.specs.Keeping.{AreChangesLeft}
+use Rattle.file_parts.proofs.KeptChanges.{are_left}
+use Rattle.file_parts.proofs.keep.Keep.changes_by.Goals as goal
+use Rattle.std.proofs.Common.{sym, subst}
+
+pub returns : goal.returns
+returns g c =
+    let file = c.args.file.now in
+    let ids = c.args.given.now.ids.items in
+    let seed = c.args.given.now.seed in
+    subst (AreChangesLeft c.args.self file) (sym c.left_of.ensures)
+    (are_left c.args.self file (database_read file ids seed) c.changes_by.result (known_of file ids seed c.know_file.ensures.numbers c.requires.short c.know_file.ensures.good c.requires.given) c.changes_by.ensures.changes)

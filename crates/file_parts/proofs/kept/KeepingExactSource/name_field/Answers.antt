@@ -1,0 +1,10 @@
+use Rattle.std.proofs.Common.{ap, ◌∙◌}
+use Rattle.heap_model.specs.Database.{DatabaseHeader, name_field}
+use Rattle.file_parts.proofs.KeptSources.{field_is, header_name}
+use Rattle.file_parts.proofs.kept.KeepingExactSource.name_field.Goals as goal
+
+pub returns : goal.returns
+returns c =
+    c.to_bytes.ensures.is
+    ∙ ap name_field (ap (λ (h : DatabaseHeader). h.name) c.header.ensures.values ∙ header_name c.args.self.now.file)
+    ∙ field_is c.args.self.now

@@ -1,0 +1,4 @@
+use Rattle.file_parts.proofs.kept.KeepingExactSource.ranks.Goals as goal
+
+pub returns-clause-ordered : goal.returns-clause-ordered
+returns-clause-ordered c = c.requires.order

@@ -1,0 +1,14 @@
+use Rattle.std.proofs.Common.{◌≤◌, List, ℕ, length, sym, ap, subst, ◌∙◌, take, arith}
+use Rattle.pdb_format.proofs.GoodFiles.{not_truncated}
+use Rattle.file_parts.proofs.ReplacedFiles.{exactly_in}
+use Rattle.file_parts.proofs.replaced.ReplacingExactSource.name_field.Goals as goal
+
+pub copied_name-requires : goal.copied_name-requires
+copied_name-requires c =
+    let file : List ℕ = c.args.self.now.unpacked.file in
+    let header = (not_truncated file c.bytes.ensures.good).0 in
+    let whole : 32 ≤ length file = omega arith in
+    subst (λ (xs : List ℕ). 32 ≤ length xs) (sym c.bytes.ensures.bytes) whole
+
+pub returns : goal.returns
+returns c = c.copied_name.ensures ∙ ap (take 32) c.bytes.ensures.bytes ∙ sym (exactly_in c.args.self.now c.requires).name_field
