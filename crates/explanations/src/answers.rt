@@ -140,7 +140,8 @@ fn topic_text(subject: Subject) -> &'static [u8]
         Subject::File(_) => b", a fault of a PDB or PRC file: ",
         Subject::Line(_) => b", a fault of a line: ",
         Subject::Blank(_) => b", a fault of 'new' and 'import': ",
-        Subject::Output(_) => b", a fault of 'migrate', 'pack', 'put' and 'import': ",
+        Subject::Output(_) =>
+            b", a fault of 'migrate', 'pack', 'put', 'canonical --keep' and 'import': ",
         Subject::EmptyPart => b", a fault of 'put': ",
         Subject::Change(_) => b", a change in a rewritten file: ",
         Subject::Call(_) => b", a refusal: ",

@@ -340,8 +340,8 @@ static SIZE_ROWS: [Explanation; 4] = [
         (
             "",
             "the image that migrate or import would write has more than 16777208 bytes, \
-                import needs more than 65535 slots, or the file that pack or put would write has \
-                more than 4294967293 bytes",
+                import needs more than 65535 slots, or the file that pack, put or canonical --keep \
+                would write has more than 4294967293 bytes",
         ),
     ),
     (

@@ -5,3 +5,4 @@ pub mod Got
 pub mod Reported
 pub mod Salvaging
 pub mod PutStatuses
+pub mod Keeping

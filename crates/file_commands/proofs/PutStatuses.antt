@@ -16,7 +16,7 @@ use Rattle.file_commands.specs.Gets.{no_block_line}
 use Rattle.file_commands.specs.Puts.{EndsPut, PutsPutFault, fault_line}
 use Rattle.file_commands.specs.WantedBlocks.{IsWantedRank, LacksBlock}
 
-neither : (s x a b : Status) → (s ≡ a) ⊎ (s ≡ b) → s ≡ x → (x ≡ a → ⊥) → (x ≡ b → ⊥) → ⊥
+pub neither : (s x a b : Status) → (s ≡ a) ⊎ (s ≡ b) → s ≡ x → (x ≡ a → ⊥) → (x ≡ b → ⊥) → ⊥
 neither s x a b (inl e) is first second = first (sym is ∙ e)
 neither s x a b (inr e) is first second = second (sym is ∙ e)
 

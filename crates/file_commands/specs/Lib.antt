@@ -6,3 +6,4 @@ pub mod WantedBlocks
 pub mod Gets
 pub mod Salvages
 pub mod Puts
+pub mod Keeps

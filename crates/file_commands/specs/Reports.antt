@@ -12,8 +12,9 @@ use Rattle.file_listing.specs.Lines.{listing_line}
 use Rattle.file_listing.specs.Listing.{IsListingBy, fault_row}
 use Rattle.json_documents.specs.RowTexts.{listing_json}
 use Rattle.file_commands.specs.declared.reports.Report.{Report}
-use Rattle.file_commands.specs.declared.reports.Report.TheVariants.{Listing, Document, Changes}
+use Rattle.file_commands.specs.declared.reports.Report.TheVariants.{Listing, Document, Changes, Left}
 use Rattle.file_commands.specs.Ends.{EndsText, IsChangesText}
+use Rattle.file_commands.specs.Keeps.{IsLeftText}
 use Rattle.program_io.specs.Status.{worse}
 use Rattle.program_io.specs.declared.status.Status.{Status}
 use Rattle.program_io.specs.declared.status.Status.TheVariants.{Done, Refused, BadWords, ReadFault, WriteFault, NoMemory}
@@ -25,12 +26,14 @@ abbrev pub IsReport : Report → (path : Option (List ℕ)) → (file text : Lis
 IsReport Listing path file = IsListingBy (listing_line path) file
 IsReport Document path file = IsListingBy (listing_json path) file
 IsReport Changes path file = IsChangesText path file
+IsReport (Left keep) path file = IsLeftText keep path file
 
 -- the text of a row in a report, such as the row of a fault
 abbrev pub report_row : Report → (path : Option (List ℕ)) → Row → List ℕ
 report_row Listing path = listing_line path
 report_row Document path = listing_json path
 report_row Changes path = listing_line path
+report_row (Left keep) path = listing_line path
 
 -- what a command wrote for a file
 abbrev pub EndsReport : {V : Type 0} → Report → (path : Option (List ℕ)) → List ℕ → Output V → Status → Type 0

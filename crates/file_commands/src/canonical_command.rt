@@ -154,7 +154,7 @@ fn put_form<A: Allowance, W: Write>(
 }
 
 /// Returns the IDs that the records of a file get when it is rewritten.
-fn ids_of<A: Allowance>(memory: &A, file: &PdbFile<'_>) -> Result<GivenIds, AllocError>
+pub(crate) fn ids_of<A: Allowance>(memory: &A, file: &PdbFile<'_>) -> Result<GivenIds, AllocError>
     ensures ids { IfOk result (GetsIds file.now) }
     ensures given { IfOk result (λ given. AreGivenIn file.now given.ids.items given.seed) }
     ensures short { OnErr result (A.is_short memory.now) }

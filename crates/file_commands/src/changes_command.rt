@@ -65,7 +65,7 @@ fn say_changes<A: Allowance, V: Write>(
 
 /// Writes the line of the changes after the heading, and flushes `out`.
 #[tactic(auto, using(palm_text::proofs::Parts::then_flush))]
-fn put_flushed<V: Write>(
+pub(crate) fn put_flushed<V: Write>(
     out: &mut Counted<V>,
     path: Option<&str>,
     changes: Changes,

@@ -1,6 +1,7 @@
 //! What a file looks like, which numbers are allowed at its fault, and what is wrong with a line of
 //! the text that `pack` reads.
 
+ghost use Rattle.heap_model.specs.Files.{HasNoFault};
 ghost use Rattle.file_parts.specs.Either.{HasFolderParts};
 
 use canonical_file::{dropped_filler, dropped_name};
@@ -24,13 +25,45 @@ pub(crate) fn name_dropped<R: Eprint>(rt: &R, path: &str, status: Status, file: 
     let Ok(()) = check_file(file) else {
         return;
     };
-    let name = input_name(path);
-    let filler = dropped_filler(&file);
+    name_filler(rt, path, file, end);
+    name_after_name(rt, path, file, end);
+}
+
+/// Reports the same as `name_dropped`, but no filler: for a rewrite that keeps it.
+pub(crate) fn name_dropped_but_filler<R: Eprint>(
+    rt: &R,
+    path: &str,
+    status: Status,
+    file: &[u8],
+    end: &str,
+) {
+    if status != Status::Done {
+        return;
+    }
+    let Ok(()) = check_file(file) else {
+        return;
+    };
+    name_after_name(rt, path, file, end);
+}
+
+/// Reports how many bytes of the filler a rewrite drops.
+fn name_filler<R: Eprint>(rt: &R, path: &str, file: &[u8], end: &str)
+    requires { HasNoFault file.now }
+{
+    let filler = dropped_filler(file);
     if filler > 0 {
+        let name = input_name(path);
         let _ = eprintln!(rt; "{name}: filler, {filler} bytes {end}");
     }
-    let after = dropped_name(&file);
+}
+
+/// Reports how many bytes after the name a rewrite drops.
+fn name_after_name<R: Eprint>(rt: &R, path: &str, file: &[u8], end: &str)
+    requires { HasNoFault file.now }
+{
+    let after = dropped_name(file);
     if after > 0 {
+        let name = input_name(path);
         let _ = eprintln!(rt; "{name}: after the name, {after} bytes {end}");
     }
 }
@@ -83,7 +116,7 @@ pub fn comment_on_damage<R: Eprint + AllocGlobal>(rt: &R, path: &str, file: &[u8
         return;
     }
     if let Err(fault) = check_file(file) {
-        let damage = damage_of(&file, fault);
+        let damage = damage_of(file, fault);
         let _ = eprintln!(rt; "{}: {damage}", input_name(path));
         name_transfer(rt, path, file);
     }

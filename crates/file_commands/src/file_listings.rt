@@ -2,9 +2,9 @@
 
 ghost use Rattle.std.specs.Prelude.{◌≢◌, ⊤};
 
-use crate::comments::{WOULD_BE_DROPPED, comment_on_file, name_dropped};
+use crate::comments::{WOULD_BE_DROPPED, comment_on_file, name_dropped, name_dropped_but_filler};
 use crate::inputs::Inputs;
-use crate::reports::{Asked, cmd_reports_from};
+use crate::reports::{Asked, Report, cmd_reports_from};
 use command_files::{STANDARD_OUTPUT, buffered_fault, fail, read_file_or_input_within};
 use palm_text::Counted;
 use pdb_format::MOST_FILE_BYTES;
@@ -17,6 +17,7 @@ use std::rt::Files;
 #[derive(Drop)]
 struct SystemFiles<'a, R> {
     rt: &'a R,
+    report: Report,
 }
 
 impl<R: Files + Input + Eprint + AllocGlobal> Inputs for SystemFiles<'_, R> {
@@ -33,7 +34,12 @@ impl<R: Files + Input + Eprint + AllocGlobal> Inputs for SystemFiles<'_, R> {
             report_fault(self.rt, status);
         }
         comment_on_file(self.rt, path, status, file);
-        name_dropped(self.rt, path, status, file, WOULD_BE_DROPPED);
+        match self.report {
+            Report::Left(keep) if keep.filler => {
+                name_dropped_but_filler(self.rt, path, status, file, WOULD_BE_DROPPED)
+            }
+            _ => name_dropped(self.rt, path, status, file, WOULD_BE_DROPPED),
+        }
     }
 }
 
@@ -48,7 +54,11 @@ pub fn report_files<R: Files + Input + Print + Eprint + AllocGlobal>(
         return fail(rt, Status::NoMemory);
     };
     let mut out = Counted::new(out);
-    let status = cmd_reports_from(&rt.alloc(), &SystemFiles { rt }, asked, &mut out);
+    let files = SystemFiles {
+        rt,
+        report: asked.report,
+    };
+    let status = cmd_reports_from(&rt.alloc(), &files, asked, &mut out);
     let fault = buffered_fault(out.into_inner());
     if status == Status::WriteFault {
         report_outcome(rt, status, &[(STANDARD_OUTPUT, fault)]);

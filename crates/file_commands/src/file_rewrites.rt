@@ -3,7 +3,10 @@
 ghost use Rattle.std.specs.Prelude.{◌≢◌, ◌≤◌, length};
 
 use crate::canonical_command::cmd_canonical_from;
-use crate::comments::{DROPPED, comment_on_file, comment_on_salvage, name_dropped};
+use crate::comments::{
+    DROPPED, comment_on_file, comment_on_salvage, name_dropped, name_dropped_but_filler,
+};
+use crate::keep_command::cmd_keep_from;
 use crate::put_command::{NewBlock, cmd_put_from};
 use crate::salvage_command::cmd_salvage_from;
 use canonical_file::{MOST_BYTES, SalvagedIds};
@@ -11,6 +14,7 @@ use command_files::{
     STANDARD_ERROR, STANDARD_OUTPUT, STANDARD_STREAM, buffered_fault, output_for_database,
     read_file_or_input_within,
 };
+use file_parts::Keep;
 use palm_text::Counted;
 use program_io::{ErrorOutput, Noted, Status, report_outcome};
 use std::alloc::Global;
@@ -26,6 +30,8 @@ const BUFFER_SIZE: usize = 65_536;
 pub(crate) enum NewFile<'a> {
     /// Its canonical form.
     Canonical,
+    /// Its canonical form, but for the things that are kept.
+    Kept(Keep),
     /// The file that is salvaged from it.
     Salvaged(SalvagedIds),
     /// The file with a block replaced.
@@ -41,13 +47,42 @@ pub fn canonical<R: Files + Input + Print + Eprint + AllocGlobal>(
 ) -> Status
     ensures { result ≢ Status.BadWords }
 {
+    rewrite_as(rt, path, NewFile::Canonical, out_path)
+}
+
+/// Runs `canonical --keep`. The paths are as for `canonical`.
+pub fn canonical_kept<R: Files + Input + Print + Eprint + AllocGlobal>(
+    rt: &R,
+    keep: Keep,
+    path: &str,
+    out_path: &str,
+) -> Status
+    ensures { result ≢ Status.BadWords }
+{
+    rewrite_as(rt, path, NewFile::Kept(keep), out_path)
+}
+
+/// Writes this new file for a file, and reports what the new file lacks.
+fn rewrite_as<R: Files + Input + Print + Eprint + AllocGlobal>(
+    rt: &R,
+    path: &str,
+    new: NewFile<'_>,
+    out_path: &str,
+) -> Status
+    ensures { result ≢ Status.BadWords }
+{
     let file = match read_file_or_input_within(rt, path, MOST_BYTES) {
         Ok(file) => file,
         Err(status) => return status,
     };
-    let status = write_to(rt, file.as_slice(), NewFile::Canonical, out_path);
+    let status = write_to(rt, file.as_slice(), new, out_path);
     comment_on_file(rt, path, status, file.as_slice());
-    name_dropped(rt, path, status, file.as_slice(), DROPPED);
+    match new {
+        NewFile::Kept(keep) if keep.filler => {
+            name_dropped_but_filler(rt, path, status, file.as_slice(), DROPPED)
+        }
+        _ => name_dropped(rt, path, status, file.as_slice(), DROPPED),
+    }
     status
 }
 
@@ -168,6 +203,7 @@ fn rewrite<W: Write + Drop, V: Write>(
     let mut file_out = Counted::new(file_out);
     let status = match new {
         NewFile::Canonical => cmd_canonical_from(&alloc, file, &mut file_out, out),
+        NewFile::Kept(keep) => cmd_keep_from(&alloc, file, keep, &mut file_out, out),
         NewFile::Salvaged(ids) => cmd_salvage_from(&alloc, file, ids, &mut file_out, out),
         NewFile::Put(block) => cmd_put_from(&alloc, file, block, &mut file_out, out),
     };

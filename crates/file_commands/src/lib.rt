@@ -21,6 +21,7 @@
 //! | `reports` | these commands for one file, and for several files of a source |
 //! | `inputs` | a source of files |
 //! | `canonical_command`, `salvage_command` | the commands `canonical` and `salvage`, over bytes |
+//! | `keep_command` | the commands `canonical --keep` and `canonical --check --keep`, over bytes |
 //! | `get_command`, `put_command` | the commands `get` and `put`, over bytes |
 //! | `block_words`, `wanted` | the words that ask for a block; the block that is asked for |
 //! | `parts` | the commands `unpack` and `pack`, over bytes |
@@ -43,6 +44,7 @@ mod file_rewrites;
 mod folders;
 mod get_command;
 mod inputs;
+mod keep_command;
 mod line_faults;
 mod list_command;
 mod parts;
@@ -57,10 +59,11 @@ pub use changes_command::cmd_changes_from;
 pub use comments::{comment_on_damage, name_each_dropped};
 pub use file_blocks::{get, put};
 pub use file_listings::report_files;
-pub use file_rewrites::{canonical, salvage, salvage_exact_ids};
+pub use file_rewrites::{canonical, canonical_kept, salvage, salvage_exact_ids};
 pub use folders::{pack, path_in, unpack};
 pub use get_command::cmd_get_from;
 pub use inputs::Inputs;
+pub use keep_command::{cmd_keep_from, cmd_left_from};
 pub use line_faults::say_line_fault;
 pub use list_command::cmd_list_from;
 pub use parts::{cmd_pack_from, list_parts, say_count, unpack_file};

@@ -8,9 +8,11 @@ ghost use Rattle.file_commands.specs.Reports.{EndsNext, EndsReport, EndsReports,
 
 use crate::changes_command::cmd_changes_from;
 use crate::inputs::Inputs;
+use crate::keep_command::cmd_left_from;
 use crate::list_command::cmd_list_from;
 use allowance::Allowance;
 use file_listing::TextRows;
+use file_parts::Keep;
 use json_documents::JsonRows;
 use palm_text::Counted;
 use program_io::Status;
@@ -25,6 +27,8 @@ pub enum Report {
     Document,
     /// The line of the changes, as `canonical --check` prints it.
     Changes,
+    /// The line of the changes that are left, as `canonical --check --keep` prints it.
+    Left(Keep),
 }
 
 /// The files of which a command prints reports, in order.
@@ -54,6 +58,7 @@ pub fn cmd_report_from<A: Allowance, V: Write>(
         Report::Listing => cmd_list_from(memory, &TextRows { path }, file, out),
         Report::Document => cmd_list_from(memory, &JsonRows { path }, file, out),
         Report::Changes => cmd_changes_from(memory, path, file, out),
+        Report::Left(keep) => cmd_left_from(memory, keep, path, file, out),
     }
 }
 

@@ -16,3 +16,7 @@ returns-in-Document-clause-ends g c =
 pub returns-in-Changes-clause-ends : goal.returns-in-Changes-clause-ends
 returns-in-Changes-clause-ends g c =
     subst (λ (report : Report). EndsReport report (option_map (λ path. path.now) c.args.path) c.args.file.now (output g.V.Write.contents c.args.out.now c.cmd_changes_from.new.out) c.cmd_changes_from.result) (sym c.in-Changes.is) c.cmd_changes_from.ensures.ends
+
+pub returns-in-Left-clause-ends : goal.returns-in-Left-clause-ends
+returns-in-Left-clause-ends g c =
+    subst (λ (report : Report). EndsReport report (option_map (λ path. path.now) c.args.path) c.args.file.now (output g.V.Write.contents c.args.out.now c.cmd_left_from.new.out) c.cmd_left_from.result) (sym c.in-Left.is) c.cmd_left_from.ensures.ends
