@@ -54,6 +54,7 @@ enum {
     PALMHEAP_TOO_LARGE = 3,      /* a file is longer than 4,294,967,293 bytes */
     PALMHEAP_BAD_SIZE = 4,       /* no image has this size */
     PALMHEAP_BAD_SLOT_COUNT = 5, /* no image of the size has this number of slots */
+    PALMHEAP_NO_FILE = 6,        /* no file has the values that are given */
 
     /* An image that is no heap. at: an offset in it; of PALMHEAP_BAD_TABLE the index, from 0, of the
      * table whose field `next` is wrong. */
@@ -593,7 +594,7 @@ uint32_t palmheap_import(palmheap_store *store, const uint8_t *file, size_t file
  * it. Refusals: 10, 27, 26. */
 uint32_t palmheap_export(const palmheap_store *store, uint32_t db, uint8_t *file, size_t file_len, size_t *len);
 
-/* -- Files as structures. This function needs no store. -- */
+/* -- Files as structures. These functions need no store. -- */
 
 /* The entry of a record or a resource in a file, with the place of its data: from start up to end, in bytes from the
  * file's start, if has_data. A record has no type, so its kind is 0. A resource has no attributes, so they are 0. */
@@ -607,10 +608,33 @@ typedef struct palmheap_file_entry {
 } palmheap_file_entry;
 
 /* Reads the header of a file, PDB or PRC, the places of its AppInfo and SortInfo blocks, and its entries with the places
- * of their data. It copies no data. Sets count to the number of the entries: with PALMHEAP_NO_ROOM it sets only that.
+ * of their data. All places lie within the file. It copies no data. Sets count to the number of the entries: with
+ * PALMHEAP_NO_ROOM it sets only that.
  * Answers: PALMHEAP_OK, PALMHEAP_NO_MEMORY, PALMHEAP_NO_ROOM, 60 to 65. */
 palmheap_answer palmheap_pdb_read(const uint8_t *file, size_t file_len, palmheap_database_info *header,
     palmheap_block *app, palmheap_block *sort, palmheap_file_entry *entries, size_t entries_len, size_t *count);
+
+/* Writes a file, PDB or PRC, into a buffer: the file with this header, these info blocks and these entries. They have
+ * the form of palmheap_pdb_read, with places in bytes: the file that was read, or any bytes with the data. The kind of
+ * a record, the attributes of a resource and entry_count are ignored. The bytes of header->name after name_length are
+ * written as they are. filler comes between the entries and the first block: two zeros in most files. The blocks of the
+ * ranks in order come first, and then the others by rank: 0 for AppInfo, 1 for SortInfo, 2 more than its index for the
+ * data of an entry. Without order all are by rank.
+ *
+ * The file is read back as exactly these values. The values of a file make the same file again, byte for byte, if
+ * header->name has the first 32 bytes of the file, filler and order are those of the file, and it has at most
+ * 4,294,967,293 bytes. palmheap_canonical makes the canonical form.
+ *
+ * Sets count to the size of the file in bytes, also with PALMHEAP_NO_ROOM. PALMHEAP_NO_FILE means one of these:
+ * - the name is empty, longer than 31 bytes or has a zero; or it is shorter, and the byte after it isn't zero;
+ * - there are more than 65,535 entries, or one has too great an ID, or lacks data and isn't a deleted record;
+ * - a place is outside of bytes;
+ * - order has a rank twice, or one without a block; or a block without bytes comes directly before one of a lower rank.
+ * Answers: PALMHEAP_OK, PALMHEAP_NO_MEMORY, PALMHEAP_NO_ROOM, PALMHEAP_TOO_LARGE, PALMHEAP_NO_FILE. */
+palmheap_answer palmheap_pdb_write(const uint8_t *bytes, size_t bytes_len, const palmheap_database_info *header,
+    const palmheap_block *app, const palmheap_block *sort, const palmheap_file_entry *entries, size_t entries_len,
+    const uint8_t *filler, size_t filler_len, const uint32_t *order, size_t order_len, uint8_t *file, size_t file_len,
+    size_t *count);
 
 /* -- Loans --
  *

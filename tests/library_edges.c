@@ -40,6 +40,12 @@ static void without_store(uint8_t *image) {
     is_file_fault("pdb_needs", palmheap_pdb_needs(NULL, 0, &needs));
     is_file_fault("salvage", palmheap_salvage(NULL, 0, true, NULL, 0, &count, &faults));
     is_file_fault("salvage_lines", palmheap_salvage_lines(NULL, 0, NULL, 0, &count));
+    palmheap_database_info header = {.name = "A", .name_length = 1};
+    palmheap_block block = {0, 0, false};
+    palmheap_answer written =
+        palmheap_pdb_write(NULL, 0, &header, &block, &block, NULL, 0, NULL, 0, NULL, 0, NULL, 0, &count);
+    want("pdb_write", written.kind, PALMHEAP_NO_ROOM);
+    want("pdb_write, count", count, 78);
     want("new", palmheap_new(NULL, 0, 1).kind, PALMHEAP_BAD_SIZE);
     want("check", palmheap_check(NULL, 0, &counts).kind, PALMHEAP_TOO_SHORT);
     want("run", palmheap_run(NULL, 0, NULL, 0, NULL, 0, NULL, 0, NULL, 0, NULL, 0, &sizes).kind, PALMHEAP_TOO_SHORT);

@@ -3,8 +3,9 @@
  *   gcc library_files.c libpalmheap.a -o files && ./files
  *
  * Damages a file of three records, the last one deleted and without data, at each field that can be wrong, and compares
- * what palmheap_pdb_damage says of it. Reads the file, with room for its entries or too little. Salvages what is left of
- * the damaged file, and writes its document. Asks for explanations. The status is 1 if something is wrong.
+ * what palmheap_pdb_damage says of it. Reads the file, with room for its entries or too little. Writes it from what was
+ * read, also with changes, and with each byte changed to each value. Salvages what is left of the damaged file, and
+ * writes its document. Asks for explanations. The status is 1 if something is wrong.
  */
 #include <palmheap.h>
 #include <stdio.h>
@@ -93,6 +94,103 @@ static void read_file(void) {
     need(entries[3].kind == 0x07070707, "an entry too many is written");
 }
 
+static palmheap_answer write_entries(size_t count, const uint32_t *order, size_t len, uint8_t *out, size_t *size) {
+    return palmheap_pdb_write(file, SIZE, &header, &app, &sort, entries, count, file + ENTRIES_END,
+        AT_APP - ENTRIES_END, order, len, out, 2 * SIZE, size);
+}
+
+/* Adds a rank to an order by the starts of the blocks, if the block is there. */
+static void add_rank(uint32_t *order, size_t *starts, size_t *len, uint32_t rank, size_t start, bool is_there) {
+    size_t at = *len;
+    if (!is_there) return;
+    for (; at > 0 && starts[at - 1] > start; at--) {
+        order[at] = order[at - 1];
+        starts[at] = starts[at - 1];
+    }
+    order[at] = rank;
+    starts[at] = start;
+    ++*len;
+}
+
+/* If the file has no fault, what is read of it makes the same bytes again. Returns whether it has none. */
+static bool is_written_back(void) {
+    static uint8_t out[2 * SIZE];
+    uint32_t order[7];
+    size_t starts[7], count, len = 0, size = 99;
+    if (read_entries(SIZE, 5, &count).kind != PALMHEAP_OK) return false;
+    add_rank(order, starts, &len, 0, app.start, app.is_there);
+    add_rank(order, starts, &len, 1, sort.start, sort.is_there);
+    for (uint32_t i = 0; i < count; i++) add_rank(order, starts, &len, 2 + i, entries[i].start, entries[i].has_data);
+    size_t end = 78 + count * (header.attributes & 1 ? 10 : 8), first = len > 0 ? starts[0] : SIZE;
+    memcpy(header.name, file, 32);
+    palmheap_answer answer = palmheap_pdb_write(file, SIZE, &header, &app, &sort, entries, count, file + end,
+        first - end, order, len, out, sizeof out, &size);
+    need(answer.kind == PALMHEAP_OK && size == SIZE && memcmp(out, file, SIZE) == 0, "another file is written");
+    return true;
+}
+
+/* The same with each byte changed to each value. */
+static void write_each_back(void) {
+    int written = 0;
+    for (size_t at = 0; at < SIZE; at++) {
+        for (int byte = 0; byte < 256; byte++) {
+            make();
+            file[at] = (uint8_t)byte;
+            written += is_written_back();
+        }
+    }
+    need(written > 256 * SIZE / 2, "few files are written");
+    make();
+}
+
+/* Writes the file from what is read of it, and with changes. */
+static void write_file(void) {
+    static uint8_t out[2 * SIZE];
+    static const uint32_t order[] = {2, 0}, twice[] = {2, 2}, none[] = {1}, lower[] = {3, 2};
+    size_t count, size = 99;
+    make();
+    memcpy(file + 9, "behind", 6);
+    need(read_entries(SIZE, 3, &count).kind == PALMHEAP_OK, "not read");
+    memcpy(header.name, file, 32);
+    need(write_entries(3, NULL, 0, out, &size).kind == PALMHEAP_OK && size == SIZE, "not written");
+    need(memcmp(out, file, SIZE) == 0, "another file is written");
+    uint32_t kind =
+        palmheap_pdb_write(file, SIZE, &header, &app, &sort, entries, 3, NULL, 0, NULL, 0, NULL, 0, &size).kind;
+    need(kind == PALMHEAP_NO_ROOM && size == SIZE - 2, "another size without filler");
+    need(write_entries(3, order, 2, out, &size).kind == PALMHEAP_OK && size == SIZE, "no order");
+    need(memcmp(out + AT_APP, "firstapptwo", 11) == 0, "another order");
+    need(palmheap_pdb_check(out, size).kind == PALMHEAP_OK, "a faulty file is written");
+    need(write_entries(2, NULL, 0, out, &size).kind == PALMHEAP_OK && size == SIZE - 8, "an entry less");
+    need(out[77] == 2, "another number of entries");
+    /* An edited block, and one without bytes. */
+    entries[0] = (palmheap_file_entry){.start = 0, .end = 3, .id = 11, .attributes = 0x40, .has_data = true};
+    need(write_entries(3, NULL, 0, out, &size).kind == PALMHEAP_OK && size == SIZE - 2, "no edited block");
+    need(memcmp(out + AT_APP, "appThrtwo", 9) == 0 && memcmp(out + 86, file + 86, 3) == 0 && out[89] == AT_APP + 6,
+        "another edited block");
+    entries[1].end = entries[1].start;
+    need(write_entries(3, NULL, 0, out, &size).kind == PALMHEAP_OK && size == SIZE - 6, "no empty block");
+    size = 99;
+    memset(out, 8, sizeof out);
+    need(write_entries(3, lower, 2, out, &size).kind == PALMHEAP_NO_FILE, "an empty block before a lower rank");
+    need(write_entries(3, twice, 2, out, &size).kind == PALMHEAP_NO_FILE, "a rank twice");
+    need(write_entries(3, none, 1, out, &size).kind == PALMHEAP_NO_FILE, "a rank without a block");
+    header.name[5] = 1;
+    need(write_entries(3, NULL, 0, out, &size).kind == PALMHEAP_NO_FILE, "a name that goes on");
+    header.name[5] = 0;
+    entries[1].end = SIZE + 1;
+    need(write_entries(3, NULL, 0, out, &size).kind == PALMHEAP_NO_FILE, "a place outside");
+    entries[1].end = entries[1].start - 1;
+    need(write_entries(3, NULL, 0, out, &size).kind == PALMHEAP_NO_FILE, "a place that ends before its start");
+    entries[1].has_data = false;
+    need(write_entries(3, NULL, 0, out, &size).kind == PALMHEAP_NO_FILE, "a record without data");
+    need(size == 99 && out[0] == 8, "something is written");
+    entries[1].attributes = 0x80;
+    need(write_entries(3, NULL, 0, out, &size).kind == PALMHEAP_OK && size == SIZE - 6, "a deleted record");
+    header.name_length = 0;
+    need(write_entries(3, NULL, 0, out, &size).kind == PALMHEAP_NO_FILE, "no name");
+    make();
+}
+
 /* What palmheap_salvage makes of the file has no fault, `records` records and this size, and these lines are about it. */
 static void is_salvaged(bool exact_ids, size_t records, size_t wanted, const char *lines) {
     static uint8_t salvaged[SIZE + 1], text[512];
@@ -170,6 +268,8 @@ static void explain(void) {
 int main(void) {
     explain();
     read_file();
+    write_file();
+    write_each_back();
     salvage();
     documents();
     make();

@@ -72,6 +72,15 @@ static uint32_t pdb_read(void) {
     return palmheap_pdb_read(file, sizeof file, &header, &app, &sort, &entry, 1, &memory.count).kind;
 }
 
+static uint32_t pdb_write(void) {
+    palmheap_database_info header = {.name = "A", .name_length = 1};
+    palmheap_block block = {0, 9, true};
+    palmheap_file_entry entry = {.start = 88, .end = 97, .has_data = true};
+    uint32_t order = 2;
+    return palmheap_pdb_write(file, sizeof file, &header, &block, &block, &entry, 1, file, 2, &order, 1, memory.out,
+        OUT, &memory.count).kind;
+}
+
 static uint32_t canonical(void) { return palmheap_canonical(file, sizeof file, memory.out, OUT, &memory.count).kind; }
 static uint32_t list(void) { return palmheap_pdb_list(file, sizeof file, memory.out, OUT, &memory.count).kind; }
 static uint32_t json(void) { return palmheap_pdb_json(file, sizeof file, memory.out, OUT, &memory.count).kind; }
@@ -136,6 +145,7 @@ int main(void) {
     memory.opened = (palmheap_store){0};
     try("pdb_blocks", blocks_of, PALMHEAP_NO_MEMORY, 0);
     try("pdb_read", pdb_read, PALMHEAP_NO_MEMORY, 0);
+    try("pdb_write", pdb_write, PALMHEAP_NO_MEMORY, 0);
     try("canonical", canonical, PALMHEAP_NO_MEMORY, 0);
     try("pdb_list", list, PALMHEAP_NO_MEMORY, 0);
     try("pdb_json", json, PALMHEAP_NO_MEMORY, 0);

@@ -21,6 +21,7 @@ class Kind(enum.IntEnum):
     TOO_LARGE = 3
     BAD_SIZE = 4
     BAD_SLOT_COUNT = 5
+    NO_FILE = 6
     TOO_SHORT = 20
     BAD_MAGIC = 21
     BAD_SIZE_FIELD = 22
@@ -101,11 +102,23 @@ class ScriptFault(Fault):
         return f"line {self.at} {super().__str__()}" + (f" {self.entry}" if self.kind == Kind.BAD_WORD else "")
 
 
+# What is raised for kinds from a number on.
+_FAULTS = (
+    (80, Fault),
+    (70, ScriptFault),
+    (60, FileFault),
+    (20, ImageFault),
+    (6, FileFault),
+    (4, ImageFault),
+    (3, FileFault),
+)
+
+
 def fault(kind: int, at: int = 0, entry: int = 0) -> Exception:
     """Returns what is raised for an answer that is not OK."""
     if kind == Kind.NO_MEMORY:
         return MemoryError("an allocation of palmheap failed")
-    for least, what in ((80, Fault), (70, ScriptFault), (60, FileFault), (4, ImageFault), (3, FileFault)):
+    for least, what in _FAULTS:
         if kind >= least:
             return what(kind, at, entry)
     return Fault(kind, at, entry)

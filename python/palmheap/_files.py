@@ -36,6 +36,15 @@ class Blocks(NamedTuple):
     data: list[Optional[bytes]]
 
 
+class Parts(NamedTuple):
+    """A file as structures of C: its header, the places of its info blocks, its entries with those of their data."""
+
+    header: Any
+    app: Any
+    sort: Any
+    entries: Any
+
+
 class Counts(NamedTuple):
     """The counts of an image: its size, slots, movable and fixed chunks, bytes of its free chunks, databases."""
 
@@ -81,6 +90,39 @@ def blocks(file: Buffer) -> Blocks:
     found = _made(low.library().palmheap_pdb_blocks, file, low.Block)
     app_info, sort_info, *data = (file[it.start : it.end] if it.is_there else None for it in found)
     return Blocks(app_info, sort_info, data)
+
+
+def read_parts(file: bytes) -> Parts:
+    """Returns the header, the places of the info blocks and the entries of a file. Raises its first fault."""
+    header, app, sort, count = low.DatabaseInfo(), low.Block(), low.Block(), c.c_size_t(0)
+    while True:
+        parts = Parts(header, app, sort, (low.FileEntry * count.value)())
+        answer = low.library().palmheap_pdb_read(file or None, len(file), *_pointers(parts), c.byref(count))
+        if answer.kind != Kind.NO_ROOM:
+            break
+    _good(answer)
+    return parts
+
+
+def write_parts(data: bytes, parts: Parts, filler: bytes, order: Sequence[int]) -> bytes:
+    """Returns the file of these parts, whose places are in `data`. Raises ValueError if there is none."""
+    ranks = (low.U32 * len(order))(*(low.number(low.U32, it) for it in order))
+    made, count = (low.U8 * 0)(), c.c_size_t(0)
+    while True:
+        rest = (filler or None, len(filler), ranks, len(ranks), made, len(made), c.byref(count))
+        answer = low.library().palmheap_pdb_write(data or None, len(data), *_pointers(parts), *rest)
+        if answer.kind != Kind.NO_ROOM:
+            break
+        made = (low.U8 * count.value)()
+    if answer.kind == Kind.NO_FILE:
+        raise ValueError("no file has these values")
+    _good(answer)
+    return bytes(made)
+
+
+def _pointers(parts: Parts) -> tuple[Any, ...]:
+    places = (c.byref(it) for it in (parts.header, parts.app, parts.sort))
+    return (*places, parts.entries, len(parts.entries))
 
 
 def listing(file: Buffer) -> str:

@@ -113,10 +113,14 @@ class Row(NamedTuple):
     returns: Any = U32
 
 
+# A file as structures: its header, the places of AppInfo and SortInfo, and its entries.
+PARTS = (c.POINTER(DatabaseInfo), c.POINTER(Block), c.POINTER(Block), c.POINTER(FileEntry), SIZE)
 # The functions on files and images.
 FILE_FUNCTIONS = {
     "pdb_check": Row((bytes,), (), Answer),
     "pdb_blocks": Row((bytes, c.POINTER(Block), SIZE), (SIZE,), Answer),
+    "pdb_read": Row((bytes, *PARTS), (SIZE,), Answer),
+    "pdb_write": Row((bytes, *PARTS, bytes, c.POINTER(U32), SIZE, bytearray), (SIZE,), Answer),
     "pdb_list": Row((bytes, bytearray), (SIZE,), Answer),
     "pdb_json": Row((bytes, bytearray), (SIZE,), Answer),
     "pdb_needs": Row((bytes,), (Needs,), Answer),

@@ -45,6 +45,10 @@ def databases(records=RECORDS):
     return st.builds(database, st.just(False), records, *rest) | st.builds(database, st.just(True), RESOURCES, *rest)
 
 
+def data_of(it):
+    return [entry.data for entry in (it.resources if it.has_resources else it.records)]
+
+
 def damaged(file, rng):
     """A file with one to three changes."""
     file = bytearray(file)
@@ -81,7 +85,7 @@ def test_a_database_is_written_in_canonical_form(it):
 @given(databases(), st.randoms(use_true_random=False))
 def test_read_and_write_is_canonical(it, rng):
     """For a file of any bytes: what is read and written is its canonical form, or both have the same fault."""
-    for file in (it.to_bytes(), it._built(), damaged(it._built(), rng)):
+    for file in (it.to_bytes(), it.to_exact_bytes(), damaged(it.to_exact_bytes(), rng)):
         try:
             wanted = palmheap.canonical(file)
         except palmheap.FileFault as fault:
@@ -97,19 +101,38 @@ def test_read_and_write_is_canonical(it, rng):
             assert palmheap.listing(file).startswith("ok")
 
 
+@given(databases(), st.randoms(use_true_random=False))
+def test_read_and_write_exactly(it, rng):
+    """A file that is read and written with all its values is the same file, byte for byte."""
+    it.filler = rng.randbytes(rng.randrange(4))
+    it.after_name = b"\0" + rng.randbytes(31 - len(it.name)) if rng.random() < 0.5 else b""
+    there = [rank for rank, block in enumerate((it.app_info, it.sort_info, *data_of(it))) if block]
+    rng.shuffle(there)
+    it.order = there
+    whole = it.to_exact_bytes()
+    read = palmheap.Database.from_bytes(whole)
+    assert (read.records, read.resources, read.filler) == (it.records, it.resources, it.filler)
+    for file in (whole, damaged(whole, rng)):
+        try:
+            read = palmheap.Database.from_bytes(file)
+        except palmheap.FileFault:
+            continue
+        assert read.to_exact_bytes() == file
+
+
 @settings(max_examples=50)
 @given(databases())
 def test_import_and_export_is_canonical(it):
-    file = it._built()
+    file = it.to_exact_bytes()
     with palmheap.Store.new(65_536, 200) as store:
         assert store.export_file(store.import_file(file)) == palmheap.canonical(file)
 
 
 @given(databases())
 def test_blocks(it):
-    app, sort, data = palmheap.blocks(bytearray(it._built()))
+    app, sort, data = palmheap.blocks(bytearray(it.to_exact_bytes()))
     assert (app, sort) == (it.app_info, it.sort_info)
-    assert data == [entry.data for entry in (it.resources if it.has_resources else it.records)]
+    assert data == data_of(it)
 
 
 def test_values_that_no_file_has():
@@ -131,6 +154,17 @@ def test_values_that_no_file_has():
     ):
         with pytest.raises(ValueError):
             wrong.to_bytes()
+    for wrong in (
+        made(after_name=b"\0"),
+        made(after_name=b"a" * 31),
+        made(order=[0]),
+        made(app_info=b"a", order=[0, 0]),
+        made(app_info=b"a", sort_info=b"", order=[1, 0]),
+        made(order=[2]),
+    ):
+        assert len(wrong.to_bytes()) in (80, 81)
+        with pytest.raises(ValueError):
+            wrong.to_exact_bytes()
     for wrong in (
         made(attributes=1 << 16),
         made(version=-1),
@@ -162,7 +196,7 @@ def test_read_and_write(tmp_path):
 @given(databases(), st.booleans(), st.randoms(use_true_random=False))
 def test_salvage(it, exact_ids, rng):
     """What is salvaged has no fault. Of a file without fault it is the canonical form, unless IDs are kept."""
-    file = damaged(it._built(), rng)
+    file = damaged(it.to_exact_bytes(), rng)
     if len(file) < 78:
         with pytest.raises(palmheap.FileFault) as fault:
             palmheap.salvage(file, exact_ids)
@@ -184,7 +218,7 @@ def test_salvage(it, exact_ids, rng):
 @given(databases(), st.randoms(use_true_random=False))
 def test_document(it, rng):
     """The document has the size of the file, or its first fault."""
-    for file in (it._built(), damaged(it._built(), rng)):
+    for file in (it.to_exact_bytes(), damaged(it.to_exact_bytes(), rng)):
         document = json.loads(palmheap.document(file))
         try:
             palmheap.check_file(file)

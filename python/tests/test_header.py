@@ -10,7 +10,7 @@ from palmheap import _errors, _library, _store
 TOP = os.path.dirname(os.path.dirname(os.path.dirname(os.path.realpath(__file__))))
 # The functions that the package does without. `lent` needs no pointers, and `Kind` has the names of kinds.
 LEFT_OUT = {"lock_pointer", "unlock_pointer", "unlock_handle", "start", "version", "kind_name"}
-LEFT_OUT |= {"loans", "new_chained", "pdb_damage", "pdb_read", "explain"}
+LEFT_OUT |= {"loans", "new_chained", "pdb_damage", "explain"}
 NUMBERS = {_library.U8: "uint8_t", _library.U16: "uint16_t", _library.U32: "uint32_t", _library.SIZE: "size_t"}
 
 

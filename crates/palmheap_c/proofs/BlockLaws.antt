@@ -15,7 +15,7 @@ found_placed file [] = refl
 found_placed file (None ∷ blocks) = ap (λ (rest : List (Option (List ℕ))). None ∷ rest) (found_placed file blocks)
 found_placed file (Some block ∷ blocks) = ap (λ (rest : List (Option (List ℕ))). Some (slice_range file block.start block.end) ∷ rest) (found_placed file blocks)
 
-inside_placed : (size : ℕ) (block : Option files.Block) → IsBlockWithin size block → IsInside size (placed block)
+pub inside_placed : (size : ℕ) (block : Option files.Block) → IsBlockWithin size block → IsInside size (placed block)
 inside_placed size None within = (omega arith, omega arith)
 inside_placed size (Some block) within = within
 

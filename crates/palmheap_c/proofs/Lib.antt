@@ -11,7 +11,9 @@ pub mod OutLaws
 pub mod PinLaws
 pub mod PlaceLaws
 pub mod PointerLaws
+pub mod ReadLaws
 pub mod RefusalLaws
 pub mod RunLaws
 pub mod Sized
 pub mod Values
+pub mod WriteLaws

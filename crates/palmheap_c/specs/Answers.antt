@@ -40,6 +40,9 @@ bad_size = answer 4 0 0
 abbrev pub bad_slot_count : Answer
 bad_slot_count = answer 5 0 0
 
+abbrev pub no_file : Answer
+no_file = answer 6 0 0
+
 -- this is the fault of a file or of an image
 abbrev pub IsFault : Answer → Type 0
 IsFault found = 20 ≤ found.kind

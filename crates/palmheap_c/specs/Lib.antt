@@ -20,3 +20,4 @@ pub mod Pointers
 pub mod Refusals
 pub mod Runs
 pub mod Salvaging
+pub mod Writing

@@ -58,6 +58,13 @@ pub(crate) const BAD_SLOT_COUNT: Answer = Answer {
     entry: 0,
 };
 
+/// No file has the values that are given.
+pub(crate) const NO_FILE: Answer = Answer {
+    kind: 6,
+    at: 0,
+    entry: 0,
+};
+
 /// Returns a kind without numbers.
 fn plain(kind: u32) -> Answer
     ensures { result ≡ answers.answer kind 0 0 }

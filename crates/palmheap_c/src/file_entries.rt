@@ -30,7 +30,6 @@ pub struct FileEntry {
 /// Reads the header of a file, the places of its AppInfo and SortInfo blocks, and its entries with
 /// the places of their data. Sets `count` to the number of the entries, also if `entries` is too
 /// short for them. The header's name ends before its first zero byte.
-#[tactic(auto, using(crate::proofs::EntryLaws::header_told))]
 #[unsafe(no_mangle)]
 pub extern "C" fn palmheap_pdb_read(
     alloc: Global,
@@ -58,6 +57,7 @@ pub extern "C" fn palmheap_pdb_read(
     *app = block_at(&opened, 0);
     *sort = block_at(&opened, 1);
     put_entries(entries, &opened);
+    opened.know_file();
     NO_FAULT
 }
 

@@ -11,6 +11,7 @@
 //! | `file_entries` | reads their headers and entries |
 //! | `damages` | finds where a file has its first fault |
 //! | `salvaging` | salvages damaged files |
+//! | `writing` | puts files together |
 //! | `needs` | finds the smallest image for a file |
 //! | `documents` | lists files as JSON |
 //! | `images` | makes and checks images |
@@ -60,6 +61,7 @@ mod results;
 mod runs;
 mod salvaging;
 mod version;
+mod writing;
 
 pub use answers::Answer;
 pub use blocks::Block;
@@ -168,3 +170,4 @@ pub use runs::palmheap_run;
 pub use salvaging::palmheap_salvage;
 pub use salvaging::palmheap_salvage_lines;
 pub use version::palmheap_version;
+pub use writing::palmheap_pdb_write;
