@@ -42,6 +42,7 @@ static void without_store(uint8_t *image) {
     is_file_fault("salvage_lines", palmheap_salvage_lines(NULL, 0, NULL, 0, &count));
     want("new", palmheap_new(NULL, 0, 1).kind, PALMHEAP_BAD_SIZE);
     want("check", palmheap_check(NULL, 0, &counts).kind, PALMHEAP_TOO_SHORT);
+    want("migrate", palmheap_migrate(NULL, 0, NULL, 0, &count).kind, PALMHEAP_TOO_SHORT);
     want("run", palmheap_run(NULL, 0, NULL, 0, NULL, 0, NULL, 0, NULL, 0, NULL, 0, &sizes).kind, PALMHEAP_TOO_SHORT);
     want("empty script", palmheap_run(image, SIZE, NULL, 0, NULL, 0, NULL, 0, NULL, 0, NULL, 0, &sizes).kind, PALMHEAP_OK);
     want("empty script, printed", sizes.printed + sizes.exported + sizes.files, 0);
@@ -103,11 +104,29 @@ static void equal_blocks(void) {
     }
 }
 
+/* An image with an even number of slots grows by 8 bytes. One with an odd number doesn't, so its size can be the greatest. */
+static void migrates(const uint8_t *image) {
+    static uint8_t largest[16777208], chained[16777208];
+    size_t count = 0;
+    want("migrate without room", palmheap_migrate(image, SIZE, NULL, 0, &count).kind, PALMHEAP_NO_ROOM);
+    want("migrate, count", count, SIZE + 8);
+    want("migrate", palmheap_migrate(image, SIZE, chained, sizeof chained, &count).kind, PALMHEAP_OK);
+    want("magic", memcmp(chained, "PHI2", 4), 0);
+    want("an even number of slots", palmheap_new(largest, sizeof largest, SLOTS).kind, PALMHEAP_OK);
+    want("migrate the largest", palmheap_migrate(largest, sizeof largest, chained, sizeof chained, &count).kind,
+        PALMHEAP_TOO_LARGE_TO_MIGRATE);
+    want("migrate, count left", count, SIZE + 8);
+    want("an odd number of slots", palmheap_new(largest, sizeof largest, SLOTS + 1).kind, PALMHEAP_OK);
+    want("migrate the largest", palmheap_migrate(largest, sizeof largest, chained, sizeof chained, &count).kind, PALMHEAP_OK);
+    want("migrate, count", count, sizeof largest);
+}
+
 int main(void) {
     static uint8_t image[SIZE];
     want("new image", palmheap_new(image, SIZE, SLOTS).kind, PALMHEAP_OK);
     without_store(image);
     with_store(image);
+    migrates(image);
     equal_blocks();
     return 0;
 }

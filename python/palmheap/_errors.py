@@ -50,6 +50,7 @@ class Kind(enum.IntEnum):
     UNKNOWN_COMMAND = 70
     WRONG_COUNT = 71
     BAD_WORD = 72
+    TOO_LARGE_TO_MIGRATE = 104
 
 
 # The words that the program has for some kinds. The others are those of their names, as BadOffset.
@@ -58,6 +59,7 @@ _WORDS = {
     Kind.BAD_SLOT_FIELD: "BadSlotCount",
     Kind.BAD_APP_INFO: "BadInfo app",
     Kind.BAD_SORT_INFO: "BadInfo sort",
+    Kind.TOO_LARGE_TO_MIGRATE: "TooLarge",
 }
 # The kinds that are located by one number, and by two.
 _ONE = {Kind.BAD_CHUNK, Kind.BAD_TABLE, Kind.SLOT_MISMATCH, Kind.CHUNK_WITHOUT_SLOT, Kind.BAD_FIXED_OWNER}
@@ -91,7 +93,7 @@ class FileFault(Fault):
 
 
 class ImageFault(Fault):
-    """The bytes are no accepted image, or no image has the size and the number of slots."""
+    """The bytes are no accepted image, no image has the size and the number of slots, or an image can't be migrated."""
 
 
 class ScriptFault(Fault):
@@ -105,7 +107,7 @@ def fault(kind: int, at: int = 0, entry: int = 0) -> Exception:
     """Returns what is raised for an answer that is not OK."""
     if kind == Kind.NO_MEMORY:
         return MemoryError("an allocation of palmheap failed")
-    for least, what in ((80, Fault), (70, ScriptFault), (60, FileFault), (4, ImageFault), (3, FileFault)):
+    for least, what in ((105, Fault), (104, ImageFault), (80, Fault), (70, ScriptFault), (60, FileFault), (4, ImageFault), (3, FileFault)):
         if kind >= least:
             return what(kind, at, entry)
     return Fault(kind, at, entry)
