@@ -46,6 +46,8 @@ static void without_store(uint8_t *image) {
     want("run", palmheap_run(NULL, 0, NULL, 0, NULL, 0, NULL, 0, NULL, 0, NULL, 0, &sizes).kind, PALMHEAP_TOO_SHORT);
     want("empty script", palmheap_run(image, SIZE, NULL, 0, NULL, 0, NULL, 0, NULL, 0, NULL, 0, &sizes).kind, PALMHEAP_OK);
     want("empty script, printed", sizes.printed + sizes.exported + sizes.files, 0);
+    want("no script", palmheap_run(image, SIZE, (const uint8_t *)"nothing\n", 8, NULL, 0, NULL, 0, NULL, 0, NULL, 0,
+        &sizes).kind, PALMHEAP_UNKNOWN_COMMAND);
     /* A script whose one file has no bytes: the import is refused, and its reply has no room. */
     palmheap_bytes none = {NULL, 0};
     const uint8_t *script = (const uint8_t *)"import d 1\n";
@@ -104,7 +106,7 @@ static void equal_blocks(void) {
     }
 }
 
-/* An image with an even number of slots grows by 8 bytes. One with an odd number doesn't, so its size can be the greatest. */
+/* An image with an even number of slots grows by 8 bytes. One with an odd number doesn't, also if it is the largest. */
 static void migrates(const uint8_t *image) {
     static uint8_t largest[16777208], chained[16777208];
     size_t count = 0;
@@ -117,7 +119,8 @@ static void migrates(const uint8_t *image) {
         PALMHEAP_TOO_LARGE_TO_MIGRATE);
     want("migrate, count left", count, SIZE + 8);
     want("an odd number of slots", palmheap_new(largest, sizeof largest, SLOTS + 1).kind, PALMHEAP_OK);
-    want("migrate the largest", palmheap_migrate(largest, sizeof largest, chained, sizeof chained, &count).kind, PALMHEAP_OK);
+    want("migrate an odd one", palmheap_migrate(largest, sizeof largest, chained, sizeof chained, &count).kind,
+        PALMHEAP_OK);
     want("migrate, count", count, sizeof largest);
 }
 
