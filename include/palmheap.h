@@ -11,7 +11,8 @@
  * - While a call runs, no other thread writes memory that the call is given, or reads memory that the call writes. While
  *   a call changes a store, no other thread uses the store. A call that takes a const palmheap_store leaves the store as
  *   it was: any number of threads may make these calls on one store at once.
- * - 2 MiB of stack are left. No function is called from a signal handler.
+ * - The stack has 832 KiB left for palmheap_open and palmheap_run, 640 KiB for palmheap_check and palmheap_migrate, and
+ *   64 KiB for any other function. No function is called from a signal handler.
  *
  * - A parameter x_len is the number of items of the array x. Sizes, counts of bytes and offsets are in bytes.
  * - The caller owns all memory that it passes, and the library keeps no pointer to it after the call. The library
@@ -93,11 +94,14 @@ enum {
      * and UINT32_MAX stands for greater numbers too. */
     PALMHEAP_UNKNOWN_COMMAND = 70,
     PALMHEAP_WRONG_COUNT = 71,
-    PALMHEAP_BAD_WORD = 72
+    PALMHEAP_BAD_WORD = 72,
+
+    /* An accepted image of profile PHI1 that as one of profile PHI2 would be larger than any image. */
+    PALMHEAP_TOO_LARGE_TO_MIGRATE = 104
 };
 
-/* Writes the name of a kind of fault, 1, 20 to 47 or 60 to 72, into a buffer, as BadChunk: ASCII without a zero at its
- * end, as the program prints it. No name has more than 16 bytes. Sets count to its size in bytes, also if the buffer is
+/* Writes the name of a kind of fault, 1, 20 to 47, 60 to 72 or 104, into a buffer, as BadChunk: ASCII without a zero at
+ * its end, as the program prints it. No name has more than 16 bytes. Sets count to its size in bytes, also if the buffer is
  * too short for it. Returns 0 or PALMHEAP_CALL_NO_ROOM, or PALMHEAP_CALL_NO_FAULT if no fault has the kind: then it
  * changes nothing. */
 uint32_t palmheap_kind_name(uint32_t kind, uint8_t *name, size_t name_len, size_t *count);
@@ -209,6 +213,14 @@ palmheap_answer palmheap_new_chained(uint8_t *image, size_t image_len, uint16_t 
 /* Checks whether some bytes are an accepted image. If so, sets counts to what it has.
  * Answers: PALMHEAP_OK, PALMHEAP_NO_MEMORY, 20 to 47. */
 palmheap_answer palmheap_check(const uint8_t *image, size_t image_len, palmheap_counts *counts);
+
+/* Writes the image with a chain of master pointer tables that an image becomes into a buffer, as `palmheap migrate` does:
+ * to it palmheap_more_slots adds slots. An image that has a chain is written as it is. Another one grows by 8 bytes if
+ * its number of slots is even, and then the names of fixed chunks are greater by 8. All else of its chunks and databases
+ * is the same. Sets count to the size of the new image in bytes, also with PALMHEAP_NO_ROOM.
+ * Answers: PALMHEAP_OK, PALMHEAP_NO_MEMORY, PALMHEAP_NO_ROOM, PALMHEAP_TOO_LARGE_TO_MIGRATE, 20 to 47. */
+palmheap_answer palmheap_migrate(const uint8_t *image, size_t image_len, uint8_t *migrated, size_t migrated_len,
+    size_t *count);
 
 /* ---- Scripts. ---- */
 

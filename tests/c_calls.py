@@ -78,6 +78,7 @@ class Library:
             "palmheap_salvage_lines": [*one, u8, size, c.POINTER(size)],
             "palmheap_new": [u8, size, c.c_uint16],
             "palmheap_check": [*one, c.POINTER(Counts)],
+            "palmheap_migrate": [*one, u8, size, c.POINTER(size)],
             "palmheap_run": [u8, size, *one, c.POINTER(Bytes), size, u8, size, u8, size, *sizes, c.POINTER(Sizes)],
             "palmheap_open": [*one, c.POINTER(Place)],
         }.items():
@@ -166,6 +167,9 @@ class Library:
         counts = Counts()
         self._good(self.so.palmheap_check(*span(image), c.byref(counts)))
         return {name: getattr(counts, name) for name, _ in Counts._fields_}
+
+    def migrate(self, image):
+        return bytes(self._made(self.so.palmheap_migrate, image))
 
     def run(self, image, script, files=()):
         """Runs a script on an image. Returns the image afterwards, the reply lines, and the files that it exports."""

@@ -18,7 +18,7 @@ import c_calls as palmheap
 # What the program prints after the name of a kind of fault.
 PARTS_OF_FILES = {63: " app", 64: " sort"}
 # Numbers next to those of the faults.
-NO_KINDS = (0, 2, 19, 32, 39, 48, 59, 66, 69, 73, 1 << 31)
+NO_KINDS = (0, 2, 19, 32, 39, 48, 59, 66, 69, 73, 103, 105, 1 << 31)
 # Draws are made in parts, each from its own seed, side by side on all processors.
 PARTS = range(56, 64)
 
@@ -947,6 +947,17 @@ def check_refused(library, rng, program, room, image, lines, files):
             sys.exit(f"an image with the fault {fault} gives {answer}")
 
 
+def check_migrated(library, program, room, image):
+    """Gives the image that a run left in `out` a chain of tables, by the library and by the program."""
+    chained = library.migrate(image)
+    _, status = run(program, "migrate", f"{room}/out", f"{room}/chained")
+    with open(f"{room}/chained", "rb") as it:
+        if status != 0 or it.read() != chained:
+            sys.exit("an image is migrated to another one by the program")
+    if library.migrate(chained) != chained:
+        sys.exit("an image with a chain is migrated to another one")
+
+
 def do_list(library, rng, program, room):
     """Does calls by an open store, by `palmheap_run` and by the program. Returns the refusals, the number of loans, how
     many were out at once at most, and the number of pointers."""
@@ -973,6 +984,7 @@ def do_list(library, rng, program, room):
         sys.exit("palmheap_run and the program differ")
     check_rooms(library, image, script, files, last, text, calls.exported)
     check_refused(library, rng, program, room, image, calls.lines, files)
+    check_migrated(library, program, room, last)
     for line, (kind, told), reply in zip(calls.lines, calls.replies, text.decode("ascii").splitlines(), strict=True):
         wanted = f"ok{told}" if kind == "ok" else f"refused {told} {library.refusal_name(told)} "
         if not (reply == wanted if kind == "ok" else f"{reply} ".startswith(wanted)):
@@ -1012,6 +1024,8 @@ def compare_calls(program, count):
         sys.exit("a number of no refusal has a name")
     if any(library.kind_name(it) for it in NO_KINDS) or library.kind_name(1) != "OutOfMemory":
         sys.exit("a kind of fault has another name")
+    if library.kind_name(104) != "TooLarge":
+        sys.exit("the kind of an image that can't be migrated has another name")
     parts = each_part(compare_drawn, program, count)
     calls, refused = sum(it[0] for it in parts), [number for it in parts for number in it[1]]
     met = ", ".join(f"{refused.count(it)} {library.refusal_name(it)}" for it in sorted(set(refused)))

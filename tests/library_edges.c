@@ -48,9 +48,12 @@ static void without_store(uint8_t *image) {
     want("pdb_write, count", count, 78);
     want("new", palmheap_new(NULL, 0, 1).kind, PALMHEAP_BAD_SIZE);
     want("check", palmheap_check(NULL, 0, &counts).kind, PALMHEAP_TOO_SHORT);
+    want("migrate", palmheap_migrate(NULL, 0, NULL, 0, &count).kind, PALMHEAP_TOO_SHORT);
     want("run", palmheap_run(NULL, 0, NULL, 0, NULL, 0, NULL, 0, NULL, 0, NULL, 0, &sizes).kind, PALMHEAP_TOO_SHORT);
     want("empty script", palmheap_run(image, SIZE, NULL, 0, NULL, 0, NULL, 0, NULL, 0, NULL, 0, &sizes).kind, PALMHEAP_OK);
     want("empty script, printed", sizes.printed + sizes.exported + sizes.files, 0);
+    want("no script", palmheap_run(image, SIZE, (const uint8_t *)"nothing\n", 8, NULL, 0, NULL, 0, NULL, 0, NULL, 0,
+        &sizes).kind, PALMHEAP_UNKNOWN_COMMAND);
     /* A script whose one file has no bytes: the import is refused, and its reply has no room. */
     palmheap_bytes none = {NULL, 0};
     const uint8_t *script = (const uint8_t *)"import d 1\n";
@@ -109,11 +112,30 @@ static void equal_blocks(void) {
     }
 }
 
+/* An image with an even number of slots grows by 8 bytes. One with an odd number doesn't, also if it is the largest. */
+static void migrates(const uint8_t *image) {
+    static uint8_t largest[16777208], chained[16777208];
+    size_t count = 0;
+    want("migrate without room", palmheap_migrate(image, SIZE, NULL, 0, &count).kind, PALMHEAP_NO_ROOM);
+    want("migrate, count", count, SIZE + 8);
+    want("migrate", palmheap_migrate(image, SIZE, chained, sizeof chained, &count).kind, PALMHEAP_OK);
+    want("magic", memcmp(chained, "PHI2", 4), 0);
+    want("an even number of slots", palmheap_new(largest, sizeof largest, SLOTS).kind, PALMHEAP_OK);
+    want("migrate the largest", palmheap_migrate(largest, sizeof largest, chained, sizeof chained, &count).kind,
+        PALMHEAP_TOO_LARGE_TO_MIGRATE);
+    want("migrate, count left", count, SIZE + 8);
+    want("an odd number of slots", palmheap_new(largest, sizeof largest, SLOTS + 1).kind, PALMHEAP_OK);
+    want("migrate an odd one", palmheap_migrate(largest, sizeof largest, chained, sizeof chained, &count).kind,
+        PALMHEAP_OK);
+    want("migrate, count", count, sizeof largest);
+}
+
 int main(void) {
     static uint8_t image[SIZE];
     want("new image", palmheap_new(image, SIZE, SLOTS).kind, PALMHEAP_OK);
     without_store(image);
     with_store(image);
+    migrates(image);
     equal_blocks();
     return 0;
 }

@@ -95,6 +95,7 @@ static uint32_t salvage_lines(void) { return palmheap_salvage_lines(file, 87, me
 static uint32_t new(void) { return palmheap_new(memory.image, SIZE, 40).kind; }
 static uint32_t new_chained(void) { return palmheap_new_chained(memory.image, SIZE, 40).kind; }
 static uint32_t check(void) { return palmheap_check(memory.image, SIZE, &memory.counts).kind; }
+static uint32_t migrate(void) { return palmheap_migrate(memory.image, SIZE, memory.out, OUT, &memory.count).kind; }
 static uint32_t open_store(void) { return palmheap_open(memory.image, SIZE, &memory.opened).kind; }
 static uint32_t write_image(void) { return palmheap_write_image(&store, memory.out, OUT, &memory.count); }
 static uint32_t import(void) { return palmheap_import(&store, file, sizeof file, &memory.db); }
@@ -156,6 +157,7 @@ int main(void) {
     try("new_chained", new_chained, PALMHEAP_NO_MEMORY, 0);
     try("new", new, PALMHEAP_NO_MEMORY, 0);
     try("check", check, PALMHEAP_NO_MEMORY, 0);
+    try("migrate", migrate, PALMHEAP_NO_MEMORY, 0);
     int closed = blocks;
     if (palmheap_open(memory.image, SIZE, &store).kind != PALMHEAP_OK) return 1;
     int opened = blocks;

@@ -51,6 +51,7 @@ class Kind(enum.IntEnum):
     UNKNOWN_COMMAND = 70
     WRONG_COUNT = 71
     BAD_WORD = 72
+    TOO_LARGE_TO_MIGRATE = 104
 
 
 # The words that the program has for some kinds. The others are those of their names, as BadOffset.
@@ -59,6 +60,7 @@ _WORDS = {
     Kind.BAD_SLOT_FIELD: "BadSlotCount",
     Kind.BAD_APP_INFO: "BadInfo app",
     Kind.BAD_SORT_INFO: "BadInfo sort",
+    Kind.TOO_LARGE_TO_MIGRATE: "TooLarge",
 }
 # The kinds that are located by one number, and by two.
 _ONE = {Kind.BAD_CHUNK, Kind.BAD_TABLE, Kind.SLOT_MISMATCH, Kind.CHUNK_WITHOUT_SLOT, Kind.BAD_FIXED_OWNER}
@@ -92,7 +94,7 @@ class FileFault(Fault):
 
 
 class ImageFault(Fault):
-    """The bytes are no accepted image, or no image has the size and the number of slots."""
+    """The bytes are no accepted image, no image has the size and the number of slots, or an image can't be migrated."""
 
 
 class ScriptFault(Fault):
@@ -104,6 +106,8 @@ class ScriptFault(Fault):
 
 # What is raised for kinds from a number on.
 _FAULTS = (
+    (105, Fault),
+    (104, ImageFault),
     (80, Fault),
     (70, ScriptFault),
     (60, FileFault),

@@ -183,6 +183,12 @@ def check_image(image: Buffer) -> Counts:
     return Counts(*(getattr(counts, name) for name in Counts._fields))
 
 
+def migrate(image: Buffer) -> bytes:
+    """Returns the image with a chain of tables that an image becomes, as `palmheap migrate` makes it: `Store.more_slots`
+    adds slots to it. An image that has a chain is returned as it is."""
+    return bytes(_made(low.library().palmheap_migrate, image, low.U8))
+
+
 def run(image: Buffer, script: str | Buffer, files: Sequence[Buffer] = ()) -> Run:
     """Runs a script (docs/USING.md) on an image. `files` are those that its lines import.
 

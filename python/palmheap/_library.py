@@ -129,6 +129,7 @@ FILE_FUNCTIONS = {
     "salvage_lines": Row((bytes, bytearray), (SIZE,), Answer),
     "new": Row((bytearray, U16), (), Answer),
     "check": Row((bytes,), (Counts,), Answer),
+    "migrate": Row((bytes, bytearray), (SIZE,), Answer),
     "run": Row(
         (bytearray, bytes, c.POINTER(Bytes), SIZE, bytearray, bytearray, c.POINTER(SIZE), SIZE), (Sizes,), Answer
     ),

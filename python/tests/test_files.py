@@ -255,6 +255,19 @@ def test_images():
         assert store.image() == image
 
 
+def test_migrate():
+    image = palmheap.new_image(2048, 8)
+    chained = palmheap.migrate(image)
+    assert len(chained) == 2056 and chained[:4] == b"PHI2" and palmheap.migrate(chained) == chained
+    with palmheap.Store.open(chained) as store:
+        store.more_slots()
+        assert palmheap.check_image(store.image()).slots == 8 + 15
+    for image, kind in ((b"", "TOO_SHORT"), (palmheap.new_image(16_777_208, 8), "TOO_LARGE_TO_MIGRATE")):
+        with pytest.raises(palmheap.ImageFault) as it:
+            palmheap.migrate(image)
+        assert it.value.kind.name == kind
+
+
 def test_run():
     file = palmheap.Database(b"MemoDB", b"DATA", b"memo", records=[palmheap.Record(b"Buy milk\0", 1, 1)]).to_bytes()
     image = palmheap.new_image(2048, 8)
@@ -281,6 +294,7 @@ def test_words_of_faults():
         (65, 0, 0, "BadOffset 0"),
         (71, 4, 0, "line 4 WrongCount"),
         (72, 4, 2, "line 4 BadWord 2"),
+        (104, 0, 0, "TooLarge"),
         (99, 1, 2, "kind 99 at 1, entry 2"),
     ):
         it = _errors.fault(kind, at, entry)

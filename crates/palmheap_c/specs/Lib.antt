@@ -13,6 +13,7 @@ pub mod Keeping
 pub mod Kinds
 pub mod LoanNames
 pub mod Loans
+pub mod Migrating
 pub mod Needs
 pub mod Opened
 pub mod Opening

@@ -65,6 +65,13 @@ pub(crate) const NO_FILE: Answer = Answer {
     entry: 0,
 };
 
+/// An image has one table of slots, and is too large to get a chain of tables.
+pub(crate) const TOO_LARGE_TO_MIGRATE: Answer = Answer {
+    kind: 104,
+    at: 0,
+    entry: 0,
+};
+
 /// Returns a kind without numbers.
 fn plain(kind: u32) -> Answer
     ensures { result ≡ answers.answer kind 0 0 }

@@ -1,17 +1,18 @@
 //! Functions on images. They keep no state between calls.
 
-ghost use Rattle.std.specs.Prelude.{◌≡◌, ◌≢◌, ◌⊎◌, length};
+ghost use Rattle.std.specs.Prelude.{[], ◌≡◌, ◌≢◌, ◌⊎◌, IfErr, IfOk, OnOk, length};
 ghost use Rattle.allowance.specs.Refusals.{GrowthRefused};
 ghost use Rattle.chunk_format.specs.Blank.{IsBlank, IsRegionSize, LeavesRoom};
 ghost use Rattle.heap_model.specs.Store.{Accepted};
-ghost use Rattle.palmheap_c.specs.Answers.{IsImageAnswer, bad_size, bad_slot_count, no_fault, memory_answer};
+ghost use Rattle.store_check.specs.Checks.{SummarizesStore};
+ghost use Rattle.palmheap_c.specs.Answers.{IsImageAnswer, IsImageFault, IsMemoryAnswer, bad_size, bad_slot_count, no_fault, memory_answer};
 
 use crate::answers::{Answer, BAD_SIZE, BAD_SLOT_COUNT, NO_FAULT, NO_MEMORY, of_store};
 use crate::counts::{Counts, counts_of};
 use chunk_format::{BlankFault, blank};
 use raw_region::Region;
 use std::alloc::Global;
-use store_check::check_store;
+use store_check::{StoreSummary, check_store};
 
 /// Makes an image of all the bytes of a buffer, with this number of slots and without chunks. The
 /// layout is this project's own (docs/FORMAT.md).
@@ -47,14 +48,28 @@ pub extern "C" fn palmheap_new(alloc: Global, image: &mut [u8], slots: u16) -> A
 pub extern "C" fn palmheap_check(alloc: Global, image: &[u8], counts: &mut Counts) -> Answer
     ensures { IsImageAnswer image.now counts.old counts.new result }
 {
-    let Ok(region) = Region::from_bytes(alloc, image) else {
-        return NO_MEMORY;
-    };
-    match check_store(&alloc, &region) {
-        Ok(summary) => {
+    match checked(alloc, image) {
+        Ok((_, summary)) => {
             *counts = counts_of(&summary);
             NO_FAULT
         }
-        Err(fault) => of_store(fault),
+        Err(answer) => answer,
+    }
+}
+
+/// Copies an image and checks the copy. Returns it and its counts.
+pub(crate) fn checked(alloc: Global, image: &[u8]) -> Result<(Region, StoreSummary), Answer>
+    ensures bytes { IfOk result (λ checked. checked.0.bytes ≡ image.now) }
+    ensures whole { IfOk result (λ checked. checked.0.lents ≡ []) }
+    ensures accepted { OnOk result (Accepted image.now) }
+    ensures summary { IfOk result (λ checked. SummarizesStore image.now checked.1) }
+    ensures refused { IfErr result (λ answer. IsMemoryAnswer answer ⊎ IsImageFault image.now answer) }
+{
+    let Ok(region) = Region::from_bytes(alloc, image) else {
+        return Err(NO_MEMORY);
+    };
+    match check_store(&alloc, &region) {
+        Ok(summary) => Ok((region, summary)),
+        Err(fault) => Err(of_store(fault)),
     }
 }

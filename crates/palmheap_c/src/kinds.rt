@@ -8,8 +8,10 @@ ghost use Rattle.store_check.specs.declared.fault.StoreFault as store_faults;
 ghost use Rattle.palmheap_c.specs.Answers.{of_file, of_heap, of_store};
 ghost use Rattle.palmheap_c.specs.Kinds.{IsKindName, IsNoKind, NamesKind, kind_of_script};
 
+use crate::answers::TOO_LARGE_TO_MIGRATE;
 use crate::buffers::put_coded;
 use heap_check::HeapFault;
+use heap_migration::MigrateFault;
 use heap_model::{FileFault, Which};
 use palm_script::ScriptFault;
 use store_check::StoreFault;
@@ -40,10 +42,13 @@ fn name_of(kind: u32) -> Option<&'static str>
     if let Some(fault) = file_fault_of(kind) {
         return Some(fault.name());
     }
-    let Some(fault) = script_fault_of(kind) else {
-        return None;
-    };
-    Some(fault.name())
+    if let Some(fault) = script_fault_of(kind) {
+        return Some(fault.name());
+    }
+    if kind == TOO_LARGE_TO_MIGRATE.kind {
+        return Some(MigrateFault::TooLarge.name());
+    }
+    None
 }
 
 /// Returns the fault of an image with a kind. Its numbers are 0.

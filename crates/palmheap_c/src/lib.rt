@@ -16,6 +16,7 @@
 //! | `documents` | lists files as JSON |
 //! | `images` | makes and checks images |
 //! | `chained_images` | makes images with a chain of tables |
+//! | `migrating` | gives an image a chain of tables |
 //! | `runs` | runs a script on an image |
 //! | `opening` | opens a store that lives between calls, closes it, and writes its image |
 //! | `memory_calls` | calls on the chunks of an open store |
@@ -50,6 +51,7 @@ mod kinds;
 mod loan_names;
 mod loans;
 mod memory_calls;
+mod migrating;
 mod needs;
 mod opening;
 mod parts;
@@ -123,6 +125,7 @@ pub use memory_calls::palmheap_MemPtrNew;
 pub use memory_calls::palmheap_MemPtrRecoverHandle;
 pub use memory_calls::palmheap_largest_stretch;
 pub use memory_calls::palmheap_more_slots;
+pub use migrating::palmheap_migrate;
 pub use needs::Needs;
 pub use needs::palmheap_pdb_needs;
 pub use opening::palmheap_close;

@@ -1,9 +1,9 @@
 //! Opening and closing a store that lives between calls, and writing its image.
 
-ghost use Rattle.std.specs.Prelude.{◌≡◌, ◌≢◌, ◌⊎◌, IfOk, IfErr, None};
+ghost use Rattle.std.specs.Prelude.{[], ◌≡◌, ◌≢◌, ◌⊎◌, IfOk, IfErr, None};
 ghost use Rattle.palmheap_c.specs.Answers.{IsImageFault, IsMemoryAnswer, no_fault};
 ghost use Rattle.palmheap_c.specs.Holding.{IsNullIfClosed};
-ghost use Rattle.palmheap_c.specs.Opening.{Closes, HoldsImage, IsNewlyOpen, IsOpenStore, WritesImage};
+ghost use Rattle.palmheap_c.specs.Opening.{Closes, HoldsImage, IsNewlyOpen, WritesImage};
 
 use crate::answers::{Answer, NO_FAULT, NO_MEMORY, of_store};
 use crate::buffers::{put_coded, refused_block, refused_write};
@@ -46,37 +46,36 @@ fn put(place: &mut Slot, slot: Slot)
     let _not_closed = unsafe { ManuallyDrop::new_unchecked(old) };
 }
 
-/// Makes a store of a copy of an image, in a box.
-fn boxed_store(alloc: Global, image: &[u8]) -> Result<Box<Held, Global>, Answer>
+/// Makes a store of a copy of an image, in a box. A store by value takes 64 KB of stack: so no
+/// function returns one. It is never inlined: its callers keep little stack while a script runs.
+#[inline(never)]
+pub(crate) fn boxed_store(alloc: Global, image: &[u8]) -> Result<Box<Held, Global>, Answer>
     ensures store { IfOk result (λ made. IsNewlyOpen image.now made.value) }
-    ensures refused { IfErr result (λ answer. IsMemoryAnswer answer ⊎ IsImageFault image.now answer) }
-    ensures faulty { IfErr result (λ answer. answer ≢ no_fault) }
-{
-    let store = match checked_store(alloc, image) {
-        Ok(store) => store,
-        Err(answer) => return Err(answer),
-    };
-    match Box::new(alloc, Held::of(alloc, store)) {
-        Ok(made) => Ok(made),
-        Err(error) => {
-            let _unused = error.value.into_store();
-            Err(refused_block(alloc))
-        }
-    }
-}
-
-/// Makes a store of a copy of an image.
-pub(crate) fn checked_store(alloc: Global, image: &[u8]) -> Result<Store, Answer>
-    ensures store { IfOk result (IsOpenStore image.now) }
     ensures refused { IfErr result (λ answer. IsMemoryAnswer answer ⊎ IsImageFault image.now answer) }
     ensures faulty { IfErr result (λ answer. answer ≢ no_fault) }
 {
     let Ok(region) = Region::from_bytes(alloc, image) else {
         return Err(NO_MEMORY);
     };
-    match Store::check(alloc, region) {
-        Ok(store) => Ok(store),
+    match Store::check_from(&alloc, region) {
+        Ok(store) => boxed(alloc, store),
         Err(error) => Err(of_store(error.fault)),
+    }
+}
+
+/// Puts a store in a box. It is inlined, as its caller has no stack for another store.
+#[inline(always)]
+fn boxed(alloc: Global, store: Store) -> Result<Box<Held, Global>, Answer>
+    requires whole { store.lents ≡ [] }
+    ensures held { IfOk result (λ made. made.value ≡ record { memory = store; pointers = [] }) }
+    ensures refused { IfErr result IsMemoryAnswer }
+{
+    match Box::new(alloc, Held::of(alloc, store)) {
+        Ok(made) => Ok(made),
+        Err(error) => {
+            let _unused = error.value.into_store();
+            Err(refused_block(alloc))
+        }
     }
 }
 

@@ -9,11 +9,11 @@ ghost use Rattle.palmheap_c.specs.Runs.{HasResults, IsRunAnswer, IsRunRefusal, R
 use crate::answers::{Answer, NO_FAULT, NO_MEMORY, NO_ROOM};
 use crate::buffers::refused_write;
 use crate::inputs::{copied_all, joined};
-use crate::opening::checked_store;
+use crate::kept::Held;
+use crate::opening::boxed_store;
 use crate::results::{Results, Sizes, have_room};
 use heap_model::Bytes;
 use palm_script::{LineFault, RunFault, Script, ScriptFault, parse, run};
-use palm_store::Store;
 use palm_text::Counted;
 use raw_region::Region;
 use std::alloc::Global;
@@ -88,43 +88,54 @@ fn run_on(
     ensures whole { IfOk result (λ done. done.0.lents ≡ []) }
     ensures refused { IfErr result (IsRunRefusal image.now script.now) }
 {
-    let (mut store, script) = match read(alloc, image, script) {
+    let (mut held, script) = match read(alloc, image, script) {
         Ok(read) => read,
         Err(answer) => return Err(answer),
     };
     let mut out = Counted::new(Vec::new(alloc));
-    match run(alloc, &mut store, &script, inputs, &mut out) {
-        Ok(files) => Ok((region_of(store), out.into_inner(), files)),
+    let ran = run(alloc, &mut held.store, &script, inputs, &mut out);
+    let after = region_of(held);
+    match ran {
+        Ok(files) => Ok((after, out.into_inner(), files)),
         Err(RunFault::OutOfMemory) => Err(NO_MEMORY),
         Err(RunFault::Write) => Err(refused_write(alloc, &out)),
     }
 }
 
-/// Returns the region of a store. No chunk of the store may be lent.
-fn region_of(store: Store) -> Region
-    requires { store.lents ≡ [] }
-    ensures same { result ≡ store }
+/// Returns the region of a store, of which no chunk may be lent, and frees the store. It is never
+/// inlined: its caller has no stack for a store.
+#[inline(never)]
+fn region_of(held: Box<Held, Global>) -> Region
+    requires { held.value.memory.lents ≡ [] }
+    ensures same { result ≡ held.value.memory }
     ensures accepted { Accepted result.bytes }
 {
-    match store.into_region() {
+    match Box::into_inner(held).into_store().into_region() {
         Ok(region) => region,
         Err(_lent) => unreachable!(),
     }
 }
 
 /// Returns the store of a copy of an image, and the script of a text.
-fn read<'a>(alloc: Global, image: &[u8], script: &'a [u8]) -> Result<(Store, Script<'a>), Answer>
-    ensures store { IfOk result (λ read. IsOpenStore image.now read.0) }
+fn read<'a>(
+    alloc: Global,
+    image: &[u8],
+    script: &'a [u8],
+) -> Result<(Box<Held, Global>, Script<'a>), Answer>
+    ensures store { IfOk result (λ read. IsOpenStore image.now read.0.value.memory) }
     ensures script { IfOk result (λ read. read_script script.now ≡ Ok read.1) }
     ensures refused { IfErr result (IsRunRefusal image.now script.now) }
 {
-    let store = match checked_store(alloc, image) {
-        Ok(store) => store,
+    let held = match boxed_store(alloc, image) {
+        Ok(held) => held,
         Err(answer) => return Err(answer),
     };
     match parse(alloc, script) {
-        Ok(script) => Ok((store, script)),
-        Err(fault) => Err(of_line(fault)),
+        Ok(script) => Ok((held, script)),
+        Err(fault) => {
+            let _freed = region_of(held);
+            Err(of_line(fault))
+        }
     }
 }
 

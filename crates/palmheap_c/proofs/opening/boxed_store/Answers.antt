@@ -1,5 +1,5 @@
 use Rattle.palmheap_c.proofs.AnswerLaws.{image_refused}
-use Rattle.palmheap_c.proofs.opening.checked_store.Goals as goal
+use Rattle.palmheap_c.proofs.opening.boxed_store.Goals as goal
 
 pub returns-in-Err-clause-refused : goal.returns-in-Err-clause-refused
 returns-in-Err-clause-refused c =
