@@ -186,19 +186,41 @@ is noted.pdb noted.pdb noted.again
 imgvtopnm noted.again >after.pnm 2>complained || { cat complained >&2; failed=1; }
 is noted.pdb before.pnm after.pnm
 
-# Books of calibre: PalmDoc, Mobipocket and KF8.
+# Pictures of noise, which no compression makes shorter, and a text with them.
+cat >draw.pl <<'END'
+use strict; use warnings; use Compress::Zlib;
+sub chunk { my ($kind, $data) = @_; pack 'N a4 a* N', length $data, $kind, $data, crc32($kind . $data) }
+srand 1;
+for my $number (0 .. 23) {
+    my $rows = join '', map { "\0" . join '', map { chr int rand 256 } 1 .. 3 * 520 } 1 .. 520;
+    open my $out, '>:raw', "$number.png" or die;
+    print $out "\x89PNG\r\n\x1a\n", chunk('IHDR', pack 'NNCCCCC', 520, 520, 8, 2, 0, 0, 0),
+        chunk('IDAT', compress($rows)), chunk('IEND', '');
+}
+print '<html><body>', (map { "<h1>Chapter $_</h1><p>Picture $_</p><img src='$_.png'/>" } 0 .. 23), '</body></html>';
+END
+
+# convert MADE: rewrites a book of calibre, which reads the same text from both
+convert() {
+    rewrite "$1"
+    kept "$1"
+    tell "$1" "$1.form"
+    grep -q '^created .* since 1970$' listed || { printf '%s: no date since 1970\n' "$1" >&2; failed=1; }
+    cp "$1.form" "form-$1"
+    ebook-convert "$1" before.txt >printed 2>&1 || failed=1
+    ebook-convert "form-$1" after.txt >printed 2>&1 || failed=1
+    grep -q 'Chapter 12' before.txt || { printf '%s: no text was read\n' "$1" >&2; failed=1; }
+    is "$1" before.txt after.txt
+}
+
+# Books of calibre: PalmDoc, Mobipocket and KF8, and one of more than 16,777,216 bytes.
 perl -e 'print "Chapter $_\n\n", "The quick brown fox jumps over the lazy dog. " x 8, "\n\n" for 1 .. 200' >book.txt
-for book in book.pdb book.mobi book.azw3; do
-    ebook-convert book.txt "$book" >printed 2>&1 || { cat printed >&2; exit 1; }
-    rewrite "$book"
-    kept "$book"
-    tell "$book" "$book.form"
-    grep -q '^created .* since 1970$' listed || { printf '%s: no date since 1970\n' "$book" >&2; failed=1; }
-    cp "$book.form" "form-$book"
-    ebook-convert "$book" before.txt >printed 2>&1 || failed=1
-    ebook-convert "form-$book" after.txt >printed 2>&1 || failed=1
-    grep -q 'Chapter 12' before.txt || { printf '%s: no text was read\n' "$book" >&2; failed=1; }
-    is "$book" before.txt after.txt
+perl draw.pl >pictures.html || exit 1
+for made in book.pdb book.mobi book.azw3 pictures.azw3; do
+    case $made in book*) from=book.txt ;; *) from=pictures.html ;; esac
+    ebook-convert "$from" "$made" >printed 2>&1 || { cat printed >&2; exit 1; }
+    convert "$made"
 done
+[ "$(wc -c <pictures.azw3)" -gt 16777216 ] || { echo 'pictures.azw3: too short to show large files' >&2; failed=1; }
 
 exit "$failed"

@@ -8,10 +8,10 @@ ghost use Rattle.canonical_file.specs.Changes.{AreChanges};
 ghost use Rattle.canonical_file.specs.Given.{AreGivenIn};
 
 use crate::entry_changes::{has_busy, keeps_ids};
-use crate::offsets::{has_filler, is_in_order};
+use crate::offsets::is_in_order;
 use allowance::Allowance;
 use file_ids::{GivenIds, give_ids};
-use pdb_format::PdbFile;
+use pdb_format::{FileBytes, PdbFile};
 use std::alloc::AllocError;
 
 /// The changes of a file when it is rewritten. Each field has the name of its word in a listing.
@@ -39,7 +39,7 @@ impl Changes {
 }
 
 /// The same as `find_changes`, for the IDs that the file's records get. It allocates nothing.
-pub fn changes_by(file: &PdbFile<'_>, given: &GivenIds) -> Changes
+pub fn changes_by<B: FileBytes>(file: &PdbFile<'_, B>, given: &GivenIds) -> Changes
     requires short { length file.now ≤ most_file_bytes }
     requires given { AreGivenIn file.now given.now.ids.items given.now.seed }
     ensures changes { AreChanges file.now result }
@@ -48,7 +48,7 @@ pub fn changes_by(file: &PdbFile<'_>, given: &GivenIds) -> Changes
     file.know_file();
     Changes {
         busy: has_busy(file),
-        filler: !has_filler(file),
+        filler: !file.has_filler(),
         ids: !keeps_ids(file, &given.ids),
         name: !file.has_name(),
         order: !is_in_order(file),
@@ -64,7 +64,10 @@ pub fn changes_by(file: &PdbFile<'_>, given: &GivenIds) -> Changes
 /// # Errors
 ///
 /// - `AllocError`: if an allocation failed.
-pub fn find_changes<A: Allowance>(memory: &A, file: &PdbFile<'_>) -> Result<Changes, AllocError>
+pub fn find_changes<A: Allowance, B: FileBytes>(
+    memory: &A,
+    file: &PdbFile<'_, B>,
+) -> Result<Changes, AllocError>
     requires { length file.now ≤ most_file_bytes }
     ensures changes { IfOk result (AreChanges file.now) }
     ensures same { IfOk result (λ changes.

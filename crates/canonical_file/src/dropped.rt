@@ -5,31 +5,31 @@ ghost use Rattle.heap_model.specs.Files.{HasNoFault};
 ghost use Rattle.canonical_file.specs.Dropped as words;
 ghost use Rattle.canonical_file.specs.Dropped.{IsDroppedFiller, after_name};
 
-use db_format::{NAME_SIZE, name_in};
-use pdb_format::{FILLER, filler_of};
+use db_format::NAME_SIZE;
+use pdb_format::{FileBytes, filler_size, has_filler, name_in};
 
 /// Returns how many bytes of no block a rewrite of a file drops: those between the entries and the
 /// first block, unless they are exactly two zeros.
-pub fn dropped_filler(file: &[u8]) -> usize
-    requires { HasNoFault file.now }
-    ensures { IsDroppedFiller file.now result }
+pub fn dropped_filler<B: FileBytes>(file: &B) -> usize
+    requires { HasNoFault (B.bytes file.now) }
+    ensures { IsDroppedFiller (B.bytes file.now) result }
 {
-    let filler = filler_of(file);
-    if filler == FILLER.as_slice() {
+    if has_filler(file) {
         0
     } else {
-        filler.len()
+        filler_size(file)
     }
 }
 
 /// Returns how many bytes that aren't zero a rewrite of a file drops from the field of the name,
 /// after the name.
 #[tactic(auto, using(pdb_format::proofs::FileNames::name_short))]
-pub fn dropped_name(file: &[u8]) -> usize
-    requires { HasNoFault file.now }
-    ensures { result ≡ count_by words.is_set (after_name file.now) }
+pub fn dropped_name<B: FileBytes>(file: &B) -> usize
+    requires { HasNoFault (B.bytes file.now) }
+    ensures { result ≡ count_by words.is_set (after_name (B.bytes file.now)) }
 {
-    count_set(&file[name_in(file).len()..NAME_SIZE])
+    let length = name_in(file).len();
+    count_set(&file.start()[length..NAME_SIZE])
 }
 
 /// Returns how many bytes aren't zero.

@@ -7,7 +7,7 @@ ghost use Rattle.db_format.specs.EitherEntry.{entry_of};
 ghost use Rattle.canonical_file.specs.Changes.{IsIdle, NoneIsBusy};
 
 use db_format::DbEntry;
-use pdb_format::{PdbFile, idle_attributes};
+use pdb_format::{FileBytes, PdbFile, idle_attributes};
 
 /// Returns whether an entry is a resource, or a record that isn't busy.
 fn is_idle(entry: DbEntry) -> bool
@@ -20,7 +20,7 @@ fn is_idle(entry: DbEntry) -> bool
 }
 
 /// Returns whether a record of a file is busy.
-pub(crate) fn has_busy(file: &PdbFile<'_>) -> bool
+pub(crate) fn has_busy<B: FileBytes>(file: &PdbFile<'_, B>) -> bool
     ensures { IsFalse result ↔ NoneIsBusy file.now }
 {
     for index in 0..file.entry_count() {
@@ -32,7 +32,7 @@ pub(crate) fn has_busy(file: &PdbFile<'_>) -> bool
 }
 
 /// Returns whether these IDs, one for each record of a file, are the IDs in the file.
-pub(crate) fn keeps_ids(file: &PdbFile<'_>, ids: &[u32]) -> bool
+pub(crate) fn keeps_ids<B: FileBytes>(file: &PdbFile<'_, B>, ids: &[u32]) -> bool
     requires { length ids.now ≡ length (unique_ids (database_in file.now)) }
     ensures { IsTrue result ↔ (ids.now ≡ unique_ids (database_in file.now)) }
 {

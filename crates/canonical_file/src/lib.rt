@@ -51,7 +51,7 @@
 //! | `header`, `entries`, `blocks` | its header, its entries, its blocks |
 //! | `record_ids` | the IDs of its records |
 //! | `changes` | finds the changes (`specs/Changes.antt`) |
-//! | `entry_changes`, `offsets` | finds those of entries, those of the filler and of the order |
+//! | `entry_changes`, `offsets` | finds those of entries, those of the order |
 //! | `dropped` | counts the bytes that aren't in the canonical form (`specs/Dropped.antt`) |
 //! | `change_lines` | writes the line of the changes |
 //! | `needs`, `block_needs` | the needs of a file, of a block (`specs/Needs.antt`) |

@@ -4,7 +4,7 @@ ghost use Rattle.std.specs.Prelude.{◌≤◌, ◌+◌, ◌^◌};
 ghost use Rattle.canonical_file.specs.Needs.{AreNeeds};
 
 use crate::block_needs::{chunk_need, needs_of_block};
-use pdb_format::PdbFile;
+use pdb_format::{FileBytes, PdbFile};
 
 /// The part of a heap that databases take, without the directory.
 #[derive(Clone, Copy, Debug, PartialEq, Eq)]
@@ -16,7 +16,7 @@ pub struct Needs {
 }
 
 /// Returns the needs of the database of a file.
-pub fn needs_of(file: &PdbFile<'_>) -> Needs
+pub fn needs_of<B: FileBytes>(file: &PdbFile<'_, B>) -> Needs
     ensures are { AreNeeds file.now result }
     ensures short { result.bytes ≤ 2 ^ 63 + 2 ^ 62 }
     ensures few { result.slots ≤ 2 ^ 17 }

@@ -1,17 +1,10 @@
-//! The bytes before the first block, and the order of the blocks.
+//! The order of the blocks.
 
 ghost use Rattle.std.specs.Prelude.{◌↔◌, ◌∷◌, ℕ, List, IsTrue, IfSome, IfNone};
 ghost use Rattle.canonical_file.specs.Changes as words;
-ghost use Rattle.canonical_file.specs.Changes.{HasPlainFiller, IsInOrder};
+ghost use Rattle.canonical_file.specs.Changes.{IsInOrder};
 
-use pdb_format::{FILLER, PdbFile};
-
-/// Returns whether there are exactly two zeros between the entries and the first block.
-pub(crate) fn has_filler(file: &PdbFile<'_>) -> bool
-    ensures { IsTrue result ↔ HasPlainFiller file.now }
-{
-    file.filler() == FILLER.as_slice()
-}
+use pdb_format::{FileBytes, PdbFile};
 
 /// Returns the least value that the offsets after this one may have. Returns `None` if this one is
 /// below `low`.
@@ -30,7 +23,7 @@ fn raised(low: usize, at: usize) -> Option<usize>
 }
 
 /// Returns whether the blocks are in the order of the list.
-pub(crate) fn is_in_order(file: &PdbFile<'_>) -> bool
+pub(crate) fn is_in_order<B: FileBytes>(file: &PdbFile<'_, B>) -> bool
     ensures { IsTrue result ↔ IsInOrder file.now }
 {
     let mut low = 0;

@@ -29,7 +29,7 @@ fn put_fault_row<N: Notation, V: Write>(
     ensures { Puts V.contents out.old out.new (N.row_text notation.now (fault_row file.now fault))
         (is_ok result) }
 {
-    put_fault(notation, out, file, fault)?;
+    put_fault(notation, out, &file, fault)?;
     flushed(out)
 }
 

@@ -49,7 +49,7 @@ fn put_flushed<N: Notation, A: Allowance, V: Write>(
         → PutsListing (N.row_text notation.now) file.now V.contents out.old out.new false }
     ensures short { result ≡ Err ListFault.OutOfMemory → A.is_short memory.now }
 {
-    put_listing(memory, notation, file, out)?;
+    put_listing(memory, notation, &file, out)?;
     match flushed(out) {
         Ok(()) => Ok(()),
         Err(_) => Err(ListFault::Write),

@@ -53,10 +53,10 @@ pub fn cmd_put_from<A: Allowance, W: Write, V: Write>(
 
 /// The same as `cmd_put_from`, for a file without fault.
 #[tactic(auto, using(crate::proofs::PutStatuses::no_block, crate::proofs::PutStatuses::not_put, crate::proofs::PutStatuses::put_whole))]
-fn put_in<A: Allowance, W: Write, V: Write>(
+fn put_in<'a, A: Allowance, W: Write, V: Write>(
     memory: &A,
-    unpacked: UnpackedExact<'_>,
-    new: NewBlock<'_>,
+    unpacked: UnpackedExact<'a>,
+    new: NewBlock<'a>,
     file_out: &mut Counted<W>,
     out: &mut Counted<V>,
 ) -> Status

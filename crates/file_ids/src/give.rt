@@ -13,7 +13,7 @@ use crate::fresh::give_fresh;
 use crate::kept::keep_ids;
 use allowance::{Allowance, filled, zeros};
 use db_format::GREATEST_ID;
-use pdb_format::PdbFile;
+use pdb_format::{FileBytes, PdbFile};
 use std::alloc::AllocError;
 
 /// The IDs of the records of a file, in their order, and the seed after the last of them. The seed
@@ -32,7 +32,10 @@ pub struct GivenIds {
 /// # Errors
 ///
 /// - `AllocError`: if `memory` refused a grant, or an allocation failed.
-pub fn give_ids<A: Allowance>(memory: &A, file: &PdbFile<'_>) -> Result<GivenIds, AllocError>
+pub fn give_ids<A: Allowance, B: FileBytes>(
+    memory: &A,
+    file: &PdbFile<'_, B>,
+) -> Result<GivenIds, AllocError>
     ensures given { IfOk result (λ given. HaveIds (seed_in (header_in file.now).seed)
         (unique_ids (database_in file.now)) given.ids.items given.seed) }
     ensures fit { IfOk result (λ given.
@@ -55,7 +58,7 @@ pub fn give_ids<A: Allowance>(memory: &A, file: &PdbFile<'_>) -> Result<GivenIds
 
 /// Writes the ID of each record into `ids`, and returns the new seed. At first all of `ids` are 0,
 /// and the set `taken` is empty.
-fn put_ids(file: &PdbFile<'_>, taken: &mut [u8], ids: &mut [u32]) -> u32
+fn put_ids<B: FileBytes>(file: &PdbFile<'_, B>, taken: &mut [u8], ids: &mut [u32]) -> u32
     requires records { resources_in file.now ≡ false }
     requires bits { greatest_id < 8 * length taken.old }
     requires empty { HasNone taken.old }

@@ -8,11 +8,11 @@ ghost use Rattle.heap_model.specs.Files.{kept_ids};
 ghost use Rattle.bit_sets.specs.Sets.{HasNone};
 ghost use Rattle.file_ids.specs.Passes.{HasIds, kept_or_none};
 
-use pdb_format::PdbFile;
+use pdb_format::{FileBytes, PdbFile};
 
 /// Writes the ID of each record that keeps its ID into `ids`, and adds it to the set. At first all
 /// of `ids` are 0, and the set is empty.
-pub(crate) fn keep_ids(file: &PdbFile<'_>, taken: &mut [u8], ids: &mut [u32])
+pub(crate) fn keep_ids<B: FileBytes>(file: &PdbFile<'_, B>, taken: &mut [u8], ids: &mut [u32])
     requires records { resources_in file.now ≡ false }
     requires bits { greatest_id < 8 * length taken.old }
     requires empty { HasNone taken.old }

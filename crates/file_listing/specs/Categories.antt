@@ -4,7 +4,7 @@
 -- (`AppInfoType` of the Palm OS Programmer's API Reference): 2 bytes of flags, 16 fields of 16 bytes
 -- for the names, 16 bytes of category IDs, and 2 bytes. Nothing in a file says whether it has this
 -- layout, so the rule here is this project's own.
-use Rattle.std.specs.Prelude.{◌+◌, ◌*◌, ◌==◌, ◌&&◌, not, nat_lt, nat_le, if◌then◌else◌, ℕ, Bool, List, [], ◌∷◌, length, drop, slice_index_or, Option, Some, None}
+use Rattle.std.specs.Prelude.{◌+◌, ◌*◌, ◌==◌, ◌&&◌, not, nat_lt, nat_le, if◌then◌else◌, ℕ, Bool, List, [], ◌∷◌, length, take, drop, slice_index_or, option_map, Option, Some, None}
 use Rattle.std.specs.List.{list_all, range_with_len}
 use Rattle.heap_model.specs.Categories.{categories, category_of}
 use Rattle.heap_model.specs.Database.{is_deleted, name_in, resources_in}
@@ -47,13 +47,14 @@ has_names app = nat_le layout_size (length app) && (all_named app && not (length
 
 -- ---- of a file
 
--- the AppInfo block, if it has the names of categories
+-- these bytes of AppInfo, if it has the names of categories
 abbrev pub if_names : Option (List ℕ) → Option (List ℕ)
 if_names None = None
 if_names (Some app) = if has_names app then Some app else None
 
+-- the layout in AppInfo, if it has the names of categories
 abbrev pub categories_in : List ℕ → Option (List ℕ)
-categories_in file = if resources_in file then None else if_names (slice_index_or (blocks_in file) 0 None)
+categories_in file = if resources_in file then None else if_names (option_map (take layout_size) (slice_index_or (blocks_in file) 0 None))
 
 -- the name of a category, unless it is empty
 abbrev pub unless_empty : List ℕ → Option (List ℕ)

@@ -1,15 +1,14 @@
 //! The names of categories in an AppInfo block.
 
-ghost use Rattle.std.specs.Prelude.{◌≡◌, ◌≤◌, ◌<◌, length, None, slice_index_or, option_map, IfSome};
+ghost use Rattle.std.specs.Prelude.{◌≡◌, ◌≤◌, ◌<◌, length, option_map, IfSome};
 ghost use Rattle.std.specs.Bool.{OnTrue};
 ghost use Rattle.std.specs.List.{list_all};
 ghost use Rattle.heap_model.specs.Categories.{categories};
-ghost use Rattle.heap_model.specs.Files.{blocks_in};
 ghost use Rattle.file_listing.specs.Categories as words;
 ghost use Rattle.file_listing.specs.Categories.{layout_size, all_named, categories_in, category_name, record_category};
 
 use db_format::{CATEGORIES, NameField, RecordAttrs, name_in};
-use pdb_format::PdbFile;
+use pdb_format::{FileBytes, PdbFile};
 use std::marker::Model;
 
 /// The size of the field of a name in bytes.
@@ -21,7 +20,8 @@ const FIELDS_AT: usize = 2;
 /// The size of the standard layout in bytes.
 const LAYOUT_SIZE: usize = 276;
 
-/// The AppInfo block of a file, if it has the names of categories. Contracts see the block.
+/// The first bytes of the AppInfo block of a file, if it has the names of categories. Contracts see
+/// these bytes.
 #[derive(Drop)]
 pub(crate) struct Categories<'a> {
     app: Option<&'a [u8]>,
@@ -99,17 +99,7 @@ fn has_names(app: &[u8]) -> bool
     app.len() >= LAYOUT_SIZE && have_names(app) && !text_at(app, 0).is_empty()
 }
 
-/// Returns the AppInfo block of a file, if it has one.
-fn app_of<'a>(file: &PdbFile<'a>) -> Option<&'a [u8]>
-    ensures { option_map (λ app. app.now) result ≡ slice_index_or (blocks_in file.now) 0 None }
-{
-    match file.block(0) {
-        Some(block) => Some(file.bytes_of(block)),
-        None => None,
-    }
-}
-
-/// Keeps an AppInfo block, if it has the names of categories.
+/// Keeps the first bytes of an AppInfo block, if it has the names of categories.
 fn if_names(app: Option<&[u8]>) -> Categories<'_>
     ensures { result ≡ words.if_names (option_map (λ app. app.now) app.entry) }
 {
@@ -125,14 +115,14 @@ fn if_names(app: Option<&[u8]>) -> Categories<'_>
     }
 }
 
-/// Returns the AppInfo block of a file, if it has the names of categories.
-pub(crate) fn categories_of<'a>(file: &PdbFile<'a>) -> Categories<'a>
+/// Returns the first bytes of the AppInfo block of a file, if it has the names of categories.
+pub(crate) fn categories_of<'a, B: FileBytes>(file: &'a PdbFile<'_, B>) -> Categories<'a>
     ensures { result ≡ categories_in file.now }
 {
     if file.has_resources() {
         return Categories { app: None };
     }
-    if_names(app_of(file))
+    if_names(file.app())
 }
 
 /// Returns the name of a category, unless it is empty.
@@ -145,7 +135,7 @@ pub(crate) fn name_of(app: &[u8], number: u8) -> Option<NameField>
 }
 
 impl<'a> Categories<'a> {
-    /// Returns the AppInfo block with the names.
+    /// Returns the first bytes of the AppInfo block with the names.
     pub(crate) fn app(&self) -> Option<&'a [u8]>
         ensures is { option_map (λ app. app.now) result ≡ self.now }
         ensures long { IfSome result (λ app. layout_size ≤ length app.now) }

@@ -5,16 +5,17 @@ ghost use Rattle.heap_model.specs.Bytes.{u32_at};
 ghost use Rattle.heap_model.specs.Database.{resources_in};
 ghost use Rattle.heap_model.specs.Database as databases;
 ghost use Rattle.heap_model.specs.DatabaseFields.{header_size};
+ghost use Rattle.heap_model.specs.Files as files;
 ghost use Rattle.heap_model.specs.Files.{IsFirstFault};
 ghost use Rattle.pdb_format.specs.Opened.{most_file_bytes};
 ghost use Rattle.file_listing.specs.Damage as words;
 
 use byteorder::{BigEndian, ByteOrder};
 use db_format::{
-    DATABASE_HEADER_SIZE, NEXT_LIST_AT, RECORD_SIZE, RESOURCE_DATA_AT, RESOURCE_SIZE, entries_end,
-    has_resources, info_block_at,
+    DATABASE_HEADER_SIZE, NEXT_LIST_AT, RECORD_SIZE, RESOURCE_DATA_AT, RESOURCE_SIZE, info_block_at,
 };
 use heap_model::FileFault;
+use pdb_format::{FileBytes, entries_end, has_resources};
 use thiserror::Error;
 
 /// The number that a file with a fault has, and the numbers that are allowed there.
@@ -59,14 +60,14 @@ pub enum Damage {
 
 /// Returns the offset of the field that has the first fault of a file. It is the size of the file
 /// if the file is truncated.
-pub fn fault_place(file: &[u8], fault: FileFault) -> usize
-    requires short { length file.now ≤ most_file_bytes }
-    requires first { IsFirstFault file.now fault }
-    ensures is { result ≡ words.fault_place file.now fault }
+pub fn fault_place<B: FileBytes>(file: &B, fault: FileFault) -> usize
+    requires short { length (B.bytes file.now) ≤ most_file_bytes }
+    requires first { IsFirstFault (B.bytes file.now) fault }
+    ensures is { result ≡ words.fault_place (B.bytes file.now) fault }
     ensures most { result ≤ most_file_bytes }
 {
     match fault {
-        FileFault::Truncated => file.len(),
+        FileFault::Truncated => file.size(),
         FileFault::ChainedList => NEXT_LIST_AT,
         FileFault::EmptyName => 0,
         FileFault::BadInfo(which) => info_block_at(which),
@@ -75,10 +76,10 @@ pub fn fault_place(file: &[u8], fault: FileFault) -> usize
 }
 
 /// Returns the offset at which the entry at an index has the offset of its data.
-fn data_place(file: &[u8], index: u32) -> usize
-    requires { header_size ≤ length file.now }
-    ensures { result ≡ databases.entry_offset (resources_in file.now) index
-        + words.data_field (resources_in file.now) }
+fn data_place<B: FileBytes>(file: &B, index: u32) -> usize
+    requires { header_size ≤ length (B.bytes file.now) }
+    ensures { result ≡ databases.entry_offset (resources_in (B.bytes file.now)) index
+        + words.data_field (resources_in (B.bytes file.now)) }
 {
     if has_resources(file) {
         DATABASE_HEADER_SIZE + RESOURCE_SIZE * index as usize + RESOURCE_DATA_AT
@@ -89,10 +90,10 @@ fn data_place(file: &[u8], index: u32) -> usize
 
 /// Returns the number that a file has at the place of its first fault, and the numbers that are
 /// allowed there.
-pub fn damage_of(file: &[u8], fault: FileFault) -> Damage
-    requires short { length file.now ≤ most_file_bytes }
-    requires first { IsFirstFault file.now fault }
-    ensures { result ≡ words.damage_of file.now fault }
+pub fn damage_of<B: FileBytes>(file: &B, fault: FileFault) -> Damage
+    requires short { length (B.bytes file.now) ≤ most_file_bytes }
+    requires first { IsFirstFault (B.bytes file.now) fault }
+    ensures { result ≡ words.damage_of (B.bytes file.now) fault }
 {
     match fault {
         FileFault::Truncated => short_of(file),
@@ -103,33 +104,33 @@ pub fn damage_of(file: &[u8], fault: FileFault) -> Damage
         FileFault::BadInfo(_) => Damage::InfoOutside {
             found: number_at(file, fault_place(file, fault)),
             least: entries_end(file),
-            most: file.len(),
+            most: file.size(),
         },
         FileFault::BadOffset(_) => outside(file, number_at(file, fault_place(file, fault))),
     }
 }
 
 /// Returns the damage of a truncated file.
-fn short_of(file: &[u8]) -> Damage
-    ensures { result ≡ words.short_of file.now }
+fn short_of<B: FileBytes>(file: &B) -> Damage
+    ensures { result ≡ words.short_of (B.bytes file.now) }
 {
-    let least = if file.len() < DATABASE_HEADER_SIZE {
+    let least = if file.size() < DATABASE_HEADER_SIZE {
         DATABASE_HEADER_SIZE
     } else {
         entries_end(file)
     };
     Damage::Short {
-        found: file.len(),
+        found: file.size(),
         least,
     }
 }
 
 /// Returns the damage of a file in which an entry has this offset.
-fn outside(file: &[u8], found: u32) -> Damage
-    requires { header_size ≤ length file.now }
-    ensures { result ≡ words.outside file.now found }
+fn outside<B: FileBytes>(file: &B, found: u32) -> Damage
+    requires { header_size ≤ length (B.bytes file.now) }
+    ensures { result ≡ words.outside (B.bytes file.now) found }
 {
-    let (least, most) = (entries_end(file), file.len());
+    let (least, most) = (entries_end(file), file.size());
     if has_resources(file) {
         Damage::ResourceOutside { found, least, most }
     } else {
@@ -137,11 +138,13 @@ fn outside(file: &[u8], found: u32) -> Damage
     }
 }
 
-/// Returns the number in the four bytes at an offset.
+/// Returns the number in the four bytes at an offset before the end of the entries.
 #[tactic(auto, using(db_format::proofs::WordLaws::u32_at_part))]
-fn number_at(file: &[u8], at: usize) -> u32
-    requires { at + 4 ≤ length file.now }
-    ensures { result ≡ u32_at file.now at }
+fn number_at<B: FileBytes>(file: &B, at: usize) -> u32
+    requires inside { at + 4 ≤ length (B.bytes file.now) }
+    requires before { at + 4 ≤ files.entries_end (B.bytes file.now) }
+    ensures { result ≡ u32_at (B.bytes file.now) at }
 {
-    BigEndian::read_u32(&file[at..at + 4])
+    let start = file.start();
+    BigEndian::read_u32(&start[at..at + 4])
 }

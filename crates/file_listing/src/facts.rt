@@ -9,7 +9,7 @@ use crate::moments::moment_of;
 use crate::rows::Moment;
 use allowance::Allowance;
 use canonical_file::{Changes, find_changes};
-use pdb_format::PdbFile;
+use pdb_format::{FileBytes, PdbFile};
 use std::alloc::AllocError;
 
 /// The moments of a file's header, the names of its categories, and the changes when the file is
@@ -24,9 +24,9 @@ pub(crate) struct Facts<'a> {
 }
 
 /// Returns the facts of a file.
-pub(crate) fn facts_of<'a, A: Allowance>(
+pub(crate) fn facts_of<'a, A: Allowance, B: FileBytes>(
     memory: &A,
-    file: &PdbFile<'a>,
+    file: &'a PdbFile<'_, B>,
 ) -> Result<Facts<'a>, AllocError>
     requires { length file.now ≤ most_file_bytes }
     ensures facts { IfOk result (AreFacts file.now) }

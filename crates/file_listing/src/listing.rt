@@ -13,7 +13,7 @@ use crate::walk::put_rows_of;
 use allowance::Allowance;
 use heap_model::FileFault;
 use palm_text::{Counted, WriteFault};
-use pdb_format::{OpenFault, PdbFile};
+use pdb_format::{FileBytes, OpenFault, PdbFile};
 use std::io::Write;
 use thiserror::Error;
 
@@ -41,23 +41,23 @@ pub enum ListFault {
 /// - `BadFile`: if the file has a fault. It contains the first one.
 /// - `OutOfMemory`: if an allocation failed.
 /// - `Write`: if a write failed, or took 0 bytes.
-pub fn put_listing<N: Notation, A: Allowance, W: Write>(
+pub fn put_listing<N: Notation, A: Allowance, B: FileBytes, W: Write>(
     memory: &A,
     notation: &N,
-    file: &[u8],
+    file: &B,
     out: &mut Counted<W>,
 ) -> Result<(), ListFault>
-    requires { length file.now ≤ most_file_bytes }
+    requires { length (B.bytes file.now) ≤ most_file_bytes }
     ensures done { OnOk result
-        (WritesListing (N.row_text notation.now) file.now W.contents out.old out.new true) }
-    ensures good { OnOk result (HasNoFault file.now) }
-    ensures why { IfErr result (IsListFault file.now) }
+        (WritesListing (N.row_text notation.now) (B.bytes file.now) W.contents out.old out.new true) }
+    ensures good { OnOk result (HasNoFault (B.bytes file.now)) }
+    ensures why { IfErr result (IsListFault (B.bytes file.now)) }
     ensures untouched { IfErr result (λ fault. fault ≢ ListFault.Write → out.new ≡ out.old) }
     ensures write { result ≡ Err ListFault.Write
-        → WritesListing (N.row_text notation.now) file.now W.contents out.old out.new false }
+        → WritesListing (N.row_text notation.now) (B.bytes file.now) W.contents out.old out.new false }
     ensures short { result ≡ Err ListFault.OutOfMemory → A.is_short memory.now }
 {
-    match PdbFile::open(memory, file) {
+    match PdbFile::open_bytes(memory, file) {
         Ok(file) => put_opened(memory, notation, &file, out),
         Err(OpenFault::BadFile(fault)) => Err(ListFault::BadFile(fault)),
         Err(OpenFault::OutOfMemory) => Err(ListFault::OutOfMemory),
@@ -66,10 +66,10 @@ pub fn put_listing<N: Notation, A: Allowance, W: Write>(
 
 /// Writes the listing of a file that is opened.
 #[tactic(auto, using(crate::proofs::RowTexts::listed))]
-fn put_opened<N: Notation, A: Allowance, W: Write>(
+fn put_opened<N: Notation, A: Allowance, B: FileBytes, W: Write>(
     memory: &A,
     notation: &N,
-    file: &PdbFile<'_>,
+    file: &PdbFile<'_, B>,
     out: &mut Counted<W>,
 ) -> Result<(), ListFault>
     requires { length file.now ≤ most_file_bytes }
@@ -92,15 +92,15 @@ fn put_opened<N: Notation, A: Allowance, W: Write>(
 /// # Errors
 ///
 /// - `WriteFault`: if a write failed, or took 0 bytes.
-pub fn put_fault<N: Notation, W: Write>(
+pub fn put_fault<N: Notation, B: FileBytes, W: Write>(
     notation: &N,
     out: &mut Counted<W>,
-    file: &[u8],
+    file: &B,
     fault: FileFault,
 ) -> Result<(), WriteFault>
-    requires short { length file.now ≤ most_file_bytes }
-    requires first { IsFirstFault file.now fault }
-    ensures { Writes W.contents out.old out.new (N.row_text notation.now (fault_row file.now fault))
+    requires short { length (B.bytes file.now) ≤ most_file_bytes }
+    requires first { IsFirstFault (B.bytes file.now) fault }
+    ensures { Writes W.contents out.old out.new (N.row_text notation.now (fault_row (B.bytes file.now) fault))
         (is_ok result) }
 {
     let at = fault_place(file, fault) as u32;

@@ -17,7 +17,7 @@ use crate::needs::size_and_slots;
 use crate::rows::{Extent, Notation, RecordRow, Row};
 use db_format::{CATEGORIES, DbEntry, INFO_BLOCKS};
 use palm_text::{Counted, WriteFault};
-use pdb_format::{Block, PdbFile};
+use pdb_format::{Block, FileBytes, PdbFile};
 use std::io::Write;
 
 /// Writes rows, one after another.
@@ -39,7 +39,7 @@ fn put_rows<N: Notation, W: Write>(
 }
 
 /// Returns the extent of a block that begins at an offset.
-fn extent_of(file: &PdbFile<'_>, at: u32, block: Option<Block>) -> Option<Extent>
+fn extent_of<B: FileBytes>(file: &PdbFile<'_, B>, at: u32, block: Option<Block>) -> Option<Extent>
     requires short { length file.now ≤ most_file_bytes }
     requires within { IsBlockWithin (length file.now) block }
     ensures { result ≡ extent_at at (bytes_at file.now block) }
@@ -54,7 +54,7 @@ fn extent_of(file: &PdbFile<'_>, at: u32, block: Option<Block>) -> Option<Extent
 }
 
 /// Returns the extent of an info block. AppInfo has the rank 0, and SortInfo the rank 1.
-fn info_of(file: &PdbFile<'_>, rank: usize) -> Option<Extent>
+fn info_of<B: FileBytes>(file: &PdbFile<'_, B>, rank: usize) -> Option<Extent>
     requires short { length file.now ≤ most_file_bytes }
     requires inside { rank < 2 }
     ensures { result ≡ info_extent file.now rank }
@@ -63,10 +63,10 @@ fn info_of(file: &PdbFile<'_>, rank: usize) -> Option<Extent>
 }
 
 /// Writes the rows before those of the categories.
-fn put_head<N: Notation, W: Write>(
+fn put_head<N: Notation, B: FileBytes, W: Write>(
     notation: &N,
     out: &mut Counted<W>,
-    file: &PdbFile<'_>,
+    file: &PdbFile<'_, B>,
     facts: &Facts<'_>,
 ) -> Result<(), WriteFault>
     requires { length file.now ≤ most_file_bytes }
@@ -78,7 +78,7 @@ fn put_head<N: Notation, W: Write>(
         notation,
         out,
         &[
-            Row::Size(file.bytes().len() as u32),
+            Row::Size(file.size() as u32),
             Row::Name(header.name),
             Row::Attributes(header.attributes),
             Row::Version(header.version),
@@ -134,10 +134,10 @@ fn put_categories<N: Notation, W: Write>(
 
 /// Writes the row of the kind and the number of the entries.
 #[tactic(auto, unfolding(crate::specs::Listing::count_rows))]
-fn put_count<N: Notation, W: Write>(
+fn put_count<N: Notation, B: FileBytes, W: Write>(
     notation: &N,
     out: &mut Counted<W>,
-    file: &PdbFile<'_>,
+    file: &PdbFile<'_, B>,
 ) -> Result<(), WriteFault>
     ensures { Writes W.contents out.old out.new
         (flat_map (N.row_text notation.now) (count_rows file.now)) (is_ok result) }
@@ -153,8 +153,8 @@ fn put_count<N: Notation, W: Write>(
 }
 
 /// Returns the row of an entry, whose data is a block.
-fn entry_row(
-    file: &PdbFile<'_>,
+fn entry_row<B: FileBytes>(
+    file: &PdbFile<'_, B>,
     categories: &Categories<'_>,
     index: u16,
     entry: DbEntry,
@@ -182,7 +182,7 @@ fn entry_row(
 }
 
 /// Returns the row of the entry at an index.
-fn entry_row_at(file: &PdbFile<'_>, categories: &Categories<'_>, index: u16) -> Row
+fn entry_row_at<B: FileBytes>(file: &PdbFile<'_, B>, categories: &Categories<'_>, index: u16) -> Row
     requires short { length file.now ≤ most_file_bytes }
     requires inside { index < entry_count_in file.now }
     ensures { result ≡ words.entry_row_at file.now categories.now index }
@@ -192,10 +192,10 @@ fn entry_row_at(file: &PdbFile<'_>, categories: &Categories<'_>, index: u16) -> 
 }
 
 /// Writes the rows of the entries.
-fn put_entries<N: Notation, W: Write>(
+fn put_entries<N: Notation, B: FileBytes, W: Write>(
     notation: &N,
     out: &mut Counted<W>,
-    file: &PdbFile<'_>,
+    file: &PdbFile<'_, B>,
     categories: &Categories<'_>,
 ) -> Result<(), WriteFault>
     requires { length file.now ≤ most_file_bytes }
@@ -212,10 +212,10 @@ fn put_entries<N: Notation, W: Write>(
 }
 
 /// Writes the rows after those of the entries.
-fn put_last<N: Notation, W: Write>(
+fn put_last<N: Notation, B: FileBytes, W: Write>(
     notation: &N,
     out: &mut Counted<W>,
-    file: &PdbFile<'_>,
+    file: &PdbFile<'_, B>,
     facts: &Facts<'_>,
 ) -> Result<(), WriteFault>
     ensures { Writes W.contents out.old out.new
@@ -231,10 +231,10 @@ fn put_last<N: Notation, W: Write>(
 
 /// Writes the rows of a file without fault.
 #[tactic(auto, using(crate::proofs::RowTexts::then_rows, crate::proofs::RowTexts::stops_rows), unfolding(crate::specs::Listing::rows_of))]
-pub(crate) fn put_rows_of<N: Notation, W: Write>(
+pub(crate) fn put_rows_of<N: Notation, B: FileBytes, W: Write>(
     notation: &N,
     out: &mut Counted<W>,
-    file: &PdbFile<'_>,
+    file: &PdbFile<'_, B>,
     facts: &Facts<'_>,
 ) -> Result<(), WriteFault>
     requires { length file.now ≤ most_file_bytes }

@@ -9,7 +9,7 @@ ghost use Rattle.file_parts.specs.Keeping.{AreChangesLeft};
 use allowance::Allowance;
 use canonical_file::{Changes, changes_by};
 use file_ids::{GivenIds, give_ids};
-use pdb_format::PdbFile;
+use pdb_format::{FileBytes, PdbFile};
 use std::alloc::AllocError;
 
 /// The things that a file keeps when it is rewritten. The rest of the new file is as in the
@@ -40,7 +40,7 @@ impl Keep {
 
     /// Returns the changes of a file that are left, for the IDs that its records get in the
     /// canonical form. It allocates nothing.
-    pub fn changes_by(self, file: &PdbFile<'_>, given: &GivenIds) -> Changes
+    pub fn changes_by<B: FileBytes>(self, file: &PdbFile<'_, B>, given: &GivenIds) -> Changes
         requires short { length file.now ≤ most_file_bytes }
         requires given { AreGivenIn file.now given.now.ids.items given.now.seed }
         ensures { AreChangesLeft self file.now result }
@@ -56,10 +56,10 @@ impl Keep {
     /// # Errors
     ///
     /// - `AllocError`: if an allocation failed.
-    pub fn find_changes<A: Allowance>(
+    pub fn find_changes<A: Allowance, B: FileBytes>(
         self,
         memory: &A,
-        file: &PdbFile<'_>,
+        file: &PdbFile<'_, B>,
     ) -> Result<Changes, AllocError>
         requires { length file.now ≤ most_file_bytes }
         ensures left { IfOk result (AreChangesLeft self file.now) }

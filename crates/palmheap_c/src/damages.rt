@@ -34,7 +34,7 @@ pub extern "C" fn palmheap_pdb_damage(file: &[u8], damage: &mut Damage) -> Answe
     match check_file(file) {
         Ok(()) => NO_FAULT,
         Err(fault) => {
-            *damage = of_damage(fault_place(file, fault), damage_of(file, fault));
+            *damage = of_damage(fault_place(&file, fault), damage_of(&file, fault));
             of_file(fault)
         }
     }

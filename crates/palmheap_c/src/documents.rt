@@ -62,7 +62,7 @@ fn listing_document(alloc: Global, file: &[u8]) -> Result<Vec<u8>, ListFault>
     ensures why { IfErr result (words.IsDocumentFault file.now) }
 {
     let mut out = Counted::new(Vec::new(alloc));
-    match put_listing(&alloc, &JsonRows { path: None }, file, &mut out) {
+    match put_listing(&alloc, &JsonRows { path: None }, &file, &mut out) {
         Ok(()) => Ok(out.into_inner()),
         Err(ListFault::BadFile(fault)) => Err(ListFault::BadFile(fault)),
         Err(ListFault::OutOfMemory) => Err(ListFault::OutOfMemory),
@@ -82,7 +82,7 @@ fn fault_document(alloc: Global, file: &[u8], fault: FileFault) -> Result<Vec<u8
     ensures err { IfErr result IsMemoryAnswer }
 {
     let mut out = Counted::new(Vec::new(alloc));
-    match put_fault(&JsonRows { path: None }, &mut out, file, fault) {
+    match put_fault(&JsonRows { path: None }, &mut out, &file, fault) {
         Ok(()) => Ok(out.into_inner()),
         Err(_) => Err(refused_write(alloc, &out)),
     }

@@ -141,7 +141,7 @@ fn listing_of(alloc: Global, file: &[u8]) -> Result<Vec<u8>, Answer>
         return Err(TOO_LARGE);
     }
     let mut out = Counted::new(Vec::new(alloc));
-    match put_listing(&alloc, &TextRows { path: None }, file, &mut out) {
+    match put_listing(&alloc, &TextRows { path: None }, &file, &mut out) {
         Ok(()) => Ok(out.into_inner()),
         Err(ListFault::BadFile(fault)) => Err(of_file(fault)),
         Err(ListFault::OutOfMemory) => Err(NO_MEMORY),

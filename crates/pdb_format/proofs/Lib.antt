@@ -13,6 +13,8 @@ pub mod ReadHeaders
 pub mod ReadIds
 pub mod ReadOnce
 pub mod SortedStarts
+pub mod StartLaws
+pub mod UnreadValues
 pub mod WrittenBlocks
 pub mod WrittenFiles
 pub mod WrittenHeads

@@ -1,5 +1,6 @@
 pub mod Blocks
 pub mod FileTexts
+pub mod FileStarts
 pub mod Filler
 pub mod Laws
 pub mod OpenFaults

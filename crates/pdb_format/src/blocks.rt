@@ -8,6 +8,7 @@ ghost use Rattle.std.specs.List.{sum_by};
 ghost use Rattle.pdb_format.specs.Blocks.{bytes_at, places_in, IsBlockWithin, length_within};
 ghost use Rattle.pdb_format.specs.Opened.{HasPlaces};
 
+use crate::file_bytes::FileBytes;
 use crate::starts::{Start, rank_count, sorted_starts};
 use allowance::{Allowance, filled};
 use std::alloc::AllocError;
@@ -34,23 +35,23 @@ fn end_of(starts: &[Start], index: usize, last: usize) -> usize
 }
 
 /// Writes the place of each block at its rank.
-fn put_blocks(file: &[u8], starts: &[Start], blocks: &mut [Option<Block>])
-    requires good { HasNoFault file.now }
-    requires all { IsPermutation (starts_in (offsets_in file.now)) starts.now }
+fn put_blocks<B: FileBytes>(file: &B, starts: &[Start], blocks: &mut [Option<Block>])
+    requires good { HasNoFault (B.bytes file.now) }
+    requires all { IsPermutation (starts_in (offsets_in (B.bytes file.now))) starts.now }
     requires rising { IsNonDecreasingBy order starts.now }
-    requires room { length blocks.old ≡ length (offsets_in file.now) }
-    requires few { length (offsets_in file.now) ≤ 65537 }
+    requires room { length blocks.old ≡ length (offsets_in (B.bytes file.now)) }
+    requires few { length (offsets_in (B.bytes file.now)) ≤ 65537 }
     requires empty { All (λ block. block ≡ None) blocks.old }
-    ensures places { blocks.new ≡ places_in file.now }
-    ensures are { map (bytes_at file.now) blocks.new ≡ blocks_in file.now }
-    ensures inside { All (IsBlockWithin (length file.now)) blocks.new }
-    ensures total { entries_end file.now + sum_by length_within blocks.new ≤ length file.now }
+    ensures places { blocks.new ≡ places_in (B.bytes file.now) }
+    ensures are { map (bytes_at (B.bytes file.now)) blocks.new ≡ blocks_in (B.bytes file.now) }
+    ensures inside { All (IsBlockWithin (length (B.bytes file.now))) blocks.new }
+    ensures total { entries_end (B.bytes file.now) + sum_by length_within blocks.new ≤ length (B.bytes file.now) }
 {
     for index in 0..starts.len() {
         let start = starts[index];
         blocks[start.rank as usize] = Some(Block {
             start: start.at as usize,
-            end: end_of(starts, index, file.len()),
+            end: end_of(starts, index, file.size()),
         });
     }
 }
@@ -61,12 +62,12 @@ fn put_blocks(file: &[u8], starts: &[Start], blocks: &mut [Option<Block>])
 /// # Errors
 ///
 /// - `AllocError`: if `memory` refused a grant, or an allocation failed.
-pub(crate) fn find_blocks<A: Allowance>(
+pub(crate) fn find_blocks<A: Allowance, B: FileBytes>(
     memory: &A,
-    file: &[u8],
+    file: &B,
 ) -> Result<Vec<Option<Block>>, AllocError>
-    requires { HasNoFault file.now }
-    ensures places { IfOk result (λ blocks. HasPlaces file.now blocks.items) }
+    requires { HasNoFault (B.bytes file.now) }
+    ensures places { IfOk result (λ blocks. HasPlaces (B.bytes file.now) blocks.items) }
     ensures short { OnErr result (A.is_short memory.now) }
 {
     let starts = sorted_starts(memory, file)?;

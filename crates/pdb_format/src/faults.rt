@@ -9,41 +9,41 @@ ghost use Rattle.heap_model.specs.Files.{HasFault};
 ghost use Rattle.heap_model.specs.declared.file_fault.FileFault.TheVariants.{Truncated, BadOffset};
 ghost use Rattle.db_format.specs.EitherEntry.{entry_of};
 
-use db_format::{
-    DATABASE_HEADER_SIZE, DbEntry, app_info, entry_count, name_in, next_list, sort_info,
-};
+use crate::file_bytes::FileBytes;
+use crate::heads::{app_info, entries_end, entry_at, entry_count, name_in, next_list, sort_info};
+use db_format::{DATABASE_HEADER_SIZE, DbEntry};
 use heap_model::{FileFault, Which};
 
 /// Returns whether the file ends before its header does, or before its list of entries does.
-fn is_truncated(file: &[u8]) -> bool
-    ensures { IsTrue result ↔ HasFault file.now Truncated }
+fn is_truncated<B: FileBytes>(file: &B) -> bool
+    ensures { IsTrue result ↔ HasFault (B.bytes file.now) Truncated }
 {
-    file.len() < DATABASE_HEADER_SIZE || file.len() < db_format::entries_end(file)
+    file.size() < DATABASE_HEADER_SIZE || file.size() < entries_end(file)
 }
 
 /// Returns whether no block may begin at this offset: it is before the end of the entries, or after
 /// the end of the file.
-fn is_outside(file: &[u8], at: u32) -> bool
-    requires { header_size ≤ length file.now }
-    ensures { IsTrue result ↔ IsOutside file.now at }
+fn is_outside<B: FileBytes>(file: &B, at: u32) -> bool
+    requires { header_size ≤ length (B.bytes file.now) }
+    ensures { IsTrue result ↔ IsOutside (B.bytes file.now) at }
 {
     let at = at as usize;
-    at < db_format::entries_end(file) || file.len() < at
+    at < entries_end(file) || file.size() < at
 }
 
 /// Returns whether there is an info block, and it can't begin at the offset in the file.
-fn is_bad_info(file: &[u8], at: u32) -> bool
-    requires { header_size ≤ length file.now }
-    ensures { IsTrue result ↔ IsBadInfo file.now at }
+fn is_bad_info<B: FileBytes>(file: &B, at: u32) -> bool
+    requires { header_size ≤ length (B.bytes file.now) }
+    ensures { IsTrue result ↔ IsBadInfo (B.bytes file.now) at }
 {
     at != 0 && is_outside(file, at)
 }
 
 /// Returns whether an entry has data, and the data can't begin at the offset in the file. Only a
 /// deleted record may have no data.
-fn has_bad_offset(file: &[u8], entry: DbEntry) -> bool
-    requires { header_size ≤ length file.now }
-    ensures { IsTrue result ↔ HasBadOffset file.now (entry_of entry) }
+fn has_bad_offset<B: FileBytes>(file: &B, entry: DbEntry) -> bool
+    requires { header_size ≤ length (B.bytes file.now) }
+    ensures { IsTrue result ↔ HasBadOffset (B.bytes file.now) (entry_of entry) }
 {
     match entry {
         DbEntry::Record(record) => {
@@ -54,14 +54,14 @@ fn has_bad_offset(file: &[u8], entry: DbEntry) -> bool
 }
 
 /// Returns the index of the first entry with a bad offset.
-fn find_bad_offset(file: &[u8]) -> Option<u16>
-    requires header { header_size ≤ length file.now }
-    requires entries { entries_end file.now ≤ length file.now }
-    ensures some { IfSome result (Least (λ index. HasFault file.now (BadOffset index))) }
-    ensures none { IfNone result ((index : ℕ) → index < entry_count_in file.now → HasFault file.now (BadOffset index) → ⊥) }
+fn find_bad_offset<B: FileBytes>(file: &B) -> Option<u16>
+    requires header { header_size ≤ length (B.bytes file.now) }
+    requires entries { entries_end (B.bytes file.now) ≤ length (B.bytes file.now) }
+    ensures some { IfSome result (Least (λ index. HasFault (B.bytes file.now) (BadOffset index))) }
+    ensures none { IfNone result ((index : ℕ) → index < entry_count_in (B.bytes file.now) → HasFault (B.bytes file.now) (BadOffset index) → ⊥) }
 {
     for index in 0..entry_count(file) {
-        if has_bad_offset(file, DbEntry::read(file, index)) {
+        if has_bad_offset(file, entry_at(file, index)) {
             return Some(index);
         }
     }
@@ -81,9 +81,9 @@ fn find_bad_offset(file: &[u8]) -> Option<u16>
 /// - `BadOffset`: if the offset of the data of this entry is bad in the same way. It is the first
 ///   entry with a bad offset.
 #[tactic(auto, using(crate::proofs::FaultLaws::truncated_first, crate::proofs::FaultLaws::chained_first, crate::proofs::FaultLaws::unnamed_first, crate::proofs::FaultLaws::app_first, crate::proofs::FaultLaws::sort_first, crate::proofs::FaultLaws::first_of_entries, crate::proofs::FaultLaws::no_fault))]
-pub fn check_file(file: &[u8]) -> Result<(), FileFault>
-    ensures sound { OnOk result (HasNoFault file.now) }
-    ensures first { IfErr result (IsFirstFault file.now) }
+pub fn check_bytes<B: FileBytes>(file: &B) -> Result<(), FileFault>
+    ensures sound { OnOk result (HasNoFault (B.bytes file.now)) }
+    ensures first { IfErr result (IsFirstFault (B.bytes file.now)) }
 {
     if is_truncated(file) {
         return Err(FileFault::Truncated);
@@ -104,4 +104,16 @@ pub fn check_file(file: &[u8]) -> Result<(), FileFault>
         Some(index) => Err(FileFault::BadOffset(index as u32)),
         None => Ok(()),
     }
+}
+
+/// The same as `check_bytes`, for all bytes of a file.
+///
+/// # Errors
+///
+/// The same as those of `check_bytes`.
+pub fn check_file(file: &[u8]) -> Result<(), FileFault>
+    ensures sound { OnOk result (HasNoFault file.now) }
+    ensures first { IfErr result (IsFirstFault file.now) }
+{
+    check_bytes(&file)
 }

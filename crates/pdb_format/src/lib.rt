@@ -9,19 +9,27 @@
 //! ```
 //!
 //! Offsets count bytes from the file's start.
+//!
+//! Not all bytes of a file need be in memory (`FileBytes`): the header and the entries are the most
+//! that a function reads, unless it returns blocks.
 #![tactic(auto)]
 
 mod blocks;
 mod faults;
+mod file_bytes;
 mod filler;
+mod heads;
 mod laws;
 mod pdb_file;
 mod starts;
+mod unread;
 mod written;
 
 pub use blocks::Block;
-pub use faults::check_file;
-pub use filler::{FILLER, filler_of, first_place_after};
+pub use faults::{check_bytes, check_file};
+pub use file_bytes::{APP_START, FileBytes, FileStart};
+pub use filler::{FILLER, filler_size, first_place_after, has_filler};
+pub use heads::{entries_end, has_resources, name_in};
 pub use laws::{
     contents_are_short, contents_are_writable, files_are_read, files_are_read_once,
     written_files_are_read, written_files_have_their_size,

@@ -5,8 +5,10 @@ ghost use Rattle.std.specs.List.Sorted.{IsPermutation, IsNonDecreasingBy};
 ghost use Rattle.heap_model.specs.Files.{offsets_in, HasNoFault};
 ghost use Rattle.pdb_format.specs.Starts.{starts_in, order};
 
+use crate::file_bytes::FileBytes;
+use crate::heads::{app_info, entry_count, entry_slot, sort_info};
 use allowance::{Allowance, push};
-use db_format::{INFO_BLOCKS, app_info, entry_count, entry_slot, has_resources, sort_info};
+use db_format::INFO_BLOCKS;
 use std::alloc::AllocError;
 
 /// The offset at which a block begins in a file, and the rank of the block. The rank is 0 for the
@@ -32,9 +34,9 @@ impl Start {
 ///
 /// The rank of a block is 0 for the AppInfo block and 1 for the SortInfo block. The data of entry I
 /// has rank I + 2.
-pub(crate) fn rank_count(file: &[u8]) -> u32
-    requires { HasNoFault file.now }
-    ensures is { result ≡ length (offsets_in file.now) }
+pub(crate) fn rank_count<B: FileBytes>(file: &B) -> u32
+    requires { HasNoFault (B.bytes file.now) }
+    ensures is { result ≡ length (offsets_in (B.bytes file.now)) }
     ensures most { result ≤ 65537 }
 {
     entry_count(file) as u32 + INFO_BLOCKS as u32
@@ -42,27 +44,23 @@ pub(crate) fn rank_count(file: &[u8]) -> u32
 
 /// Returns the offset of the block of a rank, in bytes from the file's start. It is 0 if the file
 /// doesn't have the block.
-pub(crate) fn offset_of(file: &[u8], rank: u32) -> u32
-    requires good { HasNoFault file.now }
-    requires inside { rank < length (offsets_in file.now) }
+pub(crate) fn offset_of<B: FileBytes>(file: &B, rank: u32) -> u32
+    requires good { HasNoFault (B.bytes file.now) }
+    requires inside { rank < length (offsets_in (B.bytes file.now)) }
     requires few { rank ≤ 65536 }
-    ensures { result ≡ slice_index (offsets_in file.now) rank }
+    ensures { result ≡ slice_index (offsets_in (B.bytes file.now)) rank }
 {
     match rank {
         0 => app_info(file),
         1 => sort_info(file),
-        _ => entry_slot(
-            file,
-            has_resources(file),
-            (rank - INFO_BLOCKS as u32) as u16,
-        ),
+        _ => entry_slot(file, (rank - INFO_BLOCKS as u32) as u16),
     }
 }
 
 /// Returns the starts of the blocks that the file has, by rank.
-fn starts_of<A: Allowance>(memory: &A, file: &[u8]) -> Result<Vec<Start>, AllocError>
-    requires { HasNoFault file.now }
-    ensures starts { IfOk result (λ starts. starts.items ≡ starts_in (offsets_in file.now)) }
+fn starts_of<A: Allowance, B: FileBytes>(memory: &A, file: &B) -> Result<Vec<Start>, AllocError>
+    requires { HasNoFault (B.bytes file.now) }
+    ensures starts { IfOk result (λ starts. starts.items ≡ starts_in (offsets_in (B.bytes file.now))) }
     ensures short { OnErr result (A.is_short memory.now) }
 {
     let mut starts = Vec::new(memory.allocator());
@@ -76,10 +74,13 @@ fn starts_of<A: Allowance>(memory: &A, file: &[u8]) -> Result<Vec<Start>, AllocE
 }
 
 /// Returns the starts of the blocks that the file has, in the order of the blocks in the file.
-pub(crate) fn sorted_starts<A: Allowance>(memory: &A, file: &[u8]) -> Result<Vec<Start>, AllocError>
-    requires { HasNoFault file.now }
+pub(crate) fn sorted_starts<A: Allowance, B: FileBytes>(
+    memory: &A,
+    file: &B,
+) -> Result<Vec<Start>, AllocError>
+    requires { HasNoFault (B.bytes file.now) }
     ensures all { IfOk result (λ starts.
-        IsPermutation (starts_in (offsets_in file.now)) starts.items) }
+        IsPermutation (starts_in (offsets_in (B.bytes file.now))) starts.items) }
     ensures rising { IfOk result (λ starts. IsNonDecreasingBy order starts.items) }
     ensures short { OnErr result (A.is_short memory.now) }
 {

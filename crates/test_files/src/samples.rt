@@ -52,7 +52,7 @@ pub(crate) fn damaged(alloc: Global, file: &[u8]) -> Result<String, Fail> {
     }
     match check_file(file) {
         Ok(()) => Err("a file without fault")?,
-        Err(fault) => Ok(format!(in alloc; "{}", damage_of(file, fault))?),
+        Err(fault) => Ok(format!(in alloc; "{}", damage_of(&file, fault))?),
     }
 }
 

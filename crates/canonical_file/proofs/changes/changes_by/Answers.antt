@@ -8,11 +8,11 @@ use Rattle.canonical_file.proofs.Canonicals.{are_changes, same_form, says_name}
 use Rattle.canonical_file.proofs.changes.changes_by.Goals as goal
 
 pub keeps_ids-requires : goal.keeps_ids-requires
-keeps_ids-requires c =
+keeps_ids-requires g c =
     ap (λ (xs : List ℕ). length xs) c.deref.ensures.value ∙ ids_long c.args.file.now c.args.given.now.ids.items c.args.given.now.seed c.requires.given
 
 pub returns-clause-changes : goal.returns-clause-changes
-returns-clause-changes c =
+returns-clause-changes g c =
     let file = c.args.file.now in
     let ids = c.args.given.now.ids.items in
     let seed = c.args.given.now.seed in
@@ -26,4 +26,4 @@ returns-clause-changes c =
     })
 
 pub returns-clause-same : goal.returns-clause-same
-returns-clause-same c = same_form c.args.file.now c.args.given.now.ids.items c.args.given.now.seed _ c.know_file.ensures.good c.requires.given (returns-clause-changes c)
+returns-clause-same g c = same_form c.args.file.now c.args.given.now.ids.items c.args.given.now.seed _ c.know_file.ensures.good c.requires.given (returns-clause-changes g c)

@@ -4,4 +4,4 @@ use Rattle.canonical_file.specs.Changes.{IsIdle}
 use Rattle.canonical_file.proofs.entry_changes.has_busy.Given as goal
 
 abbrev pub invariant-loop-index : goal.invariant-loop-index
-invariant-loop-index l = (k : ℕ) → k < l.index → IsIdle (entry_in l.file k)
+invariant-loop-index g l = (k : ℕ) → k < l.index → IsIdle (entry_in l.file k)

@@ -7,24 +7,24 @@ use Rattle.file_ids.proofs.GivenLaws.{no_ids, id_count, id_there}
 use Rattle.canonical_file.proofs.entry_changes.keeps_ids.Goals as goal
 
 pub returns-then-has_resources : goal.returns-then-has_resources
-returns-then-has_resources c =
+returns-then-has_resources g c =
     let none = no_ids c.args.file.now (sym c.has_resources.ensures ∙ c.if-has_resources.true) in
     let empty : length c.args.ids.now ≡ 0 = c.requires ∙ ap length none in
     (λ _. nil_from_length c.args.ids.now empty ∙ sym none, λ _. refl)
 
 pub bounds-ids-index : goal.bounds-ids-index
-bounds-ids-index c =
+bounds-ids-index g c =
     let count = id_count c.args.file.now (sym c.has_resources.ensures ∙ c.if-has_resources.false) in
     let same = c.requires in
     omega arith
 
 pub returns-then-ids-index : goal.returns-then-ids-index
-returns-then-ids-index c =
+returns-then-ids-index g c =
     let is = id_there c.args.file.now c.loop-index.index c.record_id.result (sym c.has_resources.ensures ∙ c.if-has_resources.false) (omega arith) c.record_id.ensures.is in
     (λ yes. absurd cc, λ same. absurd (c.if-ids-index.true (ap (λ (xs : List ℕ). get_or xs c.loop-index.index 0) same ∙ is)))
 
 pub loop-index-preserved : goal.loop-index-preserved
-loop-index-preserved c = λ k below.
+loop-index-preserved g c = λ k below.
     let ids : List ℕ = c.args.ids.now in
     let known : List ℕ = unique_ids (database_in c.args.file.now) in
     let is = id_there c.args.file.now c.loop-index.index c.record_id.result (sym c.has_resources.ensures ∙ c.if-has_resources.false) (omega arith) c.record_id.ensures.is in
@@ -36,7 +36,7 @@ loop-index-preserved c = λ k below.
     ]
 
 pub returns : goal.returns
-returns c =
+returns g c =
     let known : List ℕ = unique_ids (database_in c.args.file.now) in
     let count = id_count c.args.file.now (sym c.has_resources.ensures ∙ c.if-has_resources.false) in
     let same = c.requires in

@@ -12,12 +12,12 @@ use Rattle.canonical_file.proofs.Sums.{bytes_are, slots_are, needs_at_most, slot
 use Rattle.canonical_file.proofs.needs.needs_of.Goals as goal
 
 pub bounds-blocks-rank : goal.bounds-blocks-rank
-bounds-blocks-rank c =
+bounds-blocks-rank g c =
     let long = length-blocks c.args.file.now c.blocks-blocks.result.now c.blocks-blocks.ensures.places.are in
     omega (arith, long, c.rank_count-rank-end.ensures.is)
 
 pub overflow_add-bytes : goal.overflow_add-bytes
-overflow_add-bytes c =
+overflow_add-bytes g c =
     let long = length-blocks c.args.file.now c.blocks-blocks.result.now c.blocks-blocks.ensures.places.are in
     let inside : c.loop-rank.rank < length c.blocks-blocks.result.now = omega (arith, long, c.rank_count-rank-end.ensures.is) in
     let most = sum_by_more_le block_need c.blocks-blocks.result.now c.loop-rank.rank None inside in
@@ -26,7 +26,7 @@ overflow_add-bytes c =
     omega (arith, most, all, end, long, c.rank_count-rank-end.ensures.is, c.rank_count-rank-end.ensures.most, c.loop-rank.invariant.bytes, c.needs_of_block-needs.ensures.bytes, c.blocks-blocks.ensures.places.total, c.blocks-blocks.ensures.size, c.entries_end.ensures.is, c.entries_end.ensures.inside)
 
 pub overflow_add-slots : goal.overflow_add-slots
-overflow_add-slots c =
+overflow_add-slots g c =
     let long = length-blocks c.args.file.now c.blocks-blocks.result.now c.blocks-blocks.ensures.places.are in
     let inside : c.loop-rank.rank < length c.blocks-blocks.result.now = omega (arith, long, c.rank_count-rank-end.ensures.is) in
     let most = sum_by_more_le block_slots c.blocks-blocks.result.now c.loop-rank.rank None inside in
@@ -34,7 +34,7 @@ overflow_add-slots c =
     omega (arith, most, all, long, c.rank_count-rank-end.ensures.is, c.rank_count-rank-end.ensures.most, c.loop-rank.invariant.slots, c.needs_of_block-needs.ensures.slots)
 
 pub returns-clause-are : goal.returns-clause-are
-returns-clause-are c =
+returns-clause-are g c =
     let file = c.args.file.now in
     let blocks = c.blocks-blocks.result.now in
     let long = length-blocks file blocks c.blocks-blocks.ensures.places.are in
@@ -45,7 +45,7 @@ returns-clause-are c =
     }
 
 pub returns-clause-short : goal.returns-clause-short
-returns-clause-short c =
+returns-clause-short g c =
     let file = c.args.file.now in
     let blocks = c.blocks-blocks.result.now in
     let long = length-blocks file blocks c.blocks-blocks.ensures.places.are in
@@ -55,7 +55,7 @@ returns-clause-short c =
     omega (arith, taken, all, end, long, c.rank_count-rank-end.ensures.is, c.rank_count-rank-end.ensures.most, c.loop-rank.invariant.bytes, c.blocks-blocks.ensures.places.total, c.blocks-blocks.ensures.size, c.entries_end.ensures.is, c.entries_end.ensures.inside)
 
 pub returns-clause-few : goal.returns-clause-few
-returns-clause-few c =
+returns-clause-few g c =
     let file = c.args.file.now in
     let blocks = c.blocks-blocks.result.now in
     let long = length-blocks file blocks c.blocks-blocks.ensures.places.are in

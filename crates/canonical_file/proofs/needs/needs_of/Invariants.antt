@@ -6,7 +6,7 @@ use Rattle.canonical_file.specs.BlockNeeds.{block_need, block_slots}
 use Rattle.canonical_file.proofs.needs.needs_of.Given as goal
 
 abbrev pub invariant-loop-rank : goal.invariant-loop-rank
-invariant-loop-rank l = record {
+invariant-loop-rank g l = record {
   bytes : l.bytes ≡ need (entries_end l.file) + sum_by block_need (take l.rank l.blocks);
   slots : l.slots ≡ 1 + sum_by block_slots (take l.rank l.blocks);
 }

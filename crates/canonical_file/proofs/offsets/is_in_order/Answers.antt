@@ -5,7 +5,7 @@ use Rattle.canonical_file.specs.Changes.{AreRising}
 use Rattle.canonical_file.proofs.offsets.is_in_order.Goals as goal
 
 pub loop-rank-preserved : goal.loop-rank-preserved
-loop-rank-preserved c =
+loop-rank-preserved g c =
     let os : List ℕ = offsets_in c.args.file.now in
     let rank = c.loop-rank.rank in
     let low = c.loop-rank.low in

@@ -6,4 +6,4 @@ use Rattle.canonical_file.proofs.offsets.is_in_order.Given as goal
 
 -- all offsets rise exactly if those that are left do
 abbrev pub invariant-loop-rank : goal.invariant-loop-rank
-invariant-loop-rank l = AreRising 0 (offsets_in l.file) ↔ AreRising l.low (drop l.rank (offsets_in l.file))
+invariant-loop-rank g l = AreRising 0 (offsets_in l.file) ↔ AreRising l.low (drop l.rank (offsets_in l.file))

@@ -7,10 +7,10 @@ use Rattle.file_ids.proofs.kept.keep_ids.Goals as goal
 use Rattle.file_ids.proofs.kept.keep_ids.Goals.{then-id-ne0+then-not-has, else-id-ne0, else-id-ne0-via-then-id-ne0+else-not-has, else-id-ne0-via-else-id-ne0}
 
 pub loop-index-init : goal.loop-index-init
-loop-index-init c = kept_first (unique_ids (database_in c.args.file.now)) c.args.taken.now c.args.ids.now c.requires.empty (c.requires.count ∙ sym (id_count c.args.file.now c.requires.records)) c.requires.zeros
+loop-index-init g c = kept_first (unique_ids (database_in c.args.file.now)) c.args.taken.now c.args.ids.now c.requires.empty (c.requires.count ∙ sym (id_count c.args.file.now c.requires.records)) c.requires.zeros
 
 pub loop-index-preserved : goal.loop-index-preserved
-loop-index-preserved c =
+loop-index-preserved g c =
     let count = id_count c.args.file.now c.requires.records in
     let inside : c.loop-index.index < length (unique_ids (database_in c.args.file.now)) = omega arith in
     let is = id_there c.args.file.now c.loop-index.index c.record_id-id.result c.requires.records (omega arith) c.record_id-id.ensures.is in
@@ -26,7 +26,7 @@ loop-index-preserved c =
     ]
 
 pub returns-clause-taken : goal.returns-clause-taken
-returns-clause-taken c =
+returns-clause-taken g c =
     let count = id_count c.args.file.now c.requires.records in
     kept_taken (unique_ids (database_in c.args.file.now)) c.loop-index.taken c.loop-index.ids
     (subst (KeptTo (unique_ids (database_in c.args.file.now)) c.loop-index.taken c.loop-index.ids) (omega arith) c.loop-index.invariant)

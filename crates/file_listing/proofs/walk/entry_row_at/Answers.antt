@@ -5,7 +5,7 @@ use Rattle.file_listing.specs.Listing.{entry_row}
 use Rattle.file_listing.proofs.walk.entry_row_at.Goals as goal
 
 pub returns : goal.returns
-returns c =
+returns g c =
     let file = c.args.file.now in
     let names = c.args.categories.now in
     let i = c.args.index in

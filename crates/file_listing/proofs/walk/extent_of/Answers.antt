@@ -6,7 +6,7 @@ use Rattle.file_listing.specs.declared.rows.Extent.{Extent}
 use Rattle.file_listing.proofs.walk.extent_of.Goals as goal
 
 pub returns-in-Some : goal.returns-in-Some
-returns-in-Some c =
+returns-in-Some g c =
     let file = c.args.file.now in
     let block = c.in-Some.block in
     let within = subst (IsBlockWithin (length file)) c.in-Some.is c.requires.within in

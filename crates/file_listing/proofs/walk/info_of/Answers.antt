@@ -5,7 +5,7 @@ use Rattle.file_listing.specs.Listing.{extent_at}
 use Rattle.file_listing.proofs.walk.info_of.Goals as goal
 
 pub returns : goal.returns
-returns c =
+returns g c =
     let file = c.args.file.now in
     c.extent_of.ensures
     ∙ ap (λ (at : ℕ). extent_at at (bytes_at file c.block.result)) c.offset.ensures.is

@@ -1,5 +1,5 @@
-use Rattle.std.proofs.Common.{List, ap, subst}
-use Rattle.std.specs.Prelude.{length, is_ok}
+use Rattle.std.proofs.Common.{List, subst}
+use Rattle.std.specs.Prelude.{is_ok}
 use Rattle.std.specs.List.{flat_map}
 use Rattle.palm_text.specs.Counted.{Writes}
 use Rattle.file_listing.specs.declared.rows.Row.{Row}
@@ -10,5 +10,5 @@ use Rattle.file_listing.proofs.walk.put_head.Goals as goal
 pub returns : goal.returns
 unfolding first_rows
 returns g c =
-    let rows = head_same c.args.facts.now _ _ _ _ _ _ _ _ (ap length c.bytes.ensures.bytes) c.header-header.ensures.values c.info_of.ensures c.info_of-2.ensures in
+    let rows = head_same c.args.facts.now _ _ _ _ _ _ _ _ c.size.ensures c.header-header.ensures.values c.info_of.ensures c.info_of-2.ensures in
     subst (λ (rows : List Row). Writes g.W.Write.contents c.args.out.now c.put_rows.new.out (flat_map (g.N.Notation.row_text c.args.notation.now) rows) (is_ok c.put_rows.result)) rows c.put_rows.ensures

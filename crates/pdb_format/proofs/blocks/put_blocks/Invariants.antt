@@ -7,7 +7,7 @@ use Rattle.pdb_format.proofs.PlacedBlocks.{ArePut}
 use Rattle.pdb_format.proofs.blocks.put_blocks.Given as goal
 
 abbrev pub invariant-loop-index : goal.invariant-loop-index
-invariant-loop-index l = record {
-  placed : ArePut (offsets_in l.file) (length l.file) l.starts l.blocks l.index;
-  taken : sum_by length_within l.blocks + begins (length l.file) l.starts 0 ≡ begins (length l.file) l.starts l.index;
+invariant-loop-index g l = record {
+  placed : ArePut (offsets_in (g.B.FileBytes.bytes l.file)) (length (g.B.FileBytes.bytes l.file)) l.starts l.blocks l.index;
+  taken : sum_by length_within l.blocks + begins (length (g.B.FileBytes.bytes l.file)) l.starts 0 ≡ begins (length (g.B.FileBytes.bytes l.file)) l.starts l.index;
 }

@@ -4,4 +4,4 @@ use Rattle.heap_model.specs.declared.file_fault.FileFault.TheVariants.{BadOffset
 use Rattle.pdb_format.proofs.faults.find_bad_offset.Given as goal
 
 abbrev pub invariant-loop-index : goal.invariant-loop-index
-invariant-loop-index l = (index : ℕ) → index < l.index → HasFault l.file (BadOffset index) → ⊥
+invariant-loop-index g l = (index : ℕ) → index < l.index → HasFault (g.B.FileBytes.bytes l.file) (BadOffset index) → ⊥

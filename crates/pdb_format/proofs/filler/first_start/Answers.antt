@@ -8,8 +8,8 @@ use Rattle.pdb_format.proofs.LeastOffsets.{least_most, first_after}
 use Rattle.pdb_format.proofs.filler.first_start.Goals as goal
 
 pub loop-rank-preserved : goal.loop-rank-preserved
-loop-rank-preserved c =
-    let os : List ℕ = offsets_in c.args.file.now in
+loop-rank-preserved g c =
+    let os : List ℕ = offsets_in (g.B.FileBytes.bytes c.args.file.now) in
     let rank = c.loop-rank.rank in
     let inside : rank < length os = search rules in
     let left = drop_more os rank 0 inside ∙ ap (λ (o : ℕ). o ∷ drop (rank + 1) os) (sym c.offset_of.ensures) in
@@ -18,19 +18,19 @@ loop-rank-preserved c =
     ∙ c.loop-rank.invariant
 
 pub returns-clause-inside : goal.returns-clause-inside
-returns-clause-inside c =
-    let os : List ℕ = offsets_in c.args.file.now in
+returns-clause-inside g c =
+    let os : List ℕ = offsets_in (g.B.FileBytes.bytes c.args.file.now) in
     let past : length os ≤ c.loop-rank.rank = search rules in
-    let is : c.loop-rank.first ≡ words.first_start c.args.file.now =
+    let is : c.loop-rank.first ≡ words.first_start (g.B.FileBytes.bytes c.args.file.now) =
     sym (ap (λ (xs : List ℕ). fold min c.loop-rank.first (filter (nat_lt 0) xs)) (drop_all c.loop-rank.rank os past)) ∙ c.loop-rank.invariant in
-    let most = least_most (length c.args.file.now) (filter (nat_lt 0) os) in
+    let most = least_most (length (g.B.FileBytes.bytes c.args.file.now)) (filter (nat_lt 0) os) in
     omega arith
 
 pub returns-clause-after : goal.returns-clause-after
-returns-clause-after c =
-    let os : List ℕ = offsets_in c.args.file.now in
+returns-clause-after g c =
+    let os : List ℕ = offsets_in (g.B.FileBytes.bytes c.args.file.now) in
     let past : length os ≤ c.loop-rank.rank = search rules in
-    let is : c.loop-rank.first ≡ words.first_start c.args.file.now =
+    let is : c.loop-rank.first ≡ words.first_start (g.B.FileBytes.bytes c.args.file.now) =
     sym (ap (λ (xs : List ℕ). fold min c.loop-rank.first (filter (nat_lt 0) xs)) (drop_all c.loop-rank.rank os past)) ∙ c.loop-rank.invariant in
-    let least = first_after c.args.file.now c.requires in
+    let least = first_after (g.B.FileBytes.bytes c.args.file.now) c.requires in
     omega arith

@@ -7,4 +7,4 @@ use Rattle.pdb_format.proofs.filler.first_start.Given as goal
 
 -- the offsets that are left give the same least one
 abbrev pub invariant-loop-rank : goal.invariant-loop-rank
-invariant-loop-rank l = fold min l.first (filter (nat_lt 0) (drop l.rank (offsets_in l.file))) ≡ words.first_start l.file
+invariant-loop-rank g l = fold min l.first (filter (nat_lt 0) (drop l.rank (offsets_in (g.B.FileBytes.bytes l.file)))) ≡ words.first_start (g.B.FileBytes.bytes l.file)

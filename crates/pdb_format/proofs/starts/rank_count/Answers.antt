@@ -3,7 +3,7 @@ use Rattle.pdb_format.proofs.GoodFiles.{offset_count}
 use Rattle.pdb_format.proofs.starts.rank_count.Goals as goal
 
 pub returns-clause-is : goal.returns-clause-is
-returns-clause-is c =
-    let count = offset_count c.args.file.now in
+returns-clause-is g c =
+    let count = offset_count (g.B.FileBytes.bytes c.args.file.now) in
     let is = c.entry_count.ensures in
     omega arith

@@ -12,7 +12,7 @@ pushed offsets rank at old mid new new_is mid_is before is some = new_is ∙ mid
 
 pub loop-rank-preserved : goal.loop-rank-preserved
 loop-rank-preserved g c =
-    let offsets : List ℕ = offsets_in c.args.file.now in
+    let offsets : List ℕ = offsets_in (g.B.FileBytes.bytes c.args.file.now) in
     elim c.if-at-ne0.branch [
       | then-at-ne0+in_ok-push w ↦ pushed offsets c.loop-rank.rank c.offset_of-at.result _ _ _ (ap (λ v. v.items) w.starts-is) w.in_ok-push.ensures.items c.loop-rank.invariant c.offset_of-at.ensures (search rules)
       | else-at-ne0 w ↦ ap (λ v. v.items) w.starts-is ∙ c.loop-rank.invariant ∙ none_more offsets c.loop-rank.rank c.offset_of-at.result c.offset_of-at.ensures (search rules)
@@ -21,5 +21,5 @@ loop-rank-preserved g c =
 pub returns-clause-starts : goal.returns-clause-starts
 returns-clause-starts g c =
     let ends = c.rank_count-rank-end.ensures.is in
-    let all : c.loop-rank.rank ≡ length (offsets_in c.args.file.now) = search rules in
-    c.loop-rank.invariant ∙ ap (first_starts (offsets_in c.args.file.now)) all
+    let all : c.loop-rank.rank ≡ length (offsets_in (g.B.FileBytes.bytes c.args.file.now)) = search rules in
+    c.loop-rank.invariant ∙ ap (first_starts (offsets_in (g.B.FileBytes.bytes c.args.file.now))) all

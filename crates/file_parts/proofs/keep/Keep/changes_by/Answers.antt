@@ -6,7 +6,7 @@ use Rattle.file_parts.proofs.keep.Keep.changes_by.Goals as goal
 use Rattle.std.proofs.Common.{sym, subst}
 
 pub returns : goal.returns
-returns c =
+returns g c =
     let file = c.args.file.now in
     let ids = c.args.given.now.ids.items in
     let seed = c.args.given.now.seed in

@@ -5,7 +5,7 @@ use Rattle.pdb_format.proofs.GoodFiles.{not_truncated}
 use Rattle.pdb_format.proofs.pdb_file.PdbFile.first_place.Goals as goal
 
 pub returns-clause-most : goal.returns-clause-most
-returns-clause-most c =
+returns-clause-most g c =
     let end = (not_truncated c.args.self.now c.know_file.ensures.good).1 in
     let is : c.first_place_after.result ≡ first_place c.args.self.now =
     c.first_place_after.ensures

@@ -3,4 +3,4 @@ use Rattle.pdb_format.specs.Opened.{HasPlaces}
 use Rattle.pdb_format.proofs.pdb_file.PdbFile.know_file.Goals as goal
 
 pub returns-clause-places : goal.returns-clause-places
-returns-clause-places c = subst (HasPlaces c.args.self.now) c.blocks-blocks.ensures.places.places c.blocks-blocks.ensures.places
+returns-clause-places g c = subst (HasPlaces c.args.self.now) c.blocks-blocks.ensures.places.places c.blocks-blocks.ensures.places

@@ -3,7 +3,7 @@ use Rattle.pdb_format.proofs.Places.{start_of_place, place_starts}
 use Rattle.pdb_format.proofs.pdb_file.PdbFile.offset.Goals as goal
 
 pub returns-in-Some-clause-is : goal.returns-in-Some-clause-is
-returns-in-Some-clause-is c = ap start_of_place (sym c.in-Some.is) ∙ place_starts c.args.self.now c.args.rank c.block.result c.requires c.block.ensures.place
+returns-in-Some-clause-is g c = ap start_of_place (sym c.in-Some.is) ∙ place_starts c.args.self.now c.args.rank c.block.result c.requires c.block.ensures.place
 
 pub returns-in-None-clause-is : goal.returns-in-None-clause-is
-returns-in-None-clause-is c = ap start_of_place (sym c.in-None.is) ∙ place_starts c.args.self.now c.args.rank c.block.result c.requires c.block.ensures.place
+returns-in-None-clause-is g c = ap start_of_place (sym c.in-None.is) ∙ place_starts c.args.self.now c.args.rank c.block.result c.requires c.block.ensures.place

@@ -4,11 +4,11 @@ use Rattle.pdb_format.proofs.GoodFiles.{offset_count}
 use Rattle.pdb_format.proofs.pdb_file.PdbFile.rank_count.Goals as goal
 
 pub returns-clause-blocks : goal.returns-clause-blocks
-returns-clause-blocks c =
+returns-clause-blocks g c =
     let count = block_count c.args.self.now in
     omega (arith, count, c.entry_count.ensures)
 
 pub returns-clause-offsets : goal.returns-clause-offsets
-returns-clause-offsets c =
+returns-clause-offsets g c =
     let count = offset_count c.args.self.now in
     omega (arith, count, c.entry_count.ensures)

@@ -8,4 +8,4 @@ use Rattle.pdb_format.proofs.pdb_file.PdbFile.seed.Goals as goal
 
 pub returns-clause-is : goal.returns-clause-is
 unfolding header_in
-returns-clause-is c = and_mask c.seed.result 24 ∙ ap seed_in (c.seed.ensures ∙ ap (λ (file : List ℕ). u32_at file seed_at) c.self.view_is)
+returns-clause-is g c = and_mask c.seed.result 24 ∙ ap seed_in (c.seed.ensures ∙ ap (λ (file : List ℕ). u32_at file seed_at) c.self.view_is)
