@@ -11,8 +11,10 @@ _palmheap() {
         mapfile -t COMPREPLY < <(compgen -W '--json --help' -- "$word")
     elif [[ $word == -* && ${COMP_WORDS[1]} == list ]]; then
         mapfile -t COMPREPLY < <(compgen -W '--json --path --help' -- "$word")
+    elif [[ ${COMP_WORDS[COMP_CWORD - 1]} == --keep && ${COMP_WORDS[1]} == canonical ]]; then
+        mapfile -t COMPREPLY < <(compgen -W 'ids filler order ids,filler ids,order filler,order ids,filler,order' -- "$word")
     elif [[ $word == -* && ${COMP_WORDS[1]} == canonical ]]; then
-        mapfile -t COMPREPLY < <(compgen -W '--check --path --help' -- "$word")
+        mapfile -t COMPREPLY < <(compgen -W '--check --keep --path --help' -- "$word")
     elif [[ $word == -* && ${COMP_WORDS[1]} == unpack ]]; then
         mapfile -t COMPREPLY < <(compgen -W '--exact --help' -- "$word")
     elif [[ $word == -* && ${COMP_WORDS[1]} == salvage ]]; then

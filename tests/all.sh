@@ -53,6 +53,7 @@ run 'rt python3' tests/salvage.py crates/palmheap/out/palmheap 2000
 run 'rt python3' tests/listing.py crates/palmheap/out/palmheap 1000
 run 'rt awk diff python3' tests/maps.sh
 run 'rt python3' tests/exact_folders.py crates/palmheap/out/palmheap
+run 'rt python3' tests/kept_files.py crates/palmheap/out/palmheap
 run 'gcc python3' tests/abi.py
 run 'rt gcc python3' tests/library.sh 1000
 run 'rt gcc python3' tests/python.sh

@@ -294,6 +294,24 @@ is 'the block after it' second "$("$program" get out.pdb 1)"
 is 'a block from standard input to standard output' "$(cksum <out.pdb)" "$("$program" put two.pdb 0 - - <part 2>printed | cksum)"
 is 'its reply' 'ok 106' "$(cat printed)"
 
+# a file that keeps some things when it is rewritten: with its filler, which has no bytes, it is the same; other lists are refused
+says 'a file that keeps its filler' 0 'ok 103
+canonical' '' canonical --keep filler two.pdb out.pdb
+is 'a file of which nothing changes' '' "$(cmp two.pdb out.pdb 2>&1)"
+says 'a file that keeps other things' 0 'ok 105
+changes filler' '' canonical --keep ids,order two.pdb out.pdb
+is 'a kept file from standard input to standard output' "$(cksum <out.pdb)" "$("$program" canonical --keep order - - <two.pdb 2>printed | cksum)"
+is 'its lines' 'ok 105
+changes filler' "$(cat printed)"
+says 'a file that would keep its filler' 0 canonical '' canonical --check --keep order,filler two.pdb
+for list in '' name ids,ids ids, ' ids'; do
+    "$program" canonical --keep "$list" two.pdb kept.pdb >printed 2>complained
+    is "the list '$list', status" 2 "$?"
+    is "the list '$list', standard output" '' "$(cat printed)"
+    is "the list '$list', standard error" "error: invalid value '$list' for '--keep <KEEP>'" "$(sed -n '1s/: it must be .*//p' complained)"
+done
+is 'no file is made' '' "$(ls kept.pdb 2>/dev/null)"
+
 # a file of 17 MB: only commands on images and scripts refuse it
 head -c 17000000 /dev/zero >part
 says 'a large file' 0 'ok 17000097' '' put two.pdb 1 part large.pdb

@@ -50,7 +50,7 @@ pub(crate) fn name_dropped_but_filler<R: Eprint>(
 fn name_filler<R: Eprint>(rt: &R, path: &str, file: &[u8], end: &str)
     requires { HasNoFault file.now }
 {
-    let filler = dropped_filler(file);
+    let filler = dropped_filler(&file);
     if filler > 0 {
         let name = input_name(path);
         let _ = eprintln!(rt; "{name}: filler, {filler} bytes {end}");
@@ -61,7 +61,7 @@ fn name_filler<R: Eprint>(rt: &R, path: &str, file: &[u8], end: &str)
 fn name_after_name<R: Eprint>(rt: &R, path: &str, file: &[u8], end: &str)
     requires { HasNoFault file.now }
 {
-    let after = dropped_name(file);
+    let after = dropped_name(&file);
     if after > 0 {
         let name = input_name(path);
         let _ = eprintln!(rt; "{name}: after the name, {after} bytes {end}");
@@ -116,7 +116,7 @@ pub fn comment_on_damage<R: Eprint + AllocGlobal>(rt: &R, path: &str, file: &[u8
         return;
     }
     if let Err(fault) = check_file(file) {
-        let damage = damage_of(file, fault);
+        let damage = damage_of(&file, fault);
         let _ = eprintln!(rt; "{}: {damage}", input_name(path));
         name_transfer(rt, path, file);
     }

@@ -1,18 +1,19 @@
 //! The requests of the words of the command line.
 
-ghost use Rattle.std.specs.Prelude.{◌≡◌, ◌≢◌, ◌⊎◌, ◌↔◌};
+ghost use Rattle.std.specs.Prelude.{◌≡◌, ◌≢◌, ◌⊎◌, ◌↔◌, None};
 ghost use Rattle.clap.specs.Values.{kind_of};
 
 use crate::meanings::explain;
 use clap::error::ErrorKind;
 use command_files::{STANDARD_OUTPUT, fail};
 use file_commands::{
-    Asked, Report, canonical, get, pack, put, report_files, salvage, salvage_exact_ids, unpack,
+    Asked, Report, canonical, canonical_kept, get, pack, put, report_files, salvage,
+    salvage_exact_ids, unpack,
 };
-use file_parts::FolderForm;
+use file_parts::{FolderForm, Keep};
 use image_commands::{check, check_json, new};
 use program_io::command_line::{self, BaseRequest, Form, NamedFiles, Request};
-use program_io::{Status, report_outcome};
+use program_io::{KeptWords, Status, report_outcome};
 use std::io::Input;
 use std::rt::Files;
 
@@ -39,8 +40,8 @@ pub fn fulfil<R: Files + Input + Print + Eprint + AllocGlobal>(
         BaseRequest::Check { image, form } => check_as(rt, image, form),
         BaseRequest::Explain { word } => explain(rt, word),
         BaseRequest::List { form, files } => print_reports(rt, listing_as(form), &files),
-        BaseRequest::Canonical { file, out } => canonical(rt, file, out),
-        BaseRequest::Changes { files } => print_reports(rt, Report::Changes, &files),
+        BaseRequest::Canonical { file, out, keep } => canonical_as(rt, file, out, keep),
+        BaseRequest::Changes { files, keep } => print_reports(rt, changes_as(keep), &files),
         BaseRequest::Salvage {
             file,
             out,
@@ -68,6 +69,44 @@ fn form_of(exact: bool) -> FolderForm {
         FolderForm::Exact
     } else {
         FolderForm::Canonical
+    }
+}
+
+/// Returns the things that a rewritten file keeps.
+fn keep_of(words: KeptWords) -> Keep
+    ensures ids { result.ids ≡ words.ids }
+    ensures filler { result.filler ≡ words.filler }
+    ensures order { result.order ≡ words.order }
+{
+    Keep {
+        ids: words.ids,
+        filler: words.filler,
+        order: words.order,
+    }
+}
+
+/// Runs `canonical`, and keeps what the words of `--keep` name, if there are any.
+fn canonical_as<R: Files + Input + Print + Eprint + AllocGlobal>(
+    rt: &R,
+    file: &str,
+    out: &str,
+    keep: Option<KeptWords>,
+) -> Status
+    ensures { result ≢ Status.BadWords }
+{
+    match keep {
+        Some(words) => canonical_kept(rt, keep_of(words), file, out),
+        None => canonical(rt, file, out),
+    }
+}
+
+/// Returns what `canonical --check` prints with these words of `--keep`.
+fn changes_as(keep: Option<KeptWords>) -> Report
+    ensures { (result ≡ Report.Changes) ↔ (keep ≡ None) }
+{
+    match keep {
+        Some(words) => Report::Left(keep_of(words)),
+        None => Report::Changes,
     }
 }
 

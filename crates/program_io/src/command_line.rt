@@ -4,6 +4,7 @@
 
 use crate::command_rows::{Argument, COMMANDS, CommandRow, Count};
 use crate::help_texts::{ABOUT, IMAGES};
+use crate::kept_words::{KeptWords, kept_words};
 use crate::requested::requested;
 use clap::error::{Error, ErrorKind};
 use clap::{Arg, ArgAction, ArgMatches, Command};
@@ -77,10 +78,13 @@ pub enum BaseRequest<'a> {
     Canonical {
         file: &'a str,
         out: &'a str,
+        /// The words of `--keep`, if it is there.
+        keep: Option<KeptWords>,
     },
     /// `canonical --check`.
     Changes {
         files: NamedFiles<'a>,
+        keep: Option<KeptWords>,
     },
     Salvage {
         file: &'a str,
@@ -166,6 +170,15 @@ fn parse_by<'a>(
 ) -> Result<Request<'a>, Error> {
     let matches = command.try_get_matches_from_mut(words)?;
     if let Some(text) = number_fault(alloc, &matches)? {
+        return Err(usage_error(
+            alloc,
+            rows,
+            &matches,
+            ErrorKind::ValueValidation,
+            text.as_str(),
+        )?);
+    }
+    if let Some(text) = keep_fault(alloc, &matches)? {
         return Err(usage_error(
             alloc,
             rows,
@@ -279,6 +292,20 @@ fn is_number(word: &str, most: u32) -> bool {
     }
 }
 
+/// Returns why the list of `--keep` can't be read, if it can't.
+fn keep_fault(alloc: Global, matches: &ArgMatches<'_>) -> Result<Option<String>, AllocError> {
+    let Some((_, given)) = matches.subcommand() else {
+        return Ok(None);
+    };
+    match given.get_str("KEEP") {
+        Some(list) if kept_words(list).is_none() => Ok(Some(format!(in alloc;
+            "invalid value '{list}' for '--keep <KEEP>': it must be a list of the words ids, filler \
+                and order, each at most once, with commas between them and no spaces"
+        )?)),
+        _ => Ok(None),
+    }
+}
+
 /// Returns that a word is one too many, if `canonical` has one after OUT without `--check`.
 fn extra_word(alloc: Global, matches: &ArgMatches<'_>) -> Result<Option<String>, AllocError> {
     let Some(("canonical", given)) = matches.subcommand() else {
@@ -313,7 +340,7 @@ fn stream_fault(request: &Request<'_>) -> Option<&'static str> {
         Request::Import { files, .. } => input_fault(0, files.as_slice()),
         Request::Base(BaseRequest::Put { file, part, .. }) if is_stream(file) && is_stream(part) =>
             { Some(ONE_FILE) }
-        Request::Base(BaseRequest::List { files, .. } | BaseRequest::Changes { files }) => {
+        Request::Base(BaseRequest::List { files, .. } | BaseRequest::Changes { files, .. }) => {
             input_fault(0, files.paths.as_slice())
         }
         _ => None,

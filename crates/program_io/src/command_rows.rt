@@ -196,6 +196,12 @@ pub(crate) const COMMANDS: [CommandRow; 16] = [
                 help: "Writes nothing, and prints for each file what would change",
             },
             Argument {
+                name: "KEEP",
+                count: Count::Option("keep"),
+                help: "Keeps what the list names: ids, filler or order, with\n\
+                    commas between the words, as in 'ids,order'",
+            },
+            Argument {
                 name: "PATH",
                 count: Count::FlagWith {
                     name: "path",

@@ -15,13 +15,13 @@ movable chunks, and a directory lists them.
 Exit status:
   0  done
   1  the image, the file or the text was refused; standard output says why:
-     'bad' and the first fault, or 'bad TooLarge' if 'migrate', 'pack', 'put'
-     or 'import' would make it too large, or 'line', the number of the first
-     faulty line and what is wrong in it; or 'refused', the number and the
-     name of a refusal, if 'import' refused a file, no database has a NAME of
-     'export', or FILE of 'get' or 'put' does not have the block; or
-     'bad EmptyPart' if a block of 'put' can not be empty. 'get' prints these
-     lines on standard error
+     'bad' and the first fault, or 'bad TooLarge' if 'migrate', 'pack', 'put',
+     'canonical --keep' or 'import' would make it too large, or 'line', the
+     number of the first faulty line and what is wrong in it; or 'refused',
+     the number and the name of a refusal, if 'import' refused a file, no
+     database has a NAME of 'export', or FILE of 'get' or 'put' does not have
+     the block; or 'bad EmptyPart' if a block of 'put' can not be empty. 'get'
+     prints these lines on standard error
   2  the words were refused, or there is no image of that SIZE with that many
      SLOTS, or 'explain' knows no such WORD
   3  a file could not be read or written, or is too long: at most 4294967295
@@ -271,8 +271,8 @@ status is the greatest of those of all files. If standard output can't be
 written, no other file is read, and it is 3.";
 
 pub(crate) const CANONICAL_USAGE: &str = "\
-palmheap canonical <FILE> <OUT>
-       palmheap canonical --check [--path] <FILE>...";
+palmheap canonical [--keep <KEEP>] <FILE> <OUT>
+       palmheap canonical --check [--keep <KEEP>] [--path] <FILE>...";
 
 pub(crate) const CANONICAL_FORMS: &str = "\
 For example, 'palmheap canonical old.pdb new.pdb' writes new.pdb and prints
@@ -291,6 +291,17 @@ zeros.
 A file that cannot be read as a database is refused as by 'palmheap list', and
 nothing is written. If OUT is '-', the new file goes to standard output, and
 what is printed goes to standard error.
+
+With --keep the new file keeps what the list names, and the line says what
+changed besides:
+
+  ids     the IDs of the records, also 0 and repeated ones, and the seed
+  filler  the bytes between the entries and the first block
+  order   the order of the blocks in the file
+
+So 'palmheap canonical --keep ids,order old.pdb new.pdb' prints 'changes busy'.
+If the new file would have more than 4294967293 bytes, 'bad TooLarge' is
+printed.
 
 With --check no file is written. For each FILE it prints the last line of
 'palmheap list', 'canonical' or 'changes' and words, and the exit status is 0

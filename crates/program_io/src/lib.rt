@@ -9,6 +9,7 @@
 //! | `command_line` | reads the words of the command line |
 //! | `command_rows` | the commands and their arguments, with their help |
 //! | `requested` | the request of the words that were matched |
+//! | `kept_words` | the words of `--keep` |
 //! | `help_texts` | the texts of the help |
 //! | `input` | reads a file to its end, within a limit |
 //! | `reading` | one read, and its failure |
@@ -26,6 +27,7 @@ mod error_output;
 mod fault_report;
 mod help_texts;
 mod input;
+mod kept_words;
 mod noted;
 mod output;
 mod output_file;
@@ -38,6 +40,7 @@ pub use fault_report::{report_fault, report_input_fault, report_outcome, report_
 pub use input::{
     InputFault, MOST_INPUT, MOST_READ, read_input, read_input_from, read_turn, read_within,
 };
+pub use kept_words::KeptWords;
 pub use noted::Noted;
 pub use output::{flushed, say, say_bad, say_text};
 pub use output_file::OutputFile;

@@ -3,6 +3,7 @@
 //! Start with `requested`.
 
 use crate::command_line::{BaseRequest, Form, NamedFiles, Request, Shown};
+use crate::kept_words::{KeptWords, kept_words};
 use clap::ArgMatches;
 use std::alloc::{AllocError, Global};
 
@@ -122,19 +123,26 @@ fn canonical_requested<'a>(
     };
     let others = given.get_strs("OUT").unwrap_or(&[]);
     if !given.get_flag("CHECK") {
-        return Ok(rewrite_of(file, others));
+        return Ok(rewrite_of(given, file, others));
     }
     let mut paths = Vec::from_slice(alloc, &[file])?;
     paths.extend_from_slice(others)?;
     Ok(Some(Request::Base(BaseRequest::Changes {
         files: named_files(given, paths),
+        keep: kept_of(given),
     })))
 }
 
 /// Returns the request to rewrite a file. `parse` refuses more words than one for OUT.
-fn rewrite_of<'a>(file: &'a str, outs: &[&'a str]) -> Option<Request<'a>> {
+fn rewrite_of<'a>(given: &ArgMatches<'a>, file: &'a str, outs: &[&'a str]) -> Option<Request<'a>> {
     let out = *outs.first()?;
-    Some(Request::Base(BaseRequest::Canonical { file, out }))
+    let keep = kept_of(given);
+    Some(Request::Base(BaseRequest::Canonical { file, out, keep }))
+}
+
+/// Returns the things that the list of `--keep` names, if it is there. `parse` refuses other lists.
+fn kept_of(given: &ArgMatches<'_>) -> Option<KeptWords> {
+    kept_words(given.get_str("KEEP")?)
 }
 
 fn salvage_requested<'a>(given: &ArgMatches<'a>) -> Option<BaseRequest<'a>> {

@@ -16,6 +16,8 @@ mod documents;
 #[cfg(test)]
 mod exact;
 #[cfg(test)]
+mod keeps;
+#[cfg(test)]
 mod listings;
 #[cfg(test)]
 mod parts;

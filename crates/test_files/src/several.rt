@@ -4,6 +4,7 @@ ghost use Rattle.std.specs.Prelude.{⊤};
 
 use crate::samples::{MEMO_FILE, changed};
 use file_commands::{Asked, Inputs, Report, cmd_report_from, cmd_reports_from};
+use file_parts::Keep;
 use palm_text::Counted;
 use program_io::Status;
 use std::alloc::Global;
@@ -73,7 +74,18 @@ impl Inputs for Shelf {
     }
 }
 
-const REPORTS: [Report; 3] = [Report::Listing, Report::Document, Report::Changes];
+const REPORTS: [Report; 4] = [
+    Report::Listing,
+    Report::Document,
+    Report::Changes,
+    Report::Left(IDS_AND_ORDER),
+];
+
+const IDS_AND_ORDER: Keep = Keep {
+    ids: true,
+    filler: false,
+    order: true,
+};
 
 /// The report of one file, with its path.
 fn report_of(alloc: Global, shelf: &Shelf, report: Report, path: &str) -> Result<Vec<u8>, Fail> {
@@ -147,7 +159,7 @@ fn each_file_is_noted(rt: HostRuntime) -> Result<(), Fail> {
 }
 
 /// What is printed of a file with its path, and without.
-static TEXTS: [(Report, &str, Option<&str>, &str); 8] = [
+static TEXTS: [(Report, &str, Option<&str>, &str); 9] = [
     (Report::Changes, "memo", None, "canonical\n"),
     (
         Report::Changes,
@@ -160,6 +172,12 @@ static TEXTS: [(Report, &str, Option<&str>, &str); 8] = [
         "order",
         Some("b c.pdb"),
         "==> b c.pdb <==\nchanges busy ids order\n",
+    ),
+    (
+        Report::Left(IDS_AND_ORDER),
+        "order",
+        Some("b c.pdb"),
+        "==> b c.pdb <==\nchanges busy\n",
     ),
     (Report::Changes, "broken", None, "bad BadOffset 1\nat 86\n"),
     (

@@ -10,7 +10,7 @@ pub(crate) enum Output {
 }
 
 /// The words of each run behind the program's own name, and what becomes of what it prints.
-pub(crate) static CASES: [(&str, Output); 229] = [
+pub(crate) static CASES: [(&str, Output); 235] = [
     // images that are made, or that there are not
     ("new 64 1 out.img", Taken),
     ("new 128 3 out.img", Taken),
@@ -101,6 +101,16 @@ pub(crate) static CASES: [(&str, Output); 229] = [
     ("canonical --check order.pdb tiny.prc", Refused),
     ("canonical order.pdb tiny.prc out.pdb", Taken),
     ("canonical --path order.pdb out.pdb", Taken),
+    // what is kept of a file, and a list with a word that isn't known
+    ("canonical --keep ids,order order.pdb out.pdb", Taken),
+    ("canonical --keep filler - -", Taken),
+    ("canonical --keep order damaged.pdb out.pdb", Taken),
+    ("canonical --keep ids order.pdb out.pdb", Refused),
+    (
+        "canonical --check --keep order,ids,filler order.pdb tiny.prc",
+        Taken,
+    ),
+    ("canonical --keep ids,name order.pdb out.pdb", Taken),
     // files that are salvaged: one without a fault, with a bad offset, cut within the entries, with
     // no name and bad info blocks, and with the IDs of the file
     ("salvage order.pdb out.pdb", Taken),

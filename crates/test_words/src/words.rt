@@ -1,5 +1,6 @@
 //! The words of the command line.
 
+use program_io::KeptWords;
 use program_io::command_line::{BaseRequest, NamedFiles, Request, parse};
 use std::alloc::{AllocError, Global};
 use std::test::Fail;
@@ -58,6 +59,23 @@ fn shown(alloc: Global, request: &Request) -> Result<String, AllocError> {
     }
 }
 
+/// The words of `--keep`, if they are there.
+fn kept_shown(keep: Option<KeptWords>) -> &'static str {
+    let Some(kept) = keep else {
+        return "";
+    };
+    match (kept.ids, kept.filler, kept.order) {
+        (true, false, false) => " ids",
+        (false, true, false) => " filler",
+        (false, false, true) => " order",
+        (true, true, false) => " ids filler",
+        (true, false, true) => " ids order",
+        (false, true, true) => " filler order",
+        (true, true, true) => " ids filler order",
+        (false, false, false) => " nothing",
+    }
+}
+
 fn base_shown(alloc: Global, request: &BaseRequest) -> Result<String, AllocError> {
     match request {
         BaseRequest::New { size, slots, out } => format!(in alloc; "new {size} {slots} {out}\n"),
@@ -65,10 +83,13 @@ fn base_shown(alloc: Global, request: &BaseRequest) -> Result<String, AllocError
         BaseRequest::List { form, files } => {
             format!(in alloc; "list {form:?}{}\n", named_shown(alloc, files)?)
         }
-        BaseRequest::Changes { files } => {
-            format!(in alloc; "changes{}\n", named_shown(alloc, files)?)
+        BaseRequest::Changes { files, keep } => {
+            let named = named_shown(alloc, files)?;
+            format!(in alloc; "changes{named}{}\n", kept_shown(*keep))
         }
-        BaseRequest::Canonical { file, out } => format!(in alloc; "canonical {file} {out}\n"),
+        BaseRequest::Canonical { file, out, keep } => {
+            format!(in alloc; "canonical {file} {out}{}\n", kept_shown(*keep))
+        }
         BaseRequest::Salvage {
             file,
             out,
@@ -397,7 +418,7 @@ fn words_are_read(rt: HostRuntime) -> Result<(), Fail> {
 }
 
 /// The same for the commands on files, of which some take several.
-static FILE_CASES: [(&str, &str, &str); 36] = [
+static FILE_CASES: [(&str, &str, &str); 45] = [
     ("palmheap list memo.pdb", "list Text [\"memo.pdb\"]\n", ""),
     (
         "palmheap canonical memo.pdb new.pdb",
@@ -533,12 +554,12 @@ static FILE_CASES: [(&str, &str, &str); 36] = [
     (
         "palmheap canonical memo.pdb",
         "2 error: the following required arguments were not provided:\n  <OUT>",
-        "\nUsage: palmheap canonical <FILE> <OUT>\n       palmheap canonical --check [--path] <FILE>...\n",
+        "\nUsage: palmheap canonical [--keep <KEEP>] <FILE> <OUT>\n       palmheap canonical --check [--keep <KEEP>] [--path] <FILE>...\n",
     ),
     (
         "palmheap canonical memo.pdb new.pdb tool.prc",
         "2 error: unexpected argument 'tool.prc' found\n",
-        "\nUsage: palmheap canonical <FILE> <OUT>\n",
+        "\nUsage: palmheap canonical [--keep <KEEP>] <FILE> <OUT>\n",
     ),
     (
         "palmheap list --help",
@@ -548,7 +569,53 @@ static FILE_CASES: [(&str, &str, &str); 36] = [
     (
         "palmheap canonical --help",
         "0 ",
-        "Usage: palmheap canonical <FILE> <OUT>",
+        "Usage: palmheap canonical [--keep <KEEP>] <FILE> <OUT>",
+    ),
+    (
+        "palmheap canonical --keep ids memo.pdb new.pdb",
+        "canonical memo.pdb new.pdb ids\n",
+        "",
+    ),
+    (
+        "palmheap canonical memo.pdb new.pdb --keep order,filler,ids",
+        "canonical memo.pdb new.pdb ids filler order\n",
+        "",
+    ),
+    (
+        "palmheap canonical --check --keep filler,order memo.pdb tool.prc",
+        "changes named [\"memo.pdb\", \"tool.prc\"] filler order\n",
+        "",
+    ),
+    (
+        "palmheap canonical --keep ids,ids memo.pdb new.pdb",
+        "2 error: invalid value 'ids,ids' for '--keep <KEEP>': ",
+        "\nUsage: palmheap canonical [--keep <KEEP>] <FILE> <OUT>\n",
+    ),
+    (
+        "palmheap canonical --keep name memo.pdb new.pdb",
+        "2 error: invalid value 'name' for '--keep <KEEP>': ",
+        "",
+    ),
+    (
+        "palmheap canonical --keep ids, memo.pdb new.pdb",
+        "2 error: invalid value 'ids,' for '--keep <KEEP>': ",
+        "",
+    ),
+    (
+        "palmheap canonical --keep IDS memo.pdb new.pdb",
+        "2 error: invalid value 'IDS' for '--keep <KEEP>': ",
+        "",
+    ),
+    (
+        "palmheap canonical --check --keep= memo.pdb",
+        "2 error: invalid value '' for '--keep <KEEP>': it must be a list of the words ids, filler and order, \
+            each at most once, with commas between them and no spaces\n",
+        "\nUsage: palmheap canonical [--keep <KEEP>] <FILE> <OUT>\n",
+    ),
+    (
+        "palmheap canonical memo.pdb new.pdb --keep",
+        "2 error: a value is required for '--keep <KEEP>' but none was supplied\n",
+        "",
     ),
 ];
 
