@@ -27,3 +27,5 @@ mod salvage;
 mod samples;
 #[cfg(test)]
 mod several;
+#[cfg(test)]
+mod starts;
