@@ -22,6 +22,17 @@ pub puts_left : {V : Type 0} (contents : V → Option (List ℕ)) (keep : Keep) 
 puts_left contents keep path old new file left ok good are puts = (good, (heading path ++ changes_line left, (left, are, refl), puts))
 
 module _ {W V : Type 0} (file_contents : W → Option (List ℕ)) (contents : V → Option (List ℕ)) where
+  -- there was not enough memory, and nothing was written
+  pub no_room : (keep : Keep) (file : List ℕ) (file_old : Writing W) (old : Writing V) → HasNoFault file → EndsKept keep file (output file_contents file_old file_old) (output contents old old) NoMemory
+  no_room keep file file_old old good = record {
+    done = λ e. cc;
+    refused = λ e. cc;
+    no_memory = λ _. (good, refl, refl);
+    write_fault = λ e. cc;
+    good_words = λ e. cc;
+    reads_nothing = λ e. cc;
+  }
+
   -- the file would be too large
   pub too_large : (keep : Keep) (file : List ℕ) (file_old : Writing W) (old new : Writing V) (status : Status) → IsKeepFault keep file TooLarge → (status ≡ Refused) ⊎ (status ≡ WriteFault)
       → (status ≡ Refused → Puts contents old new (codes "bad TooLarge\n") true) → (status ≡ WriteFault → Puts contents old new (codes "bad TooLarge\n") false) → EndsKept keep file (output file_contents file_old file_old) (output contents old new) status

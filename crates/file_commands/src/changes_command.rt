@@ -13,25 +13,25 @@ use allowance::Allowance;
 use canonical_file::{Changes, find_changes, put_changes};
 use file_listing::{TextRows, put_heading};
 use palm_text::{Counted, WriteFault};
-use pdb_format::{OpenFault, PdbFile};
+use pdb_format::{FileBytes, OpenFault, PdbFile};
 use program_io::{Status, flushed};
 use std::io::Write;
 
 /// Prints the line of the changes when a file is rewritten. If the file has a fault, prints `bad`
 /// with the first fault, and the offset of its field. The path comes first, if there is one. Each
 /// allocation asks `memory` for a grant.
-pub fn cmd_changes_from<A: Allowance, V: Write>(
+pub fn cmd_changes_from<A: Allowance, B: FileBytes, V: Write>(
     memory: &A,
     path: Option<&str>,
-    file: &[u8],
+    file: &B,
     out: &mut Counted<V>,
 ) -> Status
-    requires { length file.now ≤ most_file_bytes }
-    ensures ends { EndsChanges (option_map (λ path. path.now) path.entry) file.now
+    requires { length (B.bytes file.now) ≤ most_file_bytes }
+    ensures ends { EndsChanges (option_map (λ path. path.now) path.entry) (B.bytes file.now)
         V.contents out.old out.new result }
     ensures short { result ≡ Status.NoMemory → A.is_short memory.now }
 {
-    match PdbFile::open(memory, file) {
+    match PdbFile::open_bytes(memory, file) {
         Ok(file) => say_changes(memory, path, &file, out),
         Err(OpenFault::BadFile(fault)) => say_fault(&TextRows { path }, out, file, fault),
         Err(OpenFault::OutOfMemory) => Status::NoMemory,
@@ -40,10 +40,10 @@ pub fn cmd_changes_from<A: Allowance, V: Write>(
 
 /// Prints the line of the changes of a file that is opened.
 #[tactic(auto, using(crate::proofs::Printed::puts_changes))]
-fn say_changes<A: Allowance, V: Write>(
+fn say_changes<A: Allowance, B: FileBytes, V: Write>(
     memory: &A,
     path: Option<&str>,
-    file: &PdbFile<'_>,
+    file: &PdbFile<'_, B>,
     out: &mut Counted<V>,
 ) -> Status
     requires { length file.now ≤ most_file_bytes }

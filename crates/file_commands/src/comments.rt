@@ -12,17 +12,23 @@ use heap_model::Bytes;
 use hints::{
     MAC_HEADER_SIZE, looks_like_image, looks_like_mac, looks_like_page, parts_hint, without_returns,
 };
-use pdb_format::{MOST_FILE_BYTES, check_file};
+use pdb_format::{FileBytes, MOST_FILE_BYTES, check_bytes, check_file};
 use program_io::{MOST_INPUT, Status};
 
 /// Reports on standard error how many bytes of a file a rewrite drops. It reports nothing if the
 /// command isn't done. `end` ends each line: whether the bytes were dropped, or would be. It checks
 /// the file again, but sorts and allocates nothing.
-pub(crate) fn name_dropped<R: Eprint>(rt: &R, path: &str, status: Status, file: &[u8], end: &str) {
+pub(crate) fn name_dropped<R: Eprint, B: FileBytes>(
+    rt: &R,
+    path: &str,
+    status: Status,
+    file: &B,
+    end: &str,
+) {
     if status != Status::Done {
         return;
     }
-    let Ok(()) = check_file(file) else {
+    let Ok(()) = check_bytes(file) else {
         return;
     };
     name_filler(rt, path, file, end);
@@ -30,27 +36,27 @@ pub(crate) fn name_dropped<R: Eprint>(rt: &R, path: &str, status: Status, file: 
 }
 
 /// Reports the same as `name_dropped`, but no filler: for a rewrite that keeps it.
-pub(crate) fn name_dropped_but_filler<R: Eprint>(
+pub(crate) fn name_dropped_but_filler<R: Eprint, B: FileBytes>(
     rt: &R,
     path: &str,
     status: Status,
-    file: &[u8],
+    file: &B,
     end: &str,
 ) {
     if status != Status::Done {
         return;
     }
-    let Ok(()) = check_file(file) else {
+    let Ok(()) = check_bytes(file) else {
         return;
     };
     name_after_name(rt, path, file, end);
 }
 
 /// Reports how many bytes of the filler a rewrite drops.
-fn name_filler<R: Eprint>(rt: &R, path: &str, file: &[u8], end: &str)
-    requires { HasNoFault file.now }
+fn name_filler<R: Eprint, B: FileBytes>(rt: &R, path: &str, file: &B, end: &str)
+    requires { HasNoFault (B.bytes file.now) }
 {
-    let filler = dropped_filler(&file);
+    let filler = dropped_filler(file);
     if filler > 0 {
         let name = input_name(path);
         let _ = eprintln!(rt; "{name}: filler, {filler} bytes {end}");
@@ -58,10 +64,10 @@ fn name_filler<R: Eprint>(rt: &R, path: &str, file: &[u8], end: &str)
 }
 
 /// Reports how many bytes after the name a rewrite drops.
-fn name_after_name<R: Eprint>(rt: &R, path: &str, file: &[u8], end: &str)
-    requires { HasNoFault file.now }
+fn name_after_name<R: Eprint, B: FileBytes>(rt: &R, path: &str, file: &B, end: &str)
+    requires { HasNoFault (B.bytes file.now) }
 {
-    let after = dropped_name(&file);
+    let after = dropped_name(file);
     if after > 0 {
         let name = input_name(path);
         let _ = eprintln!(rt; "{name}: after the name, {after} bytes {end}");
@@ -71,7 +77,7 @@ fn name_after_name<R: Eprint>(rt: &R, path: &str, file: &[u8], end: &str)
 /// Reports the same as `name_dropped` for each of some files that were rewritten.
 pub fn name_each_dropped<R: Eprint>(rt: &R, paths: &[&str], status: Status, files: &[Bytes]) {
     for (path, file) in paths.iter().zip(files) {
-        name_dropped(rt, path, status, file.as_slice(), DROPPED);
+        name_dropped(rt, path, status, &file.as_slice(), DROPPED);
     }
 }
 
@@ -82,13 +88,13 @@ pub(crate) const DROPPED: &str = "dropped";
 pub(crate) const WOULD_BE_DROPPED: &str = "that a rewrite drops";
 
 /// Reports the same as `suggest_check`, and the same as `comment_on_damage` if the file was refused.
-pub(crate) fn comment_on_file<R: Eprint + AllocGlobal>(
+pub(crate) fn comment_on_file<R: Eprint + AllocGlobal, B: FileBytes>(
     rt: &R,
     path: &str,
     status: Status,
-    file: &[u8],
+    file: &B,
 ) {
-    suggest_check(rt, path, status, file);
+    suggest_check(rt, path, status, file.start());
     if status == Status::Refused {
         comment_on_damage(rt, path, file);
     }
@@ -96,14 +102,14 @@ pub(crate) fn comment_on_file<R: Eprint + AllocGlobal>(
 
 /// Reports the same as `comment_on_file`. If a file with a fault was salvaged, it reports what a
 /// transfer may have made of the file, since that can be undone.
-pub(crate) fn comment_on_salvage<R: Eprint + AllocGlobal>(
+pub(crate) fn comment_on_salvage<R: Eprint + AllocGlobal, B: FileBytes>(
     rt: &R,
     path: &str,
     status: Status,
-    file: &[u8],
+    file: &B,
 ) {
     comment_on_file(rt, path, status, file);
-    if status == Status::Done && !looks_like_image(file) && check_file(file).is_err() {
+    if status == Status::Done && !looks_like_image(file.start()) && check_bytes(file).is_err() {
         name_transfer(rt, path, file);
     }
 }
@@ -111,25 +117,25 @@ pub(crate) fn comment_on_salvage<R: Eprint + AllocGlobal>(
 /// Reports the number at the first fault of a file, the numbers that are allowed there, and what a
 /// transfer may have made of the file. It reports nothing if the file has no fault, looks like an
 /// image, or is longer than all files that are read.
-pub fn comment_on_damage<R: Eprint + AllocGlobal>(rt: &R, path: &str, file: &[u8]) {
-    if file.len() > MOST_FILE_BYTES || looks_like_image(file) {
+pub fn comment_on_damage<R: Eprint + AllocGlobal, B: FileBytes>(rt: &R, path: &str, file: &B) {
+    if file.size() > MOST_FILE_BYTES || looks_like_image(file.start()) {
         return;
     }
-    if let Err(fault) = check_file(file) {
-        let damage = damage_of(&file, fault);
+    if let Err(fault) = check_bytes(file) {
+        let damage = damage_of(file, fault);
         let _ = eprintln!(rt; "{}: {damage}", input_name(path));
         name_transfer(rt, path, file);
     }
 }
 
 /// Reports what a transfer may have made of a file.
-fn name_transfer<R: Eprint + AllocGlobal>(rt: &R, path: &str, file: &[u8]) {
+fn name_transfer<R: Eprint + AllocGlobal, B: FileBytes>(rt: &R, path: &str, file: &B) {
     let name = input_name(path);
-    if looks_like_page(file) {
+    if looks_like_page(file.start()) {
         let _ = eprintln!(rt;
             "{name} looks like a web page: a server sent it in place of the file"
         );
-    } else if looks_like_mac(file) {
+    } else if looks_like_mac(file.start()) {
         let _ = eprintln!(rt;
             "{name} begins with {MAC_HEADER_SIZE} bytes of MacBinary: 'tail -c +129' gives the file after them"
         );
@@ -141,12 +147,14 @@ fn name_transfer<R: Eprint + AllocGlobal>(rt: &R, path: &str, file: &[u8]) {
 }
 
 /// Returns whether a file of at most `MOST_INPUT` bytes is what a transfer as text makes of a file
-/// without a fault. If an allocation fails, it returns `false`.
-fn is_converted<R: AllocGlobal>(rt: &R, file: &[u8]) -> bool {
-    if file.len() > MOST_INPUT {
+/// without a fault. If an allocation fails, or if not all bytes of the file were read, it returns
+/// `false`.
+fn is_converted<R: AllocGlobal, B: FileBytes>(rt: &R, file: &B) -> bool {
+    let bytes = file.start();
+    if file.size() > MOST_INPUT || bytes.len() < file.size() {
         return false;
     }
-    match without_returns(&rt.alloc(), file) {
+    match without_returns(&rt.alloc(), bytes) {
         Ok(Some(original)) => check_file(original.as_slice()).is_ok(),
         Ok(None) | Err(_) => false,
     }

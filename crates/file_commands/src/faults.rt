@@ -13,41 +13,42 @@ use file_listing::{Notation, put_fault};
 use heap_model::FileFault;
 use itoa::Buffer;
 use palm_text::{Counted, Piece, WriteFault, put_pieces};
+use pdb_format::FileBytes;
 use program_io::{Status, flushed};
 use std::io::Write;
 
 /// Writes the row of the first fault of a file, and flushes `out`.
 #[tactic(auto, using(palm_text::proofs::Parts::then_flush))]
-fn put_fault_row<N: Notation, V: Write>(
+fn put_fault_row<N: Notation, B: FileBytes, V: Write>(
     notation: &N,
     out: &mut Counted<V>,
-    file: &[u8],
+    file: &B,
     fault: FileFault,
 ) -> Result<(), WriteFault>
-    requires short { length file.now ≤ most_file_bytes }
-    requires first { IsFirstFault file.now fault }
-    ensures { Puts V.contents out.old out.new (N.row_text notation.now (fault_row file.now fault))
+    requires short { length (B.bytes file.now) ≤ most_file_bytes }
+    requires first { IsFirstFault (B.bytes file.now) fault }
+    ensures { Puts V.contents out.old out.new (N.row_text notation.now (fault_row (B.bytes file.now) fault))
         (is_ok result) }
 {
-    put_fault(notation, out, &file, fault)?;
+    put_fault(notation, out, file, fault)?;
     flushed(out)
 }
 
 /// Prints the row of the first fault of a file.
 #[tactic(auto, using(crate::proofs::Printed::puts_fault))]
-pub(crate) fn say_fault<N: Notation, V: Write>(
+pub(crate) fn say_fault<N: Notation, B: FileBytes, V: Write>(
     notation: &N,
     out: &mut Counted<V>,
-    file: &[u8],
+    file: &B,
     fault: FileFault,
 ) -> Status
-    requires short { length file.now ≤ most_file_bytes }
-    requires first { IsFirstFault file.now fault }
+    requires short { length (B.bytes file.now) ≤ most_file_bytes }
+    requires first { IsFirstFault (B.bytes file.now) fault }
     ensures statuses { (result ≡ Status.Refused) ⊎ (result ≡ Status.WriteFault) }
     ensures refused { result ≡ Status.Refused
-        → PutsFaultRow (N.row_text notation.now) file.now V.contents out.old out.new true }
+        → PutsFaultRow (N.row_text notation.now) (B.bytes file.now) V.contents out.old out.new true }
     ensures write { result ≡ Status.WriteFault
-        → PutsFaultRow (N.row_text notation.now) file.now V.contents out.old out.new false }
+        → PutsFaultRow (N.row_text notation.now) (B.bytes file.now) V.contents out.old out.new false }
 {
     match put_fault_row(notation, out, file, fault) {
         Ok(()) => Status::Refused,

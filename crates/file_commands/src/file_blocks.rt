@@ -38,7 +38,7 @@ pub fn get<R: Files + Input + Print + Eprint + AllocGlobal>(
         Err(status) => return status,
     };
     let status = get_block(rt, file.as_slice(), wanted);
-    comment_on_file(rt, path, status, file.as_slice());
+    comment_on_file(rt, path, status, &file.as_slice());
     if status == Status::Refused {
         comment_on_block(rt, path, file.as_slice(), wanted);
     }
@@ -77,7 +77,7 @@ pub fn put<R: Files + Input + Print + Eprint + AllocGlobal>(
         NewFile::Put(NewBlock { wanted, bytes }),
         out_path,
     );
-    comment_on_file(rt, path, status, file.as_slice());
+    comment_on_file(rt, path, status, &file.as_slice());
     if status == Status::Refused {
         comment_on_block(rt, path, file.as_slice(), wanted);
     }

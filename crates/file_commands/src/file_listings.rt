@@ -5,9 +5,9 @@ ghost use Rattle.std.specs.Prelude.{◌≢◌, ⊤};
 use crate::comments::{WOULD_BE_DROPPED, comment_on_file, name_dropped, name_dropped_but_filler};
 use crate::inputs::Inputs;
 use crate::reports::{Asked, Report, cmd_reports_from};
-use command_files::{STANDARD_OUTPUT, buffered_fault, fail, read_file_or_input_within};
+use command_files::{STANDARD_OUTPUT, buffered_fault, fail};
+use file_starts::{FileRead, read_listed};
 use palm_text::Counted;
-use pdb_format::MOST_FILE_BYTES;
 use program_io::{Noted, Status, report_fault, report_outcome};
 use std::io;
 use std::io::{BufWriter, Input};
@@ -23,13 +23,13 @@ struct SystemFiles<'a, R> {
 impl<R: Files + Input + Eprint + AllocGlobal> Inputs for SystemFiles<'_, R> {
     ghost gives = { λ _ _ _. ⊤ };
 
-    fn read(&self, path: &str) -> Result<Vec<u8>, Status> {
-        read_file_or_input_within(self.rt, path, MOST_FILE_BYTES)
+    fn read(&self, path: &str) -> Result<FileRead, Status> {
+        read_listed(self.rt, path)
     }
 
     /// Reports on standard error if there was not enough memory, what the file looks like, what is
     /// wrong with it, and what a rewrite drops.
-    fn note(&self, path: &str, status: Status, file: &[u8]) {
+    fn note(&self, path: &str, status: Status, file: &FileRead) {
         if status == Status::NoMemory {
             report_fault(self.rt, status);
         }

@@ -76,12 +76,12 @@ fn rewrite_as<R: Files + Input + Print + Eprint + AllocGlobal>(
         Err(status) => return status,
     };
     let status = write_to(rt, file.as_slice(), new, out_path);
-    comment_on_file(rt, path, status, file.as_slice());
+    comment_on_file(rt, path, status, &file.as_slice());
     match new {
         NewFile::Kept(keep) if keep.filler => {
-            name_dropped_but_filler(rt, path, status, file.as_slice(), DROPPED)
+            name_dropped_but_filler(rt, path, status, &file.as_slice(), DROPPED)
         }
-        _ => name_dropped(rt, path, status, file.as_slice(), DROPPED),
+        _ => name_dropped(rt, path, status, &file.as_slice(), DROPPED),
     }
     status
 }
@@ -122,7 +122,7 @@ fn salvage_by<R: Files + Input + Print + Eprint + AllocGlobal>(
         Err(status) => return status,
     };
     let status = write_to(rt, file.as_slice(), NewFile::Salvaged(ids), out_path);
-    comment_on_salvage(rt, path, status, file.as_slice());
+    comment_on_salvage(rt, path, status, &file.as_slice());
     status
 }
 

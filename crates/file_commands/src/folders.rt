@@ -43,9 +43,9 @@ pub fn unpack<R: Files + Input + Print + Eprint + AllocGlobal>(
         Err(status) => return status,
     };
     let status = unpack_to(rt, file.as_slice(), folder, form);
-    comment_on_file(rt, path, status, file.as_slice());
+    comment_on_file(rt, path, status, &file.as_slice());
     if form == FolderForm::Canonical {
-        name_dropped(rt, path, status, file.as_slice(), DROPPED);
+        name_dropped(rt, path, status, &file.as_slice(), DROPPED);
     }
     status
 }

@@ -35,7 +35,7 @@ pub fn cmd_get_from<A: Allowance, W: Write, V: Write>(
 {
     match PdbFile::open(memory, file) {
         Ok(file) => put_wanted(&file, wanted, block_out, out),
-        Err(OpenFault::BadFile(fault)) => say_fault(&TextRows { path: None }, out, file, fault),
+        Err(OpenFault::BadFile(fault)) => say_fault(&TextRows { path: None }, out, &file, fault),
         Err(OpenFault::OutOfMemory) => Status::NoMemory,
     }
 }

@@ -19,7 +19,7 @@ use file_ids::GivenIds;
 use file_listing::TextRows;
 use file_parts::{Keep, Kept, PlaceFault, UnpackFault, UnpackedExact, keep_parts, unpack_exact};
 use palm_text::{Counted, WriteFault};
-use pdb_format::{OpenFault, PdbFile};
+use pdb_format::{FileBytes, OpenFault, PdbFile};
 use program_io::{Status, flushed, say};
 use std::io::Write;
 
@@ -40,36 +40,21 @@ pub fn cmd_keep_from<A: Allowance, W: Write, V: Write>(
     ensures short { result ≡ Status.NoMemory → A.is_short memory.now }
 {
     match unpack_exact(memory, file) {
-        Ok(unpacked) => keep_in(memory, unpacked, keep, file_out, out),
-        Err(UnpackFault::BadFile(fault)) => say_fault(&TextRows { path: None }, out, file, fault),
+        Ok(unpacked) => match ids_of(memory, unpacked.file()) {
+            Ok(given) => keep_by(memory, unpacked, &given, keep, file_out, out),
+            Err(_) => Status::NoMemory,
+        },
+        Err(UnpackFault::BadFile(fault)) => say_fault(&TextRows { path: None }, out, &file, fault),
         Err(UnpackFault::OutOfMemory) => Status::NoMemory,
     }
 }
 
-/// The same as `cmd_keep_from`, for a file without fault.
-fn keep_in<A: Allowance, W: Write, V: Write>(
+/// The same as `cmd_keep_from`, for a file without fault, with the IDs that the records get in the
+/// canonical form.
+fn keep_by<'a, A: Allowance, W: Write, V: Write>(
     memory: &A,
-    unpacked: UnpackedExact<'_>,
-    keep: Keep,
-    file_out: &mut Counted<W>,
-    out: &mut Counted<V>,
-) -> Status
-    requires { IsUnpackedExact unpacked }
-    ensures ends { EndsKept keep unpacked.entry.file (output W.contents file_out.old file_out.new)
-        (output V.contents out.old out.new) result }
-    ensures short { result ≡ Status.NoMemory → A.is_short memory.now }
-{
-    match ids_of(memory, unpacked.file()) {
-        Ok(given) => keep_by(memory, unpacked, &given, keep, file_out, out),
-        Err(_) => Status::NoMemory,
-    }
-}
-
-/// The same as `keep_in`, with the IDs that the records get in the canonical form.
-fn keep_by<A: Allowance, W: Write, V: Write>(
-    memory: &A,
-    unpacked: UnpackedExact<'_>,
-    given: &GivenIds,
+    unpacked: UnpackedExact<'a>,
+    given: &'a GivenIds,
     keep: Keep,
     file_out: &mut Counted<W>,
     out: &mut Counted<V>,
@@ -134,19 +119,19 @@ fn put_flushed<W: Write>(kept: &Kept<'_>, file_out: &mut Counted<W>) -> Result<(
 /// Prints the line of the changes that are left when a file is rewritten and keeps these things. If
 /// the file has a fault, prints `bad` with the first fault, and the offset of its field. The path
 /// comes first, if there is one. Each allocation asks `memory` for a grant.
-pub fn cmd_left_from<A: Allowance, V: Write>(
+pub fn cmd_left_from<A: Allowance, B: FileBytes, V: Write>(
     memory: &A,
     keep: Keep,
     path: Option<&str>,
-    file: &[u8],
+    file: &B,
     out: &mut Counted<V>,
 ) -> Status
-    requires { length file.now ≤ most_file_bytes }
-    ensures ends { EndsLeft keep (option_map (λ path. path.now) path.entry) file.now
+    requires { length (B.bytes file.now) ≤ most_file_bytes }
+    ensures ends { EndsLeft keep (option_map (λ path. path.now) path.entry) (B.bytes file.now)
         V.contents out.old out.new result }
     ensures short { result ≡ Status.NoMemory → A.is_short memory.now }
 {
-    match PdbFile::open(memory, file) {
+    match PdbFile::open_bytes(memory, file) {
         Ok(file) => say_left(memory, keep, path, &file, out),
         Err(OpenFault::BadFile(fault)) => say_fault(&TextRows { path }, out, file, fault),
         Err(OpenFault::OutOfMemory) => Status::NoMemory,
@@ -155,11 +140,11 @@ pub fn cmd_left_from<A: Allowance, V: Write>(
 
 /// Prints the line of the changes of a file that are left.
 #[tactic(auto, using(crate::proofs::Keeping::puts_left))]
-fn say_left<A: Allowance, V: Write>(
+fn say_left<A: Allowance, B: FileBytes, V: Write>(
     memory: &A,
     keep: Keep,
     path: Option<&str>,
-    file: &PdbFile<'_>,
+    file: &PdbFile<'_, B>,
     out: &mut Counted<V>,
 ) -> Status
     requires { length file.now ≤ most_file_bytes }

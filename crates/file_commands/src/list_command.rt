@@ -9,19 +9,20 @@ use crate::faults::say_fault;
 use allowance::Allowance;
 use file_listing::{ListFault, Notation, put_listing};
 use palm_text::Counted;
+use pdb_format::FileBytes;
 use program_io::{Status, flushed};
 use std::io::Write;
 
 /// Prints the listing of a file in a notation. If the file has a fault, prints only the row of the
 /// first fault. Each allocation asks `memory` for a grant.
-pub fn cmd_list_from<N: Notation, A: Allowance, V: Write>(
+pub fn cmd_list_from<N: Notation, A: Allowance, B: FileBytes, V: Write>(
     memory: &A,
     notation: &N,
-    file: &[u8],
+    file: &B,
     out: &mut Counted<V>,
 ) -> Status
-    requires { length file.now ≤ most_file_bytes }
-    ensures ends { EndsList (N.row_text notation.now) file.now V.contents out.old out.new result }
+    requires { length (B.bytes file.now) ≤ most_file_bytes }
+    ensures ends { EndsList (N.row_text notation.now) (B.bytes file.now) V.contents out.old out.new result }
     ensures short { result ≡ Status.NoMemory → A.is_short memory.now }
 {
     match put_flushed(memory, notation, file, out) {
@@ -34,22 +35,22 @@ pub fn cmd_list_from<N: Notation, A: Allowance, V: Write>(
 
 /// Writes the listing of a file, and flushes `out`.
 #[tactic(auto, using(crate::proofs::Printed::puts_listing, crate::proofs::Printed::listing_stops))]
-fn put_flushed<N: Notation, A: Allowance, V: Write>(
+fn put_flushed<N: Notation, A: Allowance, B: FileBytes, V: Write>(
     memory: &A,
     notation: &N,
-    file: &[u8],
+    file: &B,
     out: &mut Counted<V>,
 ) -> Result<(), ListFault>
-    requires { length file.now ≤ most_file_bytes }
+    requires { length (B.bytes file.now) ≤ most_file_bytes }
     ensures done { OnOk result
-        (PutsListing (N.row_text notation.now) file.now V.contents out.old out.new true) }
-    ensures why { IfErr result (IsListFault file.now) }
+        (PutsListing (N.row_text notation.now) (B.bytes file.now) V.contents out.old out.new true) }
+    ensures why { IfErr result (IsListFault (B.bytes file.now)) }
     ensures untouched { IfErr result (λ fault. fault ≢ ListFault.Write → out.new ≡ out.old) }
     ensures write { result ≡ Err ListFault.Write
-        → PutsListing (N.row_text notation.now) file.now V.contents out.old out.new false }
+        → PutsListing (N.row_text notation.now) (B.bytes file.now) V.contents out.old out.new false }
     ensures short { result ≡ Err ListFault.OutOfMemory → A.is_short memory.now }
 {
-    put_listing(memory, notation, &file, out)?;
+    put_listing(memory, notation, file, out)?;
     match flushed(out) {
         Ok(()) => Ok(()),
         Err(_) => Err(ListFault::Write),

@@ -51,7 +51,7 @@ pub fn unpack_file<'a, A: Allowance, V: Write>(
         Err(UnpackFault::BadFile(fault)) => Err(say_fault(
             &TextRows { path: None },
             out,
-            file,
+            &file,
             fault,
         )),
         Err(UnpackFault::OutOfMemory) => Err(Status::NoMemory),

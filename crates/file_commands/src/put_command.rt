@@ -46,7 +46,7 @@ pub fn cmd_put_from<A: Allowance, W: Write, V: Write>(
 {
     match unpack_exact(memory, file) {
         Ok(unpacked) => put_in(memory, unpacked, new, file_out, out),
-        Err(UnpackFault::BadFile(fault)) => say_fault(&TextRows { path: None }, out, file, fault),
+        Err(UnpackFault::BadFile(fault)) => say_fault(&TextRows { path: None }, out, &file, fault),
         Err(UnpackFault::OutOfMemory) => Status::NoMemory,
     }
 }

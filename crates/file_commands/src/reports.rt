@@ -15,6 +15,7 @@ use file_listing::TextRows;
 use file_parts::Keep;
 use json_documents::JsonRows;
 use palm_text::Counted;
+use pdb_format::FileBytes;
 use program_io::Status;
 use std::io::Write;
 
@@ -42,15 +43,15 @@ pub struct Asked<'a> {
 
 /// Prints the report of a file, with the path if there is one. If the file has a fault, the report
 /// has only the first fault. Each allocation asks `memory` for a grant.
-pub fn cmd_report_from<A: Allowance, V: Write>(
+pub fn cmd_report_from<A: Allowance, B: FileBytes, V: Write>(
     memory: &A,
     report: Report,
     path: Option<&str>,
-    file: &[u8],
+    file: &B,
     out: &mut Counted<V>,
 ) -> Status
-    requires { length file.now ≤ most_file_bytes }
-    ensures ends { EndsReport report (option_map (λ path. path.now) path.entry) file.now
+    requires { length (B.bytes file.now) ≤ most_file_bytes }
+    ensures ends { EndsReport report (option_map (λ path. path.now) path.entry) (B.bytes file.now)
         (output V.contents out.old out.new) result }
     ensures short { result ≡ Status.NoMemory → A.is_short memory.now }
 {
@@ -105,8 +106,8 @@ fn report_next<A: Allowance, I: Inputs, V: Write>(
         Err(status) => return status,
     };
     let shown = path_if(asked.named, path);
-    let status = cmd_report_from(memory, asked.report, shown, file.as_slice(), out);
-    inputs.note(path, status, file.as_slice());
+    let status = cmd_report_from(memory, asked.report, shown, &file, out);
+    inputs.note(path, status, &file);
     status
 }
 

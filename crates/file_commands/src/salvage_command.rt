@@ -37,7 +37,7 @@ pub fn cmd_salvage_from<A: Allowance, W: Write, V: Write>(
         Err(CanonicalFault::BadFile(fault)) => say_fault(
             &TextRows { path: None },
             out,
-            file,
+            &file,
             fault,
         ),
         Err(CanonicalFault::OutOfMemory) => Status::NoMemory,

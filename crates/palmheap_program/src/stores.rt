@@ -178,7 +178,7 @@ fn comment_on_refused<R: Eprint + AllocGlobal>(
         return;
     };
     if let (Some(path), Some(file)) = (paths.get(index), files.get(index)) {
-        comment_on_damage(rt, path, file.as_slice());
+        comment_on_damage(rt, path, &file.as_slice());
     }
 }
 

@@ -36,7 +36,12 @@ fn refused_memory_prints_nothing(rt: HostRuntime) -> Result<(), Fail> {
     for granted in 0..100 {
         let memory = RefusesOne::behind(rt.alloc(), granted);
         let mut out = Counted::new(Vec::new(rt.alloc()));
-        let status = cmd_list_from(&memory, &TextRows { path: None }, &file, &mut out);
+        let status = cmd_list_from(
+            &memory,
+            &TextRows { path: None },
+            &file.as_slice(),
+            &mut out,
+        );
         if !memory.has_refused() {
             holds(granted, granted > 3)?;
             return equal(granted, status, Status::Done);
@@ -56,7 +61,12 @@ fn refused_memory_prints_no_document(rt: HostRuntime) -> Result<(), Fail> {
     for granted in 0..100 {
         let memory = RefusesOne::behind(rt.alloc(), granted);
         let mut out = Counted::new(Vec::new(rt.alloc()));
-        let status = cmd_list_from(&memory, &JsonRows { path: None }, &file, &mut out);
+        let status = cmd_list_from(
+            &memory,
+            &JsonRows { path: None },
+            &file.as_slice(),
+            &mut out,
+        );
         if !memory.has_refused() {
             holds(granted, granted > 3)?;
             return equal(granted, status, Status::Done);
@@ -77,7 +87,7 @@ fn refused_memory_prints_no_changes(rt: HostRuntime) -> Result<(), Fail> {
     for granted in 0..100 {
         let memory = RefusesOne::behind(rt.alloc(), granted);
         let mut out = Counted::new(Vec::new(rt.alloc()));
-        let status = cmd_changes_from(&memory, Some("a.pdb"), &file, &mut out);
+        let status = cmd_changes_from(&memory, Some("a.pdb"), &file.as_slice(), &mut out);
         if !memory.has_refused() {
             holds(granted, granted > 3)?;
             return equal(granted, status, Status::Done);
@@ -240,7 +250,12 @@ fn a_full_writer_gets_a_prefix(rt: HostRuntime) -> Result<(), Fail> {
     for room in 0..text.len() {
         let narrow = Narrow::new(rt.alloc(), room, 3, WhenFull::Fails(ErrorKind::StorageFull));
         let mut out = Counted::new(narrow);
-        let status = cmd_list_from(&rt.alloc(), &TextRows { path: None }, &file, &mut out);
+        let status = cmd_list_from(
+            &rt.alloc(),
+            &TextRows { path: None },
+            &file.as_slice(),
+            &mut out,
+        );
         equal(room, status, Status::WriteFault)?;
         let narrow = out.into_inner();
         holds(room, narrow.is_cut_at(room))?;
@@ -329,7 +344,12 @@ fn a_full_writer_gets_a_prefix_of_a_fault(rt: HostRuntime) -> Result<(), Fail> {
     }
     for room in 0..22 {
         let mut out = Counted::new(Narrow::new(rt.alloc(), room, 5, WhenFull::TakesNothing));
-        let status = cmd_list_from(&rt.alloc(), &TextRows { path: None }, &file, &mut out);
+        let status = cmd_list_from(
+            &rt.alloc(),
+            &TextRows { path: None },
+            &file.as_slice(),
+            &mut out,
+        );
         equal(room, status, Status::WriteFault)?;
         holds(room, out.into_inner().is_cut_at(room))?;
     }
@@ -353,7 +373,7 @@ fn check_document_cuts(alloc: Global, file: &[u8]) -> Result<(), Fail> {
     }
     for room in 0..text.len() {
         let mut out = Counted::new(Narrow::new(alloc, room, 5, WhenFull::TakesNothing));
-        let status = cmd_list_from(&alloc, &JsonRows { path: None }, file, &mut out);
+        let status = cmd_list_from(&alloc, &JsonRows { path: None }, &file, &mut out);
         equal(room, status, Status::WriteFault)?;
         let narrow = out.into_inner();
         holds(room, narrow.is_cut_at(room))?;
@@ -370,10 +390,20 @@ fn flushes_that_fail(rt: HostRuntime) -> Result<(), Fail> {
         return Ok(());
     }
     let mut out = Counted::new(Unflushed(Vec::new(rt.alloc())));
-    let status = cmd_list_from(&rt.alloc(), &TextRows { path: None }, &file, &mut out);
+    let status = cmd_list_from(
+        &rt.alloc(),
+        &TextRows { path: None },
+        &file.as_slice(),
+        &mut out,
+    );
     equal("list", status, Status::WriteFault)?;
     let mut out = Counted::new(Unflushed(Vec::new(rt.alloc())));
-    let status = cmd_list_from(&rt.alloc(), &JsonRows { path: None }, &file, &mut out);
+    let status = cmd_list_from(
+        &rt.alloc(),
+        &JsonRows { path: None },
+        &file.as_slice(),
+        &mut out,
+    );
     equal("list --json", status, Status::WriteFault)?;
     let mut block_out = Counted::new(Unflushed(Vec::new(rt.alloc())));
     let mut out = Counted::new(Vec::new(rt.alloc()));

@@ -29,3 +29,5 @@ mod salvage;
 mod samples;
 #[cfg(test)]
 mod several;
+#[cfg(test)]
+mod starts;

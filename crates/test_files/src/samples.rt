@@ -41,7 +41,7 @@ pub(crate) fn listed(alloc: Global, file: &[u8]) -> Result<(Status, Vec<u8>), Fa
         return Err("a file that is too long")?;
     }
     let mut out = Counted::new(Vec::new(alloc));
-    let status = cmd_list_from(&alloc, &TextRows { path: None }, file, &mut out);
+    let status = cmd_list_from(&alloc, &TextRows { path: None }, &file, &mut out);
     Ok((status, out.into_inner()))
 }
 
@@ -62,7 +62,7 @@ pub(crate) fn documented(alloc: Global, file: &[u8]) -> Result<(Status, Vec<u8>)
         return Err("a file that is too long")?;
     }
     let mut out = Counted::new(Vec::new(alloc));
-    let status = cmd_list_from(&alloc, &JsonRows { path: None }, file, &mut out);
+    let status = cmd_list_from(&alloc, &JsonRows { path: None }, &file, &mut out);
     Ok((status, out.into_inner()))
 }
 

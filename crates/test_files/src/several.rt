@@ -5,6 +5,8 @@ ghost use Rattle.std.specs.Prelude.{⊤};
 use crate::samples::{MEMO_FILE, changed};
 use file_commands::{Asked, Inputs, Report, cmd_report_from, cmd_reports_from};
 use file_parts::Keep;
+use file_starts::FileRead;
+use heap_model::Bytes;
 use palm_text::Counted;
 use program_io::Status;
 use std::alloc::Global;
@@ -54,20 +56,20 @@ impl Shelf {
 impl Inputs for Shelf {
     ghost gives = { λ _ _ _. ⊤ };
 
-    fn read(&self, path: &str) -> Result<Vec<u8>, Status> {
+    fn read(&self, path: &str) -> Result<FileRead, Status> {
         if path == "large" {
             return Err(Status::NoMemory);
         }
         match self.file(path) {
             Some(bytes) if bytes.len() <= MOST_SEVERAL => match Vec::from_slice(self.alloc, bytes) {
-                Ok(bytes) => Ok(bytes),
+                Ok(bytes) => Ok(FileRead::Whole(Bytes::of(bytes))),
                 Err(_) => Err(Status::NoMemory),
             },
             _ => Err(Status::ReadFault),
         }
     }
 
-    fn note(&self, _path: &str, status: Status, _file: &[u8]) {
+    fn note(&self, _path: &str, status: Status, _file: &FileRead) {
         let mut noted = self.noted.replace(Vec::new(self.alloc));
         let _ = noted.push(status);
         drop(self.noted.replace(noted));
@@ -94,7 +96,7 @@ fn report_of(alloc: Global, shelf: &Shelf, report: Report, path: &str) -> Result
         if file.len() > MOST_SEVERAL {
             return Err("a file that is too long")?;
         }
-        let _ = cmd_report_from(&alloc, report, Some(path), file, &mut out);
+        let _ = cmd_report_from(&alloc, report, Some(path), &file, &mut out);
     }
     Ok(out.into_inner())
 }
@@ -218,7 +220,7 @@ fn paths_come_first(rt: HostRuntime) -> Result<(), Fail> {
             return Ok(());
         }
         let mut out = Counted::new(Vec::new(rt.alloc()));
-        let _ = cmd_report_from(&rt.alloc(), *report, *path, file, &mut out);
+        let _ = cmd_report_from(&rt.alloc(), *report, *path, &file, &mut out);
         holds(text, out.into_inner().as_slice() == text.as_bytes())?;
     }
     Ok(())

@@ -9,9 +9,9 @@ returns-in-Err-BadFile-clause-ends g c =
     let same : c.put_flushed.new.out ≡ c.args.out.now = c.in-Err-BadFile.ensures.untouched (λ e. cc) in
     record {
       done = search rules;
-      refused = λ is. subst (λ (old : Writing g.row.V.Denot). PutsFaultRow (g.N.Notation.row_text c.args.notation.now) c.args.file.now contents old c.say_fault.new.out true) same (c.say_fault.ensures.refused is);
+      refused = λ is. subst (λ (old : Writing g.row.V.Denot). PutsFaultRow (g.N.Notation.row_text c.args.notation.now) (g.B.FileBytes.bytes c.args.file.now) contents old c.say_fault.new.out true) same (c.say_fault.ensures.refused is);
       no_memory = search rules;
-      write_fault = λ is. inr (subst (λ (old : Writing g.row.V.Denot). PutsFaultRow (g.N.Notation.row_text c.args.notation.now) c.args.file.now contents old c.say_fault.new.out false) same (c.say_fault.ensures.write is));
+      write_fault = λ is. inr (subst (λ (old : Writing g.row.V.Denot). PutsFaultRow (g.N.Notation.row_text c.args.notation.now) (g.B.FileBytes.bytes c.args.file.now) contents old c.say_fault.new.out false) same (c.say_fault.ensures.write is));
       good_words = search rules;
       reads_nothing = search rules;
     }

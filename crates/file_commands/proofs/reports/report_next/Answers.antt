@@ -1,4 +1,5 @@
-use Rattle.std.proofs.Common.{List, ℕ, Option, Ok, Err, sym, subst, inl, inr}
+use Rattle.std.proofs.Common.{List, ℕ, Option, subst, inl, inr}
+use Rattle.file_starts.specs.FilesRead.{bytes_read}
 use Rattle.palm_text.specs.Output.{output}
 use Rattle.file_commands.specs.Reports.{EndsReport}
 use Rattle.file_commands.proofs.Reported.{not_read, reported}
@@ -14,8 +15,7 @@ returns-in-Err-clause-ends g c =
 
 pub returns-clause-ends : goal.returns-clause-ends
 returns-clause-ends g c =
-    let gives = g.I.Inputs.gives c.args.inputs.now c.args.path.now in
-    reported (g.I.Inputs.gives c.args.inputs.now) (g.A.Allowance.is_short c.args.memory.now) c.args.asked.report c.args.asked.named c.args.path.now g.V.Write.contents c.as_slice.result.now c.args.out.now c.cmd_report_from-status.new.out c.cmd_report_from-status.result
-    (subst (λ (bytes : List ℕ). gives (Ok bytes)) (sym c.as_slice.ensures.value) c.in-Ok.ensures.gives)
-    c.cmd_report_from-status.ensures.short
-    (subst (λ (shown : Option (List ℕ)). EndsReport c.args.asked.report shown c.as_slice.result.now (output g.V.Write.contents c.args.out.now c.cmd_report_from-status.new.out) c.cmd_report_from-status.result) c.path_if-shown.ensures c.cmd_report_from-status.ensures.ends)
+    let file = bytes_read c.in-Ok.file in
+    reported (g.I.Inputs.gives c.args.inputs.now) (g.A.Allowance.is_short c.args.memory.now) c.args.asked.report c.args.asked.named c.args.path.now g.V.Write.contents file c.args.out.now c.cmd_report_from-status.new.out c.cmd_report_from-status.result
+    c.in-Ok.ensures.gives c.cmd_report_from-status.ensures.short
+    (subst (λ (shown : Option (List ℕ)). EndsReport c.args.asked.report shown file (output g.V.Write.contents c.args.out.now c.cmd_report_from-status.new.out) c.cmd_report_from-status.result) c.path_if-shown.ensures c.cmd_report_from-status.ensures.ends)
