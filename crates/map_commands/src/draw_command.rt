@@ -14,27 +14,10 @@ use program_io::{Status, say};
 use raw_region::Region;
 use std::io::Write;
 
-/// Writes the picture of an image as SVG to `file_out`, and then `ok` to `out`.
+/// Writes the picture of an image in a region as SVG to `file_out`, and then `ok` to `out`.
 ///
 /// If the image is refused, prints `bad` and its first fault, and writes nothing to `file_out`.
 /// Each allocation asks `memory` for a grant.
-pub fn cmd_draw_from<A: Allowance, W: Write, V: Write>(
-    memory: &A,
-    image: &[u8],
-    file_out: &mut Counted<W>,
-    out: &mut Counted<V>,
-) -> Status
-    ensures ends { EndsDraw image.now (output W.contents file_out.old file_out.new)
-        (output V.contents out.old out.new) result }
-    ensures short { result ≡ Status.NoMemory → A.is_short memory.now }
-{
-    match Region::copied_from(memory, image) {
-        Ok(region) => draw_region_from(memory, &region, file_out, out),
-        Err(_) => Status::NoMemory,
-    }
-}
-
-/// Does the same as `cmd_draw_from` for an image in a region.
 pub fn draw_region_from<A: Allowance, W: Write, V: Write>(
     memory: &A,
     region: &Region,

@@ -16,6 +16,6 @@ mod draw_command;
 mod map_command;
 mod maps;
 
-pub use draw_command::{cmd_draw_from, draw_region_from};
+pub use draw_command::draw_region_from;
 pub use map_command::map_region_from;
 pub use maps::{draw, map};

@@ -5,11 +5,12 @@ use crate::stores::{WRITTEN, input_files};
 use file_commands::say_line_fault;
 use heap_model::Bytes;
 use image_commands::{cmd_check_from, cmd_new_from};
-use map_commands::cmd_draw_from;
+use map_commands::draw_region_from;
 use palm_script::{LineFault, ScriptFault};
 use palm_text::Counted;
 use palmheap_program::cmd_run_from;
 use program_io::Status;
+use raw_region::Region;
 use std::alloc::Global;
 use std::test::*;
 use store_commands::cmd_migrate_from;
@@ -134,7 +135,10 @@ fn draw_with(
     outputs: &mut Outputs,
 ) -> Result<Status, Fail> {
     let image = bytes_of(alloc, listing)?;
-    Ok(cmd_draw_from(memory, &image, &mut outputs.image, &mut outputs.text))
+    let Ok(region) = Region::copied_from(memory, &image) else {
+        return Ok(Status::NoMemory);
+    };
+    Ok(draw_region_from(memory, &region, &mut outputs.image, &mut outputs.text))
 }
 
 /// An image with a chain of tables: its migration takes no memory.
