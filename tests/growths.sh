@@ -82,7 +82,7 @@ only '(^|[^a-z_])refused_(write|block|entry|text)[ ]*(::<[^(]*>)?\(' \
     ./palmheap_c/src/documents.rt:fault_document ./palmheap_c/src/documents.rt:listing_document \
     ./palmheap_c/src/explaining.rt:palmheap_explain ./palmheap_c/src/files.rt:listing_of \
     ./palmheap_c/src/salvaging.rt:lines_of ./palmheap_c/src/salvaging.rt:salvaged_of \
-    ./palmheap_c/src/opening.rt:boxed_store ./palmheap_c/src/opening.rt:palmheap_write_image ./palmheap_c/src/pointers.rt:keep_loan \
+    ./palmheap_c/src/opening.rt:boxed ./palmheap_c/src/opening.rt:palmheap_write_image ./palmheap_c/src/pointers.rt:keep_loan \
     ./palmheap_c/src/runs.rt:run_on ./pdb_files/src/exporting.rt:file_bytes
 # the vectors of the program itself grow without a grant; the other two functions pass one on
 only '\.push\(' \
@@ -124,6 +124,7 @@ listed=$(
 ./file_parts/src/exact_listed.rt:ranks_of zeros(memory, listed.rank_count()) {
 ./file_parts/src/exact_packing.rt:place_blocks filled(memory, 0u32, exact.listed.rank_count())
 ./file_parts/src/exact_writing.rt:place_blocks filled(memory, 0u32, source.rank_count())
+./file_starts/src/parts.rt:read_part zeros(memory, count)
 ./heap_check/src/chained.rt:check_chained no_marks()
 ./heap_map/src/cells.rt:cells_of Cells::new(memory, size, ((area + (size - 1)) / size) as usize)?
 ./heap_map/src/cells.rt:marks_of room_for(memory, firsts.len())?
