@@ -213,6 +213,8 @@ static void files(void) {
     want("pdb_damage", palmheap_pdb_damage(file, 78, &damage).kind, PALMHEAP_TRUNCATED);
     want("pdb_blocks", palmheap_pdb_blocks(file, file_len, blocks, 8, &count).kind, PALMHEAP_OK);
     want("pdb_read", palmheap_pdb_read(file, file_len, &header, &app, &sort, entries, 8, &count).kind, PALMHEAP_OK);
+    want("pdb_write", palmheap_pdb_write(file, file_len, &header, &app, &sort, entries, count, NULL, 0, NULL, 0, out, OUT,
+        &count).kind, PALMHEAP_OK);
     want("pdb_list", palmheap_pdb_list(file, file_len, text, OUT, &count).kind, PALMHEAP_OK);
     want("pdb_json", palmheap_pdb_json(file, file_len, text, OUT, &count).kind, PALMHEAP_OK);
     want("pdb_json of a fault", palmheap_pdb_json(file, 78, text, OUT, &count).kind, PALMHEAP_OK);
