@@ -6,8 +6,9 @@
 Makes a file of 100 MB with 25,000 records and one of 1 GB with 62,500 records in a new folder in DIR, by default in
 the folder for temporary files, which needs 6 GB. `canonical` and `salvage` drop one byte after the name, so they write
 the file anew. Looks whether what is packed and put is the file, and whether one block has its bytes. Then come files of
-4,294,967,295 and 4,294,967,296 bytes without data on the disk: `list` takes the first (5 GB of memory), and refuses the
-second. The status is 1 if a result is another one.
+4,294,967,295 and 4,294,967,296 bytes without data on the disk: `list` takes the first, and refuses the second. `get`
+takes 5 GB of memory for the first. The status is 1 if a result is another one, or if `list` or `canonical --check`
+takes over 64 MB of memory.
 """
 import filecmp
 import os
@@ -20,6 +21,7 @@ import time
 
 SIZES = (("100 MB", 25_000, 4_000), ("1 GB", 62_500, 16_000))
 MOST = 4_294_967_295
+MOST_MEMORY = 64
 
 
 def make(path, count, size):
@@ -60,6 +62,13 @@ def show(name, timed):
     print(f"{name:28}{timed[0]:8.2f} s{timed[1]:10.0f} MB", flush=True)
 
 
+def show_small(name, timed):
+    """The same of a command that reads only the first bytes of a file."""
+    show(name, timed)
+    if timed[1] > MOST_MEMORY:
+        sys.exit(f"{name}: over {MOST_MEMORY} MB of memory")
+
+
 def same(one, other):
     if not filecmp.cmp(one, other, shallow=False):
         sys.exit(f"{one} and {other} differ")
@@ -70,9 +79,9 @@ def measure(program, folder, count, size):
     file, new, parts = (os.path.join(folder, name) for name in ("in.pdb", "out.pdb", "parts"))
     part = os.path.join(folder, "part")
     make(file, count, size)
-    show("list", run([program, "list", file]))
-    show("list --json", run([program, "list", "--json", file]))
-    show("canonical --check", run([program, "canonical", "--check", file]))
+    show_small("list", run([program, "list", file]))
+    show_small("list --json", run([program, "list", "--json", file]))
+    show_small("canonical --check", run([program, "canonical", "--check", file]))
     show("canonical", run([program, "canonical", file, new]))
     show("salvage", run([program, "salvage", file, new]))
     with open(part, "wb") as out:
@@ -100,7 +109,7 @@ def main():
         hollow = os.path.join(folder, "hollow.pdb")
         make_hollow(hollow, MOST)
         print(f"a file of {MOST} bytes")
-        show("list", run([sys.argv[1], "list", hollow]))
+        show_small("list", run([sys.argv[1], "list", hollow]))
         show("get", run([sys.argv[1], "get", hollow, "0"]))
         show("canonical, refused", run([sys.argv[1], "canonical", hollow, os.path.join(folder, "new.pdb")], 3))
         make_hollow(hollow, MOST + 1)

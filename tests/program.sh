@@ -202,6 +202,37 @@ says 'a file that is packed as it was' 0 'ok 81' '' pack exact odd.packed
 cmp odd.pdb odd.packed >&2 || failed=1
 rm -r exact odd.pdb odd.packed
 
+# a long file, of which not all is read, has the report that it has when it is read whole
+zeros() { head -c "$1" /dev/zero; }
+# long FILE APP: a file of 20,000,000 bytes, with the offset of AppInfo in octal escapes
+long() {
+    {
+        printf Named
+        zeros 47
+        printf "$2"'\0\0\0\0DATATest'
+        zeros 8
+        printf '\0\1\0\0\0\130\1\0\0\1\0\0'
+    } >"$1"
+    truncate -s 20000000 "$1"
+}
+long last.pdb '\001\061\053\354'
+{ zeros 2; printf Unfiled; zeros 9; printf Business; } | dd of=last.pdb bs=1 seek=19999724 conv=notrunc 2>/dev/null
+long hollow.pdb '\0\0\0\0'
+long beyond.pdb '\001\061\055\001'
+for file in last.pdb hollow.pdb beyond.pdb; do
+    for words in list 'list --json' 'canonical --check' 'canonical --check --keep order'; do
+        found=$("$program" $words $file 2>complained; echo $?)
+        is "$words $file" "$("$program" $words - <$file 2>complained; echo $?)" "$found"
+    done
+done
+is 'the category is named' 1 "$("$program" list last.pdb 2>complained | grep -c '^category 1 "Business"$')"
+says 'a long file with a fault' 1 'bad BadInfo app
+at 52' 'beyond.pdb: found 20000001, and 0 or 86 to 20000000 is allowed' canonical --check beyond.pdb
+truncate -s 4294967295 hollow.pdb
+(ulimit -v 65536 && exec "$program" list hollow.pdb) >printed 2>complained
+is 'list of 4 GB with 64 MB of memory' 0 "$?"
+rm last.pdb hollow.pdb beyond.pdb printed complained
+
 # several files: each has its report, whatever becomes of the others
 mkdir many
 cp empty.pdb many/a.pdb

@@ -66,7 +66,10 @@ fn long_file(alloc: Global, at: usize) -> Result<Vec<u8>, Fail> {
         None => return Err("a file that is too short")?,
     };
     file.resize(SIZE, 0)?;
-    for (index, byte) in (at as u32).to_be_bytes().iter().enumerate() {
+    let Ok(place) = u32::try_from(at) else {
+        return Err("an offset that is too great")?;
+    };
+    for (index, byte) in place.to_be_bytes().iter().enumerate() {
         put_at(&mut file, 52 + index, *byte);
     }
     for (index, byte) in app.iter().enumerate() {
