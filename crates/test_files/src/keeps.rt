@@ -130,7 +130,7 @@ fn check_line(alloc: Global, keep: Keep, file: &[u8], lines: &str) -> Result<(),
         return Err("a file that is too long")?;
     }
     let mut out = Counted::new(Vec::new(alloc));
-    let status = cmd_report_from(&alloc, Report::Left(keep), None, file, &mut out);
+    let status = cmd_report_from(&alloc, Report::Left(keep), None, &file, &mut out);
     equal(lines, status, Status::Done)?;
     let (_, line) = lines.split_once('\n').unwrap_or(("", ""));
     equal(lines, str::from_utf8(&out.into_inner())?, line)
