@@ -369,7 +369,7 @@ is 'a script of the greatest size, status' 0 "$?"
 printf '#' >>large.txt
 says 'a script that is too long' 3 '' 'fault read
 large.txt: longer than 16777216 bytes' run a.img large.txt out.img
-rm large.txt out.img complained
+rm large.txt out.img
 rm -r two.pdb first part out.pdb large large.pdb salvaged.pdb
 
 # a file that a transfer as text has changed: a byte 0d comes before each 0a
