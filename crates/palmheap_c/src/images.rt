@@ -1,18 +1,22 @@
 //! Functions on images. They keep no state between calls.
 
-ghost use Rattle.std.specs.Prelude.{[], ◌≡◌, ◌≢◌, ◌⊎◌, IfErr, IfOk, OnOk, length};
+ghost use Rattle.std.specs.Prelude.{[], ◌≡◌, ◌≢◌, ◌⊎◌, IfErr, IfOk, OnErr, OnOk, length};
 ghost use Rattle.allowance.specs.Refusals.{GrowthRefused};
 ghost use Rattle.chunk_format.specs.Blank.{IsBlank, IsRegionSize, LeavesRoom};
+ghost use Rattle.bit_sets.specs.Sets.{HasNone};
+ghost use Rattle.heap_check.specs.Bits.{AreEnoughBits};
 ghost use Rattle.heap_model.specs.Store.{Accepted};
 ghost use Rattle.store_check.specs.Checks.{SummarizesStore};
 ghost use Rattle.palmheap_c.specs.Answers.{IsImageAnswer, IsImageFault, IsMemoryAnswer, bad_size, bad_slot_count, no_fault, memory_answer};
 
 use crate::answers::{Answer, BAD_SIZE, BAD_SLOT_COUNT, NO_FAULT, NO_MEMORY, of_store};
 use crate::counts::{Counts, counts_of};
+use allowance::zeros;
 use chunk_format::{BlankFault, blank};
+use heap_check::bits_needed;
 use raw_region::Region;
-use std::alloc::Global;
-use store_check::{StoreSummary, check_store};
+use std::alloc::{AllocError, Global};
+use store_check::{StoreSummary, check_store_with};
 
 /// Makes an image of all the bytes of a buffer, with this number of slots and without chunks. The
 /// layout is this project's own (docs/FORMAT.md).
@@ -64,12 +68,43 @@ pub(crate) fn checked(alloc: Global, image: &[u8]) -> Result<(Region, StoreSumma
     ensures accepted { OnOk result (Accepted image.now) }
     ensures summary { IfOk result (λ checked. SummarizesStore image.now checked.1) }
     ensures refused { IfErr result (λ answer. IsMemoryAnswer answer ⊎ IsImageFault image.now answer) }
+    ensures faulty { IfErr result (λ answer. answer ≢ no_fault) }
 {
     let Ok(region) = Region::from_bytes(alloc, image) else {
         return Err(NO_MEMORY);
     };
-    match check_store(&alloc, &region) {
+    match check_region(alloc, &region) {
         Ok(summary) => Ok((region, summary)),
+        Err(answer) => Err(answer),
+    }
+}
+
+/// Checks a region. With a chain of tables it allocates the bits of the check, and frees them again.
+/// It is never inlined: its caller has no stack for the marks of the check.
+#[inline(never)]
+pub(crate) fn check_region(alloc: Global, region: &Region) -> Result<StoreSummary, Answer>
+    requires whole { region.now.lents ≡ [] }
+    ensures accepted { OnOk result (Accepted region.now.bytes) }
+    ensures summary { IfOk result (SummarizesStore region.now.bytes) }
+    ensures refused { IfErr result
+        (λ answer. IsMemoryAnswer answer ⊎ IsImageFault region.now.bytes answer) }
+    ensures faulty { IfErr result (λ answer. answer ≢ no_fault) }
+{
+    let Ok(mut bits) = bits_for(alloc, region) else {
+        return Err(NO_MEMORY);
+    };
+    match check_store_with(&alloc, region, &mut bits) {
+        Ok(summary) => Ok(summary),
         Err(fault) => Err(of_store(fault)),
     }
+}
+
+/// Allocates the bits that the check of a region needs, if it has a chain of tables. None is set.
+fn bits_for(alloc: Global, region: &Region) -> Result<Vec<u8>, AllocError>
+    requires whole { region.now.lents ≡ [] }
+    ensures enough { IfOk result (λ bits. AreEnoughBits region.now.bytes (length bits.items)) }
+    ensures none { IfOk result (λ bits. HasNone bits.items) }
+    ensures short { OnErr result GrowthRefused }
+{
+    zeros(&alloc, bits_needed(region))
 }

@@ -1,13 +1,15 @@
 //! Opening and closing a store that lives between calls, and writing its image.
 
 ghost use Rattle.std.specs.Prelude.{[], ◌≡◌, ◌≢◌, ◌⊎◌, IfOk, IfErr, None};
+ghost use Rattle.heap_model.specs.Store.{Accepted};
 ghost use Rattle.palmheap_c.specs.Answers.{IsImageFault, IsMemoryAnswer, no_fault};
 ghost use Rattle.palmheap_c.specs.Holding.{IsNullIfClosed};
 ghost use Rattle.palmheap_c.specs.Opening.{Closes, HoldsImage, IsNewlyOpen, WritesImage};
 
-use crate::answers::{Answer, NO_FAULT, NO_MEMORY, of_store};
+use crate::answers::{Answer, NO_FAULT};
 use crate::buffers::{put_coded, refused_block, refused_write};
 use crate::calls::refused;
+use crate::images::checked;
 use crate::kept::{Held, Kept, Slot};
 use crate::parts::Parts;
 use heap_model::Refusal;
@@ -46,31 +48,29 @@ fn put(place: &mut Slot, slot: Slot)
     let _not_closed = unsafe { ManuallyDrop::new_unchecked(old) };
 }
 
-/// Makes a store of a copy of an image, in a box. A store by value takes 64 KB of stack: so no
-/// function returns one. It is never inlined: its callers keep little stack while a script runs.
-#[inline(never)]
+/// Makes a store of a copy of an image, in a box. No function returns a store by value: it would take
+/// 64 KB of stack more.
 pub(crate) fn boxed_store(alloc: Global, image: &[u8]) -> Result<Box<Held, Global>, Answer>
     ensures store { IfOk result (λ made. IsNewlyOpen image.now made.value) }
     ensures refused { IfErr result (λ answer. IsMemoryAnswer answer ⊎ IsImageFault image.now answer) }
     ensures faulty { IfErr result (λ answer. answer ≢ no_fault) }
 {
-    let Ok(region) = Region::from_bytes(alloc, image) else {
-        return Err(NO_MEMORY);
-    };
-    match Store::check_from(&alloc, region) {
-        Ok(store) => boxed(alloc, store),
-        Err(error) => Err(of_store(error.fault)),
+    match checked(alloc, image) {
+        Ok((region, _)) => boxed(alloc, region),
+        Err(answer) => Err(answer),
     }
 }
 
-/// Puts a store in a box. It is inlined, as its caller has no stack for another store.
-#[inline(always)]
-fn boxed(alloc: Global, store: Store) -> Result<Box<Held, Global>, Answer>
-    requires whole { store.lents ≡ [] }
-    ensures held { IfOk result (λ made. made.value ≡ record { memory = store; pointers = [] }) }
+/// Makes a store of a checked region, in a box. It is never inlined: the check that its caller makes
+/// before has no stack for a store.
+#[inline(never)]
+fn boxed(alloc: Global, region: Region) -> Result<Box<Held, Global>, Answer>
+    requires accepted { Accepted region.bytes }
+    requires whole { region.lents ≡ [] }
+    ensures held { IfOk result (λ made. made.value ≡ record { memory = region; pointers = [] }) }
     ensures refused { IfErr result IsMemoryAnswer }
 {
-    match Box::new(alloc, Held::of(alloc, store)) {
+    match Box::new(alloc, Held::of(alloc, Store::of_accepted(region))) {
         Ok(made) => Ok(made),
         Err(error) => {
             let _unused = error.value.into_store();
