@@ -11,7 +11,7 @@
  * - While a call runs, no other thread writes memory that the call is given, or reads memory that the call writes. While
  *   a call changes a store, no other thread uses the store. A call that takes a const palmheap_store leaves the store as
  *   it was: any number of threads may make these calls on one store at once.
- * - The stack has 832 KiB left for palmheap_open and palmheap_run, 640 KiB for palmheap_check and palmheap_migrate, and
+ * - The stack has 192 KiB left for palmheap_open and palmheap_run, 128 KiB for palmheap_check and palmheap_migrate, and
  *   64 KiB for any other function. No function is called from a signal handler.
  *
  * - A parameter x_len is the number of items of the array x. Sizes, counts of bytes and offsets are in bytes.

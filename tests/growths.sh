@@ -146,6 +146,7 @@ listed=$(
 ./palm_script/src/runs.rt:run_from zeros(memory, script.most_bytes())
 ./palm_script/src/runs.rt:unbound_databases filled(memory, Db(0), count)
 ./palm_script/src/runs.rt:unbound_names filled(memory, Name(0), count)
+./palmheap_c/src/images.rt:bits_for zeros(&alloc, bits_needed(region))
 ./pdb_files/src/exporting.rt:file_bytes room_for(memory, file_size(store, bytes) as usize)?)
 ./pdb_files/src/importing.rt:no_names filled(memory, Name(0), blocks.len())
 ./pdb_format/src/blocks.rt:find_blocks filled(memory, None, rank_count(file) as usize)?

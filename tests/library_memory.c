@@ -136,6 +136,17 @@ static void try(const char *name, uint32_t call(void), uint32_t failed, int more
     }
 }
 
+/* Opens the image until it succeeds, and closes the store. */
+static void try_open(const char *name) {
+    int closed = blocks;
+    if (open_store() != PALMHEAP_OK) exit(1);
+    int more = blocks - closed;
+    if (palmheap_close(&memory.opened) != 0) exit(1);
+    try(name, open_store, PALMHEAP_NO_MEMORY, more);
+    for (int i = 0; i < 2; i++)
+        if (palmheap_close(&memory.opened) != 0 || memory.opened.at || blocks != closed) exit(1);
+}
+
 int main(void) {
     memcpy(file + 60, "DATAmemo", 8);
     file[77] = 1;
@@ -155,15 +166,15 @@ int main(void) {
     try("salvage", salvage, PALMHEAP_NO_MEMORY, 0);
     try("salvage_lines", salvage_lines, PALMHEAP_NO_MEMORY, 0);
     try("new_chained", new_chained, PALMHEAP_NO_MEMORY, 0);
+    try("check of a chain", check, PALMHEAP_NO_MEMORY, 0);
+    try("migrate of a chain", migrate, PALMHEAP_NO_MEMORY, 0);
+    try_open("open of a chain");
     try("new", new, PALMHEAP_NO_MEMORY, 0);
     try("check", check, PALMHEAP_NO_MEMORY, 0);
     try("migrate", migrate, PALMHEAP_NO_MEMORY, 0);
+    try_open("open");
     int closed = blocks;
     if (palmheap_open(memory.image, SIZE, &store).kind != PALMHEAP_OK) return 1;
-    int opened = blocks;
-    try("open", open_store, PALMHEAP_NO_MEMORY, opened - closed);
-    for (int i = 0; i < 2; i++)
-        if (palmheap_close(&memory.opened) != 0 || memory.opened.at || blocks != opened) return 1;
     try("import", import, PALMHEAP_REFUSED_OUT_OF_MEMORY, 0);
     try("export", export, PALMHEAP_REFUSED_OUT_OF_MEMORY, 0);
     try("write_image", write_image, PALMHEAP_REFUSED_OUT_OF_MEMORY, 0);

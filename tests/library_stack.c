@@ -1,5 +1,6 @@
 /* Calls each function of the library on a stack of the size that docs/C-LIBRARY.md gives for it, and prints how much of
- * it was used: first without a chain of tables in the image, then with one.
+ * it was used: first without a chain of tables in the image, then with one, then with one
+ * in a large image.
  *
  * tests/library.sh builds and runs it. The status is 1 if a stack is too small, or a call has another result than it
  * should; a line says which.
@@ -14,7 +15,7 @@
 #include <ucontext.h>
 #include <unistd.h>
 
-enum { SIZE = 65536, OUT = 1 << 20, PAINT = 0xA5, GUARD = 1 << 20 };
+enum { SIZE = 65536, LARGE = 1 << 20, OUT = 1 << 20, PAINT = 0xA5, GUARD = 1 << 20 };
 
 /* ---- a stack of a given size */
 
@@ -58,12 +59,12 @@ static void on_stack(const char *name, size_t kib, void function(void)) {
 
 /* ---- the calls */
 
-static uint8_t image[SIZE + 8], other[SIZE + 8], file[OUT], out[OUT], text[OUT];
+static uint8_t image[LARGE + 8], other[LARGE + 8], file[OUT], out[OUT], text[OUT];
 static size_t image_len, file_len, count, faults;
 static palmheap_store store;
 
-static void make(void) { want("new", palmheap_new(image, SIZE, 100).kind, PALMHEAP_OK); }
-static void make_chained(void) { want("new_chained", palmheap_new_chained(image, SIZE, 100).kind, PALMHEAP_OK); }
+static void make(void) { want("new", palmheap_new(image, image_len, 100).kind, PALMHEAP_OK); }
+static void make_chained(void) { want("new_chained", palmheap_new_chained(image, image_len, 100).kind, PALMHEAP_OK); }
 
 static void check(void) {
     palmheap_counts counts;
@@ -231,18 +232,18 @@ static void words(void) {
     want("version", palmheap_version(), PALMHEAP_VERSION_NUMBER);
 }
 
-/* Makes all calls on an image, which needs so many KiB to be checked, and so many to be opened. */
-static void calls(size_t checked, size_t opened) {
-    on_stack("open", opened, open_store);
+/* Makes all calls on an image. */
+static void calls(void) {
+    on_stack("open", 192, open_store);
     on_stack("chunks", 64, chunks);
     on_stack("loans", 64, loans);
     on_stack("databases", 64, databases);
     on_stack("records", 64, records);
     on_stack("resources", 64, resources);
     on_stack("close", 64, close_store);
-    on_stack("check", checked, check);
-    on_stack("migrate", checked, migrate);
-    on_stack("run", opened, run);
+    on_stack("check", 128, check);
+    on_stack("migrate", 128, migrate);
+    on_stack("run", 192, run);
 }
 
 int main(void) {
@@ -252,9 +253,12 @@ int main(void) {
     sigaction(SIGSEGV, &action, NULL);
     image_len = SIZE;
     on_stack("new", 64, make);
-    calls(128, 320);
+    calls();
     on_stack("new_chained", 64, make_chained);
-    calls(640, 832);
+    calls();
+    image_len = LARGE;
+    on_stack("new_chained", 64, make_chained);
+    calls();
     on_stack("files", 64, files);
     on_stack("words", 64, words);
     return 0;
