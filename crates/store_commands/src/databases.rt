@@ -51,7 +51,7 @@ pub fn databases_region_from<A: Allowance, V: Write>(
         Ok(store) => store,
         Err(status) => return status,
     };
-    let Ok(rows) = rows_of(memory, &store) else {
+    let Ok(rows) = database_rows(memory, &store) else {
         return Status::NoMemory;
     };
     match put_flushed(out, rows.as_slice()) {
@@ -62,7 +62,7 @@ pub fn databases_region_from<A: Allowance, V: Write>(
 
 /// What is printed of a database: what its header says, and how many bytes its file has.
 #[derive(Drop)]
-pub(crate) struct Row {
+pub struct Row {
     pub(crate) info: DbInfo,
     pub(crate) size: usize,
 }
@@ -84,7 +84,7 @@ fn row_of_number<A: Allowance>(memory: &A, store: &Store, db: Db) -> Result<Row,
 }
 
 /// What is printed of all databases, in their order. The only error is that an allocation failed.
-pub(crate) fn rows_of<A: Allowance>(memory: &A, store: &Store) -> Result<Vec<Row>, AllocError>
+pub fn database_rows<A: Allowance>(memory: &A, store: &Store) -> Result<Vec<Row>, AllocError>
     requires { store.now.lents ≡ [] }
     ensures rows { IfOk result (λ rows. rows.items ≡ listed_rows (store_of store.now.bytes)) }
     ensures short { OnErr result (A.is_short memory.now) }
@@ -195,9 +195,9 @@ fn put_count<W: Write>(out: &mut Counted<W>, count: usize) -> Result<(), WriteFa
     )
 }
 
-/// Writes how many databases there are, and their lines.
+/// Writes how many databases there are, and their lines. Flushes nothing.
 #[tactic(auto, using(palm_text::proofs::Parts::then, palm_text::proofs::Parts::stops))]
-fn put_lines<W: Write>(out: &mut Counted<W>, rows: &[Row]) -> Result<(), WriteFault>
+pub fn put_database_lines<W: Write>(out: &mut Counted<W>, rows: &[Row]) -> Result<(), WriteFault>
     ensures { Writes W.contents out.old out.new (rows_text rows.now) (is_ok result) }
 {
     put_count(out, rows.len())?;
@@ -209,6 +209,6 @@ fn put_lines<W: Write>(out: &mut Counted<W>, rows: &[Row]) -> Result<(), WriteFa
 fn put_flushed<W: Write>(out: &mut Counted<W>, rows: &[Row]) -> Result<(), WriteFault>
     ensures { Puts W.contents out.old out.new (rows_text rows.now) (is_ok result) }
 {
-    put_lines(out, rows)?;
+    put_database_lines(out, rows)?;
     flushed(out)
 }

@@ -8,7 +8,7 @@ ghost use Rattle.palm_text.specs.Output.{Puts, output};
 ghost use Rattle.image_commands.specs.JsonEnds.{PutsImageFault};
 ghost use Rattle.store_commands.specs.DatabasesJson.{EndsDatabasesJson, closed_json, databases_document, info_json, kind_and_type_json, more_json, next_json, row_json, rows_json, file_size_json};
 
-use crate::databases::{Row, rows_of};
+use crate::databases::{Row, database_rows};
 use allowance::Allowance;
 use db_format::DbAttrs;
 use heap_model::DbInfo;
@@ -50,7 +50,7 @@ pub fn databases_json_region_from<A: Allowance, V: Write>(
         Ok(store) => store,
         Err(status) => return status,
     };
-    let Ok(rows) = rows_of(memory, &store) else {
+    let Ok(rows) = database_rows(memory, &store) else {
         return Status::NoMemory;
     };
     match put_flushed(out, rows.as_slice()) {
@@ -209,8 +209,11 @@ fn put_closed<W: Write>(out: &mut Counted<W>, rows: &[Row]) -> Result<(), WriteF
     }
 }
 
-/// Writes the document of databases.
-fn put_document<W: Write>(out: &mut Counted<W>, rows: &[Row]) -> Result<(), WriteFault>
+/// Writes the document of databases. Flushes nothing.
+pub fn put_databases_document<W: Write>(
+    out: &mut Counted<W>,
+    rows: &[Row],
+) -> Result<(), WriteFault>
     ensures { Writes W.contents out.old out.new (databases_document rows.now) (is_ok result) }
 {
     match put_all(out, b"{\"databases\":[") {
@@ -224,6 +227,6 @@ fn put_document<W: Write>(out: &mut Counted<W>, rows: &[Row]) -> Result<(), Writ
 fn put_flushed<W: Write>(out: &mut Counted<W>, rows: &[Row]) -> Result<(), WriteFault>
     ensures { Puts W.contents out.old out.new (databases_document rows.now) (is_ok result) }
 {
-    put_document(out, rows)?;
+    put_databases_document(out, rows)?;
     flushed(out)
 }
