@@ -1,4 +1,4 @@
-use Rattle.std.proofs.Common.{length, sym, ap, subst, arith}
+use Rattle.std.proofs.Common.{ℕ, length, sym, ap, subst}
 use Rattle.bit_sets.specs.Sets.{HasNone}
 use Rattle.heap_check.specs.Bits.{AreEnoughBits}
 use Rattle.palmheap_c.proofs.AnswerLaws.{image_refused}
@@ -10,7 +10,7 @@ check_store_with-requires-clause-enough c = subst (λ (n : ℕ). AreEnoughBits c
 pub check_store_with-requires-clause-none : goal.check_store_with-requires-clause-none
 check_store_with-requires-clause-none c = subst HasNone (sym c.deref_mut.ensures.value) c.in-Ok.ensures.none
 
-pub returns-in-Err-clause-refused : goal.returns-in-Err-clause-refused
-returns-in-Err-clause-refused c =
+pub returns-clause-refused : goal.returns-clause-refused
+returns-clause-refused c =
     image_refused c.args.region.now.bytes c.in-Err.fault c.of_store.result
     (λ none. c.in-Err.ensures.no_memory cc) c.of_store.ensures.is c.in-Err.ensures.fault
