@@ -20,6 +20,7 @@
 //! | `list_command`, `changes_command` | the commands `list` and `canonical --check`, over bytes |
 //! | `reports` | these commands for one file, and for several files of a source |
 //! | `inputs` | a source of files |
+//! | `starts` | a file of which only the first bytes are in memory |
 //! | `canonical_command`, `salvage_command` | the commands `canonical` and `salvage`, over bytes |
 //! | `keep_command` | the commands `canonical --keep` and `canonical --check --keep`, over bytes |
 //! | `get_command`, `put_command` | the commands `get` and `put`, over bytes |
@@ -51,6 +52,7 @@ mod parts;
 mod put_command;
 mod reports;
 mod salvage_command;
+mod starts;
 mod wanted;
 
 pub use block_words::{WantedBlock, wanted_block};
@@ -70,4 +72,5 @@ pub use parts::{cmd_pack_from, list_parts, say_count, unpack_file};
 pub use put_command::{NewBlock, cmd_put_from};
 pub use reports::{Asked, Report, cmd_report_from, cmd_reports_from};
 pub use salvage_command::cmd_salvage_from;
+pub use starts::{FileRead, MOST_START, READ_FIRST, ReadStart, ReadsAt, read_start};
 pub use wanted::find_block;
