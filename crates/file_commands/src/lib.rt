@@ -10,7 +10,7 @@
 //! for one of them, and `cmd_reports_from` does it for each file that a source gives
 //! (`specs/Reports.antt`).
 //!
-//! `report_files`, `canonical`, `salvage`, `salvage_exact_ids`, `get`, `put`, `unpack` and `pack` are
+//! `report_files`, `canonical`, `salvage`, `get`, `put`, `unpack` and `pack` are
 //! the commands over files and folders. They call the system, and their clauses state only the statuses
 //! with which a command ends. The stored runs of `test_program` show which files are read and
 //! written.
@@ -61,7 +61,7 @@ pub use changes_command::cmd_changes_from;
 pub use comments::{comment_on_damage, name_each_dropped};
 pub use file_blocks::{get, put};
 pub use file_listings::report_files;
-pub use file_rewrites::{canonical, canonical_kept, salvage, salvage_exact_ids};
+pub use file_rewrites::{canonical, canonical_kept, salvage};
 pub use folders::{pack, path_in, unpack};
 pub use get_command::cmd_get_from;
 pub use inputs::Inputs;

@@ -1,4 +1,4 @@
-use Rattle.palmheap_program.proofs.run_command.cmd_run_from.Goals as goal
+use Rattle.palmheap_program.proofs.run_command.cmd_run.Goals as goal
 
 -- the region has the image's bytes
 pub returns-in-Ok-clause-ends : goal.returns-in-Ok-clause-ends
