@@ -104,14 +104,8 @@ unfoldable pub resource_json : (index kind id : ℕ) → Option Extent → List 
 resource_json index kind id block = resource_start index kind ++ data_json id block
 
 -- the least size and number of slots of a new image with the database
-unfoldable pub size_json : ℕ → List ℕ
-size_json size = codes "],\"needs\":{\"size\":" ++ (decimal size ++ codes ",")
-
-abbrev pub slots_json : ℕ → List ℕ
-slots_json slots = codes "\"slots\":" ++ (decimal slots ++ codes "},")
-
 unfoldable pub needs_json : (size slots : ℕ) → List ℕ
-needs_json size slots = size_json size ++ slots_json slots
+needs_json size slots = codes "],\"needs\":{\"size\":" ++ (decimal size ++ (codes ",\"slots\":" ++ (decimal slots ++ codes "},")))
 
 -- the words of the changes when the file is rewritten, with commas between
 abbrev pub comma_if : Bool → List ℕ

@@ -10,17 +10,14 @@ use db_format::NameField;
 use file_listing::{Extent, RecordRow};
 use palm_text::{Counted, WriteFault};
 use std::io::Write;
+use unicode_text::JsonPiece::{FourBytes, FourHex, Number, String, Text};
 use unicode_text::{JsonPiece, put_json};
 
 /// Returns the comma before the entry of an index.
 fn comma(index: u16) -> JsonPiece<'static>
     ensures { json_text result ≡ words.comma index }
 {
-    if index == 0 {
-        JsonPiece::Text(b"")
-    } else {
-        JsonPiece::Text(b",")
-    }
+    if index == 0 { Text(b"") } else { Text(b",") }
 }
 
 /// Writes the index of a record, and its attributes.
@@ -35,11 +32,11 @@ fn put_record_start<W: Write>(
         out,
         &[
             comma(index),
-            JsonPiece::Text(b"{\"index\":"),
-            JsonPiece::Number(u32::from(index)),
-            JsonPiece::Text(b",\"attributes\":"),
-            JsonPiece::Number(u32::from(attributes)),
-            JsonPiece::Text(b","),
+            Text(b"{\"index\":"),
+            Number(u32::from(index)),
+            Text(b",\"attributes\":"),
+            Number(u32::from(attributes)),
+            Text(b","),
         ],
     )
 }
@@ -56,13 +53,13 @@ fn put_resource_start<W: Write>(
         out,
         &[
             comma(index),
-            JsonPiece::Text(b"{\"index\":"),
-            JsonPiece::Number(u32::from(index)),
-            JsonPiece::Text(b",\"type\":"),
-            JsonPiece::FourBytes(kind),
-            JsonPiece::Text(b",\"type_hex\":"),
-            JsonPiece::FourHex(kind),
-            JsonPiece::Text(b","),
+            Text(b"{\"index\":"),
+            Number(u32::from(index)),
+            Text(b",\"type\":"),
+            FourBytes(kind),
+            Text(b",\"type_hex\":"),
+            FourHex(kind),
+            Text(b","),
         ],
     )
 }
@@ -79,21 +76,21 @@ fn put_data<W: Write>(
         None => put_json(
             out,
             &[
-                JsonPiece::Text(b"\"id\":"),
-                JsonPiece::Number(id),
-                JsonPiece::Text(b",\"offset\":null,\"length\":null}"),
+                Text(b"\"id\":"),
+                Number(id),
+                Text(b",\"offset\":null,\"length\":null}"),
             ],
         ),
         Some(block) => put_json(
             out,
             &[
-                JsonPiece::Text(b"\"id\":"),
-                JsonPiece::Number(id),
-                JsonPiece::Text(b",\"offset\":"),
-                JsonPiece::Number(block.offset),
-                JsonPiece::Text(b",\"length\":"),
-                JsonPiece::Number(block.size),
-                JsonPiece::Text(b"}"),
+                Text(b"\"id\":"),
+                Number(id),
+                Text(b",\"offset\":"),
+                Number(block.offset),
+                Text(b",\"length\":"),
+                Number(block.size),
+                Text(b"}"),
             ],
         ),
     }
@@ -103,14 +100,7 @@ fn put_data<W: Write>(
 fn put_category_name<W: Write>(out: &mut Counted<W>, name: &[u8]) -> Result<(), WriteFault>
     ensures { Writes W.contents out.old out.new (category_member (Some name.now)) (is_ok result) }
 {
-    put_json(
-        out,
-        &[
-            JsonPiece::Text(b"\"category\":"),
-            JsonPiece::String(name),
-            JsonPiece::Text(b","),
-        ],
-    )
+    put_json(out, &[Text(b"\"category\":"), String(name), Text(b",")])
 }
 
 /// Writes the name of the category of a record, if it has one.
