@@ -12,7 +12,8 @@ use canonical_file::{Changes, put_changes};
 use file_listing::{Notation, put_fault};
 use heap_model::FileFault;
 use itoa::Buffer;
-use palm_text::{Counted, Piece, WriteFault, put_pieces};
+use palm_text::Piece::Text;
+use palm_text::{Counted, WriteFault, put_pieces};
 use pdb_format::FileBytes;
 use program_io::{Status, flushed};
 use std::io::Write;
@@ -72,9 +73,9 @@ pub(crate) fn put_count<V: Write>(out: &mut Counted<V>, count: usize) -> Result<
     put_pieces(
         out,
         &[
-            Piece::Text(b"ok "),
-            Piece::Text(digits.format(count).as_bytes()),
-            Piece::Text(b"\n"),
+            Text(b"ok "),
+            Text(digits.format(count).as_bytes()),
+            Text(b"\n"),
         ],
     )
 }

@@ -3,9 +3,7 @@
 ghost use Rattle.std.specs.Prelude.{◌≢◌, ◌≤◌, length};
 
 use crate::canonical_command::cmd_canonical_from;
-use crate::comments::{
-    DROPPED, comment_on_file, comment_on_salvage, name_dropped, name_dropped_but_filler,
-};
+use crate::comments::{DROPPED, comment_on_file, comment_on_salvage, name_dropped};
 use crate::keep_command::cmd_keep_from;
 use crate::put_command::{NewBlock, cmd_put_from};
 use crate::salvage_command::cmd_salvage_from;
@@ -62,6 +60,18 @@ pub fn canonical_kept<R: Files + Input + Print + Eprint + AllocGlobal>(
     rewrite_as(rt, path, NewFile::Kept(keep), out_path)
 }
 
+/// Runs `salvage`, with these IDs. The paths are as for `canonical`.
+pub fn salvage<R: Files + Input + Print + Eprint + AllocGlobal>(
+    rt: &R,
+    path: &str,
+    ids: SalvagedIds,
+    out_path: &str,
+) -> Status
+    ensures { result ≢ Status.BadWords }
+{
+    rewrite_as(rt, path, NewFile::Salvaged(ids), out_path)
+}
+
 /// Writes this new file for a file, and reports what the new file lacks.
 fn rewrite_as<R: Files + Input + Print + Eprint + AllocGlobal>(
     rt: &R,
@@ -76,32 +86,27 @@ fn rewrite_as<R: Files + Input + Print + Eprint + AllocGlobal>(
         Err(status) => return status,
     };
     let status = write_to(rt, file.as_slice(), new, out_path);
-    comment_on_file(rt, path, status, &file.as_slice());
-    match new {
-        NewFile::Kept(keep) if keep.filler => {
-            name_dropped_but_filler(rt, path, status, &file.as_slice(), DROPPED)
-        }
-        _ => name_dropped(rt, path, status, &file.as_slice(), DROPPED),
-    }
+    comment_on_rewrite(rt, path, status, file.as_slice(), new);
     status
 }
 
-/// Runs `salvage`, with these IDs. The paths are as for `canonical`.
-pub fn salvage<R: Files + Input + Print + Eprint + AllocGlobal>(
+/// Reports the same as `comment_on_file`, and what the new file lacks. For a salvaged file it
+/// reports what a transfer may have made of the damaged one.
+fn comment_on_rewrite<R: Eprint + AllocGlobal>(
     rt: &R,
     path: &str,
-    ids: SalvagedIds,
-    out_path: &str,
-) -> Status
-    ensures { result ≢ Status.BadWords }
-{
-    let file = match read_file_or_input_within(rt, path, MOST_BYTES) {
-        Ok(file) => file,
-        Err(status) => return status,
-    };
-    let status = write_to(rt, file.as_slice(), NewFile::Salvaged(ids), out_path);
-    comment_on_salvage(rt, path, status, &file.as_slice());
-    status
+    status: Status,
+    file: &[u8],
+    new: NewFile<'_>,
+) {
+    comment_on_file(rt, path, status, &file);
+    match new {
+        NewFile::Salvaged(_) => comment_on_salvage(rt, path, status, &file),
+        NewFile::Kept(keep) if keep.filler => {
+            name_dropped(rt, path, status, &file, DROPPED.but_filler())
+        }
+        _ => name_dropped(rt, path, status, &file, DROPPED),
+    }
 }
 
 /// Writes a new file for a file to a path. A heap image isn't replaced. The path `-` means standard
