@@ -125,7 +125,6 @@ listed=$(
 ./file_parts/src/exact_listed.rt:ranks_of zeros(memory, listed.rank_count()) {
 ./file_parts/src/exact_packing.rt:place_blocks filled(memory, 0u32, exact.listed.rank_count())
 ./file_parts/src/exact_writing.rt:place_blocks filled(memory, 0u32, source.rank_count())
-./heap_check/src/chained.rt:check_chained no_marks()
 ./heap_map/src/cells.rt:cells_of Cells::new(memory, size, ((area + (size - 1)) / size) as usize)?
 ./heap_map/src/cells.rt:marks_of room_for(memory, firsts.len())?
 ./heap_map/src/cells.rt:new filled(memory, 0u32, count)?

@@ -1,30 +1,26 @@
 -- The blocks of a file, one after the other.
-use Rattle.std.proofs.Common.{◌≡◌, ℕ, ◌+◌, ◌<◌, Option, None, List, [], ◌∷◌, ◌++◌, length, get_or, drop, map, refl, sym, ap, ◌∙◌, arith, add-one, drop-cons, length-append}
+use Rattle.std.proofs.Common.{◌≡◌, ℕ, ◌+◌, ◌<◌, Option, None, List, [], ◌∷◌, ◌++◌, length, get_or, drop, map, refl, sym, ap, subst, ◌∙◌, arith, add-one, drop-cons, length-append}
 use Rattle.std.specs.Prelude.{All}
 use Rattle.std.specs.List.{sum_by}
 use Rattle.std.proofs.lemmas.List.Elements.{All-head, All-tail}
 use Rattle.std.proofs.lemmas.List.Sums.{sum_by-cons}
 use Rattle.heap_model.specs.Files.{block_bytes, blocks_in}
-use Rattle.pdb_format.specs.Blocks.{bytes_at, IsBlockWithin, length_within}
+use Rattle.pdb_format.specs.Blocks.{bytes_at, places_in, IsBlockWithin, length_within}
 use Rattle.pdb_format.specs.declared.blocks.Block.{Block}
-use Rattle.pdb_format.proofs.FileBlocks.{block_long, block_count, length-blocks, block_of}
+use Rattle.pdb_format.proofs.FileBlocks.{block_long}
 use Rattle.pdb_format.proofs.WrittenOffsets.{all_bytes}
 use Rattle.pdb_format.specs.Opened.{HasPlaces}
+use Rattle.canonical_file.specs.Canonical.{blocks_at, HasBlocksOf}
 
-blocks_from : (blocks : List (Option (List ℕ))) (i : ℕ) → i < length blocks → all_bytes (drop i blocks) ≡ block_bytes (get_or blocks i None) ++ all_bytes (drop (i + 1) blocks)
-blocks_from blocks i inside = rw (add-one, drop-cons blocks i None) refl
-
-pub same_count : (file : List ℕ) (blocks : List (Option Block)) → HasPlaces file blocks → length blocks ≡ length (blocks_in file)
-same_count file blocks has = length-blocks file blocks has.are ∙ sym (block_count file)
+blocks_from : (source : List ℕ) (blocks : List (Option Block)) (i : ℕ) → i < length blocks → blocks_at source (drop i blocks) ≡ block_bytes (bytes_at source (get_or blocks i None)) ++ blocks_at source (drop (i + 1) blocks)
+blocks_from source blocks i inside = rw (add-one, drop-cons blocks i None) refl
 
 -- the block of an index, and those after it
-pub block_here : (file : List ℕ) (blocks : List (Option Block)) (i : ℕ) (bytes : List ℕ) → HasPlaces file blocks → i < length blocks → bytes ≡ block_bytes (bytes_at file (get_or blocks i None))
-    → all_bytes (drop i (blocks_in file)) ≡ bytes ++ all_bytes (drop (i + 1) (blocks_in file))
-block_here file blocks i bytes has inside is =
-    let count = same_count file blocks has in
-    blocks_from (blocks_in file) i (omega arith)
-    ∙ ap (λ (block : Option (List ℕ)). block_bytes block ++ all_bytes (drop (i + 1) (blocks_in file))) (sym (block_of file blocks i has.are inside))
-    ∙ ap (λ (xs : List ℕ). xs ++ all_bytes (drop (i + 1) (blocks_in file))) (sym is)
+pub block_here : (source : List ℕ) (blocks : List (Option Block)) (i : ℕ) (bytes : List ℕ) → i < length blocks → bytes ≡ block_bytes (bytes_at source (get_or blocks i None))
+    → blocks_at source (drop i blocks) ≡ bytes ++ blocks_at source (drop (i + 1) blocks)
+block_here source blocks i bytes inside is =
+    blocks_from source blocks i inside
+    ∙ ap (λ (xs : List ℕ). xs ++ blocks_at source (drop (i + 1) blocks)) (sym is)
 
 all_long : (file : List ℕ) (blocks : List (Option Block)) → All (IsBlockWithin (length file)) blocks → length (all_bytes (map (bytes_at file) blocks)) ≡ sum_by length_within blocks
 all_long file [] within = refl
@@ -35,6 +31,19 @@ all_long file (block ∷ blocks) within =
     let sum = sum_by-cons length_within block blocks in
     omega arith
 
--- and all of them
+-- a source with the blocks of a file has all of them
+pub blocks_are : (file source : List ℕ) (blocks : List (Option Block)) → HasPlaces file blocks → HasBlocksOf file source → blocks_at source blocks ≡ all_bytes (blocks_in file)
+blocks_are file source blocks has same =
+    ap (blocks_at source) has.places ∙ ap (λ (bs : List (Option (List ℕ))). all_bytes bs) same.are
+
+-- a file has its own blocks
+pub own_blocks : (file source : List ℕ) → source ≡ file → HasPlaces file (places_in file) → HasBlocksOf file source
+own_blocks file source is has = subst (HasBlocksOf file) (sym is) (record { size = refl; are = has.are })
+
+-- the blocks lie within a source of the size of the file
+pub within_source : (file source : List ℕ) (blocks : List (Option Block)) → HasPlaces file blocks → HasBlocksOf file source → All (IsBlockWithin (length source)) blocks
+within_source file source blocks has same = subst (λ (n : ℕ). All (IsBlockWithin n) blocks) (sym same.size) has.within
+
+-- how long they are together
 pub blocks_long : (file : List ℕ) (blocks : List (Option Block)) → HasPlaces file blocks → length (all_bytes (blocks_in file)) ≡ sum_by length_within blocks
 blocks_long file blocks has = ap (λ (bs : List (Option (List ℕ))). length (all_bytes bs)) (sym has.are) ∙ all_long file blocks has.within

@@ -124,6 +124,11 @@ canonical_by file bytes given good gets written = record {
   written = written;
 }
 
+pub canonical_if : {T E : Type 0} (file : List ℕ) (given : GivenIds) (text : T → List ℕ) (result : Result T E) → HasNoFault file → GetsIds file given
+    → IfOk result (λ one. text one ≡ file_of (database_read file given.ids.items given.seed)) → IfOk result (λ one. IsCanonical file (text one))
+canonical_if file given text (Ok one) good gets is = canonical_by file (text one) given good gets is
+canonical_if file given text (Err fault) good gets is = is
+
 pub wrote_canonical : {W : Type 0} (file : List ℕ) (given : GivenIds) (contents : W → Option (List ℕ)) (old new : Writing W) (result : Result ℕ CanonicalFault) → HasNoFault file → GetsIds file given
     → IfOk result (WroteOne (λ bytes. bytes ≡ file_of (database_read file given.ids.items given.seed)) contents old new) → IfOk result (WroteCanonical file contents old new)
 wrote_canonical file given contents old new (Err fault) good gets wrote = wrote

@@ -1,11 +1,12 @@
 -- The canonical form of a file.
-use Rattle.std.specs.Prelude.{◌≡◌, ◌≤◌, ◌++◌, ◌-◌, ℕ, Bool, true, List, length, slice_range, Option}
+use Rattle.std.specs.Prelude.{◌≡◌, ◌≤◌, ◌++◌, ◌-◌, ℕ, Bool, true, List, length, map, slice_range, Option}
+use Rattle.std.specs.List.{flat_map}
 use Rattle.palm_text.specs.Counted.{Writing, Writes}
 use Rattle.heap_model.specs.UniqueIds.{greatest_id, seed_in}
 use Rattle.heap_model.specs.Database.{Database, Entry, entry_with, header_in, database_in}
 use Rattle.heap_model.specs.Store.{unique_ids}
-use Rattle.heap_model.specs.Files.{HasNoFault, HaveIds, IsFirstFault, Reads, idle_entry, block_bytes, block_offset, file_of}
-use Rattle.pdb_format.specs.Blocks.{bytes_at}
+use Rattle.heap_model.specs.Files.{HasNoFault, HaveIds, IsFirstFault, Reads, blocks_in, idle_entry, block_bytes, block_offset, file_of}
+use Rattle.pdb_format.specs.Blocks.{bytes_at, places_in}
 use Rattle.pdb_format.specs.Opened.{most_file_bytes}
 use Rattle.pdb_format.specs.ReadFiles.{HasIdsFor}
 use Rattle.pdb_format.specs.declared.blocks.Block.{Block}
@@ -59,6 +60,15 @@ pub record GetsIds (file : List ℕ) (given : GivenIds) : Type 0 where
 -- an entry as it is written to a file: not busy, with its data at an offset
 abbrev pub placed_entry : ℕ → Entry (Option (List ℕ)) → Entry ℕ
 placed_entry at entry = entry_with (block_offset at) (idle_entry entry)
+
+-- the bytes at the places of blocks, one block after the other
+abbrev pub blocks_at : List ℕ → List (Option Block) → List ℕ
+blocks_at source blocks = flat_map block_bytes (map (bytes_at source) blocks)
+
+-- a source of the same size as a file, with the same bytes in each block of the file
+pub record HasBlocksOf (file source : List ℕ) : Type 0 where
+  pub size : length source ≡ length file
+  pub are : map (bytes_at source) (places_in file) ≡ blocks_in file
 
 -- the bytes of a run of neighbouring blocks
 abbrev pub run_bytes : List ℕ → Block → List ℕ

@@ -1,15 +1,14 @@
 //! The blocks of a file, as they are in its canonical form.
 
 ghost use Rattle.std.specs.Prelude.{◌≡◌, ◌≤◌, ◌<◌, ◌+◌, ◌++◌, ◌^◌, ℕ, List, length, is_ok, vec_len, vec_capacity, All, Some, IfOk, OnErr, false};
-ghost use Rattle.std.specs.List.{flat_map, sum_by};
+ghost use Rattle.std.specs.List.{sum_by};
 ghost use Rattle.heap_model.specs.Files as files;
-ghost use Rattle.heap_model.specs.Files.{blocks_in};
 ghost use Rattle.pdb_format.specs.Blocks.{bytes_at, IsBlockWithin, length_within};
 ghost use Rattle.palm_text.specs.Counted.{Writes};
-ghost use Rattle.canonical_file.specs.Canonical.{Continues, run_bytes};
+ghost use Rattle.canonical_file.specs.Canonical.{Continues, blocks_at, run_bytes};
 
 use palm_text::{Counted, WriteFault, put_all};
-use pdb_format::{Block, PdbFile};
+use pdb_format::Block;
 use std::io::Write;
 
 /// Returns the size of a block in bytes, and 0 if there is none.
@@ -46,13 +45,21 @@ pub(crate) fn block_offset(at: u32, block: Option<Block>) -> u32
     }
 }
 
+/// Returns the bytes at the place of a block.
+fn bytes_of(source: &[u8], block: Block) -> &[u8]
+    requires { IsBlockWithin (length source.now) (Some block) }
+    ensures { result.now ≡ run_bytes source.now block }
+{
+    &source[block.start..block.end]
+}
+
 /// Returns the bytes of a block, and none if there is no block.
-fn block_bytes<'a>(file: &PdbFile<'a>, block: Option<Block>) -> &'a [u8]
-    requires { IsBlockWithin (length file.now) block }
-    ensures { result.now ≡ files.block_bytes (bytes_at file.now block) }
+fn block_bytes(source: &[u8], block: Option<Block>) -> &[u8]
+    requires { IsBlockWithin (length source.now) block }
+    ensures { result.now ≡ files.block_bytes (bytes_at source.now block) }
 {
     match block {
-        Some(block) => file.bytes_of(block),
+        Some(block) => bytes_of(source, block),
         None => &[],
     }
 }
@@ -69,32 +76,31 @@ pub(crate) fn append(bytes: &mut Vec<u8>, more: &[u8])
     };
 }
 
-/// Appends the blocks to a vector that has room for them.
-pub(crate) fn append_blocks(file: &PdbFile<'_>, bytes: &mut Vec<u8>)
-    requires { vec_len bytes.old + length (flat_map files.block_bytes (blocks_in file.now))
+/// Appends the blocks to a vector that has room for them. The source has their bytes at their places.
+pub(crate) fn append_blocks(source: &[u8], blocks: &[Option<Block>], bytes: &mut Vec<u8>)
+    requires within { All (IsBlockWithin (length source.now)) blocks.now }
+    requires room { vec_len bytes.old + length (blocks_at source.now blocks.now)
         ≤ vec_capacity bytes.old }
-    ensures { bytes.new.items ≡ bytes.old.items
-        ++ flat_map files.block_bytes (blocks_in file.now) }
+    ensures { bytes.new.items ≡ bytes.old.items ++ blocks_at source.now blocks.now }
 {
-    let blocks = file.blocks();
     for index in 0..blocks.len() {
-        append(bytes, block_bytes(file, blocks[index]));
+        append(bytes, block_bytes(source, blocks[index]));
     }
 }
 
-/// Adds a block to a run: neighbouring blocks of the file, which are not written yet. If the block
-/// doesn't begin where the run ends, writes the run, and returns a run of this block alone.
+/// Adds a block to a run: neighbouring blocks, which are not written yet. If the block doesn't begin
+/// where the run ends, writes the run, and returns a run of this block alone.
 fn put_unless_next<W: Write>(
-    file: &PdbFile<'_>,
+    source: &[u8],
     run: Block,
     block: Option<Block>,
     out: &mut Counted<W>,
 ) -> Result<Block, WriteFault>
-    requires run { IsBlockWithin (length file.now) (Some run) }
-    requires block { IsBlockWithin (length file.now) block }
-    ensures next { IfOk result (Continues file.now W.contents out.old out.new run block) }
-    ensures within { IfOk result (λ next. IsBlockWithin (length file.now) (Some next)) }
-    ensures stops { OnErr result (Writes W.contents out.old out.new (run_bytes file.now run) false) }
+    requires run { IsBlockWithin (length source.now) (Some run) }
+    requires block { IsBlockWithin (length source.now) block }
+    ensures next { IfOk result (Continues source.now W.contents out.old out.new run block) }
+    ensures within { IfOk result (λ next. IsBlockWithin (length source.now) (Some next)) }
+    ensures stops { OnErr result (Writes W.contents out.old out.new (run_bytes source.now run) false) }
 {
     let Some(block) = block else {
         return Ok(run);
@@ -105,25 +111,26 @@ fn put_unless_next<W: Write>(
             end: block.end,
         });
     }
-    put_all(out, file.bytes_of(run))?;
+    put_all(out, bytes_of(source, run))?;
     Ok(block)
 }
 
-/// Writes the blocks, one after the other. Neighbouring blocks of the file are one write.
+/// Writes the blocks, one after the other. The source has their bytes at their places. Neighbouring
+/// blocks are one write.
 pub(crate) fn put_blocks<W: Write>(
-    file: &PdbFile<'_>,
+    source: &[u8],
+    blocks: &[Option<Block>],
     out: &mut Counted<W>,
 ) -> Result<(), WriteFault>
-    ensures { Writes W.contents out.old out.new
-        (flat_map files.block_bytes (blocks_in file.now)) (is_ok result) }
+    requires { All (IsBlockWithin (length source.now)) blocks.now }
+    ensures { Writes W.contents out.old out.new (blocks_at source.now blocks.now) (is_ok result) }
 {
-    let blocks = file.blocks();
     let mut run = Block { start: 0, end: 0 };
     for index in 0..blocks.len() {
-        match put_unless_next(file, run, blocks[index], out) {
+        match put_unless_next(source, run, blocks[index], out) {
             Ok(next) => run = next,
             Err(fault) => return Err(fault),
         }
     }
-    put_all(out, file.bytes_of(run))
+    put_all(out, bytes_of(source, run))
 }

@@ -14,11 +14,11 @@ ghost use Rattle.canonical_file.specs.Written.{CanHaveIds, ids_of};
 use crate::blocks::{append, block_length, block_offset};
 use crate::record_ids::{RecordIds, entry_with_id};
 use db_format::{DbEntry, INFO_BLOCKS};
-use pdb_format::{Block, PdbFile};
+use pdb_format::{Block, FileBytes, PdbFile};
 
 /// Returns the entry at an index, with its data at an offset. A record gets its ID from `ids`.
-fn entry_at(
-    file: &PdbFile<'_>,
+fn entry_at<B: FileBytes>(
+    file: &PdbFile<'_, B>,
     ids: RecordIds<'_>,
     index: u16,
     at: u32,
@@ -36,8 +36,8 @@ fn entry_at(
 }
 
 /// Appends the entries to a vector that has room for them. Their data begins at the offset `first`.
-pub(crate) fn append_entries(
-    file: &PdbFile<'_>,
+pub(crate) fn append_entries<B: FileBytes>(
+    file: &PdbFile<'_, B>,
     ids: RecordIds<'_>,
     first: u32,
     bytes: &mut Vec<u8>,

@@ -11,10 +11,10 @@ ghost use Rattle.canonical_file.specs.Canonical.{most_bytes};
 
 use crate::blocks::{block_length, block_offset};
 use db_format::DATABASE_HEADER_SIZE;
-use pdb_format::PdbFile;
+use pdb_format::{FileBytes, PdbFile};
 
 /// Returns the offset of the data of the entries: after the info blocks.
-pub(crate) fn data_start(file: &PdbFile<'_>) -> u32
+pub(crate) fn data_start<B: FileBytes>(file: &PdbFile<'_, B>) -> u32
     requires { length file.now ≤ most_bytes }
     ensures is { (ids : List ℕ) (seed : ℕ) → result ≡ data_at (database_read file.now ids seed) }
     ensures fits { result + sum_by length_within (drop 2 (places_in file.now)) < 2 ^ 32 }
@@ -26,7 +26,10 @@ pub(crate) fn data_start(file: &PdbFile<'_>) -> u32
 }
 
 /// Returns the bytes of the header, with this seed.
-pub(crate) fn header_bytes(file: &PdbFile<'_>, seed: u32) -> [u8; DATABASE_HEADER_SIZE]
+pub(crate) fn header_bytes<B: FileBytes>(
+    file: &PdbFile<'_, B>,
+    seed: u32,
+) -> [u8; DATABASE_HEADER_SIZE]
     requires size { length file.now ≤ most_bytes }
     requires seed { seed ≤ greatest_id }
     ensures { (ids : List ℕ) → result ≡ header_text (database_read file.now ids seed) }

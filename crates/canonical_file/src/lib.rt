@@ -80,7 +80,9 @@ mod salvage;
 mod salvage_lines;
 mod sound;
 
-pub use canonical::{CanonicalFault, MOST_BYTES, canonical_bytes, put_canonical_by};
+pub use canonical::{
+    CanonicalFault, MOST_BYTES, canonical_bytes, canonical_head, put_canonical_by,
+};
 pub use change_lines::put_changes;
 pub use changes::{Changes, changes_by, find_changes};
 pub use dropped::{dropped_filler, dropped_name};

@@ -10,7 +10,7 @@ ghost use Rattle.canonical_file.specs.Written.{CanHaveIds, ids_of};
 
 use db_format::DbEntry;
 use file_ids::GivenIds;
-use pdb_format::{PdbFile, idle_entry_at};
+use pdb_format::{FileBytes, PdbFile, idle_entry_at};
 
 /// The IDs of the records of a file when it is written again.
 #[derive(Clone, Copy)]
@@ -22,7 +22,7 @@ pub enum RecordIds<'a> {
 }
 
 /// Returns the seed of the unique IDs: the low 24 bits of its field.
-pub fn seed_for(file: &PdbFile<'_>, ids: RecordIds<'_>) -> u32
+pub fn seed_for<B: FileBytes>(file: &PdbFile<'_, B>, ids: RecordIds<'_>) -> u32
     requires { CanHaveIds file.now ids }
     ensures is { result ≡ words.seed_of file.now ids.entry }
     ensures most { result ≤ greatest_id }
@@ -35,7 +35,12 @@ pub fn seed_for(file: &PdbFile<'_>, ids: RecordIds<'_>) -> u32
 
 /// Returns the entry at an index as it is written: it isn't busy, a record has its ID, and the data
 /// is at the offset `at`.
-pub fn entry_with_id(file: &PdbFile<'_>, ids: RecordIds<'_>, index: u16, at: u32) -> DbEntry
+pub fn entry_with_id<B: FileBytes>(
+    file: &PdbFile<'_, B>,
+    ids: RecordIds<'_>,
+    index: u16,
+    at: u32,
+) -> DbEntry
     requires inside { index < entry_count_in file.now }
     requires ids { CanHaveIds file.now ids }
     ensures is { entry_of result

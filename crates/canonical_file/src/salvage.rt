@@ -85,7 +85,7 @@ fn put_mended<A: Allowance, W: Write>(
     };
     match rule {
         SalvagedIds::Distinct => put_distinct(memory, &file, out),
-        SalvagedIds::Exact => put_written(memory, &file, RecordIds::Own, out),
+        SalvagedIds::Exact => put_written(memory, &file, file.bytes(), RecordIds::Own, out),
     }
 }
 

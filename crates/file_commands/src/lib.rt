@@ -72,5 +72,5 @@ pub use parts::{cmd_pack_from, list_parts, say_count, unpack_file};
 pub use put_command::{NewBlock, cmd_put_from};
 pub use reports::{Asked, Report, cmd_report_from, cmd_reports_from};
 pub use salvage_command::cmd_salvage_from;
-pub use starts::{FileRead, MOST_START, READ_FIRST, ReadStart, ReadsAt, read_start};
+pub use starts::{FileRead, READ_FIRST, ReadStart, ReadsAt, read_start};
 pub use wanted::find_block;

@@ -7,7 +7,6 @@
 //! | `file_start` | reads the first bytes of a file and of its AppInfo |
 //! | `file_read` | a file that was read: all of its bytes, or the first ones |
 //! | `input_files` | reads the files that a command lists |
-//! | `unread` | bytes of a file that were not read |
 //!
 //! No contract relates a file of the system to its bytes. So the clauses on bytes hold of a source
 //! whose bytes contracts know, as `ReadsAt` has them. For a file of the system, `read_listed` states
@@ -18,9 +17,8 @@ mod file_start;
 mod input_files;
 mod parts;
 mod reads_at;
-mod unread;
 
 pub use file_read::FileRead;
-pub use file_start::{MOST_START, READ_FIRST, ReadStart, read_start};
+pub use file_start::{READ_FIRST, ReadStart, read_start};
 pub(crate) use input_files::read_listed;
 pub use reads_at::ReadsAt;

@@ -10,7 +10,7 @@ most_start = 655430
 
 -- the first bytes of a file of bytes: all of them, or at least as many as the longest header with
 -- its entries and the two bytes after them
-pub record IsStart (file start : List ℕ) : Type 0 where
+pub record IsFileStart (file start : List ℕ) : Type 0 where
   pub rest : List ℕ
   pub is : file ≡ start ++ rest
   pub long : (rest ≡ []) ⊎ (most_start ≤ length start)

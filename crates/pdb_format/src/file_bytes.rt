@@ -3,14 +3,17 @@
 ghost use Rattle.std.specs.Prelude.{◌≡◌, ◌<◌, ◌≤◌, ◌^◌, ◌⊎◌, ◌++◌, ℕ, List, [], length, take, drop};
 ghost use Rattle.heap_model.specs.Bytes.{AreBytes};
 ghost use Rattle.heap_model.specs.DatabaseFields.{header_size};
-ghost use Rattle.pdb_format.specs.FileStarts.{IsStart, app_start, most_app, most_start};
+ghost use Rattle.pdb_format.specs.FileStarts.{IsFileStart, app_start, most_app, most_start};
 
 use crate::unread::{Unread, name_unread};
 use db_format::app_info;
 use std::marker::Model;
 
+/// The most bytes that a header, its entries and the two bytes after them have.
+pub const MOST_START: usize = 655_430;
+
 /// The most bytes of AppInfo that a listing looks at.
-pub const APP_START: usize = 276;
+pub const MOST_APP: usize = 276;
 
 /// The bytes of a file: all of them, or what a listing looks at.
 pub trait FileBytes: Drop {
@@ -25,9 +28,9 @@ pub trait FileBytes: Drop {
     /// Returns the first bytes of the file: all of them, or at least the header, the entries and two
     /// bytes after these.
     fn start(&self) -> &[u8]
-        ensures { IsStart (bytes self.now) result.now };
+        ensures { IsFileStart (bytes self.now) result.now };
 
-    /// Returns the first bytes of AppInfo, at most `APP_START`.
+    /// Returns the first bytes of AppInfo, at most `MOST_APP`.
     fn app(&self) -> &[u8]
         requires { header_size ≤ length (bytes self.now) }
         ensures { result.now ≡ app_start (bytes self.now) };
@@ -48,7 +51,7 @@ impl FileBytes for &[u8] {
 
     fn app(&self) -> &[u8] {
         let all = *self;
-        part_of(all, app_info(all) as usize)
+        app_of(all)
     }
 }
 
@@ -140,14 +143,22 @@ fn know_numbers(bytes: &[u8])
     let _bytes = bytes;
 }
 
-/// Returns at most `APP_START` bytes from an offset on.
+/// Returns the first bytes of the AppInfo of a file, at most `MOST_APP`.
+pub fn app_of(all: &[u8]) -> &[u8]
+    requires { header_size ≤ length all.now }
+    ensures { result.now ≡ app_start all.now }
+{
+    part_of(all, app_info(all) as usize)
+}
+
+/// Returns at most `MOST_APP` bytes from an offset on.
 #[tactic(auto, using(crate::proofs::StartLaws::no_part))]
-fn part_of(all: &[u8], at: usize) -> &[u8]
+pub fn part_of(all: &[u8], at: usize) -> &[u8]
     ensures { result.now ≡ take most_app (drop at all.now) }
 {
     if all.len() <= at {
         return &[];
     }
     let rest = &all[at..];
-    &rest[..rest.len().min(APP_START)]
+    &rest[..rest.len().min(MOST_APP)]
 }

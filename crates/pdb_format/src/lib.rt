@@ -27,7 +27,7 @@ mod written;
 
 pub use blocks::Block;
 pub use faults::{check_bytes, check_file};
-pub use file_bytes::{APP_START, FileBytes, FileStart};
+pub use file_bytes::{FileBytes, FileStart, MOST_APP, MOST_START, app_of, part_of};
 pub use filler::{FILLER, filler_size, first_place_after, has_filler};
 pub use heads::{entries_end, has_resources, name_in};
 pub use laws::{
@@ -35,4 +35,5 @@ pub use laws::{
     written_files_are_read, written_files_have_their_size,
 };
 pub use pdb_file::{MOST_FILE_BYTES, OpenFault, PdbFile};
+pub use unread::{Unread, name_unread};
 pub use written::{idle_attributes, idle_entry_at};

@@ -153,7 +153,7 @@ impl<'a, B: FileBytes> PdbFile<'a, B> {
     /// # Errors
     ///
     /// - `AllocError`: if `memory` refused a grant, or an allocation failed.
-    fn of_bytes<A: Allowance>(memory: &A, bytes: B) -> Result<PdbFile<'a, B>, AllocError>
+    pub fn of_bytes<A: Allowance>(memory: &A, bytes: B) -> Result<PdbFile<'a, B>, AllocError>
         requires { HasNoFault (B.bytes bytes) }
         ensures opened { IfOk result (λ file. file ≡ B.bytes bytes) }
         ensures short { OnErr result (A.is_short memory.now) }
@@ -348,7 +348,7 @@ impl<'a, B: FileBytes> PdbFile<'a, B> {
         has_filler(&self.bytes)
     }
 
-    /// Returns the first bytes of the AppInfo block, at most `APP_START`, if the file has the block.
+    /// Returns the first bytes of the AppInfo block, at most `MOST_APP`, if the file has the block.
     pub fn app(&self) -> Option<&[u8]>
         ensures { option_map (λ app. app.now) result
             ≡ option_map (take most_app) (slice_index_or (blocks_in self.now) 0 None) }

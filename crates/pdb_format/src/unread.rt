@@ -6,8 +6,8 @@ use std::marker::Model;
 
 /// Bytes of a file that were not read. Only contracts see them, so it takes no space.
 #[derive(Drop)]
-pub(crate) struct Unread {
-    pub(crate) ghost bytes: { List ℕ },
+pub struct Unread {
+    pub ghost bytes: { List ℕ },
 }
 
 impl Model for Unread {
@@ -17,7 +17,7 @@ impl Model for Unread {
 }
 
 /// Names bytes for contracts.
-pub(crate) fn name_unread() -> Unread
+pub fn name_unread() -> Unread
     ghost bytes: { List ℕ }
     ensures { result.bytes ≡ bytes }
 {

@@ -4,11 +4,9 @@ ghost use Rattle.std.specs.Prelude.{None};
 
 use crate::samples::{MOST_SAMPLE, NAMED_FILE};
 use command_files::SizedFault;
-use file_commands::{
-    MOST_START, READ_FIRST, ReadStart, ReadsAt, Report, cmd_report_from, read_start,
-};
+use file_commands::{READ_FIRST, ReadStart, ReadsAt, Report, cmd_report_from, read_start};
 use palm_text::Counted;
-use pdb_format::FileBytes;
+use pdb_format::{FileBytes, MOST_START};
 use program_io::{InputFault, Status};
 use std::alloc::Global;
 use std::io;

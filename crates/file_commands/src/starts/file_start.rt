@@ -6,23 +6,18 @@ ghost use Rattle.heap_model.specs.DatabaseFields.{app_info_at};
 ghost use Rattle.pdb_format.specs.FileStarts.{most_app, most_start};
 ghost use Rattle.file_commands.specs.Starts.{BeginsWith, IsPart, IsSplit};
 
-use crate::starts::file_read::app_of;
 use crate::starts::parts::{check_size, read_part};
 use crate::starts::reads_at::ReadsAt;
-use crate::starts::unread::{Unread, name_unread};
 use allowance::{Allowance, copied};
 use command_files::SizedFault;
 use db_format::app_info;
-use pdb_format::{APP_START, FileBytes};
+use pdb_format::{FileBytes, MOST_APP, MOST_START, Unread, app_of, name_unread};
 use program_io::InputFault;
 use std::marker::Model;
 
-/// The most bytes that a header, its entries and the two bytes after them have.
-pub const MOST_START: usize = 655_430;
-
 /// The number of bytes that are read first: those of AppInfo are among them if it begins within
 /// `MOST_START`.
-pub const READ_FIRST: usize = MOST_START + APP_START;
+pub const READ_FIRST: usize = MOST_START + MOST_APP;
 
 /// The first bytes of a file, its size, and the first bytes of its AppInfo. Contracts see the whole
 /// file.
@@ -161,7 +156,7 @@ fn with_app_after<A: Allowance, F: ReadsAt>(
     Ok(ReadStart::of(file, start, app, size))
 }
 
-/// Reads the first bytes of AppInfo, at most `APP_START`, from its offset on.
+/// Reads the first bytes of AppInfo, at most `MOST_APP`, from its offset on.
 fn read_app<A: Allowance, F: ReadsAt>(
     memory: &A,
     file: &mut F,
@@ -181,7 +176,7 @@ fn read_app<A: Allowance, F: ReadsAt>(
         memory,
         file,
         at as u64,
-        size.saturating_sub(at).min(APP_START),
+        size.saturating_sub(at).min(MOST_APP),
     )
 }
 

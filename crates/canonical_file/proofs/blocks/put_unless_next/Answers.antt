@@ -8,8 +8,8 @@ use Rattle.canonical_file.proofs.blocks.put_unless_next.Goals as goal
 
 pub returns-then-block-run-clause-next : goal.returns-then-block-run-clause-next
 returns-then-block-run-clause-next g c =
-    let inside = subst (IsBlockWithin (length c.args.file.now)) c.in-Some.is c.requires.block in
+    let inside = subst (IsBlockWithin (length c.args.source.now)) c.in-Some.is c.requires.block in
     let meets : c.in-Some.block.start ≡ c.args.run.end = search rules in
     let next : Block = record { start = c.args.run.start; end = c.in-Some.block.end } in
-    subst (λ (block : Option Block). Continues c.args.file.now g.W.Write.contents c.args.out.now c.args.out.now c.args.run block next) (sym c.in-Some.is)
-    (longer_run g.W.Write.contents c.args.file.now c.args.out.now c.args.run c.in-Some.block next c.requires.run.0 inside.0 meets refl refl)
+    subst (λ (block : Option Block). Continues c.args.source.now g.W.Write.contents c.args.out.now c.args.out.now c.args.run block next) (sym c.in-Some.is)
+    (longer_run g.W.Write.contents c.args.source.now c.args.out.now c.args.run c.in-Some.block next c.requires.run.0 inside.0 meets refl refl)

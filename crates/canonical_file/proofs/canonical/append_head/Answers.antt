@@ -8,7 +8,7 @@ use Rattle.canonical_file.proofs.Lengths.{header_long, entries_read_long, parts_
 use Rattle.canonical_file.proofs.canonical.append_head.Goals as goal
 
 pub append-requires : goal.append-requires
-append-requires c =
+append-requires g c =
     let file = c.args.file.now in
     let ids = ids_of file c.args.ids in
     let seed = seed_of file c.args.ids in
@@ -19,7 +19,7 @@ append-requires c =
     omega arith
 
 pub append_entries-requires-clause-room : goal.append_entries-requires-clause-room
-append_entries-requires-clause-room c =
+append_entries-requires-clause-room g c =
     let file = c.args.file.now in
     let ids = ids_of file c.args.ids in
     let seed = seed_of file c.args.ids in
@@ -32,7 +32,7 @@ append_entries-requires-clause-room c =
     omega arith
 
 pub append-requires-2 : goal.append-requires-2
-append-requires-2 c =
+append-requires-2 g c =
     let file = c.args.file.now in
     let ids = ids_of file c.args.ids in
     let seed = seed_of file c.args.ids in
@@ -47,7 +47,7 @@ append-requires-2 c =
     omega arith
 
 pub returns-clause-len : goal.returns-clause-len
-returns-clause-len c =
+returns-clause-len g c =
     let file = c.args.file.now in
     let ids = ids_of file c.args.ids in
     let seed = seed_of file c.args.ids in
@@ -66,7 +66,7 @@ joined b0 b1 b2 b3 h e z k none first second third =
     ∙ append_assoc (h ++ e) z k ∙ append_assoc h e (z ++ k)
 
 pub returns-clause-items : goal.returns-clause-items
-returns-clause-items c =
+returns-clause-items g c =
     let file = c.args.file.now in
     let ids = ids_of file c.args.ids in
     let seed = seed_of file c.args.ids in

@@ -1,7 +1,8 @@
-use Rattle.std.proofs.Common.{◌∙◌, arith}
+use Rattle.std.proofs.Common.{ℕ, List, ◌++◌, length, ap, ◌∙◌, arith}
 use Rattle.pdb_format.specs.ReadFiles.{database_read}
 use Rattle.pdb_format.proofs.FileIds.{ids_for}
 use Rattle.pdb_format.proofs.ReadFiles.{reads}
+use Rattle.canonical_file.proofs.BlockTexts.{blocks_are, own_blocks, within_source}
 use Rattle.canonical_file.proofs.Lengths.{file_long}
 use Rattle.canonical_file.proofs.canonical.canonical_bytes.Goals as goal
 
@@ -21,8 +22,12 @@ append_head-requires-clause-room g c =
     let room = c.in_ok-bytes.ensures.room in
     omega arith
 
-pub append_blocks-requires : goal.append_blocks-requires
-append_blocks-requires g c =
+pub append_blocks-requires-clause-within : goal.append_blocks-requires-clause-within
+append_blocks-requires-clause-within g c =
+    within_source c.args.file.now c.bytes.result.now c.blocks-2.result.now c.blocks-2.ensures.places (own_blocks c.args.file.now c.bytes.result.now c.bytes.ensures.bytes c.know_file.ensures.places)
+
+pub append_blocks-requires-clause-room : goal.append_blocks-requires-clause-room
+append_blocks-requires-clause-room g c =
     let ids = c.in_ok-given.given.ids.items in
     let seed = c.in_ok-given.given.seed in
     let size = c.file_size.ensures ids seed in
@@ -30,11 +35,16 @@ append_blocks-requires g c =
     let room = c.in_ok-bytes.ensures.room in
     let head = c.append_head.ensures.len in
     let kept = c.append_head.ensures.capacity in
+    let own = own_blocks c.args.file.now c.bytes.result.now c.bytes.ensures.bytes c.know_file.ensures.places in
+    let same = ap length (blocks_are c.args.file.now c.bytes.result.now c.blocks-2.result.now c.blocks-2.ensures.places own) in
     omega arith
 
 pub returns-clause-canonical : goal.returns-clause-canonical
-returns-clause-canonical g c = record {
-  database = database_read c.args.file.now c.in_ok-given.given.ids.items c.in_ok-given.given.seed;
-  reads = reads c.args.file.now c.in_ok-given.given.ids.items c.in_ok-given.given.seed c.know_file.ensures.good c.in_ok-given.ensures.given;
-  written = c.append_blocks.ensures ∙ c.append_head.ensures.items;
-}
+returns-clause-canonical g c =
+    let own = own_blocks c.args.file.now c.bytes.result.now c.bytes.ensures.bytes c.know_file.ensures.places in
+    let same = blocks_are c.args.file.now c.bytes.result.now c.blocks-2.result.now c.blocks-2.ensures.places own in
+    record {
+      database = database_read c.args.file.now c.in_ok-given.given.ids.items c.in_ok-given.given.seed;
+      reads = reads c.args.file.now c.in_ok-given.given.ids.items c.in_ok-given.given.seed c.know_file.ensures.good c.in_ok-given.ensures.given;
+      written = c.append_blocks.ensures ∙ ap (λ (xs : List ℕ). c.append_head.new.bytes.items ++ xs) same ∙ c.append_head.ensures.items;
+    }

@@ -16,7 +16,7 @@ use Rattle.canonical_file.proofs.EntryTexts.{entry_here}
 use Rattle.canonical_file.proofs.entries.append_entries.Goals as goal
 
 pub loop-index-init : goal.loop-index-init
-loop-index-init c =
+loop-index-init g c =
     let same = ap (λ (blocks : List (Option Block)). sum_by length_within (drop 2 blocks)) c.blocks-blocks.ensures.places.places in
     let fits = c.requires.fits in
     record {
@@ -27,19 +27,19 @@ loop-index-init c =
     }
 
 pub bounds-blocks-index : goal.bounds-blocks-index
-bounds-blocks-index c =
+bounds-blocks-index g c =
     let below : c.loop-index.index < entry_count_in c.args.file.now = omega arith in
     let long = length-blocks c.args.file.now c.blocks-blocks.result.now c.blocks-blocks.ensures.places.are in
     omega arith
 
 pub entry_at-requires-clause-block : goal.entry_at-requires-clause-block
-entry_at-requires-clause-block c =
+entry_at-requires-clause-block g c =
     let below : c.loop-index.index < entry_count_in c.args.file.now = omega arith in
     let long = length-blocks c.args.file.now c.blocks-blocks.result.now c.blocks-blocks.ensures.places.are in
     block_of c.args.file.now c.blocks-blocks.result.now (2 + c.loop-index.index) c.blocks-blocks.ensures.places.are (omega arith)
 
 pub append-requires : goal.append-requires
-append-requires c =
+append-requires g c =
     let file = c.args.file.now in
     let blocks = c.blocks-blocks.result.now in
     let i = c.loop-index.index in
@@ -53,7 +53,7 @@ append-requires c =
     room_left (vec_len c.loop-index.bytes) _ (vec_capacity c.loop-index.bytes) c.as_slice.result.now _ _ parts c.loop-index.invariant.len (omega arith)
 
 pub overflow_add-at : goal.overflow_add-at
-overflow_add-at c =
+overflow_add-at g c =
     let blocks = c.blocks-blocks.result.now in
     let i = c.loop-index.index in
     let below : i < entry_count_in c.args.file.now = omega arith in
@@ -62,7 +62,7 @@ overflow_add-at c =
     omega (arith, more, c.loop-index.invariant.short, c.block_length.ensures)
 
 pub overflow_cast-at : goal.overflow_cast-at
-overflow_cast-at c =
+overflow_cast-at g c =
     let blocks = c.blocks-blocks.result.now in
     let i = c.loop-index.index in
     let below : i < entry_count_in c.args.file.now = omega arith in
@@ -71,7 +71,7 @@ overflow_cast-at c =
     omega (arith, more, c.loop-index.invariant.short, c.block_length.ensures)
 
 pub loop-index-preserved : goal.loop-index-preserved
-loop-index-preserved c =
+loop-index-preserved g c =
     let file = c.args.file.now in
     let ids = ids_of file c.args.ids in
     let blocks = c.blocks-blocks.result.now in
@@ -102,7 +102,7 @@ loop-index-preserved c =
     }
 
 pub returns-clause-items : goal.returns-clause-items
-returns-clause-items c =
+returns-clause-items g c =
     let es = entries_read c.args.file.now (ids_of c.args.file.now c.args.ids) in
     let count = length-entries_read c.args.file.now (ids_of c.args.file.now c.args.ids) in
     let past : length es ≤ c.loop-index.index = omega arith in
@@ -111,7 +111,7 @@ returns-clause-items c =
     ∙ c.loop-index.invariant.text
 
 pub returns-clause-len : goal.returns-clause-len
-returns-clause-len c =
+returns-clause-len g c =
     let es = entries_read c.args.file.now (ids_of c.args.file.now c.args.ids) in
     let count = length-entries_read c.args.file.now (ids_of c.args.file.now c.args.ids) in
     let past : length es ≤ c.loop-index.index = omega arith in

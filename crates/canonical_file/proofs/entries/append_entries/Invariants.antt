@@ -9,7 +9,7 @@ use Rattle.canonical_file.proofs.entries.append_entries.Given as goal
 -- The entries that are left make the text whole, and there is room for them. The data that is left
 -- ends at an offset of four bytes.
 abbrev pub invariant-loop-index : goal.invariant-loop-index
-invariant-loop-index l = record {
+invariant-loop-index g l = record {
   short : l.at + sum_by length_within (drop (2 + l.index) l.blocks) < 2 ^ 32;
   text : l.bytes.items ++ entries_text l.at (drop l.index (entries_read l.file (ids_of l.file l.ids))) ≡ l.fn.bytes.items ++ entries_text l.first (entries_read l.file (ids_of l.file l.ids));
   len : vec_len l.bytes + length (entries_text l.at (drop l.index (entries_read l.file (ids_of l.file l.ids)))) ≡ vec_len l.fn.bytes + length (entries_text l.first (entries_read l.file (ids_of l.file l.ids)));

@@ -7,7 +7,7 @@ use Rattle.canonical_file.proofs.Headers.{header_placed}
 use Rattle.canonical_file.proofs.header.header_bytes.Goals as goal
 
 pub returns : goal.returns
-returns c = λ ids.
+returns g c = λ ids.
     let file = c.args.file.now in
     let d : Database (Option (List ℕ)) = database_read file ids c.args.seed in
     c.to_bytes.ensures.is (with_offsets (first_block d) (idle d))

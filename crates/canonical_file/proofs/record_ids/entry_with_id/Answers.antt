@@ -7,7 +7,7 @@ use Rattle.canonical_file.proofs.record_ids.entry_with_id.Goals as goal
 
 -- the entry with its own ID is the one that is read with the IDs of the file
 pub returns-in-Own-clause-is : goal.returns-in-Own-clause-is
-returns-in-Own-clause-is c =
+returns-in-Own-clause-is g c =
     let file = c.args.file.now in
     c.idle_entry_at.ensures.is
     ∙ own_read file c.args.index c.args.at _ c.entry.ensures.is c.requires.inside

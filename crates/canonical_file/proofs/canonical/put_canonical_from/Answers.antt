@@ -1,5 +1,5 @@
 use Rattle.canonical_file.proofs.Canonicals.{cut_canonical, wrote_canonical}
-use Rattle.canonical_file.proofs.canonical.put_canonical_by.Goals as goal
+use Rattle.canonical_file.proofs.canonical.put_canonical_from.Goals as goal
 
 pub returns-clause-done : goal.returns-clause-done
 returns-clause-done g c =

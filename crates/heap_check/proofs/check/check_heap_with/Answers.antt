@@ -1,5 +1,5 @@
 use Rattle.heap_check.proofs.CheckLaws.{refuses, refused_by}
-use Rattle.heap_check.proofs.check.check_heap.Goals as goal
+use Rattle.heap_check.proofs.check.check_heap_with.Goals as goal
 
 pub returns-then-is_chained-clause-refused : goal.returns-then-is_chained-clause-refused
 returns-then-is_chained-clause-refused c = refused_by c.args.region.now.bytes c.check_chained.result c.check_chained.ensures.fault
