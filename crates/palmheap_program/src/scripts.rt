@@ -248,15 +248,14 @@ fn run_to<R: Files + Print + Eprint + AllocGlobal>(
         &mut out,
     );
     let image_fault = close_output(image_out);
-    let Replies {
-        writer,
-        any_refused,
-        ..
-    } = out.into_inner();
-    let fault = buffered_fault(writer);
+    let replies = out.into_inner();
+    let fault = buffered_fault(replies.writer);
     report_outcome(rt, status, &[(path, image_fault), (STANDARD_OUTPUT, fault)]);
     if status == Status::Done {
-        Ok(Replied { files, any_refused })
+        Ok(Replied {
+            files,
+            any_refused: replies.any_refused,
+        })
     } else {
         Err(status)
     }
@@ -302,14 +301,13 @@ fn run_live_to<R: Files + Input + Print + Eprint + AllocGlobal>(
         &mut out,
     );
     let image_fault = close_output(image_out);
-    let LiveReplies {
-        writer,
-        any_refused,
-        ..
-    } = out.into_inner();
-    let fault = buffered_fault(writer);
+    let replies = out.into_inner();
+    let fault = buffered_fault(replies.writer);
     match result {
-        Ok(files) => Ok(Replied { files, any_refused }),
+        Ok(files) => Ok(Replied {
+            files,
+            any_refused: replies.any_refused,
+        }),
         Err(LiveEnd::Unread(reason)) => Err(fail_to_read(rt, STANDARD_INPUT, reason)),
         Err(LiveEnd::Ended(status)) => {
             report_outcome(rt, status, &[(path, image_fault), (STANDARD_OUTPUT, fault)]);
