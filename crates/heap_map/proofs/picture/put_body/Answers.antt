@@ -1,7 +1,7 @@
 use Rattle.std.proofs.Common.{◌≡◌, ◌*◌, ℕ, length, ap, ◌∙◌, arith}
 use Rattle.heap_map.specs.Cells.{cell_size, cell_count}
 use Rattle.heap_map.proofs.CellLaws.{length-marks, cell_starts, few_cells}
-use Rattle.heap_map.proofs.picture.put_lines.Goals as goal
+use Rattle.heap_map.proofs.picture.put_body.Goals as goal
 
 pub put_rows-requires : goal.put_rows-requires
 put_rows-requires g c =
