@@ -77,15 +77,14 @@ name_json (Some name) = string name
 unfoldable pub category_json : ℕ → Option (List ℕ) → List ℕ
 category_json number name = array_start number ++ (name_json name ++ array_end number)
 
+abbrev pub index_json : ℕ → List ℕ
+index_json index = comma index ++ (codes "{\"index\":" ++ decimal index)
+
 abbrev pub record_start : (index attributes : ℕ) → List ℕ
-record_start index attributes = comma index ++ (codes "{\"index\":" ++ (decimal index ++ (codes ",\"attributes\":" ++ (decimal attributes ++ codes ","))))
+record_start index attributes = index_json index ++ member (codes ",\"attributes\":") (decimal attributes)
 
 abbrev pub resource_start : (index kind : ℕ) → List ℕ
-resource_start index kind =
-    comma index ++ (codes "{\"index\":" ++ (decimal index
-    ++ (codes ",\"type\":" ++ (string (u32_bytes kind)
-    ++ (codes ",\"type_hex\":" ++ (hex_string (u32_bytes kind)
-    ++ codes ","))))))
+resource_start index kind = index_json index ++ member_with_hex (codes ",\"type\":") (u32_bytes kind) (codes ",\"type_hex\":")
 
 -- the ID of an entry, and the offset and the length of its data; both are `null` if it has none
 abbrev pub data_json : ℕ → Option Extent → List ℕ

@@ -4,13 +4,14 @@ ghost use Rattle.std.specs.Prelude.{◌≡◌, ◌++◌, Some, is_ok};
 ghost use Rattle.palm_text.specs.Counted.{Writes};
 ghost use Rattle.unicode_text.specs.Pieces.{json_text};
 ghost use Rattle.json_documents.specs.RowTexts as words;
-ghost use Rattle.json_documents.specs.RowTexts.{category_member, data_json, record_json, record_start, resource_json, resource_start};
+ghost use Rattle.json_documents.specs.RowTexts.{category_member, data_json, index_json, record_json, record_start, resource_json, resource_start};
 
+use crate::values::{put_four_bytes, put_number};
 use db_format::NameField;
 use file_listing::{Extent, RecordRow};
 use palm_text::{Counted, WriteFault};
 use std::io::Write;
-use unicode_text::JsonPiece::{FourBytes, FourHex, Number, String, Text};
+use unicode_text::JsonPiece::{Number, String, Text};
 use unicode_text::{JsonPiece, put_json};
 
 /// Returns the comma before the entry of an index.
@@ -20,7 +21,18 @@ fn comma(index: u16) -> JsonPiece<'static>
     if index == 0 { Text(b"") } else { Text(b",") }
 }
 
+/// Writes the index of an entry, after a comma unless it is the first entry.
+fn put_index<W: Write>(out: &mut Counted<W>, index: u16) -> Result<(), WriteFault>
+    ensures { Writes W.contents out.old out.new (index_json index) (is_ok result) }
+{
+    put_json(
+        out,
+        &[comma(index), Text(b"{\"index\":"), Number(u32::from(index))],
+    )
+}
+
 /// Writes the index of a record, and its attributes.
+#[tactic(auto, using(palm_text::proofs::Parts::then, palm_text::proofs::Parts::stops))]
 fn put_record_start<W: Write>(
     out: &mut Counted<W>,
     index: u16,
@@ -28,20 +40,12 @@ fn put_record_start<W: Write>(
 ) -> Result<(), WriteFault>
     ensures { Writes W.contents out.old out.new (record_start index attributes) (is_ok result) }
 {
-    put_json(
-        out,
-        &[
-            comma(index),
-            Text(b"{\"index\":"),
-            Number(u32::from(index)),
-            Text(b",\"attributes\":"),
-            Number(u32::from(attributes)),
-            Text(b","),
-        ],
-    )
+    put_index(out, index)?;
+    put_number(out, b",\"attributes\":", u32::from(attributes))
 }
 
 /// Writes the index of a resource, and its type.
+#[tactic(auto, using(palm_text::proofs::Parts::then, palm_text::proofs::Parts::stops))]
 fn put_resource_start<W: Write>(
     out: &mut Counted<W>,
     index: u16,
@@ -49,19 +53,8 @@ fn put_resource_start<W: Write>(
 ) -> Result<(), WriteFault>
     ensures { Writes W.contents out.old out.new (resource_start index kind) (is_ok result) }
 {
-    put_json(
-        out,
-        &[
-            comma(index),
-            Text(b"{\"index\":"),
-            Number(u32::from(index)),
-            Text(b",\"type\":"),
-            FourBytes(kind),
-            Text(b",\"type_hex\":"),
-            FourHex(kind),
-            Text(b","),
-        ],
-    )
+    put_index(out, index)?;
+    put_four_bytes(out, b",\"type\":", kind, b",\"type_hex\":")
 }
 
 /// Writes the ID of an entry, and the offset and the length of its data.
