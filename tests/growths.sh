@@ -112,7 +112,7 @@ listed=$(
     sort <<'END'
 ./canonical_file/src/canonical.rt:canonical_bytes room_for(memory, file_size(file))?
 ./canonical_file/src/canonical.rt:head_of room_for(memory, file.first_place() as usize)?
-./canonical_file/src/mended.rt:mended_file room_for(memory, file.len())?
+./canonical_file/src/mended.rt:mended_start room_for(memory, size)?
 ./chunk_format/src/image.rt:blank_from zeroed_from(memory, size)
 ./command_files/src/region_input.rt:buffer zeros(memory, MOST_READ)
 ./command_files/src/region_input.rt:read_region_from buffer(memory)
