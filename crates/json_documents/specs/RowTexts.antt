@@ -103,8 +103,11 @@ unfoldable pub resource_json : (index kind id : ℕ) → Option Extent → List 
 resource_json index kind id block = resource_start index kind ++ data_json id block
 
 -- the least size and number of slots of a new image with the database
+abbrev pub needs_of : (size slots : List ℕ) → List ℕ
+needs_of size slots = codes "],\"needs\":{\"size\":" ++ (size ++ (codes ",\"slots\":" ++ (slots ++ codes "},")))
+
 unfoldable pub needs_json : (size slots : ℕ) → List ℕ
-needs_json size slots = codes "],\"needs\":{\"size\":" ++ (decimal size ++ (codes ",\"slots\":" ++ (decimal slots ++ codes "},")))
+needs_json size slots = needs_of (decimal size) (decimal slots)
 
 -- the words of the changes when the file is rewritten, with commas between
 abbrev pub comma_if : Bool → List ℕ

@@ -58,7 +58,7 @@ fn put_both<'a, W: Write>(
     hex: JsonPiece<'a>,
 ) -> Result<(), WriteFault>
     ensures { Writes W.contents out.old out.new
-        (key.now ++ (json_text value ++ (hex_key.now ++ (json_text hex ++ codes ",")))) (is_ok result) }
+        (key.now ++ (json_text value.entry ++ (hex_key.now ++ (json_text hex.entry ++ codes ",")))) (is_ok result) }
 {
     put_json(out, &[Text(key), value, Text(hex_key), hex, Text(b",")])
 }
