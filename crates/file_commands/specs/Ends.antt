@@ -1,11 +1,13 @@
 -- What the commands write, by their status. A definition that ends in a `Bool` has it true if all
 -- was written and flushed, and false if a write or a flush failed.
-use Rattle.std.specs.Prelude.{◌≡◌, ◌≢◌, ◌⊎◌, ◌++◌, ℕ, Bool, true, false, List, length, Option, None, codes, decimal}
+use Rattle.std.specs.Prelude.{◌≡◌, ◌≢◌, ◌⊎◌, ◌++◌, ℕ, Bool, true, false, List, length, Option, None, codes, decimal, Result, Err, IfOk, IfErr}
 use Rattle.heap_model.specs.Files.{HasNoFault, IsFirstFault}
 use Rattle.heap_model.specs.declared.file_fault.FileFault.{FileFault}
 use Rattle.palm_text.specs.Counted.{Writing}
 use Rattle.palm_text.specs.Output.{IsUnused, Output, Puts, PutsTo}
-use Rattle.canonical_file.specs.Canonical.{IsCanonical}
+use Rattle.canonical_file.specs.Canonical.{IsCanonical, IsCanonicalFault}
+use Rattle.canonical_file.specs.declared.canonical.CanonicalFault.{CanonicalFault}
+use Rattle.canonical_file.specs.declared.canonical.CanonicalFault.TheVariants.{OutOfMemory, Write}
 use Rattle.canonical_file.specs.declared.changes.Changes.{Changes}
 use Rattle.canonical_file.specs.Changes.{AreChanges, changes_line}
 use Rattle.file_listing.specs.declared.rows.Row.{Row}
@@ -80,6 +82,14 @@ pub record WroteWhole {W : Type 0} (file : List ℕ) (file_out : Output W) (rewr
 -- the canonical form without the lines: a write of it failed, or the flush after it
 abbrev pub PutsPart : {W : Type 0} → List ℕ → Output W → Type 0
 PutsPart file file_out = (bytes : List ℕ) × IsCanonical file bytes × PutsTo file_out bytes false
+
+-- the whole canonical form was written and flushed, or why not
+pub record RewritesWhole {W : Type 0} (file : List ℕ) (file_out : Output W) (is_short : Type 0) (result : Result Rewritten CanonicalFault) : Type 0 where
+  pub done : IfOk result (WroteWhole file file_out)
+  pub why : IfErr result (IsCanonicalFault file)
+  pub untouched : IfErr result (λ fault. fault ≢ Write → IsUnused file_out)
+  pub write : result ≡ Err Write → PutsPart file file_out
+  pub short : result ≡ Err OutOfMemory → is_short
 
 -- A write or a flush failed in `canonical`, and nothing was written after it. There are three
 -- cases:
