@@ -3,8 +3,9 @@ use Rattle.std.specs.Prelude.{◌≡◌, ◌⊎◌, ℕ, List}
 use Rattle.heap_model.specs.Store.{Accepted, store_of}
 use Rattle.heap_map.specs.Text.{map_text}
 use Rattle.heap_svg.specs.Drawing.{IsDrawing}
-use Rattle.store_commands.specs.Databases.{databases_text}
-use Rattle.store_commands.specs.DatabasesJson.{databases_json}
+use Rattle.program_io.specs.declared.command_line.Form.TheVariants.{Text, Json}
+use Rattle.store_commands.specs.DatabaseForms.{rows_in}
+use Rattle.store_commands.specs.Databases.{listed_rows}
 use Rattle.palmheap_c.specs.Answers.{IsImageFault, IsMemoryAnswer}
 use Rattle.palmheap_c.specs.Buffers.{Buffer, PutsBytes}
 use Rattle.palmheap_c.specs.declared.answers.Answer.{Answer}
@@ -22,12 +23,12 @@ pub record IsSvgOf (image text : List ℕ) : Type 0 where
 -- the image is accepted, and these are the lines of its databases
 pub record AreDatabaseLines (image text : List ℕ) : Type 0 where
   pub accepted : Accepted image
-  pub text_is : text ≡ databases_text (store_of image)
+  pub text_is : text ≡ rows_in Text (listed_rows (store_of image))
 
 -- the image is accepted, and this is the document of its databases
 pub record IsDatabaseDocument (image text : List ℕ) : Type 0 where
   pub accepted : Accepted image
-  pub text_is : text ≡ databases_json (store_of image)
+  pub text_is : text ≡ rows_in Json (listed_rows (store_of image))
 
 -- an allocation failed, or this is the first fault of the image
 abbrev pub IsTextRefusal : List ℕ → Answer → Type 0

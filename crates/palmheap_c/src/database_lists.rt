@@ -10,8 +10,9 @@ use crate::answers::{Answer, NO_MEMORY};
 use crate::buffers::{put_bytes, refused_write};
 use crate::opening::{boxed_store, region_of};
 use palm_text::Counted;
+use program_io::command_line::Form;
 use std::alloc::Global;
-use store_commands::{Row, database_rows, put_database_lines, put_databases_document};
+use store_commands::{Row, database_rows, put_databases};
 
 /// Writes a line for each database of an image into a buffer: the text that the command `databases`
 /// prints. Sets `count` to its size in bytes, also if the buffer is too short for it.
@@ -41,7 +42,7 @@ fn lines_of(alloc: Global, image: &[u8]) -> Result<Vec<u8>, Answer>
         Err(answer) => return Err(answer),
     };
     let mut out = Counted::new(Vec::new(alloc));
-    match put_database_lines(&mut out, &rows) {
+    match put_databases(&mut out, Form::Text, &rows) {
         Ok(()) => Ok(out.into_inner()),
         Err(_) => Err(refused_write(alloc, &out)),
     }
@@ -76,7 +77,7 @@ fn document_of(alloc: Global, image: &[u8]) -> Result<Vec<u8>, Answer>
         Err(answer) => return Err(answer),
     };
     let mut out = Counted::new(Vec::new(alloc));
-    match put_databases_document(&mut out, &rows) {
+    match put_databases(&mut out, Form::Json, &rows) {
         Ok(()) => Ok(out.into_inner()),
         Err(_) => Err(refused_write(alloc, &out)),
     }

@@ -9,8 +9,8 @@
 //! | module | does |
 //! |---|---|
 //! | `images` | opens an image, and looks up its databases |
-//! | `databases` | the command `databases` |
-//! | `databases_json` | the command `databases --json` |
+//! | `databases` | the command `databases`, in both forms |
+//! | `databases_json` | the document of `databases --json` |
 //! | `exports` | the command `export`, but for the folder |
 //! | `file_names` | the name of a database's file |
 //! | `imports` | the command `import` |
@@ -25,8 +25,7 @@ mod images;
 mod imports;
 mod migrate_command;
 
-pub use databases::{Row, cmd_databases, database_rows, databases_region_from, put_database_lines};
-pub use databases_json::{cmd_databases_json, databases_json_region_from, put_databases_document};
+pub use databases::{Row, cmd_databases, database_rows, databases_region_from, put_databases};
 pub use exports::{Ended, ExportedFile, export_files};
 pub use file_names::file_name;
 pub use images::{opened, put_store};
