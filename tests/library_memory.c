@@ -188,7 +188,6 @@ int main(void) {
     try("write_image", write_image, PALMHEAP_REFUSED_OUT_OF_MEMORY, 0);
     try("explain", explain, PALMHEAP_REFUSED_OUT_OF_MEMORY, 0);
     try("run", run, PALMHEAP_NO_MEMORY, 0);
-    if (palmheap_import(&store, file, sizeof file, &memory.db) != 0) return 1;
     if (palmheap_write_image(&store, memory.image, SIZE, &memory.count) != 0) return 1;
     try("map", map, PALMHEAP_NO_MEMORY, 0);
     try("map_svg", map_svg, PALMHEAP_NO_MEMORY, 0);
