@@ -1,6 +1,6 @@
 /* palmheap for C: heap images of a Palm OS device, and PDB and PRC files.
  *
- * docs/C-LIBRARY.md says how to build the library, what is proved of it and what the caller must ensure.
+ * docs/C-LIBRARY.md says how to build the library, what is proved of it and what is trusted.
  * tools/check_header.py compares this file with the functions that the library exports.
  *
  * The caller must ensure the following. Otherwise the behavior is undefined.
@@ -11,8 +11,12 @@
  * - While a call runs, no other thread writes memory that the call is given, or reads memory that the call writes. While
  *   a call changes a store, no other thread uses the store. A call that takes a const palmheap_store leaves the store as
  *   it was: any number of threads may make these calls on one store at once.
- * - The stack has 192 KiB left for palmheap_open and palmheap_run, 128 KiB for palmheap_check and palmheap_migrate, and
- *   64 KiB for any other function. No function is called from a signal handler.
+ * - The stack has 192 KiB left for palmheap_open, palmheap_run, palmheap_databases and palmheap_databases_json, 128 KiB
+ *   for palmheap_check, palmheap_migrate, palmheap_map and palmheap_map_svg, and 64 KiB for any other function.
+ *   palmheap_map and palmheap_map_svg need 640 KiB for an image with a chain of master pointer tables.
+ * - No function is called from a signal handler, or in the forked child of a process with threads.
+ * - malloc, realloc and free are of one allocator. It aligns a block to each power of two, up to 16, that divides the
+ *   size of the block.
  *
  * - A parameter x_len is the number of items of the array x. Sizes, counts of bytes and offsets are in bytes.
  * - The caller owns all memory that it passes, and the library keeps no pointer to it after the call. The library
@@ -222,6 +226,27 @@ palmheap_answer palmheap_check(const uint8_t *image, size_t image_len, palmheap_
 palmheap_answer palmheap_migrate(const uint8_t *image, size_t image_len, uint8_t *migrated, size_t migrated_len,
     size_t *count);
 
+/* Writes the picture of an image into a buffer: the ASCII text that `palmheap map` prints, without a zero at its end.
+ * Sets count to its size in bytes, also with PALMHEAP_NO_ROOM.
+ * Answers: PALMHEAP_OK, PALMHEAP_NO_MEMORY, PALMHEAP_NO_ROOM, 20 to 47. */
+palmheap_answer palmheap_map(const uint8_t *image, size_t image_len, uint8_t *text, size_t text_len, size_t *count);
+
+/* The same as SVG: the file that `palmheap map` writes.
+ * Answers: PALMHEAP_OK, PALMHEAP_NO_MEMORY, PALMHEAP_NO_ROOM, 20 to 47. */
+palmheap_answer palmheap_map_svg(const uint8_t *image, size_t image_len, uint8_t *text, size_t text_len, size_t *count);
+
+/* Writes a line for each database of an image into a buffer: the UTF-8 text that `palmheap databases` prints, without a
+ * zero at its end. Sets count to its size in bytes, also with PALMHEAP_NO_ROOM. Calls on an open store give the same
+ * values as numbers, as palmheap_DmDatabaseInfo.
+ * Answers: PALMHEAP_OK, PALMHEAP_NO_MEMORY, PALMHEAP_NO_ROOM, 20 to 47. */
+palmheap_answer palmheap_databases(const uint8_t *image, size_t image_len, uint8_t *text, size_t text_len,
+    size_t *count);
+
+/* The same as JSON: the document that `palmheap databases --json` prints.
+ * Answers: PALMHEAP_OK, PALMHEAP_NO_MEMORY, PALMHEAP_NO_ROOM, 20 to 47. */
+palmheap_answer palmheap_databases_json(const uint8_t *image, size_t image_len, uint8_t *text, size_t text_len,
+    size_t *count);
+
 /* ---- Scripts. ---- */
 
 /* Some bytes. at may be NULL if len is 0. */
@@ -254,7 +279,10 @@ palmheap_answer palmheap_run(uint8_t *image, size_t image_len, const uint8_t *sc
  * takes a const palmheap_store only asks: the store is the same after it. Calls that only ask may run at the same time.
  * While another call uses the store, no call may run. Once palmheap_close returned 0, only palmheap_open and
  * palmheap_close may get the palmheap_store. A copy of a palmheap_store is the same store, so close only one of them. The
- * caller never changes the field, but may set a new palmheap_store to {0}.
+ * caller never changes the field, but may set a new palmheap_store to {0}: then it can always be closed.
+ *
+ * So a program that asks and changes in several threads needs a lock, such as a pthread_rwlock_t. Calls on different
+ * stores need none. Nor does a thread that uses the bytes of a loan or a pointer: no call reads or writes them.
  *
  * A call returns 0, or the number of a refusal. A refused call changes no chunk and no database, and leaves the
  * caller's memory as it was. Comments list the refusals of a call in the order in which it looks for them. A call with
@@ -394,7 +422,8 @@ uint32_t palmheap_largest_stretch(const palmheap_store *store, uint32_t *count);
 /* Joins the free bytes of each stretch into one chunk. Sets count to the number of bytes moved. */
 uint32_t palmheap_MemHeapCompact(palmheap_store *store, uint32_t *count);
 
-/* Adds a master pointer table of 15 empty slots, if the image has a chain of tables. Refusals: 8. */
+/* Adds a master pointer table of 15 empty slots, if the image has a chain of tables: palmheap_new makes images without
+ * one, palmheap_new_chained and palmheap_migrate with one. For an open store migrate its written image. Refusals: 8. */
 uint32_t palmheap_more_slots(palmheap_store *store);
 
 /* -- Databases --
@@ -681,7 +710,7 @@ bool palmheap_lent(const palmheap_store *store, uint32_t *name);
 
 /* Finds the lent chunk with the least place above after: sets name to the chunk, and place to its place. Reports whether
  * there is one: if not, it sets neither. With 0 for after it finds the first one, and with the last place found the next
- * one: so the caller goes over all lent chunks in order of their places. */
+ * one: so the caller goes over all lent chunks in order of their places, without an array. */
 bool palmheap_loan_above(const palmheap_store *store, uint32_t after, uint32_t *name, uint32_t *place);
 
 /* Sets the first of names to all lent chunks, in order of their places, and count to their number, also if there is no
@@ -693,7 +722,8 @@ uint32_t palmheap_loans(const palmheap_store *store, uint32_t *names, size_t nam
  * A pointer to the bytes of a movable chunk, as applications have it. The library keeps the loan, and counts how often
  * the pointer is out. So a caller needs no palmheap_loan, and functions that know nothing of each other can lock the
  * same chunk. While a pointer is out, the chunk is lent, as above, and its lock count is one higher: one for all of
- * them. The pointer stays valid until it was unlocked as often as it was locked, whatever other calls do.
+ * them. The pointer stays valid until it was unlocked as often as it was locked, whatever other calls do: none of them
+ * moves, frees or resizes the chunk. docs/C-LIBRARY.md lists how they answer meanwhile.
  * palmheap_lent, palmheap_loan_above and palmheap_loans find these chunks too. palmheap_put_back can't be called for
  * them: no palmheap_loan has them. */
 

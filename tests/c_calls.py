@@ -79,6 +79,10 @@ class Library:
             "palmheap_new": [u8, size, c.c_uint16],
             "palmheap_check": [*one, c.POINTER(Counts)],
             "palmheap_migrate": [*one, u8, size, c.POINTER(size)],
+            "palmheap_map": [*one, u8, size, c.POINTER(size)],
+            "palmheap_map_svg": [*one, u8, size, c.POINTER(size)],
+            "palmheap_databases": [*one, u8, size, c.POINTER(size)],
+            "palmheap_databases_json": [*one, u8, size, c.POINTER(size)],
             "palmheap_run": [u8, size, *one, c.POINTER(Bytes), size, u8, size, u8, size, *sizes, c.POINTER(Sizes)],
             "palmheap_open": [*one, c.POINTER(Place)],
         }.items():
@@ -114,15 +118,15 @@ class Library:
         if answer.kind:
             raise Fault(answer)
 
-    def _made(self, function, file, item=c.c_uint8):
-        """Calls a function for the number of items that it makes, and then with room for them."""
+    def _made(self, function, file, item=U8):
+        """Calls a function for the number of bytes or items that it makes, and then with room for them. Returns them."""
         count, items = c.c_size_t(0), ()
         answer = function(*span(file), None, 0, c.byref(count))
         if answer.kind == NO_ROOM:
             items = (item * count.value)()
             answer = function(*span(file), items, count.value, c.byref(count))
         self._good(answer)
-        return items[: count.value]
+        return (bytes(items) if item is U8 else items)[: count.value]
 
     def pdb_check(self, file):
         self._good(self.so.palmheap_pdb_check(*span(file)))
@@ -133,13 +137,13 @@ class Library:
         return [file[it.start : it.end] if it.is_there else None for it in blocks]
 
     def canonical(self, file):
-        return bytes(self._made(self.so.palmheap_canonical, file))
+        return self._made(self.so.palmheap_canonical, file)
 
     def pdb_list(self, file):
-        return bytes(self._made(self.so.palmheap_pdb_list, file)).decode()
+        return self._made(self.so.palmheap_pdb_list, file).decode()
 
     def pdb_json(self, file):
-        return bytes(self._made(self.so.palmheap_pdb_json, file)).decode()
+        return self._made(self.so.palmheap_pdb_json, file).decode()
 
     def pdb_needs(self, file):
         needs = Needs()
@@ -153,8 +157,8 @@ class Library:
         def made(*words):
             return self.so.palmheap_salvage(*words[:2], exact_ids, *words[2:], c.byref(faults))
 
-        salvaged = bytes(self._made(made, file))
-        return salvaged, faults.value, bytes(self._made(self.so.palmheap_salvage_lines, file)).decode()
+        salvaged = self._made(made, file)
+        return salvaged, faults.value, self._made(self.so.palmheap_salvage_lines, file).decode()
 
     def new(self, size, slots):
         if size not in IMAGE_SIZES:
@@ -169,7 +173,13 @@ class Library:
         return {name: getattr(counts, name) for name, _ in Counts._fields_}
 
     def migrate(self, image):
-        return bytes(self._made(self.so.palmheap_migrate, image))
+        return self._made(self.so.palmheap_migrate, image)
+
+    def texts(self, image):
+        """Returns the picture of an image as text and as SVG, and the list of its databases as text and as JSON."""
+        so = self.so
+        makers = (so.palmheap_map, so.palmheap_map_svg, so.palmheap_databases, so.palmheap_databases_json)
+        return [self._made(it, image) for it in makers]
 
     def run(self, image, script, files=()):
         """Runs a script on an image. Returns the image afterwards, the reply lines, and the files that it exports."""

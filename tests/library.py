@@ -8,6 +8,7 @@
 import concurrent.futures
 import os
 import random
+import re
 import struct
 import subprocess
 import sys
@@ -21,6 +22,10 @@ PARTS_OF_FILES = {63: " app", 64: " sort"}
 NO_KINDS = (0, 2, 19, 32, 39, 48, 59, 66, 69, 73, 103, 105, 1 << 31)
 # Draws are made in parts, each from its own seed, side by side on all processors.
 PARTS = range(56, 64)
+# How many files one call of the program lists.
+BATCH = 500
+# The line before the listing of a file, if there are several.
+HEADING = re.compile(r"^==> (.*) <==\n", re.M)
 
 
 def header(name, attributes, count, app=0, sort=0, kind=b"DATA", creator=b"memo"):
@@ -142,32 +147,61 @@ def each_part(compare_part, program, count):
         return list(pool.map(compare_part, [program] * len(PARTS), PARTS, counts))
 
 
+def reports(program, paths):
+    """Lists files with one call of the program, and with one call as JSON. Returns the listings, the documents, and the
+    greatest status of a file, with which both calls end."""
+    text, status = run(program, "list", "--path", *paths)
+    documents, as_json = run(program, "list", "--json", "--path", *paths)
+    _, *parts = HEADING.split(text.decode())
+    lines = documents.splitlines(keepends=True)
+    if parts[::2] != paths or len(lines) != len(paths) or as_json != status:
+        sys.exit(f"of {len(paths)} files {len(parts) // 2} are listed, and {len(lines)} as JSON: {status}, {as_json}")
+    return parts[1::2], lines, status
+
+
+def compare_listed(library, program, room, files):
+    """Compares the listings and documents of files. Returns the first word that each should be listed with."""
+    paths, met, statuses = [f"{room}/{it}" for it in range(len(files))], [], []
+    for path, file in zip(paths, files):
+        with open(path, "wb") as it:
+            it.write(file)
+    listings, lines, greatest = reports(program, paths)
+    for path, file, text, line in zip(paths, files, listings, lines):
+        wanted, status = listed(library, file)
+        said = text.split("\n")[0] + "\n" if status else text
+        document, needs = documents(library, file)
+        if said != wanted or needs not in text:
+            sys.exit(f"{file.hex()}: the library has {wanted!r} and {needs!r}, and the program {text!r}")
+        if line != b'{"path":"%s",' % path.encode() + document[1:]:
+            sys.exit(f"{file.hex()}: the library has {document!r}, and the program {line!r}")
+        met.append(wanted.split()[1] if status else "ok")
+        statuses.append(status)
+    if greatest != max(statuses):
+        sys.exit(f"the greatest status of {len(files)} files is {max(statuses)}, and the program has {greatest}")
+    return met
+
+
+def compare_alone(library, program, room, file, exact_ids):
+    """Compares the status of a file, its document, and the files that are made of it."""
+    if run(program, "list", "--json", "-", file=file) != (documents(library, file)[0], listed(library, file)[1]):
+        sys.exit(f"{file.hex()}: the documents or the statuses differ")
+    compare_salvaged(library, program, room, file, exact_ids)
+    _, given = run(program, "canonical", "-", f"{room}/out", file=file)
+    with open(f"{room}/out", "rb") if given == 0 else open(os.devnull, "rb") as it:
+        there = it.read() if given == 0 else None
+    if there != rewritten(library, file):
+        sys.exit(f"{file.hex()}: the canonical forms differ")
+
+
 def compare_damaged(program, seed, count):
-    """Returns the first word that each file should be listed with."""
+    """Compares damaged files, each tenth of them also alone. Returns the first word that each should be listed with."""
     library, rng, met = palmheap.Library(), random.Random(seed), []
+    files = [damaged(rng) for _ in range(count)]
     with tempfile.TemporaryDirectory() as room:
-        for index in range(count):
-            file = damaged(rng)
-            wanted, status = listed(library, file)
-            text, given = run(program, "list", "-", file=file)
-            text = text.decode()
-            said = "\n".join(text.split("\n")[:1]) + "\n" if status else text
-            met.append(wanted.split()[1] if status else "ok")
-            if (said, given) != (wanted, status):
-                sys.exit(f"file {index}, {file.hex()}: the library has {wanted!r}, and the program {text!r}")
-            document, needs = documents(library, file)
-            if needs not in text:
-                sys.exit(f"file {index}, {file.hex()}: the library has {needs!r}, and the program {text!r}")
-            if index % 10 == 0:
-                if run(program, "list", "--json", "-", file=file)[0] != document:
-                    sys.exit(f"file {index}, {file.hex()}: the documents differ")
-                compare_salvaged(library, program, room, file, index % 20 == 0)
-                _, given = run(program, "canonical", "-", f"{room}/out", file=file)
-                bytes_of = rewritten(library, file)
-                with open(f"{room}/out", "rb") if given == 0 else open(os.devnull, "rb") as it:
-                    there = it.read() if given == 0 else None
-                if there != bytes_of:
-                    sys.exit(f"file {index}, {file.hex()}: the canonical forms differ")
+        for start in range(0, count, BATCH):
+            met += compare_listed(library, program, room, files[start : start + BATCH])
+        for index in range(0, count, 10):
+            compare_alone(library, program, room, files[index], index % 20 == 0)
     return met
 
 
@@ -942,6 +976,9 @@ def check_refused(library, rng, program, room, image, lines, files):
         given, status = run(program, "check", "-", file=bytes(broken))
         if status == 0 or not given.decode("ascii").startswith(f"bad {library.kind_name(fault.kind)}"):
             sys.exit(f"an image with the fault {fault} is told as {given}")
+        for function in ("map", "map_svg", "databases", "databases_json"):
+            if refused_text(library, function, bytes(broken)) != (fault.args, UNUSED[0]):
+                sys.exit(f"{function} refuses an image with the fault {fault} otherwise")
         answer, written = run_within(library, broken, script, files, (9, 9, 9))
         if answer != (fault.kind, fault.at, fault.entry) or written != unused(bytes(broken), (9, 9, 9)):
             sys.exit(f"an image with the fault {fault} gives {answer}")
@@ -956,6 +993,28 @@ def check_migrated(library, program, room, image):
             sys.exit("an image is migrated to another one by the program")
     if library.migrate(chained) != chained:
         sys.exit("an image with a chain is migrated to another one")
+
+
+def refused_text(library, function, image):
+    """Returns the answer of a function that writes a text about an image, and the count after it."""
+    count, text = palmheap.SIZE(UNUSED[0]), (palmheap.U8 * 9)()
+    answer = getattr(library.so, f"palmheap_{function}")(image, len(image), text, len(text), palmheap.c.byref(count))
+    if any(text):
+        sys.exit(f"{function} writes a text for a refused image")
+    return (answer.kind, answer.at, answer.entry), count.value
+
+
+def check_texts(library, program, room, image):
+    """The pictures and lists of an image are those of the program."""
+    path = f"{room}/pictured"
+    with open(path, "wb") as it:
+        it.write(image)
+    commands = [("map", path), ("map", path, f"{room}/svg"), ("databases", path), ("databases", "--json", path)]
+    wanted = [run(program, *words) for words in commands]
+    with open(f"{room}/svg", "rb") as it:
+        wanted[1] = it.read(), wanted[1][1]
+    if [(it, 0) for it in library.texts(image)] != wanted:
+        sys.exit("the pictures and the lists of an image differ")
 
 
 def do_list(library, rng, program, room):
@@ -983,6 +1042,7 @@ def do_list(library, rng, program, room):
     if by_library != (last, text.decode("ascii"), calls.exported):
         sys.exit("palmheap_run and the program differ")
     check_rooms(library, image, script, files, last, text, calls.exported)
+    check_texts(library, program, room, last)
     check_refused(library, rng, program, room, image, calls.lines, files)
     check_migrated(library, program, room, last)
     for line, (kind, told), reply in zip(calls.lines, calls.replies, text.decode("ascii").splitlines(), strict=True):

@@ -4,10 +4,10 @@
 #   tests/library.sh [FILES]
 #
 # Runs the programs in examples/, those for C also under valgrind and with the address and undefined-behavior
-# sanitizers, and compares the library with the commands `list`, `list --json`, `salvage` and `canonical` on FILES
-# damaged files (100000). It compares as many calls on a store, and palmheap_run on scripts of the same calls, with the
-# command `run`: by text, files and image, with buffers that are long enough or too short, and on scripts and images
-# with faults.
+# sanitizers. Compares the library with the commands `list` and `list --json` on FILES damaged files (100000), and with
+# `salvage` and `canonical` on each tenth. Compares as many calls on a store, and palmheap_run on scripts of the same
+# calls, with the command `run`: by text, files and image, with buffers that are long enough or too short, and on
+# scripts and images with faults. Compares pictures and lists of the images with `map` and `databases`.
 # Passes NULL with the length 0. Lends chunks at random, 10 steps for each of FILES. Damages each field of a file.
 # Links by pkg-config, shared and static, sees that wrong headers are refused, and lets each allocation fail in turn.
 # Makes each call on a stack of the size that docs/C-LIBRARY.md gives for it. Makes calls that only ask in threads, also

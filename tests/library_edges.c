@@ -49,6 +49,16 @@ static void without_store(uint8_t *image) {
     want("new", palmheap_new(NULL, 0, 1).kind, PALMHEAP_BAD_SIZE);
     want("check", palmheap_check(NULL, 0, &counts).kind, PALMHEAP_TOO_SHORT);
     want("migrate", palmheap_migrate(NULL, 0, NULL, 0, &count).kind, PALMHEAP_TOO_SHORT);
+    count = 99;
+    want("map", palmheap_map(NULL, 0, NULL, 0, &count).kind, PALMHEAP_TOO_SHORT);
+    want("map_svg", palmheap_map_svg(NULL, 0, NULL, 0, &count).kind, PALMHEAP_TOO_SHORT);
+    want("databases", palmheap_databases(NULL, 0, NULL, 0, &count).kind, PALMHEAP_TOO_SHORT);
+    want("databases_json", palmheap_databases_json(NULL, 0, NULL, 0, &count).kind, PALMHEAP_TOO_SHORT);
+    want("no map, count", count, 99);
+    want("databases of an image", palmheap_databases(image, SIZE, NULL, 0, &count).kind, PALMHEAP_NO_ROOM);
+    want("databases, count", count, strlen("ok 0\n"));
+    want("databases_json of an image", palmheap_databases_json(image, SIZE, NULL, 0, &count).kind, PALMHEAP_NO_ROOM);
+    want("databases_json, count", count, strlen("{\"databases\":[]}\n"));
     want("run", palmheap_run(NULL, 0, NULL, 0, NULL, 0, NULL, 0, NULL, 0, NULL, 0, &sizes).kind, PALMHEAP_TOO_SHORT);
     want("empty script", palmheap_run(image, SIZE, NULL, 0, NULL, 0, NULL, 0, NULL, 0, NULL, 0, &sizes).kind, PALMHEAP_OK);
     want("empty script, printed", sizes.printed + sizes.exported + sizes.files, 0);

@@ -96,6 +96,14 @@ static uint32_t new(void) { return palmheap_new(memory.image, SIZE, 40).kind; }
 static uint32_t new_chained(void) { return palmheap_new_chained(memory.image, SIZE, 40).kind; }
 static uint32_t check(void) { return palmheap_check(memory.image, SIZE, &memory.counts).kind; }
 static uint32_t migrate(void) { return palmheap_migrate(memory.image, SIZE, memory.out, OUT, &memory.count).kind; }
+static uint32_t map(void) { return palmheap_map(memory.image, SIZE, memory.out, OUT, &memory.count).kind; }
+static uint32_t map_svg(void) { return palmheap_map_svg(memory.image, SIZE, memory.out, OUT, &memory.count).kind; }
+static uint32_t databases(void) { return palmheap_databases(memory.image, SIZE, memory.out, OUT, &memory.count).kind; }
+
+static uint32_t databases_json(void) {
+    return palmheap_databases_json(memory.image, SIZE, memory.out, OUT, &memory.count).kind;
+}
+
 static uint32_t open_store(void) { return palmheap_open(memory.image, SIZE, &memory.opened).kind; }
 static uint32_t write_image(void) { return palmheap_write_image(&store, memory.out, OUT, &memory.count); }
 static uint32_t import(void) { return palmheap_import(&store, file, sizeof file, &memory.db); }
@@ -180,6 +188,12 @@ int main(void) {
     try("write_image", write_image, PALMHEAP_REFUSED_OUT_OF_MEMORY, 0);
     try("explain", explain, PALMHEAP_REFUSED_OUT_OF_MEMORY, 0);
     try("run", run, PALMHEAP_NO_MEMORY, 0);
+    if (palmheap_import(&store, file, sizeof file, &memory.db) != 0) return 1;
+    if (palmheap_write_image(&store, memory.image, SIZE, &memory.count) != 0) return 1;
+    try("map", map, PALMHEAP_NO_MEMORY, 0);
+    try("map_svg", map_svg, PALMHEAP_NO_MEMORY, 0);
+    try("databases", databases, PALMHEAP_NO_MEMORY, 0);
+    try("databases_json", databases_json, PALMHEAP_NO_MEMORY, 0);
     uint8_t locks;
     if (palmheap_MemHandleNew(&store, 8, 1, &chunk) != 0) return 1;
     int before_pointers = blocks;

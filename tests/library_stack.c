@@ -1,6 +1,5 @@
 /* Calls each function of the library on a stack of the size that docs/C-LIBRARY.md gives for it, and prints how much of
- * it was used: first without a chain of tables in the image, then with one, then with one
- * in a large image.
+ * it was used: first without a chain of tables in the image, then with one, then with one in a large image.
  *
  * tests/library.sh builds and runs it. The status is 1 if a stack is too small, or a call has another result than it
  * should; a line says which.
@@ -232,8 +231,20 @@ static void words(void) {
     want("version", palmheap_version(), PALMHEAP_VERSION_NUMBER);
 }
 
-/* Makes all calls on an image. */
-static void calls(void) {
+static void pictures(void) {
+    want("map", palmheap_map(image, image_len, text, OUT, &count).kind, PALMHEAP_OK);
+    want("map_svg", palmheap_map_svg(image, image_len, text, OUT, &count).kind, PALMHEAP_OK);
+}
+
+/* (the script of `run` left two databases) */
+static void lists(void) {
+    want("databases", palmheap_databases(image, image_len, text, OUT, &count).kind, PALMHEAP_OK);
+    want("databases, count", memcmp(text, "ok 2\n", 5), 0);
+    want("databases_json", palmheap_databases_json(image, image_len, text, OUT, &count).kind, PALMHEAP_OK);
+}
+
+/* Makes all calls on an image, which needs so many KiB to be drawn. */
+static void calls(size_t drawn) {
     on_stack("open", 192, open_store);
     on_stack("chunks", 64, chunks);
     on_stack("loans", 64, loans);
@@ -244,6 +255,8 @@ static void calls(void) {
     on_stack("check", 128, check);
     on_stack("migrate", 128, migrate);
     on_stack("run", 192, run);
+    on_stack("pictures", drawn, pictures);
+    on_stack("lists", 192, lists);
 }
 
 int main(void) {
@@ -253,12 +266,12 @@ int main(void) {
     sigaction(SIGSEGV, &action, NULL);
     image_len = SIZE;
     on_stack("new", 64, make);
-    calls();
+    calls(128);
     on_stack("new_chained", 64, make_chained);
-    calls();
+    calls(640);
     image_len = LARGE;
     on_stack("new_chained", 64, make_chained);
-    calls();
+    calls(640);
     on_stack("files", 64, files);
     on_stack("words", 64, words);
     return 0;

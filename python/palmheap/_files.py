@@ -189,6 +189,29 @@ def migrate(image: Buffer) -> bytes:
     return bytes(_made(low.library().palmheap_migrate, image, low.U8))
 
 
+def image_map(image: Buffer) -> str:
+    """Returns the picture of an image that `palmheap map` prints. Raises its first fault, an `ImageFault`."""
+    return bytes(_made(low.library().palmheap_map, image, low.U8)).decode()
+
+
+def image_svg(image: Buffer) -> str:
+    """Returns the picture of an image as SVG, as `palmheap map` writes it. Raises its first fault, an `ImageFault`."""
+    return bytes(_made(low.library().palmheap_map_svg, image, low.U8)).decode()
+
+
+def database_listing(image: Buffer) -> str:
+    """Returns the lines on an image that `palmheap databases` prints. Raises its first fault, an `ImageFault`."""
+    return bytes(_made(low.library().palmheap_databases, image, low.U8)).decode()
+
+
+def database_document(image: Buffer) -> str:
+    """Returns the JSON document of the databases of an image, as `palmheap databases --json` prints it.
+
+    Raises the first fault of the image, an `ImageFault`.
+    """
+    return bytes(_made(low.library().palmheap_databases_json, image, low.U8)).decode()
+
+
 def run(image: Buffer, script: str | Buffer, files: Sequence[Buffer] = ()) -> Run:
     """Runs a script (docs/USING.md) on an image. `files` are those that its lines import.
 

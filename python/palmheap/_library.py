@@ -130,6 +130,10 @@ FILE_FUNCTIONS = {
     "new": Row((bytearray, U16), (), Answer),
     "check": Row((bytes,), (Counts,), Answer),
     "migrate": Row((bytes, bytearray), (SIZE,), Answer),
+    "map": Row((bytes, bytearray), (SIZE,), Answer),
+    "map_svg": Row((bytes, bytearray), (SIZE,), Answer),
+    "databases": Row((bytes, bytearray), (SIZE,), Answer),
+    "databases_json": Row((bytes, bytearray), (SIZE,), Answer),
     "run": Row(
         (bytearray, bytes, c.POINTER(Bytes), SIZE, bytearray, bytearray, c.POINTER(SIZE), SIZE), (Sizes,), Answer
     ),

@@ -4,6 +4,7 @@ import json
 import pickle
 import subprocess
 import sys
+import xml.etree.ElementTree
 
 import palmheap
 import pytest
@@ -266,6 +267,30 @@ def test_migrate():
         with pytest.raises(palmheap.ImageFault) as it:
             palmheap.migrate(image)
         assert it.value.kind.name == kind
+
+
+@settings(max_examples=50)
+@given(st.lists(databases(), max_size=5, unique_by=lambda it: it.name))
+def test_databases_of_an_image(made):
+    """The document has the databases that were imported. The listing and the pictures are of the same image."""
+    with palmheap.Store.new(1 << 20, 2000) as store:
+        for it in made:
+            store.import_file(it.to_exact_bytes())
+        image, free = store.image(), store.free_bytes()
+        sizes = [len(store.export_file(store.find_database(it.name))) for it in made]
+    document = json.loads(palmheap.database_document(image))
+    assert [(bytes.fromhex(it["name_hex"]), it["count"], it["size"]) for it in document["databases"]] == [
+        (it.name, len(data_of(it)), size) for it, size in zip(made, sizes)
+    ]
+    lines = palmheap.database_listing(image).splitlines()
+    assert lines[0] == f"ok {len(made)}" and len(lines) == 1 + len(made)
+    assert palmheap.image_map(image).startswith(f"size {1 << 20} slots 2000 used ")
+    svg = xml.etree.ElementTree.fromstring(palmheap.image_svg(image))
+    assert svg.tag.endswith("svg") and f"free {free} bytes" in "".join(svg.itertext())
+    for made_of in (palmheap.database_document, palmheap.database_listing, palmheap.image_map, palmheap.image_svg):
+        with pytest.raises(palmheap.ImageFault) as fault:
+            made_of(image[:-1])
+        assert fault.value.kind.name == "TOO_SHORT"
 
 
 def test_run():

@@ -6,7 +6,7 @@ use Rattle.std.proofs.lemmas.List.FromFn.{get_or-map-range_with_len, length-map-
 use Rattle.std.specs.Prelude.{All, slice_set}
 use Rattle.db_format.specs.Headers.{IsHeaderOf, info_told}
 use Rattle.db_format.specs.declared.header.DbHeader.{DbHeader}
-use Rattle.heap_model.specs.Database.{Database, DatabaseHeader, Entry, a_record, a_resource, database_in, entry_count_in, entry_in, header_in, name_field, name_in}
+use Rattle.heap_model.specs.Database.{Entry, a_record, a_resource, database_in, entry_count_in, entry_in, header_in, name_field, name_in}
 use Rattle.heap_model.specs.DatabaseSteps.{info_of}
 use Rattle.heap_model.specs.Files.{HasNoFault}
 use Rattle.heap_model.specs.Lists.{numbered}
@@ -14,31 +14,13 @@ use Rattle.heap_model.specs.declared.database.DbInfo.{DbInfo}
 use Rattle.pdb_format.specs.Blocks.{IsBlockWithin, places_in}
 use Rattle.pdb_format.specs.Opened.{HasPlaces}
 use Rattle.pdb_format.specs.declared.blocks.Block as files
+use Rattle.palm_store.proofs.Lookups.{info_read}
 use Rattle.palmheap_c.specs.Blocks.{IsInside, placed}
 use Rattle.palmheap_c.specs.FileEntries.{HasDataInside, IsRead, Outputs, place_of_data, entry_in_c, file_entry_at, place_of_rank}
 use Rattle.palmheap_c.specs.Infos.{database_from_c}
 use Rattle.palmheap_c.specs.declared.blocks.Block.{Block}
 use Rattle.palmheap_c.specs.declared.file_entries.FileEntry.{FileEntry}
 use Rattle.palmheap_c.proofs.BlockLaws.{inside_placed}
-
--- a header with this number of entries, as callers see it
-abbrev told : DatabaseHeader → ℕ → DbInfo
-told header count = record {
-  name = header.name;
-  attributes = header.attributes;
-  version = header.version;
-  creation_date = header.creation_date;
-  modification_date = header.modification_date;
-  backup_date = header.backup_date;
-  modification_number = header.modification_number;
-  kind = header.kind;
-  creator = header.creator;
-  seed = header.seed;
-  entry_count = count;
-}
-
-pub header_told : (database : Database ℕ) (header : DbHeader) → IsHeaderOf database header → info_told header ≡ info_of database
-header_told database header is = ap (λ (values : DatabaseHeader). told values header.entry_count) is.values ∙ ap (told database.header) is.entry_count
 
 -- its name is that of the file
 pub name_told : (file : List ℕ) (info : DbInfo) → info ≡ info_of (database_in file) → name_field info.name ≡ name_field (name_in file)
@@ -82,7 +64,7 @@ pub is_read : (file : List ℕ) (header : DbHeader) (info : DbInfo) (was new : O
     → database_from_c new.header ≡ info → new.header.name ≡ name_field info.name → new.app ≡ place_of_rank file 0 → new.sort ≡ place_of_rank file 1 → new.count ≡ entry_count_in file
     → take (entry_count_in file) new.entries ≡ numbered (file_entry_at file) (entry_count_in file) → drop (entry_count_in file) new.entries ≡ drop (entry_count_in file) was.entries → IsRead file was new
 is_read file header info was new good places head told from_c field app sort counted read others =
-    let same = told ∙ header_told (database_in file) header head in
+    let same = told ∙ info_read (database_in file) header head in
     let entries = subst (λ (n : ℕ). take n new.entries ≡ numbered (file_entry_at file) n) (sym counted) read in
     record {
       good = good;

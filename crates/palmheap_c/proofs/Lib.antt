@@ -8,6 +8,7 @@ pub mod KindLaws
 pub mod LoanNameLaws
 pub mod NameLaws
 pub mod OutLaws
+pub mod PictureLaws
 pub mod PinLaws
 pub mod PlaceLaws
 pub mod PointerLaws

@@ -8,6 +8,7 @@ pub mod Documents
 pub mod FileEntries
 pub mod Explaining
 pub mod Holding
+pub mod ImageTexts
 pub mod Infos
 pub mod Keeping
 pub mod Kinds

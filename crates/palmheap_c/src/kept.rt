@@ -50,6 +50,13 @@ impl Held {
         ManuallyDrop::into_inner(store)
     }
 
+    /// Borrows the store.
+    pub(crate) fn as_store(&self) -> &Store
+        ensures { result.now ≡ self.now.memory }
+    {
+        &self.store
+    }
+
     /// Returns whether a chunk of the store is lent.
     pub(crate) fn is_lent(&self) -> bool
         ensures { result ≡ false ↔ (self.now.memory.lents ≡ []) }

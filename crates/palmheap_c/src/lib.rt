@@ -15,6 +15,8 @@
 //! | `needs` | finds the smallest image for a file |
 //! | `documents` | lists files as JSON |
 //! | `images` | makes and checks images |
+//! | `pictures` | draws images, as text or as SVG |
+//! | `database_lists` | lists the databases of images, as text or as JSON |
 //! | `chained_images` | makes images with a chain of tables |
 //! | `migrating` | gives an image a chain of tables |
 //! | `runs` | runs a script on an image |
@@ -38,6 +40,7 @@ mod chained_images;
 mod counts;
 mod damages;
 mod database_calls;
+mod database_lists;
 mod documents;
 mod explaining;
 mod file_calls;
@@ -55,6 +58,7 @@ mod migrating;
 mod needs;
 mod opening;
 mod parts;
+mod pictures;
 mod pointers;
 mod record_calls;
 mod refusals;
@@ -81,6 +85,8 @@ pub use database_calls::palmheap_DmSetDatabaseInfo;
 pub use database_calls::palmheap_info_block;
 pub use database_calls::palmheap_set_info_block;
 pub use database_calls::palmheap_take_info_block;
+pub use database_lists::palmheap_databases;
+pub use database_lists::palmheap_databases_json;
 pub use documents::palmheap_pdb_json;
 pub use explaining::palmheap_explain;
 pub use file_calls::palmheap_export;
@@ -131,6 +137,8 @@ pub use needs::palmheap_pdb_needs;
 pub use opening::palmheap_close;
 pub use opening::palmheap_open;
 pub use opening::palmheap_write_image;
+pub use pictures::palmheap_map;
+pub use pictures::palmheap_map_svg;
 pub use pointers::NotUnlocked;
 pub use pointers::Pinned;
 pub use pointers::palmheap_lock_pointer;

@@ -79,6 +79,20 @@ fn boxed(alloc: Global, region: Region) -> Result<Box<Held, Global>, Answer>
     }
 }
 
+/// Returns the region of a store, of which no chunk may be lent, and frees the store. It is never
+/// inlined: its caller has no stack for a store.
+#[inline(never)]
+pub(crate) fn region_of(held: Box<Held, Global>) -> Region
+    requires { held.value.memory.lents ≡ [] }
+    ensures same { result ≡ held.value.memory }
+    ensures accepted { Accepted result.bytes }
+{
+    match Box::into_inner(held).into_store().into_region() {
+        Ok(region) => region,
+        Err(_lent) => unreachable!(),
+    }
+}
+
 /// Closes a store and frees its memory. If a chunk is lent, the store stays open. If there is no
 /// store, it does nothing.
 ///

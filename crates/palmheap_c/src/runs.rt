@@ -1,7 +1,6 @@
 //! Running a script on an image in the caller's memory.
 
 ghost use Rattle.std.specs.Prelude.{[], ◌≡◌, Ok, IfErr, IfOk, map};
-ghost use Rattle.heap_model.specs.Store.{Accepted};
 ghost use Rattle.script_lines.specs.Reading.{read_script};
 ghost use Rattle.palmheap_c.specs.Opening.{IsOpenStore};
 ghost use Rattle.palmheap_c.specs.Runs.{HasResults, IsRunAnswer, IsRunRefusal, Ran, capped as capped_number, of_line as line_answer, written};
@@ -10,7 +9,7 @@ use crate::answers::{Answer, NO_FAULT, NO_MEMORY, NO_ROOM};
 use crate::buffers::refused_write;
 use crate::inputs::{copied_all, joined};
 use crate::kept::Held;
-use crate::opening::boxed_store;
+use crate::opening::{boxed_store, region_of};
 use crate::results::{Results, Sizes, have_room};
 use heap_model::Bytes;
 use palm_script::{LineFault, RunFault, Script, ScriptFault, parse, run};
@@ -99,20 +98,6 @@ fn run_on(
         Ok(files) => Ok((after, out.into_inner(), files)),
         Err(RunFault::OutOfMemory) => Err(NO_MEMORY),
         Err(RunFault::Write) => Err(refused_write(alloc, &out)),
-    }
-}
-
-/// Returns the region of a store, of which no chunk may be lent, and frees the store. It is never
-/// inlined: its caller has no stack for a store.
-#[inline(never)]
-fn region_of(held: Box<Held, Global>) -> Region
-    requires { held.value.memory.lents ≡ [] }
-    ensures same { result ≡ held.value.memory }
-    ensures accepted { Accepted result.bytes }
-{
-    match Box::into_inner(held).into_store().into_region() {
-        Ok(region) => region,
-        Err(_lent) => unreachable!(),
     }
 }
 

@@ -10,7 +10,7 @@ ghost use Rattle.store_commands.specs.Databases.{database_count_line, first_word
 ghost use Rattle.store_commands.specs.DatabaseForms.{EndsDatabases, rows_in};
 ghost use Rattle.heap_model.specs.Database as databases;
 
-use crate::databases_json::put_document;
+use crate::databases_json::put_databases_document;
 use crate::images::{count_of, file_of_database, info_of, nth_of, opened};
 use allowance::{Allowance, push};
 use db_format::DbAttrs;
@@ -56,7 +56,7 @@ pub fn databases_region_from<A: Allowance, V: Write>(
         Ok(store) => store,
         Err(status) => return status,
     };
-    let Ok(rows) = rows_of(memory, &store) else {
+    let Ok(rows) = database_rows(memory, &store) else {
         return Status::NoMemory;
     };
     match put_flushed(out, form, rows.as_slice()) {
@@ -67,7 +67,7 @@ pub fn databases_region_from<A: Allowance, V: Write>(
 
 /// What is printed of a database: what its header says, and how many bytes its file has.
 #[derive(Drop)]
-pub(crate) struct Row {
+pub struct Row {
     pub(crate) info: DbInfo,
     pub(crate) size: usize,
 }
@@ -89,7 +89,7 @@ fn row_of_number<A: Allowance>(memory: &A, store: &Store, db: Db) -> Result<Row,
 }
 
 /// What is printed of all databases, in their order. The only error is that an allocation failed.
-fn rows_of<A: Allowance>(memory: &A, store: &Store) -> Result<Vec<Row>, AllocError>
+pub fn database_rows<A: Allowance>(memory: &A, store: &Store) -> Result<Vec<Row>, AllocError>
     requires { store.now.lents ≡ [] }
     ensures rows { IfOk result (λ rows. rows.items ≡ listed_rows (store_of store.now.bytes)) }
     ensures short { OnErr result (A.is_short memory.now) }
@@ -200,9 +200,9 @@ fn put_count<W: Write>(out: &mut Counted<W>, count: usize) -> Result<(), WriteFa
     )
 }
 
-/// Writes how many databases there are, and their lines.
+/// Writes how many databases there are, and their lines. Flushes nothing.
 #[tactic(auto, using(palm_text::proofs::Parts::then, palm_text::proofs::Parts::stops))]
-fn put_lines<W: Write>(out: &mut Counted<W>, rows: &[Row]) -> Result<(), WriteFault>
+pub fn put_database_lines<W: Write>(out: &mut Counted<W>, rows: &[Row]) -> Result<(), WriteFault>
     ensures { Writes W.contents out.old out.new (rows_text rows.now) (is_ok result) }
 {
     put_count(out, rows.len())?;
@@ -214,8 +214,8 @@ fn put_databases<W: Write>(out: &mut Counted<W>, form: Form, rows: &[Row]) -> Re
     ensures { Writes W.contents out.old out.new (rows_in form rows.now) (is_ok result) }
 {
     match form {
-        Form::Text => put_lines(out, rows),
-        Form::Json => put_document(out, rows),
+        Form::Text => put_database_lines(out, rows),
+        Form::Json => put_databases_document(out, rows),
     }
 }
 

@@ -125,8 +125,11 @@ fn put_closed<W: Write>(out: &mut Counted<W>, rows: &[Row]) -> Result<(), WriteF
     }
 }
 
-/// Writes the document of databases.
-pub(crate) fn put_document<W: Write>(out: &mut Counted<W>, rows: &[Row]) -> Result<(), WriteFault>
+/// Writes the document of databases. Flushes nothing.
+pub fn put_databases_document<W: Write>(
+    out: &mut Counted<W>,
+    rows: &[Row],
+) -> Result<(), WriteFault>
     ensures { Writes W.contents out.old out.new (databases_document rows.now) (is_ok result) }
 {
     match put_all(out, b"{\"databases\":[") {

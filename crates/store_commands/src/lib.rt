@@ -25,7 +25,8 @@ mod images;
 mod imports;
 mod migrate_command;
 
-pub use databases::{cmd_databases, databases_region_from};
+pub use databases::{Row, cmd_databases, database_rows, databases_region_from, put_database_lines};
+pub use databases_json::put_databases_document;
 pub use exports::{Ended, ExportedFile, export_files};
 pub use file_names::file_name;
 pub use images::{opened, put_store};

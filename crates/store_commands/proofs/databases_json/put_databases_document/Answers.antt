@@ -1,7 +1,7 @@
 use Rattle.std.specs.Prelude.{codes, is_ok}
 use Rattle.palm_text.proofs.Parts.{then, stops}
 use Rattle.store_commands.specs.DatabasesJson.{closed_json, databases_document}
-use Rattle.store_commands.proofs.databases_json.put_document.Goals as goal
+use Rattle.store_commands.proofs.databases_json.put_databases_document.Goals as goal
 
 pub returns-in-Ok : goal.returns-in-Ok
 unfolding databases_document

@@ -3,7 +3,7 @@ use Rattle.std.proofs.lemmas.List.{take_all}
 use Rattle.heap_model.specs.Store.{store_of, database_under}
 use Rattle.store_commands.specs.Databases.{listed_row}
 use Rattle.store_commands.proofs.Lines.{made_more}
-use Rattle.store_commands.proofs.databases.rows_of.Goals as goal
+use Rattle.store_commands.proofs.databases.database_rows.Goals as goal
 
 pub loop-index-preserved : goal.loop-index-preserved
 loop-index-preserved g c =

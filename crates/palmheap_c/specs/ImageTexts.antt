@@ -1,0 +1,41 @@
+-- Texts about an image, for C.
+use Rattle.std.specs.Prelude.{◌≡◌, ◌⊎◌, ℕ, List}
+use Rattle.heap_model.specs.Store.{Accepted, store_of}
+use Rattle.heap_map.specs.Text.{map_text}
+use Rattle.heap_svg.specs.Drawing.{IsDrawing}
+use Rattle.store_commands.specs.Databases.{databases_text}
+use Rattle.store_commands.specs.DatabasesJson.{databases_json}
+use Rattle.palmheap_c.specs.Answers.{IsImageFault, IsMemoryAnswer}
+use Rattle.palmheap_c.specs.Buffers.{Buffer, PutsBytes}
+use Rattle.palmheap_c.specs.declared.answers.Answer.{Answer}
+
+-- the image is accepted, and this is its picture as text
+pub record IsMapOf (image text : List ℕ) : Type 0 where
+  pub accepted : Accepted image
+  pub text_is : text ≡ map_text image
+
+-- the image is accepted, and this is its picture as SVG
+pub record IsSvgOf (image text : List ℕ) : Type 0 where
+  pub accepted : Accepted image
+  pub drawing : IsDrawing image text
+
+-- the image is accepted, and these are the lines of its databases
+pub record AreDatabaseLines (image text : List ℕ) : Type 0 where
+  pub accepted : Accepted image
+  pub text_is : text ≡ databases_text (store_of image)
+
+-- the image is accepted, and this is the document of its databases
+pub record IsDatabaseDocument (image text : List ℕ) : Type 0 where
+  pub accepted : Accepted image
+  pub text_is : text ≡ databases_json (store_of image)
+
+-- an allocation failed, or this is the first fault of the image
+abbrev pub IsTextRefusal : List ℕ → Answer → Type 0
+IsTextRefusal image found = IsMemoryAnswer found ⊎ IsImageFault image found
+
+-- A text with `IsSuch` was written, or the buffer is too short for it. Otherwise this is the image's
+-- first fault, or an allocation failed, and nothing was written.
+abbrev pub IsTextAnswer : (List ℕ → List ℕ → Type 0) → (image : List ℕ) → (old new : Buffer) → Answer → Type 0
+IsTextAnswer IsSuch image old new found =
+    ((text : List ℕ) × IsSuch image text × PutsBytes text old.bytes new.bytes new.count found)
+    ⊎ (IsTextRefusal image found × (new ≡ old))
