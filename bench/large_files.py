@@ -5,10 +5,11 @@
 
 Makes a file of 100 MB with 25,000 records and one of 1 GB with 62,500 records in a new folder in DIR, by default in
 the folder for temporary files, which needs 6 GB. `canonical` and `salvage` drop one byte after the name, so they write
-the file anew. Looks whether what is packed and put is the file, and whether one block has its bytes. Then come files of
-4,294,967,295 and 4,294,967,296 bytes without data on the disk: `list` takes the first, and refuses the second. `get`
-takes 5 GB of memory for the first. The status is 1 if a result is another one, or if `list` or `canonical --check`
-takes over 64 MB of memory.
+the file anew. Looks whether both write the same, whether what is packed and put is the file, and whether one block has
+its bytes. Then come files of 4,294,967,295 and 4,294,967,296 bytes without data on the disk: `list` takes the first,
+and refuses the second. `get` takes 5 GB of memory for the first. The status is 1 if a result is another one, if `list`
+or `canonical --check` takes over 64 MB of memory, or if `canonical` or `salvage` takes over 64 MB more than the size of
+the file.
 """
 import filecmp
 import os
@@ -69,6 +70,13 @@ def show_small(name, timed):
         sys.exit(f"{name}: over {MOST_MEMORY} MB of memory")
 
 
+def show_once(name, timed, file):
+    """The same of a command that holds a file once."""
+    show(name, timed)
+    if timed[1] > MOST_MEMORY + os.path.getsize(file) / 1024**2:
+        sys.exit(f"{name}: over {MOST_MEMORY} MB more than the size of the file")
+
+
 def same(one, other):
     if not filecmp.cmp(one, other, shallow=False):
         sys.exit(f"{one} and {other} differ")
@@ -77,13 +85,15 @@ def same(one, other):
 def measure(program, folder, count, size):
     """Times the commands on one file."""
     file, new, parts = (os.path.join(folder, name) for name in ("in.pdb", "out.pdb", "parts"))
-    part = os.path.join(folder, "part")
+    part, salvaged = (os.path.join(folder, name) for name in ("part", "salvaged.pdb"))
     make(file, count, size)
     show_small("list", run([program, "list", file]))
     show_small("list --json", run([program, "list", "--json", file]))
     show_small("canonical --check", run([program, "canonical", "--check", file]))
-    show("canonical", run([program, "canonical", file, new]))
-    show("salvage", run([program, "salvage", file, new]))
+    show_once("canonical", run([program, "canonical", file, new]), file)
+    show_once("salvage", run([program, "salvage", file, salvaged]), file)
+    same(new, salvaged)
+    os.remove(salvaged)
     with open(part, "wb") as out:
         show("get", run([program, "get", file, str(count - 1)], out=out))
     with open(part, "rb") as block:

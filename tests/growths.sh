@@ -87,7 +87,7 @@ only '(^|[^a-z_])refused_(write|block|entry|text)[ ]*(::<[^(]*>)?\(' \
 # the vectors of the program itself grow without a grant; the other two functions pass one on
 only '\.push\(' \
     ./command_files/src/files.rt:read_files ./file_commands/src/folders.rt:read_parts \
-    ./palmheap_program/src/stores.rt:read_each ./palmheap_program/src/stores.rt:words_of \
+    ./palmheap_program/src/stores.rt:words_of \
     ./script_lines/src/reading.rt:parse_from ./script_lines/src/value.rt:add_value
 
 # Out of memory can be invented by a request that no allocator grants: a clause says that an allocation failed, not that
@@ -112,11 +112,12 @@ listed=$(
     sort <<'END'
 ./canonical_file/src/canonical.rt:canonical_bytes room_for(memory, file_size(file))?
 ./canonical_file/src/canonical.rt:head_of room_for(memory, file.first_place() as usize)?
-./canonical_file/src/mended.rt:mended_file room_for(memory, file.len())?
+./canonical_file/src/mended.rt:mended_start room_for(memory, size)?
 ./chunk_format/src/image.rt:blank_from zeroed_from(memory, size)
 ./command_files/src/region_input.rt:buffer zeros(memory, MOST_READ)
 ./command_files/src/region_input.rt:read_region_from buffer(memory)
 ./command_files/src/region_input.rt:read_region_from zeroed_from(memory, size)
+./file_commands/src/starts/parts.rt:read_part zeros(memory, count)
 ./file_ids/src/give.rt:give_ids set_for(memory, GREATEST_ID as usize / 8 + 1)?
 ./file_ids/src/give.rt:give_ids zeros_for(memory, file.entry_count())?
 ./file_ids/src/give.rt:set_for zeros(memory, size)
@@ -124,8 +125,6 @@ listed=$(
 ./file_parts/src/exact_listed.rt:ranks_of zeros(memory, listed.rank_count()) {
 ./file_parts/src/exact_packing.rt:place_blocks filled(memory, 0u32, exact.listed.rank_count())
 ./file_parts/src/exact_writing.rt:place_blocks filled(memory, 0u32, source.rank_count())
-./file_starts/src/parts.rt:read_part zeros(memory, count)
-./heap_check/src/chained.rt:check_chained no_marks()
 ./heap_map/src/cells.rt:cells_of Cells::new(memory, size, ((area + (size - 1)) / size) as usize)?
 ./heap_map/src/cells.rt:marks_of room_for(memory, firsts.len())?
 ./heap_map/src/cells.rt:new filled(memory, 0u32, count)?

@@ -16,6 +16,7 @@ pub mod WholeEntries
 pub mod SoundParts
 pub mod NamedHeaders
 pub mod MendedFiles
+pub mod MendedStarts
 pub mod SalvageTexts
 pub mod SoundEntries
 pub mod SalvagedFiles

@@ -1,5 +1,5 @@
 -- The mended file of a damaged one has no fault, and its blocks are those of the sound parts.
-use Rattle.std.proofs.Common.{◌≡◌, ℕ, zero, suc, ◌+◌, ◌-◌, ◌≤◌, Bool, true, false, Some, List, [], ◌++◌, length, take, drop, get_or, min, refl, sym, ap, subst, ◌∙◌, arith, length-append, length-drop, inl, inr}
+use Rattle.std.proofs.Common.{◌≡◌, ℕ, zero, suc, ◌+◌, ◌-◌, ◌≤◌, Bool, true, false, Some, List, ◌++◌, length, take, drop, get_or, min, refl, sym, ap, subst, ◌∙◌, arith, length-append, length-drop, inl, inr}
 use Rattle.std.specs.Prelude.{◌≢◌, ◌⊎◌, ◌==◌, ◌&&◌, ◌||◌, All, slice_range}
 use Rattle.std.specs.List.{flat_map, fold}
 use Rattle.std.proofs.lemmas.Bool.{eqb-true}
@@ -44,30 +44,22 @@ front_before file b =
     let rises = offset_rises (resources_in file) (length (sound_in file).entries) (entry_count_in file) (omega arith) in
     omega arith
 
--- the header and the sound entries fit
-pub entries_fit : (file : List ℕ) → AreBytes file → 78 ≤ length file → 78 + length (flat_map entry_bytes (sound_in file).entries) ≤ length file
+-- the header and the sound entries fit where the front does
+pub entries_within : (file : List ℕ) (most : ℕ) → AreBytes file → length (front file) ≤ most → 78 + length (flat_map entry_bytes (sound_in file).entries) ≤ most
 unfolding front spelled
-entries_fit file b header =
-    let inside = front_inside file b header in
+entries_within file most b within =
     let head = length-header_bytes (sound_in file) (sound_fits file b).name in
     let both = length-append (header_bytes (sound_in file)) (flat_map entry_bytes (sound_in file).entries) in
     omega arith
 
+-- they are the front
+pub front_parts : (file bytes : List ℕ) → bytes ≡ header_bytes (sound_in file) ++ flat_map entry_bytes (sound_in file).entries → bytes ≡ front file
+unfolding front spelled
+front_parts file bytes is = is
+
 -- ---- the mended file
 
--- its parts, one after the other
-pub mended_parts : (file b0 b1 b2 b3 head rest : List ℕ) (at : ℕ) → b0 ≡ [] → b1 ≡ b0 ++ head → head ≡ header_bytes (sound_in file) → b2 ≡ b1 ++ flat_map entry_bytes (sound_in file).entries → b3 ≡ b2 ++ rest → at ≡ length b2 → rest ≡ drop at file
-    → b3 ≡ mended file
-unfolding mended spelled
-mended_parts file b0 b1 b2 b3 head rest at none first is second third long after =
-    let entries : List ℕ = flat_map entry_bytes (sound_in file).entries in
-    let one : b1 ≡ header_bytes (sound_in file) = first ∙ ap (λ (xs : List ℕ). xs ++ head) none ∙ is in
-    let two : b2 ≡ header_bytes (sound_in file) ++ entries = second ∙ ap (λ (xs : List ℕ). xs ++ entries) one in
-    third
-    ∙ ap (λ (xs : List ℕ). xs ++ rest) two
-    ∙ ap (λ (xs : List ℕ). (header_bytes (sound_in file) ++ entries) ++ xs) (after ∙ ap (λ (n : ℕ). drop n file) (long ∙ ap length two))
-
-mended_is : (file : List ℕ) → mended file ≡ front file ++ drop (length (front file)) file
+pub mended_is : (file : List ℕ) → mended file ≡ front file ++ drop (length (front file)) file
 unfolding mended front
 mended_is file = refl
 
@@ -102,7 +94,7 @@ name_there : (file : List ℕ) (d : Database ℕ) → database_in file ≡ d →
 unfolding database_in header_in
 name_there file d is = ap (λ (x : Database ℕ). x.header.name) is
 
-app_there : (file : List ℕ) (d : Database ℕ) → database_in file ≡ d → u32_at file 52 ≡ d.app_info
+pub app_there : (file : List ℕ) (d : Database ℕ) → database_in file ≡ d → u32_at file 52 ≡ d.app_info
 unfolding database_in
 app_there file d is = ap (λ (x : Database ℕ). x.app_info) is
 
@@ -139,7 +131,7 @@ pub sound_entries : (file : List ℕ) → All (λ entry. is_sound_entry file ent
 unfolding sound_in
 sound_entries file = filter_passes (is_sound_entry file) (numbered (entry_in file) (whole_entries file))
 
-sound_app : (file : List ℕ) → IsNoneOrInside file (sound_in file).app_info
+pub sound_app : (file : List ℕ) → IsNoneOrInside file (sound_in file).app_info
 unfolding sound_in
 sound_app file = kept_info file (u32_at file 52)
 
@@ -178,7 +170,7 @@ mended_good file b header =
 
 -- ---- its blocks
 
-offsets_there : (file : List ℕ) → AreBytes file → offsets_in (mended file) ≡ sound_offsets file
+pub offsets_there : (file : List ℕ) → AreBytes file → offsets_in (mended file) ≡ sound_offsets file
 offsets_there file b = ap (λ (d : Database ℕ). data_in d) (mended_heads file b).is
 
 ends_there : (file : List ℕ) (rank at : ℕ) → AreBytes file → 78 ≤ length file → block_end (mended file) rank at ≡ sound_end file rank at

@@ -37,8 +37,9 @@
 //! ```
 //!
 //! A damaged file is *salvaged*: its sound parts are written in canonical form, and there is a line
-//! about each of the others. An offset is sound if a block can begin there. `mended` makes a file
-//! without fault of the sound parts, with the same bytes at each sound offset:
+//! about each of the others. An offset is sound if a block can begin there. The *mended file* has no
+//! fault, and the same bytes at each sound offset. Only its first bytes are made, as the others are
+//! those of the damaged file:
 //!
 //! ```text
 //! damaged     header | entry 0 | entry 1, not sound | entry 2 | blocks
@@ -57,7 +58,7 @@
 //! | `needs`, `block_needs` | the needs of a file, of a block (`specs/Needs.antt`) |
 //! | `image_needs` | the needs of several files, and the smallest image for them |
 //! | `salvage`, `salvage_lines` | writes the salvaged file, and the lines (`specs/Salvage.antt`) |
-//! | `sound`, `mended` | finds the sound parts, makes a file without fault of them |
+//! | `sound`, `mended` | finds the sound parts, makes the first bytes of the mended file |
 //! | `laws` | states the laws about salvaged files |
 #![tactic(auto)]
 

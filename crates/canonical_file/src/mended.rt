@@ -1,41 +1,76 @@
-//! A file without fault that has the sound parts of a damaged file.
+//! The *mended file*: a file without fault that has the sound parts of a damaged file. After its
+//! entries it has the bytes of the damaged file, so only its first bytes are made.
 
-ghost use Rattle.std.specs.Prelude.{◌≡◌, ◌≤◌, ◌+◌, ◌++◌, length, take, vec_len, vec_capacity, IfOk, OnErr};
+ghost use Rattle.std.specs.Prelude.{◌≡◌, ◌≤◌, ◌+◌, ◌++◌, ℕ, List, length, take, drop, vec_len, vec_capacity, IfOk, OnErr};
 ghost use Rattle.std.specs.List.{flat_map};
 ghost use Rattle.heap_model.specs.Bytes.{AreBytes};
 ghost use Rattle.heap_model.specs.DatabaseFields.{header_size};
 ghost use Rattle.heap_model.specs.Database.{IsDatabaseName, entry_bytes, name_in};
 ghost use Rattle.db_format.specs.Headers.{IsHeaderOf};
+ghost use Rattle.pdb_format.specs.FileStarts.{app_start};
 ghost use Rattle.canonical_file.specs.Mended as words;
+ghost use Rattle.canonical_file.specs.Mended.{StartsMended};
 ghost use Rattle.canonical_file.specs.Salvage as salvage;
 ghost use Rattle.canonical_file.specs.Salvage.{sound_in};
 
 use crate::blocks::append;
 use crate::sound::{is_sound_entry, sound_info, whole_entries};
 use allowance::{Allowance, room_for};
-use db_format::{DATABASE_HEADER_SIZE, DbEntry, DbHeader, NAME_SIZE, NameField, name_in};
+use db_format::{DATABASE_HEADER_SIZE, DbEntry, DbHeader, NAME_SIZE, NameField, app_info, name_in};
+use pdb_format::{FileStart, MOST_START, part_of};
 use std::alloc::AllocError;
 
-/// Returns a file of the same size with the sound parts of a file: the header, the sound entries,
+/// Returns the first bytes of the mended file, at most `MOST_START`: the header, the sound entries,
 /// and the bytes of the file from there on. So each sound offset leads to the same bytes.
 ///
-/// It allocates the new file.
+/// It allocates these bytes.
 ///
 /// # Errors
 ///
 /// - `AllocError`: if an allocation failed.
-pub(crate) fn mended_file<A: Allowance>(memory: &A, file: &[u8]) -> Result<Vec<u8>, AllocError>
+pub(crate) fn mended_start<A: Allowance>(memory: &A, file: &[u8]) -> Result<Vec<u8>, AllocError>
     requires { header_size ≤ length file.now }
-    ensures is { IfOk result (λ bytes. bytes.items ≡ words.mended file.now) }
+    ensures is { IfOk result (λ start. StartsMended file.now start.items) }
     ensures short { OnErr result (A.is_short memory.now) }
 {
     know_bytes(file);
-    let mut bytes = room_for(memory, file.len())?;
-    append(&mut bytes, &sound_header(file).to_bytes());
-    append_sound_entries(file, &mut bytes);
-    let at = bytes.len();
-    append(&mut bytes, &file[at..]);
-    Ok(bytes)
+    let size = file.len().min(MOST_START);
+    let mut start = room_for(memory, size)?;
+    append(&mut start, &sound_header(file).to_bytes());
+    append_sound_entries(file, &mut start);
+    let at = start.len();
+    append(&mut start, &file[at..size]);
+    Ok(start)
+}
+
+/// Returns the mended file by its first bytes. The others are those of the file.
+pub(crate) fn mended_by<'a>(file: &'a [u8], start: &'a [u8]) -> FileStart<'a>
+    ghost rest: { List ℕ }
+    requires header { header_size ≤ length file.now }
+    requires starts { StartsMended file.now start.now }
+    requires rest { rest ≡ drop (length start.now) file.now }
+    ensures { result ≡ words.mended file.now }
+{
+    know_bytes(file);
+    know_bytes(start);
+    FileStart::of(start, mended_app(file, start), file.len())
+}
+
+/// Returns the first bytes of the AppInfo of the mended file. They are those of the file at the same
+/// offset. Without AppInfo the offset is 0, and they are its first bytes.
+fn mended_app<'a>(file: &'a [u8], start: &'a [u8]) -> &'a [u8]
+    requires header { header_size ≤ length file.now }
+    requires starts { StartsMended file.now start.now }
+    ensures { result.now ≡ app_start (words.mended file.now) }
+{
+    know_bytes(file);
+    know_bytes(start);
+    let at = app_info(start);
+    if at == 0 {
+        part_of(start, 0)
+    } else {
+        part_of(file, at as usize)
+    }
 }
 
 /// Returns the header of the sound parts, with the number of the sound entries.

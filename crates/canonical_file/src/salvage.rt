@@ -3,19 +3,19 @@
 ghost use Rattle.std.specs.Prelude.{◌≡◌, ◌≢◌, ◌≤◌, length, false, Err, IfOk, IfErr};
 ghost use Rattle.heap_model.specs.DatabaseFields.{header_size};
 ghost use Rattle.heap_model.specs.Files.{HasNoFault};
-ghost use Rattle.canonical_file.specs.Canonical.{IsCanonicalFault, WritesOne, WroteOne, most_bytes};
+ghost use Rattle.canonical_file.specs.Canonical.{HasBlocksOf, IsCanonicalFault, WritesOne, WroteOne, most_bytes};
 ghost use Rattle.canonical_file.specs.Salvage.{Salvages};
 ghost use Rattle.canonical_file.specs.Salvaged.{IsRewrittenBy, IsSalvageFault};
 
-use crate::canonical::{CanonicalFault, put_canonical_by, put_written};
-use crate::mended::{know_bytes, mended_file};
+use crate::canonical::{CanonicalFault, put_canonical_from, put_written};
+use crate::mended::{know_bytes, mended_by, mended_start};
 use crate::record_ids::RecordIds;
 use allowance::Allowance;
 use db_format::DATABASE_HEADER_SIZE;
 use file_ids::give_ids;
 use heap_model::FileFault;
 use palm_text::Counted;
-use pdb_format::PdbFile;
+use pdb_format::{FileBytes, FileStart, PdbFile};
 use std::io::Write;
 
 /// The IDs of the records of a salvaged file.
@@ -29,8 +29,8 @@ pub enum SalvagedIds {
 
 /// Writes the file that is salvaged from a file, and returns its size in bytes.
 ///
-/// It allocates a copy of the file, and the same as `put_canonical_by`. It doesn't flush `out`. After
-/// a write fails, it writes nothing more.
+/// It allocates the first bytes of the mended file, at most `MOST_START`, and the same as
+/// `put_canonical_by`. It doesn't flush `out`. After a write fails, it writes nothing more.
 ///
 /// # Errors
 ///
@@ -57,45 +57,50 @@ pub fn put_salvaged<A: Allowance, W: Write>(
         return Err(CanonicalFault::BadFile(FileFault::Truncated));
     }
     know_bytes(file);
-    let Ok(mended) = mended_file(memory, file) else {
+    let Ok(start) = mended_start(memory, file) else {
         return Err(CanonicalFault::OutOfMemory);
     };
-    put_mended(memory, &mended, rule, out)
+    put_mended(memory, mended_by(file, &start), file, rule, out)
 }
 
-/// Writes the canonical form of a file without fault. Its records get IDs by the rule.
+/// Writes the canonical form of a file without fault. Its records get IDs by the rule. The source has
+/// the bytes of its blocks.
 fn put_mended<A: Allowance, W: Write>(
     memory: &A,
-    file: &[u8],
+    file: FileStart<'_>,
+    source: &[u8],
     rule: SalvagedIds,
     out: &mut Counted<W>,
 ) -> Result<usize, CanonicalFault>
-    requires size { length file.now ≤ most_bytes }
-    requires good { HasNoFault file.now }
+    requires size { length file ≤ most_bytes }
+    requires good { HasNoFault file }
+    requires source { HasBlocksOf file source.now }
     ensures done { IfOk result
-        (WroteOne (IsRewrittenBy rule file.now) W.contents out.old out.new) }
-    ensures why { IfErr result (IsCanonicalFault file.now) }
+        (WroteOne (IsRewrittenBy rule file.entry) W.contents out.old out.new) }
+    ensures why { IfErr result (IsCanonicalFault file.entry) }
     ensures untouched { IfErr result (λ fault. fault ≢ CanonicalFault.Write → out.new ≡ out.old) }
     ensures write { result ≡ Err CanonicalFault.Write
-        → WritesOne (IsRewrittenBy rule file.now) W.contents out.old out.new false }
+        → WritesOne (IsRewrittenBy rule file.entry) W.contents out.old out.new false }
     ensures short { result ≡ Err CanonicalFault.OutOfMemory → A.is_short memory.now }
 {
-    let Ok(file) = PdbFile::of(memory, file) else {
+    let Ok(file) = PdbFile::of_bytes(memory, file) else {
         return Err(CanonicalFault::OutOfMemory);
     };
     match rule {
-        SalvagedIds::Distinct => put_distinct(memory, &file, out),
-        SalvagedIds::Exact => put_written(memory, &file, file.bytes(), RecordIds::Own, out),
+        SalvagedIds::Distinct => put_distinct(memory, &file, source, out),
+        SalvagedIds::Exact => put_written(memory, &file, source, RecordIds::Own, out),
     }
 }
 
-/// Writes the canonical form of a file.
-fn put_distinct<A: Allowance, W: Write>(
+/// Writes the canonical form of a file. The source has the bytes of its blocks.
+fn put_distinct<A: Allowance, B: FileBytes, W: Write>(
     memory: &A,
-    file: &PdbFile<'_>,
+    file: &PdbFile<'_, B>,
+    source: &[u8],
     out: &mut Counted<W>,
 ) -> Result<usize, CanonicalFault>
-    requires { length file.now ≤ most_bytes }
+    requires size { length file.now ≤ most_bytes }
+    requires source { HasBlocksOf file.now source.now }
     ensures done { IfOk result
         (WroteOne (IsRewrittenBy SalvagedIds.Distinct file.now) W.contents out.old out.new) }
     ensures why { IfErr result (IsCanonicalFault file.now) }
@@ -109,5 +114,5 @@ fn put_distinct<A: Allowance, W: Write>(
     let Ok(given) = give_ids(memory, file) else {
         return Err(CanonicalFault::OutOfMemory);
     };
-    put_canonical_by(memory, file, &given, out)
+    put_canonical_from(memory, file, source, &given, out)
 }

@@ -1,13 +1,16 @@
 //! The files that a command reads and writes. If a file can't be read or written, the reason is
 //! printed on standard error.
 
-ghost use Rattle.std.specs.Prelude.{[], ◌≡◌, ◌≤◌, ◌⊎◌, ◌++◌, IfOk, IfErr, codes, decimal, length, string_bytes, vec_len};
+ghost use Rattle.std.specs.Prelude.{[], ◌≡◌, ◌≢◌, ◌≤◌, ◌⊎◌, ◌++◌, IfOk, IfErr, codes, decimal, length, string_bytes, vec_len};
+ghost use Rattle.hints.specs.Lookalikes.{looks_like_database};
 
 use crate::faults::{STANDARD_INPUT, STANDARD_STREAM, fail, fail_to_read};
 use crate::outputs::close_output;
 use crate::region_input::{SizedFault, read_sized, size_of};
-use crate::replacing::output_for_database;
+use crate::replacing::{OutputKind, output_for};
+use crate::suggestions::suggest_list;
 use heap_model::Bytes;
+use hints::looks_like_database;
 use palm_text::{Counted, put};
 use program_io::{InputFault, MOST_INPUT, Noted, Status, read_within, report_outcome};
 use raw_region::Region;
@@ -17,19 +20,11 @@ use std::fs::File;
 use std::io::{Input, Read};
 use std::rt::Files;
 
-/// Reads a whole file of at most `MOST_INPUT` bytes.
+/// Reads a whole file of at most `most` bytes.
 ///
 /// # Errors
-/// - `ReadFault`: the file can't be read, or is longer than `MOST_INPUT`.
+/// - `ReadFault`: the file can't be read, or is longer than `most`.
 /// - `NoMemory`: an allocation failed.
-pub fn read_file<R: Files + Eprint + AllocGlobal>(rt: &R, path: &str) -> Result<Vec<u8>, Status>
-    ensures limit { IfOk result (λ bytes. vec_len bytes ≤ MOST_INPUT) }
-    ensures faults { IfErr result (λ status. (status ≡ Status.ReadFault) ⊎ (status ≡ Status.NoMemory)) }
-{
-    read_file_within(rt, path, MOST_INPUT)
-}
-
-/// The same as `read_file`, with `most` as the greatest size.
 pub fn read_file_within<R: Files + Eprint + AllocGlobal>(
     rt: &R,
     path: &str,
@@ -65,18 +60,7 @@ fn read_opened<R: Files + AllocGlobal, F: Read>(
     read_within(&rt.alloc(), file, size as usize, most)
 }
 
-/// Reads a whole file of at most `MOST_INPUT` bytes. The path `-` means standard input.
-pub fn read_file_or_input<R: Files + Input + Eprint + AllocGlobal>(
-    rt: &R,
-    path: &str,
-) -> Result<Vec<u8>, Status>
-    ensures limit { IfOk result (λ bytes. vec_len bytes ≤ MOST_INPUT) }
-    ensures faults { IfErr result (λ status. (status ≡ Status.ReadFault) ⊎ (status ≡ Status.NoMemory)) }
-{
-    read_file_or_input_within(rt, path, MOST_INPUT)
-}
-
-/// The same as `read_file_or_input`, with `most` as the greatest size.
+/// The same as `read_file_within`. The path `-` means standard input.
 pub fn read_file_or_input_within<R: Files + Input + Eprint + AllocGlobal>(
     rt: &R,
     path: &str,
@@ -94,8 +78,9 @@ pub fn read_file_or_input_within<R: Files + Input + Eprint + AllocGlobal>(
     }
 }
 
-/// Reads a whole file into a region. The path `-` means standard input. Of a file it makes no other
-/// copy, unless the size of the file changes meanwhile.
+/// Reads a whole file into a region, and returns too whether it looks like a PDB or PRC file. The
+/// path `-` means standard input. Of a file it makes no other copy, unless the size of the file
+/// changes meanwhile.
 ///
 /// # Errors
 /// - `ReadFault`: the file can't be read, or is longer than `MOST_INPUT`.
@@ -103,23 +88,56 @@ pub fn read_file_or_input_within<R: Files + Input + Eprint + AllocGlobal>(
 pub fn read_image<R: Files + Input + Eprint + AllocGlobal>(
     rt: &R,
     path: &str,
-) -> Result<Region, Status>
-    ensures limit { IfOk result (λ region. length region.bytes ≤ MOST_INPUT) }
-    ensures whole { IfOk result (λ region. region.lents ≡ []) }
+) -> Result<(Region, bool), Status>
+    ensures limit { IfOk result (λ read. length read.0.bytes ≤ MOST_INPUT) }
+    ensures whole { IfOk result (λ read. read.0.lents ≡ []) }
+    ensures is_file { IfOk result (λ read. read.1 ≡ looks_like_database read.0.bytes) }
     ensures faults { IfErr result (λ status. (status ≡ Status.ReadFault) ⊎ (status ≡ Status.NoMemory)) }
 {
     if path != STANDARD_STREAM {
         match read_sized(rt, path) {
-            Ok(region) => return Ok(region),
+            Ok(region) => return Ok(looked_at(region)),
             Err(SizedFault::Input(fault)) => return Err(fail_to_read(rt, path, fault)),
             Err(SizedFault::OtherSize) => {}
         }
     }
-    let bytes = read_file_or_input(rt, path)?;
+    let bytes = read_file_or_input_within(rt, path, MOST_INPUT)?;
     match Region::copied_from(&rt.alloc(), bytes.as_slice()) {
-        Ok(region) => Ok(region),
+        Ok(region) => Ok(looked_at(region)),
         Err(_) => Err(fail(rt, Status::NoMemory)),
     }
+}
+
+/// Reads an image as `read_image` does, does a command on it, and returns its status. If the image
+/// is refused and looks like a PDB or PRC file, reports that.
+pub fn on_image<R: Files + Input + Eprint + AllocGlobal, F: FnOnce(Region) -> Status>(
+    rt: &R,
+    path: &str,
+    command: F,
+) -> Status
+    requires callable { (image : _) → image.lents ≡ [] → F.pre command image }
+    requires good_words { (image : _) (status : _) → F.post command image status
+        → status ≢ Status.BadWords }
+    ensures { result ≢ Status.BadWords }
+{
+    match read_image(rt, path) {
+        Ok((image, is_file)) => {
+            let status = command(image);
+            suggest_list(rt, path, status, is_file);
+            status
+        }
+        Err(status) => status,
+    }
+}
+
+/// Returns an image, and whether it looks like a PDB or PRC file.
+fn looked_at(image: Region) -> (Region, bool)
+    requires { image.lents ≡ [] }
+    ensures image { result.0 ≡ image }
+    ensures is_file { result.1 ≡ looks_like_database image.bytes }
+{
+    let is_file = looks_like_database(image.as_slice());
+    (image, is_file)
 }
 
 /// Reads some files as wholes, in order. The path `-` means standard input.
@@ -136,7 +154,7 @@ pub fn read_files<R: Files + Input + Eprint + AllocGlobal>(
 {
     let mut files = Vec::new(rt.alloc());
     for path in paths {
-        let file = Bytes::of(read_file_or_input(rt, path)?);
+        let file = Bytes::of(read_file_or_input_within(rt, path, MOST_INPUT)?);
         if files.push(file).is_err() {
             return Err(fail(rt, Status::NoMemory));
         }
@@ -192,7 +210,7 @@ fn export_path(alloc: Global, image: &str, number: usize) -> Result<String, Allo
 pub fn write_file<R: Files + Eprint + AllocGlobal>(rt: &R, path: &str, bytes: &[u8]) -> Status
     ensures { (result ≡ Status.Done) ⊎ (result ≡ Status.WriteFault) ⊎ (result ≡ Status.NoMemory) }
 {
-    let out = match output_for_database(rt, path) {
+    let out = match output_for(rt, path, OutputKind::Database) {
         Ok(out) => out,
         Err(status) => return status,
     };

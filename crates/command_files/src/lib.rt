@@ -12,7 +12,7 @@
 //! | `faults` | reports why a command did not start |
 //! | `line_hints` | reports what is wrong with a faulty line |
 //! | `buffered` | returns and reports the first error of a buffered writer |
-//! | `outputs` | closes and reports the outputs of a command |
+//! | `outputs` | opens an image for output, closes and reports the outputs of a command |
 //! | `suggestions` | reports what an input looks like, which command explains a fault |
 #![tactic(auto)]
 
@@ -31,13 +31,11 @@ pub use faults::{
     input_name,
 };
 pub use files::{
-    read_file, read_file_or_input, read_file_or_input_within, read_file_within, read_files,
-    read_image, report_left_files, write_file, write_files,
+    on_image, read_file_or_input_within, read_file_within, read_files, read_image,
+    report_left_files, write_file, write_files,
 };
 pub use line_hints::report_line_hint;
-pub use outputs::{close_output, report_image, report_output, report_outputs};
+pub use outputs::{close_output, image_output, report_image, report_output, report_outputs};
 pub use region_input::{SizedFault, read_region_from};
-pub use replacing::{output_for_database, output_for_image, output_for_picture};
-pub use suggestions::{
-    looks_like_file, suggest_check, suggest_checks, suggest_explain, suggest_list,
-};
+pub use replacing::{OutputKind, output_for, output_for_picture};
+pub use suggestions::{suggest_check, suggest_checks, suggest_explain, suggest_list};

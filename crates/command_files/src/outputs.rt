@@ -1,13 +1,31 @@
-//! The end of a command that wrote to one output or to two.
+//! The outputs of a command, and its end after it wrote to one or to two.
 
-ghost use Rattle.std.specs.Prelude.{◌≡◌};
+ghost use Rattle.std.specs.Prelude.{◌≡◌, ◌⊎◌, IfErr};
 
 use crate::faults::STANDARD_OUTPUT;
+use crate::replacing::{OutputKind, output_for};
 use palm_text::Counted;
 use program_io::{Noted, OutputFile, Status, report_outcome};
 use std::io;
 use std::io::Write;
 use std::rt::Files;
+
+/// Returns a writer for an image at a path, as `output_for` does.
+///
+/// # Errors
+/// - `WriteFault`: there is a file that looks like a PDB or PRC file.
+/// - `NoMemory`: an allocation failed.
+pub fn image_output<'a, R: Files + Eprint + AllocGlobal>(
+    rt: &'a R,
+    path: &str,
+) -> Result<Counted<Noted<OutputFile<'a, R>>>, Status>
+    ensures { IfErr result (λ status. (status ≡ Status.WriteFault) ⊎ (status ≡ Status.NoMemory)) }
+{
+    match output_for(rt, path, OutputKind::Image) {
+        Ok(out) => Ok(Counted::new(Noted::new(out))),
+        Err(status) => Err(status),
+    }
+}
 
 /// Closes the output file of a command. Returns the first error of its writer.
 pub fn close_output<R: Files + AllocGlobal>(

@@ -3,7 +3,7 @@
 
 ghost use Rattle.std.specs.Prelude.{◌≡◌, ◌⊎◌, Err, IfErr, IsTrue, false};
 ghost use Rattle.std.specs.Io.KnownBytes.{Consumes};
-ghost use Rattle.hints.specs.Lookalikes as words;
+ghost use Rattle.command_files.specs.Replacing.{stays};
 
 use crate::faults::fail;
 use hints::{DATABASE_HEADER_SIZE, IMAGE_HEADER_SIZE, looks_like_database, looks_like_image};
@@ -13,76 +13,74 @@ use std::fs::File;
 use std::io::Read;
 use std::rt::Files;
 
-/// Returns a writer for an image at a path. Nothing is opened for it yet. If there is a file that
-/// looks like a PDB or PRC file, reports that and returns an error, so that the file stays.
+/// A kind of file that is written. It replaces no file of the other kind.
+#[derive(Clone, Copy)]
+pub enum OutputKind {
+    /// A heap image.
+    Image,
+    /// A PDB or PRC file.
+    Database,
+}
+
+/// Returns a writer for a file of a kind at a path. Nothing is opened for it yet. If there is a file
+/// that looks like one of the other kind, reports that and returns an error, so that the file stays.
 ///
 /// # Errors
 /// - `WriteFault`: there is such a file.
 /// - `NoMemory`: an allocation failed.
-pub fn output_for_image<'a, R: Files + Eprint + AllocGlobal>(
+pub fn output_for<'a, R: Files + Eprint + AllocGlobal>(
     rt: &'a R,
     path: &str,
+    kind: OutputKind,
 ) -> Result<OutputFile<'a, R>, Status>
     ensures { IfErr result (λ status. (status ≡ Status.WriteFault) ⊎ (status ≡ Status.NoMemory)) }
 {
-    let mut head = [0; DATABASE_HEADER_SIZE];
-    if has_head(rt, path, &mut head) {
-        return image_over(rt, path, &head);
+    match kind {
+        OutputKind::Image => output_unless(rt, path, kind, &mut [0; DATABASE_HEADER_SIZE]),
+        OutputKind::Database => output_unless(rt, path, kind, &mut [0; IMAGE_HEADER_SIZE]),
     }
-    unopened(rt, path)
 }
 
-/// Returns a writer for an image in place of a file that begins with these bytes. If they look like
-/// those of a PDB or PRC file, reports that.
-fn image_over<'a, R: Files + Eprint + AllocGlobal>(
+/// Does the same. `head` is for the first bytes of a file that is there, as many as show whether it
+/// is one of the other kind.
+fn output_unless<'a, R: Files + Eprint + AllocGlobal>(
     rt: &'a R,
     path: &str,
-    head: &[u8],
-) -> Result<OutputFile<'a, R>, Status>
-    ensures kept { IsTrue (words.looks_like_database head.now) → result ≡ Err Status.WriteFault }
-    ensures replaced { words.looks_like_database head.now ≡ false
-        → IfErr result (λ status. status ≡ Status.NoMemory) }
-{
-    if looks_like_database(head) {
-        let kept = "looks like a PDB or PRC file, and an image doesn't replace it";
-        return Err(fail_to_replace(rt, path, kept));
-    }
-    unopened(rt, path)
-}
-
-/// Returns a writer for a PDB or PRC file at a path. Nothing is opened for it yet. If there is a
-/// file that looks like a heap image, reports that and returns an error, so that the file stays.
-///
-/// # Errors
-/// - `WriteFault`: there is such a file.
-/// - `NoMemory`: an allocation failed.
-pub fn output_for_database<'a, R: Files + Eprint + AllocGlobal>(
-    rt: &'a R,
-    path: &str,
+    kind: OutputKind,
+    head: &mut [u8],
 ) -> Result<OutputFile<'a, R>, Status>
     ensures { IfErr result (λ status. (status ≡ Status.WriteFault) ⊎ (status ≡ Status.NoMemory)) }
 {
-    let mut head = [0; IMAGE_HEADER_SIZE];
-    if has_head(rt, path, &mut head) {
-        return database_over(rt, path, &head);
+    if has_head(rt, path, head) {
+        return output_over(rt, path, kind, head);
     }
     unopened(rt, path)
 }
 
-/// Returns a writer for a PDB or PRC file in place of a file that begins with these bytes. If they
-/// look like those of a heap image, reports that.
-fn database_over<'a, R: Files + Eprint + AllocGlobal>(
+/// Returns a writer for a file of a kind in place of a file that begins with these bytes. If they
+/// look like those of a file of the other kind, reports that.
+fn output_over<'a, R: Files + Eprint + AllocGlobal>(
     rt: &'a R,
     path: &str,
+    kind: OutputKind,
     head: &[u8],
 ) -> Result<OutputFile<'a, R>, Status>
-    ensures kept { IsTrue (words.looks_like_image head.now) → result ≡ Err Status.WriteFault }
-    ensures replaced { words.looks_like_image head.now ≡ false
+    ensures kept { IsTrue (stays kind head.now) → result ≡ Err Status.WriteFault }
+    ensures replaced { stays kind head.now ≡ false
         → IfErr result (λ status. status ≡ Status.NoMemory) }
 {
-    if looks_like_image(head) {
-        let kept = "looks like a heap image, and a PDB or PRC file doesn't replace it";
-        return Err(fail_to_replace(rt, path, kept));
+    let (stays, why) = match kind {
+        OutputKind::Image => (
+            looks_like_database(head),
+            "looks like a PDB or PRC file, and an image doesn't replace it",
+        ),
+        OutputKind::Database => (
+            looks_like_image(head),
+            "looks like a heap image, and a PDB or PRC file doesn't replace it",
+        ),
+    };
+    if stays {
+        return Err(fail_to_replace(rt, path, why));
     }
     unopened(rt, path)
 }

@@ -1,22 +1,11 @@
 //! What else an input looks like, and which command explains a fault.
 
-ghost use Rattle.std.specs.Prelude.{[], ◌≡◌};
-ghost use Rattle.hints.specs.Lookalikes as words;
-
 use crate::faults::input_name;
 use chunk_format::{BlankFault, is_image_size};
 use heap_model::Bytes;
 use hints::{looks_like_database, looks_like_image};
 use program_io::Status;
 use raw_region::Region;
-
-/// Returns whether an image looks like a PDB or PRC file.
-pub fn looks_like_file(image: &Region) -> bool
-    requires { image.now.lents ≡ [] }
-    ensures { result ≡ words.looks_like_database image.now.bytes }
-{
-    looks_like_database(image.as_slice())
-}
 
 /// Reports on standard error that the image at a path looks like a PDB or PRC file, and the command
 /// that lists it. It reports nothing if `is_file` is false, or if the image wasn't refused.

@@ -1,6 +1,6 @@
 -- The block of a file that `get` is asked for: the words that ask for it, its bytes, and why there
 -- is none.
-use Rattle.std.specs.Prelude.{◌≡◌, ◌⊎◌, ◌<◌, ◌≤◌, ◌+◌, ◌^◌, ◌==◌, ℕ, true, false, if◌then◌else◌, List, length, codes, slice_index_or, Option, Some, None}
+use Rattle.std.specs.Prelude.{◌≡◌, ◌⊎◌, ◌<◌, ◌≤◌, ◌+◌, ◌^◌, ◌==◌, ℕ, true, false, if◌then◌else◌, List, length, codes, slice_index_or, Option, Some, None, Result, IfOk, IfErr}
 use Rattle.std.specs.Option.{option_and_then}
 use Rattle.std.specs.Str.{bytes_eq}
 use Rattle.heap_model.specs.Bytes.{u32_at}
@@ -11,6 +11,7 @@ use Rattle.heap_model.specs.declared.names.Which.{Which}
 use Rattle.heap_model.specs.declared.names.Which.TheVariants.{App, Sort}
 use Rattle.heap_model.specs.declared.refusal.Refusal.{Refusal}
 use Rattle.heap_model.specs.declared.refusal.Refusal.TheVariants.{NotResourceDatabase, IndexOutOfRange, RecordDeleted, ResourceNotFound, NoInfoBlock}
+use Rattle.file_parts.specs.Replacing.{has_block}
 use Rattle.script_lines.specs.Spellings.{number_below, spelled_four}
 use Rattle.file_commands.specs.declared.block_words.WantedBlock.{WantedBlock}
 use Rattle.file_commands.specs.declared.block_words.WantedBlock.TheVariants.{Info, Entry, Resource}
@@ -79,3 +80,10 @@ LacksBlock file (Entry index) refusal =
 LacksBlock file (Resource kind id) refusal =
     ((refusal ≡ NotResourceDatabase) × (resources_in file ≡ false))
     ⊎ ((refusal ≡ ResourceNotFound) × (resources_in file ≡ true) × HasNoResource file kind id)
+
+-- the rank of the block that is asked for was found, or the file doesn't have the block
+pub record FindsRank (file : List ℕ) (wanted : WantedBlock) (result : Result ℕ Refusal) : Type 0 where
+  pub rank : IfOk result (IsWantedRank file wanted)
+  pub there : IfOk result (λ rank. has_block file rank ≡ true)
+  pub inside : IfOk result (λ rank. rank < 2 + entry_count_in file)
+  pub lacks : IfErr result (LacksBlock file wanted)

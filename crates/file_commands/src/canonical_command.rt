@@ -5,7 +5,7 @@ ghost use Rattle.canonical_file.specs.Canonical.{GetsIds, IsCanonical, IsCanonic
 ghost use Rattle.canonical_file.specs.Changes.{is_none};
 ghost use Rattle.canonical_file.specs.Given.{AreGivenIn};
 ghost use Rattle.palm_text.specs.Output.{output};
-ghost use Rattle.file_commands.specs.Ends.{EndsCanonical, PutsPart, WroteWhole};
+ghost use Rattle.file_commands.specs.Ends.{EndsCanonical, RewritesWhole};
 
 use crate::faults::{Rewritten, put_rewritten, say_fault};
 use allowance::Allowance;
@@ -57,13 +57,8 @@ fn put_flushed<A: Allowance, W: Write>(
     file_out: &mut Counted<W>,
 ) -> Result<Rewritten, CanonicalFault>
     requires { length file.now ≤ most_bytes }
-    ensures done { IfOk result (WroteWhole file.now (output W.contents file_out.old file_out.new)) }
-    ensures why { IfErr result (IsCanonicalFault file.now) }
-    ensures untouched { IfErr result (λ fault.
-        fault ≢ CanonicalFault.Write → file_out.new ≡ file_out.old) }
-    ensures write { result ≡ Err CanonicalFault.Write
-        → PutsPart file.now (output W.contents file_out.old file_out.new) }
-    ensures short { result ≡ Err CanonicalFault.OutOfMemory → A.is_short memory.now }
+    ensures { RewritesWhole file.now (output W.contents file_out.old file_out.new)
+        (A.is_short memory.now) result }
 {
     match PdbFile::open(memory, file) {
         Ok(file) => put_opened(memory, &file, file_out),
@@ -79,13 +74,8 @@ fn put_opened<A: Allowance, W: Write>(
     file_out: &mut Counted<W>,
 ) -> Result<Rewritten, CanonicalFault>
     requires { length file.now ≤ most_bytes }
-    ensures done { IfOk result (WroteWhole file.now (output W.contents file_out.old file_out.new)) }
-    ensures why { IfErr result (IsCanonicalFault file.now) }
-    ensures untouched { IfErr result (λ fault.
-        fault ≢ CanonicalFault.Write → file_out.new ≡ file_out.old) }
-    ensures write { result ≡ Err CanonicalFault.Write
-        → PutsPart file.now (output W.contents file_out.old file_out.new) }
-    ensures short { result ≡ Err CanonicalFault.OutOfMemory → A.is_short memory.now }
+    ensures { RewritesWhole file.now (output W.contents file_out.old file_out.new)
+        (A.is_short memory.now) result }
 {
     file.know_file();
     match ids_of(memory, file) {
@@ -105,13 +95,8 @@ fn put_by_ids<A: Allowance, W: Write>(
     requires short { length file.now ≤ most_bytes }
     requires ids { GetsIds file.now given.now }
     requires given { AreGivenIn file.now given.now.ids.items given.now.seed }
-    ensures done { IfOk result (WroteWhole file.now (output W.contents file_out.old file_out.new)) }
-    ensures why { IfErr result (IsCanonicalFault file.now) }
-    ensures untouched { IfErr result (λ fault.
-        fault ≢ CanonicalFault.Write → file_out.new ≡ file_out.old) }
-    ensures write { result ≡ Err CanonicalFault.Write
-        → PutsPart file.now (output W.contents file_out.old file_out.new) }
-    ensures short { result ≡ Err CanonicalFault.OutOfMemory → A.is_short memory.now }
+    ensures { RewritesWhole file.now (output W.contents file_out.old file_out.new)
+        (A.is_short memory.now) result }
 {
     file.know_file();
     let changes = changes_by(file, given);

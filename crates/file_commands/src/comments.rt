@@ -1,7 +1,6 @@
 //! What a file looks like, which numbers are allowed at its fault, and what is wrong with a line of
 //! the text that `pack` reads.
 
-ghost use Rattle.heap_model.specs.Files.{HasNoFault};
 ghost use Rattle.file_parts.specs.Either.{HasFolderParts};
 
 use canonical_file::{dropped_filler, dropped_name};
@@ -15,15 +14,45 @@ use hints::{
 use pdb_format::{FileBytes, MOST_FILE_BYTES, check_bytes, check_file};
 use program_io::{MOST_INPUT, Status};
 
+/// What a rewrite drops of a file, and how that is reported.
+#[derive(Clone, Copy)]
+pub(crate) struct Dropped {
+    /// Whether it drops filler.
+    filler: bool,
+    /// The end of each line: whether bytes were dropped, or would be.
+    end: &'static str,
+}
+
+/// After a rewrite.
+pub(crate) const DROPPED: Dropped = Dropped {
+    filler: true,
+    end: "dropped",
+};
+
+/// If nothing is rewritten.
+pub(crate) const WOULD_BE_DROPPED: Dropped = Dropped {
+    filler: true,
+    end: "that a rewrite drops",
+};
+
+impl Dropped {
+    /// The same, for a rewrite that keeps filler.
+    pub(crate) fn but_filler(self) -> Dropped {
+        Dropped {
+            filler: false,
+            end: self.end,
+        }
+    }
+}
+
 /// Reports on standard error how many bytes of a file a rewrite drops. It reports nothing if the
-/// command isn't done. `end` ends each line: whether the bytes were dropped, or would be. It checks
-/// the file again, but sorts and allocates nothing.
+/// command isn't done. It checks the file again, but sorts and allocates nothing.
 pub(crate) fn name_dropped<R: Eprint, B: FileBytes>(
     rt: &R,
     path: &str,
     status: Status,
     file: &B,
-    end: &str,
+    dropped: Dropped,
 ) {
     if status != Status::Done {
         return;
@@ -31,46 +60,17 @@ pub(crate) fn name_dropped<R: Eprint, B: FileBytes>(
     let Ok(()) = check_bytes(file) else {
         return;
     };
-    name_filler(rt, path, file, end);
-    name_after_name(rt, path, file, end);
-}
-
-/// Reports the same as `name_dropped`, but no filler: for a rewrite that keeps it.
-pub(crate) fn name_dropped_but_filler<R: Eprint, B: FileBytes>(
-    rt: &R,
-    path: &str,
-    status: Status,
-    file: &B,
-    end: &str,
-) {
-    if status != Status::Done {
-        return;
+    if dropped.filler {
+        name_count(rt, path, "filler", dropped_filler(file), dropped.end);
     }
-    let Ok(()) = check_bytes(file) else {
-        return;
-    };
-    name_after_name(rt, path, file, end);
+    name_count(rt, path, "after the name", dropped_name(file), dropped.end);
 }
 
-/// Reports how many bytes of the filler a rewrite drops.
-fn name_filler<R: Eprint, B: FileBytes>(rt: &R, path: &str, file: &B, end: &str)
-    requires { HasNoFault (B.bytes file.now) }
-{
-    let filler = dropped_filler(file);
-    if filler > 0 {
+/// Reports how many bytes of a part of a file a rewrite drops, if there are any.
+fn name_count<R: Eprint>(rt: &R, path: &str, part: &str, count: usize, end: &str) {
+    if count > 0 {
         let name = input_name(path);
-        let _ = eprintln!(rt; "{name}: filler, {filler} bytes {end}");
-    }
-}
-
-/// Reports how many bytes after the name a rewrite drops.
-fn name_after_name<R: Eprint, B: FileBytes>(rt: &R, path: &str, file: &B, end: &str)
-    requires { HasNoFault (B.bytes file.now) }
-{
-    let after = dropped_name(file);
-    if after > 0 {
-        let name = input_name(path);
-        let _ = eprintln!(rt; "{name}: after the name, {after} bytes {end}");
+        let _ = eprintln!(rt; "{name}: {part}, {count} bytes {end}");
     }
 }
 
@@ -80,12 +80,6 @@ pub fn name_each_dropped<R: Eprint>(rt: &R, paths: &[&str], status: Status, file
         name_dropped(rt, path, status, &file.as_slice(), DROPPED);
     }
 }
-
-/// The end of a line of `name_dropped` after a rewrite.
-pub(crate) const DROPPED: &str = "dropped";
-
-/// The same if nothing is rewritten.
-pub(crate) const WOULD_BE_DROPPED: &str = "that a rewrite drops";
 
 /// Reports the same as `suggest_check`, and the same as `comment_on_damage` if the file was refused.
 pub(crate) fn comment_on_file<R: Eprint + AllocGlobal, B: FileBytes>(
@@ -100,15 +94,14 @@ pub(crate) fn comment_on_file<R: Eprint + AllocGlobal, B: FileBytes>(
     }
 }
 
-/// Reports the same as `comment_on_file`. If a file with a fault was salvaged, it reports what a
-/// transfer may have made of the file, since that can be undone.
+/// If a file with a fault was salvaged, reports what a transfer may have made of the file, since that
+/// can be undone.
 pub(crate) fn comment_on_salvage<R: Eprint + AllocGlobal, B: FileBytes>(
     rt: &R,
     path: &str,
     status: Status,
     file: &B,
 ) {
-    comment_on_file(rt, path, status, file);
     if status == Status::Done && !looks_like_image(file.start()) && check_bytes(file).is_err() {
         name_transfer(rt, path, file);
     }

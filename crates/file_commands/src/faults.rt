@@ -12,26 +12,33 @@ use canonical_file::{Changes, put_changes};
 use file_listing::{Notation, put_fault};
 use heap_model::FileFault;
 use itoa::Buffer;
-use palm_text::{Counted, Piece, WriteFault, put_pieces};
+use palm_text::Piece::Text;
+use palm_text::{Counted, WriteFault, put_pieces};
 use pdb_format::FileBytes;
 use program_io::{Status, flushed};
 use std::io::Write;
 
-/// Writes the row of the first fault of a file, and flushes `out`.
-#[tactic(auto, using(palm_text::proofs::Parts::then_flush))]
-fn put_fault_row<N: Notation, B: FileBytes, V: Write>(
-    notation: &N,
+/// Flushes `out` after a text. Returns `status`, or `WriteFault` if a write of the text or the flush
+/// failed.
+pub(crate) fn said<V: Write>(
+    written: Result<(), WriteFault>,
+    status: Status,
     out: &mut Counted<V>,
-    file: &B,
-    fault: FileFault,
-) -> Result<(), WriteFault>
-    requires short { length (B.bytes file.now) ≤ most_file_bytes }
-    requires first { IsFirstFault (B.bytes file.now) fault }
-    ensures { Puts V.contents out.old out.new (N.row_text notation.now (fault_row (B.bytes file.now) fault))
-        (is_ok result) }
+) -> Status
+    requires { status ≢ Status.WriteFault }
+    ensures status { (result ≡ status) ⊎ (result ≡ Status.WriteFault) }
+    ensures said { result ≡ status → (start : _) (text : List ℕ)
+        → Writes V.contents start out.old text (is_ok written) → Puts V.contents start out.new text true }
+    ensures fault { result ≡ Status.WriteFault → (start : _) (text : List ℕ)
+        → Writes V.contents start out.old text (is_ok written) → Puts V.contents start out.new text false }
 {
-    put_fault(notation, out, file, fault)?;
-    flushed(out)
+    match written {
+        Ok(()) => match flushed(out) {
+            Ok(()) => status,
+            Err(_) => Status::WriteFault,
+        },
+        Err(_) => Status::WriteFault,
+    }
 }
 
 /// Prints the row of the first fault of a file.
@@ -50,10 +57,7 @@ pub(crate) fn say_fault<N: Notation, B: FileBytes, V: Write>(
     ensures write { result ≡ Status.WriteFault
         → PutsFaultRow (N.row_text notation.now) (B.bytes file.now) V.contents out.old out.new false }
 {
-    match put_fault_row(notation, out, file, fault) {
-        Ok(()) => Status::Refused,
-        Err(_) => Status::WriteFault,
-    }
+    said(put_fault(notation, out, file, fault), Status::Refused, out)
 }
 
 /// The size of a rewritten file in bytes, and its changes.
@@ -72,9 +76,9 @@ pub(crate) fn put_count<V: Write>(out: &mut Counted<V>, count: usize) -> Result<
     put_pieces(
         out,
         &[
-            Piece::Text(b"ok "),
-            Piece::Text(digits.format(count).as_bytes()),
-            Piece::Text(b"\n"),
+            Text(b"ok "),
+            Text(digits.format(count).as_bytes()),
+            Text(b"\n"),
         ],
     )
 }

@@ -2,11 +2,11 @@
 
 ghost use Rattle.std.specs.Prelude.{◌≢◌, ⊤};
 
-use crate::comments::{WOULD_BE_DROPPED, comment_on_file, name_dropped, name_dropped_but_filler};
+use crate::comments::{WOULD_BE_DROPPED, comment_on_file, name_dropped};
 use crate::inputs::Inputs;
 use crate::reports::{Asked, Report, cmd_reports_from};
+use crate::starts::{FileRead, read_listed};
 use command_files::{STANDARD_OUTPUT, buffered_fault, fail};
-use file_starts::{FileRead, read_listed};
 use palm_text::Counted;
 use program_io::{Noted, Status, report_fault, report_outcome};
 use std::io;
@@ -34,12 +34,11 @@ impl<R: Files + Input + Eprint + AllocGlobal> Inputs for SystemFiles<'_, R> {
             report_fault(self.rt, status);
         }
         comment_on_file(self.rt, path, status, file);
-        match self.report {
-            Report::Left(keep) if keep.filler => {
-                name_dropped_but_filler(self.rt, path, status, file, WOULD_BE_DROPPED)
-            }
-            _ => name_dropped(self.rt, path, status, file, WOULD_BE_DROPPED),
-        }
+        let dropped = match self.report {
+            Report::Left(keep) if keep.filler => WOULD_BE_DROPPED.but_filler(),
+            _ => WOULD_BE_DROPPED,
+        };
+        name_dropped(self.rt, path, status, file, dropped);
     }
 }
 

@@ -3,20 +3,18 @@
 ghost use Rattle.std.specs.Prelude.{◌≢◌, ◌≤◌, length};
 
 use crate::canonical_command::cmd_canonical_from;
-use crate::comments::{
-    DROPPED, comment_on_file, comment_on_salvage, name_dropped, name_dropped_but_filler,
-};
+use crate::comments::{DROPPED, comment_on_file, comment_on_salvage, name_dropped};
 use crate::keep_command::cmd_keep_from;
 use crate::put_command::{NewBlock, cmd_put_from};
 use crate::salvage_command::cmd_salvage_from;
 use canonical_file::{MOST_BYTES, SalvagedIds};
 use command_files::{
-    STANDARD_ERROR, STANDARD_OUTPUT, STANDARD_STREAM, buffered_fault, output_for_database,
-    read_file_or_input_within,
+    OutputKind, STANDARD_ERROR, STANDARD_OUTPUT, STANDARD_STREAM, buffered_fault, output_for,
+    read_file_or_input_within, report_outputs,
 };
 use file_parts::Keep;
 use palm_text::Counted;
-use program_io::{ErrorOutput, Noted, Status, report_outcome};
+use program_io::{ErrorOutput, Noted, Status};
 use std::alloc::Global;
 use std::io;
 use std::io::{BufWriter, Input, Write};
@@ -62,6 +60,18 @@ pub fn canonical_kept<R: Files + Input + Print + Eprint + AllocGlobal>(
     rewrite_as(rt, path, NewFile::Kept(keep), out_path)
 }
 
+/// Runs `salvage`, with these IDs. The paths are as for `canonical`.
+pub fn salvage<R: Files + Input + Print + Eprint + AllocGlobal>(
+    rt: &R,
+    path: &str,
+    ids: SalvagedIds,
+    out_path: &str,
+) -> Status
+    ensures { result ≢ Status.BadWords }
+{
+    rewrite_as(rt, path, NewFile::Salvaged(ids), out_path)
+}
+
 /// Writes this new file for a file, and reports what the new file lacks.
 fn rewrite_as<R: Files + Input + Print + Eprint + AllocGlobal>(
     rt: &R,
@@ -76,57 +86,31 @@ fn rewrite_as<R: Files + Input + Print + Eprint + AllocGlobal>(
         Err(status) => return status,
     };
     let status = write_to(rt, file.as_slice(), new, out_path);
-    comment_on_file(rt, path, status, &file.as_slice());
+    comment_on_rewrite(rt, path, status, file.as_slice(), new);
+    status
+}
+
+/// Reports the same as `comment_on_file`, and what the new file lacks. For a salvaged file it
+/// reports what a transfer may have made of the damaged one.
+fn comment_on_rewrite<R: Eprint + AllocGlobal>(
+    rt: &R,
+    path: &str,
+    status: Status,
+    file: &[u8],
+    new: NewFile<'_>,
+) {
+    comment_on_file(rt, path, status, &file);
     match new {
+        NewFile::Salvaged(_) => comment_on_salvage(rt, path, status, &file),
         NewFile::Kept(keep) if keep.filler => {
-            name_dropped_but_filler(rt, path, status, &file.as_slice(), DROPPED)
+            name_dropped(rt, path, status, &file, DROPPED.but_filler())
         }
-        _ => name_dropped(rt, path, status, &file.as_slice(), DROPPED),
+        _ => name_dropped(rt, path, status, &file, DROPPED),
     }
-    status
 }
 
-/// Runs `salvage`. The paths are as for `canonical`.
-pub fn salvage<R: Files + Input + Print + Eprint + AllocGlobal>(
-    rt: &R,
-    path: &str,
-    out_path: &str,
-) -> Status
-    ensures { result ≢ Status.BadWords }
-{
-    salvage_by(rt, path, SalvagedIds::Distinct, out_path)
-}
-
-/// Runs `salvage --exact-ids`.
-pub fn salvage_exact_ids<R: Files + Input + Print + Eprint + AllocGlobal>(
-    rt: &R,
-    path: &str,
-    out_path: &str,
-) -> Status
-    ensures { result ≢ Status.BadWords }
-{
-    salvage_by(rt, path, SalvagedIds::Exact, out_path)
-}
-
-/// Salvages a file, with these IDs.
-fn salvage_by<R: Files + Input + Print + Eprint + AllocGlobal>(
-    rt: &R,
-    path: &str,
-    ids: SalvagedIds,
-    out_path: &str,
-) -> Status
-    ensures { result ≢ Status.BadWords }
-{
-    let file = match read_file_or_input_within(rt, path, MOST_BYTES) {
-        Ok(file) => file,
-        Err(status) => return status,
-    };
-    let status = write_to(rt, file.as_slice(), NewFile::Salvaged(ids), out_path);
-    comment_on_salvage(rt, path, status, &file.as_slice());
-    status
-}
-
-/// Writes a new file for a file to a path. The path `-` means standard output.
+/// Writes a new file for a file to a path. A heap image isn't replaced. The path `-` means standard
+/// output, and then the lines go to standard error.
 pub(crate) fn write_to<R: Files + Print + Eprint + AllocGlobal>(
     rt: &R,
     file: &[u8],
@@ -137,52 +121,18 @@ pub(crate) fn write_to<R: Files + Print + Eprint + AllocGlobal>(
     ensures { result ≢ Status.BadWords }
 {
     if out_path == STANDARD_STREAM {
-        write_to_output(rt, file, new)
-    } else {
-        write_to_file(rt, file, new, out_path)
+        let mut out = Counted::new(Noted::new(ErrorOutput::new(rt)));
+        let (status, fault) = rewrite(rt.alloc(), file, new, io::writer(rt), &mut out);
+        return report_outputs(rt, status, (STANDARD_OUTPUT, fault), STANDARD_ERROR, out);
     }
-}
-
-/// Writes a new file for a file to standard output.
-fn write_to_output<R: Print + Eprint + AllocGlobal>(rt: &R, file: &[u8], new: NewFile<'_>) -> Status
-    requires { length file.now ≤ MOST_BYTES }
-    ensures { result ≢ Status.BadWords }
-{
-    let mut out = Counted::new(Noted::new(ErrorOutput::new(rt)));
-    let (status, file_fault) = rewrite(rt.alloc(), file, new, io::writer(rt), &mut out);
-    let (_, fault) = out.into_inner().into_parts();
-    report_outcome(
-        rt,
-        status,
-        &[(STANDARD_OUTPUT, file_fault), (STANDARD_ERROR, fault)],
-    );
-    status
-}
-
-/// Writes a new file for a file to a path. A heap image isn't replaced.
-fn write_to_file<R: Files + Print + Eprint + AllocGlobal>(
-    rt: &R,
-    file: &[u8],
-    new: NewFile<'_>,
-    out_path: &str,
-) -> Status
-    requires { length file.now ≤ MOST_BYTES }
-    ensures { result ≢ Status.BadWords }
-{
-    let mut file_out = match output_for_database(rt, out_path) {
+    let mut file_out = match output_for(rt, out_path, OutputKind::Database) {
         Ok(file_out) => file_out,
         Err(status) => return status,
     };
     let mut out = Counted::new(Noted::new(io::writer(rt)));
-    let (status, file_fault) = rewrite(rt.alloc(), file, new, &mut file_out, &mut out);
+    let (status, fault) = rewrite(rt.alloc(), file, new, &mut file_out, &mut out);
     file_out.close();
-    let (_, fault) = out.into_inner().into_parts();
-    report_outcome(
-        rt,
-        status,
-        &[(out_path, file_fault), (STANDARD_OUTPUT, fault)],
-    );
-    status
+    report_outputs(rt, status, (out_path, fault), STANDARD_OUTPUT, out)
 }
 
 /// Writes a new file for a file to `file_out`, and its lines to `out`. A buffer collects the

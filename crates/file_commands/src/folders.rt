@@ -9,7 +9,7 @@ use crate::file_rewrites::BUFFER_SIZE;
 use crate::parts::{cmd_pack_from, list_parts, say_count, unpack_file};
 use canonical_file::MOST_BYTES;
 use command_files::{
-    STANDARD_OUTPUT, buffered_fault, fail, output_for_database, read_file_or_input_within,
+    OutputKind, STANDARD_OUTPUT, buffered_fault, fail, output_for, read_file_or_input_within,
     read_file_within,
 };
 use file_parts::{FolderForm, ListedFolder, Part, PartName, TakenApart};
@@ -131,7 +131,7 @@ fn pack_to<R: Files + Eprint + AllocGlobal, W: Write + Drop>(
     requires { HasFolderParts listed.now parts.now }
     ensures { result ≢ Status.BadWords }
 {
-    let mut file_out = match output_for_database(rt, path) {
+    let mut file_out = match output_for(rt, path, OutputKind::Database) {
         Ok(file_out) => file_out,
         Err(status) => return status,
     };

@@ -7,14 +7,15 @@ ghost use Rattle.pdb_format.specs.Opened.{most_file_bytes};
 ghost use Rattle.file_commands.specs.Gets.{EndsGet, no_block_line};
 
 use crate::block_words::WantedBlock;
-use crate::faults::say_fault;
+use crate::faults::{said, say_fault};
 use crate::wanted::find_block;
 use allowance::Allowance;
 use file_listing::TextRows;
 use heap_model::Refusal;
-use palm_text::{Counted, Piece, WriteFault, put, put_pieces};
+use palm_text::Piece::{Number, Text};
+use palm_text::{Counted, WriteFault, put, put_pieces};
 use pdb_format::{OpenFault, PdbFile};
-use program_io::{Status, flushed};
+use program_io::Status;
 use std::io::Write;
 
 /// Writes the bytes of a block of a file to `block_out`, and nothing to `out`. If the file has a
@@ -71,34 +72,22 @@ pub(crate) fn say_refusal<V: Write>(out: &mut Counted<V>, refusal: Refusal) -> S
     ensures write { result ≡ Status.WriteFault
         → Puts V.contents out.old out.new (no_block_line refusal) false }
 {
-    match put_refusal(out, refusal) {
-        Ok(()) => Status::Refused,
-        Err(_) => Status::WriteFault,
-    }
-}
-
-/// Writes the line for a block that a file doesn't have, and flushes `out`.
-#[tactic(auto, using(palm_text::proofs::Parts::then_flush))]
-fn put_refusal<V: Write>(out: &mut Counted<V>, refusal: Refusal) -> Result<(), WriteFault>
-    ensures { Puts V.contents out.old out.new (no_block_line refusal) (is_ok result) }
-{
-    put_refusal_line(out, refusal)?;
-    flushed(out)
+    said(put_refusal(out, refusal), Status::Refused, out)
 }
 
 /// Writes the line for a block that a file doesn't have.
 #[tactic(auto, unfolding(crate::specs::Gets::no_block_line))]
-fn put_refusal_line<V: Write>(out: &mut Counted<V>, refusal: Refusal) -> Result<(), WriteFault>
+fn put_refusal<V: Write>(out: &mut Counted<V>, refusal: Refusal) -> Result<(), WriteFault>
     ensures { Writes V.contents out.old out.new (no_block_line refusal) (is_ok result) }
 {
     put_pieces(
         out,
         &[
-            Piece::Text(b"refused "),
-            Piece::Number(u32::from(refusal.number())),
-            Piece::Text(b" "),
-            Piece::Text(refusal.name().as_bytes()),
-            Piece::Text(b"\n"),
+            Text(b"refused "),
+            Number(u32::from(refusal.number())),
+            Text(b" "),
+            Text(refusal.name().as_bytes()),
+            Text(b"\n"),
         ],
     )
 }

@@ -2,11 +2,11 @@
 
 ghost use Rattle.std.specs.Prelude.{◌≡◌, ◌≤◌, ◌⊎◌, ℕ, List, Result, IfOk, IfErr, length};
 ghost use Rattle.std.specs.Result.{result_map_both};
-ghost use Rattle.file_starts.specs.FilesRead.{bytes_read};
+ghost use Rattle.file_commands.specs.FilesRead.{bytes_read};
 ghost use Rattle.program_io.specs.declared.status.Status.{Status};
 ghost use Rattle.program_io.specs.declared.status.Status.TheVariants as statuses;
 
-use file_starts::FileRead;
+use crate::starts::FileRead;
 use pdb_format::MOST_FILE_BYTES;
 use program_io::Status;
 

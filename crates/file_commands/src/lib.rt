@@ -10,7 +10,7 @@
 //! for one of them, and `cmd_reports_from` does it for each file that a source gives
 //! (`specs/Reports.antt`).
 //!
-//! `report_files`, `canonical`, `salvage`, `salvage_exact_ids`, `get`, `put`, `unpack` and `pack` are
+//! `report_files`, `canonical`, `salvage`, `get`, `put`, `unpack` and `pack` are
 //! the commands over files and folders. They call the system, and their clauses state only the statuses
 //! with which a command ends. The stored runs of `test_program` show which files are read and
 //! written.
@@ -20,6 +20,7 @@
 //! | `list_command`, `changes_command` | the commands `list` and `canonical --check`, over bytes |
 //! | `reports` | these commands for one file, and for several files of a source |
 //! | `inputs` | a source of files |
+//! | `starts` | a file of which only the first bytes are in memory |
 //! | `canonical_command`, `salvage_command` | the commands `canonical` and `salvage`, over bytes |
 //! | `keep_command` | the commands `canonical --keep` and `canonical --check --keep`, over bytes |
 //! | `get_command`, `put_command` | the commands `get` and `put`, over bytes |
@@ -51,6 +52,7 @@ mod parts;
 mod put_command;
 mod reports;
 mod salvage_command;
+mod starts;
 mod wanted;
 
 pub use block_words::{WantedBlock, wanted_block};
@@ -59,7 +61,7 @@ pub use changes_command::cmd_changes_from;
 pub use comments::{comment_on_damage, name_each_dropped};
 pub use file_blocks::{get, put};
 pub use file_listings::report_files;
-pub use file_rewrites::{canonical, canonical_kept, salvage, salvage_exact_ids};
+pub use file_rewrites::{canonical, canonical_kept, salvage};
 pub use folders::{pack, path_in, unpack};
 pub use get_command::cmd_get_from;
 pub use inputs::Inputs;
@@ -70,4 +72,5 @@ pub use parts::{cmd_pack_from, list_parts, say_count, unpack_file};
 pub use put_command::{NewBlock, cmd_put_from};
 pub use reports::{Asked, Report, cmd_report_from, cmd_reports_from};
 pub use salvage_command::cmd_salvage_from;
+pub use starts::{FileRead, READ_FIRST, ReadStart, ReadsAt, read_start};
 pub use wanted::find_block;

@@ -8,7 +8,7 @@ ghost use Rattle.canonical_file.specs.Canonical.{most_bytes};
 ghost use Rattle.canonical_file.specs.Salvaged.{IsSalvageFault};
 ghost use Rattle.file_commands.specs.Salvages.{EndsSalvage, PutsSalvagedPart, PutWhole, salvaged_lines};
 
-use crate::faults::{put_count, say_fault};
+use crate::faults::{put_count, said, say_fault};
 use allowance::Allowance;
 use canonical_file::{CanonicalFault, SalvagedIds, put_salvage_lines, put_salvaged};
 use file_listing::TextRows;
@@ -79,24 +79,7 @@ fn say_salvaged<V: Write>(out: &mut Counted<V>, file: &[u8], count: usize) -> St
     ensures write { result ≡ Status.WriteFault
         → Puts V.contents out.old out.new (salvaged_lines file.now count) false }
 {
-    match put_flushed_lines(out, file, count) {
-        Ok(()) => Status::Done,
-        Err(_) => Status::WriteFault,
-    }
-}
-
-/// Writes the lines for a salvaged file, and flushes `out`.
-#[tactic(auto, using(palm_text::proofs::Parts::then_flush))]
-fn put_flushed_lines<V: Write>(
-    out: &mut Counted<V>,
-    file: &[u8],
-    count: usize,
-) -> Result<(), WriteFault>
-    requires { header_size ≤ length file.now }
-    ensures { Puts V.contents out.old out.new (salvaged_lines file.now count) (is_ok result) }
-{
-    put_lines(out, file, count)?;
-    flushed(out)
+    said(put_lines(out, file, count), Status::Done, out)
 }
 
 /// Writes the lines for a salvaged file.

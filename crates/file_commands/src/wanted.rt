@@ -5,7 +5,7 @@ ghost use Rattle.heap_model.specs.Database.{resources_in, entry_count_in};
 ghost use Rattle.heap_model.specs.ResourceSteps.{HasTypeAndId};
 ghost use Rattle.db_format.specs.EitherEntry.{entry_of};
 ghost use Rattle.file_parts.specs.Replacing.{has_block};
-ghost use Rattle.file_commands.specs.WantedBlocks.{HasNoResource, IsFirstResource, IsWantedBlock, IsWantedRank, LacksBlock, block_of_rank, info_rank};
+ghost use Rattle.file_commands.specs.WantedBlocks.{FindsRank, HasNoResource, IsFirstResource, IsWantedBlock, LacksBlock, block_of_rank, info_rank};
 
 use crate::block_words::WantedBlock;
 use db_format::{DbEntry, INFO_BLOCKS};
@@ -41,10 +41,7 @@ pub fn find_block<'a>(file: &PdbFile<'a>, wanted: WantedBlock) -> Result<&'a [u8
 /// - `NotResourceDatabase`: if a resource is asked for, and the file has records.
 /// - `ResourceNotFound`: if no resource has the type and the id.
 pub(crate) fn find_rank(file: &PdbFile<'_>, wanted: WantedBlock) -> Result<usize, Refusal>
-    ensures rank { IfOk result (IsWantedRank file.now wanted) }
-    ensures there { IfOk result (λ rank. has_block file.now rank ≡ true) }
-    ensures inside { IfOk result (λ rank. rank < 2 + entry_count_in file.now) }
-    ensures lacks { IfErr result (LacksBlock file.now wanted) }
+    ensures { FindsRank file.now wanted result }
 {
     match wanted {
         WantedBlock::Info(which) => find_info(file, which),
@@ -55,10 +52,7 @@ pub(crate) fn find_rank(file: &PdbFile<'_>, wanted: WantedBlock) -> Result<usize
 
 /// Returns the rank of an info block that the file has.
 fn find_info(file: &PdbFile<'_>, which: Which) -> Result<usize, Refusal>
-    ensures rank { IfOk result (IsWantedRank file.now (WantedBlock.Info which)) }
-    ensures there { IfOk result (λ rank. has_block file.now rank ≡ true) }
-    ensures inside { IfOk result (λ rank. rank < 2 + entry_count_in file.now) }
-    ensures lacks { IfErr result (LacksBlock file.now (WantedBlock.Info which)) }
+    ensures { FindsRank file.now (WantedBlock.Info which) result }
 {
     let rank = rank_of(which);
     match bytes_at(file, rank) {
@@ -80,10 +74,7 @@ fn rank_of(which: Which) -> usize
 
 /// Returns the rank of the data of the entry at an index.
 fn find_data(file: &PdbFile<'_>, index: u32) -> Result<usize, Refusal>
-    ensures rank { IfOk result (IsWantedRank file.now (WantedBlock.Entry index)) }
-    ensures there { IfOk result (λ rank. has_block file.now rank ≡ true) }
-    ensures inside { IfOk result (λ rank. rank < 2 + entry_count_in file.now) }
-    ensures lacks { IfErr result (LacksBlock file.now (WantedBlock.Entry index)) }
+    ensures { FindsRank file.now (WantedBlock.Entry index) result }
 {
     if index >= u32::from(file.entry_count()) {
         return Err(Refusal::IndexOutOfRange);
@@ -97,10 +88,7 @@ fn find_data(file: &PdbFile<'_>, index: u32) -> Result<usize, Refusal>
 
 /// Returns the rank of the data of the first resource of a type and an id.
 fn find_resource(file: &PdbFile<'_>, kind: u32, id: u16) -> Result<usize, Refusal>
-    ensures rank { IfOk result (IsWantedRank file.now (WantedBlock.Resource kind id)) }
-    ensures there { IfOk result (λ rank. has_block file.now rank ≡ true) }
-    ensures inside { IfOk result (λ rank. rank < 2 + entry_count_in file.now) }
-    ensures lacks { IfErr result (LacksBlock file.now (WantedBlock.Resource kind id)) }
+    ensures { FindsRank file.now (WantedBlock.Resource kind id) result }
 {
     if !file.has_resources() {
         return Err(Refusal::NotResourceDatabase);

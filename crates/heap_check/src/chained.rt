@@ -35,9 +35,6 @@ use chunk_format::{
 use master_table::Row;
 use raw_region::Region;
 
-/// A bit for each word of the largest image.
-const MARKS: usize = 524_288;
-
 /// The counts of the first walk, and the offset of the first fixed chunk with owner 15.
 #[derive(Clone, Copy)]
 pub(crate) struct Bodies {
@@ -435,39 +432,31 @@ fn find_left(region: &Region, marks: &[u8]) -> Option<u32>
     first_marked(region, row, marks)
 }
 
-/// Marks of which none is set.
-#[inline]
-#[tactic(none)]
-fn no_marks() -> [u8; MARKS]
-    ensures { HasNone result }
-{
-    [0; MARKS]
-}
-
-/// Checks the chunks, the tables and the slots after a right head. It is never inlined: an image
-/// without a chain would pay for the stack space of its marks.
+/// Checks the chunks, the tables and the slots after a right head. It is never inlined: next to its
+/// code the walk over an image without a chain has too few registers.
 #[inline(never)]
-pub(crate) fn check_chained(region: &Region) -> Result<Summary, HeapFault>
+pub(crate) fn check_chained(region: &Region, marks: &mut [u8]) -> Result<Summary, HeapFault>
     requires whole { region.now.lents ≡ [] }
     requires head { IsHead region.now.bytes }
     requires chained { is_chained region.now.bytes ≡ true }
+    requires room { 524288 ≤ length marks.old }
+    requires clear { HasNone marks.old }
     ensures accepted { OnOk result (HeapAccepted region.now.bytes) }
     ensures summary { IfOk result (Summarizes region.now.bytes) }
     ensures fault { IfErr result (IsFirstHeapFault region.now.bytes) }
 {
-    let mut marks = no_marks();
-    let bodies = match find_bodies(region, &mut marks) {
+    let bodies = match find_bodies(region, marks) {
         Ok(bodies) => bodies,
         Err(at) => return Err(HeapFault::BadChunk(at)),
     };
-    let chain = match follow(region, &mut marks, bodies) {
+    let chain = match follow(region, marks, bodies) {
         Ok(chain) => chain,
         Err(number) => return Err(HeapFault::BadTable(number)),
     };
-    let stray = find_stray(region, &mut marks, bodies, chain);
-    mark_slots(region, &mut marks);
-    let names = match_names(region, &mut marks);
-    if let Some(slot) = find_left(region, &marks) {
+    let stray = find_stray(region, marks, bodies, chain);
+    mark_slots(region, marks);
+    let names = match_names(region, marks);
+    if let Some(slot) = find_left(region, marks) {
         return Err(HeapFault::SlotMismatch(slot));
     }
     if let Some(at) = names.without_slot {

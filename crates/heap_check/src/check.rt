@@ -4,10 +4,13 @@
 ghost use Rattle.std.specs.Prelude.{[], ◌≡◌, ◌≤◌, true, false, length, map, IfOk, IfErr, OnOk, OnErr, None};
 ghost use Rattle.heap_model.specs.Slots.{is_chained as model_chained};
 ghost use Rattle.heap_model.specs.Heap.{IsHead, HeapAccepted};
+ghost use Rattle.bit_sets.specs.Sets.{HasNone};
+ghost use Rattle.heap_check.specs.Bits.{bits_size, AreEnoughBits};
 ghost use Rattle.heap_check.specs.Faults.{IsFirstHeapFault};
 ghost use Rattle.heap_check.specs.Owners.{most_slots, marks_needed, NoneMarked, HasOwners};
 ghost use Rattle.heap_check.specs.Summary.{Summarizes};
 
+use crate::bits::{bits_needed, no_bits};
 use crate::chained::check_chained;
 use crate::directory::has_directory;
 use crate::fault::HeapFault;
@@ -23,7 +26,7 @@ use raw_region::Region;
 
 /// Checks whether the bytes of a region are an accepted heap, and returns its counts. It takes no
 /// memory and changes nothing. Without a chain of tables it walks once over the chunks and once
-/// over the slots.
+/// over the slots. With a chain it keeps its bits on the stack, which takes 512 KiB more.
 ///
 /// # Errors
 /// The first fault of the image, in the order of `faults`.
@@ -34,10 +37,44 @@ pub fn check_heap(region: &Region) -> Result<Summary, HeapFault>
     ensures fault { IfErr result (IsFirstHeapFault region.now.bytes) }
     ensures refused { OnErr result (HeapAccepted region.now.bytes → ⊥) }
 {
+    if bits_needed(region) == 0 {
+        return check_heap_with(region, &mut []);
+    }
+    check_with_own_bits(region)
+}
+
+/// Does the same with bits on the stack. It is never inlined: an image without a chain would pay
+/// for the stack space of the bits.
+#[inline(never)]
+fn check_with_own_bits(region: &Region) -> Result<Summary, HeapFault>
+    requires { region.now.lents ≡ [] }
+    ensures accepted { OnOk result (HeapAccepted region.now.bytes) }
+    ensures summary { IfOk result (Summarizes region.now.bytes) }
+    ensures fault { IfErr result (IsFirstHeapFault region.now.bytes) }
+    ensures refused { OnErr result (HeapAccepted region.now.bytes → ⊥) }
+{
+    let mut bits = no_bits();
+    check_heap_with(region, &mut bits)
+}
+
+/// Checks a heap as `check_heap` does, with bits of the caller's. `bits_needed` returns how many
+/// bytes of them are enough. Afterwards some bits may be set.
+///
+/// # Errors
+/// The first fault of the image, in the order of `faults`.
+pub fn check_heap_with(region: &Region, bits: &mut [u8]) -> Result<Summary, HeapFault>
+    requires whole { region.now.lents ≡ [] }
+    requires room { AreEnoughBits region.now.bytes (length bits.old) }
+    requires clear { HasNone bits.old }
+    ensures accepted { OnOk result (HeapAccepted region.now.bytes) }
+    ensures summary { IfOk result (Summarizes region.now.bytes) }
+    ensures fault { IfErr result (IsFirstHeapFault region.now.bytes) }
+    ensures refused { OnErr result (HeapAccepted region.now.bytes → ⊥) }
+{
     match check_head(region) {
         Ok(()) => {
             if is_chained(region) {
-                check_chained(region)
+                check_chained(region, bits)
             } else {
                 check_with_marks(region)
             }
@@ -46,14 +83,20 @@ pub fn check_heap(region: &Region) -> Result<Summary, HeapFault>
     }
 }
 
-/// Checks a heap as `check_heap` does, and also marks each slot with the owner of its chunk. The
-/// caller supplies the marks: `marks_needed` returns how many are enough. If the heap is refused,
-/// some slots may be marked.
+/// Checks a heap as `check_heap_with` does, and also marks each slot with the owner of its chunk.
+/// The caller supplies the marks too: `marks_needed` returns how many are enough. If the heap is
+/// refused, some slots may be marked.
 ///
 /// # Errors
 /// The first fault of the image, in the order of `faults`.
-pub fn check_heap_noting(region: &Region, owners: &mut [u8]) -> Result<Summary, HeapFault>
+pub fn check_heap_noting(
+    region: &Region,
+    bits: &mut [u8],
+    owners: &mut [u8],
+) -> Result<Summary, HeapFault>
     requires whole { region.now.lents ≡ [] }
+    requires enough { AreEnoughBits region.now.bytes (length bits.old) }
+    requires none { HasNone bits.old }
     requires room { marks_needed region.now.bytes ≤ length owners.old }
     requires clear { NoneMarked owners.old }
     ensures accepted { OnOk result (HeapAccepted region.now.bytes) }
@@ -66,7 +109,7 @@ pub fn check_heap_noting(region: &Region, owners: &mut [u8]) -> Result<Summary, 
     match check_head(region) {
         Ok(()) => {
             if is_chained(region) {
-                check_chained_noting(region, owners)
+                check_chained_noting(region, bits, owners)
             } else {
                 check_area(region, owners)
             }
@@ -76,10 +119,16 @@ pub fn check_heap_noting(region: &Region, owners: &mut [u8]) -> Result<Summary, 
 }
 
 /// Checks an image with a chain after its head was found right, and then notes owners.
-fn check_chained_noting(region: &Region, owners: &mut [u8]) -> Result<Summary, HeapFault>
+fn check_chained_noting(
+    region: &Region,
+    bits: &mut [u8],
+    owners: &mut [u8],
+) -> Result<Summary, HeapFault>
     requires whole { region.now.lents ≡ [] }
     requires head { IsHead region.now.bytes }
     requires chained { model_chained region.now.bytes ≡ true }
+    requires enough { bits_size ≤ length bits.old }
+    requires none { HasNone bits.old }
     requires room { marks_needed region.now.bytes ≤ length owners.old }
     requires clear { NoneMarked owners.old }
     ensures accepted { OnOk result (HeapAccepted region.now.bytes) }
@@ -88,7 +137,7 @@ fn check_chained_noting(region: &Region, owners: &mut [u8]) -> Result<Summary, H
     ensures owners { OnOk result (HasOwners region.now.bytes owners.new) }
     ensures len { length owners.new ≡ length owners.old }
 {
-    let summary = match check_chained(region) {
+    let summary = match check_chained(region, bits) {
         Ok(summary) => summary,
         Err(fault) => return Err(fault),
     };

@@ -7,6 +7,7 @@
 //! `heap_model` defines what an accepted heap is.
 #![tactic(auto)]
 
+mod bits;
 mod chained;
 mod check;
 mod directory;
@@ -18,7 +19,8 @@ mod slots;
 mod summary;
 mod survey;
 
-pub use check::{check_heap, check_heap_noting};
+pub use bits::{BITS_SIZE, bits_needed, no_bits};
+pub use check::{check_heap, check_heap_noting, check_heap_with};
 pub use fault::{HeapFault, Numbers};
 pub use marks::{MOST_MARKS, NO_OWNER, mark_number, marks_needed};
 pub use owners::note_owners;

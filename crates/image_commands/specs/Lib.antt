@@ -5,4 +5,4 @@ pub use Rattle.store_check.specs.Checks
 pub mod FaultLines
 pub mod FaultDocuments
 pub mod Printed
-pub mod JsonEnds
+pub mod ImageChecks

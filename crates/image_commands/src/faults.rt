@@ -7,11 +7,13 @@ ghost use Rattle.palm_text.specs.Output.{Puts, output};
 ghost use Rattle.chunk_format.specs.FaultNames.{blank_fault_name};
 ghost use Rattle.program_io.specs.BadLines.{bad_line};
 ghost use Rattle.image_commands.specs.FaultDocuments.{image_fault_json};
+ghost use Rattle.image_commands.specs.ImageChecks.{fault_in};
 ghost use Rattle.image_commands.specs.FaultLines.{Says, fault_line, formed, formed_fault};
 
 use chunk_format::BlankFault;
 use heap_check::Numbers;
 use palm_text::{Counted, Piece, WriteFault, put_pieces};
+use program_io::command_line::Form;
 use program_io::{Status, flushed, say_bad};
 use std::io::Write;
 use store_check::StoreFault;
@@ -29,6 +31,17 @@ struct FaultForm {
     end: &'static [u8],
 }
 
+/// Prints the fault of an image in a form: the line or the document. Returns `Refused`, or
+/// `WriteFault` if a write or the flush failed.
+pub fn say_fault<V: Write>(out: &mut Counted<V>, form: Form, fault: StoreFault) -> Status
+    ensures { Says (output V.contents out.old out.new) (fault_in form fault) Status.Refused result }
+{
+    match form {
+        Form::Text => say_bad_image(out, fault),
+        Form::Json => say_image_fault(out, fault),
+    }
+}
+
 /// Prints `bad`, the name and the numbers of the fault of an image. Returns `Refused`, or
 /// `WriteFault` if a write or the flush failed.
 pub fn say_bad_image<V: Write>(out: &mut Counted<V>, fault: StoreFault) -> Status
@@ -41,7 +54,7 @@ pub fn say_bad_image<V: Write>(out: &mut Counted<V>, fault: StoreFault) -> Statu
         between: b" ",
         end: b"\n",
     };
-    say_fault(out, form, fault)
+    say_formed(out, form, fault)
 }
 
 /// Prints the document for the fault of an image. Returns `Refused`, or `WriteFault` if a write or
@@ -56,11 +69,11 @@ pub fn say_image_fault<V: Write>(out: &mut Counted<V>, fault: StoreFault) -> Sta
         between: b",",
         end: b"]}\n",
     };
-    say_fault(out, form, fault)
+    say_formed(out, form, fault)
 }
 
-/// Prints the fault of an image in a form.
-fn say_fault<V: Write>(out: &mut Counted<V>, form: FaultForm, fault: StoreFault) -> Status
+/// Prints the fault of an image with the texts of a form.
+fn say_formed<V: Write>(out: &mut Counted<V>, form: FaultForm, fault: StoreFault) -> Status
     ensures { Says (output V.contents out.old out.new)
         (formed_fault form fault) Status.Refused result }
 {

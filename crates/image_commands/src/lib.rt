@@ -2,9 +2,8 @@
 //! its name, its numbers, the line and the JSON document that are written for it.
 //!
 //! Each command is a function over bytes and counted writers. Its contract states when each status
-//! is returned, what was written by then, and after which bytes a write failed. Each also has a
-//! form over any `Allowance`, which reports out of memory only if an allocation failed. Start at
-//! `cmd_new`.
+//! is returned, what was written by then, and after which bytes a write failed. It takes memory from
+//! an `Allowance`, and reports out of memory only if an allocation failed. Start at `cmd_new_from`.
 //!
 //! `check --json` prints the facts that `check` prints as text. `unicode_text` describes what all
 //! documents have in common, and `json_documents` has those of files.
@@ -13,29 +12,23 @@
 //! {"size":128,"slots":4,"movable":0,"fixed":0,"free":96,"databases":0}
 //! ```
 //!
-//! `new`, `check` and `check_json` are the commands over paths: they read and write the files, and
+//! `new` and `check` are the commands over paths: they read and write the files, and
 //! report on standard error which file failed and why. Their clauses state only the statuses with
 //! which they end.
 //!
 //! | module | does |
 //! |---|---|
-//! | `commands` | the commands over bytes |
+//! | `commands` | the commands over bytes; `check` in both forms (`specs/ImageChecks.antt`) |
 //! | `images` | the commands over files |
 //! | `faults` | the line and the document for a fault |
 //! | `summary_documents` | the document of the counts of an image |
-//! | `json_check` | the command `check --json`, over bytes (`specs/JsonEnds.antt`) |
-//! | `json_images` | the command `check --json`, over files |
 #![tactic(auto)]
 
 mod commands;
 mod faults;
 mod images;
-mod json_check;
-mod json_images;
 mod summary_documents;
 
-pub use commands::{check_region_from, cmd_check, cmd_check_from, cmd_new, cmd_new_from};
-pub use faults::{say_bad_image, say_image_fault, say_no_image};
+pub use commands::{check_region_from, cmd_check, cmd_new_from};
+pub use faults::{say_bad_image, say_fault, say_image_fault, say_no_image};
 pub use images::{check, new};
-pub use json_check::{check_json_region_from, cmd_check_json};
-pub use json_images::check_json;

@@ -4,7 +4,7 @@ ghost use Rattle.std.specs.Prelude.{is_ok};
 ghost use Rattle.palm_text.specs.Counted.{Writes};
 ghost use Rattle.palm_text.specs.Output.{Puts, output};
 ghost use Rattle.image_commands.specs.FaultLines.{Says};
-ghost use Rattle.image_commands.specs.JsonEnds.{heap_json, summary_json};
+ghost use Rattle.image_commands.specs.ImageChecks.{heap_json, summary_json};
 
 use heap_check::Summary;
 use palm_text::{Counted, WriteFault};
@@ -14,7 +14,7 @@ use store_check::StoreSummary;
 use unicode_text::{JsonPiece, put_json};
 
 /// Writes the document of the counts of a heap, and of its databases.
-#[tactic(auto, unfolding(crate::specs::JsonEnds::heap_json))]
+#[tactic(auto, unfolding(crate::specs::ImageChecks::heap_json))]
 fn put_heap<W: Write>(
     out: &mut Counted<W>,
     heap: &Summary,
@@ -52,7 +52,7 @@ fn put_summary<W: Write>(out: &mut Counted<W>, summary: &StoreSummary) -> Result
 }
 
 /// Prints the document of the counts of an image.
-pub(crate) fn say_summary<V: Write>(out: &mut Counted<V>, summary: &StoreSummary) -> Status
+pub(crate) fn say_document<V: Write>(out: &mut Counted<V>, summary: &StoreSummary) -> Status
     ensures { Says (output V.contents out.old out.new)
         (summary_json summary.now) Status.Done result }
 {

@@ -4,14 +4,14 @@ ghost use Rattle.std.specs.Prelude.{◌≡◌, ◌≢◌, ◌⊎◌, ◌↔◌, 
 ghost use Rattle.clap.specs.Values.{kind_of};
 
 use crate::meanings::explain;
+use canonical_file::SalvagedIds;
 use clap::error::ErrorKind;
 use command_files::{STANDARD_OUTPUT, fail};
 use file_commands::{
-    Asked, Report, canonical, canonical_kept, get, pack, put, report_files, salvage,
-    salvage_exact_ids, unpack,
+    Asked, Report, canonical, canonical_kept, get, pack, put, report_files, salvage, unpack,
 };
 use file_parts::{FolderForm, Keep};
-use image_commands::{check, check_json, new};
+use image_commands::{check, new};
 use program_io::command_line::{self, BaseRequest, Form, NamedFiles, Request};
 use program_io::{KeptWords, Status, report_outcome};
 use std::io::Input;
@@ -37,7 +37,7 @@ pub fn fulfil<R: Files + Input + Print + Eprint + AllocGlobal>(
 ) -> Status {
     match request {
         BaseRequest::New { size, slots, out } => new(rt, size, slots, out),
-        BaseRequest::Check { image, form } => check_as(rt, image, form),
+        BaseRequest::Check { image, form } => check(rt, image, form),
         BaseRequest::Explain { word } => explain(rt, word),
         BaseRequest::List { form, files } => print_reports(rt, listing_as(form), &files),
         BaseRequest::Canonical { file, out, keep } => canonical_as(rt, file, out, keep),
@@ -46,7 +46,7 @@ pub fn fulfil<R: Files + Input + Print + Eprint + AllocGlobal>(
             file,
             out,
             exact_ids,
-        } => salvage_as(rt, file, out, exact_ids),
+        } => salvage(rt, file, ids_of(exact_ids), out),
         BaseRequest::Get { file, block, id } => get(rt, file, block, id),
         BaseRequest::Put {
             file,
@@ -69,6 +69,15 @@ fn form_of(exact: bool) -> FolderForm {
         FolderForm::Exact
     } else {
         FolderForm::Canonical
+    }
+}
+
+/// Returns which IDs the records of a salvaged file get.
+fn ids_of(exact: bool) -> SalvagedIds {
+    if exact {
+        SalvagedIds::Exact
+    } else {
+        SalvagedIds::Distinct
     }
 }
 
@@ -110,20 +119,6 @@ fn changes_as(keep: Option<KeptWords>) -> Report
     }
 }
 
-/// Runs `check`, and prints in this form.
-fn check_as<R: Files + Input + Print + Eprint + AllocGlobal>(
-    rt: &R,
-    image: &str,
-    form: Form,
-) -> Status
-    ensures { result ≢ Status.BadWords }
-{
-    match form {
-        Form::Text => check(rt, image),
-        Form::Json => check_json(rt, image),
-    }
-}
-
 /// Returns what `list` prints in this form.
 fn listing_as(form: Form) -> Report
     ensures text { (result ≡ Report.Listing) ↔ (form ≡ Form.Text) }
@@ -151,22 +146,6 @@ fn print_reports<R: Files + Input + Print + Eprint + AllocGlobal>(
             named: files.named,
         },
     )
-}
-
-/// Runs `salvage`, with the IDs of the damaged file if `exact_ids`.
-fn salvage_as<R: Files + Input + Print + Eprint + AllocGlobal>(
-    rt: &R,
-    file: &str,
-    out: &str,
-    exact_ids: bool,
-) -> Status
-    ensures { result ≢ Status.BadWords }
-{
-    if exact_ids {
-        salvage_exact_ids(rt, file, out)
-    } else {
-        salvage(rt, file, out)
-    }
 }
 
 /// Reports on standard error that the command is one of the whole program.

@@ -77,15 +77,14 @@ name_json (Some name) = string name
 unfoldable pub category_json : ℕ → Option (List ℕ) → List ℕ
 category_json number name = array_start number ++ (name_json name ++ array_end number)
 
+abbrev pub index_json : ℕ → List ℕ
+index_json index = comma index ++ (codes "{\"index\":" ++ decimal index)
+
 abbrev pub record_start : (index attributes : ℕ) → List ℕ
-record_start index attributes = comma index ++ (codes "{\"index\":" ++ (decimal index ++ (codes ",\"attributes\":" ++ (decimal attributes ++ codes ","))))
+record_start index attributes = index_json index ++ member (codes ",\"attributes\":") (decimal attributes)
 
 abbrev pub resource_start : (index kind : ℕ) → List ℕ
-resource_start index kind =
-    comma index ++ (codes "{\"index\":" ++ (decimal index
-    ++ (codes ",\"type\":" ++ (string (u32_bytes kind)
-    ++ (codes ",\"type_hex\":" ++ (hex_string (u32_bytes kind)
-    ++ codes ","))))))
+resource_start index kind = index_json index ++ member_with_hex (codes ",\"type\":") (u32_bytes kind) (codes ",\"type_hex\":")
 
 -- the ID of an entry, and the offset and the length of its data; both are `null` if it has none
 abbrev pub data_json : ℕ → Option Extent → List ℕ
@@ -104,14 +103,11 @@ unfoldable pub resource_json : (index kind id : ℕ) → Option Extent → List 
 resource_json index kind id block = resource_start index kind ++ data_json id block
 
 -- the least size and number of slots of a new image with the database
-unfoldable pub size_json : ℕ → List ℕ
-size_json size = codes "],\"needs\":{\"size\":" ++ (decimal size ++ codes ",")
-
-abbrev pub slots_json : ℕ → List ℕ
-slots_json slots = codes "\"slots\":" ++ (decimal slots ++ codes "},")
+abbrev pub needs_of : (size slots : List ℕ) → List ℕ
+needs_of size slots = codes "],\"needs\":{\"size\":" ++ (size ++ (codes ",\"slots\":" ++ (slots ++ codes "},")))
 
 unfoldable pub needs_json : (size slots : ℕ) → List ℕ
-needs_json size slots = size_json size ++ slots_json slots
+needs_json size slots = needs_of (decimal size) (decimal slots)
 
 -- the words of the changes when the file is rewritten, with commas between
 abbrev pub comma_if : Bool → List ℕ

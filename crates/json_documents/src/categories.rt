@@ -9,6 +9,7 @@ ghost use Rattle.json_documents.specs.RowTexts.{category_json};
 use db_format::{CATEGORIES, NameField};
 use palm_text::{Counted, WriteFault};
 use std::io::Write;
+use unicode_text::JsonPiece::{String, Text};
 use unicode_text::{JsonPiece, put_json};
 
 /// The number of the last category.
@@ -19,9 +20,9 @@ fn array_start(number: u8) -> JsonPiece<'static>
     ensures { json_text result ≡ words.array_start number }
 {
     if number == 0 {
-        JsonPiece::Text(b"\"categories\":[")
+        Text(b"\"categories\":[")
     } else {
-        JsonPiece::Text(b",")
+        Text(b",")
     }
 }
 
@@ -30,9 +31,9 @@ fn array_end(number: u8) -> JsonPiece<'static>
     ensures { json_text result ≡ words.array_end number }
 {
     if number == LAST_CATEGORY {
-        JsonPiece::Text(b"],")
+        Text(b"],")
     } else {
-        JsonPiece::Text(b"")
+        Text(b"")
     }
 }
 
@@ -41,8 +42,8 @@ fn name_json(name: &Option<NameField>) -> JsonPiece<'_>
     ensures { json_text result ≡ words.name_json name.now }
 {
     match name {
-        Some(name) => JsonPiece::String(name.name()),
-        None => JsonPiece::Text(b"null"),
+        Some(name) => String(name.name()),
+        None => Text(b"null"),
     }
 }
 

@@ -9,17 +9,14 @@ ghost use Rattle.json_documents.specs.RowTexts.{changes_json, comma_if};
 use canonical_file::Changes;
 use palm_text::{Counted, WriteFault};
 use std::io::Write;
+use unicode_text::JsonPiece::Text;
 use unicode_text::{JsonPiece, put_json};
 
 /// Returns the text if `holds`, and no text otherwise.
 fn word(holds: bool, text: &'static [u8]) -> JsonPiece<'static>
     ensures { json_text result ≡ changes.word holds text.now }
 {
-    if holds {
-        JsonPiece::Text(text)
-    } else {
-        JsonPiece::Text(b"")
-    }
+    if holds { Text(text) } else { Text(b"") }
 }
 
 /// Returns whether one of two facts holds.
@@ -33,11 +30,7 @@ fn either(one: bool, other: bool) -> bool
 fn comma_between(before: bool, after: bool) -> JsonPiece<'static>
     ensures { json_text result ≡ comma_if (before && after) }
 {
-    if before {
-        word(after, b",")
-    } else {
-        JsonPiece::Text(b"")
-    }
+    if before { word(after, b",") } else { Text(b"") }
 }
 
 /// Writes a word for each change.
@@ -53,7 +46,7 @@ pub(crate) fn put_changes<W: Write>(
     put_json(
         out,
         &[
-            JsonPiece::Text(b"\"changes\":["),
+            Text(b"\"changes\":["),
             word(changes.busy, b"\"busy\""),
             comma_between(changes.busy, changes.filler),
             word(changes.filler, b"\"filler\""),
@@ -63,7 +56,7 @@ pub(crate) fn put_changes<W: Write>(
             word(changes.name, b"\"name\""),
             comma_between(four, changes.order),
             word(changes.order, b"\"order\""),
-            JsonPiece::Text(b"]}\n"),
+            Text(b"]}\n"),
         ],
     )
 }

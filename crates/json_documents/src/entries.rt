@@ -4,26 +4,35 @@ ghost use Rattle.std.specs.Prelude.{◌≡◌, ◌++◌, Some, is_ok};
 ghost use Rattle.palm_text.specs.Counted.{Writes};
 ghost use Rattle.unicode_text.specs.Pieces.{json_text};
 ghost use Rattle.json_documents.specs.RowTexts as words;
-ghost use Rattle.json_documents.specs.RowTexts.{category_member, data_json, record_json, record_start, resource_json, resource_start};
+ghost use Rattle.json_documents.specs.RowTexts.{category_member, data_json, index_json, record_json, record_start, resource_json, resource_start};
 
+use crate::values::{put_four_bytes, put_number};
 use db_format::NameField;
 use file_listing::{Extent, RecordRow};
 use palm_text::{Counted, WriteFault};
 use std::io::Write;
+use unicode_text::JsonPiece::{Number, String, Text};
 use unicode_text::{JsonPiece, put_json};
 
 /// Returns the comma before the entry of an index.
 fn comma(index: u16) -> JsonPiece<'static>
     ensures { json_text result ≡ words.comma index }
 {
-    if index == 0 {
-        JsonPiece::Text(b"")
-    } else {
-        JsonPiece::Text(b",")
-    }
+    if index == 0 { Text(b"") } else { Text(b",") }
+}
+
+/// Writes the index of an entry, after a comma unless it is the first entry.
+fn put_index<W: Write>(out: &mut Counted<W>, index: u16) -> Result<(), WriteFault>
+    ensures { Writes W.contents out.old out.new (index_json index) (is_ok result) }
+{
+    put_json(
+        out,
+        &[comma(index), Text(b"{\"index\":"), Number(u32::from(index))],
+    )
 }
 
 /// Writes the index of a record, and its attributes.
+#[tactic(auto, using(palm_text::proofs::Parts::then, palm_text::proofs::Parts::stops))]
 fn put_record_start<W: Write>(
     out: &mut Counted<W>,
     index: u16,
@@ -31,20 +40,12 @@ fn put_record_start<W: Write>(
 ) -> Result<(), WriteFault>
     ensures { Writes W.contents out.old out.new (record_start index attributes) (is_ok result) }
 {
-    put_json(
-        out,
-        &[
-            comma(index),
-            JsonPiece::Text(b"{\"index\":"),
-            JsonPiece::Number(u32::from(index)),
-            JsonPiece::Text(b",\"attributes\":"),
-            JsonPiece::Number(u32::from(attributes)),
-            JsonPiece::Text(b","),
-        ],
-    )
+    put_index(out, index)?;
+    put_number(out, b",\"attributes\":", u32::from(attributes))
 }
 
 /// Writes the index of a resource, and its type.
+#[tactic(auto, using(palm_text::proofs::Parts::then, palm_text::proofs::Parts::stops))]
 fn put_resource_start<W: Write>(
     out: &mut Counted<W>,
     index: u16,
@@ -52,19 +53,8 @@ fn put_resource_start<W: Write>(
 ) -> Result<(), WriteFault>
     ensures { Writes W.contents out.old out.new (resource_start index kind) (is_ok result) }
 {
-    put_json(
-        out,
-        &[
-            comma(index),
-            JsonPiece::Text(b"{\"index\":"),
-            JsonPiece::Number(u32::from(index)),
-            JsonPiece::Text(b",\"type\":"),
-            JsonPiece::FourBytes(kind),
-            JsonPiece::Text(b",\"type_hex\":"),
-            JsonPiece::FourHex(kind),
-            JsonPiece::Text(b","),
-        ],
-    )
+    put_index(out, index)?;
+    put_four_bytes(out, b",\"type\":", kind, b",\"type_hex\":")
 }
 
 /// Writes the ID of an entry, and the offset and the length of its data.
@@ -79,21 +69,21 @@ fn put_data<W: Write>(
         None => put_json(
             out,
             &[
-                JsonPiece::Text(b"\"id\":"),
-                JsonPiece::Number(id),
-                JsonPiece::Text(b",\"offset\":null,\"length\":null}"),
+                Text(b"\"id\":"),
+                Number(id),
+                Text(b",\"offset\":null,\"length\":null}"),
             ],
         ),
         Some(block) => put_json(
             out,
             &[
-                JsonPiece::Text(b"\"id\":"),
-                JsonPiece::Number(id),
-                JsonPiece::Text(b",\"offset\":"),
-                JsonPiece::Number(block.offset),
-                JsonPiece::Text(b",\"length\":"),
-                JsonPiece::Number(block.size),
-                JsonPiece::Text(b"}"),
+                Text(b"\"id\":"),
+                Number(id),
+                Text(b",\"offset\":"),
+                Number(block.offset),
+                Text(b",\"length\":"),
+                Number(block.size),
+                Text(b"}"),
             ],
         ),
     }
@@ -103,14 +93,7 @@ fn put_data<W: Write>(
 fn put_category_name<W: Write>(out: &mut Counted<W>, name: &[u8]) -> Result<(), WriteFault>
     ensures { Writes W.contents out.old out.new (category_member (Some name.now)) (is_ok result) }
 {
-    put_json(
-        out,
-        &[
-            JsonPiece::Text(b"\"category\":"),
-            JsonPiece::String(name),
-            JsonPiece::Text(b","),
-        ],
-    )
+    put_json(out, &[Text(b"\"category\":"), String(name), Text(b",")])
 }
 
 /// Writes the name of the category of a record, if it has one.

@@ -14,6 +14,7 @@ use file_listing::{Notation, Row};
 use heap_model::{FaultyPart, FileFault, Which};
 use palm_text::{Counted, WriteFault, put_all};
 use std::io::Write;
+use unicode_text::JsonPiece::{Number, Text, Utf8};
 use unicode_text::{JsonPiece, put_json};
 
 /// The notation in parts of a document.
@@ -23,7 +24,7 @@ pub struct JsonRows<'a> {
     pub path: Option<&'a str>,
 }
 
-const NO_JSON: JsonPiece<'static> = JsonPiece::Text(b"");
+const NO_JSON: JsonPiece<'static> = Text(b"");
 
 const CREATED: DateKeys = DateKeys {
     seconds: b"\"created\":",
@@ -52,7 +53,7 @@ fn part_fields(part: FaultyPart) -> (&'static [u8], JsonPiece<'static>)
         FaultyPart::Whole => (b"\",\"numbers\":[", NO_JSON),
         FaultyPart::Block(Which::App) => (b"\",\"block\":\"app\",\"numbers\":[", NO_JSON),
         FaultyPart::Block(Which::Sort) => (b"\",\"block\":\"sort\",\"numbers\":[", NO_JSON),
-        FaultyPart::Entry(index) => (b"\",\"numbers\":[", JsonPiece::Number(index)),
+        FaultyPart::Entry(index) => (b"\",\"numbers\":[", Number(index)),
     }
 }
 
@@ -63,14 +64,7 @@ fn put_document_start<W: Write>(out: &mut Counted<W>, path: Option<&str>) -> Res
 {
     match path {
         None => put_all(out, b"{"),
-        Some(path) => put_json(
-            out,
-            &[
-                JsonPiece::Text(b"{\"path\":"),
-                JsonPiece::Utf8(path),
-                JsonPiece::Text(b","),
-            ],
-        ),
+        Some(path) => put_json(out, &[Text(b"{\"path\":"), Utf8(path), Text(b",")]),
     }
 }
 
@@ -113,13 +107,13 @@ fn put_fault<W: Write>(out: &mut Counted<W>, fault: FileFault, at: u32) -> Resul
     put_json(
         out,
         &[
-            JsonPiece::Text(b"\"fault\":\""),
-            JsonPiece::Text(fault.name().as_bytes()),
-            JsonPiece::Text(fields),
+            Text(b"\"fault\":\""),
+            Text(fault.name().as_bytes()),
+            Text(fields),
             index,
-            JsonPiece::Text(b"],\"at\":"),
-            JsonPiece::Number(at),
-            JsonPiece::Text(b"}\n"),
+            Text(b"],\"at\":"),
+            Number(at),
+            Text(b"}\n"),
         ],
     )
 }

@@ -2,46 +2,35 @@
 
 ghost use Rattle.std.specs.Prelude.{is_ok};
 ghost use Rattle.palm_text.specs.Counted.{Writes};
-ghost use Rattle.json_documents.specs.RowTexts.{needs_json, size_json, slots_json};
+ghost use Rattle.json_documents.specs.RowTexts.{needs_json, needs_of};
 
 use itoa::Buffer;
 use palm_text::{Counted, WriteFault};
 use std::io::Write;
-use unicode_text::{JsonPiece, put_json};
+use unicode_text::JsonPiece::Text;
+use unicode_text::put_json;
 
-/// Writes the least size of a new image with the database.
-#[tactic(auto, unfolding(crate::specs::RowTexts::size_json))]
-fn put_size<W: Write>(out: &mut Counted<W>, size: u64) -> Result<(), WriteFault>
-    ensures { Writes W.contents out.old out.new (size_json size) (is_ok result) }
+/// Writes the digits of the least size and number of slots of a new image with the database.
+fn put_digits<'a, W: Write>(
+    out: &mut Counted<W>,
+    size: &'a [u8],
+    slots: &'a [u8],
+) -> Result<(), WriteFault>
+    ensures { Writes W.contents out.old out.new (needs_of size.now slots.now) (is_ok result) }
 {
-    let mut digits = Buffer::new();
     put_json(
         out,
         &[
-            JsonPiece::Text(b"],\"needs\":{\"size\":"),
-            JsonPiece::Text(digits.format(size).as_bytes()),
-            JsonPiece::Text(b","),
-        ],
-    )
-}
-
-/// Writes the least number of slots of a new image with the database.
-fn put_slots<W: Write>(out: &mut Counted<W>, slots: u64) -> Result<(), WriteFault>
-    ensures { Writes W.contents out.old out.new (slots_json slots) (is_ok result) }
-{
-    let mut digits = Buffer::new();
-    put_json(
-        out,
-        &[
-            JsonPiece::Text(b"\"slots\":"),
-            JsonPiece::Text(digits.format(slots).as_bytes()),
-            JsonPiece::Text(b"},"),
+            Text(b"],\"needs\":{\"size\":"),
+            Text(size),
+            Text(b",\"slots\":"),
+            Text(slots),
+            Text(b"},"),
         ],
     )
 }
 
 /// Writes the least size and number of slots of a new image with the database.
-#[tactic(auto, using(palm_text::proofs::Parts::then, palm_text::proofs::Parts::stops), unfolding(crate::specs::RowTexts::needs_json))]
 pub(crate) fn put_needs<W: Write>(
     out: &mut Counted<W>,
     size: u64,
@@ -49,6 +38,11 @@ pub(crate) fn put_needs<W: Write>(
 ) -> Result<(), WriteFault>
     ensures { Writes W.contents out.old out.new (needs_json size slots) (is_ok result) }
 {
-    put_size(out, size)?;
-    put_slots(out, slots)
+    let mut size_digits = Buffer::new();
+    let mut slot_digits = Buffer::new();
+    put_digits(
+        out,
+        size_digits.format(size).as_bytes(),
+        slot_digits.format(slots).as_bytes(),
+    )
 }

@@ -1,13 +1,15 @@
 //! Keys and values.
 
-ghost use Rattle.std.specs.Prelude.{◌≡◌, decimal, is_ok};
+ghost use Rattle.std.specs.Prelude.{◌≡◌, ◌++◌, codes, decimal, is_ok};
 ghost use Rattle.heap_model.specs.Bytes.{u32_bytes};
 ghost use Rattle.palm_text.specs.Counted.{Writes};
+ghost use Rattle.unicode_text.specs.Pieces.{json_text};
 ghost use Rattle.json_documents.specs.RowTexts.{date_json, extent_json, member, member_with_hex, moment_json, seconds_before, since_json, year_json};
 
 use file_listing::{Epoch, Extent, Moment, put_moment};
 use palm_text::{Counted, WriteFault};
 use std::io::Write;
+use unicode_text::JsonPiece::{FourBytes, FourHex, Hex, Number, String, Text};
 use unicode_text::{JsonPiece, put_json};
 
 /// Writes a key and a number.
@@ -18,14 +20,7 @@ pub(crate) fn put_number<W: Write>(
 ) -> Result<(), WriteFault>
     ensures { Writes W.contents out.old out.new (member key.now (decimal number)) (is_ok result) }
 {
-    put_json(
-        out,
-        &[
-            JsonPiece::Text(key),
-            JsonPiece::Number(number),
-            JsonPiece::Text(b","),
-        ],
-    )
+    put_json(out, &[Text(key), Number(number), Text(b",")])
 }
 
 /// Writes the string of some bytes, and that of their hex digits, each after its key.
@@ -38,16 +33,7 @@ pub(crate) fn put_bytes<'a, W: Write>(
     ensures { Writes W.contents out.old out.new (member_with_hex key.now bytes.now hex_key.now)
         (is_ok result) }
 {
-    put_json(
-        out,
-        &[
-            JsonPiece::Text(key),
-            JsonPiece::String(bytes),
-            JsonPiece::Text(hex_key),
-            JsonPiece::Hex(bytes),
-            JsonPiece::Text(b","),
-        ],
-    )
+    put_both(out, key, String(bytes), hex_key, Hex(bytes))
 }
 
 /// Writes the strings of the four bytes of a number, as `put_bytes` does.
@@ -60,16 +46,21 @@ pub(crate) fn put_four_bytes<'a, W: Write>(
     ensures { Writes W.contents out.old out.new
         (member_with_hex key.now (u32_bytes number) hex_key.now) (is_ok result) }
 {
-    put_json(
-        out,
-        &[
-            JsonPiece::Text(key),
-            JsonPiece::FourBytes(number),
-            JsonPiece::Text(hex_key),
-            JsonPiece::FourHex(number),
-            JsonPiece::Text(b","),
-        ],
-    )
+    put_both(out, key, FourBytes(number), hex_key, FourHex(number))
+}
+
+/// Writes two values, each after its key.
+fn put_both<'a, W: Write>(
+    out: &mut Counted<W>,
+    key: &'a [u8],
+    value: JsonPiece<'a>,
+    hex_key: &'a [u8],
+    hex: JsonPiece<'a>,
+) -> Result<(), WriteFault>
+    ensures { Writes W.contents out.old out.new
+        (key.now ++ (json_text value.entry ++ (hex_key.now ++ (json_text hex.entry ++ codes ",")))) (is_ok result) }
+{
+    put_json(out, &[Text(key), value, Text(hex_key), hex, Text(b",")])
 }
 
 /// Writes a number between two keys.
@@ -82,14 +73,7 @@ fn put_seconds<'a, W: Write>(
     ensures { Writes W.contents out.old out.new (seconds_before key.now seconds utc_key.now)
         (is_ok result) }
 {
-    put_json(
-        out,
-        &[
-            JsonPiece::Text(key),
-            JsonPiece::Number(seconds),
-            JsonPiece::Text(utc_key),
-        ],
-    )
+    put_json(out, &[Text(key), Number(seconds), Text(utc_key)])
 }
 
 /// Returns the value of the year from which a moment counts its seconds.
@@ -113,13 +97,7 @@ fn put_since<W: Write>(
 ) -> Result<(), WriteFault>
     ensures { Writes W.contents out.old out.new (since_json since_key.now moment.now) (is_ok result) }
 {
-    put_json(
-        out,
-        &[
-            JsonPiece::Text(since_key),
-            JsonPiece::Text(year_text(moment)),
-        ],
-    )
+    put_json(out, &[Text(since_key), Text(year_text(moment))])
 }
 
 /// Writes the UTC text of a moment, and the year from which its seconds count after its key.
@@ -168,16 +146,16 @@ pub(crate) fn put_extent<W: Write>(
     ensures { Writes W.contents out.old out.new (extent_json key.now block) (is_ok result) }
 {
     match block {
-        None => put_json(out, &[JsonPiece::Text(key), JsonPiece::Text(b"null,")]),
+        None => put_json(out, &[Text(key), Text(b"null,")]),
         Some(block) => put_json(
             out,
             &[
-                JsonPiece::Text(key),
-                JsonPiece::Text(b"{\"offset\":"),
-                JsonPiece::Number(block.offset),
-                JsonPiece::Text(b",\"length\":"),
-                JsonPiece::Number(block.size),
-                JsonPiece::Text(b"},"),
+                Text(key),
+                Text(b"{\"offset\":"),
+                Number(block.offset),
+                Text(b",\"length\":"),
+                Number(block.size),
+                Text(b"},"),
             ],
         ),
     }

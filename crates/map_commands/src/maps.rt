@@ -5,8 +5,8 @@ ghost use Rattle.std.specs.Prelude.{[], ◌≡◌, ◌≢◌, None};
 use crate::draw_command::draw_region_from;
 use crate::map_command::map_region_from;
 use command_files::{
-    STANDARD_ERROR, STANDARD_OUTPUT, STANDARD_STREAM, buffered_fault, fail, looks_like_file,
-    output_for_picture, read_image, report_buffered, report_outputs, suggest_list,
+    STANDARD_ERROR, STANDARD_OUTPUT, STANDARD_STREAM, buffered_fault, fail, on_image,
+    output_for_picture, report_buffered, report_outputs,
 };
 use palm_text::Counted;
 use program_io::{ErrorOutput, Noted, Status};
@@ -21,13 +21,7 @@ use std::rt::Files;
 pub fn map<R: Files + Input + Print + Eprint + AllocGlobal>(rt: &R, path: &str) -> Status
     ensures { result ≢ Status.BadWords }
 {
-    let image = match read_image(rt, path) {
-        Ok(image) => image,
-        Err(status) => return status,
-    };
-    let status = print_map(rt, &image);
-    suggest_list(rt, path, status, looks_like_file(&image));
-    status
+    on_image(rt, path, |image| print_map(rt, image))
 }
 
 /// Runs `map` with an output file: writes the picture of the image at a path as SVG. The path `-`
@@ -40,29 +34,31 @@ pub fn draw<R: Files + Input + Print + Eprint + AllocGlobal>(
 ) -> Status
     ensures { result ≢ Status.BadWords }
 {
-    let image = match read_image(rt, path) {
-        Ok(image) => image,
-        Err(status) => return status,
-    };
-    let status = if out_path == STANDARD_STREAM {
-        draw_to_output(rt, &image)
-    } else {
-        draw_to_file(rt, &image, out_path)
-    };
-    suggest_list(rt, path, status, looks_like_file(&image));
-    status
+    on_image(
+        rt,
+        path,
+        |image|
+            requires { image.lents ≡ [] }
+        {
+            if out_path == STANDARD_STREAM {
+                draw_to_output(rt, image)
+            } else {
+                draw_to_file(rt, image, out_path)
+            }
+        },
+    )
 }
 
 /// Prints the picture of an image as text.
-fn print_map<R: Print + Eprint + AllocGlobal>(rt: &R, image: &Region) -> Status
-    requires { image.now.lents ≡ [] }
+fn print_map<R: Print + Eprint + AllocGlobal>(rt: &R, image: Region) -> Status
+    requires { image.lents ≡ [] }
     ensures { result ≢ Status.BadWords }
 {
     let Ok(out) = BufWriter::new(rt.alloc(), Noted::new(io::writer(rt))) else {
         return fail(rt, Status::NoMemory);
     };
     let mut out = Counted::new(out);
-    let status = map_region_from(&rt.alloc(), image, &mut out);
+    let status = map_region_from(&rt.alloc(), &image, &mut out);
     report_buffered(rt, status, out)
 }
 
@@ -86,12 +82,12 @@ fn draw_buffered<W: Write + Drop, V: Write>(
 }
 
 /// Writes the picture of an image to standard output.
-fn draw_to_output<R: Print + Eprint + AllocGlobal>(rt: &R, image: &Region) -> Status
-    requires { image.now.lents ≡ [] }
+fn draw_to_output<R: Print + Eprint + AllocGlobal>(rt: &R, image: Region) -> Status
+    requires { image.lents ≡ [] }
     ensures { result ≢ Status.BadWords }
 {
     let mut out = Counted::new(Noted::new(ErrorOutput::new(rt)));
-    let (status, file_fault) = draw_buffered(rt.alloc(), image, io::writer(rt), &mut out);
+    let (status, file_fault) = draw_buffered(rt.alloc(), &image, io::writer(rt), &mut out);
     report_outputs(
         rt,
         status,
@@ -104,10 +100,10 @@ fn draw_to_output<R: Print + Eprint + AllocGlobal>(rt: &R, image: &Region) -> St
 /// Writes the picture of an image to a file. An image and a PDB or PRC file aren't replaced.
 fn draw_to_file<R: Files + Print + Eprint + AllocGlobal>(
     rt: &R,
-    image: &Region,
+    image: Region,
     out_path: &str,
 ) -> Status
-    requires { image.now.lents ≡ [] }
+    requires { image.lents ≡ [] }
     ensures { result ≢ Status.BadWords }
 {
     let mut file_out = match output_for_picture(rt, out_path) {
@@ -115,7 +111,7 @@ fn draw_to_file<R: Files + Print + Eprint + AllocGlobal>(
         Err(status) => return status,
     };
     let mut out = Counted::new(Noted::new(io::writer(rt)));
-    let (status, file_fault) = draw_buffered(rt.alloc(), image, &mut file_out, &mut out);
+    let (status, file_fault) = draw_buffered(rt.alloc(), &image, &mut file_out, &mut out);
     file_out.close();
     report_outputs(rt, status, (out_path, file_fault), STANDARD_OUTPUT, out)
 }

@@ -41,9 +41,9 @@ use store_check::{StoreFault, StoreSummary, check_store};
 use thiserror::Error;
 
 /// A region that is an accepted image. Contracts see only the region's value. Only `check`,
-/// `put_back`, the methods on entries and those for files have a precondition. Every other method
-/// refuses a call that it can't do. The store gives neither its region nor its heap away, so only
-/// its calls write to them.
+/// `of_accepted`, `put_back`, the methods on entries and those for files have a precondition. Every
+/// other method refuses a call that it can't do. The store gives neither its region nor its heap
+/// away, so only its calls write to them.
 #[derive(Drop)]
 pub struct Store {
     heap: Heap,
@@ -130,9 +130,9 @@ impl Store {
         }
     }
 
-    /// Makes a store of a region without a check. The caller must prove that it is an accepted
-    /// image.
-    pub(crate) fn of_accepted(region: Region) -> Store
+    /// Makes a store of a region that was checked before, as by `check_store_with` of store_check.
+    /// It allocates nothing, and reads only the chain of tables.
+    pub fn of_accepted(region: Region) -> Store
         requires accepted { Accepted region.bytes }
         requires whole { region.lents ≡ [] }
         ensures same { result ≡ region }

@@ -2,9 +2,10 @@
 //! command `run`.
 //!
 //! `cmd_run` works over bytes and counted writers. Its contract defines when it returns each
-//! status, what was written by then, and where a write failed. `cmd_run_from` is its form over any
-//! `Allowance`. It reports out of memory only if an allocation failed. `image_program` has the
-//! commands of the smaller program, `map_commands` and `store_commands` have the others.
+//! status, what was written by then, and where a write failed. `run_region_from` is its form over a
+//! region and any `Allowance`. It reports out of memory only if an allocation failed.
+//! `image_program` has the commands of the smaller program, `map_commands` and `store_commands`
+//! have the others.
 //!
 //! The other functions call the system, like the functions of `image_commands` over paths. Start
 //! with `run`.
@@ -16,11 +17,9 @@
 //! | `scripts` | the command `run`, over files |
 //! | `ending` | how a run of the program ends |
 //! | `stores` | the commands `databases`, `export`, `import` and `migrate`, over files and folders |
-//! | `documents` | `databases` in the form that is asked for |
 //! | `requests` | fulfils the request of the words of the command line |
 #![tactic(auto)]
 
-mod documents;
 mod ending;
 mod live_command;
 mod requests;
@@ -31,4 +30,4 @@ mod stores;
 pub use ending::Ending;
 pub use live_command::{LiveEnd, run_live_region_from};
 pub use requests::run;
-pub use run_command::{cmd_run, cmd_run_from, run_region_from};
+pub use run_command::{cmd_run, run_region_from};

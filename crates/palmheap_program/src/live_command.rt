@@ -1,7 +1,6 @@
 //! The command `run`, if its script is run while it is read.
 
 ghost use Rattle.std.specs.Prelude.{◌≡◌, ◌≢◌, ◌<◌, [], Err, IfOk, IfErr, IfSome, length, true};
-ghost use Rattle.heap_model.specs.Store.{Accepted};
 ghost use Rattle.script_calls.specs.Lines.{setting};
 ghost use Rattle.palmheap_program.specs.LiveRuns.{EndsAtLine, EndsEarlyLive, EndsLive, RunsLive, live_text};
 ghost use Rattle.palmheap_program.specs.Runs.{run_outputs};
@@ -11,8 +10,8 @@ use allowance::Allowance;
 use file_commands::say_line_fault;
 use heap_model::Bytes;
 use live_scripts::{LiveFault, LiveInputs, run_read};
-use palm_store::Store;
 use palm_text::Counted;
+use program_io::command_line::Form;
 use program_io::{InputFault, MOST_INPUT, Status};
 use raw_region::Region;
 use script_lines::LineFault;
@@ -60,39 +59,10 @@ pub fn run_live_region_from<A: Allowance, R: Read, W: Write, V: Write>(
         → IfSome (R.remaining reader.old) (λ all. MOST_INPUT < length all) }
     ensures good_words { result ≢ Err (LiveEnd.Ended Status.BadWords) }
 {
-    match opened(memory, region, out) {
-        Ok(store) => run_store(memory, store, reader, inputs, script, image_out, out),
-        Err(status) => Err(LiveEnd::Ended(status)),
-    }
-}
-
-/// Reads a script and runs its lines on a store. Then it writes the image.
-fn run_store<A: Allowance, R: Read, W: Write, V: Write>(
-    memory: &A,
-    mut store: Store,
-    reader: &mut R,
-    inputs: LiveInputs<'_>,
-    script: &mut Vec<u8>,
-    image_out: &mut Counted<W>,
-    out: &mut Counted<V>,
-) -> Result<Vec<Bytes>, LiveEnd>
-    requires whole { store.lents ≡ [] }
-    requires accepted { Accepted store.bytes }
-    requires none { script.old.items ≡ [] }
-    ensures done { IfOk result (λ files. RunsLive
-        (setting (A.is_short memory.now) inputs.entry.files.now) store
-        (live_text (R.remaining reader.old) script.new.items)
-        (run_outputs (output V.contents out.old out.new)
-        (output W.contents image_out.old image_out.new)) files.items true) }
-    ensures ends { IfErr result (EndsLive
-        (setting (A.is_short memory.now) inputs.entry.files.now) store
-        (live_text (R.remaining reader.old) script.new.items)
-        (run_outputs (output V.contents out.old out.new)
-        (output W.contents image_out.old image_out.new))) }
-    ensures too_long { result ≡ Err (LiveEnd.Unread InputFault.TooLong)
-        → IfSome (R.remaining reader.old) (λ all. MOST_INPUT < length all) }
-    ensures good_words { result ≢ Err (LiveEnd.Ended Status.BadWords) }
-{
+    let mut store = match opened(memory, region, Form::Text, out) {
+        Ok(store) => store,
+        Err(status) => return Err(LiveEnd::Ended(status)),
+    };
     let files = match run_read(memory, &mut store, reader, inputs, script, out) {
         Ok(files) => files,
         Err(fault) => return Err(end_early(memory, fault, out)),

@@ -1,9 +1,8 @@
 //! The requests of the words of the command line.
 
-use crate::documents::databases_as;
 use crate::ending::Ending;
 use crate::scripts::{RunPaths, run_script};
-use crate::stores::{export, import, migrate};
+use crate::stores::{databases, export, import, migrate};
 use image_program::answer;
 use map_commands::{draw, map};
 use program_io::command_line::{self, Request};
@@ -47,7 +46,7 @@ fn fulfil<R: Files + Input + Print + Eprint + AllocGlobal>(rt: &R, request: Requ
             image,
             out: Some(out),
         } => draw(rt, image, out),
-        Request::Databases { image, form } => databases_as(rt, image, form),
+        Request::Databases { image, form } => databases(rt, image, form),
         Request::Export {
             image,
             folder,

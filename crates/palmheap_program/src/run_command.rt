@@ -16,6 +16,7 @@ use palm_script::{RunFault, Script, ScriptFault, run_from};
 use palm_store::Store;
 use palm_text::Counted;
 use program_io::Status;
+use program_io::command_line::Form;
 use raw_region::Region;
 use script_lines::parse_from;
 use std::alloc::Global;
@@ -50,40 +51,14 @@ pub fn cmd_run<W: Write, V: Write>(
         (run_outputs (output V.contents out.old out.new)
         (output W.contents image_out.old image_out.new)) }
 {
-    cmd_run_from(&alloc, image, script, inputs, image_out, files, out)
-}
-
-/// The same as `cmd_run`. Each allocation asks `memory` for a grant.
-pub fn cmd_run_from<A: Allowance, W: Write, V: Write>(
-    memory: &A,
-    image: &[u8],
-    script: &[u8],
-    inputs: &[Bytes],
-    image_out: &mut Counted<W>,
-    files: &mut Vec<Bytes>,
-    out: &mut Counted<V>,
-) -> Status
-    ensures ends { EndsRun image.now script.now inputs.now
-        (run_outputs (output V.contents out.old out.new)
-        (output W.contents image_out.old image_out.new)) files.new.items result }
-    ensures files_kept { result ≢ Status.Done → files.new ≡ files.old }
-    ensures short { result ≡ Status.NoMemory → A.is_short memory.now }
-    ensures done_short { result ≡ Status.Done → RunsScriptShort
-        (setting (A.is_short memory.now) inputs.now) image.now script.now
-        (run_outputs (output V.contents out.old out.new)
-        (output W.contents image_out.old image_out.new)) files.new.items true }
-    ensures write_short { result ≡ Status.WriteFault → RunBreaksOffShort
-        (setting (A.is_short memory.now) inputs.now) image.now script.now
-        (run_outputs (output V.contents out.old out.new)
-        (output W.contents image_out.old image_out.new)) }
-{
-    match Region::copied_from(memory, image) {
-        Ok(region) => run_region_from(memory, region, script, inputs, image_out, files, out),
+    match Region::copied_from(&alloc, image) {
+        Ok(region) => run_region_from(&alloc, region, script, inputs, image_out, files, out),
         Err(_) => Status::NoMemory,
     }
 }
 
-/// The same as `cmd_run_from`, on an image in a region. The region is not copied.
+/// The same as `cmd_run`, on an image in a region. The region is not copied. Each allocation asks
+/// `memory` for a grant.
 pub fn run_region_from<A: Allowance, W: Write, V: Write>(
     memory: &A,
     region: Region,
@@ -136,7 +111,7 @@ fn read<'a, A: Allowance, V: Write>(
     ensures memory { result ≡ Err Status.NoMemory → out.new ≡ out.old }
     ensures short { result ≡ Err Status.NoMemory → A.is_short memory.now }
 {
-    match opened(memory, region, out) {
+    match opened(memory, region, Form::Text, out) {
         Ok(store) => match parsed(memory, script, out) {
             Ok(script) => Ok((store, script)),
             Err(status) => Err(status),

@@ -6,8 +6,8 @@ use crate::ending::Ending;
 use crate::live_command::{LiveEnd, run_live_region_from};
 use crate::run_command::run_region_from;
 use command_files::{
-    STANDARD_INPUT, STANDARD_OUTPUT, STANDARD_STREAM, buffered_fault, fail, fail_to_read,
-    looks_like_file, output_for_image, read_file, read_files, read_image, report_left_files,
+    STANDARD_INPUT, STANDARD_OUTPUT, STANDARD_STREAM, buffered_fault, close_output, fail,
+    fail_to_read, image_output, read_file_within, read_files, read_image, report_left_files,
     report_line_hint, suggest_checks, suggest_list, write_files,
 };
 use heap_model::Bytes;
@@ -15,7 +15,7 @@ use hints::{line_numbers, missing_files, script_hint};
 use live_scripts::LiveInputs;
 use palm_text::Counted;
 use program_io::command_line::Shown;
-use program_io::{Noted, Status, report_outcome};
+use program_io::{MOST_INPUT, Noted, Status, report_outcome};
 use raw_region::Region;
 use script_calls::{LiveReplies, Replies};
 use script_lines::parse_from;
@@ -69,12 +69,11 @@ fn run_paths<R: Files + Input + Print + Eprint + AllocGlobal>(
 ) -> Result<bool, Status>
     ensures { IfErr result (λ status. status ≢ Status.BadWords) }
 {
+    let (image, is_file) = read_image(rt, paths.image)?;
     if paths.script == STANDARD_STREAM {
-        return run_live(rt, paths, has_numbers);
+        return run_live(rt, paths, image, is_file, has_numbers);
     }
-    let image = read_image(rt, paths.image)?;
-    let is_file = looks_like_file(&image);
-    let script = read_file(rt, paths.script)?;
+    let script = read_file_within(rt, paths.script, MOST_INPUT)?;
     let inputs = read_files(rt, paths.files)?;
     let numbers = if has_numbers {
         numbers_of(rt, script.as_slice())?
@@ -86,65 +85,77 @@ fn run_paths<R: Files + Input + Print + Eprint + AllocGlobal>(
         files: inputs.as_slice(),
         numbers: numbers.as_slice(),
     };
-    let replied = match run_to(rt, image, given, paths.out) {
-        Ok(replied) => replied,
-        Err(status) => {
-            suggest_list(rt, paths.image, status, is_file);
-            comment_on_script(rt, paths.script, status, script.as_slice());
-            return Err(status);
-        }
+    let ran = run_to(rt, image, given, paths.out);
+    let read = ReadInputs {
+        is_file,
+        script: script.as_slice(),
+        files: inputs.as_slice(),
     };
-    end_run(rt, paths, script.as_slice(), inputs.as_slice(), &replied)?;
-    Ok(replied.any_refused)
+    end_run(rt, paths, read, ran)
 }
 
-/// Does the same for the script on standard input, which is run while it is read.
+/// Runs the script on standard input on an image, while it reads the script.
 fn run_live<R: Files + Input + Print + Eprint + AllocGlobal>(
     rt: &R,
     paths: RunPaths<'_>,
+    image: Region,
+    is_file: bool,
     has_numbers: bool,
 ) -> Result<bool, Status>
+    requires { image.lents ≡ [] }
     ensures { IfErr result (λ status. status ≢ Status.BadWords) }
 {
-    let image = read_image(rt, paths.image)?;
-    let is_file = looks_like_file(&image);
     let inputs = read_files(rt, paths.files)?;
     let mut script = Vec::new(rt.alloc());
     let given = LiveGiven {
         files: inputs.as_slice(),
         has_numbers,
     };
-    let replied = match run_live_to(rt, image, given, &mut script, paths.out) {
-        Ok(replied) => replied,
-        Err(status) => {
-            suggest_list(rt, paths.image, status, is_file);
-            comment_on_script(rt, paths.script, status, script.as_slice());
-            return Err(status);
-        }
+    let ran = run_live_to(rt, image, given, &mut script, paths.out);
+    let read = ReadInputs {
+        is_file,
+        script: script.as_slice(),
+        files: inputs.as_slice(),
     };
-    end_run(rt, paths, script.as_slice(), inputs.as_slice(), &replied)?;
-    Ok(replied.any_refused)
+    end_run(rt, paths, read, ran)
 }
 
-/// Writes the exported files of a run. Then it reports which lines import a file that was not
-/// given, which given files look like images, and which exported files are from an earlier run.
+/// The inputs of a run: whether the image looks like a PDB or PRC file, the script, and the files.
+#[derive(Clone, Copy)]
+struct ReadInputs<'a> {
+    is_file: bool,
+    script: &'a [u8],
+    files: &'a [Bytes],
+}
+
+/// Ends a run with this result, and returns whether a line was refused. After a run that succeeded
+/// it writes the exported files. Then it reports which lines import a file that was not given,
+/// which given files look like images, and which exported files are from an earlier run.
 fn end_run<R: Files + Eprint + AllocGlobal>(
     rt: &R,
     paths: RunPaths<'_>,
-    script: &[u8],
-    inputs: &[Bytes],
-    replied: &Replied,
-) -> Result<(), Status>
+    read: ReadInputs<'_>,
+    ran: Result<Replied, Status>,
+) -> Result<bool, Status>
+    requires { IfErr ran (λ status. status ≢ Status.BadWords) }
     ensures { IfErr result (λ status. status ≢ Status.BadWords) }
 {
+    let replied = match ran {
+        Ok(replied) => replied,
+        Err(status) => {
+            suggest_list(rt, paths.image, status, read.is_file);
+            comment_on_script(rt, paths.script, status, read.script);
+            return Err(status);
+        }
+    };
     let status = write_files(rt, paths.out, replied.files.as_slice());
     if status != Status::Done {
         return Err(status);
     }
-    report_missing_files(rt, script, inputs.len());
-    suggest_checks(rt, paths.files, Status::Done, inputs);
+    report_missing_files(rt, read.script, read.files.len());
+    suggest_checks(rt, paths.files, Status::Done, read.files);
     report_left_files(rt, paths.out, replied.files.len());
-    Ok(())
+    Ok(replied.any_refused)
 }
 
 /// Reports on standard error what is wrong with the first faulty line of a script, if a run was
@@ -224,8 +235,7 @@ fn run_to<R: Files + Print + Eprint + AllocGlobal>(
     let Ok(out) = BufWriter::new(rt.alloc(), Noted::new(io::writer(rt))) else {
         return Err(fail(rt, Status::NoMemory));
     };
-    let image_out = output_for_image(rt, path)?;
-    let mut image_out = Counted::new(Noted::new(image_out));
+    let mut image_out = image_output(rt, path)?;
     let mut out = Counted::new(Replies::new(out, given.numbers));
     let mut files = Vec::new(rt.alloc());
     let status = run_region_from(
@@ -237,17 +247,15 @@ fn run_to<R: Files + Print + Eprint + AllocGlobal>(
         &mut files,
         &mut out,
     );
-    let (image_out, image_fault) = image_out.into_inner().into_parts();
-    image_out.close();
-    let Replies {
-        writer,
-        any_refused,
-        ..
-    } = out.into_inner();
-    let fault = buffered_fault(writer);
+    let image_fault = close_output(image_out);
+    let replies = out.into_inner();
+    let fault = buffered_fault(replies.writer);
     report_outcome(rt, status, &[(path, image_fault), (STANDARD_OUTPUT, fault)]);
     if status == Status::Done {
-        Ok(Replied { files, any_refused })
+        Ok(Replied {
+            files,
+            any_refused: replies.any_refused,
+        })
     } else {
         Err(status)
     }
@@ -276,9 +284,8 @@ fn run_live_to<R: Files + Input + Print + Eprint + AllocGlobal>(
     let Ok(out) = BufWriter::new(rt.alloc(), Noted::new(io::writer(rt))) else {
         return Err(fail(rt, Status::NoMemory));
     };
-    let image_out = output_for_image(rt, path)?;
+    let mut image_out = image_output(rt, path)?;
     let number = Cell::new(0usize);
-    let mut image_out = Counted::new(Noted::new(image_out));
     let mut out = Counted::new(LiveReplies::new(out, given.has_numbers, &number));
     let inputs = LiveInputs {
         files: given.files,
@@ -293,16 +300,14 @@ fn run_live_to<R: Files + Input + Print + Eprint + AllocGlobal>(
         &mut image_out,
         &mut out,
     );
-    let (image_out, image_fault) = image_out.into_inner().into_parts();
-    image_out.close();
-    let LiveReplies {
-        writer,
-        any_refused,
-        ..
-    } = out.into_inner();
-    let fault = buffered_fault(writer);
+    let image_fault = close_output(image_out);
+    let replies = out.into_inner();
+    let fault = buffered_fault(replies.writer);
     match result {
-        Ok(files) => Ok(Replied { files, any_refused }),
+        Ok(files) => Ok(Replied {
+            files,
+            any_refused: replies.any_refused,
+        }),
         Err(LiveEnd::Unread(reason)) => Err(fail_to_read(rt, STANDARD_INPUT, reason)),
         Err(LiveEnd::Ended(status)) => {
             report_outcome(rt, status, &[(path, image_fault), (STANDARD_OUTPUT, fault)]);

@@ -1,18 +1,20 @@
 //! The commands `databases`, `export`, `import` and `migrate`, over files and folders.
 
-ghost use Rattle.std.specs.Prelude.{◌≡◌, ◌≢◌, ◌≤◌, ◌⊎◌, IfErr, length};
+ghost use Rattle.std.specs.Prelude.{◌≡◌, ◌≢◌, ◌≤◌, ◌⊎◌, [], length};
 
 use allowance::copied;
 use command_files::{
-    STANDARD_OUTPUT, fail, looks_like_file, output_for_image, read_file_or_input, read_image,
-    suggest_checks, suggest_explain, suggest_list, write_file,
+    fail, image_output, on_image, read_files, read_image, report_buffered, report_image,
+    report_output, suggest_checks, suggest_explain, suggest_list, write_file,
 };
 use file_commands::{comment_on_damage, name_each_dropped, path_in, say_count};
 use heap_model::Bytes;
 use palm_text::Counted;
-use program_io::{Noted, Status, report_outcome, report_write_fault};
+use program_io::command_line::Form;
+use program_io::{Noted, Status, report_write_fault};
+use raw_region::Region;
 use std::alloc::AllocError;
-use std::io::{ErrorKind, Input, Write};
+use std::io::{BufWriter, ErrorKind, Input};
 use std::rt::Files;
 use std::{fs, io, str};
 use store_commands::{
@@ -20,23 +22,41 @@ use store_commands::{
     migrate_region_from,
 };
 
-/// Runs `databases`. The path `-` means standard input.
+/// Runs `databases`, and prints in a form. The path `-` means standard input.
 pub(crate) fn databases<R: Files + Input + Print + Eprint + AllocGlobal>(
     rt: &R,
     path: &str,
+    form: Form,
 ) -> Status
     ensures { result ≢ Status.BadWords }
 {
-    let image = match read_image(rt, path) {
-        Ok(image) => image,
-        Err(status) => return status,
-    };
-    let is_file = looks_like_file(&image);
+    on_image(rt, path, |image| match form {
+        Form::Text => print_lines(rt, image),
+        Form::Json => print_document(rt, image),
+    })
+}
+
+/// Prints a line for each database of an image.
+fn print_lines<R: Print + Eprint + AllocGlobal>(rt: &R, image: Region) -> Status
+    requires { image.lents ≡ [] }
+    ensures { result ≢ Status.BadWords }
+{
     let mut out = Counted::new(Noted::new(io::writer(rt)));
-    let status = databases_region_from(&rt.alloc(), image, &mut out);
-    let status = reported(rt, status, out);
-    suggest_list(rt, path, status, is_file);
-    status
+    let status = databases_region_from(&rt.alloc(), image, Form::Text, &mut out);
+    report_output(rt, status, out)
+}
+
+/// Prints the document of the databases of an image. A buffer collects its parts.
+fn print_document<R: Print + Eprint + AllocGlobal>(rt: &R, image: Region) -> Status
+    requires { image.lents ≡ [] }
+    ensures { result ≢ Status.BadWords }
+{
+    let Ok(out) = BufWriter::new(rt.alloc(), Noted::new(io::writer(rt))) else {
+        return fail(rt, Status::NoMemory);
+    };
+    let mut out = Counted::new(out);
+    let status = databases_region_from(&rt.alloc(), image, Form::Json, &mut out);
+    report_buffered(rt, status, out)
 }
 
 /// Runs `export`. The path `-` means standard input.
@@ -49,17 +69,16 @@ pub(crate) fn export<R: Files + Input + Print + Eprint + AllocGlobal>(
     let Ok(words) = words_of(rt, names) else {
         return fail(rt, Status::NoMemory);
     };
-    let image = match read_image(rt, path) {
-        Ok(image) => image,
+    let (image, is_file) = match read_image(rt, path) {
+        Ok(read) => read,
         Err(status) => return status,
     };
-    let is_file = looks_like_file(&image);
     let mut out = Counted::new(Noted::new(io::writer(rt)));
     let files = match export_files(&rt.alloc(), image, words.as_slice(), &mut out) {
         Ok(files) => files,
         Err(ended) => {
             name_refused(rt, ended, names);
-            let status = reported(rt, ended.status, out);
+            let status = report_output(rt, ended.status, out);
             suggest_list(rt, path, status, is_file);
             return status;
         }
@@ -67,7 +86,7 @@ pub(crate) fn export<R: Files + Input + Print + Eprint + AllocGlobal>(
     match write_folder(rt, folder, files.as_slice()) {
         Status::Done => {
             let status = say_count(files.len(), &mut out);
-            reported(rt, status, out)
+            report_output(rt, status, out)
         }
         status => status,
     }
@@ -81,15 +100,14 @@ pub(crate) fn import<R: Files + Input + Print + Eprint + AllocGlobal>(
     choice: ImageChoice,
     paths: &[&str],
 ) -> Status {
-    let files = match read_each(rt, paths) {
+    let files = match read_files(rt, paths) {
         Ok(files) => files,
         Err(status) => return status,
     };
-    let image_out = match output_for_image(rt, path) {
+    let mut image_out = match image_output(rt, path) {
         Ok(image_out) => image_out,
         Err(status) => return status,
     };
-    let mut image_out = Counted::new(Noted::new(image_out));
     let mut out = Counted::new(Noted::new(io::writer(rt)));
     let ended = cmd_import(
         &rt.alloc(),
@@ -98,14 +116,7 @@ pub(crate) fn import<R: Files + Input + Print + Eprint + AllocGlobal>(
         &mut image_out,
         &mut out,
     );
-    let (image_out, image_fault) = image_out.into_inner().into_parts();
-    image_out.close();
-    let (_, fault) = out.into_inner().into_parts();
-    report_outcome(
-        rt,
-        ended.status,
-        &[(path, image_fault), (STANDARD_OUTPUT, fault)],
-    );
+    report_image(rt, ended.status, path, image_out, out);
     name_refused(rt, ended, paths);
     suggest_checks(rt, paths, ended.status, files.as_slice());
     comment_on_refused(rt, ended, paths, files.as_slice());
@@ -123,33 +134,21 @@ pub(crate) fn migrate<R: Files + Input + Print + Eprint + AllocGlobal>(
 ) -> Status
     ensures { result ≢ Status.BadWords }
 {
-    let image = match read_image(rt, image_path) {
-        Ok(image) => image,
-        Err(status) => return status,
-    };
-    let is_file = looks_like_file(&image);
-    let image_out = match output_for_image(rt, path) {
+    on_image(rt, image_path, |image| migrate_to(rt, image, path))
+}
+
+/// Writes the image with a chain of tables that an image becomes to a path.
+fn migrate_to<R: Files + Print + Eprint + AllocGlobal>(rt: &R, image: Region, path: &str) -> Status
+    requires { image.lents ≡ [] }
+    ensures { result ≢ Status.BadWords }
+{
+    let mut image_out = match image_output(rt, path) {
         Ok(image_out) => image_out,
         Err(status) => return status,
     };
-    let mut image_out = Counted::new(Noted::new(image_out));
     let mut out = Counted::new(Noted::new(io::writer(rt)));
     let status = migrate_region_from(&rt.alloc(), image, &mut image_out, &mut out);
-    let (image_out, image_fault) = image_out.into_inner().into_parts();
-    image_out.close();
-    let (_, fault) = out.into_inner().into_parts();
-    report_outcome(rt, status, &[(path, image_fault), (STANDARD_OUTPUT, fault)]);
-    suggest_list(rt, image_path, status, is_file);
-    status
-}
-
-/// Says what broke a command off that writes to standard output alone, and returns it.
-fn reported<R: Eprint, W: Write + Drop>(rt: &R, status: Status, out: Counted<Noted<W>>) -> Status
-    ensures { result ≡ status }
-{
-    let (_, fault) = out.into_inner().into_parts();
-    report_outcome(rt, status, &[(STANDARD_OUTPUT, fault)]);
-    status
+    report_image(rt, status, path, image_out, out)
 }
 
 /// Says on standard error which of the words a command was refused for, if it was for one.
@@ -180,23 +179,6 @@ fn comment_on_refused<R: Eprint + AllocGlobal>(
     if let (Some(path), Some(file)) = (paths.get(index), files.get(index)) {
         comment_on_damage(rt, path, &file.as_slice());
     }
-}
-
-/// All of some files, in order. The path `-` stands for standard input.
-fn read_each<R: Files + Input + Eprint + AllocGlobal>(
-    rt: &R,
-    paths: &[&str],
-) -> Result<Vec<Bytes>, Status>
-    ensures { IfErr result (λ status. (status ≡ Status.ReadFault) ⊎ (status ≡ Status.NoMemory)) }
-{
-    let mut files = Vec::new(rt.alloc());
-    for path in paths {
-        let file = Bytes::of(read_file_or_input(rt, path)?);
-        if files.push(file).is_err() {
-            return Err(fail(rt, Status::NoMemory));
-        }
-    }
-    Ok(files)
 }
 
 /// Words as bytes.

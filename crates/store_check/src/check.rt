@@ -5,6 +5,7 @@ ghost use Rattle.std.specs.Prelude.{◌≡◌, ◌≤◌, ◌*◌, ◌^◌, ◌�
 ghost use Rattle.heap_model.specs.Bytes.{AreBytes};
 ghost use Rattle.heap_model.specs.Heap.{HeapAccepted, directory_of};
 ghost use Rattle.heap_model.specs.Store.{directory_bytes, listed, most_databases, Accepted};
+ghost use Rattle.heap_check.specs.Bits.{AreEnoughBits};
 ghost use Rattle.heap_check.specs.Faults.{FirstBrought};
 ghost use Rattle.heap_check.specs.Owners.{marks_needed as model_needed, NoneMarked, HasOwners};
 ghost use Rattle.store_check.specs.Listing.{IsGoodDirectory, AreListed, NotesListed, HaveHeaders};
@@ -29,7 +30,9 @@ use crate::summary::StoreSummary;
 use crate::words::listed_count;
 use allowance::Allowance;
 use db_format::MOST_DATABASES;
-use heap_check::{MOST_MARKS, NO_OWNER, check_heap, check_heap_noting, marks_needed};
+use heap_check::{
+    MOST_MARKS, NO_OWNER, bits_needed, check_heap_noting, check_heap_with, marks_needed, no_bits,
+};
 use raw_region::Region;
 
 /// Checks whether the bytes of a region are an accepted heap with databases, and returns its
@@ -38,6 +41,8 @@ use raw_region::Region;
 /// - a byte for each slot; with a chain of tables up to two bytes for each word of the image, at
 ///   most 8 MiB;
 /// - a bit for each number up to the greatest ID, at least 32 KiB and at most 2 MiB.
+///
+/// With a chain it also keeps a bit for each word of the largest image on the stack, 512 KiB.
 ///
 /// # Errors
 /// - `OutOfMemory`: an allocation failed.
@@ -50,16 +55,19 @@ pub fn check_store<A: Allowance>(memory: &A, region: &Region) -> Result<StoreSum
     ensures refused { IfErr result (IsRefusal region.now.bytes) }
     ensures no_memory { result ≡ Err StoreFault.OutOfMemory → A.is_short memory.now }
 {
-    if marks_needed(region) > MOST_MARKS {
-        return check_large(memory, region);
+    if bits_needed(region) == 0 {
+        return check_store_with(memory, region, &mut []);
     }
-    let mut owners = [NO_OWNER; MOST_MARKS];
-    check_noting(memory, region, &mut owners)
+    check_with_own_bits(memory, region)
 }
 
-/// Does the same for an image with more words than `MOST_MARKS`. It allocates the marks of owners
-/// after its heap was found accepted.
-fn check_large<A: Allowance>(memory: &A, region: &Region) -> Result<StoreSummary, StoreFault>
+/// Does the same with bits on the stack. It is never inlined: an image without a chain would pay
+/// for the stack space of the bits.
+#[inline(never)]
+fn check_with_own_bits<A: Allowance>(
+    memory: &A,
+    region: &Region,
+) -> Result<StoreSummary, StoreFault>
     requires whole { region.now.lents ≡ [] }
     ensures accepted { OnOk result (Accepted region.now.bytes) }
     ensures summary { IfOk result (SummarizesStore region.now.bytes) }
@@ -67,7 +75,54 @@ fn check_large<A: Allowance>(memory: &A, region: &Region) -> Result<StoreSummary
     ensures refused { IfErr result (IsRefusal region.now.bytes) }
     ensures no_memory { result ≡ Err StoreFault.OutOfMemory → A.is_short memory.now }
 {
-    let heap = match check_heap(region) {
+    let mut bits = no_bits();
+    check_store_with(memory, region, &mut bits)
+}
+
+/// Checks a region as `check_store` does, with bits of the caller's. `bits_needed` of heap_check
+/// returns how many bytes of them are enough. Afterwards some bits may be set. It keeps 64 KiB of
+/// marks and 8 KiB of offsets on the stack.
+///
+/// # Errors
+/// The same as for `check_store`.
+pub fn check_store_with<A: Allowance>(
+    memory: &A,
+    region: &Region,
+    bits: &mut [u8],
+) -> Result<StoreSummary, StoreFault>
+    requires whole { region.now.lents ≡ [] }
+    requires enough { AreEnoughBits region.now.bytes (length bits.old) }
+    requires none { HasNone bits.old }
+    ensures accepted { OnOk result (Accepted region.now.bytes) }
+    ensures summary { IfOk result (SummarizesStore region.now.bytes) }
+    ensures fault { IfErr result (IsAnswered region.now.bytes) }
+    ensures refused { IfErr result (IsRefusal region.now.bytes) }
+    ensures no_memory { result ≡ Err StoreFault.OutOfMemory → A.is_short memory.now }
+{
+    if marks_needed(region) > MOST_MARKS {
+        return check_large(memory, region, bits);
+    }
+    let mut owners = [NO_OWNER; MOST_MARKS];
+    check_noting(memory, region, bits, &mut owners)
+}
+
+/// Does the same for an image with more words than `MOST_MARKS`. It allocates the marks of owners
+/// after its heap was found accepted.
+fn check_large<A: Allowance>(
+    memory: &A,
+    region: &Region,
+    bits: &mut [u8],
+) -> Result<StoreSummary, StoreFault>
+    requires whole { region.now.lents ≡ [] }
+    requires enough { AreEnoughBits region.now.bytes (length bits.old) }
+    requires none { HasNone bits.old }
+    ensures accepted { OnOk result (Accepted region.now.bytes) }
+    ensures summary { IfOk result (SummarizesStore region.now.bytes) }
+    ensures fault { IfErr result (IsAnswered region.now.bytes) }
+    ensures refused { IfErr result (IsRefusal region.now.bytes) }
+    ensures no_memory { result ≡ Err StoreFault.OutOfMemory → A.is_short memory.now }
+{
+    let heap = match check_heap_with(region, bits) {
         Ok(heap) => heap,
         Err(fault) => return Err(StoreFault::Heap(fault)),
     };
@@ -82,9 +137,12 @@ fn check_large<A: Allowance>(memory: &A, region: &Region) -> Result<StoreSummary
 fn check_noting<A: Allowance>(
     memory: &A,
     region: &Region,
+    bits: &mut [u8],
     owners: &mut [u8],
 ) -> Result<StoreSummary, StoreFault>
     requires whole { region.now.lents ≡ [] }
+    requires enough { AreEnoughBits region.now.bytes (length bits.old) }
+    requires none { HasNone bits.old }
     requires room { model_needed region.now.bytes ≤ length owners.old }
     requires clear { NoneMarked owners.old }
     ensures accepted { OnOk result (Accepted region.now.bytes) }
@@ -93,7 +151,7 @@ fn check_noting<A: Allowance>(
     ensures refused { IfErr result (IsRefusal region.now.bytes) }
     ensures no_memory { result ≡ Err StoreFault.OutOfMemory → A.is_short memory.now }
 {
-    let heap = match check_heap_noting(region, owners) {
+    let heap = match check_heap_noting(region, bits, owners) {
         Ok(heap) => heap,
         Err(fault) => return Err(StoreFault::Heap(fault)),
     };

@@ -32,7 +32,7 @@ mod slots;
 mod summary;
 mod words;
 
-pub use check::check_store;
+pub use check::{check_store, check_store_with};
 pub use fault::StoreFault;
 pub use laws::accepted_without_faults;
 pub use summary::StoreSummary;

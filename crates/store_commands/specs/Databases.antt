@@ -6,14 +6,10 @@ use Rattle.heap_model.specs.Bytes.{u16_bytes, u32_bytes}
 use Rattle.heap_model.specs.Database.{has_resources}
 use Rattle.heap_model.specs.DatabaseSteps.{info_of}
 use Rattle.heap_model.specs.Files.{file_of}
-use Rattle.heap_model.specs.Store.{StoredDatabase, Store, content, store_of}
+use Rattle.heap_model.specs.Store.{StoredDatabase, Store, content}
 use Rattle.heap_model.specs.declared.database.DbInfo.{DbInfo}
 use Rattle.palm_text.specs.Pieces.{script_spelled}
 use Rattle.unicode_text.specs.Texts.{text_between}
-use Rattle.palm_text.specs.Output.{Output, PutsTo}
-use Rattle.image_commands.specs.FaultLines.{PutsBadImage}
-use Rattle.image_commands.specs.Printed.{EndsPrinted}
-use Rattle.program_io.specs.declared.status.Status.{Status}
 use Rattle.store_commands.specs.declared.databases.Row.{Row}
 
 -- which entries a database has
@@ -60,10 +56,3 @@ listed_row store one = record {
 -- the rows of the databases of a store, in their order
 abbrev pub listed_rows : Store → List Row
 listed_rows store = map (listed_row store) store.databases
-
-abbrev pub databases_text : Store → List ℕ
-databases_text store = rows_text (listed_rows store)
-
--- what `databases` wrote of an image, by the status with which it ends
-abbrev pub EndsDatabases : {V : Type 0} → List ℕ → Output V → Status → Type 0
-EndsDatabases image out = EndsPrinted image (PutsTo out (databases_text (store_of image))) (PutsBadImage image out) out

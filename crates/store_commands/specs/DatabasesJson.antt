@@ -3,15 +3,9 @@ use Rattle.std.specs.Prelude.{◌++◌, ℕ, Bool, true, false, List, [], ◌∷
 use Rattle.std.specs.List.{flat_map}
 use Rattle.heap_model.specs.Bytes.{u32_bytes}
 use Rattle.heap_model.specs.Database.{has_resources}
-use Rattle.heap_model.specs.Store.{Store, store_of}
 use Rattle.heap_model.specs.declared.database.DbInfo.{DbInfo}
-use Rattle.palm_text.specs.Output.{Output, PutsTo}
 use Rattle.unicode_text.specs.Strings.{string, hex_string}
-use Rattle.image_commands.specs.JsonEnds.{PutsImageFault}
-use Rattle.image_commands.specs.Printed.{EndsPrinted}
-use Rattle.program_io.specs.declared.status.Status.{Status}
 use Rattle.store_commands.specs.declared.databases.Row.{Row}
-use Rattle.store_commands.specs.Databases.{listed_rows}
 
 -- which entries a database has
 abbrev pub kind_and_type_json : Bool → List ℕ
@@ -53,11 +47,3 @@ closed_json rows = rows_json rows ++ codes "]}\n"
 
 unfoldable pub databases_document : List Row → List ℕ
 databases_document rows = codes "{\"databases\":[" ++ closed_json rows
-
--- the document of the databases of a store
-abbrev pub databases_json : Store → List ℕ
-databases_json store = databases_document (listed_rows store)
-
--- what `databases --json` wrote of an image, by the status with which it ends
-abbrev pub EndsDatabasesJson : {V : Type 0} → List ℕ → Output V → Status → Type 0
-EndsDatabasesJson image out = EndsPrinted image (PutsTo out (databases_json (store_of image))) (PutsImageFault image out) out

@@ -1,5 +1,6 @@
 pub mod Databases
 pub mod DatabasesJson
+pub mod DatabaseForms
 pub mod Exports
 pub mod FileNames
 pub mod Imports

@@ -1,4 +1,4 @@
-//! The command `databases`: a line for each database of an image.
+//! The command `databases`: a line for each database of an image, or a document of all.
 
 ghost use Rattle.std.specs.Prelude.{[], ◌≡◌, IfOk, OnErr, decimal, is_ok};
 ghost use Rattle.std.specs.List.{flat_map};
@@ -6,9 +6,11 @@ ghost use Rattle.heap_model.specs.Store.{database_under, store_of};
 ghost use Rattle.palm_store.specs.Databases.{HasNumber};
 ghost use Rattle.palm_text.specs.Counted.{Writes};
 ghost use Rattle.palm_text.specs.Output.{Puts, output};
-ghost use Rattle.store_commands.specs.Databases.{EndsDatabases, database_count_line, first_words, kind_word, last_words, listed_row_end, listed_row_line, listed_row, listed_rows, rows_text};
+ghost use Rattle.store_commands.specs.Databases.{database_count_line, first_words, kind_word, last_words, listed_row_end, listed_row_line, listed_row, listed_rows, rows_text};
+ghost use Rattle.store_commands.specs.DatabaseForms.{EndsDatabases, rows_in};
 ghost use Rattle.heap_model.specs.Database as databases;
 
+use crate::databases_json::put_document;
 use crate::images::{count_of, file_of_database, info_of, nth_of, opened};
 use allowance::{Allowance, push};
 use db_format::DbAttrs;
@@ -16,23 +18,25 @@ use heap_model::{Db, DbInfo};
 use itoa::Buffer;
 use palm_store::Store;
 use palm_text::{Counted, Piece, WriteFault, put_all, put_pieces};
+use program_io::command_line::Form;
 use program_io::{Status, flushed};
 use raw_region::Region;
 use std::alloc::AllocError;
 use std::io::Write;
 use unicode_text::put_text;
 
-/// Checks an image, and prints a line for each of its databases, or `bad` and the first fault.
+/// Checks an image, and prints in a form what its databases are or its first fault.
 pub fn cmd_databases<A: Allowance, V: Write>(
     memory: &A,
     image: &[u8],
+    form: Form,
     out: &mut Counted<V>,
 ) -> Status
-    ensures ends { EndsDatabases image.now (output V.contents out.old out.new) result }
+    ensures ends { EndsDatabases form image.now (output V.contents out.old out.new) result }
     ensures short { result ≡ Status.NoMemory → A.is_short memory.now }
 {
     match Region::copied_from(memory, image) {
-        Ok(region) => databases_region_from(memory, region, out),
+        Ok(region) => databases_region_from(memory, region, form, out),
         Err(_) => Status::NoMemory,
     }
 }
@@ -41,20 +45,21 @@ pub fn cmd_databases<A: Allowance, V: Write>(
 pub fn databases_region_from<A: Allowance, V: Write>(
     memory: &A,
     region: Region,
+    form: Form,
     out: &mut Counted<V>,
 ) -> Status
     requires whole { region.lents ≡ [] }
-    ensures ends { EndsDatabases region.bytes (output V.contents out.old out.new) result }
+    ensures ends { EndsDatabases form region.bytes (output V.contents out.old out.new) result }
     ensures short { result ≡ Status.NoMemory → A.is_short memory.now }
 {
-    let store = match opened(memory, region, out) {
+    let store = match opened(memory, region, form, out) {
         Ok(store) => store,
         Err(status) => return status,
     };
     let Ok(rows) = rows_of(memory, &store) else {
         return Status::NoMemory;
     };
-    match put_flushed(out, rows.as_slice()) {
+    match put_flushed(out, form, rows.as_slice()) {
         Ok(()) => Status::Done,
         Err(_) => Status::WriteFault,
     }
@@ -84,7 +89,7 @@ fn row_of_number<A: Allowance>(memory: &A, store: &Store, db: Db) -> Result<Row,
 }
 
 /// What is printed of all databases, in their order. The only error is that an allocation failed.
-pub(crate) fn rows_of<A: Allowance>(memory: &A, store: &Store) -> Result<Vec<Row>, AllocError>
+fn rows_of<A: Allowance>(memory: &A, store: &Store) -> Result<Vec<Row>, AllocError>
     requires { store.now.lents ≡ [] }
     ensures rows { IfOk result (λ rows. rows.items ≡ listed_rows (store_of store.now.bytes)) }
     ensures short { OnErr result (A.is_short memory.now) }
@@ -204,11 +209,21 @@ fn put_lines<W: Write>(out: &mut Counted<W>, rows: &[Row]) -> Result<(), WriteFa
     put_rows(out, rows)
 }
 
+/// Writes what is printed of databases in a form.
+fn put_databases<W: Write>(out: &mut Counted<W>, form: Form, rows: &[Row]) -> Result<(), WriteFault>
+    ensures { Writes W.contents out.old out.new (rows_in form rows.now) (is_ok result) }
+{
+    match form {
+        Form::Text => put_lines(out, rows),
+        Form::Json => put_document(out, rows),
+    }
+}
+
 /// The same, and flushes.
 #[tactic(auto, using(palm_text::proofs::Parts::then_flush))]
-fn put_flushed<W: Write>(out: &mut Counted<W>, rows: &[Row]) -> Result<(), WriteFault>
-    ensures { Puts W.contents out.old out.new (rows_text rows.now) (is_ok result) }
+fn put_flushed<W: Write>(out: &mut Counted<W>, form: Form, rows: &[Row]) -> Result<(), WriteFault>
+    ensures { Puts W.contents out.old out.new (rows_in form rows.now) (is_ok result) }
 {
-    put_lines(out, rows)?;
+    put_databases(out, form, rows)?;
     flushed(out)
 }

@@ -18,6 +18,7 @@ use heap_model::{Bytes, Db, DbName, Refusal};
 use palm_store::Store;
 use palm_text::Counted;
 use program_io::Status;
+use program_io::command_line::Form;
 use raw_region::Region;
 use std::alloc::AllocError;
 use std::io::Write;
@@ -61,7 +62,7 @@ pub fn export_files<A: Allowance, V: Write>(
     ensures short { IfErr result (λ ended.
         ended.status ≡ Status.NoMemory → A.is_short memory.now) }
 {
-    let store = match opened(memory, region, out) {
+    let store = match opened(memory, region, Form::Text, out) {
         Ok(store) => store,
         Err(status) => return Err(Ended { status, word: None }),
     };

@@ -7,23 +7,25 @@ ghost use Rattle.heap_model.specs.Leaving.{database_here};
 ghost use Rattle.heap_model.specs.DatabaseSteps as rows;
 ghost use Rattle.palm_store.specs.Databases.{HasNumber};
 ghost use Rattle.palm_text.specs.Output.{Puts, output};
-ghost use Rattle.image_commands.specs.FaultLines.{PutsBadImage, Says};
+ghost use Rattle.image_commands.specs.FaultLines.{Says};
+ghost use Rattle.image_commands.specs.ImageChecks.{PutsFault};
 ghost use Rattle.script_calls.specs.Lines.{refusal_line};
 
 use allowance::Allowance;
 use heap_model::{Bytes, Db, DbInfo, Refusal};
-use image_commands::say_bad_image;
+use image_commands::say_fault;
 use palm_store::{NotAStore, Store, StoreFault};
 use palm_text::{Counted, WriteFault};
 use pdb_files::exported;
+use program_io::command_line::Form;
 use program_io::{Status, flushed};
 use raw_region::Region;
 use script_calls::put_refusal;
 use std::alloc::AllocError;
 use std::io::Write;
 
-/// The store of an image of which nothing is lent. If the image is refused, prints `bad` and its
-/// first fault.
+/// The store of an image of which nothing is lent. If the image is refused, prints its first fault
+/// in a form.
 ///
 /// # Errors
 ///
@@ -31,6 +33,7 @@ use std::io::Write;
 pub fn opened<A: Allowance, V: Write>(
     memory: &A,
     region: Region,
+    form: Form,
     out: &mut Counted<V>,
 ) -> Result<Store, Status>
     requires whole { region.lents ≡ [] }
@@ -42,9 +45,9 @@ pub fn opened<A: Allowance, V: Write>(
     ensures refused { (result ≡ Err Status.Refused) ⊎ (result ≡ Err Status.WriteFault)
         → Accepted region.bytes → ⊥ }
     ensures said { result ≡ Err Status.Refused
-        → PutsBadImage region.bytes (output V.contents out.old out.new) true }
+        → PutsFault form region.bytes (output V.contents out.old out.new) true }
     ensures write { result ≡ Err Status.WriteFault
-        → PutsBadImage region.bytes (output V.contents out.old out.new) false }
+        → PutsFault form region.bytes (output V.contents out.old out.new) false }
     ensures no_memory { result ≡ Err Status.NoMemory → out.new ≡ out.old }
     ensures short { result ≡ Err Status.NoMemory → A.is_short memory.now }
 {
@@ -56,7 +59,7 @@ pub fn opened<A: Allowance, V: Write>(
                 ..
             },
         ) => Err(Status::NoMemory),
-        Err(error) => Err(say_bad_image(out, error.fault)),
+        Err(error) => Err(say_fault(out, form, error.fault)),
     }
 }
 

@@ -9,8 +9,8 @@
 //! | module | does |
 //! |---|---|
 //! | `images` | opens an image, and looks up its databases |
-//! | `databases` | the command `databases` |
-//! | `databases_json` | the command `databases --json` |
+//! | `databases` | the command `databases`, in both forms |
+//! | `databases_json` | the document of `databases --json` |
 //! | `exports` | the command `export`, but for the folder |
 //! | `file_names` | the name of a database's file |
 //! | `imports` | the command `import` |
@@ -26,7 +26,6 @@ mod imports;
 mod migrate_command;
 
 pub use databases::{cmd_databases, databases_region_from};
-pub use databases_json::{cmd_databases_json, databases_json_region_from};
 pub use exports::{Ended, ExportedFile, export_files};
 pub use file_names::file_name;
 pub use images::{opened, put_store};

@@ -14,6 +14,7 @@ use crate::images::{opened, put_store};
 use allowance::Allowance;
 use palm_store::{MigrateFault, Store};
 use palm_text::Counted;
+use program_io::command_line::Form;
 use program_io::{Status, say, say_bad};
 use raw_region::Region;
 use std::alloc::Global;
@@ -96,7 +97,7 @@ fn migrated<A: Allowance, V: Write>(
     ensures no_memory { result ≡ Err Status.NoMemory → out.new ≡ out.old }
     ensures short { result ≡ Err Status.NoMemory → A.is_short memory.now }
 {
-    let store = opened(memory, region, out)?;
+    let store = opened(memory, region, Form::Text, out)?;
     match store.migrate_from(memory) {
         Ok(store) => Ok(store),
         Err((MigrateFault::OutOfMemory, _)) => Err(Status::NoMemory),

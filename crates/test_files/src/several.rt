@@ -3,9 +3,8 @@
 ghost use Rattle.std.specs.Prelude.{⊤};
 
 use crate::samples::{MEMO_FILE, changed};
-use file_commands::{Asked, Inputs, Report, cmd_report_from, cmd_reports_from};
+use file_commands::{Asked, FileRead, Inputs, Report, cmd_report_from, cmd_reports_from};
 use file_parts::Keep;
-use file_starts::FileRead;
 use heap_model::Bytes;
 use palm_text::Counted;
 use program_io::Status;

@@ -4,8 +4,7 @@ ghost use Rattle.std.specs.Prelude.{None};
 
 use crate::samples::{MOST_SAMPLE, NAMED_FILE};
 use command_files::SizedFault;
-use file_commands::{Report, cmd_report_from};
-use file_starts::{READ_FIRST, ReadStart, ReadsAt, read_start};
+use file_commands::{READ_FIRST, ReadStart, ReadsAt, Report, cmd_report_from, read_start};
 use palm_text::Counted;
 use pdb_format::{FileBytes, MOST_START};
 use program_io::{InputFault, Status};

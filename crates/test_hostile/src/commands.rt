@@ -4,12 +4,13 @@
 use crate::stores::{WRITTEN, input_files};
 use file_commands::say_line_fault;
 use heap_model::Bytes;
-use image_commands::{cmd_check_from, cmd_new_from};
+use image_commands::{check_region_from, cmd_new_from};
 use map_commands::draw_region_from;
 use palm_script::{LineFault, ScriptFault};
 use palm_text::Counted;
-use palmheap_program::cmd_run_from;
+use palmheap_program::run_region_from;
 use program_io::Status;
+use program_io::command_line::Form;
 use raw_region::Region;
 use std::alloc::Global;
 use std::test::*;
@@ -95,7 +96,10 @@ fn check_with(
     outputs: &mut Outputs,
 ) -> Result<Status, Fail> {
     let image = bytes_of(alloc, listing)?;
-    Ok(cmd_check_from(memory, &image, &mut outputs.text))
+    let Ok(region) = Region::copied_from(memory, &image) else {
+        return Ok(Status::NoMemory);
+    };
+    Ok(check_region_from(memory, &region, Form::Text, &mut outputs.text))
 }
 
 fn run_with(
@@ -107,9 +111,12 @@ fn run_with(
 ) -> Result<Status, Fail> {
     let image = bytes_of(alloc, listing)?;
     let inputs = input_files(alloc)?;
-    Ok(cmd_run_from(
+    let Ok(region) = Region::copied_from(memory, &image) else {
+        return Ok(Status::NoMemory);
+    };
+    Ok(run_region_from(
         memory,
-        &image,
+        region,
         text.as_bytes(),
         &inputs,
         &mut outputs.image,

@@ -2,13 +2,15 @@
 //! fails after each byte, and a flush fails.
 
 use crate::stores::image_of;
-use image_commands::cmd_check_json;
+use image_commands::check_region_from;
 use palm_text::Counted;
 use program_io::Status;
+use program_io::command_line::Form;
+use raw_region::Region;
 use std::alloc::Global;
 use std::io::{ErrorKind, Write};
 use std::test::*;
-use store_commands::cmd_databases_json;
+use store_commands::cmd_databases;
 use test_support::{Narrow, ORDER_FILE, RefusesOne, TINY_FILE, Unflushed, WhenFull, equal, holds};
 
 /// A command that prints a document of an image.
@@ -30,8 +32,11 @@ fn run_on<V: Write>(
     out: &mut Counted<V>,
 ) -> Status {
     match command {
-        Command::Check => cmd_check_json(memory, image, out),
-        Command::Databases => cmd_databases_json(memory, image, out),
+        Command::Check => match Region::copied_from(memory, image) {
+            Ok(region) => check_region_from(memory, &region, Form::Json, out),
+            Err(_) => Status::NoMemory,
+        },
+        Command::Databases => cmd_databases(memory, image, Form::Json, out),
     }
 }
 

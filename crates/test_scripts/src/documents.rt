@@ -2,14 +2,16 @@
 
 use crate::stores::image_of;
 use heap_check::HeapFault;
-use image_commands::{cmd_check, cmd_check_json, say_image_fault};
+use image_commands::{check_region_from, cmd_check, say_image_fault};
 use palm_store::StoreFault;
 use palm_text::Counted;
 use program_io::Status;
+use program_io::command_line::Form;
+use raw_region::Region;
 use std::alloc::Global;
 use std::str;
 use std::test::*;
-use store_commands::cmd_databases_json;
+use store_commands::cmd_databases;
 use test_support::{BLANK, EMPTY_FILE, ONE_DATABASE, ORDER_FILE, TINY_FILE, bytes_of, equal};
 
 /// Every fault of an image, except out of memory.
@@ -89,7 +91,10 @@ static CHECKS: [(&str, Status, &str); 3] = [
 
 fn checked_json(alloc: Global, image: &[u8]) -> (Status, Vec<u8>) {
     let mut out = Counted::new(Vec::new(alloc));
-    let status = cmd_check_json(&alloc, image, &mut out);
+    let status = match Region::copied_from(&alloc, image) {
+        Ok(region) => check_region_from(&alloc, &region, Form::Json, &mut out),
+        Err(_) => Status::NoMemory,
+    };
     (status, out.into_inner())
 }
 
@@ -135,7 +140,7 @@ fn documents_have_the_counts_of_texts(rt: HostRuntime) -> Result<(), Fail> {
 
 fn databases_json(alloc: Global, image: &[u8]) -> (Status, Vec<u8>) {
     let mut out = Counted::new(Vec::new(alloc));
-    let status = cmd_databases_json(&alloc, image, &mut out);
+    let status = cmd_databases(&alloc, image, Form::Json, &mut out);
     (status, out.into_inner())
 }
 

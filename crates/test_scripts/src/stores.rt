@@ -4,6 +4,7 @@
 use heap_model::Bytes;
 use palm_text::Counted;
 use program_io::Status;
+use program_io::command_line::Form;
 use raw_region::Region;
 use std::alloc::Global;
 use std::str;
@@ -184,7 +185,7 @@ fn databases_are_listed(rt: HostRuntime) -> Result<(), Fail> {
         &[TINY_FILE, ORDER_FILE, CAFE_DATABASE, EMPTY_FILE],
     )?;
     let mut out = Counted::new(Vec::new(rt.alloc()));
-    let status = cmd_databases(&rt.alloc(), &image, &mut out);
+    let status = cmd_databases(&rt.alloc(), &image, Form::Text, &mut out);
     equal("status", status, Status::Done)?;
     equal(
         "lines",
@@ -352,7 +353,7 @@ fn import_refused(alloc: Global, before: u32) -> Result<bool, Fail> {
 fn databases_refused(alloc: Global, image: &[u8], before: u32) -> Result<bool, Fail> {
     let memory = RefusesOne::behind(alloc, before);
     let mut out = Counted::new(Vec::new(alloc));
-    let status = cmd_databases(&memory, image, &mut out);
+    let status = cmd_databases(&memory, image, Form::Text, &mut out);
     check_memory(&memory, "databases", status, out.into_inner().is_empty())
 }
 

@@ -2,8 +2,8 @@
 
 use crate::images::{TABLE, image, put_words};
 use heap_check::{
-    HeapFault, MOST_MARKS, NO_OWNER, Summary, check_heap, check_heap_noting, mark_number,
-    marks_needed,
+    BITS_SIZE, HeapFault, MOST_MARKS, NO_OWNER, Summary, bits_needed, check_heap,
+    check_heap_noting, mark_number, marks_needed, no_bits,
 };
 use raw_region::Region;
 use std::test::*;
@@ -424,12 +424,14 @@ static OWNED: [(u32, u32); 11] = [
 #[test]
 fn owners_are_noted_by_the_words_of_slots(rt: HostRuntime) -> Result<(), Fail> {
     let region = image(rt.alloc(), 128, &OWNED)?;
+    let mut bits = no_bits();
     let mut owners = [NO_OWNER; 32];
     if marks_needed(&region) != 32 {
         return Err("other marks")?;
     }
+    assert_eq!(rt; bits_needed(&region), BITS_SIZE);
     assert_eq!(rt;
-        counted(check_heap_noting(&region, &mut owners)),
+        counted(check_heap_noting(&region, &mut bits, &mut owners)),
         Ok([128, 16, 2, 1, 16])
     );
     for (number, owner) in owners.iter().enumerate() {
@@ -462,5 +464,6 @@ fn marks_have_the_numbers_of_words(rt: HostRuntime) -> Result<(), Fail> {
     let mut region = Region::zeroed(rt.alloc(), 12)?;
     put_words(&mut region, &[(0, 0x5048_4932)])?;
     assert_eq!(rt; marks_needed(&region), MOST_MARKS - 1);
+    assert_eq!(rt; bits_needed(&region), 0);
     Ok(())
 }

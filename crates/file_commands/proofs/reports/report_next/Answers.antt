@@ -1,5 +1,5 @@
 use Rattle.std.proofs.Common.{List, ℕ, Option, subst, inl, inr}
-use Rattle.file_starts.specs.FilesRead.{bytes_read}
+use Rattle.file_commands.specs.FilesRead.{bytes_read}
 use Rattle.palm_text.specs.Output.{output}
 use Rattle.file_commands.specs.Reports.{EndsReport}
 use Rattle.file_commands.proofs.Reported.{not_read, reported}

@@ -1,12 +1,13 @@
-use Rattle.std.proofs.Common.{◌++◌, List, ℕ, subst}
+use Rattle.std.proofs.Common.{◌++◌, ℕ, subst}
 use Rattle.std.specs.Prelude.{codes, decimal, is_ok}
 use Rattle.palm_text.specs.Counted.{Writes}
-use Rattle.unicode_text.specs.Pieces.{json_text}
+use Rattle.palm_text.proofs.Parts.{then}
+use Rattle.json_documents.specs.RowTexts.{index_json, member}
 use Rattle.json_documents.proofs.entries.put_record_start.Goals as goal
 
 pub returns : goal.returns
 returns g c =
-    let written : List ℕ → ℕ → ℕ → Type 0 = λ start index attributes. Writes g.W.Write.contents c.args.out.now c.put_json.new.out (start ++ (codes "{\"index\":" ++ (decimal index ++ (codes ",\"attributes\":" ++ (decimal attributes ++ codes ","))))) (is_ok c.put_json.result) in
-    subst (λ (start : List ℕ). written start c.args.index c.args.attributes) c.comma.ensures
-    (subst (λ (index : ℕ). written (json_text c.comma.result) index c.args.attributes) c.from.ensures
-    (subst (λ (attributes : ℕ). written (json_text c.comma.result) c.from.result attributes) c.from-2.ensures c.put_json.ensures))
+    let contents = g.W.Write.contents in
+    let key = codes ",\"attributes\":" in
+    subst (λ (attributes : ℕ). Writes contents c.args.out.now c.put_number.new.out (index_json c.args.index ++ member key (decimal attributes)) (is_ok c.put_number.result)) c.from.ensures
+    (then contents c.args.out.now c.put_index.new.out c.put_number.new.out (index_json c.args.index) (member key (decimal c.from.result)) (is_ok c.put_number.result) c.in_ok-put_index.ensures c.put_number.ensures)

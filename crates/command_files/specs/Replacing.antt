@@ -1,0 +1,10 @@
+-- Files that are not replaced.
+use Rattle.std.specs.Prelude.{ℕ, Bool, List}
+use Rattle.hints.specs.Lookalikes.{looks_like_database, looks_like_image}
+use Rattle.command_files.specs.declared.replacing.OutputKind.{OutputKind}
+use Rattle.command_files.specs.declared.replacing.OutputKind.TheVariants.{Image, Database}
+
+-- a file that begins so stays where a file of this kind is written: it looks like one of the other kind
+abbrev pub stays : OutputKind → List ℕ → Bool
+stays Image head = looks_like_database head
+stays Database head = looks_like_image head

@@ -1,6 +1,0 @@
-use Rattle.std.proofs.Common.{refl}
-use Rattle.bit_sets.proofs.SetLaws.{none_in_zeros}
-use Rattle.heap_check.proofs.chained.no_marks.Goals as goal
-
-pub returns : goal.returns
-returns c = none_in_zeros 524288 0 refl

@@ -1,0 +1,5 @@
+use Rattle.heap_check.proofs.SlotLaws.{none_marked}
+use Rattle.store_check.proofs.check.check_store_with.Goals as goal
+
+pub check_noting-requires-clause-clear : goal.check_noting-requires-clause-clear
+check_noting-requires-clause-clear g c = none_marked 65536
