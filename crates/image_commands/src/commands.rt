@@ -22,8 +22,22 @@ use store_check::{StoreFault, StoreSummary, check_store};
 
 /// Writes a blank image of this size and slot count to `image_out`, and then `ok` to `out`.
 ///
-/// If no image may have this size and slot count, prints why on `out` and writes no image. Each
-/// allocation asks `memory` for a grant.
+/// If no image may have this size and slot count, prints why on `out` and writes no image.
+pub fn cmd_new<W: Write, V: Write>(
+    alloc: Global,
+    size: u32,
+    slots: u16,
+    image_out: &mut Counted<W>,
+    out: &mut Counted<V>,
+) -> Status
+    ensures ends { EndsNew size slots (output W.contents image_out.old image_out.new)
+        (output V.contents out.old out.new) result }
+    ensures short { result ≡ Status.NoMemory → GrowthRefused }
+{
+    cmd_new_from(&alloc, size, slots, image_out, out)
+}
+
+/// The same as `cmd_new`. Each allocation asks `memory` for a grant.
 pub fn cmd_new_from<A: Allowance, W: Write, V: Write>(
     memory: &A,
     size: u32,

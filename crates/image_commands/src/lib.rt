@@ -2,8 +2,8 @@
 //! its name, its numbers, the line and the JSON document that are written for it.
 //!
 //! Each command is a function over bytes and counted writers. Its contract states when each status
-//! is returned, what was written by then, and after which bytes a write failed. It takes memory from
-//! an `Allowance`, and reports out of memory only if an allocation failed. Start at `cmd_new_from`.
+//! is returned, what was written by then, and after which bytes a write failed. A form over any
+//! `Allowance` reports out of memory only if an allocation failed. Start at `cmd_new`.
 //!
 //! `check --json` prints the facts that `check` prints as text. `unicode_text` describes what all
 //! documents have in common, and `json_documents` has those of files.
@@ -29,6 +29,6 @@ mod faults;
 mod images;
 mod summary_documents;
 
-pub use commands::{check_region_from, cmd_check, cmd_new_from};
+pub use commands::{check_region_from, cmd_check, cmd_new, cmd_new_from};
 pub use faults::{say_bad_image, say_fault, say_image_fault, say_no_image};
 pub use images::{check, new};

@@ -7,7 +7,7 @@ use crate::stores::{
     CARRIED, WRITTEN, has_image, input_files, listed_store, ran, store_behind, with_database,
 };
 use heap_model::{Bytes, Db};
-use image_commands::{cmd_check, cmd_new_from};
+use image_commands::{cmd_check, cmd_new};
 use palm_script::RunFault;
 use palm_store::Store;
 use palm_text::Counted;
@@ -283,7 +283,7 @@ fn what_check_prints_is_cut_behind_each_byte(rt: HostRuntime) -> Result<(), Fail
 /// the image.
 fn new_is_cut(alloc: Global, image: &[u8], image_room: usize, room: usize, way: Way) -> bool {
     let (mut image_out, mut out) = (narrow(alloc, (image_room, way)), narrow(alloc, (room, way)));
-    let status = cmd_new_from(&alloc, 128, 4, &mut image_out, &mut out);
+    let status = cmd_new(alloc, 128, 4, &mut image_out, &mut out);
     let (image_out, out) = (image_out.into_inner(), out.into_inner());
     let is_image = image_room >= image.len();
     let is_said = if is_image {

@@ -1,7 +1,7 @@
 //! The commands: what they print and write, and a writer that fails.
 
 use crate::runs::{BOTH_USED, CHAINED_ONE_SLOT, ONE_FURTHER, TWO_TABLES, check_told};
-use image_commands::{cmd_check, cmd_new_from};
+use image_commands::{cmd_check, cmd_new};
 use palm_text::Counted;
 use program_io::Status;
 use std::alloc::Global;
@@ -27,7 +27,7 @@ fn new_on<W: Write, V: Write>(
     out: V,
 ) -> Told<W, V> {
     let (mut image, mut out) = (Counted::new(image), Counted::new(out));
-    let status = cmd_new_from(&alloc, size, slots, &mut image, &mut out);
+    let status = cmd_new(alloc, size, slots, &mut image, &mut out);
     Told {
         status,
         image: image.into_inner(),

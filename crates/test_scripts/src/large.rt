@@ -5,7 +5,7 @@ use crate::calls::blank_store;
 use crate::commands::check_image;
 use crate::grammar::{What, count_of};
 use crate::runs::{Ran, run_on};
-use image_commands::cmd_new_from;
+use image_commands::cmd_new;
 use palm_script::{parse, run};
 use palm_text::Counted;
 use program_io::{MOST_INPUT, Status};
@@ -129,7 +129,7 @@ fn a_run_is_as_large_as_it_likes(rt: HostRuntime) -> Result<(), Fail> {
 fn new_image(alloc: Global, size: u32) -> Result<Vec<u8>, Fail> {
     let mut image = Counted::new(Vec::new(alloc));
     let mut out = Counted::new(Vec::new(alloc));
-    if cmd_new_from(&alloc, size, 4, &mut image, &mut out) != Status::Done {
+    if cmd_new(alloc, size, 4, &mut image, &mut out) != Status::Done {
         return Err("no image")?;
     }
     Ok(image.into_inner())
