@@ -6,3 +6,5 @@ pub mod Reported
 pub mod Salvaging
 pub mod PutStatuses
 pub mod Keeping
+pub mod Turns
+pub mod Splits

@@ -7,3 +7,5 @@ pub mod Gets
 pub mod Salvages
 pub mod Puts
 pub mod Keeps
+pub mod Starts
+pub mod FilesRead

@@ -173,7 +173,7 @@ pub(crate) fn comment_on_text<R: Eprint + AllocGlobal>(
 }
 
 /// Reports on standard error why a line `order` of the text at a path can't be kept, if `pack` was
-/// refused for that. It puts the parts together again to find the line.
+/// refused for that. It lays the file out again to find the line.
 pub(crate) fn comment_on_order<R: Eprint + AllocGlobal>(
     rt: &R,
     path: &str,

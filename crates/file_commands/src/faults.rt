@@ -1,6 +1,6 @@
 //! Files with a fault, the lines for a rewritten file, and flushes.
 
-ghost use Rattle.std.specs.Prelude.{◌≡◌, ◌≤◌, ◌⊎◌, length, true, false, is_ok};
+ghost use Rattle.std.specs.Prelude.{◌≡◌, ◌≢◌, ◌≤◌, ◌⊎◌, List, ℕ, length, true, false, is_ok};
 ghost use Rattle.heap_model.specs.Files.{IsFirstFault};
 ghost use Rattle.palm_text.specs.Output.{Puts};
 ghost use Rattle.palm_text.specs.Counted.{Writes};

@@ -21,7 +21,7 @@ use std::io::{BufWriter, Input, Write};
 use std::rt::Files;
 
 /// The size of the buffer for a new file in bytes.
-const BUFFER_SIZE: usize = 65_536;
+pub(crate) const BUFFER_SIZE: usize = 65_536;
 
 /// The new file that is written for a file.
 #[derive(Clone, Copy)]

@@ -5,6 +5,7 @@ ghost use Rattle.file_parts.specs.Unpacking.{name_text};
 ghost use Rattle.file_parts.specs.Either.{HasFolderParts, IsListedFolder, IsTakenApart, folder_count, taken_count};
 
 use crate::comments::{DROPPED, comment_on_file, comment_on_order, comment_on_text, name_dropped};
+use crate::file_rewrites::BUFFER_SIZE;
 use crate::parts::{cmd_pack_from, list_parts, say_count, unpack_file};
 use canonical_file::MOST_BYTES;
 use command_files::{
@@ -130,17 +131,35 @@ fn pack_to<R: Files + Eprint + AllocGlobal, W: Write + Drop>(
     requires { HasFolderParts listed.now parts.now }
     ensures { result ≢ Status.BadWords }
 {
-    let file_out = match output_for(rt, path, OutputKind::Database) {
+    let mut file_out = match output_for(rt, path, OutputKind::Database) {
         Ok(file_out) => file_out,
         Err(status) => return status,
     };
-    let mut file_out = Counted::new(Noted::new(file_out));
-    let status = cmd_pack_from(&rt.alloc(), listed, parts, &mut file_out, &mut out);
-    let (file_out, file_fault) = file_out.into_inner().into_parts();
+    let (status, file_fault) = write_packed(rt.alloc(), listed, parts, &mut file_out, &mut out);
     file_out.close();
     let (_, fault) = out.into_inner().into_parts();
     report_outcome(rt, status, &[(path, file_fault), (STANDARD_OUTPUT, fault)]);
     status
+}
+
+/// Writes the file of the parts to `file_out`, and its line to `out`. A buffer collects the parts,
+/// which may be small. Returns the status, and the first error of `file_out`.
+fn write_packed<W: Write + Drop, V: Write>(
+    alloc: Global,
+    listed: &ListedFolder<'_>,
+    parts: &[Bytes],
+    file_out: W,
+    out: &mut Counted<V>,
+) -> (Status, Option<io::Error>)
+    requires { HasFolderParts listed.now parts.now }
+    ensures { result.0 ≢ Status.BadWords }
+{
+    let Ok(file_out) = BufWriter::with_capacity(alloc, BUFFER_SIZE, Noted::new(file_out)) else {
+        return (Status::NoMemory, None);
+    };
+    let mut file_out = Counted::new(file_out);
+    let status = cmd_pack_from(&alloc, listed, parts, &mut file_out, out);
+    (status, buffered_fault(file_out.into_inner()))
 }
 
 /// Returns the path of a file in a folder.

@@ -1,6 +1,6 @@
 //! The commands `unpack` and `pack`, without the folder of the parts.
 
-ghost use Rattle.std.specs.Prelude.{◌≡◌, ◌≤◌, ◌⊎◌, ℕ, List, length, true, false, Err, IfOk, IfErr, OnOk};
+ghost use Rattle.std.specs.Prelude.{◌≡◌, ◌≤◌, ◌⊎◌, ℕ, List, length, true, false, is_ok, Err, IfOk, IfErr, OnOk};
 ghost use Rattle.palm_text.specs.Output.{Puts};
 ghost use Rattle.canonical_file.specs.Canonical.{most_bytes};
 ghost use Rattle.file_parts.specs.Either.{HasFolderParts, IsListedFolder, IsPackedOf, IsReadFrom, IsTakenApart, PacksFolderBack, ReadsFolder, file_taken, folder_size, form_taken};
@@ -13,11 +13,12 @@ use crate::line_faults::say_line_fault;
 use allowance::Allowance;
 use file_listing::TextRows;
 use file_parts::{
-    FolderForm, ListedFolder, PackFault, TakenApart, UnpackFault, read_folder, take_apart,
+    FolderForm, ListedFolder, PackFault, PackedFile, TakenApart, UnpackFault, read_folder,
+    take_apart,
 };
 use heap_model::Bytes;
-use palm_text::{Counted, put};
-use program_io::{Status, say};
+use palm_text::{Counted, WriteFault};
+use program_io::{Status, flushed, say};
 use script_lines::ScriptFault;
 use std::io::Write;
 
@@ -114,7 +115,7 @@ pub fn cmd_pack_from<A: Allowance, W: Write, V: Write>(
     ensures short { result ≡ Status.NoMemory → A.is_short memory.now }
 {
     match listed.pack(memory, parts) {
-        Ok(bytes) => put_packed(bytes.as_slice(), file_out, out),
+        Ok(packed) => put_packed(&packed, file_out, out),
         Err(PackFault::BadLine(fault)) => say_line_fault(memory, fault, out),
         Err(PackFault::TooLarge) => say(b"bad TooLarge\n", Status::Refused, out),
         Err(PackFault::OutOfMemory) => Status::NoMemory,
@@ -124,17 +125,29 @@ pub fn cmd_pack_from<A: Allowance, W: Write, V: Write>(
 /// Writes a file that was put together, flushes `file_out`, and prints `ok` and its size.
 #[tactic(auto, using(crate::proofs::PartStatuses::packed, crate::proofs::PartStatuses::cut_off))]
 fn put_packed<W: Write, V: Write>(
-    bytes: &[u8],
+    packed: &PackedFile<'_>,
     file_out: &mut Counted<W>,
     out: &mut Counted<V>,
 ) -> Status
-    ensures ends { (folder : ListedFolder) → (parts : List (List ℕ)) → IsPackedOf folder parts bytes.now
+    ensures ends { (folder : ListedFolder) → (parts : List (List ℕ)) → IsPackedOf folder parts packed.now
         → folder_size folder parts ≤ most_bytes
         → EndsPack folder parts W.contents file_out.old file_out.new V.contents out.old out.new result }
     ensures statuses { (result ≡ Status.Done) ⊎ (result ≡ Status.WriteFault) }
 {
-    match put(file_out, bytes) {
-        Ok(()) => say_count(bytes.len(), out),
+    match put_flushed(packed, file_out) {
+        Ok(()) => say_count(packed.size(), out),
         Err(_) => Status::WriteFault,
     }
+}
+
+/// Writes a file that was put together, and flushes `file_out`.
+#[tactic(auto, using(palm_text::proofs::Parts::then_flush))]
+fn put_flushed<W: Write>(
+    packed: &PackedFile<'_>,
+    file_out: &mut Counted<W>,
+) -> Result<(), WriteFault>
+    ensures { Puts W.contents file_out.old file_out.new packed.now (is_ok result) }
+{
+    packed.put(file_out)?;
+    flushed(file_out)
 }

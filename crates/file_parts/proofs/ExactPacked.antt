@@ -1,6 +1,6 @@
 -- The file that is put together from the text and the parts of an exact folder.
 use Rattle.std.proofs.Common.{◌≡◌, ℕ, ◌+◌, ◌-◌, ◌<◌, ◌≤◌, Bool, Option, Some, None, List, [], ◌∷◌, ◌++◌, length, get_or, take, drop, refl, sym, ap, subst, ◌∙◌, arith, append-nil, append_assoc, length-append}
-use Rattle.std.specs.Prelude.{Result, Ok, Err, OnOk, replicate}
+use Rattle.std.specs.Prelude.{Result, Ok, Err, IfOk, OnOk, replicate}
 use Rattle.std.specs.Option.{option_map_or}
 use Rattle.std.specs.List.{concat, flat_map}
 use Rattle.std.proofs.lemmas.List.{get_or-map, length-map, length-replicate, take_all, take_more}
@@ -16,7 +16,7 @@ use Rattle.file_parts.specs.declared.packing.PackFault.{PackFault}
 use Rattle.file_parts.specs.declared.packing.PackFault.TheVariants.{TooLarge, BadLine, OutOfMemory}
 use Rattle.file_parts.specs.Listed.{database_listed, entries_listed, entry_listed}
 use Rattle.file_parts.specs.Packing.{IsRefusedFor, filled, packed_entries, part_at}
-use Rattle.file_parts.specs.Exact.{ExactFile, exact_block, exact_blocks, exact_bytes, exact_offset, exact_placed, exact_size, exact_start, offset_among}
+use Rattle.file_parts.specs.Exact.{ExactFile, exact_block, exact_blocks, exact_bytes, exact_offset, exact_placed, exact_size, exact_start, exact_tail, offset_among}
 use Rattle.file_parts.specs.ExactListed.{AreOffsets, IsExactPackFault, IsListedExact, IsMisplacedLine, exact_packed}
 use Rattle.file_parts.proofs.ExactOffsets.{length-placed, placed_at}
 use Rattle.file_parts.proofs.ExactPlaces.{ArePlaced, blocks_of}
@@ -153,23 +153,25 @@ entries_whole exact parts n past =
 
 -- ---- all of it
 
--- parts one after the other
-pub joined_file : (exact : ExactFile) (b0 b1 b2 b3 b4 b5 : List ℕ) → b0 ≡ [] → b1 ≡ b0 ++ (exact.database.header.name ++ exact.after_name) → b2 ≡ b1 ++ concat (fields_behind_name (exact_placed exact))
-    → b3 ≡ b2 ++ flat_map entry_bytes (exact_placed exact).entries → b4 ≡ b3 ++ exact.filler → b5 ≡ b4 ++ exact_blocks exact → b5 ≡ exact_bytes exact
+-- the head of the file, part after part
+pub joined_head : (exact : ExactFile) (b0 b1 b2 b3 : List ℕ) → b0 ≡ [] → b1 ≡ b0 ++ (exact.database.header.name ++ exact.after_name) → b2 ≡ b1 ++ concat (fields_behind_name (exact_placed exact))
+    → b3 ≡ b2 ++ flat_map entry_bytes (exact_placed exact).entries → b3 ++ exact_tail exact ≡ exact_bytes exact
 unfolding exact_bytes
-joined_file exact b0 b1 b2 b3 b4 b5 none first second third fourth fifth =
+joined_head exact b0 b1 b2 b3 none first second third =
     let name : List ℕ = exact.database.header.name in
     let after : List ℕ = exact.after_name in
     let fields : List ℕ = concat (fields_behind_name (exact_placed exact)) in
     let entries : List ℕ = flat_map entry_bytes (exact_placed exact).entries in
-    let filler : List ℕ = exact.filler in
-    let blocks : List ℕ = exact_blocks exact in
-    fifth
-    ∙ ap (λ (xs : List ℕ). xs ++ blocks) (fourth ∙ ap (λ (xs : List ℕ). xs ++ filler) (third ∙ ap (λ (xs : List ℕ). xs ++ entries) (second ∙ ap (λ (xs : List ℕ). xs ++ fields) (first ∙ ap (λ (xs : List ℕ). xs ++ (name ++ after)) none))))
-    ∙ append_assoc (((name ++ after) ++ fields) ++ entries) filler blocks
-    ∙ append_assoc ((name ++ after) ++ fields) entries (filler ++ blocks)
-    ∙ append_assoc (name ++ after) fields (entries ++ (filler ++ blocks))
-    ∙ append_assoc name after (fields ++ (entries ++ (filler ++ blocks)))
+    let tail : List ℕ = exact_tail exact in
+    ap (λ (xs : List ℕ). xs ++ tail) (third ∙ ap (λ (xs : List ℕ). xs ++ entries) (second ∙ ap (λ (xs : List ℕ). xs ++ fields) (first ∙ ap (λ (xs : List ℕ). xs ++ (name ++ after)) none)))
+    ∙ append_assoc ((name ++ after) ++ fields) entries tail
+    ∙ append_assoc (name ++ after) fields (entries ++ tail)
+    ∙ append_assoc name after (fields ++ (entries ++ tail))
+
+-- what follows from all that is known of a success
+pub with_all : {T E : Type 0} (r : Result T E) (A B D : T → Type 0) (C : Type 0) → ((x : T) → A x → B x → C → D x) → IfOk r A → IfOk r B → OnOk r C → IfOk r D
+with_all (Ok x) A B D C from a b c = from x a b c
+with_all (Err e) A B D C from a b c = tt
 
 -- ---- the reason why no file is put together
 

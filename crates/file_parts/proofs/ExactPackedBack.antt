@@ -25,7 +25,7 @@ use Rattle.file_parts.proofs.ExactHeadBack.{AreAfter}
 use Rattle.file_parts.proofs.ExactInside.{inside_some, named_some, ranks_once, times_not}
 use Rattle.file_parts.proofs.ExactOrders.{none_fault}
 use Rattle.file_parts.proofs.ExactRanks.{not_true}
-use Rattle.file_parts.proofs.ExactReadBack.{IsSound, reads_back}
+use Rattle.file_parts.proofs.ExactReadBack.{IsSound, file_long, reads_back}
 use Rattle.file_parts.proofs.PackedEntries.{all_writable, length-packed, listed_writable}
 use Rattle.file_parts.proofs.PackedFiles.{block_packed, count_packed}
 
@@ -202,3 +202,8 @@ module _ (exact : ListedExact) (parts : List (List ℕ)) (good : HasExactParts e
 pub packed_back : (exact : ListedExact) (parts : List (List ℕ)) (bytes : List ℕ) → HasExactParts exact parts → IsExactlyPacked exact parts bytes → exact_size (exact_packed exact parts) ≤ most_bytes → IsExactly bytes (exact_packed exact parts)
 packed_back exact parts bytes good packed size =
     subst (λ (file : List ℕ). IsExactly file (exact_packed exact parts)) (sym packed.file) (reads_back (exact_packed exact parts) (sound exact parts good bytes packed size))
+
+-- its size
+pub packed_long : (exact : ListedExact) (parts : List (List ℕ)) (bytes : List ℕ) → HasExactParts exact parts → IsExactlyPacked exact parts bytes → exact_size (exact_packed exact parts) ≤ most_bytes → exact_size (exact_packed exact parts) ≡ length bytes
+packed_long exact parts bytes good packed size =
+    sym (ap length packed.file ∙ file_long (exact_packed exact parts) (sound exact parts good bytes packed size))

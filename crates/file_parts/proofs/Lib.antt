@@ -46,3 +46,4 @@ pub mod KeptForms
 pub mod KeptChanges
 pub mod KeptSound
 pub mod KeptSources
+pub mod PackedStarts

@@ -170,10 +170,9 @@ packed_long listed parts is size =
     omega arith
 
 -- parts one after the other
-pub joined : (b0 b1 b2 b3 b4 h e z k : List ℕ) → b0 ≡ [] → b1 ≡ b0 ++ h → b2 ≡ b1 ++ e → b3 ≡ b2 ++ z → b4 ≡ b3 ++ k → b4 ≡ h ++ (e ++ (z ++ k))
-joined b0 b1 b2 b3 b4 h e z k none first second third fourth =
-    fourth
-    ∙ ap (λ (xs : List ℕ). xs ++ k) (third ∙ ap (λ (xs : List ℕ). xs ++ z) (second ∙ ap (λ (xs : List ℕ). xs ++ e) (first ∙ ap (λ (xs : List ℕ). xs ++ h) none)))
+pub joined : (b0 b1 b2 b3 h e z k : List ℕ) → b0 ≡ [] → b1 ≡ b0 ++ h → b2 ≡ b1 ++ e → b3 ≡ b2 ++ z → b3 ++ k ≡ h ++ (e ++ (z ++ k))
+joined b0 b1 b2 b3 h e z k none first second third =
+    ap (λ (xs : List ℕ). xs ++ k) (third ∙ ap (λ (xs : List ℕ). xs ++ z) (second ∙ ap (λ (xs : List ℕ). xs ++ e) (first ∙ ap (λ (xs : List ℕ). xs ++ h) none)))
     ∙ append_assoc (h ++ e) z k ∙ append_assoc h e (z ++ k)
 
 -- an entry as it is placed in the file

@@ -1,9 +1,9 @@
 -- Folders of either form: of the canonical form of a file, or of a file as it stands.
 use Rattle.std.specs.Prelude.{◌≡◌, ◌+◌, ℕ, List, length, slice_index_or, Option, Some, None, Result, Ok, Err}
 use Rattle.heap_model.specs.Database.{Database, data_in}
-use Rattle.heap_model.specs.Files.{Reads, blocks_in, file_of}
+use Rattle.heap_model.specs.Files.{Reads, blocks_in}
+use Rattle.pdb_format.specs.FileTexts.{blocks_text}
 use Rattle.pdb_format.specs.Writable.{file_size}
-use Rattle.canonical_file.specs.Canonical.{IsCanonical}
 use Rattle.script_lines.specs.declared.fault.LineFault.{LineFault}
 use Rattle.file_parts.specs.Texts.{database_text, with_names}
 use Rattle.file_parts.specs.Unpacking.{IsPartOfRank, IsUnpacked, database_of}
@@ -11,8 +11,8 @@ use Rattle.file_parts.specs.Listed.{IsListed, database_listed}
 use Rattle.file_parts.specs.Packing.{HasPartsOf, IsRefusedFor, database_of_parts}
 use Rattle.file_parts.specs.Reading.{read_database}
 use Rattle.file_parts.specs.Left.{Left}
-use Rattle.file_parts.specs.Laws.{PacksBack, UnpacksBack}
-use Rattle.file_parts.specs.Exact.{IsExactly, exact_size}
+use Rattle.file_parts.specs.Laws.{IsCanonicallyPacked, PacksBack}
+use Rattle.file_parts.specs.Exact.{IsExactly, exact_size, exact_tail}
 use Rattle.file_parts.specs.ExactTexts.{ExactText, exact_text, text_of}
 use Rattle.file_parts.specs.ExactReading.{read_exact, read_exact_from}
 use Rattle.file_parts.specs.ExactListed.{HasExactParts, IsExactPackFault, IsExactlyPacked, IsListedExact, exact_listed, exact_packed, part_listed}
@@ -115,13 +115,14 @@ HasFolderParts (listed.Canonical database) parts = HasPartsOf database parts
 HasFolderParts (listed.Exact exact) parts = HasExactParts exact parts
 
 -- the file: a canonical form that is read as the database of the parts, or exactly that of the parts
-pub record IsCanonicallyPacked (database : Database (Option (List ℕ))) (bytes : List ℕ) : Type 0 where
-  pub canonical : IsCanonical (file_of database) bytes
-  pub unpacks : UnpacksBack database bytes
-
 abbrev pub IsPackedOf : ListedFolder → List (List ℕ) → List ℕ → Type 0
 IsPackedOf (listed.Canonical database) parts bytes = IsCanonicallyPacked (database_of_parts database parts) bytes
 IsPackedOf (listed.Exact exact) parts bytes = IsExactlyPacked exact parts bytes
+
+-- the bytes of the file after its head: the blocks, and in an exact file the filler before them
+abbrev pub folder_tail : ListedFolder → List (List ℕ) → List ℕ
+folder_tail (listed.Canonical database) parts = blocks_text (database_of_parts database parts)
+folder_tail (listed.Exact exact) parts = exact_tail (exact_packed exact parts)
 
 -- its size, and the reason why it isn't put together
 abbrev pub folder_size : ListedFolder → List (List ℕ) → ℕ

@@ -116,6 +116,10 @@ exact_bytes exact =
     ++ (flat_map entry_bytes (exact_placed exact).entries
     ++ (exact.filler ++ exact_blocks exact))))
 
+-- the bytes after the entries: the filler and the blocks
+abbrev pub exact_tail : ExactFile → List ℕ
+exact_tail exact = exact.filler ++ exact_blocks exact
+
 -- the size of the file
 abbrev pub exact_size : ExactFile → ℕ
 exact_size exact = exact_start exact + length (exact_blocks exact)

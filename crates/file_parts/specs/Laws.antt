@@ -57,3 +57,8 @@ pub record UnpacksBack (database : Database (Option (List ℕ))) (bytes : List �
   pub read : Database (Option (List ℕ))
   pub reads : Reads bytes read
   pub back : IsReadBack database read
+
+-- the file is the canonical form of the database's file, and is read as the database of its parts
+pub record IsCanonicallyPacked (database : Database (Option (List ℕ))) (bytes : List ℕ) : Type 0 where
+  pub canonical : IsCanonical (file_of database) bytes
+  pub unpacks : UnpacksBack database bytes

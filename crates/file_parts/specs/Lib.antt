@@ -18,3 +18,4 @@ pub mod Replacing
 pub mod ExactWriting
 pub mod Keeping
 pub mod Kept
+pub mod PackedStarts

@@ -1,27 +1,24 @@
 //! Folders of either form: of the canonical form of a file, or of a file as it stands.
 
-ghost use Rattle.std.specs.Prelude.{◌≡◌, ◌≢◌, ◌≤◌, ◌<◌, ℕ, List, Err, None, IfOk, IfErr, OnOk, MatchOption, length, is_ok};
+ghost use Rattle.std.specs.Prelude.{◌≡◌, ◌≢◌, ◌≤◌, ◌<◌, ℕ, List, Err, None, IfOk, IfErr, MatchOption, length, is_ok};
 ghost use Rattle.palm_text.specs.Counted.{Writes};
 ghost use Rattle.canonical_file.specs.Canonical.{most_bytes};
 ghost use Rattle.file_parts.specs.Unpacking.{IsUnpackFault};
 ghost use Rattle.file_parts.specs.Reading.{read_database};
 ghost use Rattle.file_parts.specs.ExactReading.{read_exact_from};
 ghost use Rattle.file_parts.specs.Either as folders;
-ghost use Rattle.file_parts.specs.Either.{HasFolderParts, IsFaultyText, IsFolderPackFault, IsListedFolder, IsPackedOf, IsReadFrom, IsTakenApart, IsTakenPart, IsTextOf, PacksFolderBack, ReadsFolder, file_taken, folder_count, folder_part, folder_size, form_taken, taken_count, taken_part};
+ghost use Rattle.file_parts.specs.Either.{IsFaultyText, IsListedFolder, IsReadFrom, IsTakenApart, IsTakenPart, IsTextOf, PacksFolderBack, ReadsFolder, file_taken, folder_count, folder_part, form_taken, taken_count, taken_part};
 
 use crate::exact_lines::read_exact_line;
 use crate::exact_listed::{ListedExact, read_listed_exact};
-use crate::exact_packing::pack_exact;
 use crate::exact_text::put_exact;
 use crate::exact_unpacked::{UnpackedExact, unpack_exact};
 use crate::lines::Lines;
 use crate::listed::{Listed, read_listed};
-use crate::packing::{PackFault, pack};
 use crate::part_file::PartFile;
 use crate::text::put_database;
 use crate::unpacked::{Part, UnpackFault, Unpacked, unpack};
 use allowance::Allowance;
-use heap_model::Bytes;
 use palm_text::{Counted, WriteFault};
 use script_lines::{LineFault, ScriptFault};
 use std::io::Write;
@@ -203,26 +200,6 @@ impl<'a> ListedFolder<'a> {
         match self {
             ListedFolder::Canonical(listed) => listed.part(number),
             ListedFolder::Exact(listed) => listed.part(number),
-        }
-    }
-
-    /// Puts the parts together, and returns the file.
-    ///
-    /// # Errors
-    ///
-    /// - `TooLarge`: if the file would have more than `MOST_BYTES` bytes.
-    /// - `BadLine`: if no file has the blocks of an exact folder in the order of its lines.
-    /// - `OutOfMemory`: if an allocation failed.
-    pub fn pack<A: Allowance>(&self, memory: &A, parts: &[Bytes]) -> Result<Vec<u8>, PackFault>
-        requires { HasFolderParts self.now parts.now }
-        ensures packed { IfOk result (λ bytes. IsPackedOf self.now parts.now bytes.items) }
-        ensures fits { OnOk result (folder_size self.now parts.now ≤ most_bytes) }
-        ensures why { IfErr result (IsFolderPackFault self.now parts.now) }
-        ensures short { result ≡ Err PackFault.OutOfMemory → A.is_short memory.now }
-    {
-        match self {
-            ListedFolder::Canonical(listed) => pack(memory, listed, parts),
-            ListedFolder::Exact(listed) => pack_exact(memory, listed, parts),
         }
     }
 }

@@ -1,26 +1,31 @@
 //! Files of exact folders.
 
-ghost use Rattle.std.specs.Prelude.{◌≡◌, ◌≤◌, ◌<◌, ◌+◌, ◌++◌, ℕ, List, false, Err, IfOk, IfErr, OnOk, length, replicate, slice_index};
+ghost use Rattle.std.specs.Prelude.{◌≡◌, ◌≤◌, ◌<◌, ◌+◌, ◌++◌, ℕ, List, false, Err, IfOk, IfErr, OnOk, is_ok, length, replicate, slice_index};
 ghost use Rattle.std.specs.List.{concat, flat_map};
 ghost use Rattle.heap_model.specs.Database as databases;
 ghost use Rattle.heap_model.specs.Database.{data_in, entry_bytes, entry_with, fields_behind_name, has_resources};
 ghost use Rattle.heap_model.specs.Files.{block_bytes};
 ghost use Rattle.db_format.specs.EitherEntry.{entry_of, HasFittingId};
+ghost use Rattle.palm_text.specs.Counted.{Writes};
 ghost use Rattle.canonical_file.specs.Canonical.{most_bytes};
 ghost use Rattle.file_parts.specs.Exact as files;
-ghost use Rattle.file_parts.specs.Exact.{exact_block, exact_blocks, exact_bytes, exact_placed, exact_size, exact_start};
+ghost use Rattle.file_parts.specs.Exact.{exact_block, exact_blocks, exact_bytes, exact_placed, exact_size, exact_start, exact_tail};
 ghost use Rattle.file_parts.specs.Listed.{IsListed, database_listed};
 ghost use Rattle.file_parts.specs.Packing.{IsRefusedFor};
 ghost use Rattle.file_parts.specs.ExactTexts.{after_name_of};
 ghost use Rattle.file_parts.specs.ExactListed.{AreOffsets, HasExactParts, IsExactPackFault, IsExactlyPacked, IsListedExact, IsMisplacedLine, exact_listed, exact_packed};
+ghost use Rattle.file_parts.specs.ExactWriting.{AreExactPlaces};
 
 use crate::exact_listed::ListedExact;
+use crate::exact_writing::Places;
 use crate::listed::Listed;
-use crate::packing::{PackFault, append, end_of, part_bytes};
+use crate::packing::{FileHead, PackFault, append, end_of, part_bytes};
 use allowance::{Allowance, filled};
 use db_format::{DATABASE_HEADER_SIZE, DbAttrs, DbEntry, INFO_BLOCKS, NAME_SIZE, entry_offset};
 use heap_model::Bytes;
+use palm_text::{Counted, WriteFault, put_all};
 use script_lines::{LineFault, ScriptFault};
+use std::io::Write;
 
 /// Puts the parts of an exact folder together, by their ranks and with the filler last, and returns
 /// the file. A part is ignored if the text has no name for it.
@@ -41,50 +46,141 @@ pub fn pack_exact<A: Allowance>(
     ensures why { IfErr result (IsExactPackFault exact.now parts.now) }
     ensures short { result ≡ Err PackFault.OutOfMemory → A.is_short memory.now }
 {
-    match check_order(exact, parts) {
-        Ok(()) => pack_placed(memory, exact, parts),
+    match exact_head(memory, exact, parts) {
+        Ok(head) => with_tail(memory, exact, parts, head.bytes),
         Err(fault) => Err(fault),
     }
 }
 
-/// Returns the file, whether or not a block is misplaced.
-fn pack_placed<A: Allowance>(
+/// Returns the file that begins with these bytes.
+fn with_tail<A: Allowance>(
     memory: &A,
     exact: &ListedExact<'_>,
     parts: &[Bytes],
+    head: Vec<u8>,
 ) -> Result<Vec<u8>, PackFault>
     requires { HasExactParts exact.now parts.now }
-    ensures file { IfOk result (λ bytes. bytes.items ≡ exact_bytes (exact_packed exact.now parts.now)) }
+    ensures file { IfOk result (λ bytes.
+        bytes.items ≡ head.items ++ exact_tail (exact_packed exact.now parts.now)) }
+    ensures memory { IfErr result (λ fault. fault ≡ PackFault.OutOfMemory) }
+    ensures short { IfErr result (λ _. A.is_short memory.now) }
+{
+    let mut bytes = head;
+    append(memory, &mut bytes, filler_of(exact, parts))?;
+    append_blocks(memory, exact, parts, &mut bytes)?;
+    Ok(bytes)
+}
+
+/// Lays the file of an exact folder out. Returns its bytes before the filler, and its size.
+///
+/// # Errors
+///
+/// The same as those of `pack_exact`.
+pub(crate) fn exact_head<A: Allowance>(
+    memory: &A,
+    exact: &ListedExact<'_>,
+    parts: &[Bytes],
+) -> Result<FileHead, PackFault>
+    requires { HasExactParts exact.now parts.now }
+    ensures packed { IfOk result (λ head. IsExactlyPacked exact.now parts.now
+        (head.bytes.items ++ exact_tail (exact_packed exact.now parts.now))) }
+    ensures size { IfOk result (λ head. head.size
+        ≡ length (head.bytes.items ++ exact_tail (exact_packed exact.now parts.now))) }
+    ensures fits { OnOk result (exact_size (exact_packed exact.now parts.now) ≤ most_bytes) }
+    ensures why { IfErr result (IsExactPackFault exact.now parts.now) }
+    ensures short { result ≡ Err PackFault.OutOfMemory → A.is_short memory.now }
+{
+    match check_order(exact, parts) {
+        Ok(()) => head_placed(memory, exact, parts),
+        Err(fault) => Err(fault),
+    }
+}
+
+/// The same as `exact_head`, whether or not a block is misplaced.
+fn head_placed<A: Allowance>(
+    memory: &A,
+    exact: &ListedExact<'_>,
+    parts: &[Bytes],
+) -> Result<FileHead, PackFault>
+    requires { HasExactParts exact.now parts.now }
+    ensures head { IfOk result (λ head. head.bytes.items ++ exact_tail (exact_packed exact.now parts.now)
+        ≡ exact_bytes (exact_packed exact.now parts.now)) }
+    ensures size { IfOk result (λ head. head.size ≡ exact_size (exact_packed exact.now parts.now)) }
     ensures fits { OnOk result (exact_size (exact_packed exact.now parts.now) ≤ most_bytes) }
     ensures large { IfErr result (IsRefusedFor (exact_size (exact_packed exact.now parts.now))) }
     ensures short { result ≡ Err PackFault.OutOfMemory → A.is_short memory.now }
 {
     match place_blocks(memory, exact, parts) {
-        Ok(offsets) => file_bytes(memory, exact, parts, offsets.as_slice()),
+        Ok(places) => head_by(memory, exact, places),
         Err(fault) => Err(fault),
     }
 }
 
-/// Returns the file with blocks at these offsets.
-fn file_bytes<A: Allowance>(
+/// Returns the head of the file with these offsets and this size.
+fn head_by<A: Allowance>(
     memory: &A,
     exact: &ListedExact<'_>,
-    parts: &[Bytes],
-    offsets: &[u32],
-) -> Result<Vec<u8>, PackFault>
-    requires parts { HasExactParts exact.now parts.now }
-    requires are { AreOffsets (exact_packed exact.now parts.now) offsets.now }
-    ensures file { IfOk result (λ bytes. bytes.items ≡ exact_bytes (exact_packed exact.now parts.now)) }
+    places: Places,
+) -> Result<FileHead, PackFault>
+    requires good { IsListedExact exact.now }
+    requires count { length places.offsets.items
+        ≡ length (data_in (database_listed exact.now.listed)) }
+    ensures head { (parts : List (List ℕ))
+        → AreOffsets (exact_packed exact.now parts) places.offsets.items
+        → IfOk result (λ head. head.bytes.items ++ exact_tail (exact_packed exact.now parts)
+        ≡ exact_bytes (exact_packed exact.now parts)) }
+    ensures size { IfOk result (λ head. head.size ≡ places.size) }
     ensures memory { IfErr result (λ fault. fault ≡ PackFault.OutOfMemory) }
     ensures short { IfErr result (λ _. A.is_short memory.now) }
 {
     let mut bytes = Vec::new(memory.allocator());
+    let offsets = places.offsets.as_slice();
     append_name(memory, exact, &mut bytes)?;
     append_fields(memory, exact, offsets, &mut bytes)?;
     append_entries(memory, exact, offsets, &mut bytes)?;
-    append(memory, &mut bytes, filler_of(exact, parts))?;
-    append_blocks(memory, exact, parts, &mut bytes)?;
-    Ok(bytes)
+    Ok(FileHead {
+        bytes,
+        size: places.size as usize,
+    })
+}
+
+/// Writes the filler and the blocks. It doesn't flush `out`, and allocates nothing. After a write
+/// fails, it writes nothing more.
+///
+/// # Errors
+///
+/// - `WriteFault`: if a write failed, or took 0 bytes.
+#[tactic(auto, using(palm_text::proofs::Parts::then, palm_text::proofs::Parts::stops))]
+pub(crate) fn put_tail<W: Write>(
+    exact: &ListedExact<'_>,
+    parts: &[Bytes],
+    out: &mut Counted<W>,
+) -> Result<(), WriteFault>
+    requires { HasExactParts exact.now parts.now }
+    ensures { Writes W.contents out.old out.new
+        (exact_tail (exact_packed exact.now parts.now)) (is_ok result) }
+{
+    put_all(out, filler_of(exact, parts))?;
+    put_blocks(exact, parts, out)
+}
+
+/// Writes the blocks in their order.
+fn put_blocks<W: Write>(
+    exact: &ListedExact<'_>,
+    parts: &[Bytes],
+    out: &mut Counted<W>,
+) -> Result<(), WriteFault>
+    requires { HasExactParts exact.now parts.now }
+    ensures { Writes W.contents out.old out.new
+        (exact_blocks (exact_packed exact.now parts.now)) (is_ok result) }
+{
+    for rank in exact.ranks.as_slice() {
+        match put_all(out, block_of(exact, parts, *rank)) {
+            Ok(()) => {}
+            Err(fault) => return Err(fault),
+        }
+    }
+    Ok(())
 }
 
 /// Returns the bytes of the filler.
@@ -172,19 +268,21 @@ fn rank_at(exact: &ListedExact<'_>, index: usize) -> u32
     ranks[index]
 }
 
-/// Writes the offset of each block to the place of its rank. At first all of them are 0.
+/// Writes the offset of each block to the place of its rank, and returns the size of the file. At
+/// first all of the offsets are 0.
 fn place_ranks(
     exact: &ListedExact<'_>,
     parts: &[Bytes],
     first: u32,
     offsets: &mut [u32],
-) -> Result<(), PackFault>
+) -> Result<u32, PackFault>
     requires parts { HasExactParts exact.now parts.now }
     requires first { first ≡ exact_start (exact_packed exact.now parts.now) }
     requires most { first ≤ most_bytes }
     requires none { offsets.old ≡ replicate (length (data_in (database_listed exact.now.listed))) 0 }
     ensures are { OnOk result (AreOffsets (exact_packed exact.now parts.now) offsets.new) }
-    ensures fits { OnOk result (exact_size (exact_packed exact.now parts.now) ≤ most_bytes) }
+    ensures size { IfOk result (λ size. size ≡ exact_size (exact_packed exact.now parts.now)) }
+    ensures fits { IfOk result (λ size. size ≤ most_bytes) }
     ensures large { IfErr result (IsRefusedFor (exact_size (exact_packed exact.now parts.now))) }
     ensures takes_no_memory { IfErr result (λ fault. fault ≡ PackFault.TooLarge) }
 {
@@ -198,18 +296,17 @@ fn place_ranks(
             Err(fault) => return Err(fault),
         };
     }
-    Ok(())
+    Ok(at)
 }
 
-/// Returns the offset of each rank, 0 if there is no block.
+/// Returns the offset of each rank, 0 if there is no block, and the size of the file.
 fn place_blocks<A: Allowance>(
     memory: &A,
     exact: &ListedExact<'_>,
     parts: &[Bytes],
-) -> Result<Vec<u32>, PackFault>
+) -> Result<Places, PackFault>
     requires { HasExactParts exact.now parts.now }
-    ensures are { IfOk result (λ offsets. AreOffsets (exact_packed exact.now parts.now) offsets.items) }
-    ensures fits { OnOk result (exact_size (exact_packed exact.now parts.now) ≤ most_bytes) }
+    ensures are { IfOk result (AreExactPlaces (exact_packed exact.now parts.now)) }
     ensures large { IfErr result (IsRefusedFor (exact_size (exact_packed exact.now parts.now))) }
     ensures short { result ≡ Err PackFault.OutOfMemory → A.is_short memory.now }
 {
@@ -221,7 +318,7 @@ fn place_blocks<A: Allowance>(
         Err(fault) => return Err(fault),
     };
     match place_ranks(exact, parts, first, &mut offsets) {
-        Ok(()) => Ok(offsets),
+        Ok(size) => Ok(Places { offsets, size }),
         Err(fault) => Err(fault),
     }
 }

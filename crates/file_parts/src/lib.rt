@@ -40,6 +40,8 @@ mod kept;
 mod laws;
 mod lines;
 mod listed;
+mod packed_file;
+mod packed_start;
 mod packing;
 mod part_file;
 mod replaced;
@@ -60,7 +62,8 @@ pub use laws::{
     packed_folders_are_exact, texts_are_read,
 };
 pub use listed::{Listed, read_listed};
-pub use packing::{PackFault, pack};
+pub use packed_file::PackedFile;
+pub use packing::PackFault;
 pub use part_file::PartFile;
 pub use replaced::{ReplaceFault, Replaced, replace_block};
 pub use text::put_database;

@@ -1,26 +1,30 @@
-//! Files that are put together.
+//! Files that are put together in canonical form.
 
-ghost use Rattle.std.specs.Prelude.{◌≡◌, ◌<◌, ◌≤◌, ◌+◌, ◌++◌, ℕ, List, All, length, Err, IfOk, OnOk, IfErr};
+ghost use Rattle.std.specs.Prelude.{◌≡◌, ◌<◌, ◌≤◌, ◌+◌, ◌++◌, ℕ, List, All, length, Err, IfOk, OnOk, IfErr, is_ok};
 ghost use Rattle.heap_model.specs.Database.{entry_with};
 ghost use Rattle.heap_model.specs.Files as files;
 ghost use Rattle.heap_model.specs.Files.{block_bytes, file_of, first_block, idle_entry};
 ghost use Rattle.db_format.specs.EitherEntry.{HasFittingId, entry_of};
 ghost use Rattle.pdb_format.specs.Writable.{file_size};
 ghost use Rattle.pdb_format.specs.FileTexts.{blocks_text, data_text, entries_text, header_text};
-ghost use Rattle.canonical_file.specs.Canonical.{IsCanonical, most_bytes};
-ghost use Rattle.file_parts.specs.Laws.{UnpacksBack};
+ghost use Rattle.palm_text.specs.Counted.{Writes};
+ghost use Rattle.canonical_file.specs.Canonical.{most_bytes};
+ghost use Rattle.file_parts.specs.Laws.{IsCanonicallyPacked};
 ghost use Rattle.file_parts.specs.Listed.{IsListed, entry_listed};
 ghost use Rattle.file_parts.specs.Packing.{AreBlockPlaces, HasPartsOf, IsRefusedFor, filled, database_of_parts, packed_entries, part_at};
 
 use crate::entries::ListedEntry;
 use crate::listed::Listed;
+use crate::packed_start::canonical_head_of;
 use crate::part_file::PartFile;
 use allowance::Allowance;
-use canonical_file::{MOST_BYTES, canonical_bytes};
+use canonical_file::MOST_BYTES;
 use db_format::{DATABASE_HEADER_SIZE, DbAttrs, DbEntry, INFO_BLOCKS};
 use heap_model::Bytes;
-use pdb_format::{FILLER, PdbFile, first_place_after, idle_entry_at};
+use palm_text::{Counted, WriteFault, put_all};
+use pdb_format::{FILLER, first_place_after, idle_entry_at};
 use script_lines::LineFault;
+use std::io::Write;
 use thiserror::Error;
 
 /// The reason why no file was put together.
@@ -35,6 +39,13 @@ pub enum PackFault {
     /// An allocation failed.
     #[error("OutOfMemory")]
     OutOfMemory,
+}
+
+/// The bytes of a file before its blocks, and the size of the file in bytes.
+#[derive(Drop)]
+pub(crate) struct FileHead {
+    pub(crate) bytes: Vec<u8>,
+    pub(crate) size: usize,
 }
 
 /// The offsets at which the blocks begin: AppInfo, SortInfo, and the data of the entries.
@@ -176,21 +187,23 @@ pub(crate) fn append<A: Allowance>(
     }
 }
 
-/// Appends the entries. Their data begins at the offset `first`.
+/// Appends the entries, and returns the offset at which their data ends. It begins at the offset
+/// `first`.
 fn append_entries<A: Allowance>(
     memory: &A,
     entries: &[ListedEntry<'_>],
     parts: &[Bytes],
     first: u32,
     bytes: &mut Vec<u8>,
-) -> Result<(), PackFault>
+) -> Result<u32, PackFault>
     requires good { All (λ entry. HasFittingId entry.entry) entries.now }
     requires count { length parts.now ≡ 2 + length entries.now }
     requires first { first ≤ most_bytes }
     ensures items { OnOk result (bytes.new.items
         ≡ bytes.old.items ++ entries_text first (packed_entries entries.now parts.now)) }
-    ensures most { OnOk result
-        (first + length (data_text (packed_entries entries.now parts.now)) ≤ most_bytes) }
+    ensures end { IfOk result (λ end.
+        end ≡ first + length (data_text (packed_entries entries.now parts.now))) }
+    ensures most { IfOk result (λ end. end ≤ most_bytes) }
     ensures large { IfErr result
         (IsRefusedFor (first + length (data_text (packed_entries entries.now parts.now)))) }
     ensures short { result ≡ Err PackFault.OutOfMemory → A.is_short memory.now }
@@ -204,36 +217,20 @@ fn append_entries<A: Allowance>(
             Err(fault) => return Err(fault),
         };
     }
-    Ok(())
+    Ok(at)
 }
 
-/// Appends the blocks.
-fn append_blocks<A: Allowance>(
+/// Returns the bytes before the blocks in the file of the database with these parts, and the size of
+/// the file.
+fn file_head<A: Allowance>(
     memory: &A,
     listed: &Listed<'_>,
     parts: &[Bytes],
-    bytes: &mut Vec<u8>,
-) -> Result<(), PackFault>
+) -> Result<FileHead, PackFault>
     requires { HasPartsOf listed.now parts.now }
-    ensures items { OnOk result (bytes.new.items
-        ≡ bytes.old.items ++ blocks_text (database_of_parts listed.now parts.now)) }
-    ensures memory { IfErr result (λ fault. fault ≡ PackFault.OutOfMemory) }
-    ensures short { IfErr result (λ _. A.is_short memory.now) }
-{
-    for rank in 0..parts.len() {
-        append(memory, bytes, part_bytes(listed.part(rank), parts, rank))?;
-    }
-    Ok(())
-}
-
-/// Returns the file of the database with these parts.
-fn file_bytes<A: Allowance>(
-    memory: &A,
-    listed: &Listed<'_>,
-    parts: &[Bytes],
-) -> Result<Vec<u8>, PackFault>
-    requires { HasPartsOf listed.now parts.now }
-    ensures file { IfOk result (λ bytes. bytes.items ≡ file_of (database_of_parts listed.now parts.now)) }
+    ensures file { IfOk result (λ head. file_of (database_of_parts listed.now parts.now)
+        ≡ head.bytes.items ++ blocks_text (database_of_parts listed.now parts.now)) }
+    ensures size { IfOk result (λ head. head.size ≡ file_size (database_of_parts listed.now parts.now)) }
     ensures most { OnOk result (file_size (database_of_parts listed.now parts.now) ≤ most_bytes) }
     ensures large { IfErr result (IsRefusedFor (file_size (database_of_parts listed.now parts.now))) }
     ensures short { result ≡ Err PackFault.OutOfMemory → A.is_short memory.now }
@@ -241,7 +238,7 @@ fn file_bytes<A: Allowance>(
     let places = find_places(listed, parts)?;
     let mut bytes = Vec::new(memory.allocator());
     append(memory, &mut bytes, &header_bytes(listed, places))?;
-    append_entries(
+    let end = append_entries(
         memory,
         listed.entries.as_slice(),
         parts,
@@ -249,47 +246,65 @@ fn file_bytes<A: Allowance>(
         &mut bytes,
     )?;
     append(memory, &mut bytes, &FILLER)?;
-    append_blocks(memory, listed, parts, &mut bytes)?;
-    Ok(bytes)
+    Ok(FileHead {
+        bytes,
+        size: end as usize,
+    })
 }
 
-/// Puts the parts of a listed database together, by their ranks, and returns the canonical form of
-/// the database's file. A part is ignored if the list has no name for its rank.
+/// Puts the parts of a listed database together, by their ranks. Returns the bytes before the blocks
+/// in the canonical form of the database's file, and the size of the canonical form. A part is
+/// ignored if the list has no name for its rank.
+///
+/// The file itself is not put together: the IDs of the records are given by its first bytes.
 ///
 /// # Errors
 ///
 /// - `TooLarge`: if the file would have more than `MOST_BYTES` bytes.
 /// - `OutOfMemory`: if an allocation failed.
-pub fn pack<A: Allowance>(
+pub(crate) fn pack_head<A: Allowance>(
     memory: &A,
     listed: &Listed<'_>,
     parts: &[Bytes],
-) -> Result<Vec<u8>, PackFault>
+) -> Result<FileHead, PackFault>
     requires { HasPartsOf listed.now parts.now }
-    ensures canonical { IfOk result (λ bytes.
-        IsCanonical (file_of (database_of_parts listed.now parts.now)) bytes.items) }
-    ensures unpacks { IfOk result (λ bytes.
-        UnpacksBack (database_of_parts listed.now parts.now) bytes.items) }
+    ensures packed { IfOk result (λ head. IsCanonicallyPacked (database_of_parts listed.now parts.now)
+        (head.bytes.items ++ blocks_text (database_of_parts listed.now parts.now))) }
+    ensures size { IfOk result (λ head. head.size ≡ length
+        (head.bytes.items ++ blocks_text (database_of_parts listed.now parts.now))) }
     ensures fits { OnOk result (file_size (database_of_parts listed.now parts.now) ≤ most_bytes) }
     ensures large { IfErr result (IsRefusedFor (file_size (database_of_parts listed.now parts.now))) }
     ensures short { result ≡ Err PackFault.OutOfMemory → A.is_short memory.now }
 {
-    let file = file_bytes(memory, listed, parts)?;
-    match PdbFile::of(memory, &file) {
-        Ok(file) => packed(memory, &file),
-        Err(_) => Err(PackFault::OutOfMemory),
-    }
+    let head = file_head(memory, listed, parts)?;
+    let blocks = head.size - head.bytes.len();
+    let bytes = canonical_head_of(memory, listed, parts, head)?;
+    Ok(FileHead {
+        size: bytes.len() + blocks,
+        bytes,
+    })
 }
 
-/// Returns the canonical form of the file that was put together.
-fn packed<A: Allowance>(memory: &A, file: &PdbFile<'_>) -> Result<Vec<u8>, PackFault>
-    requires { length file.now ≤ most_bytes }
-    ensures canonical { IfOk result (λ bytes. IsCanonical file.now bytes.items) }
-    ensures memory { IfErr result (λ fault. fault ≡ PackFault.OutOfMemory) }
-    ensures short { IfErr result (λ _. A.is_short memory.now) }
+/// Writes the blocks. It doesn't flush `out`, and allocates nothing. After a write fails, it writes
+/// nothing more.
+///
+/// # Errors
+///
+/// - `WriteFault`: if a write failed, or took 0 bytes.
+pub(crate) fn put_blocks<W: Write>(
+    listed: &Listed<'_>,
+    parts: &[Bytes],
+    out: &mut Counted<W>,
+) -> Result<(), WriteFault>
+    requires { HasPartsOf listed.now parts.now }
+    ensures { Writes W.contents out.old out.new
+        (blocks_text (database_of_parts listed.now parts.now)) (is_ok result) }
 {
-    match canonical_bytes(memory, file) {
-        Ok(bytes) => Ok(bytes),
-        Err(_) => Err(PackFault::OutOfMemory),
+    for rank in 0..parts.len() {
+        match put_all(out, part_bytes(listed.part(rank), parts, rank)) {
+            Ok(()) => {}
+            Err(fault) => return Err(fault),
+        }
     }
+    Ok(())
 }

@@ -1,6 +1,6 @@
 //! Exact folders: files that are taken apart as they stand, and put together again.
 
-use crate::samples::{MEMO_FILE, MIXED_FILE, MOST_SAMPLE, changed};
+use crate::samples::{MEMO_FILE, MIXED_FILE, MOST_SAMPLE, changed, packed_bytes};
 use file_parts::{FolderForm, PackFault, TakenApart, read_folder, take_apart};
 use heap_model::Bytes;
 use palm_text::Counted;
@@ -11,27 +11,36 @@ use std::str;
 use std::test::*;
 use test_support::{EMPTY_FILE, ORDER_FILE, TINY_FILE, bytes_of, equal, holds};
 
-/// The text of an exact folder, and its parts by their numbers: no bytes where there is none.
+/// The text of a folder, and its parts by their numbers: no bytes where there is none.
 #[derive(Drop)]
-struct ExactFolder {
-    text: Vec<u8>,
-    parts: Vec<Bytes>,
+pub(crate) struct TakenFolder {
+    pub(crate) text: Vec<u8>,
+    pub(crate) parts: Vec<Bytes>,
 }
 
-/// Takes a file apart as it stands. Returns `None` if it has a fault.
-fn exact_folder_of(alloc: Global, file: &[u8]) -> Result<Option<ExactFolder>, Fail> {
+/// Takes a file apart. Returns `None` if it has a fault.
+pub(crate) fn folder_in(
+    alloc: Global,
+    form: FolderForm,
+    file: &[u8],
+) -> Result<Option<TakenFolder>, Fail> {
     if file.len() > MOST_SAMPLE {
         return Err("a file that is too long")?;
     }
-    let Ok(unpacked) = take_apart(&alloc, FolderForm::Exact, file) else {
+    let Ok(unpacked) = take_apart(&alloc, form, file) else {
         return Ok(None);
     };
     let mut text = Counted::new(Vec::new(alloc));
     let _ = unpacked.put_text(&mut text);
-    Ok(Some(ExactFolder {
+    Ok(Some(TakenFolder {
         text: text.into_inner(),
         parts: parts_of(alloc, &unpacked)?,
     }))
+}
+
+/// Takes a file apart as it stands. Returns `None` if it has a fault.
+fn exact_folder_of(alloc: Global, file: &[u8]) -> Result<Option<TakenFolder>, Fail> {
+    folder_in(alloc, FolderForm::Exact, file)
 }
 
 /// Returns the parts of a file by their numbers: no bytes where there is none.
@@ -61,7 +70,7 @@ fn exact_file_of(
         return Ok(Err(format!(in alloc; "{} parts", listed.part_count())?));
     }
     match listed.pack(&alloc, parts) {
-        Ok(file) => Ok(Ok(file)),
+        Ok(packed) => Ok(Ok(packed_bytes(alloc, &packed)?)),
         Err(PackFault::OutOfMemory) => Err("out of memory")?,
         Err(fault) => Ok(Err(format!(in alloc; "{fault}")?)),
     }

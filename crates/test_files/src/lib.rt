@@ -20,6 +20,8 @@ mod keeps;
 #[cfg(test)]
 mod listings;
 #[cfg(test)]
+mod packs;
+#[cfg(test)]
 mod parts;
 #[cfg(test)]
 mod puts;

@@ -1,8 +1,8 @@
 //! Files that are taken apart, and put together.
 
-use crate::samples::{MEMO_FILE, MIXED_FILE, rewritten};
+use crate::samples::{MEMO_FILE, MIXED_FILE, packed_bytes, rewritten};
 use canonical_file::MOST_BYTES;
-use file_parts::{PackFault, pack, put_database, read_listed, unpack};
+use file_parts::{PackFault, put_database, read_folder, read_listed, unpack};
 use heap_model::Bytes;
 use palm_text::Counted;
 use program_io::Status;
@@ -46,15 +46,15 @@ fn folder_of(alloc: Global, file: &[u8]) -> Result<Option<Folder>, Fail> {
 
 /// Puts a text and parts together: the file, or the fault of the text or of the file as text.
 fn file_of(alloc: Global, text: &[u8], parts: &[Bytes]) -> Result<Result<Vec<u8>, String>, Fail> {
-    let listed = match read_listed(&alloc, text) {
+    let listed = match read_folder(&alloc, text) {
         Ok(listed) => listed,
         Err(fault) => return Ok(Err(format!(in alloc; "line {} {}", fault.line, fault.fault)?)),
     };
-    if parts.len() != listed.rank_count() {
-        return Ok(Err(format!(in alloc; "{} parts", listed.rank_count())?));
+    if parts.len() != listed.part_count() {
+        return Ok(Err(format!(in alloc; "{} parts", listed.part_count())?));
     }
-    match pack(&alloc, &listed, parts) {
-        Ok(file) => Ok(Ok(file)),
+    match listed.pack(&alloc, parts) {
+        Ok(packed) => Ok(Ok(packed_bytes(alloc, &packed)?)),
         Err(PackFault::OutOfMemory) => Err("out of memory")?,
         Err(fault) => Ok(Err(format!(in alloc; "{fault}")?)),
     }

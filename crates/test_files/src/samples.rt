@@ -2,13 +2,14 @@
 
 use file_commands::{cmd_canonical_from, cmd_list_from};
 use file_listing::{TextRows, damage_of};
+use file_parts::PackedFile;
 use json_documents::JsonRows;
 use palm_text::Counted;
 use pdb_format::check_file;
 use program_io::Status;
 use std::alloc::Global;
 use std::test::*;
-use test_support::bytes_of;
+use test_support::{bytes_of, equal, holds};
 
 /// A file of one record, with a creation date, as it is written.
 pub(crate) const MEMO_FILE: &str = "4d656d6f4442 00*26 0000 0000 e72ea9db 00*20 44415441 6d656d6f \
@@ -75,6 +76,15 @@ pub(crate) fn rewritten(alloc: Global, file: &[u8]) -> Result<(Status, Vec<u8>, 
     let mut out = Counted::new(Vec::new(alloc));
     let status = cmd_canonical_from(&alloc, file, &mut file_out, &mut out);
     Ok((status, file_out.into_inner(), out.into_inner()))
+}
+
+/// The bytes of a file that was put together. Its size is their number.
+pub(crate) fn packed_bytes(alloc: Global, packed: &PackedFile<'_>) -> Result<Vec<u8>, Fail> {
+    let mut out = Counted::new(Vec::new(alloc));
+    holds("written", packed.put(&mut out).is_ok())?;
+    let bytes = out.into_inner();
+    equal("size", packed.size(), bytes.len())?;
+    Ok(bytes)
 }
 
 /// The bytes of a listing in hex, with other bytes from an offset on.

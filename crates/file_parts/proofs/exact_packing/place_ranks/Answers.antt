@@ -65,15 +65,13 @@ returns-clause-are c =
     offsets_are exact c.args.parts.now c.loop-index.offsets c.loop-index.at c.requires.parts.good
     (subst (λ (front : List ℕ). ArePlaced (exact_block file) (exact_start file) (length (data_in (database_listed exact.listed))) front c.loop-index.offsets c.loop-index.at) (take_all i ranks past) c.loop-index.invariant.placed)
 
-pub returns-clause-fits : goal.returns-clause-fits
-returns-clause-fits c =
+pub returns-clause-size : goal.returns-clause-size
+returns-clause-size c =
     let exact = c.args.exact.now in
     let file : ExactFile = exact_packed exact c.args.parts.now in
     let ranks : List ℕ = exact.ranks.items in
     let i = c.loop-index.index in
     let long : length c.as_slice-ranks.result.now ≡ length ranks = ap (λ (xs : List ℕ). length xs) c.as_slice-ranks.ensures.value in
     let past : length ranks ≤ i = omega arith in
-    let size = size_is exact c.args.parts.now c.loop-index.offsets c.loop-index.at c.requires.parts.good
-    (subst (λ (front : List ℕ). ArePlaced (exact_block file) (exact_start file) (length (data_in (database_listed exact.listed))) front c.loop-index.offsets c.loop-index.at) (take_all i ranks past) c.loop-index.invariant.placed) in
-    let most = c.loop-index.invariant.most in
-    omega (arith, size, most)
+    size_is exact c.args.parts.now c.loop-index.offsets c.loop-index.at c.requires.parts.good
+    (subst (λ (front : List ℕ). ArePlaced (exact_block file) (exact_start file) (length (data_in (database_listed exact.listed))) front c.loop-index.offsets c.loop-index.at) (take_all i ranks past) c.loop-index.invariant.placed)

@@ -54,9 +54,9 @@ returns-clause-items g c =
     ∙ ap (λ (es : List (Entry (Option (List ℕ)))). c.loop-index.bytes.items ++ entries_text c.loop-index.at es) (sym (none_left items c.args.parts.now c.loop-index.index past))
     ∙ c.loop-index.invariant.text
 
-pub returns-clause-most : goal.returns-clause-most
-returns-clause-most g c =
+pub returns-clause-end : goal.returns-clause-end
+returns-clause-end g c =
     let items = c.args.entries.now in
     let past : length items ≤ c.loop-index.index = omega arith in
     let none = ap (λ (es : List (Entry (Option (List ℕ)))). length (data_text es)) (none_left items c.args.parts.now c.loop-index.index past) in
-    omega (arith, none, c.loop-index.invariant.size, c.loop-index.invariant.most)
+    omega (arith, none, c.loop-index.invariant.size)

@@ -4,7 +4,7 @@ use Rattle.pdb_format.proofs.FileParts.{file_parts}
 use Rattle.file_parts.specs.declared.entries.ListedEntry.{ListedEntry}
 use Rattle.file_parts.specs.Packing.{database_of_parts, packed_entries}
 use Rattle.file_parts.proofs.PackedEntries.{joined}
-use Rattle.file_parts.proofs.packing.file_bytes.Goals as goal
+use Rattle.file_parts.proofs.packing.file_head.Goals as goal
 
 pub returns-clause-file : goal.returns-clause-file
 returns-clause-file g c =
@@ -15,9 +15,9 @@ returns-clause-file g c =
     let are = c.in_ok-places.ensures.are in
     let entries : List ℕ = entries_text places.entries (packed_entries c.as_slice.result.now parts) in
     let end : List ℕ = 0 ∷ 0 ∷ [] ++ blocks_text d in
-    joined c.new-bytes.result.items c.append.new.bytes.items c.append_entries.new.bytes.items c.append-2.new.bytes.items c.append_blocks.new.bytes.items c.header_bytes.result entries (0 ∷ 0 ∷ []) (blocks_text d)
-    c.new-bytes.ensures.items c.in_ok-append.ensures.items c.in_ok-append_entries.ensures.items c.in_ok-append-2.ensures.items c.in_ok-append_blocks.ensures.items
+    sym (joined c.new-bytes.result.items c.append.new.bytes.items c.append_entries.new.bytes.items c.append-2.new.bytes.items c.header_bytes.result entries (0 ∷ 0 ∷ []) (blocks_text d)
+    c.new-bytes.ensures.items c.in_ok-append.ensures.items c.in_ok-end.ensures.items c.in_ok-append-2.ensures.items
     ∙ ap (λ (xs : List ℕ). xs ++ (entries ++ end)) (c.header_bytes.ensures parts are)
     ∙ ap (λ (items : List ListedEntry). header_text d ++ (entries_text places.entries (packed_entries items parts) ++ end)) c.as_slice.ensures.value
     ∙ ap (λ (at : ℕ). header_text d ++ (entries_text at d.entries ++ end)) are.entries
-    ∙ sym (file_parts d)
+    ∙ sym (file_parts d))

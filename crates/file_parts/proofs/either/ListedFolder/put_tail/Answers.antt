@@ -1,0 +1,10 @@
+use Rattle.std.proofs.Common.{sym, subst}
+use Rattle.std.specs.Prelude.{is_ok}
+use Rattle.palm_text.specs.Counted.{Writes}
+use Rattle.file_parts.specs.Either.{folder_tail}
+use Rattle.file_parts.specs.declared.either.ListedFolder.{ListedFolder}
+use Rattle.file_parts.proofs.either.ListedFolder.put_tail.Goals as goal
+
+pub returns-in-Exact : goal.returns-in-Exact
+returns-in-Exact g c =
+    subst (λ (folder : ListedFolder). Writes g.W.Write.contents c.args.out.now c.put_tail.new.out (folder_tail folder c.args.parts.now) (is_ok c.put_tail.result)) (sym c.in-Exact.is) c.put_tail.ensures

@@ -1,0 +1,71 @@
+use Rattle.std.proofs.Common.{◌≡◌, ◌+◌, ◌<◌, ◌≤◌, List, ℕ, Option, true, false, length, get_or, drop, refl, sym, ap, subst, ◌∙◌, arith}
+use Rattle.std.proofs.lemmas.List.{drop_all}
+use Rattle.heap_model.specs.Database.{data_in}
+use Rattle.heap_model.specs.Files.{block_bytes}
+use Rattle.palm_text.specs.Counted.{Writes}
+use Rattle.palm_text.proofs.Parts.{then, stops, nothing}
+use Rattle.file_parts.specs.Listed.{database_listed}
+use Rattle.file_parts.specs.Exact.{ExactFile, exact_block}
+use Rattle.file_parts.specs.ExactListed.{exact_packed}
+use Rattle.file_parts.proofs.ExactInside.{rank_inside}
+use Rattle.file_parts.proofs.ExactPacked.{blocks_whole}
+use Rattle.file_parts.proofs.ExactPlaces.{blocks_of}
+use Rattle.file_parts.proofs.ExactRanks.{rest_from}
+use Rattle.file_parts.proofs.exact_packing.put_blocks.Goals as goal
+
+pub loop-rank-init : goal.loop-rank-init
+loop-rank-init g c = λ new ok w.
+    subst (λ (text : List ℕ). Writes g.W.Write.contents c.args.out.now new text ok) (blocks_whole c.args.exact.now c.args.parts.now c.requires.good) w
+
+pub block_of-requires-clause-inside : goal.block_of-requires-clause-inside
+block_of-requires-clause-inside g c =
+    let exact = c.args.exact.now in
+    let good = c.requires.good in
+    let count = c.requires.count in
+    let blocks : List (Option (List ℕ)) = data_in (database_listed exact.listed) in
+    let ranks : List ℕ = c.as_slice-rank-items.result.now in
+    let i = c.loop-rank.rank-index in
+    let within : i < length ranks = omega arith in
+    let inside : get_or ranks i 0 < length blocks = rank_inside blocks exact.lines.order.items ranks i (get_or ranks i 0) good.order (c.as_slice-rank-items.ensures.value ∙ good.ranks) within refl in
+    omega arith
+
+pub loop-rank-preserved : goal.loop-rank-preserved
+loop-rank-preserved g c = λ new ok w.
+    let exact = c.args.exact.now in
+    let file : ExactFile = exact_packed exact c.args.parts.now in
+    let ranks : List ℕ = exact.ranks.items in
+    let i = c.loop-rank.rank-index in
+    let same = c.as_slice-rank-items.ensures.value in
+    let long : length c.as_slice-rank-items.result.now ≡ length ranks = ap (λ (xs : List ℕ). length xs) same in
+    let inside : i < length ranks = omega arith in
+    let bytes : c.block_of.result.now ≡ block_bytes (exact_block file (get_or ranks i 0)) = c.block_of.ensures ∙ ap (λ (xs : List ℕ). block_bytes (exact_block file (get_or xs i 0))) same in
+    c.loop-rank.invariant new ok
+    (subst (λ (xs : List ℕ). Writes g.W.Write.contents c.loop-rank.out new (blocks_of (exact_block file) xs) ok) (sym (rest_from ranks i inside))
+    (then g.W.Write.contents c.loop-rank.out c.put_all.new.out new (block_bytes (exact_block file (get_or ranks i 0))) (blocks_of (exact_block file) (drop (i + 1) ranks)) ok
+    (subst (λ (text : List ℕ). Writes g.W.Write.contents c.loop-rank.out c.put_all.new.out text true) bytes c.in-Ok.ensures) w))
+
+pub returns-in-Err : goal.returns-in-Err
+returns-in-Err g c =
+    let exact = c.args.exact.now in
+    let file : ExactFile = exact_packed exact c.args.parts.now in
+    let ranks : List ℕ = exact.ranks.items in
+    let i = c.loop-rank.rank-index in
+    let same = c.as_slice-rank-items.ensures.value in
+    let long : length c.as_slice-rank-items.result.now ≡ length ranks = ap (λ (xs : List ℕ). length xs) same in
+    let inside : i < length ranks = omega arith in
+    let bytes : c.block_of.result.now ≡ block_bytes (exact_block file (get_or ranks i 0)) = c.block_of.ensures ∙ ap (λ (xs : List ℕ). block_bytes (exact_block file (get_or xs i 0))) same in
+    c.loop-rank.invariant c.put_all.new.out false
+    (subst (λ (xs : List ℕ). Writes g.W.Write.contents c.loop-rank.out c.put_all.new.out (blocks_of (exact_block file) xs) false) (sym (rest_from ranks i inside))
+    (stops g.W.Write.contents c.loop-rank.out c.put_all.new.out (block_bytes (exact_block file (get_or ranks i 0))) (blocks_of (exact_block file) (drop (i + 1) ranks))
+    (subst (λ (text : List ℕ). Writes g.W.Write.contents c.loop-rank.out c.put_all.new.out text false) bytes c.in-Err.ensures)))
+
+pub returns : goal.returns
+returns g c =
+    let exact = c.args.exact.now in
+    let file : ExactFile = exact_packed exact c.args.parts.now in
+    let ranks : List ℕ = exact.ranks.items in
+    let i = c.loop-rank.rank-index in
+    let long : length c.as_slice-rank-items.result.now ≡ length ranks = ap (λ (xs : List ℕ). length xs) c.as_slice-rank-items.ensures.value in
+    let past : length ranks ≤ i = omega arith in
+    c.loop-rank.invariant c.loop-rank.out true
+    (subst (λ (xs : List ℕ). Writes g.W.Write.contents c.loop-rank.out c.loop-rank.out (blocks_of (exact_block file) xs) true) (sym (drop_all i ranks past)) (nothing g.W.Write.contents c.loop-rank.out))

@@ -1,0 +1,14 @@
+use Rattle.std.proofs.Common.{ℕ, List, get_or, sym, subst, ◌∙◌, arith, below_more}
+use Rattle.std.proofs.lemmas.List.{get_or_default}
+use Rattle.heap_model.specs.Bytes.{AreBytes}
+use Rattle.file_parts.proofs.packed_start.know_parts.Goals as goal
+
+pub loop-part-preserved : goal.loop-part-preserved
+loop-part-preserved c =
+    let parts : List (List ℕ) = c.args.parts.now in
+    let i = c.loop-part.part-index in
+    below_more (λ (k : ℕ). (d : List ℕ) → AreBytes (get_or parts k d)) i c.loop-part.invariant
+    (λ d. subst AreBytes (c.as_slice.ensures ∙ c.part-item.is ∙ sym (get_or_default parts i d c.part-item.result c.loop-part-test.true)) c.know_numbers.ensures)
+
+pub returns : goal.returns
+returns c = λ k d inside. c.loop-part.invariant k (omega (arith, inside)) d

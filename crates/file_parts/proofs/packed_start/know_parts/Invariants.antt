@@ -1,0 +1,7 @@
+use Rattle.std.proofs.Common.{◌<◌, ℕ, List, get_or}
+use Rattle.heap_model.specs.Bytes.{AreBytes}
+use Rattle.file_parts.proofs.packed_start.know_parts.Given as goal
+
+-- the numbers in the parts so far are bytes
+abbrev pub invariant-loop-part : goal.invariant-loop-part
+invariant-loop-part l = (k : ℕ) → k < l.part-index → (d : List ℕ) → AreBytes (get_or l.parts k d)

@@ -1,0 +1,31 @@
+use Rattle.std.proofs.Common.{◌++◌, arith, length-append}
+use Rattle.pdb_format.specs.FileTexts.{blocks_text}
+use Rattle.file_parts.specs.Packing.{database_of_parts}
+use Rattle.file_parts.proofs.PackedEntries.{packed_has_file}
+use Rattle.file_parts.proofs.PackedStarts.{size_of}
+use Rattle.file_parts.proofs.UnpackedBack.{unpacks_back}
+use Rattle.file_parts.proofs.packing.pack_head.Goals as goal
+
+pub overflow_sub-blocks : goal.overflow_sub-blocks
+overflow_sub-blocks g c =
+    let size = size_of c.args.listed.now c.args.parts.now c.in_ok-head.head.bytes.items c.requires.good c.in_ok-head.ensures.most c.in_ok-head.ensures.file in
+    let is = c.in_ok-head.ensures.size in
+    omega (arith, size, is)
+
+pub returns-clause-packed : goal.returns-clause-packed
+returns-clause-packed g c =
+    let listed = c.args.listed.now in
+    let parts = c.args.parts.now in
+    record {
+      canonical = c.in_ok-bytes.ensures.canonical;
+      unpacks = unpacks_back (database_of_parts listed parts) (c.in_ok-bytes.bytes.items ++ blocks_text (database_of_parts listed parts)) (packed_has_file listed parts c.requires.good c.in_ok-head.ensures.most) c.in_ok-bytes.ensures.canonical;
+    }
+
+pub returns-clause-size : goal.returns-clause-size
+returns-clause-size g c =
+    let listed = c.args.listed.now in
+    let parts = c.args.parts.now in
+    let size = size_of listed parts c.in_ok-head.head.bytes.items c.requires.good c.in_ok-head.ensures.most c.in_ok-head.ensures.file in
+    let is = c.in_ok-head.ensures.size in
+    let both = length-append c.in_ok-bytes.bytes.items (blocks_text (database_of_parts listed parts)) in
+    omega (arith, size, is, both)
