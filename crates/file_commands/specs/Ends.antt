@@ -91,23 +91,22 @@ pub record RewritesWhole {W : Type 0} (file : List ℕ) (file_out : Output W) (i
   pub write : result ≡ Err Write → PutsPart file file_out
   pub short : result ≡ Err OutOfMemory → is_short
 
--- The outputs of a command that writes a new file for a file, and then prints its lines, by the status with which it ends.
--- `puts` is the new file and its lines, and `puts_why` the lines if there is no new file, each by whether all writes
--- succeeded. `part` is the new file after a write or a flush of it failed. `is_read` holds if an allocation failed after
--- the file was read.
---
--- If a write or a flush fails, nothing is written after it. There are three cases:
--- - It failed for the new file, and nothing was printed.
--- - It failed for its lines, after the whole new file.
--- - There is no new file, and it failed for the lines about that.
-pub record EndsRewritten {W V : Type 0} (puts : Bool → Type 0) (part : Type 0) (puts_why : Bool → Type 0) (is_read : Type 0) (file_out : Output W) (out : Output V) (status : Status) : Type 0 where
-  pub done : status ≡ Done → puts true
-  pub refused : status ≡ Refused → puts_why true × IsUnused file_out
-  pub no_memory : status ≡ NoMemory → is_read × IsUnused file_out × IsUnused out
-  pub write_fault : status ≡ WriteFault → (part × IsUnused out) ⊎ puts false ⊎ (puts_why false × IsUnused file_out)
-  pub good_words : status ≢ BadWords
-  pub reads_nothing : status ≢ ReadFault
+-- A write or a flush failed in `canonical`, and nothing was written after it. There are three
+-- cases:
+-- - It failed for the file, and nothing was printed.
+-- - It failed for the lines, after the whole file.
+-- - The file has a fault, and it failed for the lines of the fault.
+abbrev pub CanonicalBreaksOff : {W V : Type 0} → List ℕ → Output W → Output V → Type 0
+CanonicalBreaksOff file file_out out =
+    (PutsPart file file_out × IsUnused out)
+    ⊎ PutsCanonical file file_out out false
+    ⊎ (PutsFault file out.contents out.old out.new false × IsUnused file_out)
 
 -- what `canonical` wrote for a file
-abbrev pub EndsCanonical : {W V : Type 0} → List ℕ → Output W → Output V → Status → Type 0
-EndsCanonical file file_out out = EndsRewritten (PutsCanonical file file_out out) (PutsPart file file_out) (PutsFault file out.contents out.old out.new) (HasNoFault file) file_out out
+pub record EndsCanonical {W V : Type 0} (file : List ℕ) (file_out : Output W) (out : Output V) (status : Status) : Type 0 where
+  pub done : status ≡ Done → PutsCanonical file file_out out true
+  pub refused : status ≡ Refused → PutsFault file out.contents out.old out.new true × IsUnused file_out
+  pub no_memory : status ≡ NoMemory → HasNoFault file × IsUnused file_out × IsUnused out
+  pub write_fault : status ≡ WriteFault → CanonicalBreaksOff file file_out out
+  pub good_words : status ≢ BadWords
+  pub reads_nothing : status ≢ ReadFault

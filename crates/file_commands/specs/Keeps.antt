@@ -1,10 +1,10 @@
 -- What `canonical --keep` writes: the new file to one output, and lines to another one. A definition
 -- that ends in a `Bool` has it true if all was written and flushed, and false if a write or a flush
 -- failed.
-use Rattle.std.specs.Prelude.{◌≡◌, ◌⊎◌, ◌++◌, ℕ, Bool, true, false, List, length, Option, codes}
+use Rattle.std.specs.Prelude.{◌≡◌, ◌≢◌, ◌⊎◌, ◌++◌, ℕ, Bool, true, false, List, length, Option, codes}
 use Rattle.heap_model.specs.Files.{HasNoFault}
 use Rattle.palm_text.specs.Counted.{Writing}
-use Rattle.palm_text.specs.Output.{Output, PutsTo}
+use Rattle.palm_text.specs.Output.{IsUnused, Output, PutsTo}
 use Rattle.canonical_file.specs.declared.changes.Changes.{Changes}
 use Rattle.canonical_file.specs.Changes.{changes_line}
 use Rattle.file_listing.specs.Lines.{heading, listing_line}
@@ -13,7 +13,8 @@ use Rattle.file_parts.specs.Kept.{IsKeepFault}
 use Rattle.file_parts.specs.declared.exact_writing.PlaceFault.TheVariants.{TooLarge}
 use Rattle.file_parts.specs.declared.keep.Keep.{Keep}
 use Rattle.program_io.specs.declared.status.Status.{Status}
-use Rattle.file_commands.specs.Ends.{EndsRewritten, EndsText, PutsFault, count_line}
+use Rattle.program_io.specs.declared.status.Status.TheVariants.{Done, Refused, BadWords, ReadFault, WriteFault, NoMemory}
+use Rattle.file_commands.specs.Ends.{EndsText, PutsFault, count_line}
 
 -- the line of the changes of a file that are left, after the line with its path if there is one
 abbrev pub IsLeftText : Keep → (path : Option (List ℕ)) → (file text : List ℕ) → Type 0
@@ -44,6 +45,22 @@ PutsKeptTooLarge keep file out ok = IsKeepFault keep file TooLarge × PutsTo out
 abbrev pub PutsNotKept : {V : Type 0} → Keep → List ℕ → Output V → Bool → Type 0
 PutsNotKept keep file out ok = PutsFault file out.contents out.old out.new ok ⊎ PutsKeptTooLarge keep file out ok
 
+-- A write or a flush failed in `canonical --keep`, and nothing was written after it. There are three
+-- cases:
+-- - It failed for the file, and nothing was printed.
+-- - It failed for the lines, after the whole file.
+-- - No file is written, and it failed for the lines about that.
+abbrev pub KeptBreaksOff : {W V : Type 0} → Keep → List ℕ → Output W → Output V → Type 0
+KeptBreaksOff keep file file_out out =
+    (PutsKeptPart keep file file_out × IsUnused out)
+    ⊎ PutsKept keep file file_out out false
+    ⊎ (PutsNotKept keep file out false × IsUnused file_out)
+
 -- what `canonical --keep` wrote for a file
-abbrev pub EndsKept : {W V : Type 0} → Keep → List ℕ → Output W → Output V → Status → Type 0
-EndsKept keep file file_out out = EndsRewritten (PutsKept keep file file_out out) (PutsKeptPart keep file file_out) (PutsNotKept keep file out) (HasNoFault file) file_out out
+pub record EndsKept {W V : Type 0} (keep : Keep) (file : List ℕ) (file_out : Output W) (out : Output V) (status : Status) : Type 0 where
+  pub done : status ≡ Done → PutsKept keep file file_out out true
+  pub refused : status ≡ Refused → PutsNotKept keep file out true × IsUnused file_out
+  pub no_memory : status ≡ NoMemory → HasNoFault file × IsUnused file_out × IsUnused out
+  pub write_fault : status ≡ WriteFault → KeptBreaksOff keep file file_out out
+  pub good_words : status ≢ BadWords
+  pub reads_nothing : status ≢ ReadFault

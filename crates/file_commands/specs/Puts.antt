@@ -1,15 +1,16 @@
 -- What `put` writes: the new file to one output, and lines to another one. A definition that ends in
 -- a `Bool` has it true if all was written and flushed, and false if a write or a flush failed.
-use Rattle.std.specs.Prelude.{◌≢◌, ◌⊎◌, ℕ, Bool, true, false, List, [], length, codes, Option}
+use Rattle.std.specs.Prelude.{◌≡◌, ◌≢◌, ◌⊎◌, ℕ, Bool, true, false, List, [], length, codes, Option}
 use Rattle.heap_model.specs.Files.{HasNoFault}
 use Rattle.palm_text.specs.Counted.{Writing}
-use Rattle.palm_text.specs.Output.{Output, Puts, PutsTo}
+use Rattle.palm_text.specs.Output.{IsUnused, Output, Puts, PutsTo}
 use Rattle.file_parts.specs.Replacing.{IsReplaceFault, Replaces}
 use Rattle.file_parts.specs.declared.replaced.ReplaceFault.{ReplaceFault}
 use Rattle.file_parts.specs.declared.replaced.ReplaceFault.TheVariants.{TooLarge, EmptyPart, OutOfMemory}
 use Rattle.program_io.specs.declared.status.Status.{Status}
+use Rattle.program_io.specs.declared.status.Status.TheVariants.{Done, Refused, BadWords, ReadFault, WriteFault, NoMemory}
 use Rattle.file_commands.specs.declared.put_command.NewBlock.{NewBlock}
-use Rattle.file_commands.specs.Ends.{EndsRewritten, count_line}
+use Rattle.file_commands.specs.Ends.{count_line}
 use Rattle.file_commands.specs.Gets.{PutsNotGot}
 use Rattle.file_commands.specs.WantedBlocks.{IsWantedRank}
 
@@ -45,6 +46,21 @@ PutsNotReplaced file block out ok = (rank : ℕ) × IsWantedRank file block.want
 abbrev pub PutsNotPut : {V : Type 0} → List ℕ → NewBlock → Output V → Bool → Type 0
 PutsNotPut file block out ok = PutsNotGot file block.wanted out ok ⊎ PutsNotReplaced file block out ok
 
+-- A write or a flush failed in `put`, and nothing was written after it. There are three cases:
+-- - It failed for the file, and nothing was printed.
+-- - It failed for the line, after the whole file.
+-- - Nothing is replaced, and it failed for the lines about that.
+abbrev pub PutBreaksOff : {W V : Type 0} → List ℕ → NewBlock → Output W → Output V → Type 0
+PutBreaksOff file block file_out out =
+    (PutsReplacedPart file block file_out × IsUnused out)
+    ⊎ PutsReplaced file block file_out out false
+    ⊎ (PutsNotPut file block out false × IsUnused file_out)
+
 -- what `put` wrote for a file
-abbrev pub EndsPut : {W V : Type 0} → List ℕ → NewBlock → Output W → Output V → Status → Type 0
-EndsPut file block file_out out = EndsRewritten (PutsReplaced file block file_out out) (PutsReplacedPart file block file_out) (PutsNotPut file block out) (HasNoFault file) file_out out
+pub record EndsPut {W V : Type 0} (file : List ℕ) (block : NewBlock) (file_out : Output W) (out : Output V) (status : Status) : Type 0 where
+  pub done : status ≡ Done → PutsReplaced file block file_out out true
+  pub refused : status ≡ Refused → PutsNotPut file block out true × IsUnused file_out
+  pub no_memory : status ≡ NoMemory → HasNoFault file × IsUnused file_out × IsUnused out
+  pub write_fault : status ≡ WriteFault → PutBreaksOff file block file_out out
+  pub good_words : status ≢ BadWords
+  pub reads_nothing : status ≢ ReadFault

@@ -1,6 +1,7 @@
 //! The command `canonical --check`.
 
 ghost use Rattle.std.specs.Prelude.{◌≡◌, ◌≤◌, ◌⊎◌, ◌++◌, is_ok, length, option_map};
+ghost use Rattle.palm_text.specs.Counted.{Writes};
 ghost use Rattle.palm_text.specs.Output.{Puts};
 ghost use Rattle.pdb_format.specs.Opened.{most_file_bytes};
 ghost use Rattle.canonical_file.specs.Changes.{changes_line};
@@ -63,7 +64,7 @@ fn say_changes<A: Allowance, B: FileBytes, V: Write>(
 }
 
 /// Writes the line of the changes after the heading, and flushes `out`.
-#[tactic(auto, using(palm_text::proofs::Parts::then, palm_text::proofs::Parts::stops, palm_text::proofs::Parts::then_flush))]
+#[tactic(auto, using(palm_text::proofs::Parts::then_flush))]
 pub(crate) fn put_flushed<V: Write>(
     out: &mut Counted<V>,
     path: Option<&str>,
@@ -72,7 +73,20 @@ pub(crate) fn put_flushed<V: Write>(
     ensures { Puts V.contents out.old out.new
         (heading (option_map (λ path. path.now) path.entry) ++ changes_line changes) (is_ok result) }
 {
-    put_heading(out, path)?;
-    put_changes(out, changes)?;
+    put_headed(out, path, changes)?;
     flushed(out)
+}
+
+/// Writes the line of the changes after the heading.
+#[tactic(auto, using(palm_text::proofs::Parts::then, palm_text::proofs::Parts::stops))]
+fn put_headed<V: Write>(
+    out: &mut Counted<V>,
+    path: Option<&str>,
+    changes: Changes,
+) -> Result<(), WriteFault>
+    ensures { Writes V.contents out.old out.new
+        (heading (option_map (λ path. path.now) path.entry) ++ changes_line changes) (is_ok result) }
+{
+    put_heading(out, path)?;
+    put_changes(out, changes)
 }

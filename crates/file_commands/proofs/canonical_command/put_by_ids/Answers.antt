@@ -4,7 +4,7 @@ use Rattle.file_commands.proofs.canonical_command.put_by_ids.Goals as goal
 
 pub returns-in-Ok : goal.returns-in-Ok
 returns-in-Ok g c = record {
-  done = puts_whole g.W.Write.contents c.args.file_out.now c.put_form.new.file_out c.flushed.new.out c.args.file.now _ c.changes_by.ensures.changes c.in_ok-count.ensures.done c.in-Ok.ensures;
+  done = puts_whole g.W.Write.contents c.args.file_out.now c.put_form.new.file_out c.flushed.new.out c.args.file.now _ c.changes_by-changes.ensures.changes c.in_ok-count.ensures.done c.in-Ok.ensures;
   why = tt;
   untouched = tt;
   write = λ e. cc;
