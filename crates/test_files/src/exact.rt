@@ -1,7 +1,7 @@
 //! Exact folders: files that are taken apart as they stand, and put together again.
 
-use crate::samples::{MEMO_FILE, MIXED_FILE, MOST_SAMPLE, changed, packed_bytes};
-use file_parts::{FolderForm, PackFault, TakenApart, read_folder, take_apart};
+use crate::samples::{MEMO_FILE, MIXED_FILE, MOST_SAMPLE, changed, packed_of};
+use file_parts::{FolderForm, TakenApart, read_folder, take_apart};
 use heap_model::Bytes;
 use palm_text::Counted;
 use rand::{RngExt, SeedableRng};
@@ -69,11 +69,7 @@ fn exact_file_of(
     if parts.len() != listed.part_count() {
         return Ok(Err(format!(in alloc; "{} parts", listed.part_count())?));
     }
-    match listed.pack(&alloc, parts) {
-        Ok(packed) => Ok(Ok(packed_bytes(alloc, &packed)?)),
-        Err(PackFault::OutOfMemory) => Err("out of memory")?,
-        Err(fault) => Ok(Err(format!(in alloc; "{fault}")?)),
-    }
+    packed_of(alloc, &listed, parts)
 }
 
 /// Files, and the first and the last lines of their texts.

@@ -1,6 +1,8 @@
 //! Folders that are packed, where each allocation fails in turn, and each write fails after some
 //! bytes.
 
+ghost use Rattle.file_parts.specs.Either.{IsListedFolder};
+
 use crate::exact::folder_in;
 use crate::samples::{MIXED_FILE, rewritten};
 use file_commands::cmd_pack_from;
@@ -27,7 +29,9 @@ fn packs_after(
     listed: &ListedFolder<'_>,
     parts: &[Bytes],
     granted: u32,
-) -> Result<bool, Fail> {
+) -> Result<bool, Fail>
+    requires { IsListedFolder listed.now }
+{
     if parts.len() != listed.part_count() {
         return Err("other parts")?;
     }
@@ -76,7 +80,9 @@ fn check_pack_cut(
     parts: &[Bytes],
     whole: &[u8],
     room: usize,
-) -> Result<(), Fail> {
+) -> Result<(), Fail>
+    requires { IsListedFolder listed.now }
+{
     if parts.len() != listed.part_count() {
         return Err("other parts")?;
     }

@@ -1,8 +1,8 @@
 //! Files that are taken apart, and put together.
 
-use crate::samples::{MEMO_FILE, MIXED_FILE, packed_bytes, rewritten};
+use crate::samples::{MEMO_FILE, MIXED_FILE, packed_of, rewritten};
 use canonical_file::MOST_BYTES;
-use file_parts::{PackFault, put_database, read_folder, read_listed, unpack};
+use file_parts::{put_database, read_folder, read_listed, unpack};
 use heap_model::Bytes;
 use palm_text::Counted;
 use program_io::Status;
@@ -53,11 +53,7 @@ fn file_of(alloc: Global, text: &[u8], parts: &[Bytes]) -> Result<Result<Vec<u8>
     if parts.len() != listed.part_count() {
         return Ok(Err(format!(in alloc; "{} parts", listed.part_count())?));
     }
-    match listed.pack(&alloc, parts) {
-        Ok(packed) => Ok(Ok(packed_bytes(alloc, &packed)?)),
-        Err(PackFault::OutOfMemory) => Err("out of memory")?,
-        Err(fault) => Ok(Err(format!(in alloc; "{fault}")?)),
-    }
+    packed_of(alloc, &listed, parts)
 }
 
 const MEMO_TEXT: &str = "\

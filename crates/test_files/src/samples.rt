@@ -1,8 +1,11 @@
 //! Files, and what is printed of them.
 
+ghost use Rattle.file_parts.specs.Either.{HasFolderParts};
+
 use file_commands::{cmd_canonical_from, cmd_list_from};
 use file_listing::{TextRows, damage_of};
-use file_parts::PackedFile;
+use file_parts::{ListedFolder, PackFault, PackedFile};
+use heap_model::Bytes;
 use json_documents::JsonRows;
 use palm_text::Counted;
 use pdb_format::check_file;
@@ -78,8 +81,23 @@ pub(crate) fn rewritten(alloc: Global, file: &[u8]) -> Result<(Status, Vec<u8>, 
     Ok((status, file_out.into_inner(), out.into_inner()))
 }
 
+/// Puts the parts of a folder together: the file, or its fault as text.
+pub(crate) fn packed_of(
+    alloc: Global,
+    listed: &ListedFolder<'_>,
+    parts: &[Bytes],
+) -> Result<Result<Vec<u8>, String>, Fail>
+    requires { HasFolderParts listed.now parts.now }
+{
+    match listed.pack(&alloc, parts) {
+        Ok(packed) => Ok(Ok(packed_bytes(alloc, &packed)?)),
+        Err(PackFault::OutOfMemory) => Err("out of memory")?,
+        Err(fault) => Ok(Err(format!(in alloc; "{fault}")?)),
+    }
+}
+
 /// The bytes of a file that was put together. Its size is their number.
-pub(crate) fn packed_bytes(alloc: Global, packed: &PackedFile<'_>) -> Result<Vec<u8>, Fail> {
+fn packed_bytes(alloc: Global, packed: &PackedFile<'_>) -> Result<Vec<u8>, Fail> {
     let mut out = Counted::new(Vec::new(alloc));
     holds("written", packed.put(&mut out).is_ok())?;
     let bytes = out.into_inner();
