@@ -1,12 +1,10 @@
 //! Folders that are packed, where each allocation fails in turn, and each write fails after some
 //! bytes.
 
-ghost use Rattle.file_parts.specs.Either.{IsListedFolder};
-
 use crate::exact::folder_in;
 use crate::samples::{MIXED_FILE, rewritten};
 use file_commands::cmd_pack_from;
-use file_parts::{FolderForm, ListedFolder, read_folder};
+use file_parts::{FolderForm, read_folder};
 use heap_model::Bytes;
 use palm_text::Counted;
 use program_io::Status;
@@ -24,21 +22,17 @@ static PACKED: [(&str, FolderForm); 4] = [
 
 /// Packs a folder with an allocation that fails, after `granted` others. Returns whether none was
 /// left to fail.
-fn packs_after(
-    alloc: Global,
-    listed: &ListedFolder<'_>,
-    parts: &[Bytes],
-    granted: u32,
-) -> Result<bool, Fail>
-    requires { IsListedFolder listed.now }
-{
+fn packs_after(alloc: Global, text: &[u8], parts: &[Bytes], granted: u32) -> Result<bool, Fail> {
+    let Ok(listed) = read_folder(&alloc, text) else {
+        return Err("a faulty text")?;
+    };
     if parts.len() != listed.part_count() {
         return Err("other parts")?;
     }
     let memory = RefusesOne::behind(alloc, granted);
     let mut file_out = Counted::new(Vec::new(alloc));
     let mut out = Counted::new(Vec::new(alloc));
-    let status = cmd_pack_from(&memory, listed, parts, &mut file_out, &mut out);
+    let status = cmd_pack_from(&memory, &listed, parts, &mut file_out, &mut out);
     if !memory.has_refused() {
         equal(granted, status, Status::Done)?;
         return Ok(true);
@@ -54,11 +48,8 @@ fn check_pack_grants(alloc: Global, listing: &str, form: FolderForm) -> Result<(
     let Some(folder) = folder_in(alloc, form, &bytes_of(alloc, listing)?)? else {
         return Err("a file with a fault")?;
     };
-    let Ok(listed) = read_folder(&alloc, &folder.text) else {
-        return Err("a faulty text")?;
-    };
     for granted in 0..100 {
-        if packs_after(alloc, &listed, &folder.parts, granted)? {
+        if packs_after(alloc, &folder.text, &folder.parts, granted)? {
             return holds(granted, granted > 3);
         }
     }
@@ -76,19 +67,20 @@ fn refused_memory_packs_nothing(rt: HostRuntime) -> Result<(), Fail> {
 /// Packs a folder to a writer that takes `room` bytes of the file.
 fn check_pack_cut(
     alloc: Global,
-    listed: &ListedFolder<'_>,
+    text: &[u8],
     parts: &[Bytes],
     whole: &[u8],
     room: usize,
-) -> Result<(), Fail>
-    requires { IsListedFolder listed.now }
-{
+) -> Result<(), Fail> {
+    let Ok(listed) = read_folder(&alloc, text) else {
+        return Err("a faulty text")?;
+    };
     if parts.len() != listed.part_count() {
         return Err("other parts")?;
     }
     let mut file_out = Counted::new(Narrow::new(alloc, room, 5, WhenFull::TakesNothing));
     let mut out = Counted::new(Vec::new(alloc));
-    let status = cmd_pack_from(&alloc, listed, parts, &mut file_out, &mut out);
+    let status = cmd_pack_from(&alloc, &listed, parts, &mut file_out, &mut out);
     equal(room, status, Status::WriteFault)?;
     let narrow = file_out.into_inner();
     holds(room, narrow.is_cut_at(room))?;
@@ -103,15 +95,12 @@ fn check_pack_cuts(alloc: Global, listing: &str, form: FolderForm) -> Result<(),
     let Some(folder) = folder_in(alloc, form, &file)? else {
         return Err("a file with a fault")?;
     };
-    let Ok(listed) = read_folder(&alloc, &folder.text) else {
-        return Err("a faulty text")?;
-    };
     let whole = match form {
         FolderForm::Canonical => rewritten(alloc, &file)?.1,
         FolderForm::Exact => file,
     };
     for room in (0..whole.len()).step_by(35) {
-        check_pack_cut(alloc, &listed, &folder.parts, &whole, room)?;
+        check_pack_cut(alloc, &folder.text, &folder.parts, &whole, room)?;
     }
     Ok(())
 }
