@@ -3,7 +3,7 @@
 
     bench/large_files.py PROGRAM [DIR]
 
-Makes a file of 100 MB with 25,000 records and one of 1 GB with 62,500 records in a new folder in DIR, by default in
+Makes a file of 100 MB with 25,000 records and one of 1 GB with 65,535 records in a new folder in DIR, by default in
 the folder for temporary files, which needs 6 GB. `canonical` and `salvage` drop one byte after the name, so they write
 the file anew. Looks whether both write the same, whether what is packed and put is the file, and whether one block has
 its bytes. Then come files of 4,294,967,295 and 4,294,967,296 bytes without data on the disk: `list` takes the first,
@@ -20,7 +20,7 @@ import sys
 import tempfile
 import time
 
-SIZES = (("100 MB", 25_000, 4_000), ("1 GB", 62_500, 16_000))
+SIZES = (("100 MB", 25_000, 4_000), ("1 GB", 65_535, 16_000))
 MOST = 4_294_967_295
 MOST_MEMORY = 64
 
