@@ -16,6 +16,9 @@ import tempfile
 
 import c_calls as palmheap
 
+sys.path.insert(0, os.path.join(os.path.dirname(os.path.abspath(__file__)), "..", "python"))
+from palmheap import Database, FileFault  # noqa: E402
+
 # What the program prints after the name of a kind of fault.
 PARTS_OF_FILES = {63: " app", 64: " sort"}
 # Numbers next to those of the faults.
@@ -181,11 +184,20 @@ def compare_listed(library, program, room, files):
     return met
 
 
-def compare_alone(library, program, room, file, exact_ids):
-    """Compares the status of a file, its document, and the files that are made of it."""
+def compare_read(file):
+    """Looks whether the file that is made of what was read of a file is the same file."""
+    try:
+        written = Database.from_bytes(file).to_exact_bytes()
+    except FileFault:
+        return
+    if written != file:
+        sys.exit(f"{file.hex()}: what was read of it is written as {written.hex()}")
+
+
+def compare_alone(library, program, room, file):
+    """Compares the status of a file, its document, and its canonical form."""
     if run(program, "list", "--json", "-", file=file) != (documents(library, file)[0], listed(library, file)[1]):
         sys.exit(f"{file.hex()}: the documents or the statuses differ")
-    compare_salvaged(library, program, room, file, exact_ids)
     _, given = run(program, "canonical", "-", f"{room}/out", file=file)
     with open(f"{room}/out", "rb") if given == 0 else open(os.devnull, "rb") as it:
         there = it.read() if given == 0 else None
@@ -194,14 +206,18 @@ def compare_alone(library, program, room, file, exact_ids):
 
 
 def compare_damaged(program, seed, count):
-    """Compares damaged files, each tenth of them also alone. Returns the first word that each should be listed with."""
+    """Compares damaged files, each tenth of them also alone, and each with what is written of what was read of it.
+    Returns the first word that each should be listed with."""
     library, rng, met = palmheap.Library(), random.Random(seed), []
     files = [damaged(rng) for _ in range(count)]
     with tempfile.TemporaryDirectory() as room:
         for start in range(0, count, BATCH):
             met += compare_listed(library, program, room, files[start : start + BATCH])
+        for index, file in enumerate(files):
+            compare_read(file)
+            compare_salvaged(library, program, room, file, index % 2 == 0)
         for index in range(0, count, 10):
-            compare_alone(library, program, room, files[index], index % 20 == 0)
+            compare_alone(library, program, room, files[index])
     return met
 
 

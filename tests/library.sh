@@ -4,8 +4,8 @@
 #   tests/library.sh [FILES]
 #
 # Runs the programs in examples/, those for C also under valgrind and with the address and undefined-behavior
-# sanitizers. Compares the library with the commands `list` and `list --json` on FILES damaged files (100000), and with
-# `salvage` and `canonical` on each tenth. Compares as many calls on a store, and palmheap_run on scripts of the same
+# sanitizers. Compares the library with the commands `list`, `list --json` and `salvage` on FILES damaged files (100000),
+# and with `canonical` on each tenth. What is read of each is written as the same file. Compares as many calls on a store, and palmheap_run on scripts of the same
 # calls, with the command `run`: by text, files and image, with buffers that are long enough or too short, and on
 # scripts and images with faults. Compares pictures and lists of the images with `map` and `databases`.
 # Passes NULL with the length 0. Lends chunks at random, 10 steps for each of FILES. Damages each field of a file.
