@@ -16,7 +16,7 @@ enum { STRETCHES = 64 };
 static void free_every_second(struct load *load)
 {
     for (size_t i = 0; i < load->handle_count; i += 2)
-        add(load, heap_free(&load->heap, load->handles[i]));
+        add(&load->replies, heap_free(&load->heap, load->handles[i]));
 }
 
 /* The most bytes of a chunk where a heap with one under each slot is nearly full: twice what is left to

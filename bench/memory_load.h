@@ -24,9 +24,9 @@ struct load {
     uint32_t random, replies;
 };
 
-static void add(struct load *load, uint32_t number)
+static void add(uint32_t *replies, uint32_t number)
 {
-    load->replies = sum_with(load->replies, number);
+    *replies = sum_with(*replies, number);
 }
 
 /* A number below a limit, the same in each run. */
@@ -57,14 +57,14 @@ static void make_chunks(struct load *load, size_t count)
             heap_handle_new(&load->heap, (uint32_t)below(load, load->most + 1), OWNER, &name);
         if (refusal == DONE)
             load->handles[load->handle_count++] = name;
-        add(load, refusal == DONE ? name : refusal);
+        add(&load->replies, refusal == DONE ? name : refusal);
     }
 }
 
 static void free_chunks(struct load *load, size_t count)
 {
     for (size_t i = 0; i < count && load->handle_count > 0; i++)
-        add(load, heap_free(&load->heap, load->handles[--load->handle_count]));
+        add(&load->replies, heap_free(&load->heap, load->handles[--load->handle_count]));
 }
 
 static void find_wide(struct load *load)
@@ -81,46 +81,57 @@ static void lock_wide(struct load *load)
     for (size_t i = 0; i < load->wide_count; i++) {
         uint32_t place, count;
         enum refusal refusal = heap_lock(&load->heap, load->wide[i], &place, &count);
-        add(load, refusal == DONE ? place : refusal);
+        add(&load->replies, refusal == DONE ? place : refusal);
     }
 }
 
-static void lock_and_unlock(struct load *load)
+/* The following functions are never in line, and keep the replies in a register, so that no kind of call changes the
+ * code of another. */
+
+static __attribute__((noinline)) void lock_and_unlock(struct load *load)
 {
+    uint32_t replies = load->replies;
     for (size_t i = 0; i < load->handle_count; i++) {
         uint32_t place, count;
         enum refusal refusal = heap_lock(&load->heap, load->handles[i], &place, &count);
-        add(load, refusal == DONE ? place ^ count : refusal);
+        add(&replies, refusal == DONE ? place ^ count : refusal);
         refusal = heap_unlock(&load->heap, load->handles[i], &count);
-        add(load, refusal == DONE ? count : refusal);
+        add(&replies, refusal == DONE ? count : refusal);
     }
+    load->replies = replies;
 }
 
-static void ask_sizes(struct load *load)
+static __attribute__((noinline)) void ask_sizes(struct load *load)
 {
+    uint32_t replies = load->replies;
     for (size_t i = 0; i < load->handle_count; i++) {
         uint32_t size;
         enum refusal refusal = heap_size(&load->heap, load->handles[i], &size);
-        add(load, refusal == DONE ? size : refusal);
+        add(&replies, refusal == DONE ? size : refusal);
     }
+    load->replies = replies;
 }
 
-static void ask_owners(struct load *load)
+static __attribute__((noinline)) void ask_owners(struct load *load)
 {
+    uint32_t replies = load->replies;
     for (size_t i = 0; i < load->handle_count; i++) {
         uint32_t owner;
         enum refusal refusal = heap_owner(&load->heap, load->handles[i], &owner);
-        add(load, refusal == DONE ? owner : refusal);
+        add(&replies, refusal == DONE ? owner : refusal);
     }
+    load->replies = replies;
 }
 
-static void ask_locks(struct load *load)
+static __attribute__((noinline)) void ask_locks(struct load *load)
 {
+    uint32_t replies = load->replies;
     for (size_t i = 0; i < load->handle_count; i++) {
         uint32_t count;
         enum refusal refusal = heap_locks(&load->heap, load->handles[i], &count);
-        add(load, refusal == DONE ? count : refusal);
+        add(&replies, refusal == DONE ? count : refusal);
     }
+    load->replies = replies;
 }
 
 /* How many bodies are out while the other chunks are read. */
@@ -129,42 +140,48 @@ static size_t out_among(const struct load *load)
     return load->wide_count / 2 < MOST_OUT ? load->wide_count / 2 : MOST_OUT;
 }
 
-static void read_chunks(struct load *load, size_t from)
+static __attribute__((noinline)) void read_chunks(struct load *load, size_t from)
 {
+    uint32_t replies = load->replies;
     for (size_t i = from; i < load->wide_count; i++) {
         const uint8_t *bytes;
         enum refusal refusal = heap_read(&load->heap, load->wide[i], 0, WIDTH, &bytes);
         if (refusal != DONE) {
-            add(load, refusal);
+            add(&replies, refusal);
             continue;
         }
-        add(load, bytes[0]);
-        add(load, bytes[WIDTH - 1]);
+        add(&replies, bytes[0]);
+        add(&replies, bytes[WIDTH - 1]);
     }
+    load->replies = replies;
 }
 
-static void write_chunks(struct load *load, uint8_t byte)
+static __attribute__((noinline)) void write_chunks(struct load *load, uint8_t byte)
 {
     uint8_t bytes[WIDTH];
     memset(bytes, byte, sizeof bytes);
+    uint32_t replies = load->replies;
     for (size_t i = 0; i < load->wide_count; i++)
-        add(load, heap_write(&load->heap, load->wide[i], 0, bytes, WIDTH));
+        add(&replies, heap_write(&load->heap, load->wide[i], 0, bytes, WIDTH));
+    load->replies = replies;
 }
 
-static void take_out_and_put_back(struct load *load)
+static __attribute__((noinline)) void take_out_and_put_back(struct load *load)
 {
+    uint32_t replies = load->replies;
     for (size_t i = 0; i < load->wide_count; i++) {
         uint8_t *bytes;
         uint32_t length;
         enum refusal refusal = heap_take_out(&load->heap, load->wide[i], &bytes, &length);
         if (refusal != DONE) {
-            add(load, refusal);
+            add(&replies, refusal);
             continue;
         }
-        add(load, bytes[0]);
-        add(load, bytes[length - 1]);
+        add(&replies, bytes[0]);
+        add(&replies, bytes[length - 1]);
         heap_put_back(&load->heap);
     }
+    load->replies = replies;
 }
 
 enum call { LOCK_AND_UNLOCK, ASK_SIZE, ASK_OWNER, ASK_LOCKS, READ, WRITE, TAKE_OUT_AND_PUT_BACK, READ_WITH_OUT, CALLS };

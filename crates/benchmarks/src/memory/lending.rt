@@ -47,6 +47,7 @@ pub(crate) fn read_with_out(
 
 /// Reads 16 bytes of each chunk, and adds the first and the last to a sum. Returns the new sum, so
 /// that it need not be in memory meanwhile.
+#[inline(never)]
 pub(crate) fn read_each(heap: &Heap, names: &[Name], before: Sum) -> Sum {
     let mut replies = before;
     for name in names {

@@ -166,29 +166,41 @@ impl Load {
         }
     }
 
+    #[inline(never)]
     fn lock_and_unlock(&mut self) {
+        let mut replies = self.replies;
         for name in &self.handles {
-            add_locked(&mut self.replies, self.heap.lock(*name));
-            self.replies.add_byte(self.heap.unlock(*name));
+            add_locked(&mut replies, self.heap.lock(*name));
+            replies.add_byte(self.heap.unlock(*name));
         }
+        self.replies = replies;
     }
 
+    #[inline(never)]
     fn ask_sizes(&mut self) {
+        let mut replies = self.replies;
         for name in &self.handles {
-            self.replies.add_number(self.heap.size(*name));
+            replies.add_number(self.heap.size(*name));
         }
+        self.replies = replies;
     }
 
+    #[inline(never)]
     fn ask_owners(&mut self) {
+        let mut replies = self.replies;
         for name in &self.handles {
-            self.replies.add_byte(self.heap.owner(*name));
+            replies.add_byte(self.heap.owner(*name));
         }
+        self.replies = replies;
     }
 
+    #[inline(never)]
     fn ask_locks(&mut self) {
+        let mut replies = self.replies;
         for name in &self.handles {
-            self.replies.add_byte(self.heap.locks(*name));
+            replies.add_byte(self.heap.locks(*name));
         }
+        self.replies = replies;
     }
 
     /// Reads 16 bytes of each chunk, and adds up the first and the last.
@@ -203,24 +215,30 @@ impl Load {
     }
 
     /// Writes a byte over the first 16 bytes of each chunk.
+    #[inline(never)]
     fn write(&mut self, byte: u8) {
         let bytes = [byte; WIDTH as usize];
+        let mut replies = self.replies;
         for name in &self.wide {
-            self.replies.add_done(self.heap.write(*name, 0, &bytes));
+            replies.add_done(self.heap.write(*name, 0, &bytes));
         }
+        self.replies = replies;
     }
 
     /// Takes the bytes of each chunk out and puts them back, and adds up the first and the last.
+    #[inline(never)]
     fn take_out_and_put_back(&mut self) {
+        let mut replies = self.replies;
         for name in &self.wide {
             match self.heap.take_out(*name) {
                 Ok(loan) => {
-                    self.replies.add_ends(loan.slice(0, loan.len()));
+                    replies.add_ends(loan.slice(0, loan.len()));
                     self.heap.put_back(loan);
                 }
-                Err(refusal) => self.replies.add_refusal(refusal),
+                Err(refusal) => replies.add_refusal(refusal),
             }
         }
+        self.replies = replies;
     }
 
     /// Adds the sum of all replies, and the sum of the words of the heap.
