@@ -201,10 +201,39 @@ pub(crate) fn check_locked(found: Found) -> Result<(), Refusal>
     Ok(())
 }
 
-/// Refuses a chunk whose bytes are lent.
-#[inline]
+/// Refuses a chunk whose bytes are lent. While nothing is lent, this is one comparison, and the code
+/// that finds a chunk's mark is elsewhere.
+#[inline(always)]
 #[tactic(auto, using(crate::proofs::KnownLoans::none_begins))]
 pub(crate) fn check_here(space: &Space, found: Found) -> Result<(), Refusal>
+    requires found { IsOne space.now.bytes found }
+    ensures ok { OnOk result (LendsOther space.now found.place.0) }
+    ensures err { OnErr result (BeginsAt found.place.0 space.now.lents) }
+    ensures refusal { IfErr result (λ refusal. refusal ≡ Refusal.Lent) }
+{
+    if space.is_whole() {
+        return Ok(());
+    }
+    check_mark(space, found)
+}
+
+/// The same where something is lent.
+#[cold]
+#[inline(never)]
+fn check_mark(space: &Space, found: Found) -> Result<(), Refusal>
+    requires found { IsOne space.now.bytes found }
+    ensures ok { OnOk result (LendsOther space.now found.place.0) }
+    ensures err { OnErr result (BeginsAt found.place.0 space.now.lents) }
+    ensures refusal { IfErr result (λ refusal. refusal ≡ Refusal.Lent) }
+{
+    check_here_in_line(space, found)
+}
+
+/// The same as `check_here`, for reads, which may be many while something is lent: the mark is found
+/// in line.
+#[inline]
+#[tactic(auto, using(crate::proofs::KnownLoans::none_begins))]
+pub(crate) fn check_here_in_line(space: &Space, found: Found) -> Result<(), Refusal>
     requires found { IsOne space.now.bytes found }
     ensures ok { OnOk result (LendsOther space.now found.place.0) }
     ensures err { OnErr result (BeginsAt found.place.0 space.now.lents) }

@@ -9,7 +9,7 @@ ghost use Rattle.mem_manager.specs.Replies.{number_or_refused, name_or_refused};
 
 use crate::bounds::check_range;
 use crate::heap::Heap;
-use crate::lookup::{check_here, find, name_at};
+use crate::lookup::{check_here_in_line, find, name_at};
 use chunk_format::MANAGERS_OWNER;
 use heap_model::{Name, Place, Refusal};
 
@@ -76,7 +76,7 @@ impl Heap {
         ensures takes_no_memory { result ≢ Err Refusal.OutOfMemory }
     {
         let found = find(&self.space, &self.known, name)?;
-        check_here(&self.space, found)?;
+        check_here_in_line(&self.space, found)?;
         check_range(at, count as usize, found.length)?;
         let start = found.place.0 as usize + at as usize;
         Ok(self.space.region().slice(start, count as usize))
