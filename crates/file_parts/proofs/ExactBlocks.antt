@@ -322,3 +322,10 @@ none_misplaced file ranks i sorted next empty =
     let one = ap (λ (start : Start). start.rank) (start_at offsets ranks i (omega arith)) in
     let other = ap (λ (start : Start). start.rank) (start_at offsets ranks (i + 1) next) in
     omega arith
+
+-- the place of the first of some ranks, and of a later one
+pub at_first : (place : ℕ → ℕ) (rank at : ℕ) → place (rank + 0) ≡ at → place rank ≡ at
+at_first place rank at is = let here : rank + 0 ≡ rank = omega arith in sym (ap place here) ∙ is
+
+pub at_next : (place : ℕ → ℕ) (rank k at : ℕ) → place (rank + suc k) ≡ at → place (rank + 1 + k) ≡ at
+at_next place rank k at is = let next : rank + 1 + k ≡ rank + suc k = omega arith in ap place next ∙ is

@@ -9,6 +9,7 @@ use Rattle.heap_model.specs.Bytes.{AreBytes, u24_at}
 use Rattle.heap_model.specs.Database.{Database, DatabaseHeader, Entry, a_record, a_resource, HeaderFits, IsDatabaseName, database_in, entry_at, entry_count_in, entry_data, entry_in, entry_offset, entry_with, has_resources, header_in, resources_in}
 use Rattle.heap_model.specs.Files.{HasNoFault, blocks_in}
 use Rattle.heap_model.specs.FileSteps.{size_of_block}
+use Rattle.laws_store.proofs.Shapes.{header_fits}
 use Rattle.pdb_format.specs.Writable.{IsWritableEntry}
 use Rattle.pdb_format.proofs.FileBlocks.{none_planned, record_block, resource_block}
 use Rattle.pdb_format.proofs.FileNames.{file_named}
@@ -18,20 +19,6 @@ use Rattle.file_parts.specs.Laws.{HasText}
 use Rattle.file_parts.specs.Exact.{ExactFile, HasValuesOf, IsExactly, exact_database, exact_entry}
 use Rattle.file_parts.proofs.PackedBack.{u16_small, u32_small}
 use Rattle.file_parts.proofs.PartsBack.{has_text_of, name_bytes}
-
-header_small : (file : List ℕ) → AreBytes file → HeaderFits (header_in file)
-unfolding header_in
-header_small file bytes = record {
-  attributes = u16_small file 32 bytes;
-  version = u16_small file 34 bytes;
-  creation_date = u32_small file 36 bytes;
-  modification_date = u32_small file 40 bytes;
-  backup_date = u32_small file 44 bytes;
-  modification_number = u32_small file 48 bytes;
-  kind = u32_small file 60 bytes;
-  creator = u32_small file 64 bytes;
-  seed = u32_small file 68 bytes;
-}
 
 one_writable : (file : List ℕ) (k : ℕ) (r : Bool) → HasNoFault file → AreBytes file → k < entry_count_in file → r ≡ resources_in file
     → IsWritableEntry r (entry_with (λ _. get_or (blocks_in file) (2 + k) None) (entry_at r file (entry_offset r k)))
@@ -72,7 +59,7 @@ file_name file good = file_named file good
 
 pub file_header : (file : List ℕ) → AreBytes file → HeaderFits (exact_database file).header
 unfolding exact_database
-file_header file bytes = header_small file bytes
+file_header file bytes = header_fits file bytes
 
 file_name_bytes : (file : List ℕ) → AreBytes file → AreBytes (exact_database file).header.name
 unfolding exact_database header_in

@@ -18,7 +18,7 @@ zeros_are : (n : ℕ) → list_all (λ byte. byte == 0) (replicate n 0) ≡ true
 zeros_are zero = refl
 zeros_are (suc n) = zeros_are n
 
-all_zeros : (xs : List ℕ) → list_all (λ byte. byte == 0) xs ≡ true → replicate (length xs) 0 ≡ xs
+pub all_zeros : (xs : List ℕ) → list_all (λ byte. byte == 0) xs ≡ true → replicate (length xs) 0 ≡ xs
 all_zeros [] is = refl
 all_zeros (x ∷ xs) is =
     let parts = and_parts (x == 0) (list_all (λ byte. byte == 0) xs) is in

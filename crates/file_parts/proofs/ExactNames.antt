@@ -2,7 +2,7 @@
 use Rattle.std.proofs.Common.{◌≡◌, ℕ, suc, ◌+◌, ◌-◌, ◌<◌, ◌≤◌, Bool, true, false, None, List, [], ◌∷◌, ◌++◌, length, get_or, take, refl, sym, ap, subst, ◌∙◌, arith, inl, inr, length-append}
 use Rattle.std.specs.Prelude.{◌==◌, not, replicate}
 use Rattle.std.specs.List.{list_all, prefix_len}
-use Rattle.std.proofs.lemmas.Bool.{and_parts, cases_eq, eq-eqb, ne_eqb}
+use Rattle.std.proofs.lemmas.Bool.{cases_eq, eq-eqb, ne_eqb}
 use Rattle.std.proofs.lemmas.List.{get_or-take, length-take, length-take-le}
 use Rattle.std.proofs.lemmas.List.Sums.{prefix_len_stops}
 use Rattle.std.proofs.Math.Seq.{get_or-append_seam}
@@ -11,6 +11,7 @@ use Rattle.heap_model.specs.Database.{IsDatabaseName, name_in}
 use Rattle.file_parts.specs.ExactTexts.{after_name_of, unless_zeros}
 use Rattle.file_parts.specs.ExactReading.{after_name_fault, is_after_name}
 use Rattle.file_parts.proofs.PartsBack.{front_bytes}
+use Rattle.file_parts.proofs.ExactHeads.{all_zeros}
 use Rattle.file_parts.proofs.ExactTextBack.{IsAfter, after_at}
 
 -- what is known of a name and the bytes after it in a file
@@ -104,15 +105,6 @@ after_good file name after bytes are = by_zeros (list_all (λ byte. byte == 0) a
       let low = valid.some in
       let high = valid.room in
       rw is (bytes_behind name after (subst AreBytes (sym are.field) (front_bytes 32 file bytes)), omega arith, omega arith)
-
-all_zeros : (xs : List ℕ) → list_all (λ byte. byte == 0) xs ≡ true → replicate (length xs) 0 ≡ xs
-all_zeros [] is = refl
-all_zeros (x ∷ xs) is =
-    let parts = and_parts (x == 0) (list_all (λ byte. byte == 0) xs) is in
-    let first = parts.0 in
-    let none : 0 ≡ x = grind arith in
-    let more = all_zeros xs parts.1 in
-    ap (λ (y : ℕ). y ∷ replicate (length xs) 0) none ∙ ap (λ (ys : List ℕ). x ∷ ys) more
 
 -- zeros need no line
 pub after_back : (file name after : List ℕ) → AreNames file name after → after_name_of name (unless_zeros after) ≡ after

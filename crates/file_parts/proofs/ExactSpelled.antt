@@ -17,7 +17,7 @@ use Rattle.pdb_format.proofs.LeastOffsets.{first_after, least_most}
 use Rattle.pdb_format.proofs.SortedStarts.{AreSorted}
 use Rattle.pdb_format.proofs.Zips.{zip_long}
 use Rattle.file_parts.specs.Exact.{ExactFile, HasValuesOf, IsExactly, entries_placed, exact_block, exact_blocks, exact_bytes, exact_offset, exact_placed, exact_size, exact_start, is_misplaced, offset_among}
-use Rattle.file_parts.proofs.ExactBlocks.{blocks_rest, first_begins, join, none_misplaced, offset_back, ranks_sorted, starts_of, zero_of}
+use Rattle.file_parts.proofs.ExactBlocks.{at_first, at_next, blocks_rest, first_begins, join, none_misplaced, offset_back, ranks_sorted, starts_of, zero_of}
 
 -- ---- the entries, as they were read
 
@@ -36,21 +36,15 @@ placed_back place rank [] [] all each = refl
 placed_back place rank [] (y ∷ ys) all each = absurd all
 placed_back place rank (x ∷ xs) [] all each = absurd all
 placed_back place rank (a_record attributes id at ∷ xs) (a_record other_attributes other_id block ∷ ys) all each =
-    let here : rank + 0 ≡ rank = omega arith in
-    let first = sym (ap place here) ∙ each 0 (omega arith) in
-    let more = placed_back place (rank + 1) xs ys all.1 (λ k less. (let next : rank + 1 + k ≡ rank + suc k = omega arith in ap place next ∙ each (suc k) (omega arith))) in
-    ap (λ (n : ℕ). a_record other_attributes other_id n ∷ entries_placed place (rank + 1) ys) first
+    ap (λ (n : ℕ). a_record other_attributes other_id n ∷ entries_placed place (rank + 1) ys) (at_first place rank at (each 0 (omega arith)))
     ∙ ap (λ (n : ℕ). a_record n other_id at ∷ entries_placed place (rank + 1) ys) all.0.0
     ∙ ap (λ (n : ℕ). a_record attributes n at ∷ entries_placed place (rank + 1) ys) all.0.1
-    ∙ ap (λ (es : List (Entry ℕ)). a_record attributes id at ∷ es) more
+    ∙ ap (λ (es : List (Entry ℕ)). a_record attributes id at ∷ es) (placed_back place (rank + 1) xs ys all.1 (λ k less. at_next place rank k _ (each (suc k) (omega arith))))
 placed_back place rank (a_resource kind id at ∷ xs) (a_resource other_kind other_id block ∷ ys) all each =
-    let here : rank + 0 ≡ rank = omega arith in
-    let first = sym (ap place here) ∙ each 0 (omega arith) in
-    let more = placed_back place (rank + 1) xs ys all.1 (λ k less. (let next : rank + 1 + k ≡ rank + suc k = omega arith in ap place next ∙ each (suc k) (omega arith))) in
-    ap (λ (n : ℕ). a_resource other_kind other_id n ∷ entries_placed place (rank + 1) ys) first
+    ap (λ (n : ℕ). a_resource other_kind other_id n ∷ entries_placed place (rank + 1) ys) (at_first place rank at (each 0 (omega arith)))
     ∙ ap (λ (n : ℕ). a_resource n other_id at ∷ entries_placed place (rank + 1) ys) all.0.0
     ∙ ap (λ (n : ℕ). a_resource kind n at ∷ entries_placed place (rank + 1) ys) all.0.1
-    ∙ ap (λ (es : List (Entry ℕ)). a_resource kind id at ∷ es) more
+    ∙ ap (λ (es : List (Entry ℕ)). a_resource kind id at ∷ es) (placed_back place (rank + 1) xs ys all.1 (λ k less. at_next place rank k _ (each (suc k) (omega arith))))
 placed_back place rank (a_record attributes id at ∷ xs) (a_resource kind other_id block ∷ ys) all each = absurd all.0
 placed_back place rank (a_resource kind id at ∷ xs) (a_record attributes other_id block ∷ ys) all each = absurd all.0
 

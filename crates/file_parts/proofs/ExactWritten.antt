@@ -11,7 +11,7 @@ use Rattle.palm_text.proofs.Parts.{then, stops}
 use Rattle.file_parts.specs.declared.packing.PackFault.{PackFault}
 use Rattle.file_parts.specs.declared.packing.PackFault.TheVariants as packs
 use Rattle.file_parts.specs.declared.exact_writing.PlaceFault.TheVariants.{TooLarge}
-use Rattle.file_parts.specs.Exact.{ExactFile, exact_block, exact_blocks, exact_bytes, exact_offset, exact_placed, exact_size, exact_start}
+use Rattle.file_parts.specs.Exact.{ExactFile, exact_block, exact_blocks, exact_bytes, exact_offset, exact_placed, exact_size, exact_start, exact_tail}
 use Rattle.file_parts.specs.ExactListed.{AreOffsets}
 use Rattle.file_parts.specs.ExactWriting.{HasValuesAt, IsOrdered, IsPlaceFault}
 use Rattle.file_parts.specs.Packing.{IsRefusedFor}
@@ -90,22 +90,36 @@ blocks_none exact i past = ap (blocks_of (exact_block exact)) (drop_all i exact.
 
 -- ---- its bytes
 
--- the header, and what comes after it
-abbrev pub head_text : ExactFile → List ℕ
-head_text exact = (exact.database.header.name ++ exact.after_name) ++ concat (fields_behind_name (exact_placed exact))
+abbrev pub name_text : ExactFile → List ℕ
+name_text exact = exact.database.header.name ++ exact.after_name
 
-abbrev pub body_text : ExactFile → List ℕ
-body_text exact = flat_map entry_bytes (exact_placed exact).entries ++ (exact.filler ++ exact_blocks exact)
+abbrev pub fields_text : ExactFile → List ℕ
+fields_text exact = concat (fields_behind_name (exact_placed exact))
 
-bytes_is : (exact : ExactFile) → head_text exact ++ body_text exact ≡ exact_bytes exact
+abbrev pub entries_text : ExactFile → List ℕ
+entries_text exact = flat_map entry_bytes (exact_placed exact).entries
+
+bytes_is : (exact : ExactFile) → name_text exact ++ (fields_text exact ++ (entries_text exact ++ exact_tail exact)) ≡ exact_bytes exact
 unfolding exact_bytes
-bytes_is exact =
-    append_assoc (exact.database.header.name ++ exact.after_name) (concat (fields_behind_name (exact_placed exact))) (body_text exact)
-    ∙ append_assoc exact.database.header.name exact.after_name (concat (fields_behind_name (exact_placed exact)) ++ body_text exact)
+bytes_is exact = append_assoc exact.database.header.name exact.after_name (fields_text exact ++ (entries_text exact ++ exact_tail exact))
 
-module _ {W : Type 0} (contents : W → Option (List ℕ)) where
-  pub then_body : (exact : ExactFile) (old mid new : Writing W) (ok : Bool) → Writes contents old mid (head_text exact) true → Writes contents mid new (body_text exact) ok → Writes contents old new (exact_bytes exact) ok
-  then_body exact old mid new ok first rest = subst (λ (text : List ℕ). Writes contents old new text ok) (bytes_is exact) (then contents old mid new (head_text exact) (body_text exact) ok first rest)
+-- what is written in parts, up to one that fails or to the end
+module _ {W : Type 0} (contents : W → Option (List ℕ)) (exact : ExactFile) (old named : Writing W) where
+  pub stops_name : Writes contents old named (name_text exact) false → Writes contents old named (exact_bytes exact) false
+  stops_name name = subst (λ (text : List ℕ). Writes contents old named text false) (bytes_is exact) (stops contents old named (name_text exact) _ name)
 
-  pub stops_head : (exact : ExactFile) (old new : Writing W) → Writes contents old new (head_text exact) false → Writes contents old new (exact_bytes exact) false
-  stops_head exact old new first = subst (λ (text : List ℕ). Writes contents old new text false) (bytes_is exact) (stops contents old new (head_text exact) (body_text exact) first)
+  after_name : (new : Writing W) (ok : Bool) → Writes contents old named (name_text exact) true
+      → Writes contents named new (fields_text exact ++ (entries_text exact ++ exact_tail exact)) ok → Writes contents old new (exact_bytes exact) ok
+  after_name new ok name more = subst (λ (text : List ℕ). Writes contents old new text ok) (bytes_is exact) (then contents old named new (name_text exact) _ ok name more)
+
+  pub stops_fields : (new : Writing W) → Writes contents old named (name_text exact) true → Writes contents named new (fields_text exact) false → Writes contents old new (exact_bytes exact) false
+  stops_fields new name fields = after_name new false name (stops contents named new (fields_text exact) _ fields)
+
+  pub stops_entries : (headed new : Writing W) → Writes contents old named (name_text exact) true → Writes contents named headed (fields_text exact) true
+      → Writes contents headed new (entries_text exact) false → Writes contents old new (exact_bytes exact) false
+  stops_entries headed new name fields entries = after_name new false name (then contents named headed new (fields_text exact) _ false fields (stops contents headed new (entries_text exact) _ entries))
+
+  pub all_written : (headed listed new : Writing W) (ok : Bool) → Writes contents old named (name_text exact) true → Writes contents named headed (fields_text exact) true
+      → Writes contents headed listed (entries_text exact) true → Writes contents listed new (exact_tail exact) ok → Writes contents old new (exact_bytes exact) ok
+  all_written headed listed new ok name fields entries tail =
+      after_name new ok name (then contents named headed new (fields_text exact) _ ok fields (then contents headed listed new (entries_text exact) _ ok entries tail))

@@ -10,6 +10,7 @@ use Rattle.heap_model.specs.Files.{block_bytes, block_offset, block_size, entrie
 use Rattle.pdb_format.proofs.WrittenOffsets.{all_bytes, running}
 use Rattle.file_parts.specs.Exact.{ExactFile, entries_placed, exact_block, exact_blocks, exact_bytes, exact_offset, exact_placed, exact_start, offset_among}
 use Rattle.file_parts.specs.ExactTexts.{is_other, order_of}
+use Rattle.file_parts.proofs.ExactBlocks.{at_first, at_next}
 use Rattle.file_parts.proofs.ExactBlocksBack.{offset_none}
 use Rattle.file_parts.proofs.ExactInside.{times_below}
 
@@ -108,17 +109,11 @@ order_bytes blocks =
 entries_listed : (place : ℕ → ℕ) (rank at : ℕ) (es : List (Entry (Option (List ℕ)))) → ((k : ℕ) → k < length es → place (rank + k) ≡ get_or (running at (map entry_data es)) k 0) → entries_placed place rank es ≡ entries_with_offsets at es
 entries_listed place rank at [] each = refl
 entries_listed place rank at (a_record attributes id block ∷ es) each =
-    let here : rank + 0 ≡ rank = omega arith in
-    let first = sym (ap place here) ∙ each 0 (omega arith) in
-    let more = entries_listed place (rank + 1) (at + block_size block) es (λ k less. (let next : rank + 1 + k ≡ rank + suc k = omega arith in ap place next ∙ each (suc k) (omega arith))) in
-    ap (λ (n : ℕ). a_record attributes id n ∷ entries_placed place (rank + 1) es) first
-    ∙ ap (λ (xs : List (Entry ℕ)). a_record attributes id (block_offset at block) ∷ xs) more
+    ap (λ (n : ℕ). a_record attributes id n ∷ entries_placed place (rank + 1) es) (at_first place rank _ (each 0 (omega arith)))
+    ∙ ap (λ (xs : List (Entry ℕ)). a_record attributes id (block_offset at block) ∷ xs) (entries_listed place (rank + 1) (at + block_size block) es (λ k less. at_next place rank k _ (each (suc k) (omega arith))))
 entries_listed place rank at (a_resource kind id block ∷ es) each =
-    let here : rank + 0 ≡ rank = omega arith in
-    let first = sym (ap place here) ∙ each 0 (omega arith) in
-    let more = entries_listed place (rank + 1) (at + block_size block) es (λ k less. (let next : rank + 1 + k ≡ rank + suc k = omega arith in ap place next ∙ each (suc k) (omega arith))) in
-    ap (λ (n : ℕ). a_resource kind id n ∷ entries_placed place (rank + 1) es) first
-    ∙ ap (λ (xs : List (Entry ℕ)). a_resource kind id (block_offset at block) ∷ xs) more
+    ap (λ (n : ℕ). a_resource kind id n ∷ entries_placed place (rank + 1) es) (at_first place rank _ (each 0 (omega arith)))
+    ∙ ap (λ (xs : List (Entry ℕ)). a_resource kind id (block_offset at block) ∷ xs) (entries_listed place (rank + 1) (at + block_size block) es (λ k less. at_next place rank k _ (each (suc k) (omega arith))))
 
 whole : DatabaseHeader → ℕ → ℕ → List (Entry ℕ) → Database ℕ
 whole header app sort entries = record { header = header; app_info = app; sort_info = sort; entries = entries }

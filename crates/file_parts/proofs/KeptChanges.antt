@@ -32,7 +32,7 @@ use Rattle.file_parts.proofs.ExactRanks.{order_back}
 use Rattle.file_parts.proofs.ExactRising.{rising_all}
 use Rattle.file_parts.proofs.ExactSpelled.{bytes_are, order_sorted, placed_is}
 use Rattle.file_parts.proofs.KeptBlocks.{placed_listed}
-use Rattle.file_parts.proofs.KeptForms.{read_idle}
+use Rattle.file_parts.proofs.KeptForms.{entries_idle, read_idle}
 use Rattle.file_parts.proofs.ReplacedSound.{there_as}
 
 -- an entry that the busy bit wouldn't change
@@ -158,19 +158,6 @@ order_said false word file order blocks exact b is says same listed =
 
 -- ---- the entries
 
-idle_there : (xs : List (Entry ℕ)) (es : List (Entry (Option (List ℕ)))) → AllZip HasValuesOf xs es → All IsIdle xs → map idle_entry es ≡ es
-idle_there [] [] zip all = refl
-idle_there [] (e ∷ es) zip all = absurd zip
-idle_there (x ∷ xs) [] zip all = absurd zip
-idle_there (a_record attributes id at ∷ xs) (a_resource kind other block ∷ es) zip all = absurd zip.0
-idle_there (a_resource kind id at ∷ xs) (a_record attributes other block ∷ es) zip all = absurd zip.0
-idle_there (a_record attributes id at ∷ xs) (a_record same other block ∷ es) zip all =
-    let still = All-head IsIdle (a_record attributes id at) xs all in
-    ap (λ (n : ℕ). a_record n other block ∷ map idle_entry es) (ap idle_attributes zip.0.0 ∙ still ∙ sym zip.0.0)
-    ∙ ap (λ (ys : List (Entry (Option (List ℕ)))). a_record same other block ∷ ys) (idle_there xs es zip.1 (All-tail IsIdle (a_record attributes id at) xs all))
-idle_there (a_resource kind id at ∷ xs) (a_resource same other block ∷ es) zip all =
-    ap (λ (ys : List (Entry (Option (List ℕ)))). a_resource same other block ∷ ys) (idle_there xs es zip.1 (All-tail IsIdle (a_resource kind id at) xs all))
-
 idle_said : (xs : List (Entry ℕ)) (es : List (Entry (Option (List ℕ)))) → AllZip HasValuesOf xs es → All IsStill es → All IsIdle xs
 idle_said [] [] zip all = All-nil IsIdle
 idle_said [] (e ∷ es) zip all = absurd zip
@@ -198,15 +185,26 @@ ids_zip (a_record attributes id at ∷ xs) (a_record same other block ∷ es) zi
     ap (λ (n : ℕ). n ∷ filter_map unique_id es) zip.0.1 ∙ ap (λ (ns : List ℕ). id ∷ ns) (ids_zip xs es zip.1)
 ids_zip (a_resource kind id at ∷ xs) (a_resource same other block ∷ es) zip = ids_zip xs es zip.1
 
+-- element by element with a list whose elements have a property
+zip_with : {X Y : Type 0} (R S : X → Y → Type 0) (P : X → Type 0) (xs : List X) (ys : List Y)
+    → AllZip R xs ys → All P xs → ((x : X) (y : Y) → R x y → P x → S x y) → AllZip S xs ys
+zip_with R S P [] [] zip all each = tt
+zip_with R S P [] (y ∷ ys) zip all each = absurd zip
+zip_with R S P (x ∷ xs) [] zip all each = absurd zip
+zip_with R S P (x ∷ xs) (y ∷ ys) zip all each =
+    (each x y zip.0 (All-head P x xs all), zip_with R S P xs ys zip.1 (All-tail P x xs all) each)
+
+read_one : (x : Entry ℕ) (e : Entry (Option (List ℕ))) → HasValuesOf x e → IsIdle x → IsReadAs x e
+read_one (a_record attributes id at) (a_resource kind other block) values still = absurd values
+read_one (a_resource kind id at) (a_record attributes other block) values still = absurd values
+read_one (a_record attributes id at) (a_record same other block) values still = values.0 ∙ sym still
+read_one (a_resource kind id at) (a_resource same other block) values still = values
+
 read_zip : (xs : List (Entry ℕ)) (es : List (Entry (Option (List ℕ)))) → AllZip HasValuesOf xs es → All IsIdle xs → AllZip IsReadAs xs es
-read_zip [] [] zip all = tt
-read_zip [] (e ∷ es) zip all = absurd zip
-read_zip (x ∷ xs) [] zip all = absurd zip
-read_zip (a_record attributes id at ∷ xs) (a_resource kind other block ∷ es) zip all = absurd zip.0
-read_zip (a_resource kind id at ∷ xs) (a_record attributes other block ∷ es) zip all = absurd zip.0
-read_zip (a_record attributes id at ∷ xs) (a_record same other block ∷ es) zip all =
-    (zip.0.0 ∙ sym (All-head IsIdle (a_record attributes id at) xs all), read_zip xs es zip.1 (All-tail IsIdle (a_record attributes id at) xs all))
-read_zip (a_resource kind id at ∷ xs) (a_resource same other block ∷ es) zip all = (zip.0, read_zip xs es zip.1 (All-tail IsIdle (a_resource kind id at) xs all))
+read_zip xs es zip all = zip_with HasValuesOf IsReadAs IsIdle xs es zip all read_one
+
+idle_there : (xs : List (Entry ℕ)) (es : List (Entry (Option (List ℕ)))) → AllZip HasValuesOf xs es → All IsIdle xs → map idle_entry es ≡ es
+idle_there xs es zip all = entries_idle xs es (read_zip xs es zip all)
 
 -- ---- the database
 

@@ -13,20 +13,19 @@ use Rattle.file_parts.specs.ExactTexts.{order_of}
 use Rattle.file_parts.specs.Keeping.{keeps_nothing, kept_exact}
 use Rattle.file_parts.specs.declared.keep.Keep.{Keep}
 use Rattle.file_parts.proofs.KeptBlocks.{bytes_listed}
+use Rattle.file_parts.proofs.PackedBack.{zip_idle}
 
 -- ---- a database that is read has no busy record
 
-entries_idle : (es : List (Entry ℕ)) (fs : List (Entry (Option (List ℕ)))) → AllZip IsReadAs es fs → map idle_entry fs ≡ fs
-entries_idle [] [] zip = refl
-entries_idle [] (f ∷ fs) zip = absurd zip
-entries_idle (e ∷ es) [] zip = absurd zip
-entries_idle (a_record attributes id at ∷ es) (a_resource kind other block ∷ fs) zip = absurd zip.0
-entries_idle (a_resource kind id at ∷ es) (a_record attributes other block ∷ fs) zip = absurd zip.0
-entries_idle (a_record attributes id at ∷ es) (a_record idle_ones other block ∷ fs) zip =
-    ap (λ (n : ℕ). a_record n other block ∷ map idle_entry fs) (ap idle_attributes zip.0 ∙ sym (idle_twice attributes) ∙ sym zip.0)
-    ∙ ap (λ (xs : List (Entry (Option (List ℕ)))). a_record idle_ones other block ∷ xs) (entries_idle es fs zip.1)
-entries_idle (a_resource kind id at ∷ es) (a_resource other_kind other block ∷ fs) zip =
-    ap (λ (xs : List (Entry (Option (List ℕ)))). a_resource other_kind other block ∷ xs) (entries_idle es fs zip.1)
+read_still : (e : Entry ℕ) (f : Entry (Option (List ℕ))) → IsReadAs e f → idle_entry f ≡ f
+read_still (a_record attributes id at) (a_resource kind other block) is = absurd is
+read_still (a_resource kind id at) (a_record attributes other block) is = absurd is
+read_still (a_record attributes id at) (a_record idle_ones other block) is =
+    ap (λ (n : ℕ). a_record n other block) (ap idle_attributes is ∙ sym (idle_twice attributes) ∙ sym is)
+read_still (a_resource kind id at) (a_resource other_kind other block) is = refl
+
+pub entries_idle : (es : List (Entry ℕ)) (fs : List (Entry (Option (List ℕ)))) → AllZip IsReadAs es fs → map idle_entry fs ≡ fs
+entries_idle es fs zip = zip_idle IsReadAs es fs zip read_still
 
 with_entries : Database (Option (List ℕ)) → List (Entry (Option (List ℕ))) → Database (Option (List ℕ))
 with_entries d entries = record d { entries = entries }

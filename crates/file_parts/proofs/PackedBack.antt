@@ -1,6 +1,7 @@
 -- A file that is taken apart is put together as its canonical form.
 use Rattle.std.proofs.Common.{◌≡◌, ◌≢◌, ℕ, suc, ◌+◌, ◌^◌, ◌<◌, ◌≤◌, Bool, true, false, Option, None, List, [], ◌∷◌, length, map, get_or, refl, sym, ap, subst, ◌∙◌, arith}
 use Rattle.std.specs.Prelude.{All}
+use Rattle.std.specs.List.{AllZip}
 use Rattle.std.proofs.lemmas.Nat.{and_le_l}
 use Rattle.byteorder.specs.Numbers.{big_from-lt}
 use Rattle.heap_model.specs.Bytes.{AreBytes, u16_at, u32_at}
@@ -10,6 +11,7 @@ use Rattle.heap_model.specs.Database.{Database, Entry, a_record, a_resource, IsD
 use Rattle.heap_model.specs.Store.{unique_ids}
 use Rattle.heap_model.specs.Files.{HasNoFault, Reads, blocks_in, idle, idle_entry, file_of}
 use Rattle.heap_model.specs.FileSteps.{size_of_block}
+use Rattle.laws_store.proofs.Shapes.{header_fits}
 use Rattle.pdb_format.specs.Opened.{HasPlaces}
 use Rattle.pdb_format.specs.declared.blocks.Block.{Block}
 use Rattle.pdb_format.specs.Writable.{IsWritableEntry, HasFile}
@@ -24,6 +26,7 @@ use Rattle.pdb_format.proofs.WrittenOffsets.{all_bytes}
 use Rattle.canonical_file.specs.Canonical.{IsCanonical}
 use Rattle.canonical_file.proofs.BlockTexts.{blocks_long}
 use Rattle.canonical_file.proofs.Headers.{first_is}
+use Rattle.canonical_file.proofs.Kept.{fits_seeded}
 use Rattle.file_parts.specs.declared.unpacked.Unpacked.{Unpacked}
 use Rattle.file_parts.specs.Unpacking.{IsUnpacked, database_of}
 use Rattle.file_parts.specs.Laws.{PacksBack}
@@ -45,19 +48,7 @@ named file ids seed good = file_named file good
 
 fits : (file ids : List ℕ) (seed : ℕ) → AreBytes file → seed ≤ greatest_id → HeaderFits (database_read file ids seed).header
 unfolding database_read header_in
-fits file ids seed bytes small =
-    let field = u32_small file 68 bytes in
-    record {
-      attributes = u16_small file 32 bytes;
-      version = u16_small file 34 bytes;
-      creation_date = u32_small file 36 bytes;
-      modification_date = u32_small file 40 bytes;
-      backup_date = u32_small file 44 bytes;
-      modification_number = u32_small file 48 bytes;
-      kind = u32_small file 60 bytes;
-      creator = u32_small file 64 bytes;
-      seed = omega arith;
-    }
+fits file ids seed bytes small = fits_seeded (header_in file) seed (header_fits file bytes) small
 
 -- ---- the entries
 
@@ -139,6 +130,17 @@ all_idle [] each = refl
 all_idle (e ∷ es) each =
     let first : idle_entry e ≡ e = each 0 e (omega arith) in
     let rest = all_idle es (λ k d inside. each (suc k) d (omega arith)) in
+    λ i. first i ∷ rest i
+
+-- the same of entries beside others
+pub zip_idle : {X : Type 0} (R : X → Entry (Option (List ℕ)) → Type 0) (xs : List X) (es : List (Entry (Option (List ℕ))))
+    → AllZip R xs es → ((x : X) (e : Entry (Option (List ℕ))) → R x e → idle_entry e ≡ e) → map idle_entry es ≡ es
+zip_idle R [] [] zip each = refl
+zip_idle R [] (e ∷ es) zip each = absurd zip
+zip_idle R (x ∷ xs) [] zip each = absurd zip
+zip_idle R (x ∷ xs) (e ∷ es) zip each =
+    let first : idle_entry e ≡ e = each x e zip.0 in
+    let rest = zip_idle R xs es zip.1 each in
     λ i. first i ∷ rest i
 
 entries_idle : (file ids : List ℕ) → map idle_entry (entries_read file ids) ≡ entries_read file ids

@@ -7,7 +7,7 @@ use Rattle.std.proofs.lemmas.List.Elements.{All-head, All-tail, All-nil, All-con
 use Rattle.heap_model.specs.UniqueIds.{greatest_id, seed_in}
 use Rattle.heap_model.specs.Database.{Database, DatabaseHeader, Entry, a_record, a_resource, entry_data, entry_offset, has_resources, is_deleted, IsDatabaseName, HeaderFits}
 use Rattle.heap_model.specs.Store.{unique_id, unique_ids}
-use Rattle.heap_model.specs.Files.{kept_ids, idle, idle_entry, Reads, first_block, file_of}
+use Rattle.heap_model.specs.Files.{kept_ids, idle, idle_attributes, idle_entry, Reads, first_block, file_of}
 use Rattle.pdb_format.specs.Writable.{IsWritableEntry, file_size, HasFile, IsKeptAs, IsReadBack}
 use Rattle.pdb_format.proofs.WrittenFiles.{file_reads, idle_twice, read_back, still_deleted}
 use Rattle.pdb_format.proofs.WrittenOffsets.{all_bytes}
@@ -16,7 +16,7 @@ use Rattle.canonical_file.specs.Canonical.{IsCanonical}
 use Rattle.canonical_file.proofs.GivenFit.{given_fit}
 use Rattle.canonical_file.proofs.Kept.{fits_seeded}
 use Rattle.file_parts.specs.Laws.{UnpacksBack}
-use Rattle.file_parts.proofs.PackedBack.{none_zero}
+use Rattle.file_parts.proofs.PackedBack.{none_zero, zip_idle}
 
 -- ---- the IDs that are given
 
@@ -41,18 +41,15 @@ kept_count (e ∷ es) [] all = absurd all
 kept_count (e ∷ es) (f ∷ fs) all = let rest = kept_count es fs all.1 in omega arith
 
 -- no record is busy
+kept_still : (e f : Entry (Option (List ℕ))) → IsKeptAs e f → idle_entry f ≡ f
+kept_still (a_record attributes id block) (a_record idle_ones other other_block) is =
+    ap (λ (n : ℕ). a_record n other other_block) (ap idle_attributes is ∙ sym (idle_twice attributes) ∙ sym is)
+kept_still (a_record attributes id block) (a_resource kind other other_block) is = absurd is
+kept_still (a_resource kind id block) (a_record attributes other other_block) is = absurd is
+kept_still (a_resource kind id block) (a_resource other_kind other other_block) is = refl
+
 kept_idle : (es fs : List (Entry (Option (List ℕ)))) → AllZip IsKeptAs es fs → map idle_entry fs ≡ fs
-kept_idle [] [] all = refl
-kept_idle [] (f ∷ fs) all = absurd all
-kept_idle (e ∷ es) [] all = absurd all
-kept_idle (a_record attributes id block ∷ es) (a_record other_attributes other_id other_block ∷ fs) all =
-    let once = idle_twice attributes in
-    let is = all.0 in
-    let rest = kept_idle es fs all.1 in
-    cc
-kept_idle (a_record attributes id block ∷ es) (a_resource other_kind other_id other_block ∷ fs) all = absurd all.0
-kept_idle (a_resource kind id block ∷ es) (a_record other_attributes other_id other_block ∷ fs) all = absurd all.0
-kept_idle (a_resource kind id block ∷ es) (a_resource other_kind other_id other_block ∷ fs) all = ap (λ (xs : List (Entry (Option (List ℕ)))). a_resource other_kind other_id other_block ∷ xs) (kept_idle es fs all.1)
+kept_idle es fs all = zip_idle IsKeptAs es fs all kept_still
 
 one_record : (attributes id other_attributes other_id : ℕ) (block other_block : Option (List ℕ)) → IsWritableEntry false (a_record attributes id block) → other_attributes ≡ bit_and attributes 0xDF → other_id ≤ greatest_id → other_block ≡ block
     → IsWritableEntry false (a_record other_attributes other_id other_block)

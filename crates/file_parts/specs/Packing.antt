@@ -1,11 +1,14 @@
 -- The file that is put together from parts.
-use Rattle.std.specs.Prelude.{◌≡◌, ◌+◌, ◌≤◌, ◌<◌, ⊤, ℕ, List, [], ◌∷◌, length, slice_index_or, Option, Some, None}
+use Rattle.std.specs.Prelude.{◌≡◌, ◌+◌, ◌≤◌, ◌<◌, ⊤, ℕ, List, [], ◌∷◌, ◌++◌, length, slice_index_or, Option, Some, None}
 use Rattle.heap_model.specs.Database.{Database, Entry, data_in, entry_with}
-use Rattle.heap_model.specs.Files.{block_size, first_block}
+use Rattle.heap_model.specs.Files.{block_size, file_of, first_block}
+use Rattle.pdb_format.specs.FileTexts.{blocks_text}
+use Rattle.pdb_format.specs.Writable.{file_size}
 use Rattle.canonical_file.specs.Canonical.{most_bytes}
 use Rattle.file_parts.specs.Listed.{IsListed, database_listed, entries_listed}
 use Rattle.file_parts.specs.declared.entries.ListedEntry.{ListedEntry}
 use Rattle.file_parts.specs.declared.listed.Listed.{Listed}
+use Rattle.file_parts.specs.declared.packing.FileHead.{FileHead}
 use Rattle.file_parts.specs.declared.packing.Places.{Places}
 use Rattle.file_parts.specs.declared.packing.PackFault.{PackFault}
 use Rattle.file_parts.specs.declared.packing.PackFault.TheVariants.{TooLarge, BadLine, OutOfMemory}
@@ -46,6 +49,14 @@ pub record HasPartsOf (listed : Listed) (parts : List (List ℕ)) : Type 0 where
 -- the database with the bytes of the parts
 abbrev pub database_of_parts : Listed → List (List ℕ) → Database (Option (List ℕ))
 database_of_parts listed parts = with_parts parts (database_listed listed)
+
+-- the bytes before the blocks in the file of a database with these parts, and the size of the file,
+-- which isn't too large
+pub record IsHeadOf (listed : Listed) (parts : List (List ℕ)) (head : FileHead) : Type 0 where
+  pub has : HasPartsOf listed parts
+  pub file : file_of (database_of_parts listed parts) ≡ head.bytes.items ++ blocks_text (database_of_parts listed parts)
+  pub size : head.size ≡ file_size (database_of_parts listed parts)
+  pub most : file_size (database_of_parts listed parts) ≤ most_bytes
 
 -- the offsets at which the blocks of the file of a database begin
 pub record AreBlockPlaces (database : Database (Option (List ℕ))) (places : Places) : Type 0 where

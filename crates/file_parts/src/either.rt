@@ -4,9 +4,6 @@ ghost use Rattle.std.specs.Prelude.{◌≡◌, ◌≢◌, ◌≤◌, ◌<◌, �
 ghost use Rattle.palm_text.specs.Counted.{Writes};
 ghost use Rattle.canonical_file.specs.Canonical.{most_bytes};
 ghost use Rattle.file_parts.specs.Unpacking.{IsUnpackFault};
-ghost use Rattle.file_parts.specs.Reading.{read_database};
-ghost use Rattle.file_parts.specs.ExactReading.{read_exact_from};
-ghost use Rattle.file_parts.specs.Either as folders;
 ghost use Rattle.file_parts.specs.Either.{IsFaultyText, IsListedFolder, IsReadFrom, IsTakenApart, IsTakenPart, IsTextOf, PacksFolderBack, ReadsFolder, file_taken, folder_count, folder_part, form_taken, taken_count, taken_part};
 
 use crate::exact_lines::read_exact_line;
@@ -137,44 +134,14 @@ pub fn read_folder<'a, A: Allowance>(
 {
     let mut lines = Lines::of(text);
     match read_exact_line(&mut lines) {
-        Ok(true) => read_exact_folder(memory, &mut lines),
-        Ok(false) => read_canonical_folder(memory, text),
-        Err(fault) => Err(fault),
-    }
-}
-
-/// Reads the text of an exact folder after its first line.
-fn read_exact_folder<'a, A: Allowance>(
-    memory: &A,
-    lines: &mut Lines<'a>,
-) -> Result<ListedFolder<'a>, LineFault>
-    ensures ok { IfOk result (folders.IsExactlyRead lines.old) }
-    ensures good { IfOk result IsListedFolder }
-    ensures err { IfErr result (λ fault. fault.fault ≢ ScriptFault.OutOfMemory
-        → read_exact_from lines.old ≡ Err fault) }
-    ensures no_memory { IfErr result (λ fault. fault.fault ≡ ScriptFault.OutOfMemory
-        → A.is_short memory.now) }
-{
-    match read_listed_exact(memory, lines) {
-        Ok(exact) => Ok(ListedFolder::Exact(exact)),
-        Err(fault) => Err(fault),
-    }
-}
-
-/// Reads the text of a folder that isn't exact.
-fn read_canonical_folder<'a, A: Allowance>(
-    memory: &A,
-    text: &'a [u8],
-) -> Result<ListedFolder<'a>, LineFault>
-    ensures ok { IfOk result (folders.IsCanonicallyRead text.now) }
-    ensures good { IfOk result IsListedFolder }
-    ensures err { IfErr result (λ fault. fault.fault ≢ ScriptFault.OutOfMemory
-        → read_database text.now ≡ Err fault) }
-    ensures no_memory { IfErr result (λ fault. fault.fault ≡ ScriptFault.OutOfMemory
-        → A.is_short memory.now) }
-{
-    match read_listed(memory, text) {
-        Ok(listed) => Ok(ListedFolder::Canonical(listed)),
+        Ok(true) => match read_listed_exact(memory, &mut lines) {
+            Ok(exact) => Ok(ListedFolder::Exact(exact)),
+            Err(fault) => Err(fault),
+        },
+        Ok(false) => match read_listed(memory, text) {
+            Ok(listed) => Ok(ListedFolder::Canonical(listed)),
+            Err(fault) => Err(fault),
+        },
         Err(fault) => Err(fault),
     }
 }

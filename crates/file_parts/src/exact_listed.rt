@@ -88,27 +88,9 @@ pub(crate) fn checked<'a, A: Allowance>(
         → A.is_short memory.now) }
 {
     match check_after_name(&exact.after_name, &listed.header.name) {
-        Ok(()) => with_ranks(memory, exact, listed),
-        Err(fault) => Err(fault),
+        Ok(()) => {}
+        Err(fault) => return Err(fault),
     }
-}
-
-/// Checks the lines `order`, and finds the ranks in their order.
-fn with_ranks<'a, A: Allowance>(
-    memory: &A,
-    exact: ExactLines<'a>,
-    listed: Listed<'a>,
-) -> Result<ListedExact<'a>, LineFault>
-    requires good { IsListed listed }
-    requires after { after_name_fault listed.header.name exact.after_name ≡ None }
-    ensures ok { IfOk result (λ read.
-        exact_with (head_of exact.entry) (Ok (database_listed listed.entry)) ≡ Ok (exact_listed read)) }
-    ensures good { IfOk result IsListedExact }
-    ensures err { IfErr result (λ fault. fault.fault ≢ ScriptFault.OutOfMemory
-        → exact_with (head_of exact.entry) (Ok (database_listed listed.entry)) ≡ Err fault) }
-    ensures no_memory { IfErr result (λ fault. fault.fault ≡ ScriptFault.OutOfMemory
-        → A.is_short memory.now) }
-{
     match ranks_of(memory, &listed, exact.order.as_slice()) {
         Ok(ranks) => Ok(ListedExact {
             lines: exact,

@@ -1,9 +1,9 @@
 //! Files of exact folders.
 
 ghost use Rattle.std.specs.Prelude.{◌≡◌, ◌≤◌, ◌<◌, ◌+◌, ◌++◌, ℕ, List, false, Err, IfOk, IfErr, OnOk, is_ok, length, replicate, slice_index};
-ghost use Rattle.std.specs.List.{concat, flat_map};
+ghost use Rattle.std.specs.List.{flat_map};
 ghost use Rattle.heap_model.specs.Database as databases;
-ghost use Rattle.heap_model.specs.Database.{data_in, entry_bytes, entry_with, fields_behind_name, has_resources};
+ghost use Rattle.heap_model.specs.Database.{data_in, entry_bytes, entry_with, has_resources, header_bytes};
 ghost use Rattle.heap_model.specs.Files.{block_bytes};
 ghost use Rattle.db_format.specs.EitherEntry.{entry_of, HasFittingId};
 ghost use Rattle.palm_text.specs.Counted.{Writes};
@@ -136,7 +136,7 @@ fn head_by<A: Allowance>(
     let mut bytes = Vec::new(memory.allocator());
     let offsets = places.offsets.as_slice();
     append_name(memory, exact, &mut bytes)?;
-    append_fields(memory, exact, offsets, &mut bytes)?;
+    append(memory, &mut bytes, &header_at(exact, offsets)[NAME_SIZE..])?;
     append_entries(memory, exact, offsets, &mut bytes)?;
     Ok(FileHead {
         bytes,
@@ -344,26 +344,18 @@ fn append_name<A: Allowance>(
     }
 }
 
-/// Appends the fields of the header after the name.
-fn append_fields<A: Allowance>(
-    memory: &A,
-    exact: &ListedExact<'_>,
-    offsets: &[u32],
-    bytes: &mut Vec<u8>,
-) -> Result<(), PackFault>
+/// Returns the bytes of the header with these offsets.
+fn header_at(exact: &ListedExact<'_>, offsets: &[u32]) -> [u8; DATABASE_HEADER_SIZE]
     requires good { IsListedExact exact.now }
     requires count { length offsets.now ≡ length (data_in (database_listed exact.now.listed)) }
-    ensures items { (parts : List (List ℕ)) → AreOffsets (exact_packed exact.now parts) offsets.now
-        → OnOk result (bytes.new.items ≡ bytes.old.items
-        ++ concat (fields_behind_name (exact_placed (exact_packed exact.now parts)))) }
-    ensures memory { IfErr result (λ fault. fault ≡ PackFault.OutOfMemory) }
-    ensures short { IfErr result (λ _. A.is_short memory.now) }
+    ensures { (parts : List (List ℕ)) → AreOffsets (exact_packed exact.now parts) offsets.now
+        → result ≡ header_bytes (exact_placed (exact_packed exact.now parts)) }
 {
     let mut header = exact.listed.header;
     header.app_info = offsets[0];
     header.sort_info = offsets[1];
     header.entry_count = exact.listed.entries.as_slice().len() as u16;
-    append(memory, bytes, &header.to_bytes()[NAME_SIZE..])
+    header.to_bytes()
 }
 
 /// Returns an entry with its data at an offset.

@@ -8,9 +8,9 @@ ghost use Rattle.file_parts.specs.Exact.{IsExactly, IsOrderOf};
 ghost use Rattle.file_parts.specs.ExactLaws.{PacksBackExactly};
 ghost use Rattle.file_parts.specs.ExactUnpacking.{IsExactPart, IsUnpackedExact, block_order, block_starts, exact_of, exact_part_at};
 
-use crate::unpacked::{Part, PartName, UnpackFault, part_of};
+use crate::unpacked::{Part, PartName, UnpackFault, open_file, part_of};
 use allowance::{Allowance, push};
-use pdb_format::{OpenFault, PdbFile};
+use pdb_format::PdbFile;
 use std::alloc::AllocError;
 
 /// A file, with the ranks of its blocks in their order.
@@ -54,26 +54,10 @@ pub fn unpack_exact<'a, A: Allowance>(
     ensures why { IfErr result (IsUnpackFault file.now) }
     ensures short { result ≡ Err UnpackFault.OutOfMemory → A.is_short memory.now }
 {
-    match PdbFile::open(memory, file) {
-        Ok(file) => ordered(memory, file),
-        Err(OpenFault::BadFile(fault)) => Err(UnpackFault::BadFile(fault)),
-        Err(OpenFault::OutOfMemory) => Err(UnpackFault::OutOfMemory),
-    }
-}
-
-/// Takes a file that is opened apart as it stands.
-fn ordered<'a, A: Allowance>(
-    memory: &A,
-    file: PdbFile<'a>,
-) -> Result<UnpackedExact<'a>, UnpackFault>
-    requires { length file ≤ most_bytes }
-    ensures same { IfOk result (λ unpacked. unpacked.file ≡ file.entry) }
-    ensures done { IfOk result IsUnpackedExact }
-    ensures exactly { IfOk result (λ unpacked. IsExactly unpacked.file (exact_of unpacked)) }
-    ensures packs { IfOk result (λ unpacked. PacksBackExactly unpacked.file (exact_of unpacked)) }
-    ensures memory { IfErr result (λ fault. fault ≡ UnpackFault.OutOfMemory) }
-    ensures short { IfErr result (λ _. A.is_short memory.now) }
-{
+    let file = match open_file(memory, file) {
+        Ok(file) => file,
+        Err(fault) => return Err(fault),
+    };
     file.know_file();
     match ranks_in(memory, &file) {
         Ok(ranks) => Ok(UnpackedExact { file, ranks }),

@@ -1,8 +1,8 @@
 //! Exact files that are written: the offsets of their blocks, and their bytes.
 
 ghost use Rattle.std.specs.Prelude.{◌≡◌, ◌≤◌, ◌<◌, ◌+◌, ◌++◌, Err, IfOk, IfErr, OnOk, is_ok, length, replicate, slice_index};
-ghost use Rattle.std.specs.List.{concat, flat_map};
-ghost use Rattle.heap_model.specs.Database.{IsDatabaseName, data_in, entry_bytes, fields_behind_name};
+ghost use Rattle.std.specs.List.{flat_map};
+ghost use Rattle.heap_model.specs.Database.{IsDatabaseName, data_in, entry_bytes, header_bytes};
 ghost use Rattle.heap_model.specs.Files.{block_bytes};
 ghost use Rattle.palm_text.specs.Counted.{Writes};
 ghost use Rattle.canonical_file.specs.Canonical.{most_bytes};
@@ -15,7 +15,7 @@ ghost use Rattle.file_parts.specs.ExactWriting.{AreExactPlaces, HasValuesAt, IsO
 use crate::exact_packing::entry_at;
 use crate::packing::end_of;
 use allowance::{Allowance, filled};
-use db_format::{DbEntry, DbHeader, INFO_BLOCKS, NAME_SIZE};
+use db_format::{DATABASE_HEADER_SIZE, DbEntry, DbHeader, INFO_BLOCKS, NAME_SIZE};
 use palm_text::{Counted, WriteFault, put_all};
 use std::io::Write;
 use thiserror::Error;
@@ -160,7 +160,6 @@ pub(crate) fn place_blocks<A: Allowance, S: ExactSource>(
 /// # Errors
 ///
 /// - `WriteFault`: if a write failed, or took 0 bytes.
-#[tactic(auto, unfolding(crate::specs::Exact::exact_bytes))]
 pub(crate) fn put_exact<S: ExactSource, W: Write>(
     out: &mut Counted<W>,
     source: &S,
@@ -170,63 +169,23 @@ pub(crate) fn put_exact<S: ExactSource, W: Write>(
     requires are { AreOffsets (S.exact source.now) offsets.now }
     ensures { Writes W.contents out.old out.new (exact_bytes (S.exact source.now)) (is_ok result) }
 {
-    match put_head(out, source, offsets) {
-        Ok(()) => put_body(out, source, offsets),
-        Err(fault) => Err(fault),
-    }
+    put_all(out, &source.name_field())?;
+    put_all(out, &header_at(source, offsets)[NAME_SIZE..])?;
+    put_entries(out, source, offsets)?;
+    put_tail(out, source)
 }
 
-/// Writes the header.
-fn put_head<S: ExactSource, W: Write>(
-    out: &mut Counted<W>,
-    source: &S,
-    offsets: &[u32],
-) -> Result<(), WriteFault>
+/// Returns the bytes of the header with these offsets.
+fn header_at<S: ExactSource>(source: &S, offsets: &[u32]) -> [u8; DATABASE_HEADER_SIZE]
     requires good { S.is_good source.now }
     requires are { AreOffsets (S.exact source.now) offsets.now }
-    ensures { Writes W.contents out.old out.new (((S.exact source.now).database.header.name
-        ++ (S.exact source.now).after_name)
-        ++ concat (fields_behind_name (exact_placed (S.exact source.now)))) (is_ok result) }
-{
-    match put_all(out, &source.name_field()) {
-        Ok(()) => put_fields(out, source, offsets),
-        Err(fault) => Err(fault),
-    }
-}
-
-/// Writes the fields of the header after the name.
-fn put_fields<S: ExactSource, W: Write>(
-    out: &mut Counted<W>,
-    source: &S,
-    offsets: &[u32],
-) -> Result<(), WriteFault>
-    requires good { S.is_good source.now }
-    requires are { AreOffsets (S.exact source.now) offsets.now }
-    ensures { Writes W.contents out.old out.new
-        (concat (fields_behind_name (exact_placed (S.exact source.now)))) (is_ok result) }
+    ensures is { result ≡ header_bytes (exact_placed (S.exact source.now)) }
+    ensures name { IsDatabaseName (S.exact source.now).database.header.name }
 {
     let mut header = source.header();
     header.app_info = offsets[0];
     header.sort_info = offsets[1];
-    put_all(out, &header.to_bytes()[NAME_SIZE..])
-}
-
-/// Writes the entries, the filler and the blocks.
-fn put_body<S: ExactSource, W: Write>(
-    out: &mut Counted<W>,
-    source: &S,
-    offsets: &[u32],
-) -> Result<(), WriteFault>
-    requires good { S.is_good source.now }
-    requires are { AreOffsets (S.exact source.now) offsets.now }
-    ensures { Writes W.contents out.old out.new
-        (flat_map entry_bytes (exact_placed (S.exact source.now)).entries
-        ++ ((S.exact source.now).filler ++ exact_blocks (S.exact source.now))) (is_ok result) }
-{
-    match put_entries(out, source, offsets) {
-        Ok(()) => put_tail(out, source),
-        Err(fault) => Err(fault),
-    }
+    header.to_bytes()
 }
 
 /// Writes the entries.

@@ -6,9 +6,8 @@ ghost use Rattle.heap_model.specs.DatabaseFields.{app_info_at, header_size};
 ghost use Rattle.heap_model.specs.Files.{file_of};
 ghost use Rattle.pdb_format.specs.FileStarts.{most_app, most_start};
 ghost use Rattle.pdb_format.specs.FileTexts.{blocks_text};
-ghost use Rattle.pdb_format.specs.Writable.{file_size};
-ghost use Rattle.canonical_file.specs.Canonical.{IsCanonical, most_bytes};
-ghost use Rattle.file_parts.specs.Packing.{HasPartsOf, database_of_parts};
+ghost use Rattle.canonical_file.specs.Canonical.{IsCanonical};
+ghost use Rattle.file_parts.specs.Packing.{HasPartsOf, IsHeadOf, database_of_parts};
 ghost use Rattle.file_parts.specs.PackedStarts.{StartsFile};
 
 use crate::listed::Listed;
@@ -135,11 +134,7 @@ fn start_of<A: Allowance>(
     parts: &[Bytes],
     head: FileHead,
 ) -> Result<Vec<u8>, PackFault>
-    requires parts { HasPartsOf listed.now parts.now }
-    requires file { file_of (database_of_parts listed.now parts.now)
-        ≡ head.bytes.items ++ blocks_text (database_of_parts listed.now parts.now) }
-    requires size { head.size ≡ file_size (database_of_parts listed.now parts.now) }
-    requires most { file_size (database_of_parts listed.now parts.now) ≤ most_bytes }
+    requires { IsHeadOf listed.now parts.now head }
     ensures starts { IfOk result (λ start. StartsFile
         (file_of (database_of_parts listed.now parts.now)) start.items head.size) }
     ensures memory { IfErr result (λ fault. fault ≡ PackFault.OutOfMemory) }
@@ -161,11 +156,7 @@ pub(crate) fn canonical_head_of<A: Allowance>(
     parts: &[Bytes],
     head: FileHead,
 ) -> Result<Vec<u8>, PackFault>
-    requires parts { HasPartsOf listed.now parts.now }
-    requires file { file_of (database_of_parts listed.now parts.now)
-        ≡ head.bytes.items ++ blocks_text (database_of_parts listed.now parts.now) }
-    requires size { head.size ≡ file_size (database_of_parts listed.now parts.now) }
-    requires most { file_size (database_of_parts listed.now parts.now) ≤ most_bytes }
+    requires { IsHeadOf listed.now parts.now head }
     ensures canonical { IfOk result (λ bytes.
         IsCanonical (file_of (database_of_parts listed.now parts.now))
         (bytes.items ++ blocks_text (database_of_parts listed.now parts.now))) }

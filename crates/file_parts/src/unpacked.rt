@@ -1,6 +1,6 @@
 //! Files that are taken apart.
 
-ghost use Rattle.std.specs.Prelude.{◌≡◌, ◌≤◌, ◌<◌, length, slice_index_or, Err, None, IfOk, IfErr, MatchOption};
+ghost use Rattle.std.specs.Prelude.{◌≡◌, ◌≤◌, ◌<◌, length, slice_index_or, Err, None, IfOk, IfErr, OnOk, MatchOption};
 ghost use Rattle.heap_model.specs.Files.{HasNoFault, Reads, blocks_in};
 ghost use Rattle.file_parts.specs.Laws.{PacksBack};
 ghost use Rattle.canonical_file.specs.Canonical.{most_bytes};
@@ -67,8 +67,24 @@ pub fn unpack<'a, A: Allowance>(memory: &A, file: &'a [u8]) -> Result<Unpacked<'
     ensures why { IfErr result (IsUnpackFault file.now) }
     ensures short { result ≡ Err UnpackFault.OutOfMemory → A.is_short memory.now }
 {
-    match PdbFile::open(memory, file) {
+    match open_file(memory, file) {
         Ok(file) => taken_apart(memory, file),
+        Err(fault) => Err(fault),
+    }
+}
+
+/// Opens a file that is taken apart.
+pub(crate) fn open_file<'a, A: Allowance>(
+    memory: &A,
+    file: &'a [u8],
+) -> Result<PdbFile<'a>, UnpackFault>
+    ensures same { IfOk result (λ opened. opened ≡ file.now) }
+    ensures good { OnOk result (HasNoFault file.now) }
+    ensures why { IfErr result (IsUnpackFault file.now) }
+    ensures short { result ≡ Err UnpackFault.OutOfMemory → A.is_short memory.now }
+{
+    match PdbFile::open(memory, file) {
+        Ok(file) => Ok(file),
         Err(OpenFault::BadFile(fault)) => Err(UnpackFault::BadFile(fault)),
         Err(OpenFault::OutOfMemory) => Err(UnpackFault::OutOfMemory),
     }

@@ -4,3 +4,4 @@ pub mod CellLaws
 pub mod LineLaws
 pub mod PieceLaws
 pub mod FaultLaws
+pub mod MoreParts

@@ -8,7 +8,7 @@ ghost use Rattle.store_check.specs.Checks.{SummarizesStore};
 ghost use Rattle.palm_text.specs.Counted.{Writes};
 ghost use Rattle.heap_map.specs.Pictures as pictures;
 ghost use Rattle.heap_map.specs.Pictures.{IsPicture, IsMapFault};
-ghost use Rattle.heap_map.specs.Text.{map_text, map_body, tail_lines};
+ghost use Rattle.heap_map.specs.Text.{map_text, tail_lines};
 
 use crate::cells::{cells_of, marks_of};
 use crate::numbers::database_numbers;
@@ -123,26 +123,8 @@ fn put_tail<W: Write>(
     put_databases(out, region)
 }
 
-/// Writes the rows, and the lines after them.
-#[tactic(auto, using(laws_heap::proofs::Lending::all_within, palm_text::proofs::Parts::then, palm_text::proofs::Parts::stops), unfolding(crate::specs::Text::map_body))]
-fn put_body<W: Write>(
-    out: &mut Counted<W>,
-    region: &Region,
-    summary: &Summary,
-    picture: &Picture,
-) -> Result<(), WriteFault>
-    requires whole { region.now.lents ≡ [] }
-    requires accepted { Accepted region.now.bytes }
-    requires summary { heaps.Summarizes region.now.bytes summary.now }
-    requires picture { IsPicture region.now.bytes picture.now }
-    ensures { Writes W.contents out.old out.new (map_body region.now.bytes) (is_ok result) }
-{
-    put_rows(out, area_start(region), picture.size, &picture.marks)?;
-    put_tail(out, region, summary)
-}
-
 /// Writes all lines.
-#[tactic(auto, using(palm_text::proofs::Parts::then, palm_text::proofs::Parts::stops), unfolding(crate::specs::Text::map_text))]
+#[tactic(auto, using(laws_heap::proofs::Lending::all_within, palm_text::proofs::Parts::then, palm_text::proofs::Parts::stops), unfolding(crate::specs::Text::map_text, crate::specs::Text::map_body))]
 fn put_lines<W: Write>(
     out: &mut Counted<W>,
     region: &Region,
@@ -162,7 +144,8 @@ fn put_lines<W: Write>(
         summary.movable,
         picture.size,
     )?;
-    put_body(out, region, summary, picture)
+    put_rows(out, area_start(region), picture.size, &picture.marks)?;
+    put_tail(out, region, summary)
 }
 
 /// Writes the picture of an image as text, and flushes nothing. It changes nothing.

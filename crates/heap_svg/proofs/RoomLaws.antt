@@ -185,25 +185,25 @@ kept_most start (suc more) rooms n most =
     let e : greatest (sizes (kept (some_room start more) ++ rooms)) ≡ max (suc more) (greatest (sizes rooms)) = ap (λ (ks : List Room). greatest (sizes (ks ++ rooms))) (kept_some start more) in
     omega arith
 
+-- what grows with each room by at most its size is at most the size of all chunks
+rooms_bound : (measure : List Room → ℕ) → measure [] ≤ 0 → ((start size : ℕ) (rooms : List Room) (n : ℕ) → measure rooms ≤ n → measure (kept (record { start = start; size = size }) ++ rooms) ≤ size + n)
+    → (start size at : ℕ) (cs : List Chunk) → measure (rooms_from (record { start = start; size = size }) at cs) ≤ size + total cs
+rooms_bound measure none more start size at [] =
+    let one = more start size [] 0 none in
+    let same = ap measure (append-nil (kept (record { start = start; size = size }))) in
+    omega arith
+rooms_bound measure none more start size at (free room ∷ cs) = let ih = rooms_bound measure none more start (size + room) (at + room) cs in omega arith
+rooms_bound measure none more start size at (movable bytes zero owner slot ∷ cs) = let ih = rooms_bound measure none more start size (at + need (length bytes)) cs in omega arith
+rooms_bound measure none more start size at (movable bytes (suc count) owner slot ∷ cs) =
+    let ih = more start size _ (0 + total cs) (rooms_bound measure none more (at + need (length bytes)) 0 (at + need (length bytes)) cs) in omega arith
+rooms_bound measure none more start size at (fixed bytes owner ∷ cs) =
+    let ih = more start size _ (0 + total cs) (rooms_bound measure none more (at + need (length bytes)) 0 (at + need (length bytes)) cs) in omega arith
+
 rooms_few : (start size at : ℕ) (cs : List Chunk) → length (rooms_from (record { start = start; size = size }) at cs) ≤ size + total cs
-rooms_few start zero at [] = omega arith
-rooms_few start (suc more) at [] = let same = ap (λ (ks : List Room). length ks) (kept_some start more) in omega arith
-rooms_few start size at (free more ∷ cs) = let ih = rooms_few start (size + more) (at + more) cs in omega arith
-rooms_few start size at (movable bytes zero owner slot ∷ cs) = let ih = rooms_few start size (at + need (length bytes)) cs in omega arith
-rooms_few start size at (movable bytes (suc count) owner slot ∷ cs) =
-    let ih = kept_few start size _ (0 + total cs) (rooms_few (at + need (length bytes)) 0 (at + need (length bytes)) cs) in omega arith
-rooms_few start size at (fixed bytes owner ∷ cs) =
-    let ih = kept_few start size _ (0 + total cs) (rooms_few (at + need (length bytes)) 0 (at + need (length bytes)) cs) in omega arith
+rooms_few = rooms_bound (λ rooms. length rooms) (omega arith) kept_few
 
 rooms_most : (start size at : ℕ) (cs : List Chunk) → greatest (sizes (rooms_from (record { start = start; size = size }) at cs)) ≤ size + total cs
-rooms_most start zero at [] = omega arith
-rooms_most start (suc more) at [] = let same = ap (λ (ks : List Room). greatest (sizes ks)) (kept_some start more) in omega arith
-rooms_most start size at (free more ∷ cs) = let ih = rooms_most start (size + more) (at + more) cs in omega arith
-rooms_most start size at (movable bytes zero owner slot ∷ cs) = let ih = rooms_most start size (at + need (length bytes)) cs in omega arith
-rooms_most start size at (movable bytes (suc count) owner slot ∷ cs) =
-    let ih = kept_most start size _ (0 + total cs) (rooms_most (at + need (length bytes)) 0 (at + need (length bytes)) cs) in omega arith
-rooms_most start size at (fixed bytes owner ∷ cs) =
-    let ih = kept_most start size _ (0 + total cs) (rooms_most (at + need (length bytes)) 0 (at + need (length bytes)) cs) in omega arith
+rooms_most = rooms_bound (λ rooms. greatest (sizes rooms)) (omega arith) kept_most
 
 all_inside : (image : List ℕ) → HeapAccepted image → area_start image + total (chunks_of image) ≡ length image
 all_inside image h = sym (SpelledAll-end image (area_start image) (chunks_of image) (length image) (read_heap image h).tiles.area)

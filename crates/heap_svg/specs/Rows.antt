@@ -88,8 +88,13 @@ strips_text line strips = flat_map (strip_text line) strips
 
 -- ---- at the left: the offset of the first byte
 
+-- the start of a text at a row: where it stands from the left, and its class
+unfoldable pub text_start : List ℕ → List ℕ → ℕ → List ℕ
+text_start x class row =
+    codes "<text x=\"" ++ (x ++ (codes "\" y=\"" ++ (decimal (pitch * row + 85) ++ (codes "\" class=\"" ++ (class ++ codes "\">")))))
+
 unfoldable pub label_text : ℕ → ℕ → List ℕ
-label_text line row = codes "<text x=\"68\" y=\"" ++ (decimal (pitch * row + 85) ++ (codes "\" class=\"n\">" ++ (decimal (line * row) ++ codes "</text>\n")))
+label_text line row = text_start (codes "68") (codes "n") row ++ (decimal (line * row) ++ codes "</text>\n")
 
 unfoldable pub labels_text : ℕ → ℕ → List ℕ
 labels_text line rows = concat (numbered (label_text line) rows)
@@ -105,7 +110,7 @@ unfoldable pub more_text : ℕ → List ℕ
 more_text others = if others == 0 then codes "</text>\n" else codes " and " ++ (decimal others ++ codes " more</text>\n")
 
 unfoldable pub largest_text : ℕ → ℕ → List ℕ
-largest_text row largest = codes "<text x=\"1082\" y=\"" ++ (decimal (pitch * row + 85) ++ (codes "\" class=\"r\">" ++ (decimal largest ++ codes " bytes")))
+largest_text row largest = text_start (codes "1082") (codes "r") row ++ (decimal largest ++ codes " bytes")
 
 unfoldable pub sizes_text : ℕ → ℕ → ℕ → List ℕ
 sizes_text row count largest = largest_text row largest ++ more_text (count - 1)

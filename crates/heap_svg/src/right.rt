@@ -4,30 +4,47 @@ ghost use Rattle.std.specs.Prelude.{◌≡◌, ◌≤◌, ◌<◌, ◌+◌, ◌*
 ghost use Rattle.heap_model.specs.Space.{greatest};
 ghost use Rattle.palm_text.specs.Counted.{Writes};
 ghost use Rattle.heap_svg.specs.Rows as texts;
-ghost use Rattle.heap_svg.specs.Rows.{label_text, labels_text, largest_text, more_text, right_text, rights_text, sizes_in};
+ghost use Rattle.heap_svg.specs.Rows.{label_text, labels_text, largest_text, more_text, right_text, rights_text, text_start, sizes_in};
 
 use crate::bytes_of_rows::PITCH;
 use crate::rooms::Room;
 use palm_text::{Counted, Piece, WriteFault, put_all, put_pieces};
 use std::io::Write;
 
+/// Writes the start of a text at a row: where it stands from the left, and its class.
+#[tactic(auto, unfolding(crate::specs::Rows::text_start))]
+fn put_row_start<'a, W: Write>(
+    out: &mut Counted<W>,
+    x: &'a [u8],
+    class: &'a [u8],
+    row: u32,
+) -> Result<(), WriteFault>
+    requires { row < 2 ^ 26 }
+    ensures { Writes W.contents out.old out.new (text_start x.now class.now row) (is_ok result) }
+{
+    put_pieces(
+        out,
+        &[
+            Piece::Text(b"<text x=\""),
+            Piece::Text(x),
+            Piece::Text(b"\" y=\""),
+            Piece::Number(PITCH * row + 85),
+            Piece::Text(b"\" class=\""),
+            Piece::Text(class),
+            Piece::Text(b"\">"),
+        ],
+    )
+}
+
 /// Writes the offset of a row.
-#[tactic(auto, unfolding(crate::specs::Rows::label_text))]
+#[tactic(auto, using(palm_text::proofs::Parts::then, palm_text::proofs::Parts::stops), unfolding(crate::specs::Rows::label_text))]
 fn put_label<W: Write>(out: &mut Counted<W>, line: u32, row: u32) -> Result<(), WriteFault>
     requires row { row < 2 ^ 26 }
     requires offset { line * row < 2 ^ 32 }
     ensures { Writes W.contents out.old out.new (label_text line row) (is_ok result) }
 {
-    put_pieces(
-        out,
-        &[
-            Piece::Text(b"<text x=\"68\" y=\""),
-            Piece::Number(PITCH * row + 85),
-            Piece::Text(b"\" class=\"n\">"),
-            Piece::Number(line * row),
-            Piece::Text(b"</text>\n"),
-        ],
-    )
+    put_row_start(out, b"68", b"n", row)?;
+    put_pieces(out, &[Piece::Number(line * row), Piece::Text(b"</text>\n")])
 }
 
 /// Writes the offsets of all rows.
@@ -97,21 +114,13 @@ fn put_more<W: Write>(out: &mut Counted<W>, others: u32) -> Result<(), WriteFaul
 }
 
 /// Writes the size of the largest room.
-#[tactic(auto, unfolding(crate::specs::Rows::largest_text))]
+#[tactic(auto, using(palm_text::proofs::Parts::then, palm_text::proofs::Parts::stops), unfolding(crate::specs::Rows::largest_text))]
 fn put_largest<W: Write>(out: &mut Counted<W>, row: u32, largest: u32) -> Result<(), WriteFault>
     requires { row < 2 ^ 26 }
     ensures { Writes W.contents out.old out.new (largest_text row largest) (is_ok result) }
 {
-    put_pieces(
-        out,
-        &[
-            Piece::Text(b"<text x=\"1082\" y=\""),
-            Piece::Number(PITCH * row + 85),
-            Piece::Text(b"\" class=\"r\">"),
-            Piece::Number(largest),
-            Piece::Text(b" bytes"),
-        ],
-    )
+    put_row_start(out, b"1082", b"r", row)?;
+    put_pieces(out, &[Piece::Number(largest), Piece::Text(b" bytes")])
 }
 
 /// Writes the size of the largest room, and the number of other rooms.

@@ -11,6 +11,8 @@ use Rattle.script_lines.specs.Words.{words_of}
 use Rattle.script_lines.specs.declared.fault.LineFault.{LineFault}
 use Rattle.script_lines.specs.declared.fault.ScriptFault.{ScriptFault}
 use Rattle.script_lines.specs.declared.fault.ScriptFault.TheVariants.{UnknownCommand, WrongCount, BadWord, OutOfMemory}
+use Rattle.hints.specs.declared.faulty_lines.TextKind.{TextKind}
+use Rattle.hints.specs.declared.faulty_lines.TextKind.TheVariants.{Script, Parts}
 use Rattle.hints.specs.declared.faulty_lines.Wanted.{Wanted}
 use Rattle.hints.specs.declared.faulty_lines.Wanted.TheVariants.{Command, Part}
 use Rattle.hints.specs.declared.faulty_lines.LineHint.{LineHint}
@@ -163,6 +165,14 @@ parts_hint text fault = hint_of_text wanted_entry wanted_after_first text fault
 abbrev pub first_wanted_of : Wanted → List ℕ
 first_wanted_of (Command kinds) = wanted_command
 first_wanted_of (Part texts) = wanted_entry
+
+abbrev pub first_wanted_in : TextKind → List ℕ
+first_wanted_in Script = wanted_command
+first_wanted_in Parts = wanted_entry
+
+abbrev pub others_wanted_in : TextKind → List ℕ → List (List ℕ)
+others_wanted_in Script = wanted_after_command
+others_wanted_in Parts = wanted_after_first
 
 abbrev pub others_wanted_of : Wanted → List (List ℕ)
 others_wanted_of (Command kinds) = map wanted_of_kind kinds.now

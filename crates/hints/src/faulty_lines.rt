@@ -30,6 +30,30 @@ pub enum LineHint<'a> {
     },
 }
 
+/// A text that has lines of words.
+#[derive(Clone, Copy)]
+enum TextKind {
+    /// A script.
+    Script,
+    /// The text that `pack` reads.
+    Parts,
+}
+
+impl TextKind {
+    /// Returns what the words of a line have to be.
+    fn words_of(self, line: &[u8]) -> Wanted
+        requires whole { words_of line.now ≡ Ok (words_in line.now) }
+        ensures first { first_wanted_of result ≡ words.first_wanted_in self }
+        ensures texts { others_wanted_of result
+            ≡ words.others_wanted_in self (words.first_word_of (words_in line.now)) }
+    {
+        match self {
+            TextKind::Script => command_words(line),
+            TextKind::Parts => part_words(line),
+        }
+    }
+}
+
 /// What the words of a line have to be.
 #[derive(Clone, Copy)]
 enum Wanted {
@@ -85,26 +109,30 @@ impl Wanted {
 
 /// Returns what is wrong with the faulty line of a script. Returns `None` if the script has no such
 /// line.
-#[tactic(auto, using(crate::proofs::Hints::counted_words_are_whole, crate::proofs::Hints::broken_word_is_counted))]
 pub fn script_hint(script: &[u8], fault: LineFault) -> Option<LineHint<'_>>
     ensures { option_map hint_of result ≡ words.script_hint script.now fault }
 {
-    let line = line_at(script, fault.line)?;
-    match count_words(line) {
-        Ok(count) => hint_by(line, count, command_words(line), fault.fault),
-        Err(number) => broken_hint(number, fault.fault),
-    }
+    text_hint(TextKind::Script, script, fault)
 }
 
 /// Returns what is wrong with the faulty line of the text that `pack` reads. Returns `None` if the
 /// text has no such line.
-#[tactic(auto, using(crate::proofs::Hints::counted_words_are_whole, crate::proofs::Hints::broken_word_is_counted))]
 pub fn parts_hint(text: &[u8], fault: LineFault) -> Option<LineHint<'_>>
     ensures { option_map hint_of result ≡ words.parts_hint text.now fault }
 {
+    text_hint(TextKind::Parts, text, fault)
+}
+
+/// Returns what is wrong with the faulty line of a text, if the text has it.
+#[tactic(auto, using(crate::proofs::Hints::counted_words_are_whole, crate::proofs::Hints::broken_word_is_counted))]
+fn text_hint(kind: TextKind, text: &[u8], fault: LineFault) -> Option<LineHint<'_>>
+    ensures { option_map hint_of result
+        ≡ words.hint_of_text (words.first_wanted_in kind) (words.others_wanted_in kind)
+        text.now fault }
+{
     let line = line_at(text, fault.line)?;
     match count_words(line) {
-        Ok(count) => hint_by(line, count, part_words(line), fault.fault),
+        Ok(count) => hint_by(line, count, kind.words_of(line), fault.fault),
         Err(number) => broken_hint(number, fault.fault),
     }
 }

@@ -6,7 +6,7 @@ use Rattle.std.specs.Io.KnownBytes.{Appends}
 use Rattle.hex.specs.Hex.{encode_lower}
 use Rattle.heap_model.specs.Memory.{Memory as Region}
 use Rattle.heap_model.specs.Bytes.{u16_bytes, u32_bytes}
-use Rattle.palm_text.specs.Pieces.{script_spelled}
+use Rattle.palm_text.specs.Pieces.{piece_text, script_spelled}
 use Rattle.heap_model.specs.StoreSteps.{Call, DoesInStore, call_by}
 use Rattle.palm_text.specs.Counted.{Writes}
 use Rattle.palm_text.specs.Output.{Output}
@@ -31,6 +31,7 @@ use Rattle.palm_text.specs.declared.output.WriteFault.{WriteFault}
 use Rattle.script_calls.specs.Movement.{Moves}
 use Rattle.script_calls.specs.declared.calls.Outcome.{Outcome}
 use Rattle.script_calls.specs.declared.calls.Outcome.TheVariants.{Replied, Reads}
+use Rattle.script_calls.specs.declared.replies.Word.{Word}
 use Rattle.script_calls.specs.declared.replies.Told.{Told}
 use Rattle.script_calls.specs.declared.replies.Told.TheVariants.{Nothing, Values, Length}
 
@@ -200,6 +201,10 @@ resource_words info = script_spelled (u32_bytes info.kind) ∷ decimal info.id �
 abbrev pub words_text : List (List ℕ) → List ℕ
 words_text words = flat_map (λ word. codes " " ++ word) words
 
+-- the text of a word after `ok`
+abbrev pub text_of_word : Word → List ℕ
+text_of_word word = codes " " ++ piece_text word.0
+
 -- The values after `ok`: numbers, counts, indexes, bytes, and the words of a header or an entry.
 -- Names, places and the numbers of databases aren't printed.
 abbrev pub values_text : Reply → List ℕ
@@ -218,16 +223,7 @@ values_text (Database db) = []
 -- the number of bytes of a reply of bytes
 abbrev pub length_text : Reply → List ℕ
 length_text (Data bytes) = codes " " ++ decimal (length bytes)
-length_text (Refused refusal) = []
-length_text Done = []
-length_text (Number number) = []
-length_text (Named name) = []
-length_text (Locked place count) = []
-length_text (Database db) = []
-length_text (Info info) = []
-length_text (Made index name) = []
-length_text (Record info) = []
-length_text (Resource info) = []
+length_text reply = []
 
 -- The part of the reply that a line prints if it is accepted: nothing, its values, or its length.
 -- Names and databases are only bound, and have no value.

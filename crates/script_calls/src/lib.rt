@@ -30,6 +30,6 @@ pub use calls::{Outcome, do_database_call, do_memory_call};
 pub use live_replies::LiveReplies;
 pub use numbered_replies::Replies;
 pub use replies::{
-    Told, data, database, done, info, locked, made, named, number, put_data, put_refusal,
-    put_reply, record, resource, small_number,
+    Told, data, database, done, info, locked, made, named, number, put_data, put_length,
+    put_refusal, put_reply, record, resource, small_number,
 };

@@ -1,11 +1,12 @@
 //! Replies, and the lines that they are printed as.
 
 ghost use Rattle.std.specs.Prelude.{◌≡◌, ◌++◌, codes, decimal, is_ok, length};
+ghost use Rattle.std.specs.List.{flat_map};
 ghost use Rattle.palm_text.specs.Counted.{Writes};
 ghost use Rattle.heap_model.specs.MemorySteps.{reply_of};
 ghost use Rattle.heap_model.specs.declared.call.Reply.{Reply};
-ghost use Rattle.script_calls.specs.Lines.{details_text, hex_text, info_words, record_words};
-ghost use Rattle.script_calls.specs.Lines.{refusal_line, reply_line, reply_text, resource_words};
+ghost use Rattle.script_calls.specs.Lines.{details_text, hex_text, info_words};
+ghost use Rattle.script_calls.specs.Lines.{refusal_line, reply_line, reply_text};
 ghost use Rattle.script_calls.specs.Lines.{values_text};
 ghost use Rattle.script_calls.specs.Lines.{words_text};
 ghost use Rattle.script_calls.specs.Lines as words;
@@ -15,7 +16,9 @@ ghost use Rattle.palm_text.specs.Pieces.{piece_text};
 use heap_model::{Bytes, Db, DbInfo, Name, RecordInfo, Refusal, Reply, ResourceInfo};
 use itoa::Buffer;
 use palm_store::Locked;
-use palm_text::{Counted, Piece, WriteFault, faulty_pieces, put_pieces};
+use palm_text::{
+    Counted, HasText, Piece, WriteFault, faulty_pieces, put_all, put_each, put_pieces,
+};
 use script_lines::Line;
 use std::io::Write;
 
@@ -249,8 +252,21 @@ fn put_values<W: Write>(out: &mut Counted<W>, reply: &Reply) -> Result<(), Write
         Reply::Data(bytes) => put_bytes(out, bytes.as_slice()),
         Reply::Info(info) => put_info(out, info),
         Reply::Made { index, .. } => put_number(out, *index),
-        Reply::Record(info) => put_record(out, info),
-        Reply::Resource(info) => put_resource(out, info),
+        Reply::Record(info) => put_words(
+            out,
+            &[
+                Word(Piece::Hex8(info.attributes)),
+                Word(Piece::Number(info.id)),
+                Word(Piece::Text(data_word(info.data))),
+            ],
+        ),
+        Reply::Resource(info) => put_words(
+            out,
+            &[
+                Word(Piece::FourBytes(info.kind)),
+                Word(Piece::Number(u32::from(info.id))),
+            ],
+        ),
         Reply::Refused(_) | Reply::Done | Reply::Named(_) | Reply::Database(_) => {
             put_pieces(out, &[Piece::Text(b"ok\n")])
         }
@@ -271,8 +287,8 @@ fn put_number<W: Write>(out: &mut Counted<W>, number: u32) -> Result<(), WriteFa
     )
 }
 
-/// Prints `ok` and a length.
-fn put_length<W: Write>(out: &mut Counted<W>, length: usize) -> Result<(), WriteFault>
+/// Prints `ok` and a length. It takes no memory.
+pub fn put_length<W: Write>(out: &mut Counted<W>, length: usize) -> Result<(), WriteFault>
     ensures { Writes W.contents out.old out.new
         (codes "ok" ++ (codes " " ++ decimal length) ++ codes "\n") (is_ok result) }
 {
@@ -306,70 +322,56 @@ fn put_info<W: Write>(out: &mut Counted<W>, info: &DbInfo) -> Result<(), WriteFa
     ensures { Writes W.contents out.old out.new
         (codes "ok" ++ words_text (info_words info.now) ++ codes "\n") (is_ok result) }
 {
-    put_pieces(
+    put_words(
         out,
         &[
-            Piece::Text(b"ok "),
-            Piece::Spelled(info.name.as_slice()),
-            Piece::Text(b" "),
-            Piece::Hex16(info.attributes),
-            Piece::Text(b" "),
-            Piece::Number(u32::from(info.version)),
-            Piece::Text(b" "),
-            Piece::Number(info.creation_date),
-            Piece::Text(b" "),
-            Piece::Number(info.modification_date),
-            Piece::Text(b" "),
-            Piece::Number(info.backup_date),
-            Piece::Text(b" "),
-            Piece::Number(info.modification_number),
-            Piece::Text(b" "),
-            Piece::FourBytes(info.kind),
-            Piece::Text(b" "),
-            Piece::FourBytes(info.creator),
-            Piece::Text(b" "),
-            Piece::Hex32(info.seed),
-            Piece::Text(b" "),
-            Piece::Number(u32::from(info.entry_count)),
-            Piece::Text(b"\n"),
+            Word(Piece::Spelled(info.name.as_slice())),
+            Word(Piece::Hex16(info.attributes)),
+            Word(Piece::Number(u32::from(info.version))),
+            Word(Piece::Number(info.creation_date)),
+            Word(Piece::Number(info.modification_date)),
+            Word(Piece::Number(info.backup_date)),
+            Word(Piece::Number(info.modification_number)),
+            Word(Piece::FourBytes(info.kind)),
+            Word(Piece::FourBytes(info.creator)),
+            Word(Piece::Hex32(info.seed)),
+            Word(Piece::Number(u32::from(info.entry_count))),
         ],
     )
 }
 
-/// Prints `ok` and the entry of a record.
-fn put_record<W: Write>(out: &mut Counted<W>, info: &RecordInfo) -> Result<(), WriteFault>
-    ensures { Writes W.contents out.old out.new
-        (codes "ok" ++ words_text (record_words info.now) ++ codes "\n") (is_ok result) }
-{
-    put_pieces(
-        out,
-        &[
-            Piece::Text(b"ok "),
-            Piece::Hex8(info.attributes),
-            Piece::Text(b" "),
-            Piece::Number(info.id),
-            Piece::Text(b" "),
-            Piece::Text(data_word(info.data)),
-            Piece::Text(b"\n"),
-        ],
-    )
+/// A word after `ok`.
+#[derive(Clone, Copy)]
+struct Word<'a>(Piece<'a>);
+
+impl HasText for Word<'_> {
+    ghost text = { words.text_of_word };
+
+    #[tactic(auto, using(palm_text::proofs::Parts::then, palm_text::proofs::Parts::stops))]
+    fn put_to<W: Write>(&self, out: &mut Counted<W>) -> Result<(), WriteFault> {
+        put_all(out, b" ")?;
+        self.0.put_to(out)
+    }
 }
 
-/// Prints `ok` and the type and the ID of a resource.
-fn put_resource<W: Write>(out: &mut Counted<W>, info: &ResourceInfo) -> Result<(), WriteFault>
+/// Prints `ok` and words.
+#[tactic(auto, using(palm_text::proofs::Parts::then, palm_text::proofs::Parts::stops))]
+fn put_words<W: Write>(out: &mut Counted<W>, shown: &[Word<'_>]) -> Result<(), WriteFault>
     ensures { Writes W.contents out.old out.new
-        (codes "ok" ++ words_text (resource_words info.now) ++ codes "\n") (is_ok result) }
+        (codes "ok" ++ flat_map words.text_of_word shown.now ++ codes "\n") (is_ok result) }
 {
-    put_pieces(
-        out,
-        &[
-            Piece::Text(b"ok "),
-            Piece::FourBytes(info.kind),
-            Piece::Text(b" "),
-            Piece::Number(u32::from(info.id)),
-            Piece::Text(b"\n"),
-        ],
-    )
+    put_all(out, b"ok")?;
+    put_last_words(out, shown)
+}
+
+/// Prints words, and the end of the line.
+#[tactic(auto, using(palm_text::proofs::Parts::then, palm_text::proofs::Parts::stops))]
+fn put_last_words<W: Write>(out: &mut Counted<W>, shown: &[Word<'_>]) -> Result<(), WriteFault>
+    ensures { Writes W.contents out.old out.new
+        (flat_map words.text_of_word shown.now ++ codes "\n") (is_ok result) }
+{
+    put_each(out, shown)?;
+    put_all(out, b"\n")
 }
 
 /// Returns the word for whether there is data.

@@ -21,6 +21,7 @@ use palm_text::{Counted, Piece, WriteFault, put_all, put_pieces};
 use program_io::command_line::Form;
 use program_io::{Status, flushed};
 use raw_region::Region;
+use script_calls::put_length;
 use std::alloc::AllocError;
 use std::io::Write;
 use unicode_text::put_text;
@@ -189,15 +190,7 @@ fn put_rows<W: Write>(out: &mut Counted<W>, rows: &[Row]) -> Result<(), WriteFau
 fn put_count<W: Write>(out: &mut Counted<W>, count: usize) -> Result<(), WriteFault>
     ensures { Writes W.contents out.old out.new (database_count_line count) (is_ok result) }
 {
-    let mut digits = Buffer::new();
-    put_pieces(
-        out,
-        &[
-            Piece::Text(b"ok "),
-            Piece::Text(digits.format(count).as_bytes()),
-            Piece::Text(b"\n"),
-        ],
-    )
+    put_length(out, count)
 }
 
 /// Writes how many databases there are, and their lines.

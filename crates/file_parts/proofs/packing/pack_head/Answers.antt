@@ -29,3 +29,6 @@ returns-clause-size g c =
     let is = c.in_ok-head.ensures.size in
     let both = length-append c.in_ok-bytes.bytes.items (blocks_text (database_of_parts listed parts)) in
     omega (arith, size, is, both)
+
+pub canonical_head_of-requires : goal.canonical_head_of-requires
+canonical_head_of-requires g c = record { has = c.requires; file = c.in_ok-head.ensures.file; size = c.in_ok-head.ensures.size; most = c.in_ok-head.ensures.most }
