@@ -1,6 +1,6 @@
 //! The faults that prevent a command from starting.
 
-ghost use Rattle.std.specs.Prelude.{◌≡◌};
+ghost use Rattle.std.specs.Prelude.{◌≡◌, ◌≢◌, codes};
 ghost use Rattle.program_io.specs.Status.{status_of};
 
 use program_io::{InputFault, Status, report_fault, report_input_fault};
@@ -34,7 +34,10 @@ pub fn fail_to_read<R: Eprint>(rt: &R, path: &str, fault: InputFault) -> Status
 }
 
 /// Returns the name of the input at a path, for messages.
-pub fn input_name(path: &str) -> &str {
+pub fn input_name(path: &str) -> &str
+    ensures stream { path.now ≡ codes "-" → result.now ≡ codes "standard input" }
+    ensures file { path.now ≢ codes "-" → result.now ≡ path.now }
+{
     if path == STANDARD_STREAM {
         STANDARD_INPUT
     } else {

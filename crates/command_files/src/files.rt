@@ -1,7 +1,9 @@
 //! The files that a command reads and writes. If a file can't be read or written, the reason is
 //! printed on standard error.
 
-ghost use Rattle.std.specs.Prelude.{[], ◌≡◌, ◌≢◌, ◌≤◌, ◌⊎◌, ◌++◌, IfOk, IfErr, codes, decimal, length, string_bytes, vec_len};
+ghost use Rattle.std.specs.Prelude.{[], ◌≡◌, ◌≢◌, ◌≤◌, ◌<◌, ◌⊎◌, ◌++◌, Err, IfOk, IfErr, IfSome, OnOk, codes, decimal, length, string_bytes, vec_len};
+ghost use Rattle.std.specs.Io.KnownBytes.{IsAtEnd};
+ghost use Rattle.program_io.specs.Status.{IsOfReadingWithin};
 ghost use Rattle.hints.specs.Lookalikes.{looks_like_database};
 
 use crate::faults::{STANDARD_INPUT, STANDARD_STREAM, fail, fail_to_read};
@@ -9,6 +11,7 @@ use crate::outputs::close_output;
 use crate::region_input::{SizedFault, read_sized, size_of};
 use crate::replacing::{OutputKind, output_for};
 use crate::suggestions::suggest_list;
+use allowance::Allowance;
 use heap_model::Bytes;
 use hints::looks_like_database;
 use palm_text::{Counted, put};
@@ -34,7 +37,10 @@ pub fn read_file_within<R: Files + Eprint + AllocGlobal>(
     ensures faults { IfErr result (λ status. (status ≡ Status.ReadFault) ⊎ (status ≡ Status.NoMemory)) }
 {
     let read = match File::open(rt, path) {
-        Ok(mut file) => read_opened(rt, path, &mut file, most),
+        Ok(mut file) => {
+            let size = size_of(rt, path).unwrap_or(0);
+            read_opened(&rt.alloc(), &mut file, size, most)
+        }
         Err(error) => Err(InputFault::from(error)),
     };
     match read {
@@ -43,21 +49,29 @@ pub fn read_file_within<R: Files + Eprint + AllocGlobal>(
     }
 }
 
-/// Reads a whole file that is open, and whose path this is. If the path has a size, it takes that
-/// much memory at once, or reads nothing if the size is too great.
-fn read_opened<R: Files + AllocGlobal, F: Read>(
-    rt: &R,
-    path: &str,
+/// Reads a whole file that is open, of at most `most` bytes. `size` is the size that the system
+/// reports, or 0 if it reports none. It takes memory for `size` bytes at once, or reads nothing if
+/// `size` is above `most`.
+fn read_opened<A: Allowance, F: Read>(
+    memory: &A,
     file: &mut F,
+    size: u64,
     most: usize,
 ) -> Result<Vec<u8>, InputFault>
     ensures limit { IfOk result (λ bytes. vec_len bytes ≤ most) }
+    ensures bytes { IfOk result (λ bytes. IfSome (F.remaining file.old) (λ all. bytes.items ≡ all)) }
+    ensures end { OnOk result (IsAtEnd (F.remaining file.new)) }
+    ensures above { most < size → result ≡ Err (InputFault.LongerThan most) }
+    ensures unread { most < size → file.new ≡ file.old }
+    ensures too_long { result ≡ Err (InputFault.LongerThan most)
+        → (most < size) ⊎ IfSome (F.remaining file.old) (λ all. most < length all) }
+    ensures no_memory { result ≡ Err InputFault.Memory → A.is_short memory.now }
+    ensures of_reading { IfErr result (IsOfReadingWithin most) }
 {
-    let size = size_of(rt, path).unwrap_or(0);
     if size > most as u64 {
         return Err(InputFault::LongerThan(most));
     }
-    read_within(&rt.alloc(), file, size as usize, most)
+    read_within(memory, file, size as usize, most)
 }
 
 /// The same as `read_file_within`. The path `-` means standard input.

@@ -1,6 +1,6 @@
 //! Reading an image into a region, without another copy of it.
 
-ghost use Rattle.std.specs.Prelude.{[], ◌≡◌, ◌≢◌, ◌+◌, ◌≤◌, ◌<◌, Err, IfOk, IfErr, OnOk, OnErr, IfSome, None, length, take};
+ghost use Rattle.std.specs.Prelude.{[], ◌≡◌, ◌≢◌, ◌+◌, ◌≤◌, ◌<◌, Err, IfOk, IfErr, OnOk, OnErr, IfSome, None, Some, length, take};
 ghost use Rattle.std.specs.Io.KnownBytes.{IsAtEnd, Keeps, prepend_known};
 ghost use Rattle.command_files.specs.Sized.{IsOfSizedReading};
 
@@ -33,13 +33,24 @@ pub(crate) fn read_sized<R: Files + AllocGlobal>(rt: &R, path: &str) -> Result<R
     ensures limit { IfOk result (λ region. length region.bytes ≤ MOST_INPUT) }
     ensures whole { IfOk result (λ region. region.lents ≡ []) }
 {
-    let size = match size_of(rt, path) {
-        Some(size) if size <= MOST_INPUT as u64 => size,
-        _ => return Err(SizedFault::OtherSize),
+    let Some(size) = region_size(size_of(rt, path)) else {
+        return Err(SizedFault::OtherSize);
     };
     match File::open(rt, path) {
-        Ok(mut file) => read_region_from(&rt.alloc(), &mut file, size as u32),
+        Ok(mut file) => read_region_from(&rt.alloc(), &mut file, size),
         Err(error) => Err(SizedFault::Input(InputFault::from(error))),
+    }
+}
+
+/// Returns the size of a region for a file, by the size that the system reports, if any. Returns
+/// `None` if it is above `MOST_INPUT`.
+fn region_size(reported: Option<u64>) -> Option<u32>
+    ensures is { IfSome result (λ size. (reported ≡ Some size) × (size ≤ MOST_INPUT)) }
+    ensures none { result ≡ None → IfSome reported (λ size. MOST_INPUT < size) }
+{
+    match reported {
+        Some(size) if size <= MOST_INPUT as u64 => Some(size as u32),
+        _ => None,
     }
 }
 

@@ -1,9 +1,9 @@
 //! Output files that don't replace a file of the other kind: an image replaces no PDB or PRC file,
 //! such a file replaces no image, and a picture replaces neither.
 
-ghost use Rattle.std.specs.Prelude.{◌≡◌, ◌⊎◌, Err, IfErr, IsTrue, false};
+ghost use Rattle.std.specs.Prelude.{◌≡◌, ◌⊎◌, Err, IfErr, IsTrue, false, length};
 ghost use Rattle.std.specs.Io.KnownBytes.{Consumes};
-ghost use Rattle.command_files.specs.Replacing.{stays};
+ghost use Rattle.command_files.specs.Replacing.{head_size, stays};
 
 use crate::faults::fail;
 use hints::{DATABASE_HEADER_SIZE, IMAGE_HEADER_SIZE, looks_like_database, looks_like_image};
@@ -49,6 +49,7 @@ fn output_unless<'a, R: Files + Eprint + AllocGlobal>(
     kind: OutputKind,
     head: &mut [u8],
 ) -> Result<OutputFile<'a, R>, Status>
+    requires { length head.old ≡ head_size kind }
     ensures { IfErr result (λ status. (status ≡ Status.WriteFault) ⊎ (status ≡ Status.NoMemory)) }
 {
     if has_head(rt, path, head) {

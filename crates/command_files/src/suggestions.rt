@@ -1,5 +1,8 @@
 //! What else an input looks like, and which command explains a fault.
 
+ghost use Rattle.std.specs.Prelude.{◌≡◌, ◌⊎◌, ◌↔◌, MatchOption};
+ghost use Rattle.chunk_format.specs.Blank.{IsRegionSize};
+
 use crate::faults::input_name;
 use chunk_format::{BlankFault, is_image_size};
 use heap_model::Bytes;
@@ -49,7 +52,10 @@ pub fn suggest_explain<R: Eprint>(rt: &R, status: Status, size: Option<u32>) {
 
 /// Returns the fault of a size and a slot count of which there is no image: that of the size, if no
 /// image has the size.
-fn blank_fault(size: Option<u32>) -> BlankFault {
+fn blank_fault(size: Option<u32>) -> BlankFault
+    ensures faults { (result ≡ BlankFault.BadSize) ⊎ (result ≡ BlankFault.BadSlotCount) }
+    ensures bad_size { result ≡ BlankFault.BadSize ↔ MatchOption size ⊥ (λ size. IsRegionSize size → ⊥) }
+{
     match size {
         Some(size) if !is_image_size(size as usize) => BlankFault::BadSize,
         _ => BlankFault::BadSlotCount,

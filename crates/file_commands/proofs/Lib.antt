@@ -1,4 +1,5 @@
 pub mod Printed
+pub mod PartCounts
 pub mod PartStatuses
 pub mod ResourceData
 pub mod Got

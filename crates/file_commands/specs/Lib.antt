@@ -7,5 +7,6 @@ pub mod Gets
 pub mod Salvages
 pub mod Puts
 pub mod Keeps
+pub mod NewFiles
 pub mod Starts
 pub mod FilesRead

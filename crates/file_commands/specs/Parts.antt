@@ -1,18 +1,29 @@
 -- What `unpack` and `pack` write. A definition that ends in a `Bool` has it true if all was written
 -- and flushed, and false if a write or a flush failed.
-use Rattle.std.specs.Prelude.{◌≡◌, ◌<◌, ◌≤◌, ◌⊎◌, ℕ, Bool, true, false, List, length, Option, codes}
+use Rattle.std.specs.Prelude.{◌≡◌, ◌<◌, ◌≤◌, ◌⊎◌, ◌+◌, ℕ, zero, suc, is_some, if◌then◌else◌, Bool, true, false, List, length, Option, codes}
 use Rattle.heap_model.specs.Files.{HasNoFault}
 use Rattle.palm_text.specs.Counted.{Writing}
 use Rattle.palm_text.specs.Output.{Puts}
 use Rattle.canonical_file.specs.Canonical.{most_bytes}
 use Rattle.script_lines.specs.declared.fault.LineFault.{LineFault}
-use Rattle.file_parts.specs.Either.{IsFaultyText, IsFolderPackFault, IsPackedOf, folder_size}
+use Rattle.file_parts.specs.Either.{IsFaultyText, IsFolderPackFault, IsPackedOf, folder_size, taken_count, taken_part}
 use Rattle.file_parts.specs.declared.either.ListedFolder.{ListedFolder}
+use Rattle.file_parts.specs.declared.either.TakenApart.{TakenApart}
 use Rattle.file_parts.specs.declared.packing.PackFault.TheVariants.{BadLine}
 use Rattle.file_commands.specs.LineFaults as lines
 use Rattle.program_io.specs.declared.status.Status.{Status}
 use Rattle.program_io.specs.declared.status.Status.TheVariants.{Done, Refused, BadWords, ReadFault, WriteFault, NoMemory}
 use Rattle.file_commands.specs.Ends.{PutsFault, count_line}
+
+-- how many parts with a number below this one are there
+unfoldable pub parts_below : TakenApart → ℕ → ℕ
+parts_below taken zero = 0
+parts_below taken (suc number) = if is_some (taken_part taken number) then parts_below taken number + 1 else parts_below taken number
+
+-- the number of files in the folder of a file that is taken apart: its parts that are there, and the
+-- text
+abbrev pub file_count : TakenApart → ℕ
+file_count taken = parts_below taken (taken_count taken) + 1
 
 -- what was written if a file was not taken apart, by the status
 abbrev pub NotUnpacked : {V : Type 0} → List ℕ → (V → Option (List ℕ)) → Writing V → Writing V → Status → Type 0

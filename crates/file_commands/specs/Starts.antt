@@ -1,8 +1,12 @@
 -- Parts of a file that is read at offsets, and a file of which only the first bytes were read.
-use Rattle.std.specs.Prelude.{◌≡◌, ◌<◌, ◌≤◌, ◌^◌, ◌++◌, ◌-◌, min, replicate, ℕ, List, Option, length, take, drop, IfSome, None, Some}
+use Rattle.std.specs.Prelude.{◌≡◌, ◌⊎◌, ◌<◌, ◌≤◌, ◌^◌, ◌++◌, ◌-◌, min, replicate, ℕ, List, Option, length, take, drop, IfSome, None, Some}
 use Rattle.heap_model.specs.Bytes.{AreBytes, u32_at}
 use Rattle.heap_model.specs.DatabaseFields.{app_info_at}
 use Rattle.pdb_format.specs.FileStarts.{app_start, most_start}
+use Rattle.program_io.specs.declared.input.InputFault.{InputFault}
+use Rattle.program_io.specs.declared.input.InputFault.TheVariants.{Open, Read, TooLong, LongerThan, Memory}
+use Rattle.command_files.specs.declared.region_input.SizedFault.{SizedFault}
+use Rattle.command_files.specs.declared.region_input.SizedFault.TheVariants.{Input, OtherSize}
 
 -- if the bytes of the file are known: these are the bytes from an offset on, as many as `count` if
 -- the file has them
@@ -31,3 +35,17 @@ pub record IsSplit (start app : List ℕ) (size : ℕ) (rest : List ℕ) : Type 
   pub long : most_start ≤ length start
   pub app_is : app ≡ app_start (start ++ rest)
   pub numbers : AreBytes (start ++ rest)
+
+-- a seek or a read failed
+abbrev pub IsOfSeeking : InputFault → Type 0
+IsOfSeeking (Open error) = Unit {0}
+IsOfSeeking (Read failure) = Unit {0}
+IsOfSeeking TooLong = ⊥
+IsOfSeeking (LongerThan most) = ⊥
+IsOfSeeking Memory = ⊥
+
+-- an allocation failed, or a read did, with a fault that reads of the file may have; or the file has
+-- another size
+abbrev pub FailsBy : (Fails : InputFault → Type 0) → SizedFault → Type 0
+FailsBy Fails (Input fault) = (fault ≡ Memory) ⊎ Fails fault
+FailsBy Fails OtherSize = Unit {0}

@@ -1,12 +1,15 @@
 //! The commands `canonical` and `salvage`, over files, and the output of `put`.
 
-ghost use Rattle.std.specs.Prelude.{◌≢◌, ◌≤◌, length};
+ghost use Rattle.std.specs.Prelude.{◌≡◌, ◌≢◌, ◌≤◌, length};
+ghost use Rattle.palm_text.specs.Output.{output};
+ghost use Rattle.file_commands.specs.NewFiles.{EndsNewFile};
 
 use crate::canonical_command::cmd_canonical_from;
 use crate::comments::{DROPPED, comment_on_file, comment_on_salvage, name_dropped};
 use crate::keep_command::cmd_keep_from;
 use crate::put_command::{NewBlock, cmd_put_from};
 use crate::salvage_command::cmd_salvage_from;
+use allowance::Allowance;
 use canonical_file::{MOST_BYTES, SalvagedIds};
 use command_files::{
     OutputKind, STANDARD_ERROR, STANDARD_OUTPUT, STANDARD_STREAM, buffered_fault, output_for,
@@ -151,11 +154,29 @@ fn rewrite<W: Write + Drop, V: Write>(
         return (Status::NoMemory, None);
     };
     let mut file_out = Counted::new(file_out);
-    let status = match new {
-        NewFile::Canonical => cmd_canonical_from(&alloc, file, &mut file_out, out),
-        NewFile::Kept(keep) => cmd_keep_from(&alloc, file, keep, &mut file_out, out),
-        NewFile::Salvaged(ids) => cmd_salvage_from(&alloc, file, ids, &mut file_out, out),
-        NewFile::Put(block) => cmd_put_from(&alloc, file, block, &mut file_out, out),
-    };
+    let status = put_new(&alloc, file, new, &mut file_out, out);
     (status, buffered_fault(file_out.into_inner()))
+}
+
+/// Writes a new file for a file to `file_out`, and its lines to `out`, as the command for it does.
+/// Each allocation asks `memory` for a grant.
+fn put_new<A: Allowance, W: Write, V: Write>(
+    memory: &A,
+    file: &[u8],
+    new: NewFile<'_>,
+    file_out: &mut Counted<W>,
+    out: &mut Counted<V>,
+) -> Status
+    requires { length file.now ≤ MOST_BYTES }
+    ensures ends { EndsNewFile new.entry file.now (output W.contents file_out.old file_out.new)
+        (output V.contents out.old out.new) result }
+    ensures good_words { result ≢ Status.BadWords }
+    ensures short { result ≡ Status.NoMemory → A.is_short memory.now }
+{
+    match new {
+        NewFile::Canonical => cmd_canonical_from(memory, file, file_out, out),
+        NewFile::Kept(keep) => cmd_keep_from(memory, file, keep, file_out, out),
+        NewFile::Salvaged(ids) => cmd_salvage_from(memory, file, ids, file_out, out),
+        NewFile::Put(block) => cmd_put_from(memory, file, block, file_out, out),
+    }
 }

@@ -1,12 +1,14 @@
 //! The commands `unpack` and `pack`, over files and folders.
 
-ghost use Rattle.std.specs.Prelude.{◌≡◌, ◌≢◌, ◌≤◌, ◌<◌, ◌⊎◌, ◌++◌, IfOk, IfErr, codes, length, string_bytes};
+ghost use Rattle.std.specs.Prelude.{[], ◌≡◌, ◌≢◌, ◌≤◌, ◌<◌, ◌⊎◌, ◌+◌, ◌++◌, ◌∷◌, Err, IfOk, IfErr, OnOk, codes, length, string_bytes};
 ghost use Rattle.file_parts.specs.Unpacking.{name_text};
 ghost use Rattle.file_parts.specs.Either.{HasFolderParts, IsListedFolder, IsTakenApart, folder_count, taken_count};
+ghost use Rattle.file_commands.specs.Parts.{file_count, parts_below};
 
 use crate::comments::{DROPPED, comment_on_file, comment_on_order, comment_on_text, name_dropped};
 use crate::file_rewrites::BUFFER_SIZE;
-use crate::parts::{cmd_pack_from, list_parts, say_count, unpack_file};
+use crate::parts::{cmd_pack_from, list_parts, put_text, say_count, unpack_file};
+use allowance::{Allowance, push};
 use canonical_file::MOST_BYTES;
 use command_files::{
     OutputKind, STANDARD_OUTPUT, buffered_fault, fail, output_for, read_file_or_input_within,
@@ -198,23 +200,43 @@ fn make_folder<R: Files + Eprint + AllocGlobal>(
     unpacked: &TakenApart<'_>,
 ) -> Result<usize, Status>
     requires { IsTakenApart unpacked.now }
-    ensures { IfErr result (λ status. (status ≡ Status.WriteFault) ⊎ (status ≡ Status.NoMemory)) }
+    ensures count { IfOk result (λ count. count ≡ file_count unpacked.now) }
+    ensures faults { IfErr result (λ status. (status ≡ Status.WriteFault) ⊎ (status ≡ Status.NoMemory)) }
 {
     if let Err(reason) = fs::create_dir(rt, folder) {
         report_write_fault(rt, folder, reason);
         return Err(Status::WriteFault);
     }
     let mut made = Made { ranks: 0, files: 0 };
-    let mut status = write_parts(rt, folder, unpacked, &mut made);
-    if status == Status::Done {
-        status = write_text(rt, folder, unpacked);
-    }
+    let status = write_all(rt, folder, unpacked, &mut made);
     if status == Status::Done {
         return Ok(made.files + 1);
     }
     remove_parts(rt, folder, unpacked, made.ranks);
     let _ = fs::remove_dir(rt, folder);
     Err(status)
+}
+
+/// Writes the parts of a file into a folder, and then the text, up to the first that can't be written.
+fn write_all<R: Files + Eprint + AllocGlobal>(
+    rt: &R,
+    folder: &str,
+    unpacked: &TakenApart<'_>,
+    made: &mut Made,
+) -> Status
+    requires taken { IsTakenApart unpacked.now }
+    requires none { made.old.ranks ≡ 0 }
+    requires no_files { made.old.files ≡ 0 }
+    ensures statuses { (result ≡ Status.Done) ⊎ (result ≡ Status.WriteFault)
+        ⊎ (result ≡ Status.NoMemory) }
+    ensures files { result ≡ Status.Done → made.new.files + 1 ≡ file_count unpacked.now }
+    ensures inside { made.new.ranks ≤ taken_count unpacked.now }
+    ensures few { made.new.files ≤ 65538 }
+{
+    match write_parts(rt, folder, unpacked, made) {
+        Status::Done => write_text(rt, folder, unpacked),
+        status => status,
+    }
 }
 
 /// The number of ranks of a file that were done, and the number of parts that were written for
@@ -226,6 +248,7 @@ struct Made {
 }
 
 /// Writes the parts of a file into a folder, up to the first that can't be written.
+#[tactic(auto, using(crate::proofs::PartCounts::none_yet, crate::proofs::PartCounts::one_more, crate::proofs::PartCounts::none_more))]
 fn write_parts<R: Files + Eprint + AllocGlobal>(
     rt: &R,
     folder: &str,
@@ -236,7 +259,9 @@ fn write_parts<R: Files + Eprint + AllocGlobal>(
     requires no_files { made.old.files ≡ 0 }
     ensures statuses { (result ≡ Status.Done) ⊎ (result ≡ Status.WriteFault)
         ⊎ (result ≡ Status.NoMemory) }
+    ensures all { result ≡ Status.Done → made.new.ranks ≡ taken_count unpacked.now }
     ensures inside { made.new.ranks ≤ taken_count unpacked.now }
+    ensures files { made.new.files ≡ parts_below unpacked.now made.new.ranks }
     ensures few { made.new.files ≤ made.new.ranks }
     ensures most { made.new.ranks ≤ 65538 }
 {
@@ -340,11 +365,8 @@ fn write_lines<R: AllocGlobal, W: Write + Drop>(
         return (Status::NoMemory, None);
     };
     let mut text = Counted::new(text);
-    let status = match unpacked.put_text(&mut text) {
-        Ok(()) => match text.flush() {
-            Ok(()) => Status::Done,
-            Err(_) => Status::WriteFault,
-        },
+    let status = match put_text(unpacked, &mut text) {
+        Ok(()) => Status::Done,
         Err(_) => Status::WriteFault,
     };
     (status, buffered_fault(text.into_inner()))
@@ -414,15 +436,40 @@ fn read_parts<R: Files + Eprint + AllocGlobal>(
     let mut left = MOST_BYTES;
     for rank in 0..listed.part_count() {
         let bytes = read_rank(rt, folder, listed, rank)?;
-        if bytes.len() > left {
-            return Err(Status::Refused);
-        }
-        left -= bytes.len();
-        if parts.push(Bytes::of(bytes)).is_err() {
-            return Err(fail(rt, Status::NoMemory));
+        match add_part(&rt.alloc(), &mut parts, left, bytes) {
+            Ok(rest) => left = rest,
+            Err(Status::NoMemory) => return Err(fail(rt, Status::NoMemory)),
+            Err(status) => return Err(status),
         }
     }
     Ok(parts)
+}
+
+/// Appends the bytes of a part, if they are at most `left`. Returns the number of bytes that are left
+/// for the next parts.
+///
+/// # Errors
+/// - `Refused`: the part has more than `left` bytes.
+/// - `NoMemory`: an allocation failed.
+fn add_part<A: Allowance>(
+    memory: &A,
+    parts: &mut Vec<Bytes>,
+    left: usize,
+    bytes: Vec<u8>,
+) -> Result<usize, Status>
+    ensures added { OnOk result (parts.new.items ≡ parts.old.items ++ (bytes.items ∷ [])) }
+    ensures left { IfOk result (λ rest. rest + length bytes.items ≡ left) }
+    ensures refused { result ≡ Err Status.Refused → left < length bytes.items }
+    ensures no_memory { result ≡ Err Status.NoMemory → A.is_short memory.now }
+    ensures faults { IfErr result (λ status. (status ≡ Status.Refused) ⊎ (status ≡ Status.NoMemory)) }
+{
+    let Some(rest) = left.checked_sub(bytes.len()) else {
+        return Err(Status::Refused);
+    };
+    match push(memory, parts, Bytes::of(bytes)) {
+        Ok(()) => Ok(rest),
+        Err(_) => Err(Status::NoMemory),
+    }
 }
 
 /// Reads the part of a rank: no bytes if there is none.

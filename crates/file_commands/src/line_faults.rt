@@ -6,7 +6,7 @@ ghost use Rattle.file_commands.specs.LineFaults.{IsFaultLine, PutsScriptRefused}
 use allowance::{Allowance, text_of};
 use palm_text::Counted;
 use program_io::{Status, say_text};
-use script_lines::LineFault;
+use script_lines::{LineFault, ScriptFault};
 use std::alloc::AllocError;
 use std::io::Write;
 
@@ -32,6 +32,10 @@ fn line_fault_text<A: Allowance>(memory: &A, fault: LineFault) -> Result<String,
     ensures line { IfOk result (λ line. IsFaultLine fault (string_bytes line)) }
     ensures short { OnErr result (A.is_short memory.now) }
 {
-    let text = text_of(memory, format_args!("{}", fault.fault))?;
-    text_of(memory, format_args!("line {} {text}\n", fault.line))
+    let line = fault.line;
+    let name = fault.fault.name();
+    match fault.fault {
+        ScriptFault::BadWord(word) => text_of(memory, format_args!("line {line} {name} {word}\n")),
+        _ => text_of(memory, format_args!("line {line} {name}\n")),
+    }
 }

@@ -3,7 +3,7 @@
 ghost use Rattle.std.specs.Prelude.{◌≡◌, ◌≤◌, ◌⊎◌, ℕ, List, length, true, false, is_ok, Err, IfOk, IfErr, OnOk};
 ghost use Rattle.palm_text.specs.Output.{Puts};
 ghost use Rattle.canonical_file.specs.Canonical.{most_bytes};
-ghost use Rattle.file_parts.specs.Either.{HasFolderParts, IsListedFolder, IsPackedOf, IsReadFrom, IsTakenApart, PacksFolderBack, ReadsFolder, file_taken, folder_size, form_taken};
+ghost use Rattle.file_parts.specs.Either.{HasFolderParts, IsListedFolder, IsPackedOf, IsReadFrom, IsTakenApart, IsTextOf, PacksFolderBack, ReadsFolder, file_taken, folder_size, form_taken};
 ghost use Rattle.file_parts.specs.declared.either.ListedFolder.{ListedFolder};
 ghost use Rattle.file_commands.specs.Ends.{count_line};
 ghost use Rattle.file_commands.specs.Parts.{EndsPack, NotListed, NotUnpacked};
@@ -57,6 +57,20 @@ pub fn unpack_file<'a, A: Allowance, V: Write>(
         )),
         Err(UnpackFault::OutOfMemory) => Err(Status::NoMemory),
     }
+}
+
+/// Writes the text of a file that is taken apart, and flushes `out`.
+#[tactic(auto, using(palm_text::proofs::Parts::then_flush))]
+pub(crate) fn put_text<W: Write>(
+    unpacked: &TakenApart<'_>,
+    out: &mut Counted<W>,
+) -> Result<(), WriteFault>
+    requires { IsTakenApart unpacked.now }
+    ensures { (text : List ℕ) → IsTextOf unpacked.now text
+        → Puts W.contents out.old out.new text (is_ok result) }
+{
+    unpacked.put_text(out)?;
+    flushed(out)
 }
 
 /// Prints `ok` and a count, and flushes `out`.

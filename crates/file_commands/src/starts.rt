@@ -8,9 +8,11 @@
 //! | `file_read` | a file that was read: all of its bytes, or the first ones |
 //! | `input_files` | reads the files that a command lists |
 //!
-//! No contract relates a file of the system to its bytes. So the clauses on bytes hold of a source
-//! whose bytes contracts know, as `ReadsAt` has them. For a file of the system, `read_listed` states
-//! the limit and the faults alone.
+//! No contract relates a file of the system to its bytes. So the clauses on bytes and on failures hold
+//! of a source whose bytes and failures contracts know, as `ReadsAt` has them. For a file of the
+//! system, `read_listed` states the limit and the faults alone. It only puts together `long_size`,
+//! which decides by the size that the system reports, and `read_sized`, which finds whether the file
+//! has that size.
 
 mod file_read;
 mod file_start;

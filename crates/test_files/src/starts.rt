@@ -1,6 +1,7 @@
 //! Files of which only the first bytes are read: their reports are those of the whole files.
 
 ghost use Rattle.std.specs.Prelude.{None};
+ghost use Rattle.file_commands.specs.Starts.{IsOfSeeking};
 
 use crate::samples::{MOST_SAMPLE, NAMED_FILE};
 use command_files::SizedFault;
@@ -27,6 +28,8 @@ struct Turns {
 
 impl ReadsAt for Turns {
     ghost bytes = { λ _. None };
+
+    ghost fails = { IsOfSeeking };
 
     fn read_at(&mut self, turn: &mut [u8], offset: u64) -> Result<usize, InputFault> {
         if self.good == 0 {

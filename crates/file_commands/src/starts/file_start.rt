@@ -1,10 +1,10 @@
 //! The first bytes of a file, and of its AppInfo.
 
-ghost use Rattle.std.specs.Prelude.{◌≡◌, ◌≢◌, ◌+◌, ◌-◌, ◌<◌, ◌≤◌, ◌^◌, ◌++◌, ℕ, Err, List, IfOk, IfSome, length, min};
+ghost use Rattle.std.specs.Prelude.{◌≡◌, ◌≢◌, ◌+◌, ◌-◌, ◌<◌, ◌≤◌, ◌^◌, ◌++◌, ℕ, Err, List, IfOk, IfErr, IfSome, length, min};
 ghost use Rattle.heap_model.specs.Bytes.{AreBytes, u32_at};
 ghost use Rattle.heap_model.specs.DatabaseFields.{app_info_at};
 ghost use Rattle.pdb_format.specs.FileStarts.{most_app, most_start};
-ghost use Rattle.file_commands.specs.Starts.{BeginsWith, IsPart, IsSplit};
+ghost use Rattle.file_commands.specs.Starts.{BeginsWith, FailsBy, IsPart, IsSplit};
 
 use crate::starts::parts::{check_size, read_part};
 use crate::starts::reads_at::ReadsAt;
@@ -91,6 +91,7 @@ pub fn read_start<A: Allowance, F: ReadsAt>(
     ensures size { result ≡ Err SizedFault.OtherSize
         → IfSome (F.bytes file.old) (λ all. length all ≢ size) }
     ensures no_memory { result ≡ Err (SizedFault.Input InputFault.Memory) → A.is_short memory.now }
+    ensures fails { IfErr result (FailsBy F.fails) }
 {
     check_size(file, size)?;
     let start = read_part(memory, file, 0, READ_FIRST)?;
@@ -120,6 +121,7 @@ fn with_app_inside<A: Allowance, F: ReadsAt>(
     ensures len { IfOk result (λ read. length read ≡ size) }
     ensures size { result ≢ Err SizedFault.OtherSize }
     ensures no_memory { result ≡ Err (SizedFault.Input InputFault.Memory) → A.is_short memory.now }
+    ensures fails { IfErr result (FailsBy F.fails) }
 {
     know_numbers(&start);
     match copied(memory, app_of(&start)) {
@@ -146,6 +148,7 @@ fn with_app_after<A: Allowance, F: ReadsAt>(
     ensures size { result ≡ Err SizedFault.OtherSize
         → IfSome (F.bytes file.old) (λ all. length all ≢ size) }
     ensures no_memory { result ≡ Err (SizedFault.Input InputFault.Memory) → A.is_short memory.now }
+    ensures fails { IfErr result (FailsBy F.fails) }
 {
     let mut start = start;
     let at = app_info(&start) as usize;
@@ -171,6 +174,7 @@ fn read_app<A: Allowance, F: ReadsAt>(
     ensures size { result ≡ Err SizedFault.OtherSize
         → IfSome (F.bytes file.old) (λ all. length all - at < min (size - at) most_app) }
     ensures no_memory { result ≡ Err (SizedFault.Input InputFault.Memory) → A.is_short memory.now }
+    ensures fails { IfErr result (FailsBy F.fails) }
 {
     read_part(
         memory,

@@ -1,8 +1,8 @@
 //! Parts of a file that is read at offsets.
 
-ghost use Rattle.std.specs.Prelude.{◌≡◌, ◌≢◌, ◌+◌, ◌-◌, ◌<◌, ◌≤◌, ◌^◌, Ok, Err, true, false, IfOk, OnOk, IfSome, length, take};
+ghost use Rattle.std.specs.Prelude.{◌≡◌, ◌≢◌, ◌+◌, ◌-◌, ◌<◌, ◌≤◌, ◌^◌, Ok, Err, true, false, IfOk, IfErr, OnOk, IfSome, length, take};
 ghost use Rattle.std.specs.Io.{ReadsAtMost};
-ghost use Rattle.file_commands.specs.Starts.{IsPart};
+ghost use Rattle.file_commands.specs.Starts.{FailsBy, IsPart};
 
 use crate::starts::reads_at::ReadsAt;
 use allowance::{Allowance, zeros};
@@ -13,7 +13,7 @@ use program_io::InputFault;
 /// number of bytes.
 ///
 /// # Errors
-/// - `Open`, `Read`: a read failed.
+/// - any fault but `Memory`: a read failed.
 pub(crate) fn fill_at<F: ReadsAt>(
     file: &mut F,
     buffer: &mut [u8],
@@ -24,6 +24,7 @@ pub(crate) fn fill_at<F: ReadsAt>(
     ensures bound { ReadsAtMost result buffer.new }
     ensures part { IfOk result (λ n.
         IsPart (F.bytes file.old) offset (length buffer.new) (take n buffer.new)) }
+    ensures fails { IfErr result F.fails }
     ensures memory { result ≢ Err InputFault.Memory }
 {
     let mut at = 0;
@@ -50,6 +51,7 @@ fn fill_more<F: ReadsAt>(
     ensures more { result ≡ Ok true → at.old < at.new }
     ensures end { result ≡ Ok false
         → IsPart (F.bytes file.old) offset (length buffer.new) (take at.new buffer.new) }
+    ensures fails { IfErr result F.fails }
     ensures memory { result ≢ Err InputFault.Memory }
 {
     if *at == buffer.len() {
@@ -79,6 +81,7 @@ pub(crate) fn read_part<A: Allowance, F: ReadsAt>(
     ensures size { result ≡ Err SizedFault.OtherSize
         → IfSome (F.bytes file.old) (λ all. length all - offset < count) }
     ensures no_memory { result ≡ Err (SizedFault.Input InputFault.Memory) → A.is_short memory.now }
+    ensures fails { IfErr result (FailsBy F.fails) }
 {
     let Ok(mut part) = zeros(memory, count) else {
         return Err(SizedFault::Input(InputFault::Memory));
@@ -104,6 +107,7 @@ pub(crate) fn check_size<F: ReadsAt>(file: &mut F, size: usize) -> Result<(), Si
     ensures size { result ≡ Err SizedFault.OtherSize
         → IfSome (F.bytes file.old) (λ all. length all ≢ size) }
     ensures memory { result ≢ Err (SizedFault.Input InputFault.Memory) }
+    ensures fails { IfErr result (FailsBy F.fails) }
 {
     let mut last = [0; 2];
     match fill_at(file, &mut last, size as u64 - 1) {

@@ -1,4 +1,4 @@
-use Rattle.std.proofs.Common.{true, false, rules}
+use Rattle.std.proofs.Common.{rules}
 use Rattle.file_commands.proofs.Printed.{flush_fails, puts_whole}
 use Rattle.file_commands.proofs.canonical_command.put_by_ids.Goals as goal
 
