@@ -68,9 +68,9 @@ pub fn attach_replacing(
     store.check_given(name)?;
     check_owner(owner)?;
     let dirty = EntryInfo::Record {
-        attributes: marked(live.attributes, RecordAttrs::DIRTY),
-        id: live.id,
+        attributes: marked(live.item.0.attributes, RecordAttrs::DIRTY),
+        id: live.item.0.id,
     };
     store.entry_swap(live.opened, index, dirty, name, owner);
-    Ok(live.data)
+    Ok(live.item.1)
 }

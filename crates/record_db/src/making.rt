@@ -63,7 +63,7 @@ pub fn resize_record(store: &mut Store, db: Db, index: u32, size: u32) -> Result
     ensures refused { OnErr result (store.new ≡ store.old) }
 {
     let live = find_live(store, db, index, Access::Write)?;
-    store.entry_resize(live.data, size)?;
+    store.entry_resize(live.item.1, size)?;
     let opened = store.opened_of(db);
     store.count_change(opened);
     Ok(())

@@ -67,7 +67,7 @@ pub fn resize_resource(store: &mut Store, db: Db, index: u32, size: u32) -> Resu
     ensures refused { OnErr result (store.new ≡ store.old) }
 {
     let resource = resource_at(store, db, index, Access::Write)?;
-    store.entry_resize(resource.info.data, size)?;
+    store.entry_resize(resource.item.data, size)?;
     let opened = store.opened_of(db);
     store.count_change(opened);
     Ok(())

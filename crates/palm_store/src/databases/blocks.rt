@@ -14,31 +14,28 @@ ghost use Rattle.palm_store.specs.EntryInfos.{MayOwn};
 ghost use Rattle.palm_store.specs.Opened.{IsOpened};
 ghost use Rattle.palm_store.specs.InfoBlocks.{block_of_image, writing_checks};
 
+use crate::entries::InDatabase;
 use crate::lookup::{find_opened, header_in};
 use database_edits::{OpenDatabase, write_block};
 use db_format::{DbAttrs, app_info, attributes, sort_info};
 use heap_model::{Db, Name, Refusal, Which};
 use mem_manager::{DATA_OWNER, Heap};
 
-/// An open database, and an info block as it names it.
-#[derive(Clone, Copy)]
-pub(crate) struct FoundBlock {
-    pub(crate) opened: OpenDatabase,
-    /// The name of the block, or `Name(0)` if there is none.
-    pub(crate) name: Name,
-}
-
-/// Finds an info block of a database that may be written.
+/// Finds an info block of a database that may be written. The name is `Name(0)` if there is none.
 ///
 /// # Errors
 /// - `NoSuchDatabase`: if no database has the number.
 /// - `ReadOnly`: if the database is read-only.
-pub(crate) fn find_writable_block(heap: &Heap, db: Db, which: Which) -> Result<FoundBlock, Refusal>
+pub(crate) fn find_writable_block(
+    heap: &Heap,
+    db: Db,
+    which: Which,
+) -> Result<InDatabase<Name>, Refusal>
     requires accepted { Accepted heap.now.bytes }
     ensures known { OnOk result (HasNumber heap.now.bytes db.0) }
     ensures opened { IfOk result (λ found. IsOpened heap.now.bytes found.opened) }
     ensures db { IfOk result (λ found. found.opened.db ≡ db) }
-    ensures is { IfOk result (λ found. found.name.0 ≡ block_of_image heap.now.bytes db which) }
+    ensures is { IfOk result (λ found. found.item.0 ≡ block_of_image heap.now.bytes db which) }
     ensures passes { OnOk result (NoneHolds (writing_checks heap.now.bytes db)) }
     ensures refused { IfErr result (FirstBrings (writing_checks heap.now.bytes db)) }
 {
@@ -47,9 +44,9 @@ pub(crate) fn find_writable_block(heap: &Heap, db: Db, which: Which) -> Result<F
     if DbAttrs(attributes(header)).is_read_only() {
         return Err(Refusal::ReadOnly);
     }
-    Ok(FoundBlock {
+    Ok(InDatabase {
         opened,
-        name: Name(block_in(header, which)),
+        item: Name(block_in(header, which)),
     })
 }
 
@@ -83,10 +80,10 @@ pub(crate) fn give_block(heap: &mut Heap, opened: OpenDatabase, which: Which, na
 
 /// Takes an info block from a database, and gives its chunk to an owner. The chunk keeps its locks.
 /// The database counts the call.
-pub(crate) fn take_block(heap: &mut Heap, found: FoundBlock, which: Which, owner: u8)
+pub(crate) fn take_block(heap: &mut Heap, found: InDatabase<Name>, which: Which, owner: u8)
     requires accepted { Accepted heap.old.bytes }
     requires opened { IsOpened heap.old.bytes found.opened }
-    requires is { found.name.0 ≡ block_of_image heap.old.bytes found.opened.db which }
+    requires is { found.item.0 ≡ block_of_image heap.old.bytes found.opened.db which }
     requires there { 0 < block_of_image heap.old.bytes found.opened.db which }
     requires owner { MayOwn owner }
     ensures taken { LeavesStore heap.old.bytes heap.new.bytes
@@ -97,5 +94,5 @@ pub(crate) fn take_block(heap: &mut Heap, found: FoundBlock, which: Which, owner
     ensures rest { heap.new ≡ record heap.old { bytes = heap.new.bytes } }
 {
     write_block(heap, found.opened, which, 0);
-    heap.sys_set_owner(found.name, owner);
+    heap.sys_set_owner(found.item, owner);
 }

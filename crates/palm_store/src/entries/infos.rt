@@ -1,17 +1,12 @@
 //! The information on entries that callers give and get.
 
 use database_edits::OpenDatabase;
-use db_format::DbAttrs;
-use heap_model::Entry;
 
-/// The database and the entry that a look-up by index finds.
+/// An item that was found in a database, such as an entry, and the open database.
 #[derive(Clone, Copy)]
-pub struct FoundEntry {
+pub struct InDatabase<T> {
     pub opened: OpenDatabase,
-    /// The attributes of the database.
-    pub attributes: DbAttrs,
-    /// The fields of the entry at the index, if there is one.
-    pub entry: Option<Entry>,
+    pub item: T,
 }
 
 /// The fields of an entry except for its data.

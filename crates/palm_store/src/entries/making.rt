@@ -106,50 +106,43 @@ pub(crate) fn take_in(
     Ok(())
 }
 
-/// A new entry, without data yet, and the IDs that are known to be free besides its own.
-#[derive(Clone, Copy)]
-pub(crate) struct MadeEntry {
-    pub(crate) entry: DbEntry,
-    pub(crate) known: KnownIds,
-}
-
-/// Returns the new entry. A record gets a fresh ID: the next one, if that is known to be free.
+/// Returns the new entry, without data yet, and the IDs that are known to be free besides its own.
+/// A record gets a fresh ID: the next one, if that is known to be free.
 #[inline(always)]
 pub(crate) fn new_entry(
     heap: &Heap,
     opened: OpenDatabase,
     entry: NewEntry,
     known: KnownIds,
-) -> MadeEntry
+) -> (DbEntry, KnownIds)
     requires accepted { Accepted heap.now.bytes }
     requires opened { IsOpened heap.now.bytes opened }
     requires kind { makes_resource entry ≡ resources_of_image heap.now.bytes opened.db }
     requires few { length (entries_of_image heap.now.bytes opened.db) < most_entries }
     requires known { StandFree (store_of heap.now.bytes) known }
-    ensures is { IsMadeOf (store_of heap.now.bytes) opened.db entry 0 (entry_of result.entry) }
-    ensures kind { is_resource result.entry ≡ makes_resource entry }
-    ensures id { HasFittingId result.entry }
-    ensures fits { EntryFits (is_resource result.entry) (entry_of result.entry) }
-    ensures known { StandFreeBeside (store_of heap.now.bytes) (entry_of result.entry) result.known }
+    ensures is { IsMadeOf (store_of heap.now.bytes) opened.db entry 0 (entry_of result.0) }
+    ensures kind { is_resource result.0 ≡ makes_resource entry }
+    ensures id { HasFittingId result.0 }
+    ensures fits { EntryFits (is_resource result.0) (entry_of result.0) }
+    ensures known { StandFreeBeside (store_of heap.now.bytes) (entry_of result.0) result.1 }
 {
     match entry {
         NewEntry::Record { attributes } => {
             let free = free_ids(header_in(heap, opened), known.of(opened.db));
-            MadeEntry {
-                entry: DbEntry::Record(RecordEntry {
-                    attributes: RecordAttrs::from_bits_retain(attributes),
-                    id: free.first,
-                    slot: 0,
-                }),
-                known: KnownIds {
-                    db: opened.db,
-                    ids: free.without(free.first),
-                },
-            }
+            let record = RecordEntry {
+                attributes: RecordAttrs::from_bits_retain(attributes),
+                id: free.first,
+                slot: 0,
+            };
+            let known = KnownIds {
+                db: opened.db,
+                ids: free.without(free.first),
+            };
+            (DbEntry::Record(record), known)
         }
-        NewEntry::Resource { kind, id } => MadeEntry {
-            entry: DbEntry::Resource(ResourceEntry { kind, id, slot: 0 }),
-            known,
-        },
+        NewEntry::Resource { kind, id } => {
+            let resource = ResourceEntry { kind, id, slot: 0 };
+            (DbEntry::Resource(resource), known)
+        }
     }
 }

@@ -9,23 +9,23 @@ ghost use Rattle.heap_model.specs.Space.{FitsInPlace, MovesNothing, MovesOneStre
 ghost use Rattle.heap_model.specs.Store.{Accepted, store_of};
 ghost use Rattle.heap_model.specs.Refusals.{NoneHolds, FirstBrings};
 ghost use Rattle.heap_model.specs.StoreWords.{with_number};
-ghost use Rattle.heap_model.specs.EntrySteps.{data_freed, raised, MakesNone};
+ghost use Rattle.heap_model.specs.EntrySteps.{entry_under, data_freed, raised, OfEntry, Tells, MakesNone};
 ghost use Rattle.heap_model.specs.StoreSteps.{StoreAsBefore};
 ghost use Rattle.palm_store.specs.Databases.{HasNumber, HasDatabase};
 ghost use Rattle.palm_store.specs.Opened.{IsOpened};
 ghost use Rattle.palm_store.specs.EntryInfos.{makes_resource, MayOwn, dropped_to};
-ghost use Rattle.palm_store.specs.EntryCalls.{entries_of_image, resources_of_image, data_of_image, HasDbAttributes, HasLockedData, IsEntryData, IsHeard, MayHave, MayBeGiven, checks_of_giving, checks_of_making, checks_of_attaching, checks_of_data_growth, raised_if, LeavesChanged, LeavesMade, LeavesAttached, entry_informed, entry_given, entry_moved_in, data_sized};
+ghost use Rattle.palm_store.specs.EntryCalls.{entries_of_image, resources_of_image, data_of_image, HasLockedData, IsEntryData, MayHave, MayBeGiven, checks_of_giving, checks_of_making, checks_of_attaching, checks_of_data_growth, raised_if, LeavesChanged, LeavesMade, LeavesAttached, entry_informed, entry_given, entry_moved_in, data_sized};
 
 use crate::chunks::{check_taken, free_chunk_of};
 use crate::entries::{
-    EntryInfo, FoundEntry, NewEntry, emptied, entry_at, entry_with, new_entry, put_in, read_entry,
-    take_in, with_slot,
+    EntryInfo, NewEntry, emptied, entry_with, new_entry, put_in, read_entry, take_in, told,
+    with_slot,
 };
 use crate::lookup::{find_header, find_opened, header_in, opened_of};
 use crate::store::Store;
 use database_edits::{OpenDatabase, count_change, move_entry, remove_entry, write_entry};
-use db_format::{DatabaseView, DbAttrs};
-use heap_model::{Db, Name, Refusal};
+use db_format::DatabaseView;
+use heap_model::{Db, Entry, Name, Refusal};
 use mem_manager::DATA_OWNER;
 
 /// The greatest number of entries of a database.
@@ -83,30 +83,14 @@ impl Store {
         DatabaseView::of(header_in(&self.heap, opened))
     }
 
-    /// Returns the attributes of a database, and the fields of its entry at an index, if there is
-    /// one.
-    ///
-    /// # Errors
-    /// - `NoSuchDatabase`: if no database has the number.
+    /// Returns the fields of an entry of an open database.
     #[inline(always)]
-    pub fn find_entry(&self, db: Db, index: u32) -> Result<FoundEntry, Refusal>
-        ensures accepted { Accepted self.now.bytes }
-        ensures known { OnOk result (HasNumber self.now.bytes db.0) }
-        ensures attributes { IfOk result (λ found.
-            HasDbAttributes self.now.bytes db found.attributes.0) }
-        ensures opened { IfOk result (λ found. IsOpened self.now.bytes found.opened) }
-        ensures db { IfOk result (λ found. found.opened.db ≡ db) }
-        ensures entry { IfOk result (λ found. IsHeard self.now.bytes db index found.entry) }
-        ensures unknown { OnErr result (with_number (store_of self.now.bytes) db.0 ≡ None) }
-        ensures refusal { IfErr result (λ refusal. refusal ≡ Refusal.NoSuchDatabase) }
+    pub fn entry_in(&self, opened: OpenDatabase, index: u32) -> Entry
+        requires opened { IsOpened self.now.bytes opened }
+        requires inside { index < length (entries_of_image self.now.bytes opened.db) }
+        ensures { OfEntry (entry_under (store_of self.now.bytes) opened.db index) (Tells result) }
     {
-        let opened = find_opened(&self.heap, db)?;
-        let header = header_in(&self.heap, opened);
-        Ok(FoundEntry {
-            opened,
-            attributes: DbAttrs(db_format::attributes(header)),
-            entry: entry_at(header, index),
-        })
+        told(read_entry(&self.heap, opened, index))
     }
 
     /// Makes an entry at an index with `size` zeros for its data, and returns the name of the data.
@@ -145,9 +129,9 @@ impl Store {
         if opened.entry_count >= MOST_ENTRIES {
             return Err(Refusal::TooManyEntries);
         }
-        let made = new_entry(&self.heap, opened, entry, self.known);
-        let name = put_in(&mut self.heap, opened, at, made.entry, size)?;
-        self.known = made.known;
+        let (made, known) = new_entry(&self.heap, opened, entry, self.known);
+        let name = put_in(&mut self.heap, opened, at, made, size)?;
+        self.known = known;
         Ok(name)
     }
 
@@ -195,9 +179,9 @@ impl Store {
         if opened.entry_count >= MOST_ENTRIES {
             return Err(Refusal::TooManyEntries);
         }
-        let made = new_entry(&self.heap, opened, entry, self.known);
-        take_in(&mut self.heap, opened, at, made.entry, name)?;
-        self.known = made.known;
+        let (made, known) = new_entry(&self.heap, opened, entry, self.known);
+        take_in(&mut self.heap, opened, at, made, name)?;
+        self.known = known;
         Ok(())
     }
 

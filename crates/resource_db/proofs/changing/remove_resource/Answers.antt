@@ -15,7 +15,7 @@ use Rattle.resource_db.proofs.changing.remove_resource.Goals as goal
 pub is_locked-requires : goal.is_locked-requires
 is_locked-requires c =
     let found = c.in_ok-resource.ensures in
-    let info = c.in_ok-resource.resource.info in
+    let info = c.in_ok-resource.resource.item in
     data_named c.args.store.now.bytes c.args.db c.args.index (a_resource info.kind info.id info.«data».0) found.accepted found.known found.is found.some
 
 pub returns-then-is_locked-clause-does : goal.returns-then-is_locked-clause-does

@@ -30,7 +30,7 @@ pub returns-in_err-entry_resize-clause-does : goal.returns-in_err-entry_resize-c
 returns-in_err-entry_resize-clause-does c =
     let none = c.in_ok-resource.ensures.passes in
     let refusal : Refusal = c.in_err-entry_resize.field-0.0 in
-    let named : c.in_ok-resource.resource.info.«data».0 ≡ data_under (store_of c.args.store.now.bytes) c.args.db c.args.index = sym (ap data_of_entry c.in_ok-resource.ensures.is) in
+    let named : c.in_ok-resource.resource.item.«data».0 ≡ data_under (store_of c.args.store.now.bytes) c.args.db c.args.index = sym (ap data_of_entry c.in_ok-resource.ensures.is) in
     let brings = subst (λ (name : ℕ). FirstBrings (checks_of_data_growth c.args.store.now name c.args.size) refusal) named c.in_err-entry_resize.ensures.why in
     handed_on (λ done. Done) (calls.Resource (Resize c.args.db c.args.index c.args.size)) c.from_residual-in_err-entry_resize.result (let e = c.from_residual-in_err-entry_resize.ensures in (e.0, e.1))
     (subst (λ (new : Memory). DoesInStore c.args.store.now (calls.Resource (Resize c.args.db c.args.index c.args.size)) (Refused refusal) new) (sym c.in_err-entry_resize.ensures.refused)
@@ -39,7 +39,7 @@ returns-in_err-entry_resize-clause-does c =
 pub returns-clause-does : goal.returns-clause-does
 returns-clause-does c =
     let none = c.in_ok-resource.ensures.passes in
-    let named : c.in_ok-resource.resource.info.«data».0 ≡ data_under (store_of c.args.store.now.bytes) c.args.db c.args.index = sym (ap data_of_entry c.in_ok-resource.ensures.is) in
+    let named : c.in_ok-resource.resource.item.«data».0 ≡ data_under (store_of c.args.store.now.bytes) c.args.db c.args.index = sym (ap data_of_entry c.in_ok-resource.ensures.is) in
     let grows = subst (λ (name : ℕ). NoneHolds (checks_of_data_growth c.args.store.now name c.args.size)) named c.in_ok-entry_resize.ensures.could in
     let sized = subst (λ (name : ℕ). LeavesStore c.args.store.now.bytes c.entry_resize.new.self.bytes (data_sized (store_of c.args.store.now.bytes) name c.args.size)) named c.in_ok-entry_resize.ensures.done in
     let leaves = raised_after c.args.store.now.bytes c.entry_resize.new.self.bytes c.count_change.new.self.bytes c.args.db _ sized (rw (← c.opened_of-opened.ensures.db) c.count_change.ensures.counted) c.count_change.ensures.none_made in
@@ -48,11 +48,11 @@ returns-clause-does c =
 
 pub returns-clause-unmoved : goal.returns-clause-unmoved
 returns-clause-unmoved c = λ fits.
-    let named : c.in_ok-resource.resource.info.«data».0 ≡ data_under (store_of c.args.store.now.bytes) c.args.db c.args.index = sym (ap data_of_entry c.in_ok-resource.ensures.is) in
+    let named : c.in_ok-resource.resource.item.«data».0 ≡ data_under (store_of c.args.store.now.bytes) c.args.db c.args.index = sym (ap data_of_entry c.in_ok-resource.ensures.is) in
     nothing_moved c.args.store.now.bytes c.entry_resize.new.self.bytes c.count_change.new.self.bytes (c.in_ok-entry_resize.ensures.unmoved (subst (λ (name : ℕ). FitsInPlace c.args.store.now.bytes name (need c.args.size)) (sym named) fits)) c.count_change.ensures.unmoved c.count_change.ensures.none_made
 
 pub returns-clause-one_stretch : goal.returns-clause-one_stretch
 returns-clause-one_stretch c =
-    let named : c.in_ok-resource.resource.info.«data».0 ≡ data_under (store_of c.args.store.now.bytes) c.args.db c.args.index = sym (ap data_of_entry c.in_ok-resource.ensures.is) in
+    let named : c.in_ok-resource.resource.item.«data».0 ≡ data_under (store_of c.args.store.now.bytes) c.args.db c.args.index = sym (ap data_of_entry c.in_ok-resource.ensures.is) in
     subst (λ (name : ℕ). MovesOneStretchAnd c.args.store.now.bytes c.count_change.new.self.bytes name) named
-    (one_stretch_moved c.args.store.now.bytes c.entry_resize.new.self.bytes c.count_change.new.self.bytes c.in_ok-resource.resource.info.«data».0 c.in_ok-entry_resize.ensures.one_stretch c.count_change.ensures.unmoved c.count_change.ensures.none_made)
+    (one_stretch_moved c.args.store.now.bytes c.entry_resize.new.self.bytes c.count_change.new.self.bytes c.in_ok-resource.resource.item.«data».0 c.in_ok-entry_resize.ensures.one_stretch c.count_change.ensures.unmoved c.count_change.ensures.none_made)
