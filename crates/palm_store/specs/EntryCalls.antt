@@ -10,10 +10,8 @@ use Rattle.heap_model.specs.MemorySteps.{Of, IsLocked, growth_checks}
 use Rattle.heap_model.specs.Store.{Store, store_of}
 use Rattle.heap_model.specs.EntrySteps.{entries_in, data_under, resources_under, with_entries, with_chunks, entry_made, entry_attached, entry_changed, entry_swapped, raised, making_checks, attaching_checks, giving_checks, LeavesStore}
 use Rattle.heap_model.specs.declared.names.Db.{Db}
-use Rattle.palm_store.specs.declared.entries.infos.EntryInfo.{EntryInfo}
-use Rattle.palm_store.specs.declared.entries.infos.NewEntry.{NewEntry}
 use Rattle.palm_store.specs.Databases.{HasNumber}
-use Rattle.palm_store.specs.EntryInfos.{with_info, IsMadeOf, CanHave}
+use Rattle.palm_store.specs.EntryInfos.{EntryInfo, NewEntry, with_info, IsMadeOf, CanHave}
 
 -- ---- a database of the image
 

@@ -6,7 +6,7 @@ mod making;
 mod reading;
 mod shapes;
 
-pub use infos::{EntryInfo, InDatabase, NewEntry};
+pub use infos::{EntryInfo, InDatabase};
 pub(crate) use known::{KnownIds, NOTHING_KNOWN};
 pub(crate) use making::{new_entry, put_in, take_in};
 pub(crate) use reading::read_entry;

@@ -21,8 +21,8 @@ mod opening;
 mod store;
 
 pub use database_edits::OpenDatabase;
-pub use databases::{BlockSizes, WholeEntry};
-pub use entries::{EntryInfo, InDatabase, NewEntry};
+pub use databases::BlockSizes;
+pub use entries::{EntryInfo, InDatabase};
 pub use heap_migration::MigrateFault;
 pub use locks::is_locked;
 pub use mem_manager::{FIXED_LOCK, Found, Loan, Locked, check_owner};

@@ -27,10 +27,9 @@ use Rattle.heap_model.specs.declared.call.Reply.TheVariants as replies
 use Rattle.heap_model.specs.declared.refusal.Refusal.{Refusal}
 use Rattle.heap_model.specs.declared.refusal.Refusal.TheVariants.{OutOfMemory}
 use Rattle.laws_store.proofs.CallSteps.{refused}
-use Rattle.palm_store.specs.declared.databases.whole.WholeEntry.{WholeEntry}
-use Rattle.palm_store.specs.declared.databases.whole.WholeEntry.TheVariants as whole
+use Rattle.palm_store.specs.declared.entries.infos.EntryInfo.TheVariants as infos
 use Rattle.palm_store.specs.EntryCalls.{LeavesChanged}
-use Rattle.palm_store.specs.WholeDatabases.{data_sizes, id_asked, entry_named, entries_named, whole_database, whole_size, RunsOut, IsGained, GainsZeros, MakesWhole, checks_of_whole}
+use Rattle.palm_store.specs.WholeDatabases.{WholeEntry, data_sizes, id_asked, entry_named, entries_named, whole_database, whole_size, RunsOut, IsGained, GainsZeros, MakesWhole, checks_of_whole}
 use Rattle.palm_store.proofs.Rests.{then_written}
 use Rattle.palm_store.proofs.WholeSteps.{whole_data}
 use Rattle.pdb_files.specs.declared.importing.plan.Plan.{Plan}
@@ -76,16 +75,16 @@ named bytes entries names = map (entry_with bytes) (entries_named entries names)
 
 ids_kept : (bytes : ℕ → Option (List ℕ)) (entries : List WholeEntry) (names : List ℕ) → filter_map unique_id (named bytes entries names) ≡ filter_map id_asked entries
 ids_kept bytes [] names = refl
-ids_kept bytes (whole.Record attributes id size ∷ entries) [] = ap (λ (ids : List ℕ). id ∷ ids) (ids_kept bytes entries [])
-ids_kept bytes (whole.Resource kind id size ∷ entries) [] = ids_kept bytes entries []
-ids_kept bytes (whole.Record attributes id size ∷ entries) (name ∷ names) = ap (λ (ids : List ℕ). id ∷ ids) (ids_kept bytes entries names)
-ids_kept bytes (whole.Resource kind id size ∷ entries) (name ∷ names) = ids_kept bytes entries names
+ids_kept bytes ((infos.Record attributes id, size) ∷ entries) [] = ap (λ (ids : List ℕ). id ∷ ids) (ids_kept bytes entries [])
+ids_kept bytes ((infos.Resource kind id, size) ∷ entries) [] = ids_kept bytes entries []
+ids_kept bytes ((infos.Record attributes id, size) ∷ entries) (name ∷ names) = ap (λ (ids : List ℕ). id ∷ ids) (ids_kept bytes entries names)
+ids_kept bytes ((infos.Resource kind id, size) ∷ entries) (name ∷ names) = ids_kept bytes entries names
 
 one_read : (bytes : ℕ → Option (List ℕ)) (entry : Entry ℕ) (one : WholeEntry) (name : ℕ) → IsPlannedAs entry one → IsReadAs entry (entry_with bytes (entry_named one name))
-one_read bytes (a_record attributes id at) (whole.Record other other_id size) name is = is
-one_read bytes (a_record attributes id at) (whole.Resource kind other_id size) name is = is
-one_read bytes (a_resource kind id at) (whole.Record other other_id size) name is = is
-one_read bytes (a_resource kind id at) (whole.Resource other other_id size) name is = is
+one_read bytes (a_record attributes id at) (infos.Record other other_id, size) name is = is
+one_read bytes (a_record attributes id at) (infos.Resource kind other_id, size) name is = is
+one_read bytes (a_resource kind id at) (infos.Record other other_id, size) name is = is
+one_read bytes (a_resource kind id at) (infos.Resource other other_id, size) name is = is
 
 all_read : (bytes : ℕ → Option (List ℕ)) (file_entries : List (Entry ℕ)) (entries : List WholeEntry) (names : List ℕ) → AllZip IsPlannedAs file_entries entries → AllZip IsReadAs file_entries (named bytes entries names)
 all_read bytes [] [] names are = tt

@@ -19,7 +19,8 @@ ghost use Rattle.palm_store.specs.WholeDatabases.{data_sizes, numbers_in, RunsOu
 
 use crate::databases::creating::list_last;
 use crate::databases::gaining::{free_named, make_data};
-use crate::databases::whole::{BlockSizes, WholeEntry, named_entry, named_header};
+use crate::databases::whole::{BlockSizes, named_entry, named_header};
+use crate::entries::EntryInfo;
 use bitflags::Flags;
 use db_format::{DbAttrs, INFO_BLOCKS, NameField, entry_offset};
 use heap_model::{DbInfo, Name, Refusal};
@@ -33,7 +34,7 @@ fn make_data_and_list(
     heap: &mut Heap,
     slot: Name,
     blocks: BlockSizes,
-    entries: &[WholeEntry],
+    entries: &[(EntryInfo, Option<u32>)],
     names: &mut [Name],
 ) -> Result<(), Refusal>
     requires heap { HeapAccepted heap.old.bytes }
@@ -67,7 +68,7 @@ pub(crate) fn list_whole(
     heap: &mut Heap,
     size: u32,
     blocks: BlockSizes,
-    entries: &[WholeEntry],
+    entries: &[(EntryInfo, Option<u32>)],
     names: &mut [Name],
 ) -> Result<Name, Refusal>
     requires accepted { Accepted heap.old.bytes }
@@ -99,7 +100,7 @@ fn write_entries(
     slot: Name,
     chunk: Found,
     resources: bool,
-    entries: &[WholeEntry],
+    entries: &[(EntryInfo, Option<u32>)],
     names: &[Name],
 )
     requires stands { StandsAs heap.old.bytes slot.0 chunk }
@@ -131,7 +132,7 @@ pub(crate) fn write_whole(
     heap: &mut Heap,
     slot: Name,
     info: &DbInfo,
-    entries: &[WholeEntry],
+    entries: &[(EntryInfo, Option<u32>)],
     names: &[Name],
 )
     requires heap { HeapAccepted heap.old.bytes }

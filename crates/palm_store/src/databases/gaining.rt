@@ -10,7 +10,8 @@ ghost use Rattle.heap_model.specs.FileSteps.{makings};
 ghost use Rattle.palm_store.specs.WholeDatabases.{data_sizes, numbers_in, RunsOut, MakesAll, AreOwnChunks};
 
 use crate::chunks::free_chunk_of;
-use crate::databases::whole::{BlockSizes, WholeEntry, size_at};
+use crate::databases::whole::{BlockSizes, size_at};
+use crate::entries::EntryInfo;
 use heap_model::{Name, Refusal};
 use mem_manager::{DATA_OWNER, Heap};
 
@@ -58,7 +59,7 @@ pub(crate) fn free_named(heap: &mut Heap, names: &[Name])
 pub(crate) fn make_data(
     heap: &mut Heap,
     blocks: BlockSizes,
-    entries: &[WholeEntry],
+    entries: &[(EntryInfo, Option<u32>)],
     names: &mut [Name],
 ) -> Result<(), Refusal>
     requires heap { HeapAccepted heap.old.bytes }

@@ -9,20 +9,12 @@ pub struct InDatabase<T> {
     pub item: T,
 }
 
-/// The fields of an entry except for its data.
+/// The fields of an entry except for its data. If the entry is new, a record has no ID yet, and
+/// gets it from the seed of the database: the fields are an `EntryInfo<()>`.
 #[derive(Clone, Copy)]
-pub enum EntryInfo {
+pub enum EntryInfo<Id = u32> {
     /// The unique ID is 1 to 0xFFFFFF.
-    Record { attributes: u8, id: u32 },
-    /// The type is its four bytes as a number.
-    Resource { kind: u32, id: u16 },
-}
-
-/// The fields of a new entry that a caller gives. A record gets its ID from the seed of the
-/// database.
-#[derive(Clone, Copy)]
-pub enum NewEntry {
-    Record { attributes: u8 },
+    Record { attributes: u8, id: Id },
     /// The type is its four bytes as a number.
     Resource { kind: u32, id: u16 },
 }

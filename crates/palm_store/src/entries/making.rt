@@ -16,7 +16,7 @@ ghost use Rattle.palm_store.specs.EntryCalls.{entries_of_image, resources_of_ima
 ghost use Rattle.palm_store.specs.NewEntries.{PutsIn, TakesIn};
 ghost use Rattle.palm_store.specs.KnownIds.{StandFree, StandFreeBeside};
 
-use crate::entries::infos::NewEntry;
+use crate::entries::infos::EntryInfo;
 use crate::entries::known::KnownIds;
 use crate::entries::shapes::with_slot;
 use crate::lookup::header_in;
@@ -112,7 +112,7 @@ pub(crate) fn take_in(
 pub(crate) fn new_entry(
     heap: &Heap,
     opened: OpenDatabase,
-    entry: NewEntry,
+    entry: EntryInfo<()>,
     known: KnownIds,
 ) -> (DbEntry, KnownIds)
     requires accepted { Accepted heap.now.bytes }
@@ -127,7 +127,7 @@ pub(crate) fn new_entry(
     ensures known { StandFreeBeside (store_of heap.now.bytes) (entry_of result.0) result.1 }
 {
     match entry {
-        NewEntry::Record { attributes } => {
+        EntryInfo::Record { attributes, .. } => {
             let free = free_ids(header_in(heap, opened), known.of(opened.db));
             let record = RecordEntry {
                 attributes: RecordAttrs::from_bits_retain(attributes),
@@ -140,7 +140,7 @@ pub(crate) fn new_entry(
             };
             (DbEntry::Record(record), known)
         }
-        NewEntry::Resource { kind, id } => {
+        EntryInfo::Resource { kind, id } => {
             let resource = ResourceEntry { kind, id, slot: 0 };
             (DbEntry::Resource(resource), known)
         }

@@ -18,8 +18,7 @@ ghost use Rattle.palm_store.specs.EntryCalls.{entries_of_image, resources_of_ima
 
 use crate::chunks::{check_taken, free_chunk_of};
 use crate::entries::{
-    EntryInfo, NewEntry, emptied, entry_with, new_entry, put_in, read_entry, take_in, told,
-    with_slot,
+    EntryInfo, emptied, entry_with, new_entry, put_in, read_entry, take_in, told, with_slot,
 };
 use crate::lookup::{find_header, find_opened, header_in, opened_of};
 use crate::store::Store;
@@ -107,7 +106,7 @@ impl Store {
         &mut self,
         opened: OpenDatabase,
         at: u32,
-        entry: NewEntry,
+        entry: EntryInfo<()>,
         size: u32,
     ) -> Result<Name, Refusal>
         requires opened { IsOpened self.old.bytes opened }
@@ -161,7 +160,7 @@ impl Store {
         &mut self,
         opened: OpenDatabase,
         at: u32,
-        entry: NewEntry,
+        entry: EntryInfo<()>,
         name: Name,
     ) -> Result<(), Refusal>
         requires opened { IsOpened self.old.bytes opened }

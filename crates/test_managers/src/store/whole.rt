@@ -5,7 +5,7 @@ ghost use Rattle.heap_model.specs.DatabaseFields.{name_size};
 
 use crate::store::images::with_databases;
 use heap_model::{Db, DbInfo, DbName, Entry, Name, RecordInfo, Refusal, ResourceInfo, Which};
-use palm_store::{Access, BlockSizes, EntryKind, Store, WholeEntry, count_entries, find_entry};
+use palm_store::{Access, BlockSizes, EntryInfo, EntryKind, Store, count_entries, find_entry};
 use std::alloc::Global;
 use std::test::*;
 use test_beside::{blank_image, store_of};
@@ -43,18 +43,15 @@ fn make_records(store: &mut Store, names: &mut [Name]) -> Result<Db, Refusal>
         app_info: Some(3),
         sort_info: None,
     };
-    let entries = [
-        WholeEntry::Record {
-            attributes: 0x41,
-            id: 12,
-            size: Some(10),
-        },
-        WholeEntry::Record {
-            attributes: 0x80,
-            id: 11,
-            size: None,
-        },
-    ];
+    let first = EntryInfo::Record {
+        attributes: 0x41,
+        id: 12,
+    };
+    let deleted = EntryInfo::Record {
+        attributes: 0x80,
+        id: 11,
+    };
+    let entries = [(first, Some(10)), (deleted, None)];
     store.create_whole(&info_of_two(b"W", 0x0008), blocks, &entries, names)
 }
 
@@ -68,18 +65,11 @@ fn make_resources(store: &mut Store, names: &mut [Name]) -> Result<Db, Refusal>
         app_info: None,
         sort_info: Some(0),
     };
-    let entries = [
-        WholeEntry::Resource {
-            kind: 0x7453_5452,
-            id: 1000,
-            size: 0,
-        },
-        WholeEntry::Resource {
-            kind: 0x7453_5452,
-            id: 1000,
-            size: 5,
-        },
-    ];
+    let resource = EntryInfo::Resource {
+        kind: 0x7453_5452,
+        id: 1000,
+    };
+    let entries = [(resource, Some(0)), (resource, Some(5))];
     store.create_whole(&info_of_two(b"W", 0x0001), blocks, &entries, names)
 }
 

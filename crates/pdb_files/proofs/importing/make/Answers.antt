@@ -11,8 +11,7 @@ use Rattle.heap_model.specs.declared.refusal.Refusal.TheVariants.{OutOfMemory}
 use Rattle.laws_heap.proofs.KeptLoans.{keeps_then}
 use Rattle.laws_heap.proofs.Results.{if_err}
 use Rattle.laws_store.proofs.CallSteps.{handed_on}
-use Rattle.palm_store.specs.declared.databases.whole.WholeEntry.{WholeEntry}
-use Rattle.palm_store.specs.WholeDatabases.{data_sizes, numbers_in, MakesWhole, checks_of_whole}
+use Rattle.palm_store.specs.WholeDatabases.{WholeEntry, data_sizes, numbers_in, MakesWhole, checks_of_whole}
 use Rattle.pdb_files.specs.Filling.{AreFilled}
 use Rattle.pdb_files.proofs.Refusals.{whole_not_memory}
 use Rattle.pdb_files.proofs.ReadDatabases.{zeros_first, imported, no_room_left, names_enough}

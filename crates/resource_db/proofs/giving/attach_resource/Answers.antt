@@ -14,7 +14,7 @@ use Rattle.heap_model.specs.declared.names.Db.{Db}
 use Rattle.heap_model.specs.declared.refusal.Refusal.{Refusal}
 use Rattle.laws_store.proofs.CallSteps.{refused, handed_on, changes}
 use Rattle.palm_store.specs.EntryCalls.{checks_of_attaching, LeavesAttached, LeavesChanged}
-use Rattle.palm_store.specs.declared.entries.infos.NewEntry.TheVariants as given_as
+use Rattle.palm_store.specs.declared.entries.infos.EntryInfo.TheVariants as given_as
 use Rattle.resource_db.proofs.giving.attach_resource.Goals as goal
 
 pub returns-in_err-entry_attach-clause-does : goal.returns-in_err-entry_attach-clause-does
