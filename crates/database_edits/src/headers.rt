@@ -3,7 +3,7 @@
 ghost use Rattle.std.specs.Prelude.{◌≡◌, ◌≤◌, length};
 ghost use Rattle.heap_model.specs.DatabaseFields.{header_size};
 ghost use Rattle.heap_model.specs.Space.{MovesNothing};
-ghost use Rattle.heap_model.specs.Lending.{KeepsLoan};
+ghost use Rattle.database_edits.specs.Kept.{OnlyWrites};
 ghost use Rattle.heap_model.specs.Leaving.{database_here};
 ghost use Rattle.heap_model.specs.Store.{bytes_under};
 ghost use Rattle.db_format.specs.Headers.{HasModificationNumber, HasSeed, HasEntryCount, HasInfoBlock};
@@ -54,8 +54,7 @@ pub(crate) fn put_modification_number(heap: &mut Heap, opened: OpenDatabase, num
     ensures puts { PutsHeader heap.old.bytes heap.new.bytes opened.db.0 (HasModificationNumber number) }
     ensures unmoved { MovesNothing heap.old.bytes heap.new.bytes }
     ensures stands { StandsAs heap.new.bytes opened.db.0 opened.chunk }
-    ensures loan { KeepsLoan heap.old heap.new }
-    ensures rest { heap.new ≡ record heap.old { bytes = heap.new.bytes } }
+    ensures kept { OnlyWrites heap.old heap.new }
 {
     let bytes = modification_number_bytes(number);
     heap.sys_write(
@@ -76,8 +75,7 @@ pub(crate) fn put_seed(heap: &mut Heap, opened: OpenDatabase, seed: u32)
     ensures managers { IsManagers heap.new.bytes opened.db.0 }
     ensures inside { header_size ≤ length (bytes_under heap.new.bytes opened.db.0) }
     ensures stands { StandsAs heap.new.bytes opened.db.0 opened.chunk }
-    ensures loan { KeepsLoan heap.old heap.new }
-    ensures rest { heap.new ≡ record heap.old { bytes = heap.new.bytes } }
+    ensures kept { OnlyWrites heap.old heap.new }
 {
     let bytes = seed_bytes(seed);
     heap.sys_write(Name(opened.db.0), opened.chunk, SEED_AT as u32, &bytes);
@@ -93,8 +91,7 @@ pub(crate) fn put_entry_count(heap: &mut Heap, opened: OpenDatabase, count: u16)
     ensures managers { IsManagers heap.new.bytes opened.db.0 }
     ensures inside { header_size ≤ length (bytes_under heap.new.bytes opened.db.0) }
     ensures stands { StandsAs heap.new.bytes opened.db.0 opened.chunk }
-    ensures loan { KeepsLoan heap.old heap.new }
-    ensures rest { heap.new ≡ record heap.old { bytes = heap.new.bytes } }
+    ensures kept { OnlyWrites heap.old heap.new }
 {
     let bytes = entry_count_bytes(count);
     heap.sys_write(
@@ -114,8 +111,7 @@ pub(crate) fn put_info_block(heap: &mut Heap, opened: OpenDatabase, which: Which
     ensures managers { IsManagers heap.new.bytes opened.db.0 }
     ensures inside { header_size ≤ length (bytes_under heap.new.bytes opened.db.0) }
     ensures stands { StandsAs heap.new.bytes opened.db.0 opened.chunk }
-    ensures loan { KeepsLoan heap.old heap.new }
-    ensures rest { heap.new ≡ record heap.old { bytes = heap.new.bytes } }
+    ensures kept { OnlyWrites heap.old heap.new }
 {
     let bytes = info_block_bytes(slot);
     heap.sys_write(

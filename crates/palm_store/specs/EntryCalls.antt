@@ -11,6 +11,7 @@ use Rattle.heap_model.specs.Store.{Store, store_of}
 use Rattle.heap_model.specs.EntrySteps.{entries_in, data_under, resources_under, with_entries, with_chunks, entry_made, entry_attached, entry_changed, entry_swapped, raised, making_checks, attaching_checks, giving_checks, LeavesStore}
 use Rattle.heap_model.specs.declared.names.Db.{Db}
 use Rattle.palm_store.specs.Databases.{HasNumber}
+pub use Rattle.database_edits.specs.Kept.{OnlyWrites, OnlySlides}
 use Rattle.palm_store.specs.EntryInfos.{EntryInfo, NewEntry, with_info, IsMadeOf, CanHave}
 
 -- ---- a database of the image

@@ -7,7 +7,6 @@ use Rattle.std.proofs.lemmas.List.{length-map, get_or-map, ext_get_or, get_or_de
 use Rattle.std.proofs.lemmas.List.FromFn.{length-map-range_with_len}
 use Rattle.heap_model.specs.Chunk.{data_owner}
 use Rattle.heap_model.specs.Memory.{Memory}
-use Rattle.heap_model.specs.Lending.{KeepsLoan}
 use Rattle.heap_model.specs.Lists.{times}
 use Rattle.heap_model.specs.Meaning.{LiveChunk, ChunkMap}
 use Rattle.heap_model.specs.MemorySteps.{Of}
@@ -28,9 +27,8 @@ use Rattle.heap_model.specs.declared.refusal.Refusal.{Refusal}
 use Rattle.heap_model.specs.declared.refusal.Refusal.TheVariants.{OutOfMemory}
 use Rattle.laws_store.proofs.CallSteps.{refused}
 use Rattle.palm_store.specs.declared.entries.infos.EntryInfo.TheVariants as infos
-use Rattle.palm_store.specs.EntryCalls.{LeavesChanged}
+use Rattle.palm_store.specs.EntryCalls.{LeavesChanged, OnlySlides}
 use Rattle.palm_store.specs.WholeDatabases.{WholeEntry, data_sizes, id_asked, entry_named, entries_named, whole_database, whole_size, RunsOut, IsGained, GainsZeros, MakesWhole, checks_of_whole}
-use Rattle.palm_store.proofs.Rests.{then_written}
 use Rattle.palm_store.proofs.WholeSteps.{whole_data}
 use Rattle.pdb_files.specs.declared.importing.plan.Plan.{Plan}
 use Rattle.pdb_files.specs.Plans.{IsPlannedAs, IsPlan}
@@ -164,8 +162,8 @@ still_filled old mid new names still refills name live there locked stays =
 
 pub imported : (old mid new : Memory) (file : List ℕ) (db : Db) (plan : Plan) (names : List ℕ) → Accepted old.bytes → HasNoFault file → (IsTaken (store_of old.bytes) 0 (name_in file) → ⊥) → length (store_of old.bytes).databases < most_databases → IsPlan file plan
     → MakesWhole old.bytes mid.bytes db.0 plan.info plan.sizes plan.entries.items names → Refills mid.bytes new.bytes names → length names ≡ 2 + length plan.entries.items → AreFilled (store_of new.bytes).map (blocks_in file) names (length names)
-    → KeepsLoan old new → mid ≡ record old { bytes = mid.bytes; slid = mid.slid } → new ≡ record mid { bytes = new.bytes } → DoesInStore old (calls.File (Import file)) (replies.Database db) new
-imported old mid new file db plan names a good free few is makes refills many filled loan first second = record {
+    → OnlySlides old new → DoesInStore old (calls.File (Import file)) (replies.Database db) new
+imported old mid new file db plan names a good free few is makes refills many filled kept = record {
   before = a;
   step = (good_none file _ good (free, ((λ most. omega arith), (tt, (tt, tt)))), (makes.fresh, gains_read old.bytes mid.bytes new.bytes file db.0 plan names good is makes refills many filled));
   accepted = refills.accepted;
@@ -173,9 +171,9 @@ imported old mid new file db plan names a good free few is makes refills many fi
   tables = refills.tables ∙ makes.tables;
   directory = elim makes.directory [ inl stays ↦ inl (refills.directory ∙ stays) | inr begins ↦ inr (begins, tt) ];
   still = still_filled old.bytes mid.bytes new.bytes names makes.still refills;
-  loan = loan;
+  loan = kept.loan;
   asks = tt;
-  rest = then_written old mid new first second;
+  rest = kept.rest;
 }
 
 -- ---- what is refused
@@ -186,9 +184,9 @@ no_memory_left old file a good free few = refused old (calls.File (Import file))
 
 -- if there was no room, all is as before
 pub no_room_left : (old new : Memory) (file : List ℕ) (plan : Plan) (refusal : Refusal) → Accepted old.bytes → HasNoFault file → (IsTaken (store_of old.bytes) 0 (name_in file) → ⊥) → length (store_of old.bytes).databases < most_databases → IsPlan file plan
-    → FirstBrings (checks_of_whole old.bytes plan.info plan.sizes plan.entries.items) refusal → LeavesChanged old new (λ store. store) → StoreAsBefore old new → KeepsLoan old new → new ≡ record old { bytes = new.bytes; slid = new.slid }
+    → FirstBrings (checks_of_whole old.bytes plan.info plan.sizes plan.entries.items) refusal → LeavesChanged old new (λ store. store) → StoreAsBefore old new → OnlySlides old new
     → DoesInStore old (calls.File (Import file)) (replies.Refused refusal) new
-no_room_left old new file plan refusal a good free few is why leaves before loan rest = record {
+no_room_left old new file plan refusal a good free few is why leaves before kept = record {
   before = a;
   step = (good_brings file _ refusal good (lacking why), before);
   accepted = leaves.accepted;
@@ -196,9 +194,9 @@ no_room_left old new file plan refusal a good free few is why leaves before loan
   tables = leaves.tables;
   directory = inl leaves.directory;
   still = leaves.still;
-  loan = loan;
+  loan = kept.loan;
   asks = tt;
-  rest = rest;
+  rest = kept.rest;
 } where
   named_as : plan.info.name ≡ name_in file
   named_as = ap (λ (h : DatabaseHeader). h.name) is.header ∙ name_read file

@@ -2,13 +2,12 @@
 
 ghost use Rattle.std.specs.Prelude.{◌≡◌, ◌<◌, false, Some, length, bit_or, OnErr};
 ghost use Rattle.heap_model.specs.Database.{a_record};
-ghost use Rattle.heap_model.specs.Lending.{KeepsLoan};
 ghost use Rattle.heap_model.specs.Store.{Accepted, store_of};
 ghost use Rattle.heap_model.specs.EntrySteps.{entry_under, entry_changed, with_attributes, MakesNone};
 ghost use Rattle.heap_model.specs.RecordSteps.{id_set};
 ghost use Rattle.heap_model.specs.declared.call.RecordCall.{RecordCall};
 ghost use Rattle.palm_store.specs.Opened.{IsOpened};
-ghost use Rattle.palm_store.specs.EntryCalls.{entries_of_image, resources_of_image, raised_if, LeavesChanged};
+ghost use Rattle.palm_store.specs.EntryCalls.{entries_of_image, resources_of_image, raised_if, LeavesChanged, OnlyWrites};
 ghost use Rattle.palm_store.specs.Replies.{done_or_refused, name_or_refused};
 ghost use Rattle.record_db.specs.Checks.{DoesRecord};
 
@@ -215,8 +214,7 @@ fn mark(
         (λ store. raised_if counts (entry_changed store live.opened.db index
         (with_attributes (λ attributes. bit_or attributes bits.0))) live.opened.db) }
     ensures none_made { MakesNone store.old.bytes store.new.bytes }
-    ensures loan { KeepsLoan store.old store.new }
-    ensures rest { store.new ≡ record store.old { bytes = store.new.bytes } }
+    ensures kept { OnlyWrites store.old store.new }
 {
     let marked = EntryInfo::Record {
         attributes: marked(live.item.0.attributes, bits),

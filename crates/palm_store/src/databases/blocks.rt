@@ -1,7 +1,6 @@
 //! The info blocks of a database: chunks for data that its header names.
 
 ghost use Rattle.std.specs.Prelude.{◌≡◌, ◌<◌, ◌≤◌, length, OnOk, IfOk, IfErr};
-ghost use Rattle.heap_model.specs.Lending.{KeepsLoan};
 ghost use Rattle.heap_model.specs.DatabaseFields.{header_size};
 ghost use Rattle.heap_model.specs.Database.{database_in};
 ghost use Rattle.heap_model.specs.DatabaseSteps.{info_block, info_block_set, info_block_taken};
@@ -9,6 +8,7 @@ ghost use Rattle.heap_model.specs.Refusals.{NoneHolds, FirstBrings};
 ghost use Rattle.heap_model.specs.EntrySteps.{raised, LeavesStore, MakesNone};
 ghost use Rattle.heap_model.specs.Store.{Accepted, store_of};
 ghost use Rattle.palm_store.specs.Databases.{HasNumber};
+ghost use Rattle.database_edits.specs.Kept.{OnlyWrites};
 ghost use Rattle.palm_store.specs.EntryCalls.{MayBeGiven};
 ghost use Rattle.palm_store.specs.EntryInfos.{MayOwn};
 ghost use Rattle.palm_store.specs.Opened.{IsOpened};
@@ -71,8 +71,7 @@ pub(crate) fn give_block(heap: &mut Heap, opened: OpenDatabase, which: Which, na
     ensures given { LeavesStore heap.old.bytes heap.new.bytes
         (raised (info_block_set (store_of heap.old.bytes) opened.db which name.0) opened.db) }
     ensures none_made { MakesNone heap.old.bytes heap.new.bytes }
-    ensures loan { KeepsLoan heap.old heap.new }
-    ensures rest { heap.new ≡ record heap.old { bytes = heap.new.bytes } }
+    ensures kept { OnlyWrites heap.old heap.new }
 {
     write_block(heap, opened, which, name.0);
     heap.sys_set_owner(name, DATA_OWNER);
@@ -90,8 +89,7 @@ pub(crate) fn take_block(heap: &mut Heap, found: InDatabase<Name>, which: Which,
         (raised (info_block_taken (store_of heap.old.bytes) found.opened.db which owner)
         found.opened.db) }
     ensures none_made { MakesNone heap.old.bytes heap.new.bytes }
-    ensures loan { KeepsLoan heap.old heap.new }
-    ensures rest { heap.new ≡ record heap.old { bytes = heap.new.bytes } }
+    ensures kept { OnlyWrites heap.old heap.new }
 {
     write_block(heap, found.opened, which, 0);
     heap.sys_set_owner(found.item, owner);

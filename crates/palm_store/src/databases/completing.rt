@@ -3,7 +3,7 @@
 
 ghost use Rattle.std.specs.Prelude.{◌≡◌, ◌+◌, ◌≤◌, ◌++◌, [], ◌∷◌, ℕ, List, length, take, drop, replicate, IfOk, IfErr, OnOk, OnErr, All, ◌*◌};
 ghost use Rattle.std.specs.List.{flat_map};
-ghost use Rattle.heap_model.specs.Lending.{KeepsLoan};
+ghost use Rattle.database_edits.specs.Kept.{OnlyWrites, OnlySlides};
 ghost use Rattle.heap_model.specs.Chunk.{managers_owner};
 ghost use Rattle.heap_model.specs.Heap.{HeapAccepted};
 ghost use Rattle.heap_model.specs.Reading.{held};
@@ -48,8 +48,7 @@ fn make_data_and_list(
         (makings (data_sizes blocks entries.now) ++ listing_part heap.old.bytes ∷ [])) }
     ensures refusal { IfErr result (λ refusal. refusal ≡ Refusal.NotEnoughSpace) }
     ensures refused { OnErr result (Leaves heap.old.bytes heap.new.bytes (held heap.old.bytes)) }
-    ensures loan { KeepsLoan heap.old heap.new }
-    ensures rest { heap.new ≡ record heap.old { bytes = heap.new.bytes; slid = heap.new.slid } }
+    ensures kept { OnlySlides heap.old heap.new }
 {
     make_data(heap, blocks, entries, names)?;
     if let Err(refusal) = list_last(heap, slot) {
@@ -81,8 +80,7 @@ pub(crate) fn list_whole(
         (whole_parts heap.old.bytes size (data_sizes blocks entries.now))) }
     ensures refusal { IfErr result (λ refusal. refusal ≡ Refusal.NotEnoughSpace) }
     ensures refused { OnErr result (Leaves heap.old.bytes heap.new.bytes (held heap.old.bytes)) }
-    ensures loan { KeepsLoan heap.old heap.new }
-    ensures rest { heap.new ≡ record heap.old { bytes = heap.new.bytes; slid = heap.new.slid } }
+    ensures kept { OnlySlides heap.old heap.new }
 {
     let slot = heap.sys_new(size, MANAGERS_OWNER)?;
     if let Err(refusal) = make_data_and_list(heap, slot, blocks, entries, names) {
@@ -116,8 +114,7 @@ fn write_entries(
         ++ flat_map entry_bytes (entries_named entries.now (drop 2 (numbers_in names.now))))) }
     ensures fits { All (EntryFits resources)
         (entries_named entries.now (drop 2 (numbers_in names.now))) }
-    ensures loan { KeepsLoan heap.old heap.new }
-    ensures rest { heap.new ≡ record heap.old { bytes = heap.new.bytes } }
+    ensures kept { OnlyWrites heap.old heap.new }
 {
     for index in 0..entries.len() {
         let entry = named_entry(entries[index], names[index + INFO_BLOCKS], resources);
@@ -143,8 +140,7 @@ pub(crate) fn write_whole(
     ensures written { Leaves heap.old.bytes heap.new.bytes (rewritten (held heap.old.bytes) slot.0
         (spelled (whole_database info.now entries.now (numbers_in names.now)))) }
     ensures fits { DatabaseFits (whole_database info.now entries.now (numbers_in names.now)) }
-    ensures loan { KeepsLoan heap.old heap.new }
-    ensures rest { heap.new ≡ record heap.old { bytes = heap.new.bytes } }
+    ensures kept { OnlyWrites heap.old heap.new }
 {
     let name = NameField::of_name(info.name.as_slice()).unwrap();
     let header = named_header(info, name, names[0], names[1]);

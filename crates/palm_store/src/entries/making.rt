@@ -1,7 +1,6 @@
 //! Entries that are made.
 
 ghost use Rattle.std.specs.Prelude.{◌≡◌, ◌⊎◌, ℕ, ◌<◌, ◌≤◌, [], ◌∷◌, length, IfOk, OnOk, OnErr, IfErr};
-ghost use Rattle.heap_model.specs.Lending.{KeepsLoan};
 ghost use Rattle.heap_model.specs.Reading.{held};
 ghost use Rattle.heap_model.specs.Space.{free_slots, rooms};
 ghost use Rattle.heap_model.specs.Rooms.{making, Stuck};
@@ -12,6 +11,7 @@ ghost use Rattle.heap_model.specs.EntrySteps.{entry_growth, most_entries, MakesN
 ghost use Rattle.db_format.specs.EitherEntry.{entry_of, is_resource, HasFittingId};
 ghost use Rattle.palm_store.specs.Opened.{IsOpened};
 ghost use Rattle.palm_store.specs.EntryInfos.{makes_resource, IsMadeOf};
+ghost use Rattle.database_edits.specs.Kept.{OnlySlides};
 ghost use Rattle.palm_store.specs.EntryCalls.{entries_of_image, resources_of_image, MayBeGiven};
 ghost use Rattle.palm_store.specs.NewEntries.{PutsIn, TakesIn};
 ghost use Rattle.palm_store.specs.KnownIds.{StandFree, StandFreeBeside};
@@ -54,8 +54,7 @@ pub(crate) fn put_in(
         (making size ∷ entry_growth heap.old.bytes (store_of heap.old.bytes) opened.db ∷ [])) }
     ensures refusal { IfErr result (λ refusal. refusal ≡ Refusal.NotEnoughSpace) }
     ensures refused { OnErr result (Leaves heap.old.bytes heap.new.bytes (held heap.old.bytes)) }
-    ensures loan { KeepsLoan heap.old heap.new }
-    ensures rest { heap.new ≡ record heap.old { bytes = heap.new.bytes; slid = heap.new.slid } }
+    ensures kept { OnlySlides heap.old heap.new }
 {
     let name = heap.sys_new(size, DATA_OWNER)?;
     let still = OpenDatabase {
@@ -98,8 +97,7 @@ pub(crate) fn take_in(
         (entry_growth heap.old.bytes (store_of heap.old.bytes) opened.db ∷ [])) }
     ensures refusal { IfErr result (λ refusal. refusal ≡ Refusal.NotEnoughSpace) }
     ensures refused { OnErr result (heap.new ≡ heap.old) }
-    ensures loan { KeepsLoan heap.old heap.new }
-    ensures rest { heap.new ≡ record heap.old { bytes = heap.new.bytes; slid = heap.new.slid } }
+    ensures kept { OnlySlides heap.old heap.new }
 {
     insert_entry(heap, opened, at as u16, with_slot(entry, name))?;
     heap.sys_set_owner(name, DATA_OWNER);

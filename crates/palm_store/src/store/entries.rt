@@ -2,7 +2,6 @@
 //! the refusals listed. The caller must prove everything else (see each `requires`).
 
 ghost use Rattle.std.specs.Prelude.{◌≡◌, ◌≢◌, ◌<◌, ◌≤◌, None, length, false, IfSome, IfNone, IfOk, OnOk, OnErr, IfErr};
-ghost use Rattle.heap_model.specs.Lending.{KeepsLoan};
 ghost use Rattle.heap_model.specs.Chunk.{need};
 ghost use Rattle.heap_model.specs.Reading.{held};
 ghost use Rattle.heap_model.specs.Space.{FitsInPlace, MovesNothing, MovesOneStretchAnd};
@@ -14,6 +13,7 @@ ghost use Rattle.heap_model.specs.StoreSteps.{StoreAsBefore};
 ghost use Rattle.palm_store.specs.Databases.{HasNumber, HasDatabase};
 ghost use Rattle.palm_store.specs.Opened.{IsOpened};
 ghost use Rattle.palm_store.specs.EntryInfos.{makes_resource, MayOwn, dropped_to};
+ghost use Rattle.database_edits.specs.Kept.{OnlyWrites, OnlySlides};
 ghost use Rattle.palm_store.specs.EntryCalls.{entries_of_image, resources_of_image, data_of_image, HasLockedData, IsEntryData, MayHave, MayBeGiven, checks_of_giving, checks_of_making, checks_of_attaching, checks_of_data_growth, raised_if, LeavesChanged, LeavesMade, LeavesAttached, entry_informed, entry_given, entry_moved_in, data_sized};
 
 use crate::chunks::{check_taken, free_chunk_of};
@@ -120,8 +120,7 @@ impl Store {
         ensures as_before { OnErr result (StoreAsBefore self.old self.new) }
         ensures untouched { IfErr result (λ refusal.
             refusal ≢ Refusal.NotEnoughSpace → self.new ≡ self.old) }
-        ensures loan { KeepsLoan self.old self.new }
-        ensures rest { self.new ≡ record self.old { bytes = self.new.bytes; slid = self.new.slid } }
+        ensures kept { OnlySlides self.old self.new }
     {
         // the store is looked at, so that its invariant is known
         let _ = &self.heap;
@@ -172,8 +171,7 @@ impl Store {
         ensures could { OnOk result (NoneHolds (checks_of_attaching self.old.bytes opened.db)) }
         ensures why { IfErr result (FirstBrings (checks_of_attaching self.old.bytes opened.db)) }
         ensures refused { OnErr result (self.new ≡ self.old) }
-        ensures loan { KeepsLoan self.old self.new }
-        ensures rest { self.new ≡ record self.old { bytes = self.new.bytes; slid = self.new.slid } }
+        ensures kept { OnlySlides self.old self.new }
     {
         if opened.entry_count >= MOST_ENTRIES {
             return Err(Refusal::TooManyEntries);
@@ -201,8 +199,7 @@ impl Store {
         ensures unmoved { FitsInPlace self.old.bytes name.0 (need size)
             → MovesNothing self.old.bytes self.new.bytes }
         ensures one_stretch { MovesOneStretchAnd self.old.bytes self.new.bytes name.0 }
-        ensures loan { KeepsLoan self.old self.new }
-        ensures rest { self.new ≡ record self.old { bytes = self.new.bytes; slid = self.new.slid } }
+        ensures kept { OnlySlides self.old self.new }
     {
         let found = self.heap.sys_find(name);
         self.heap.sys_resize(name, found, size)?;
@@ -219,8 +216,7 @@ impl Store {
         ensures set { LeavesChanged self.old self.new
             (λ store. raised_if counts (entry_informed store opened.db index info) opened.db) }
         ensures none_made { MakesNone self.old.bytes self.new.bytes }
-        ensures loan { KeepsLoan self.old self.new }
-        ensures rest { self.new ≡ record self.old { bytes = self.new.bytes } }
+        ensures kept { OnlyWrites self.old self.new }
     {
         let entry = entry_with(read_entry(&self.heap, opened, index), info);
         write_entry(&mut self.heap, opened, index as u16, entry, counts);
@@ -248,8 +244,7 @@ impl Store {
         ensures swapped { LeavesChanged self.old self.new
             (λ store. raised (entry_given store opened.db index info name.0 owner) opened.db) }
         ensures none_made { MakesNone self.old.bytes self.new.bytes }
-        ensures loan { KeepsLoan self.old self.new }
-        ensures rest { self.new ≡ record self.old { bytes = self.new.bytes } }
+        ensures kept { OnlyWrites self.old self.new }
     {
         let was = read_entry(&self.heap, opened, index);
         let entry = with_slot(entry_with(was, info), name);
@@ -269,8 +264,7 @@ impl Store {
         ensures moved { LeavesChanged self.old self.new
             (λ store. raised (entry_moved_in store opened.db from to) opened.db) }
         ensures none_made { MakesNone self.old.bytes self.new.bytes }
-        ensures loan { KeepsLoan self.old self.new }
-        ensures rest { self.new ≡ record self.old { bytes = self.new.bytes; slid = self.new.slid } }
+        ensures kept { OnlySlides self.old self.new }
     {
         move_entry(&mut self.heap, opened, from as u16, to as u16);
     }
@@ -287,8 +281,7 @@ impl Store {
             (λ store. raised_if counts (data_freed store opened.db index) opened.db) }
         ensures opened { IsOpened self.new.bytes opened }
         ensures none_made { MakesNone self.old.bytes self.new.bytes }
-        ensures loan { KeepsLoan self.old self.new }
-        ensures rest { self.new ≡ record self.old { bytes = self.new.bytes } }
+        ensures kept { OnlyWrites self.old self.new }
     {
         let entry = read_entry(&self.heap, opened, index);
         write_entry(&mut self.heap, opened, index as u16, emptied(entry), counts);
@@ -307,8 +300,7 @@ impl Store {
         ensures dropped { LeavesChanged self.old self.new
             (λ store. raised (dropped_to store opened.db index owner) opened.db) }
         ensures none_made { MakesNone self.old.bytes self.new.bytes }
-        ensures loan { KeepsLoan self.old self.new }
-        ensures rest { self.new ≡ record self.old { bytes = self.new.bytes; slid = self.new.slid } }
+        ensures kept { OnlySlides self.old self.new }
     {
         let slot = Name(read_entry(&self.heap, opened, index).slot());
         remove_entry(&mut self.heap, opened, index as u16);
@@ -325,8 +317,7 @@ impl Store {
         ensures counted { LeavesChanged self.old self.new (λ store. raised store opened.db) }
         ensures none_made { MakesNone self.old.bytes self.new.bytes }
         ensures unmoved { MovesNothing self.old.bytes self.new.bytes }
-        ensures loan { KeepsLoan self.old self.new }
-        ensures rest { self.new ≡ record self.old { bytes = self.new.bytes } }
+        ensures kept { OnlyWrites self.old self.new }
     {
         count_change(&mut self.heap, opened);
     }

@@ -1,9 +1,9 @@
 //! The call that makes a whole database, for a crate that reads one from a file.
 
 ghost use Rattle.std.specs.Prelude.{◌≡◌, ◌≢◌, ◌+◌, length, IfOk, IfErr, OnOk, OnErr};
-ghost use Rattle.heap_model.specs.Lending.{KeepsLoan};
 ghost use Rattle.heap_model.specs.Refusals.{NoneHolds, FirstBrings};
 ghost use Rattle.heap_model.specs.StoreSteps.{StoreAsBefore};
+ghost use Rattle.database_edits.specs.Kept.{OnlySlides};
 ghost use Rattle.palm_store.specs.EntryCalls.{LeavesChanged};
 ghost use Rattle.palm_store.specs.WholeDatabases.{numbers_in, CanBeWhole, MakesWhole, checks_of_whole};
 
@@ -49,8 +49,7 @@ impl Store {
         ensures as_before { OnErr result (StoreAsBefore self.old self.new) }
         ensures untouched { IfErr result (λ refusal.
             refusal ≢ Refusal.NotEnoughSpace → self.new ≡ self.old) }
-        ensures loan { KeepsLoan self.old self.new }
-        ensures rest { self.new ≡ record self.old { bytes = self.new.bytes; slid = self.new.slid } }
+        ensures kept { OnlySlides self.old self.new }
     {
         if has_other_name(&self.heap, Db(0), info.name.as_slice()) {
             return Err(Refusal::AlreadyExists);

@@ -1,3 +1,4 @@
+-- The data of a record that is not deleted has a name.
 use Rattle.heap_model.specs.Database.{a_record}
 use Rattle.palm_store.proofs.OpenedEntries.{data_named}
 use Rattle.record_db.proofs.changing.delete.Goals as goal

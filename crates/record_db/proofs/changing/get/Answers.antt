@@ -1,3 +1,4 @@
+-- The call is refused if the record is busy. Otherwise it sets the busy bit.
 use Rattle.std.proofs.Common.{◌≡◌, ℕ, false, true, Option, refl, sym, ap, subst, bit_or, ◌∙◌, inl, inr}
 use Rattle.heap_model.specs.Database.{Entry}
 use Rattle.heap_model.specs.Store.{store_of}
@@ -30,4 +31,4 @@ returns-clause-does c =
     let no : is_busy c.in_ok-live.live.item.0.attributes ≡ false = sym c.is_busy.ensures ∙ c.if-is_busy.false in
     absurd cc) in
     changes c.args.store.now c.mark.new.store (calls.Record (Get c.args.db c.args.index)) (Named c.in_ok-live.live.item.1) _ (λ slots. refl) found.accepted leaves
-    ((none.0, (none.1.0, (none.1.1.0, (none.1.1.1.0, (free, tt))))), (sym (ap data_of_entry is), leaves.same)) c.mark.ensures.loan tt c.mark.ensures.rest
+    ((none.0, (none.1.0, (none.1.1.0, (none.1.1.1.0, (free, tt))))), (sym (ap data_of_entry is), leaves.same)) c.mark.ensures.kept.loan tt c.mark.ensures.kept.rest

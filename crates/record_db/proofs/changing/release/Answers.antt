@@ -1,3 +1,4 @@
+-- The record keeps its ID and its data, and only its attributes change.
 use Rattle.std.proofs.Common.{false, ap, ◌∙◌, refl}
 use Rattle.heap_model.specs.Database.{is_deleted}
 use Rattle.heap_model.specs.Store.{store_of}
@@ -28,4 +29,4 @@ returns-clause-does c =
     let is = info_is (entry_under (store_of c.args.store.now.bytes) c.args.db c.args.index) c.in_ok-found.found.item found.is in
     let leaves = attributes_set false c.args.store.now.bytes c.entry_set.new.self.bytes c.args.db c.args.index c.in_ok-found.found.item.attributes c.in_ok-found.found.item.id is.0 c.released.result (released c.args.dirty)
     found.accepted found.known is.1 c.released.ensures (rw (← c.in_ok-found.ensures.db) c.entry_set.ensures.set) in
-    changes c.args.store.now c.entry_set.new.self (calls.Record (Release c.args.db c.args.index c.args.dirty)) Done _ (λ slots. refl) found.accepted leaves (found.passes, (tt, leaves.same)) c.entry_set.ensures.loan tt c.entry_set.ensures.rest
+    changes c.args.store.now c.entry_set.new.self (calls.Record (Release c.args.db c.args.index c.args.dirty)) Done _ (λ slots. refl) found.accepted leaves (found.passes, (tt, leaves.same)) c.entry_set.ensures.kept.loan tt c.entry_set.ensures.kept.rest

@@ -1,3 +1,4 @@
+-- The call is refused if the data is locked. Otherwise it drops the entry.
 use Rattle.std.proofs.Common.{refl, subst, inl, inr}
 use Rattle.heap_model.specs.EntrySteps.{entry_dropped, raised}
 use Rattle.heap_model.specs.declared.names.Db.{Db}
@@ -36,7 +37,7 @@ returns-clause-does c =
     let locked = locked_data c.args.store.now.bytes c.args.db c.args.index c.in_ok-found.found.item found.accepted found.is in
     let leaves = subst (λ (db : Db). LeavesChanged c.args.store.now c.entry_drop.new.self (λ store. raised (entry_dropped store db c.args.index) db)) found.db c.entry_drop.ensures.dropped in
     changes c.args.store.now c.entry_drop.new.self (calls.Record (Remove c.args.db c.args.index)) Done _ (λ slots. refl) found.accepted leaves
-    ((none.0, (none.1.0, (none.1.1.0, (none.1.1.1.0, ((λ is. (let yes = c.has_locked.ensures.1 (locked.0 is) in let no = c.if-has_locked.false in absurd cc)), tt))))), (tt, leaves.same)) c.entry_drop.ensures.loan tt c.entry_drop.ensures.rest
+    ((none.0, (none.1.0, (none.1.1.0, (none.1.1.1.0, ((λ is. (let yes = c.has_locked.ensures.1 (locked.0 is) in let no = c.if-has_locked.false in absurd cc)), tt))))), (tt, leaves.same)) c.entry_drop.ensures.kept.loan tt c.entry_drop.ensures.kept.rest
 
 pub returns-then-has_locked-clause-refused : goal.returns-then-has_locked-clause-refused
 returns-then-has_locked-clause-refused c = refl

@@ -1,3 +1,4 @@
+-- The new ID is the record's own, or no record has it.
 use Rattle.std.proofs.Common.{◌≡◌, ◌∙◌, ℕ, sym, ap, subst, true, inl, inr, refl}
 use Rattle.std.specs.Prelude.{◌⊎◌}
 use Rattle.heap_model.specs.Database.{a_record, is_deleted}
@@ -49,4 +50,4 @@ returns-clause-does c =
     let leaves = set_as true c.args.store.now.bytes c.entry_set.new.self.bytes c.args.db c.args.index (a_record c.in_ok-found.found.item.attributes c.in_ok-found.found.item.id is.0) (with_info (infos.Record c.with_given.result c.id_or-id.result)) (with_record_info c.args.attributes c.args.id)
     found.accepted found.known is.1 (ap (λ (x : ℕ). a_record x c.id_or-id.result is.0) c.with_given.ensures ∙ ap (λ (n : ℕ). a_record (attributes_set c.args.attributes c.in_ok-found.found.item.attributes) n is.0) c.id_or-id.ensures) (rw (← c.in_ok-found.ensures.db) c.entry_set.ensures.set) in
     changes c.args.store.now c.entry_set.new.self (calls.Record (SetInfo c.args.db c.args.index c.args.attributes c.args.id)) Done _ (λ slots. refl) found.accepted leaves
-    ((none.0, (none.1.0, (none.1.1.0, (none.1.1.1.0, (no_other c.args.store.now.bytes c.args.db c.args.index c.in_ok-found.found.item.attributes c.in_ok-found.found.item.id is.0 c.args.id found.accepted found.known found.records is.1 which, tt))))), (tt, leaves.same)) c.entry_set.ensures.loan tt c.entry_set.ensures.rest
+    ((none.0, (none.1.0, (none.1.1.0, (none.1.1.1.0, (no_other c.args.store.now.bytes c.args.db c.args.index c.in_ok-found.found.item.attributes c.in_ok-found.found.item.id is.0 c.args.id found.accepted found.known found.records is.1 which, tt))))), (tt, leaves.same)) c.entry_set.ensures.kept.loan tt c.entry_set.ensures.kept.rest

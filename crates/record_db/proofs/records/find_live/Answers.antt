@@ -1,3 +1,4 @@
+-- A record that is not deleted has data.
 use Rattle.std.proofs.Common.{sym, ◌∙◌}
 use Rattle.record_db.proofs.Entries.{has_data}
 use Rattle.record_db.proofs.records.find_live.Goals as goal

@@ -1,3 +1,4 @@
+-- The entry of a record database is a record.
 use Rattle.std.proofs.Common.{sym, ap, subst, ◌∙◌}
 use Rattle.std.specs.Prelude.{is_some}
 use Rattle.palm_store.specs.Checks.{IsTold}

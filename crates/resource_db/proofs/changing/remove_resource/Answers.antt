@@ -1,3 +1,4 @@
+-- The call is refused if the data is locked. Otherwise it drops the entry.
 use Rattle.std.proofs.Common.{refl, sym, ap, subst, inl, inr}
 use Rattle.heap_model.specs.Database.{a_resource}
 use Rattle.heap_model.specs.EntrySteps.{data_of_entry, entry_dropped, raised}
@@ -57,4 +58,4 @@ returns-clause-does c =
         ),
       ),
       (tt, leaves.same),
-    ) c.entry_drop.ensures.loan tt c.entry_drop.ensures.rest
+    ) c.entry_drop.ensures.kept.loan tt c.entry_drop.ensures.kept.rest

@@ -1,3 +1,4 @@
+-- The entry of a resource database is a resource, and has data.
 use Rattle.std.proofs.Common.{sym, ap, subst, ◌∙◌}
 use Rattle.std.specs.Prelude.{is_some}
 use Rattle.heap_model.specs.Store.{store_of}

@@ -1,4 +1,5 @@
 -- The header names the block no more first, and then an owner gets that.
+use Rattle.std.proofs.Common.{rules}
 use Rattle.palm_store.proofs.DataChunks.{for_data}
 use Rattle.palm_store.proofs.EntriesHere.{opened_here}
 use Rattle.palm_store.proofs.GivenData.{written_then_owned, owned_none}
@@ -32,5 +33,9 @@ returns-clause-none_made c =
     owned_none c.args.heap.now.bytes c.sys_set_owner.new.self.bytes c.args.found.opened.db.0 c.args.found.item.0 c.args.owner _ chunk.live c.requires.accepted c.requires.opened.number chunk.there
     (written_then_owned c.args.heap.now.bytes c.write_block.new.heap.bytes c.sys_set_owner.new.self.bytes c.args.found.opened.db.0 c.args.found.item.0 c.args.owner _ c.write_block.ensures.written c.sys_set_owner.ensures.leaves)
 
-pub returns-clause-loan : goal.returns-clause-loan
-returns-clause-loan c = keeps_then c.args.heap.now c.write_block.new.heap c.sys_set_owner.new.self c.write_block.ensures.loan c.sys_set_owner.ensures.loan
+pub returns-clause-kept : goal.returns-clause-kept
+returns-clause-kept c = record {
+  loan = keeps_then c.args.heap.now c.write_block.new.heap c.sys_set_owner.new.self
+      c.write_block.ensures.kept.loan c.sys_set_owner.ensures.loan;
+  rest = search rules;
+}

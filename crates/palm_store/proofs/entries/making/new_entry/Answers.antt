@@ -1,3 +1,4 @@
+-- A new record gets a fresh ID, which is known to be free no more.
 use Rattle.std.proofs.Common.{◌∙◌, arith, sym, ap, subst, rules}
 use Rattle.heap_model.specs.Store.{store_of}
 use Rattle.heap_model.specs.Database.{a_record}

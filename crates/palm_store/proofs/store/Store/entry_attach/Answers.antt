@@ -54,8 +54,8 @@ returns-clause-attached c =
     attach_steps image c.take_in.new.heap.bytes c.args.opened.db c.args.at c.args.entry (entry_of c.new_entry-made.result.0) _ c.args.name.0 c.self.invariant.accepted opened.number c.new_entry-made.ensures.is may c.in_ok-take_in.ensures.takes
     (c.new_entry-made.ensures.kind ∙ kind) (c.in_ok-take_in.ensures.name_fits c.new_entry-made.ensures.fits) inside few)
 
-pub returns-clause-loan : goal.returns-clause-loan
-returns-clause-loan c = rw (← c.self.view_is) c.take_in.ensures.loan
+pub returns-clause-kept : goal.returns-clause-kept
+returns-clause-kept c = rw (← c.self.view_is) c.take_in.ensures.kept
 
-pub returns-in_err-take_in-clause-loan : goal.returns-in_err-take_in-clause-loan
-returns-in_err-take_in-clause-loan c = rw (← c.self.view_is) c.take_in.ensures.loan
+pub returns-in_err-take_in-clause-kept : goal.returns-in_err-take_in-clause-kept
+returns-in_err-take_in-clause-kept c = rw (← c.self.view_is) c.take_in.ensures.kept

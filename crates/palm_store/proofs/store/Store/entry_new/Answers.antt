@@ -65,8 +65,8 @@ returns-clause-made c =
     new_steps image c.put_in.new.heap.bytes c.args.opened.db c.args.at c.args.entry (entry_of c.new_entry-made.result.0) _ c.in_ok-name.name.0 c.args.size c.self.invariant.accepted opened.number c.new_entry-made.ensures.is c.in_ok-name.ensures.puts
     (c.new_entry-made.ensures.kind ∙ kind) (c.in_ok-name.ensures.name_fits c.new_entry-made.ensures.fits) inside few)
 
-pub returns-clause-loan : goal.returns-clause-loan
-returns-clause-loan c = rw (← c.self.view_is) c.put_in.ensures.loan
+pub returns-clause-kept : goal.returns-clause-kept
+returns-clause-kept c = rw (← c.self.view_is) c.put_in.ensures.kept
 
-pub returns-in_err-name-clause-loan : goal.returns-in_err-name-clause-loan
-returns-in_err-name-clause-loan c = rw (← c.self.view_is) c.put_in.ensures.loan
+pub returns-in_err-name-clause-kept : goal.returns-in_err-name-clause-kept
+returns-in_err-name-clause-kept c = rw (← c.self.view_is) c.put_in.ensures.kept

@@ -1,3 +1,4 @@
+-- Each entry of the file is planned after those before it.
 use Rattle.std.proofs.Common.{◌+◌, List, sym, subst, arith}
 use Rattle.palm_store.specs.WholeDatabases.{WholeEntry}
 use Rattle.pdb_files.specs.Plans.{ArePlannedOf}
